@@ -1,0 +1,5 @@
+pub mod Cutting
+pub mod Digits
+pub mod RunLemmas
+pub mod Saying
+pub mod Meaning

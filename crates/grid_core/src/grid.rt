@@ -1,0 +1,181 @@
+ghost use Rattle.std.specs.Prelude.{◌≡◌, ◌*◌, ◌<◌, ◌⊎◌, ◌↔◌, length, replicate, IsTrue, IfOk, IsErrOf};
+ghost use Rattle.grid_core.specs.declared.grid.GridError.TheVariants as errors;
+ghost use Rattle.grid_core.specs.declared.grid.TheConstants.{MAX_SIDE};
+ghost use Rattle.grid_core.specs.Raster.{IsInside, IsSized, IsBelow, index_of, value_at, with_value};
+
+use crate::memory::Memory;
+use crate::pixel::Pixel;
+use std::alloc::{AllocError, AllocFailed, Global};
+use std::marker::Model;
+use thiserror::Error;
+
+/// The greatest width and height of an image.
+pub const MAX_SIDE: u32 = 4096;
+
+/// Why a grid could not be made. The first that applies is answered, in this order.
+#[derive(Clone, Copy, Debug, PartialEq, Eq, Error)]
+pub enum GridError {
+    /// G1: a side is 0.
+    #[error("G1: a side is 0")]
+    ZeroSize,
+    /// G2: a side is above [`MAX_SIDE`].
+    #[error("G2: a side is above 4096")]
+    TooLarge,
+    /// G3: out of memory.
+    #[error("G3: out of memory")]
+    Memory,
+}
+
+impl From<AllocError> for GridError {
+    ghost from_gives = { λ _ e. e ≡ errors.Memory };
+
+    fn from(_e: AllocError) -> GridError {
+        GridError::Memory
+    }
+}
+
+impl<T: Drop> From<AllocFailed<T>> for GridError {
+    ghost from_gives = { λ _ e. e ≡ errors.Memory };
+
+    fn from(_e: AllocFailed<T>) -> GridError {
+        GridError::Memory
+    }
+}
+
+/// A value for each pixel of an image: `w * h` cells of 32 bits, row by row from the top, each row from
+/// the left. Sides are 1 to [`MAX_SIDE`].
+#[derive(Debug, Drop)]
+pub struct Grid {
+    w: u32,
+    h: u32,
+    cells: Vec<u32>,
+}
+
+impl Model for Grid {
+    ghost use Rattle.grid_core.specs.Raster.{Raster, IsSized};
+
+    ghost Value = { Raster };
+
+    ghost view = { λ g. record { width = g.w; height = g.h; cells = g.cells.items } };
+
+    ghost invariant = { λ g. IsSized 4096 (record { width = g.w; height = g.h; cells = g.cells.items }) };
+}
+
+impl Grid {
+    /// A grid of `w * h` cells, each with the value `fill`.
+    ///
+    /// Errors: G1 where a side is 0, else G2 where one is above [`MAX_SIDE`], else G3 where memory is refused.
+    pub fn new(alloc: Global, w: u32, h: u32, fill: u32) -> Result<Grid, GridError>
+        ensures width { IfOk result (λ g. g.width ≡ w) }
+        ensures height { IfOk result (λ g. g.height ≡ h) }
+        ensures cells { IfOk result (λ g. g.cells ≡ replicate (w * h) fill) }
+        ensures zero { IsErrOf result errors.ZeroSize ↔ ((w ≡ 0) ⊎ (h ≡ 0)) }
+        ensures large { IsErrOf result errors.TooLarge ↔ ((0 < w) × (0 < h) × ((MAX_SIDE < w) ⊎ (MAX_SIDE < h))) }
+    {
+        if w == 0 || h == 0 {
+            return Err(GridError::ZeroSize);
+        }
+        if w > MAX_SIDE || h > MAX_SIDE {
+            return Err(GridError::TooLarge);
+        }
+        let cells = vec![in alloc; fill; w as usize * h as usize]?;
+        Ok(Grid { w, h, cells })
+    }
+
+    /// The grid of these values, row by row from the top. It takes no memory.
+    pub fn from_cells(w: u32, h: u32, cells: Vec<u32>) -> Grid
+        requires { IsSized MAX_SIDE (record { width = w; height = h; cells = cells.items }) }
+        ensures { result ≡ record { width = w; height = h; cells = cells.items } }
+    {
+        Grid { w, h, cells }
+    }
+
+    /// The number of columns.
+    pub fn width(&self) -> u32
+        ensures value { result ≡ self.now.width }
+        ensures sized { IsSized MAX_SIDE self.now }
+    {
+        self.w
+    }
+
+    /// The number of rows.
+    pub fn height(&self) -> u32
+        ensures value { result ≡ self.now.height }
+        ensures sized { IsSized MAX_SIDE self.now }
+    {
+        self.h
+    }
+
+    /// The values, row by row from the top.
+    pub fn cells(&self) -> &[u32]
+        ensures values { result.now ≡ self.now.cells }
+        ensures sized { IsSized MAX_SIDE self.now }
+    {
+        &self.cells
+    }
+
+    // Where the value of a pixel stands among the cells.
+    fn index_of(&self, p: Pixel) -> usize
+        requires { IsInside self.now.width self.now.height p }
+        ensures value { result ≡ index_of self.now.width p }
+        ensures within { result < length self.now.cells }
+    {
+        p.y as usize * self.w as usize + p.x as usize
+    }
+
+    /// The values, row by row from the top, without the grid. It takes no memory.
+    pub fn into_cells(self) -> Vec<u32>
+        ensures { result.items ≡ self.cells }
+    {
+        let Grid { cells, .. } = self;
+        cells
+    }
+
+    /// Takes over the values of a grid of the same size. It takes no memory.
+    pub fn assign(&mut self, other: &Grid)
+        requires width { self.old.width ≡ other.now.width }
+        requires height { self.old.height ≡ other.now.height }
+        ensures { self.new ≡ other.now }
+    {
+        self.cells.copy_from_slice(&other.cells);
+    }
+
+    /// The value at a pixel.
+    pub fn get(&self, p: Pixel) -> u32
+        requires { IsInside self.now.width self.now.height p }
+        ensures { result ≡ value_at self.now p }
+    {
+        self.cells[self.index_of(p)]
+    }
+
+    /// Gives a pixel another value.
+    pub fn set(&mut self, p: Pixel, value: u32)
+        requires { IsInside self.old.width self.old.height p }
+        ensures { self.new ≡ with_value self.old p value }
+    {
+        let i = self.index_of(p);
+        self.cells[i] = value;
+    }
+
+    /// Whether the sizes are equal and no cell is greater than the other's.
+    pub fn is_below(&self, other: &Grid) -> bool
+        ensures { IsTrue result ↔ IsBelow self.now other.now }
+    {
+        let same_size = self.w == other.w && self.h == other.h;
+        same_size && self.cells.iter().zip(&other.cells).all(|(a, b)| a <= b)
+    }
+
+    /// A grid with the same size and values.
+    ///
+    /// Errors: out of memory.
+    pub fn copy(&self, alloc: Global) -> Result<Grid, Memory>
+        ensures { IfOk result (λ g. g ≡ self.now) }
+    {
+        let cells = Vec::from_slice(alloc, &self.cells)?;
+        Ok(Grid {
+            w: self.w,
+            h: self.h,
+            cells,
+        })
+    }
+}

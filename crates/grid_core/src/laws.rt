@@ -1,0 +1,69 @@
+//! Laws of images and of their reconstruction. Each is the contract of a function that does nothing.
+
+ghost use Rattle.grid_core.specs.Laws.{AtMostOneReconstruction, ReachesLowerLevels, ReachesLevelZero, ReachIsWithinMask, ReachRisesWithMarker, RaiseKeepsLawful, ClosedLawfulIsReconstruction, LawfulLiesBetween};
+ghost use Rattle.grid_core.specs.RasterLaws.{SetIsRead, SetKeepsOthers, EqualPixelsEqualImages, BelowAtEachPixel, EachPixelBelow};
+
+/// A new value at a pixel is read back there.
+pub fn set_is_read()
+    ensures { SetIsRead }
+{}
+
+/// A new value at a pixel leaves every other pixel as it was.
+pub fn set_keeps_others()
+    ensures { SetKeepsOthers }
+{}
+
+/// Images of one size with equal values at each pixel are equal.
+pub fn equal_pixels_equal_images()
+    ensures { EqualPixelsEqualImages }
+{}
+
+/// An image below another is below it at each pixel.
+pub fn below_at_each_pixel()
+    ensures { BelowAtEachPixel }
+{}
+
+/// An image of the same size that is below at each pixel is below.
+pub fn each_pixel_below()
+    ensures { EachPixelBelow }
+{}
+
+/// A mask and a marker have at most one reconstruction.
+pub fn at_most_one_reconstruction()
+    ensures { AtMostOneReconstruction }
+{}
+
+/// A pixel that reaches a level reaches each lower one.
+pub fn reaches_lower_levels()
+    ensures { ReachesLowerLevels }
+{}
+
+/// A pixel reaches level 0.
+pub fn reaches_level_zero()
+    ensures { ReachesLevelZero }
+{}
+
+/// A pixel reaches no level above its mask.
+pub fn reach_is_within_mask()
+    ensures { ReachIsWithinMask }
+{}
+
+/// A pixel reaches under a greater marker what it reaches under a lesser.
+pub fn reach_rises_with_marker()
+    ensures { ReachRisesWithMarker }
+{}
+
+/// A raise keeps an image lawful.
+pub fn raise_keeps_lawful()
+    ensures { RaiseKeepsLawful }
+{}
+
+/// A lawful image that no raise can change is the reconstruction.
+pub fn closed_lawful_is_reconstruction()
+    ensures { ClosedLawfulIsReconstruction }
+{}
+
+/// A lawful image lies between the marker and the reconstruction.
+pub fn lawful_lies_between()
+    ensures { LawfulLiesBetween }
+{}

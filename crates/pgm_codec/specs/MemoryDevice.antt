@@ -1,0 +1,19 @@
+-- What contracts see of a source and of a sink in memory.
+use Rattle.std.specs.Prelude.{ℕ, List, Option}
+
+-- the bytes still to come, the most that one pull gives, the pull that fails (counted from 1), and the counts
+pub record MemoryInput : Type 0 where
+  pub left : List ℕ
+  pub piece : ℕ
+  pub fails_at : Option ℕ
+  pub pulls : ℕ
+  pub failures : ℕ
+  pub ends : ℕ
+
+-- the bytes taken so far, the most that one put takes, the put that fails (counted from 1), and the counts
+pub record MemoryOutput : Type 0 where
+  pub written : List ℕ
+  pub piece : ℕ
+  pub fails_at : Option ℕ
+  pub puts : ℕ
+  pub failures : ℕ

@@ -1,0 +1,17 @@
+-- The raw file of an image (Netpbm pgm(5)).
+use Rattle.std.specs.Prelude.{ℕ, ◌/◌, ◌%◌, nat_lt, List, [], ◌∷◌, ◌++◌, decimal, if◌then◌else◌}
+use Rattle.std.specs.List.{flat_map}
+use Rattle.pgm_codec.specs.Graymap.{Graymap}
+
+-- one byte a sample where maxval is below 256, else two, the more significant first
+abbrev pub sample_bytes : ℕ → ℕ → List ℕ
+sample_bytes maxval s = if nat_lt maxval 256 then s ∷ [] else s / 256 ∷ s % 256 ∷ []
+
+-- `P5`, LF, width, blank, height, LF, maxval, LF, in decimal without leading zeros
+abbrev pub raw_header : Graymap → List ℕ
+raw_header g =
+    80 ∷ 53 ∷ 10 ∷ (decimal g.raster.width ++ 32 ∷ (decimal g.raster.height ++ 10 ∷ (decimal g.maxval ++ 10 ∷ [])))
+
+-- the header, and then the samples row by row from the top
+unfoldable pub raw_text : Graymap → List ℕ
+raw_text g = raw_header g ++ flat_map (sample_bytes g.maxval) g.raster.cells

@@ -1,0 +1,151 @@
+use super::*;
+use crate::transfer::put_all;
+use std::alloc::Global;
+use std::io::{self, Cursor, Write};
+use std::test::Fail;
+
+const TEXT: &[u8] = b"ten bytes!";
+
+fn text_in_pieces(alloc: Global) -> Result<MemorySource, Fail> {
+    Ok(MemorySource::new(TEXT.to_vec(alloc)?).in_pieces(3))
+}
+
+#[test]
+fn reads_pieces_to_the_end(rt: HostRuntime) -> Result<(), Fail> {
+    let mut source = text_in_pieces(rt.alloc())?;
+    let bytes = read_all(rt.alloc(), &mut source)?;
+    assert_eq!(rt; bytes.as_slice(), TEXT);
+    assert_eq!(rt;
+        (source.pulls(), source.failures(), source.ends()),
+        (5, 0, 1)
+    );
+    Ok(())
+}
+
+#[test]
+fn reads_nothing_from_an_empty_source(rt: HostRuntime) -> Result<(), Fail> {
+    let mut source = MemorySource::new(Vec::new(rt.alloc()));
+    let bytes = read_all(rt.alloc(), &mut source)?;
+    assert!(rt; bytes.is_empty());
+    assert_eq!(rt;
+        (source.pulls(), source.failures(), source.ends()),
+        (1, 0, 1)
+    );
+    Ok(())
+}
+
+#[test]
+fn each_failing_pull_is_answered(rt: HostRuntime) -> Result<(), Fail> {
+    for k in 1..6 {
+        let mut source = text_in_pieces(rt.alloc())?.failing_at(k);
+        let answer = read_all(rt.alloc(), &mut source);
+        assert_eq!(rt; answer.err(), Some(PgmError::Device), "pull {k}");
+        assert_eq!(rt;
+            (source.pulls(), source.failures(), source.ends()),
+            (k, 1, 0),
+            "pull {k}"
+        );
+    }
+    let mut source = text_in_pieces(rt.alloc())?.failing_at(6);
+    assert_eq!(rt; read_all(rt.alloc(), &mut source)?.as_slice(), TEXT);
+    Ok(())
+}
+
+#[test]
+fn a_source_that_failed_once_goes_on(rt: HostRuntime) -> Result<(), Fail> {
+    let mut source = text_in_pieces(rt.alloc())?.failing_at(3);
+    assert_eq!(rt;
+        read_all(rt.alloc(), &mut source).err(),
+        Some(PgmError::Device)
+    );
+    let rest = read_all(rt.alloc(), &mut source)?;
+    assert_eq!(rt; rest.as_slice(), b"tes!".as_slice());
+    Ok(())
+}
+
+#[test]
+fn short_puts_gather_all(rt: HostRuntime) -> Result<(), Fail> {
+    let mut sink = MemorySink::new(rt.alloc()).in_pieces(4);
+    put_all(&mut sink, TEXT)?;
+    assert_eq!(rt; sink.written(), TEXT);
+    assert_eq!(rt; (sink.puts(), sink.failures()), (3, 0));
+    Ok(())
+}
+
+#[test]
+fn each_failing_put_leaves_a_front(rt: HostRuntime) -> Result<(), Fail> {
+    for (k, front) in [(1, ""), (2, "ten "), (3, "ten byte")] {
+        let mut sink = MemorySink::new(rt.alloc()).in_pieces(4).failing_at(k);
+        assert_eq!(rt; put_all(&mut sink, TEXT), Err(Fault), "put {k}");
+        assert_eq!(rt; sink.written(), front.as_bytes(), "put {k}");
+        assert_eq!(rt; (sink.puts(), sink.failures()), (k, 1), "put {k}");
+    }
+    Ok(())
+}
+
+#[test]
+fn readers_and_writers_of_std_serve(rt: HostRuntime) -> Result<(), Fail> {
+    let mut source = StdSource::new(Cursor::new(TEXT.to_vec(rt.alloc())?));
+    let bytes = read_all(rt.alloc(), &mut source)?;
+    assert_eq!(rt; bytes.as_slice(), TEXT);
+    let mut sink = StdSink::new(Vec::new(rt.alloc()));
+    put_all(&mut sink, &bytes)?;
+    assert_eq!(rt; sink.into_inner().as_slice(), TEXT);
+    Ok(())
+}
+
+// A writer that takes none of any bytes.
+#[derive(Drop)]
+struct Full;
+
+impl Write for Full {
+    fn write(&mut self, _buf: &[u8]) -> io::Result<usize> {
+        Ok(0)
+    }
+
+    fn flush(&mut self) -> io::Result<()> {
+        Ok(())
+    }
+}
+
+#[test]
+fn a_writer_that_takes_nothing_is_a_fault(rt: HostRuntime) -> Result<(), Fail> {
+    let mut sink = StdSink::new(Full);
+    assert_eq!(rt; put_all(&mut sink, TEXT), Err(Fault));
+    assert_eq!(rt; sink.put(b""), Ok(0));
+    Ok(())
+}
+
+#[test]
+fn an_image_is_read_from_a_source_and_written_to_a_sink(rt: HostRuntime) -> Result<(), Fail> {
+    let text = b"P2\n5 1\n255\n67 69 66 66 66\n";
+    let mut source = MemorySource::new(text.to_vec(rt.alloc())?).in_pieces(7);
+    let image = read_from(rt.alloc(), &mut source)?;
+    let mut sink = MemorySink::new(rt.alloc()).in_pieces(5);
+    write_to(rt.alloc(), &image, &mut sink)?;
+    assert_eq!(rt; sink.written(), b"P5\n5 1\n255\nCEBBB".as_slice());
+    Ok(())
+}
+
+#[test]
+fn faults_of_devices_are_told_from_faults_of_texts(rt: HostRuntime) -> Result<(), Fail> {
+    let text = b"P2\n1 1\n9\n";
+    let mut whole = MemorySource::new(text.to_vec(rt.alloc())?);
+    assert_eq!(rt;
+        read_from(rt.alloc(), &mut whole).err(),
+        Some(PgmError::Truncated)
+    );
+    let mut failing = MemorySource::new(text.to_vec(rt.alloc())?).failing_at(2);
+    assert_eq!(rt;
+        read_from(rt.alloc(), &mut failing).err(),
+        Some(PgmError::Device)
+    );
+    let image = read(rt.alloc(), b"P2\n1 1\n9\n5\n")?;
+    let mut sink = MemorySink::new(rt.alloc()).in_pieces(4).failing_at(2);
+    assert_eq!(rt;
+        write_to(rt.alloc(), &image, &mut sink),
+        Err(PgmError::Device)
+    );
+    assert_eq!(rt; sink.written(), b"P5\n1".as_slice());
+    Ok(())
+}

@@ -1,0 +1,77 @@
+//! What may go wrong with images and their files.
+ghost use Rattle.std.specs.Prelude.{◌≡◌};
+ghost use Rattle.pgm_codec.specs.declared.error.PgmError.TheVariants as errors;
+
+use crate::fault::Fault;
+use std::alloc::{AllocError, AllocFailed};
+use thiserror::Error;
+
+/// Why an image could not be read, written or made. Of a text the first fault from the left is answered.
+#[derive(Clone, Copy, Debug, PartialEq, Eq, Error)]
+pub enum PgmError {
+    /// P1: the text does not begin with a magic that is read.
+    #[error("P1: not a PGM file")]
+    BadMagic,
+    /// P2: a byte of the header fits none of the parts in its place.
+    #[error("P2: bad header")]
+    BadHeader,
+    /// P3: a side is 0.
+    #[error("P3: a side is 0")]
+    ZeroSize,
+    /// P4: a side is above 4096.
+    #[error("P4: a side is above 4096")]
+    TooLarge,
+    /// P5: maxval is 0 or above 65535.
+    #[error("P5: maxval is 0 or above 65535")]
+    BadMaxval,
+    /// P6: the text ends too early.
+    #[error("P6: truncated")]
+    Truncated,
+    /// P7: a sample is above maxval.
+    #[error("P7: a sample is above maxval")]
+    SampleRange,
+    /// P8: a byte of the raster is no part of a sample.
+    #[error("P8: bad sample")]
+    BadSample,
+    /// P9: something follows the last sample.
+    #[error("P9: more after the last sample")]
+    Trailing,
+    /// P10: out of memory.
+    #[error("P10: out of memory")]
+    Memory,
+    /// P11: a device failed, or a source did not end in time.
+    #[error("P11: a device failed")]
+    Device,
+}
+
+impl From<AllocError> for PgmError {
+    ghost from_gives = { λ _ e. e ≡ errors.Memory };
+
+    fn from(_e: AllocError) -> PgmError {
+        PgmError::Memory
+    }
+}
+
+impl<T: Drop> From<AllocFailed<T>> for PgmError {
+    ghost from_gives = { λ _ e. e ≡ errors.Memory };
+
+    fn from(_e: AllocFailed<T>) -> PgmError {
+        PgmError::Memory
+    }
+}
+
+impl From<grid_core::Memory> for PgmError {
+    ghost from_gives = { λ _ e. e ≡ errors.Memory };
+
+    fn from(_e: grid_core::Memory) -> PgmError {
+        PgmError::Memory
+    }
+}
+
+impl From<Fault> for PgmError {
+    ghost from_gives = { λ _ e. e ≡ errors.Device };
+
+    fn from(_fault: Fault) -> PgmError {
+        PgmError::Device
+    }
+}

@@ -1,0 +1,74 @@
+//! The writers of std as sinks.
+ghost use Rattle.std.specs.Prelude.{◌≡◌, ◌<◌, length, IfOk};
+ghost use Rattle.std.specs.Io.{WritesAtMost};
+ghost use Rattle.std.specs.Io.KnownBytes.{WriteAppends};
+
+use crate::count::count_one;
+use crate::fault::Fault;
+use crate::sink::Sink;
+use std::io::{ErrorKind, Write};
+
+/// How often an interrupted write is tried again.
+const MOST_TRIES: u32 = 1_000_000;
+
+// One write, tried again where a signal interrupts it.
+fn write_retrying<W: Write>(writer: &mut W, bytes: &[u8]) -> Result<usize, Fault>
+    ensures bound { WritesAtMost result bytes.now }
+    ensures some { IfOk result (λ n. 0 < length bytes.now → 0 < n) }
+    ensures bytes { WriteAppends (W.contents writer.old) (W.contents writer.new) result bytes.now }
+{
+    for _ in 0..MOST_TRIES {
+        match writer.write(bytes) {
+            Ok(0) if !bytes.is_empty() => return Err(Fault),
+            Ok(n) => return Ok(n),
+            Err(e) => {
+                if e.kind() != ErrorKind::Interrupted {
+                    return Err(Fault);
+                }
+            }
+        }
+    }
+    Err(Fault)
+}
+
+/// A writer of std as a sink. An interrupted write is tried again, up to a million times; every other
+/// error of the writer is a fault, and so is a write that takes none of some bytes.
+#[derive(Drop)]
+pub struct StdSink<W: Write> {
+    writer: W,
+    failures: u64,
+}
+
+impl<W: Write> StdSink<W> {
+    /// The writer as a sink, which has not failed.
+    pub fn new(writer: W) -> StdSink<W>
+        ensures bytes { ⟦<StdSink<W> as Sink>⟧.written result ≡ W.contents writer }
+        ensures failures { ⟦<StdSink<W> as Sink>⟧.failures result ≡ 0 }
+    {
+        StdSink {
+            writer,
+            failures: 0,
+        }
+    }
+
+    /// The writer.
+    pub fn into_inner(self) -> W
+        ensures { W.contents result ≡ ⟦<StdSink<W> as Sink>⟧.written self }
+    {
+        self.writer
+    }
+}
+
+impl<W: Write> Sink for StdSink<W> {
+    ghost written = { λ s. W.contents s.writer };
+
+    ghost failures = { λ s. s.failures };
+
+    fn put(&mut self, bytes: &[u8]) -> Result<usize, Fault> {
+        let taken = write_retrying(&mut self.writer, bytes);
+        if taken.is_err() {
+            count_one(&mut self.failures);
+        }
+        taken
+    }
+}

@@ -1,0 +1,83 @@
+//! The readers of std as sources.
+ghost use Rattle.std.specs.Prelude.{◌≡◌};
+ghost use Rattle.std.specs.Io.{ReadsAtMost};
+ghost use Rattle.std.specs.Io.KnownBytes.{ReadConsumes};
+
+use crate::count::count_one;
+use crate::fault::Fault;
+use crate::source::Source;
+use std::io::{ErrorKind, Read};
+
+/// How often an interrupted read is tried again.
+const MOST_TRIES: u32 = 1_000_000;
+
+// One read, tried again where a signal interrupts it.
+fn read_retrying<R: Read>(reader: &mut R, buf: &mut [u8]) -> Result<usize, Fault>
+    ensures bound { ReadsAtMost result buf.new }
+    ensures bytes { ReadConsumes (R.remaining reader.old) (R.remaining reader.new) result buf.new }
+{
+    for _ in 0..MOST_TRIES {
+        match reader.read(buf) {
+            Ok(n) => return Ok(n),
+            Err(e) => {
+                if e.kind() != ErrorKind::Interrupted {
+                    return Err(Fault);
+                }
+            }
+        }
+    }
+    Err(Fault)
+}
+
+/// A reader of std as a source. An interrupted read is tried again, up to a million times; every other
+/// error of the reader is a fault.
+#[derive(Drop)]
+pub struct StdSource<R: Read> {
+    reader: R,
+    pulls: u64,
+    failures: u64,
+    ends: u64,
+}
+
+impl<R: Read> StdSource<R> {
+    /// The reader as a source, with all counts at 0.
+    pub fn new(reader: R) -> StdSource<R>
+        ensures bytes { ⟦<StdSource<R> as Source>⟧.remaining result ≡ R.remaining reader }
+        ensures pulls { ⟦<StdSource<R> as Source>⟧.pulls result ≡ 0 }
+        ensures failures { ⟦<StdSource<R> as Source>⟧.failures result ≡ 0 }
+        ensures ends { ⟦<StdSource<R> as Source>⟧.ends result ≡ 0 }
+    {
+        StdSource {
+            reader,
+            pulls: 0,
+            failures: 0,
+            ends: 0,
+        }
+    }
+}
+
+impl<R: Read> Source for StdSource<R> {
+    ghost remaining = { λ s. R.remaining s.reader };
+
+    ghost pulls = { λ s. s.pulls };
+
+    ghost failures = { λ s. s.failures };
+
+    ghost ends = { λ s. s.ends };
+
+    fn pull(&mut self, buf: &mut [u8]) -> Result<usize, Fault> {
+        count_one(&mut self.pulls);
+        match read_retrying(&mut self.reader, buf) {
+            Ok(n) => {
+                if n == 0 {
+                    count_one(&mut self.ends);
+                }
+                Ok(n)
+            }
+            Err(fault) => {
+                count_one(&mut self.failures);
+                Err(fault)
+            }
+        }
+    }
+}

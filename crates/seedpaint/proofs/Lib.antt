@@ -1,0 +1,10 @@
+pub mod Cells
+pub mod Flooding
+pub mod Seeding
+pub mod Spreading
+pub mod ImageLines
+pub mod Taking
+pub mod Painting
+pub mod States
+pub mod Showing
+pub mod Viewing

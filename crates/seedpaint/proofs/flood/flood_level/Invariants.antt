@@ -1,0 +1,12 @@
+use Rattle.std.proofs.Common.{◌+◌, length}
+use Rattle.seedpaint.specs.Flood.{domain_of, IsImageOn, IsSeeded, missing}
+use Rattle.seedpaint.proofs.flood.flood_level.Given as goal
+
+abbrev pub invariant-loop-pixel : goal.invariant-loop-pixel
+invariant-loop-pixel l = record {
+  sized : IsImageOn (domain_of l.source.mask.now l.source.conn) l.image;
+  seeded : IsSeeded l.source.conn l.source.mask.now l.source.marker.now l.level l.image l.waiting.items;
+}
+
+abbrev pub decreases-loop-pixel : goal.decreases-loop-pixel
+decreases-loop-pixel l = length l.waiting.items + missing l.level l.image.cells

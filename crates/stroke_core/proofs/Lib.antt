@@ -1,0 +1,2 @@
+pub mod SeedLemmas
+pub mod TagLemmas

@@ -1,0 +1,2 @@
+pub mod Tag
+pub mod Seed

@@ -1,0 +1,109 @@
+#!/usr/bin/env python3
+"""Turn a PGM picture into a PNG picture.
+
+The input is a plain or raw PGM file, or an input of Seedpaint: then the
+picture after its `image` line is taken, and with --strokes the runs of its
+`place` lines are painted over it in colour.
+
+    python3 examples/picture.py --scale 2 examples/cells.txt cells.png
+"""
+
+import argparse
+import re
+import struct
+import sys
+import zlib
+from pathlib import Path
+
+STROKE_COLOUR = bytes((255, 96, 32))
+IMAGE_LINE = re.compile(rb"^image\r?\n", re.MULTILINE)
+SEPARATOR = rb"[ \t\r\n](?:[ \t\r\n]|#[^\r\n]*[\r\n])*"
+HEADER = re.compile(rb"P([25])" + 3 * (SEPARATOR + rb"(\d+)") + rb"[ \t\r\n]")
+
+
+def split_input(data):
+    """The edit lines and the PGM file of an input; a PGM has no lines."""
+    found = IMAGE_LINE.search(data)
+    if HEADER.match(data) or found is None:
+        return b"", data
+    return data[:found.start()], data[found.end():]
+
+
+def read_picture(data):
+    """Width, height and the samples, brought to the range 0 to 255."""
+    header = HEADER.match(data)
+    if header is None:
+        sys.exit("picture.py: not a PGM file")
+    kind, width, height, maxval = map(int, header.groups())
+    raster = data[header.end():]
+    if kind == 2:
+        samples = map(int, raster.split())
+    elif maxval < 256:
+        samples = raster
+    else:
+        samples = (sample for sample, in struct.iter_unpack(">H", raster))
+    return width, height, [sample * 255 // maxval for sample in samples]
+
+
+def stroke_pixels(lines):
+    """The pixels (x, y) that the place lines cover."""
+    for line in lines.splitlines():
+        words = line.split()
+        if words[:1] != [b"place"]:
+            continue
+        for run in words[3].split(b","):
+            y, first, last = map(int, re.split(b"[:-]", run))
+            for x in range(first, last + 1):
+                yield x, y
+
+
+def chunk(kind, data):
+    """One chunk of a PNG file: length, kind, data, checksum."""
+    return (struct.pack(">I", len(data)) + kind + data
+            + struct.pack(">I", zlib.crc32(kind + data)))
+
+
+def png_file(width, height, pixels, scale):
+    """The PNG file; a pixel is one byte of grey or three of colour."""
+    rows = bytearray()
+    for y in range(height):
+        row = pixels[y * width:(y + 1) * width]
+        rows += scale * (b"\0" + b"".join(scale * pixel for pixel in row))
+    colour = 0 if len(pixels[0]) == 1 else 2
+    head = struct.pack(">IIBBBBB", width * scale, height * scale,
+                       8, colour, 0, 0, 0)
+    return (b"\x89PNG\r\n\x1a\n" + chunk(b"IHDR", head)
+            + chunk(b"IDAT", zlib.compress(bytes(rows), 9))
+            + chunk(b"IEND", b""))
+
+
+def read_words():
+    """What the words of the command line ask for."""
+    parser = argparse.ArgumentParser(description="Turn a PGM into a PNG.")
+    parser.add_argument("source",
+                        help="PGM or input of Seedpaint; - reads standard input")
+    parser.add_argument("target", help="PNG file to write")
+    parser.add_argument("--scale", type=int, default=1, metavar="N",
+                        help="draw each pixel as a square of N by N")
+    parser.add_argument("--strokes", action="store_true",
+                        help="paint the strokes of the input in colour")
+    return parser.parse_args()
+
+
+def main():
+    """Read the source, write the target."""
+    words = read_words()
+    from_file = words.source != "-"
+    data = Path(words.source).read_bytes() if from_file else sys.stdin.buffer.read()
+    lines, picture = split_input(data)
+    width, height, samples = read_picture(picture)
+    channels = 3 if words.strokes else 1
+    pixels = [bytes(channels * [sample]) for sample in samples]
+    if words.strokes:
+        for x, y in stroke_pixels(lines):
+            pixels[y * width + x] = STROKE_COLOUR
+    Path(words.target).write_bytes(png_file(width, height, pixels, words.scale))
+
+
+if __name__ == "__main__":
+    main()
