@@ -3,3 +3,4 @@ pub mod Digits
 pub mod RunLemmas
 pub mod Saying
 pub mod Meaning
+pub mod EveryText

@@ -52,9 +52,10 @@ fn parse_lines(alloc: Global, text: &[u8]) -> Result<Vec<(Tag, Stroke)>, EditErr
     Ok(places)
 }
 
-/// A text spells at most one list of places, has at most one first fault, and not both.
+/// A text spells one list of places or has one first fault, and not both.
 pub fn one_meaning()
     ensures one_list { (text : List ℕ) (places others : List Place) → EditSpells text places → EditSpells text others → places ≡ others }
     ensures no_fault { (text : List ℕ) (places : List Place) (e : error.EditError) → EditSpells text places → IsFirstFault text e → ⊥ }
     ensures one_fault { (text : List ℕ) (d e : error.EditError) → IsFirstFault text d → IsFirstFault text e → d ≡ e }
+    ensures every_text { (text : List ℕ) → ((places : List Place) × EditSpells text places) ⊎ ((e : error.EditError) × IsFirstFault text e) }
 {}

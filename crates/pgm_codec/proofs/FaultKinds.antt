@@ -24,6 +24,7 @@ field_device : (fault : ℕ → Option PgmError) → IsOfText fault → (text : 
 field_device fault of_text text (inl f) = f
 field_device fault of_text text (inr (n, rest, h, e)) = of_text.device n e
 
+-- want of memory is no fault of a text
 pub not_memory : (text : List ℕ) → PgmFault text Memory → ⊥
 not_memory text (in_magic f) = f
 not_memory text (in_width a ha f) = field_memory side_fault side_of_text a f
@@ -32,6 +33,7 @@ not_memory text (in_maxval a b c w h ha hw hh f) = field_memory maxval_fault max
 not_memory text (in_raster rest w h m head (ss, behind, all, inl (lt, f))) = f
 not_memory text (in_raster rest w h m head (ss, behind, all, inr (len, f))) = f
 
+-- a device's failure is no fault of a text
 pub not_device : (text : List ℕ) → PgmFault text Device → ⊥
 not_device text (in_magic f) = f
 not_device text (in_width a ha f) = field_device side_fault side_of_text a f

@@ -10,12 +10,15 @@ use Rattle.pgm_codec.specs.Fault.{StartsStray, FieldFault, GoodFieldFault, Sampl
 use Rattle.pgm_codec.specs.Reading.{◌>>=◌, field_end, field_at, judged, good_field_at, sample_end, sample_at}
 use Rattle.pgm_codec.proofs.Numbers.{number_read, stray_read, gap_read, NumberCases, number_cases}
 
+-- a number and the text behind it, or a fault
 abbrev pub Found : Type 0
 Found = Result (ℕ × List ℕ) PgmError
 
+-- a number that was read
 abbrev pub found : ℕ → List ℕ → Found
 found n rest = Ok (n, rest)
 
+-- a fault that was met
 abbrev pub failed : PgmError → Found
 failed e = Err e
 
@@ -37,6 +40,7 @@ end_none : (n : ℕ) → field_end (n, []) ≡ failed Truncated
 unfolding field_end
 end_none n = refl
 
+-- a header number that stands there is read
 pub field_read : (text : List ℕ) (n : ℕ) (rest : List ℕ) → StartsField text n rest → field_at text ≡ found (min n 65536) rest
 field_read text n rest (digits, b, h, w, e) =
     field_number text digits (b ∷ rest) h ∙ end_white (min (digits_value 10 digits) 65536) b rest w ∙ ap (λ (k : ℕ). found (min k 65536) rest) (sym e)
@@ -49,6 +53,7 @@ field_gap : (text : List ℕ) → IsGap text → field_at text ≡ failed Trunca
 unfolding field_at
 field_gap text h = ap (λ (r : Found). r >>= field_end) (gap_read BadHeader text h)
 
+-- a fault of its spelling is answered
 pub field_fault_read : (text : List ℕ) (e : PgmError) → FieldFault text e → field_at text ≡ failed e
 field_fault_read text Truncated (inl h) = field_gap text h
 field_fault_read text Truncated (inr (digits, h)) = field_number text digits [] h ∙ end_none (min (digits_value 10 digits) 65536)
@@ -80,6 +85,7 @@ field_from text (inl h) = field_by text (failed Truncated) (field_gap text h) (i
 field_from text (inr (inl h)) = field_by text (failed BadHeader) (field_stray text h) (inl h)
 field_from text (inr (inr (digits, rest, h))) = field_behind text digits rest h
 
+-- what reading a header number says is so
 pub field_found : (text : List ℕ) → IsField text (field_at text)
 field_found text = field_from text (number_cases text)
 
@@ -141,9 +147,11 @@ module _ (fault : ℕ → Option PgmError) (capped : IsCapped fault) where
   pub good_found : (text : List ℕ) → IsGoodField text (good_field_at fault text)
   good_found text = good_from text (field_at text) (field_found text)
 
+-- sides are judged alike past 65535
 pub side_capped : IsCapped side_fault
 side_capped = record { same = λ n. grind arith; small = λ n e. grind arith }
 
+-- maxvals are judged alike past 65535
 pub maxval_capped : IsCapped maxval_fault
 maxval_capped = record { same = λ n. grind arith; small = λ n e. grind arith }
 

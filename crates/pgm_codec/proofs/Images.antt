@@ -36,6 +36,7 @@ magic_none : magic_end [] ≡ Err Truncated
 unfolding magic_end
 magic_none = refl
 
+-- a magic that stands there is read
 pub magic_read : (text rest : List ℕ) → StartsMagic text rest → magic_at text ≡ Ok rest
 magic_read text rest (b, e, w) = ap magic_at e ∙ magic_behind (b ∷ rest) ∙ magic_white b rest w
 
@@ -52,12 +53,14 @@ magic_wrong (a ∷ b ∷ rest) h =
       ]
     ]
 
+-- a fault of the magic is answered
 pub magic_fault_read : (text : List ℕ) (e : PgmError) → MagicFault text e → magic_at text ≡ Err e
 magic_fault_read text BadMagic h = magic_wrong text h
 magic_fault_read text Truncated h = ap magic_at h ∙ magic_behind [] ∙ magic_none
 magic_fault_read text BadHeader (b, rest, e, w) = ap magic_at e ∙ magic_behind (b ∷ rest) ∙ magic_other b rest w
 magic_fault_read text _ h = absurd h
 
+-- what reading a magic says of the text
 abbrev pub IsMagic : List ℕ → Begun → Type 0
 IsMagic text (Ok rest) = StartsMagic text rest
 IsMagic text (Err e) = MagicFault text e
@@ -76,6 +79,7 @@ magic_right text (b ∷ rest) e =
       | inr w ↦ magic_fails text BadHeader (b, rest, e, w)
     ]
 
+-- what reading a magic says is so
 pub magic_found : (text : List ℕ) → IsMagic text (magic_at text)
 magic_found [] = magic_fails [] BadMagic (λ e. absurd cc)
 magic_found (a ∷ []) = magic_fails (a ∷ []) BadMagic (λ e. absurd cc)
@@ -128,11 +132,13 @@ header_read text rest w h m e =
 maxval_small : (c rest : List ℕ) (m : ℕ) → StartsGoodField maxval_fault c m rest → m ≤ 65535
 maxval_small c rest m e = maxval_capped.small m e.1
 
+-- what a text spells is read
 pub image_read : (text : List ℕ) (g : Graymap) → PgmSpells text g → image_at text ≡ Ok g
 image_read text g e =
     header_read text e.raster g.raster.width g.raster.height g.maxval e.header
     ∙ raster_read g.maxval (maxval_small e.header.after_height e.raster g.maxval e.header.maxval_field) g.raster.width g.raster.height e.raster g.raster.cells e.rest e.samples e.count e.ended
 
+-- the fault of a text is answered
 pub fault_read : (text : List ℕ) (e : PgmError) → PgmFault text e → image_at text ≡ Err e
 fault_read text e (in_magic f) = image_parts text ∙ ap at_width (magic_fault_read text e f)
 fault_read text e (in_width a ha f) = width_read text a ha ∙ ap at_height (good_fault_read side_fault side_capped a e f)
@@ -186,6 +192,7 @@ magic_answer : (text : List ℕ) (r : Begun) → IsMagic text r → IsAnswer tex
 magic_answer text (Ok a) ha = width_answer text a ha (good_field_at side_fault a) (good_found side_fault side_capped a)
 magic_answer text (Err e) f = in_magic f
 
+-- what reading says of a text is so
 pub image_found : (text : List ℕ) → IsAnswer text (image_at text)
 image_found text = subst (IsAnswer text) (sym (image_parts text)) (magic_answer text (magic_at text) (magic_found text))
 
@@ -216,12 +223,15 @@ read_only text (Ok g) h other s = let e : image_at text ≡ Ok other = image_rea
 read_only text (Err e) (inl m) other s = inr (ap (λ (c : PgmError). Err c) m)
 read_only text (Err e) (inr h) other s = let d : image_at text ≡ Ok other = image_read text other s in absurd cc
 
+-- a text has at most one fault
 pub same_fault : (text : List ℕ) (a b : PgmError) → PgmFault text a → PgmFault text b → a ≡ b
 same_fault text a b f g = let e : image_at text ≡ Err a = fault_read text a f in let d : image_at text ≡ Err b = fault_read text b g in cc
 
+-- a text that spells an image has no fault
 pub no_fault : (text : List ℕ) (g : Graymap) (e : PgmError) → PgmSpells text g → PgmFault text e → ⊥
 no_fault text g e s f = let a : image_at text ≡ Ok g = image_read text g s in let b : image_at text ≡ Err e = fault_read text e f in cc
 
+-- a text spells at most one image
 pub same_image : (text : List ℕ) (a b : Graymap) → PgmSpells text a → PgmSpells text b → a ≡ b
 same_image text a b s t = let e : image_at text ≡ Ok a = image_read text a s in let d : image_at text ≡ Ok b = image_read text b t in cc
 
@@ -230,6 +240,7 @@ either_by : (text : List ℕ) (r : Answer) → IsAnswer text r → ((g : Graymap
 either_by text (Ok g) h = inl (g, h)
 either_by text (Err e) h = inr (e, h)
 
+-- each text spells an image or has a fault
 pub either : (text : List ℕ) → ((g : Graymap) × PgmSpells text g) ⊎ ((e : PgmError) × PgmFault text e)
 either text = either_by text (image_at text) (image_found text)
 

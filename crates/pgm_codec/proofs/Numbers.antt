@@ -13,27 +13,33 @@ use Rattle.pgm_codec.specs.Reading.{after_gap, digits_after, number_at}
 
 -- ---- bytes
 
+-- a digit is worth less than ten
 pub digit_below : (b : ℕ) → is_ascii_digit b ≡ true → digit_value b < 10
 digit_below b h = grind arith
 
+-- what is worth less than ten is a digit
 pub digit_is : (b : ℕ) → digit_value b < 10 → is_ascii_digit b ≡ true
 digit_is b h = let r = digit_from_value b h in grind arith
 
+-- a digit is no whitespace
 pub digit_not_white : (b : ℕ) → is_ascii_digit b ≡ true → is_white b ≡ false
 digit_not_white b h = grind arith
 
 -- ---- gaps
 
+-- a gap in front is passed over
 pub behind_gap : (gap rest : List ℕ) → IsGap gap → after_gap (gap ++ rest) ≡ after_gap rest
 unfolding after_gap
 behind_gap [] rest h = refl
 behind_gap (b ∷ gap) rest h = cond-true (is_white b) _ _ h.0 ∙ behind_gap gap rest h.1
 
+-- behind a text of whitespace stands nothing
 pub only_gap : (gap : List ℕ) → IsGap gap → after_gap gap ≡ []
 unfolding after_gap
 only_gap [] h = refl
 only_gap (b ∷ gap) h = cond-true (is_white b) _ _ h.0 ∙ only_gap gap h.1
 
+-- where no whitespace stands, nothing is passed over
 pub no_gap : (b : ℕ) (rest : List ℕ) → is_white b ≡ false → after_gap (b ∷ rest) ≡ b ∷ rest
 unfolding after_gap
 no_gap b rest h = cond-false (is_white b) _ _ h
@@ -46,6 +52,7 @@ gap_more : (b : ℕ) (text : List ℕ) → is_white b ≡ true → GapCases text
 gap_more b text w (inl h) = inl (w, h)
 gap_more b text w (inr (gap, rest, c, h, n, e)) = inr (b ∷ gap, rest, c, (w, h), n, ap (λ (t : List ℕ). b ∷ t) e)
 
+-- a text is a gap, or another byte stands behind its gap
 pub gap_cases : (text : List ℕ) → GapCases text
 gap_cases [] = inl tt
 gap_cases (b ∷ text) =
@@ -56,12 +63,14 @@ gap_cases (b ∷ text) =
 
 -- ---- digits
 
+-- each number past 65535 is read as 65536
 abbrev pub cap : ℕ → ℕ
 cap n = min n 65536
 
 cap_step : (n d : ℕ) → min (min n 65536 * 10 + d) 65536 ≡ min (n * 10 + d) 65536
 cap_step n d = omega arith
 
+-- all the digits that stand there are read
 pub digits_read : (n : ℕ) (ds rest : List ℕ) → AllDigits 10 ds → StartsNoDigit rest
     → digits_after (min n 65536) (ds ++ rest) ≡ (min (digits_value_after 10 n ds) 65536, rest)
 unfolding digits_after
@@ -99,6 +108,7 @@ numeral_read stray (d ∷ ds) rest numeral ends =
     ∙ cond-true (is_ascii_digit d) _ _ digit
     ∙ ap (λ (x : ℕ × List ℕ). Ok x) (digits_read 0 (d ∷ ds) rest numeral.1 ends)
 
+-- a number that stands there is read
 pub number_read : (stray : PgmError) (text digits rest : List ℕ) → StartsNumber text digits rest
     → number_at stray (after_gap text) ≡ Ok (min (digits_value 10 digits) 65536, rest)
 number_read stray text digits rest h =
@@ -106,6 +116,7 @@ number_read stray text digits rest h =
     ∙ ap (number_at stray) (behind_gap h.gap (digits ++ rest) h.is_gap)
     ∙ numeral_read stray digits rest h.numeral h.whole
 
+-- another byte in its place is answered
 pub stray_read : (stray : PgmError) (text : List ℕ) → StartsStray text → number_at stray (after_gap text) ≡ Err stray
 unfolding number_at
 stray_read stray text (gap, rest, b, is_gap, not_white, not_digit, e) =
@@ -113,6 +124,7 @@ stray_read stray text (gap, rest, b, is_gap, not_white, not_digit, e) =
     ∙ ap (number_at stray) (behind_gap gap (b ∷ rest) is_gap ∙ no_gap b rest not_white)
     ∙ cond-false (is_ascii_digit b) _ _ not_digit
 
+-- so is the end in its place
 pub gap_read : (stray : PgmError) (text : List ℕ) → IsGap text → number_at stray (after_gap text) ≡ Err Truncated
 unfolding number_at
 gap_read stray text h = ap (number_at stray) (only_gap text h)
@@ -143,5 +155,6 @@ number_cases_behind text (inr (gap, rest, b, is_gap, n, e)) =
       | inr m ↦ inr (inl (gap, rest, b, is_gap, n, m, e))
     ]
 
+-- a number stands first, or another byte, or nothing
 pub number_cases : (text : List ℕ) → NumberCases text
 number_cases text = number_cases_behind text (gap_cases text)

@@ -28,6 +28,7 @@ end_fault_read text _ h = absurd h
 
 -- ---- samples
 
+-- samples and the text behind them, or a fault
 abbrev pub Many : Type 0
 Many = Result (List ℕ × List ℕ) PgmError
 

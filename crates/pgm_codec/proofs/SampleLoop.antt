@@ -4,6 +4,7 @@ use Rattle.std.proofs.lemmas.List.{append-nil}
 use Rattle.pgm_codec.specs.declared.error.PgmError.{PgmError}
 use Rattle.pgm_codec.specs.Reading.{◌>>=◌, sample_at, samples_at}
 
+-- the samples read, and the text behind them
 abbrev pub Read : Type 0
 Read = Result (List ℕ × List ℕ) PgmError
 
@@ -15,6 +16,7 @@ regroup : (front : List ℕ) (s : ℕ) (read : Read) → with_front front (read 
 regroup front s (Ok x) = ap (λ (ss : List ℕ). Ok (ss, x.1)) (simp append_assoc)
 regroup front s (Err e) = refl
 
+-- one more sample was read: the whole answer stays as it was
 pub goes_on : (m : ℕ) (front : List ℕ) (count i : ℕ) (text : List ℕ) (s : ℕ) (after : List ℕ) (total : Read) → i < count → sample_at m text ≡ Ok (s, after)
     → with_front front (samples_at m (count - i) text) ≡ total → with_front (front ++ s ∷ []) (samples_at m (count - (i + 1)) after) ≡ total
 unfolding samples_at
@@ -24,6 +26,7 @@ goes_on m front count i text s after total lt h so_far =
     rw (k, h) (regroup front s (samples_at m (count - (i + 1)) after)) in
     sym one ∙ so_far
 
+-- a sample is faulty: its fault is the whole answer
 pub fails : (m : ℕ) (e : PgmError) (front : List ℕ) (count i : ℕ) (text : List ℕ) (total : Read) → i < count → sample_at m text ≡ Err e
     → with_front front (samples_at m (count - i) text) ≡ total → total ≡ Err e
 unfolding samples_at
@@ -32,6 +35,7 @@ fails m e front count i text total lt h so_far =
     let one : with_front front (samples_at m (count - i) text) ≡ Err e = rw (k, h) refl in
     sym so_far ∙ one
 
+-- all samples were read: they are the whole answer
 pub is_done : (m : ℕ) (front : List ℕ) (count i : ℕ) (text : List ℕ) (total : Read) → count ≤ i
     → with_front front (samples_at m (count - i) text) ≡ total → total ≡ Ok (front, text)
 unfolding samples_at

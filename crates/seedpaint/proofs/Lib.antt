@@ -8,3 +8,7 @@ pub mod Painting
 pub mod States
 pub mod Showing
 pub mod Viewing
+pub mod OneSpelling
+pub mod OneRefusal
+pub mod NoView
+pub mod OneView

@@ -10,7 +10,7 @@ use Rattle.grid_core.specs.Reconstruction.{IsReconstruction}
 use Rattle.grid_core.proofs.Cells.{each_pixel_below}
 use Rattle.pgm_codec.specs.Graymap.{Graymap, IsGraymap}
 use Rattle.stroke_core.specs.Seed.{Seed, covers}
-use Rattle.seedpaint.specs.State.{State, IsJoin}
+use Rattle.seedpaint.specs.State.{State, IsJoinOf}
 use Rattle.seedpaint.specs.Strokes.{Placed, AgreeOnTags}
 use Rattle.seedpaint.specs.Marker.{IsTopLevel, level_at, top_level}
 use Rattle.seedpaint.specs.View.{domain_of, delta_of, IsShown}
@@ -100,7 +100,7 @@ pub is_shown : (conn : Conn) (mask : Graymap) (places : List Placed) (marker ima
     → ((p : Pixel) → IsInside mask.raster.width mask.raster.height p → value_at marker p ≡ min (value_at mask.raster p) (top_level (seeds places) p))
     → IsSized 4096 image → image.width ≡ mask.raster.width → image.height ≡ mask.raster.height
     → IsReconstruction (domain_of conn mask) (value_at mask.raster) (value_at marker) (value_at image)
-    → (state : State) × IsJoin (map delta_of places) state × IsShown conn mask state (record { raster = image; maxval = mask.maxval })
+    → (state : State) × IsJoinOf (map delta_of places) state × IsShown conn mask state (record { raster = image; maxval = mask.maxval })
 is_shown conn mask places marker image agree below values sized width height recon = (
   state_of places,
   state_is_join places agree,
@@ -126,7 +126,7 @@ pub record IsGrown (conn : Conn) (grid : Raster) (places : List Placed) (marker 
 
 pub grown_is_shown : (conn : Conn) (mask shown : Graymap) (places : List Placed) (grid marker image : Raster) (maxval : ℕ) → AgreeOnTags places → grid ≡ mask.raster → IsGrown conn grid places marker image
     → maxval ≡ mask.maxval → shown ≡ record { raster = image; maxval = maxval }
-    → (state : State) × IsJoin (map delta_of places) state × IsShown conn mask state shown
+    → (state : State) × IsJoinOf (map delta_of places) state × IsShown conn mask state shown
 grown_is_shown conn mask shown places grid marker image maxval agree grid-is grown maxval-is shown-is =
     let g : IsGrown conn mask.raster places marker image = subst (λ (r : Raster). IsGrown conn r places marker image) grid-is grown in
     let made = is_shown conn mask places marker image agree g.below g.values g.sized g.width g.height g.recon in

@@ -9,7 +9,7 @@ use Rattle.std.specs.FinSet as set
 use Rattle.std.specs.List.{AllByRecursion}
 use Rattle.std.proofs.lemmas.Bool.Decides.{nat_tests}
 use Rattle.stroke_core.specs.Seed.{Seed}
-use Rattle.seedpaint.specs.State.{State, HasStroke, HasTombstone, IsBelow, SomeHasStroke, SomeHasTombstone, IsJoin, IsLeastAbove, placed}
+use Rattle.seedpaint.specs.State.{State, HasStroke, HasTombstone, IsBelow, SomeHasStroke, SomeHasTombstone, IsJoinOf, IsLeastAbove, placed}
 use Rattle.seedpaint.specs.Strokes.{Placed, AgreeOnTags}
 use Rattle.seedpaint.specs.View.{delta_of}
 
@@ -121,7 +121,7 @@ no_delta_has_tombstone [] tag has = has
 no_delta_has_tombstone (place ∷ places) tag (inl here) = no_tombstone tag here
 no_delta_has_tombstone (place ∷ places) tag (inr there) = no_delta_has_tombstone places tag there
 
-pub state_is_join : (places : List Placed) → AgreeOnTags places → IsJoin (map delta_of places) (state_of places)
+pub state_is_join : (places : List Placed) → AgreeOnTags places → IsJoinOf (map delta_of places) (state_of places)
 state_is_join places agree = record {
   strokes = λ tag seed. (λ has. some_from_contains places tag seed (state_only places tag seed has), λ has. state_has places agree tag seed (contains_from_some places tag seed has));
   tombstones = λ tag. (λ has. absurd (no_tombstone tag has), λ has. absurd (no_delta_has_tombstone places tag has));
@@ -147,7 +147,7 @@ some_tombstone_above [] other below tag has = absurd has
 some_tombstone_above (s ∷ states) other below tag (inl here) = below.0.tombstones tag here
 some_tombstone_above (s ∷ states) other below tag (inr there) = some_tombstone_above states other below.1 tag there
 
-pub join_is_least : (states : List State) (join : State) → IsJoin states join → IsLeastAbove states join
+pub join_is_least : (states : List State) (join : State) → IsJoinOf states join → IsLeastAbove states join
 join_is_least states join is_join = record {
   above = each_below states join (λ tag seed. (is_join.strokes tag seed).1) (λ tag. (is_join.tombstones tag).1);
   least = λ other below. record {
@@ -166,7 +166,7 @@ same_bit true b f g = sym (f refl)
 same_bit false true f g = g refl
 same_bit false false f g = refl
 
-pub one_join : (states : List State) (a b : State) → IsJoin states a → IsJoin states b → a ≡ b
+pub one_join : (states : List State) (a b : State) → IsJoinOf states a → IsJoinOf states b → a ≡ b
 one_join states a b join_a join_b =
     let strokes : a.strokes ≡ b.strokes = map.same_map nat_cmp_total map.nat_cmp-IsAntisymmetric a.strokes b.strokes (λ tag.
     same_answer (map.get a.strokes tag) (map.get b.strokes tag) (λ s has. (join_b.strokes tag s).1 ((join_a.strokes tag s).0 has)) (λ s has. (join_a.strokes tag s).1 ((join_b.strokes tag s).0 has))) in

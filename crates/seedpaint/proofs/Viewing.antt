@@ -10,7 +10,7 @@ use Rattle.pgm_codec.specs.Spelling.{PgmSpells}
 use Rattle.edit_lang.specs.Edit.{seen, EditSpells}
 use Rattle.std.specs.Prelude.{map}
 use Rattle.seedpaint.specs.Input.{IsSplit}
-use Rattle.seedpaint.specs.State.{State, IsJoin}
+use Rattle.seedpaint.specs.State.{State, IsJoinOf}
 use Rattle.seedpaint.specs.Strokes.{Placed, AreTaken, AreRefused}
 use Rattle.seedpaint.specs.RunFault.{refused_strokes}
 use Rattle.seedpaint.specs.View.{InputSpells, IsImageOfView, IsShown, InputIsRefused, IsMemoryFault, delta_of}
@@ -29,9 +29,9 @@ strokes_refuse input mask places Memory spells refused = inl (inl refl)
 
 -- what is shown for an input is the image of its view
 pub shown_is_view : (conn : Conn) (input : List ℕ) (mask : Graymap) (places shown_places : List Placed) (image : Graymap) → InputSpells input mask places → AreTaken mask.raster.width mask.raster.height places
-    → shown_places ≡ places → ((state : State) × IsJoin (map delta_of shown_places) state × IsShown conn mask state image) → IsImageOfView conn input image
+    → shown_places ≡ places → ((state : State) × IsJoinOf (map delta_of shown_places) state × IsShown conn mask state image) → IsImageOfView conn input image
 shown_is_view conn input mask places shown_places image spells taken same shown =
-    record { mask = mask; places = places; spelled = spells; fit = taken.fit; state = shown.0; join = subst (λ (ps : List Placed). IsJoin (map delta_of ps) shown.0) same shown.1; shown = shown.2 }
+    record { mask = mask; places = places; spelled = spells; fit = taken.fit; state = shown.0; join = subst (λ (ps : List Placed). IsJoinOf (map delta_of ps) shown.0) same shown.1; shown = shown.2 }
 
 -- the same strokes on the same sides
 pub taken_at : (mask : Graymap) (places taken_places : List Placed) (w h : ℕ) → w ≡ mask.raster.width → h ≡ mask.raster.height → taken_places ≡ places → AreTaken w h taken_places

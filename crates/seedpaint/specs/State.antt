@@ -37,7 +37,7 @@ SomeHasTombstone [] tag = ⊥
 SomeHasTombstone (s ∷ states) tag = HasTombstone s tag ⊎ SomeHasTombstone states tag
 
 -- the join of states: it holds what stands in one of them, and nothing else
-pub record IsJoin (states : List State) (join : State) : Type 0 where
+pub record IsJoinOf (states : List State) (join : State) : Type 0 where
   pub strokes : (tag : ℕ) (seed : Seed) → HasStroke join tag seed ↔ SomeHasStroke states tag seed
   pub tombstones : (tag : ℕ) → HasTombstone join tag ↔ SomeHasTombstone states tag
 

@@ -14,7 +14,7 @@ use Rattle.edit_lang.specs.Edit.{seen, EditSpells, IsFirstFault}
 use Rattle.edit_lang.specs.declared.error.EditError.TheVariants as edit
 use Rattle.stroke_core.specs.Seed.{Fits}
 use Rattle.seedpaint.specs.Input.{IsSplit, HasNoImageLine}
-use Rattle.seedpaint.specs.State.{State, IsJoin, placed}
+use Rattle.seedpaint.specs.State.{State, IsJoinOf, placed}
 use Rattle.seedpaint.specs.Strokes.{Placed, IsOutOfImage, IsConflict}
 use Rattle.seedpaint.specs.Marker.{IsMarker}
 use Rattle.seedpaint.specs.declared.fault.RunError.{RunError}
@@ -53,7 +53,7 @@ pub record IsImageOfView (conn : Conn) (input : List ℕ) (image : Graymap) : Ty
   pub spelled : InputSpells input mask places
   pub fit : All (λ place. Fits mask.raster.width mask.raster.height place.1) places
   pub state : State
-  pub join : IsJoin (map delta_of places) state
+  pub join : IsJoinOf (map delta_of places) state
   pub shown : IsShown conn mask state image
 
 -- the text is the view of the input: the raw spelling of that image

@@ -130,6 +130,30 @@ fn each_refusal_has_its_line_and_status(rt: HostRuntime) -> Result<(), Fail> {
 }
 
 #[test]
+fn the_first_image_line_splits(rt: HostRuntime) -> Result<(), Fail> {
+    let alloc = rt.alloc();
+    let file = shown(alloc, Conn::Four, "image\r\nP2\n2 1\n9\n3 5\n")?;
+    assert_eq!(rt; file.as_slice(), b"P5\n2 1\n9\n\x00\x00".as_slice());
+    let cases = [
+        ("image\nimage\nP2\n2 1\n9\n3 5\n", "seedpaint: P1"),
+        ("image", "seedpaint: V1"),
+        ("bogus\nimage", "seedpaint: V1"),
+        (" image\nP2\n2 1\n9\n3 5\n", "seedpaint: V1"),
+        (" image\nimage\nP2\n2 1\n9\n3 5\n", "seedpaint: E1 1"),
+        ("image\r\r\nimage\nP2\n2 1\n9\n3 5\n", "seedpaint: E1 1"),
+        (
+            "place zz 9 0:1-1\nimage\nP2\n2 1\n9\n3 5\n",
+            "seedpaint: E2 1",
+        ),
+    ];
+    for (input, line) in cases {
+        let error = refused(&rt, alloc, input)?;
+        assert_eq!(rt; fault_line(alloc, &error)?.as_str(), line, "{input}");
+    }
+    Ok(())
+}
+
+#[test]
 fn other_statuses(rt: HostRuntime) -> Result<(), Fail> {
     let alloc = rt.alloc();
     let cases = [
@@ -174,6 +198,27 @@ fn each_pull_fails_in_turn(rt: HostRuntime) -> Result<(), Fail> {
         }
     }
     assert_eq!(rt; status(&RunError::Pgm(PgmError::Device)), 3);
+    Ok(())
+}
+
+// The 23 bytes take 4 pulls, and one more finds the end. A device is met before the bad line.
+#[test]
+fn each_pull_of_a_refused_input_fails_in_turn(rt: HostRuntime) -> Result<(), Fail> {
+    let alloc = rt.alloc();
+    for k in 1..9u64 {
+        let mut source = source_of(alloc, "bogus\nimage\nP2\n1 1\n9\n5\n")?
+            .in_pieces(7)
+            .failing_at(k);
+        let mut sink = MemorySink::new(alloc);
+        let outcome = view_run(alloc, &mut source, Conn::Four, &mut sink);
+        let error = if k <= 5 {
+            RunError::Pgm(PgmError::Device)
+        } else {
+            RunError::Edit(EditError::BadLine(1))
+        };
+        assert_eq!(rt; outcome, Err(error), "pull {k}");
+        assert_eq!(rt; sink.written().len(), 0, "pull {k}");
+    }
     Ok(())
 }
 

@@ -6,7 +6,7 @@ ghost use Rattle.pgm_codec.specs.Device.{HasRisen, GivesUp, AppendsFront};
 ghost use Rattle.pgm_codec.specs.Graymap.{Graymap};
 ghost use Rattle.pgm_codec.specs.declared.error.PgmError.TheVariants as pgm;
 ghost use Rattle.seedpaint.specs.View.{IsView, IsImageOfView, InputIsRefused, IsInputOf, IsMemoryFault, IsShown, delta_of};
-ghost use Rattle.seedpaint.specs.State.{State, IsJoin};
+ghost use Rattle.seedpaint.specs.State.{State, IsJoinOf};
 ghost use Rattle.seedpaint.specs.Strokes.{AreTaken};
 
 use crate::fault::RunError;
@@ -84,7 +84,7 @@ fn grow(
     conn: Conn,
 ) -> Result<Image, RunError>
     requires { AreTaken mask.now.raster.width mask.now.raster.height places.now }
-    ensures shown { IfOk result (λ image. (state : State) × IsJoin (map delta_of places.now) state × IsShown conn mask.now state image) }
+    ensures shown { IfOk result (λ image. (state : State) × IsJoinOf (map delta_of places.now) state × IsShown conn mask.now state image) }
     ensures memory { IfErr result IsMemoryFault }
 {
     let grid = mask.to_grid(alloc)?;
