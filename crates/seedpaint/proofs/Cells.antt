@@ -3,23 +3,17 @@ use Rattle.std.proofs.Common.{◌≡◌, ℕ, ◌-◌, ◌*◌, ◌<◌, ◌⊎�
 use Rattle.std.proofs.lemmas.Bool.{cases_eq}
 use Rattle.std.proofs.lemmas.List.{length-set, get_or-set_same, get_or-set_other}
 use Rattle.std.proofs.lemmas.List.Sums.{sum_by-set}
-use Rattle.std.proofs.lemmas.Nat.{mul-add-lt, same_from_place}
+use Rattle.std.proofs.lemmas.Nat.{mul-add-lt}
 use Rattle.grid_core.specs.declared.conn.Conn.{Conn}
 use Rattle.grid_core.specs.declared.pixel.Pixel.{Pixel}
 use Rattle.grid_core.specs.Path.{Domain, Inside}
 use Rattle.grid_core.specs.Raster.{Raster, IsSized, index_of, value_at, with_value}
-use Rattle.grid_core.proofs.Pixels.{same_pixel}
+use Rattle.grid_core.proofs.Cells.{same_place}
 use Rattle.seedpaint.specs.Flood.{domain_of, IsImageOn, missing}
 
 -- the place of a pixel is among the cells
 pub index_inside : (d : Domain) (p : Pixel) → Inside d p → index_of d.width p < d.width * d.height
 index_inside d p inside = mul-add-lt p.y d.width p.x d.height inside.1 inside.0
-
--- pixels with one place are one
-pub same_from_index : (d : Domain) (p q : Pixel) → Inside d p → Inside d q → index_of d.width p ≡ index_of d.width q → p ≡ q
-same_from_index d p q inside_p inside_q same =
-    let both = same_from_place p.y p.x q.y q.x d.width inside_p.0 inside_q.0 same in
-    same_pixel p q both.1 both.0
 
 -- the place of a pixel in an image is among its cells
 pub index_in_image : (d : Domain) (image : Raster) (p : Pixel) → IsImageOn d image → Inside d p → index_of image.width p < length image.cells
@@ -33,7 +27,7 @@ pub written_else : (d : Domain) (image : Raster) (p q : Pixel) (v : ℕ) → IsI
     → (q ≡ p) ⊎ (value_at (with_value image p v) q ≡ value_at image q)
 written_else d image p q v sized inside_p inside_q =
     elim (cases_eq (index_of d.width q) (index_of d.width p)) [
-      | inl same ↦ inl (same_from_index d q p inside_q inside_p same)
+      | inl same ↦ inl (same_place d.width d.height q p inside_q inside_p same)
       | inr other ↦ inr (get_or-set_other image.cells (index_of image.width p) (index_of image.width q) v 0 (rw sized.width other))
     ]
 

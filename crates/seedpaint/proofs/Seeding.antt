@@ -9,7 +9,8 @@ use Rattle.grid_core.specs.Path.{Domain, Inside}
 use Rattle.grid_core.specs.Raster.{Raster, IsBelow, index_of, value_at, with_value}
 use Rattle.grid_core.proofs.Reach.{reaches_here}
 use Rattle.seedpaint.specs.Flood.{domain_of, IsImageOn, IsSeeding}
-use Rattle.seedpaint.proofs.Cells.{index_inside, same_from_index, written_here, written_else}
+use Rattle.seedpaint.proofs.Cells.{index_inside, written_here, written_else}
+use Rattle.grid_core.proofs.Cells.{same_place}
 use Rattle.seedpaint.proofs.Flooding.{flood_marks, flood_sees}
 
 -- a place among the cells is that of a pixel inside
@@ -52,7 +53,7 @@ module _ (conn : Conn) (mask marker : Raster) (level count : ℕ) (image : Raste
       (reaches_here d (value_at mask) (value_at marker) q level inside high seed) here
       (λ p inside_p. written_else d image q p level sized inside inside_p) flooding in
       flood_sees d (value_at mask) (value_at marker) (value_at new) level count (waiting ++ q ∷ [])
-      (λ p inside_p place_p seed_p. subst (λ r. level ≤ value_at new r) (sym (same_from_index d p q inside_p inside (place_p ∙ sym place))) (omega (arith, here)))
+      (λ p inside_p place_p seed_p. subst (λ r. level ≤ value_at new r) (sym (same_place d.width d.height p q inside_p inside (place_p ∙ sym place))) (omega (arith, here)))
       marked
 
   -- the next cell is no seed

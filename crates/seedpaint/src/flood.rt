@@ -15,7 +15,7 @@ mod tests;
 
 /// What is reconstructed: a mask and a marker of one size, and which pixels are neighbours.
 #[derive(Clone, Copy)]
-struct Source<'a> {
+struct Reconstruction<'a> {
     mask: &'a Grid,
     marker: &'a Grid,
     conn: Conn,
@@ -37,7 +37,7 @@ pub(crate) fn flood(alloc: Global, mask: &Grid, marker: &Grid, conn: Conn) -> Re
     let height = mask.height();
     let cells = vec![in alloc; 0; width as usize * height as usize]?;
     let mut image = Grid::from_cells(width, height, cells);
-    let source = Source { mask, marker, conn };
+    let source = Reconstruction { mask, marker, conn };
     for done in 0..greatest(marker.cells()) {
         flood_level(alloc, &source, &mut image, done + 1)?;
     }
@@ -54,7 +54,7 @@ fn greatest(values: &[u32]) -> u32
 // Floods one level: each pixel that reaches it gets it as its value.
 fn flood_level(
     alloc: Global,
-    source: &Source<'_>,
+    source: &Reconstruction<'_>,
     image: &mut Grid,
     level: u32,
 ) -> Result<(), Memory>
@@ -75,7 +75,7 @@ fn flood_level(
 
 // Marks the pixels where the marker is at least the level.
 fn seed_level(
-    source: &Source<'_>,
+    source: &Reconstruction<'_>,
     image: &mut Grid,
     waiting: &mut Vec<Pixel>,
     level: u32,
@@ -97,7 +97,7 @@ fn seed_level(
 
 // Marks the neighbours of a marked pixel where the mask is at least the level.
 fn spread(
-    source: &Source<'_>,
+    source: &Reconstruction<'_>,
     image: &mut Grid,
     waiting: &mut Vec<Pixel>,
     level: u32,
