@@ -2,8 +2,9 @@
 """Turn a PGM picture into a PNG picture.
 
 The input is a plain or raw PGM file, or an input of Seedpaint: then the
-picture after its `image` line is taken, and with --strokes the runs of its
-`place` lines are painted over it in colour.
+picture after its `image` line is taken, and with --strokes the strokes of the
+lines before it are painted over the picture: filled in orange, or, of one that
+is withdrawn, as an outline in blue.
 
     python3 examples/picture.py --scale 2 examples/cells.txt cells.png
 """
@@ -12,10 +13,11 @@ import argparse
 import re
 import struct
 import sys
+import uuid
 import zlib
 from pathlib import Path
 
-STROKE_COLOUR = bytes((255, 96, 32))
+STROKE_COLOUR, WITHDRAWN_COLOUR = bytes((255, 96, 32)), bytes((64, 176, 255))
 IMAGE_LINE = re.compile(rb"^image\r?\n", re.MULTILINE)
 SEPARATOR = rb"[ \t\r\n](?:[ \t\r\n]|#[^\r\n]*[\r\n])*"
 HEADER = re.compile(rb"P([25])" + 3 * (SEPARATOR + rb"(\d+)") + rb"[ \t\r\n]")
@@ -45,16 +47,41 @@ def read_picture(data):
     return width, height, [sample * 255 // maxval for sample in samples]
 
 
-def stroke_pixels(lines):
-    """The pixels (x, y) that the place lines cover."""
-    for line in lines.splitlines():
-        words = line.split()
-        if words[:1] != [b"place"]:
-            continue
-        for run in words[3].split(b","):
-            y, first, last = map(int, re.split(b"[:-]", run))
-            for x in range(first, last + 1):
-                yield x, y
+def run_pixels(text):
+    """The pixels (x, y) of runs, row:first-last each."""
+    for run in text.split(b","):
+        y, first, last = map(int, re.split(b"[:-]", run))
+        yield from ((x, y) for x in range(first, last + 1))
+
+
+def disc_pixels(text):
+    """The pixels (x, y) of a disc, row:column+radius."""
+    row, column, radius = map(int, re.split(rb"[:+]", text))
+    around = range(-radius, radius + 1)
+    return ((column + across, row + down) for down in around for across in around
+            if across * across + down * down <= radius * radius)
+
+
+def inner(pixels):
+    """Those of a set of pixels that have no side on its edge."""
+    return {(x, y) for x, y in pixels
+            if {(x + 1, y), (x - 1, y), (x, y + 1), (x, y - 1)} <= pixels}
+
+
+def read_strokes(lines):
+    """The pixels to paint, each with its colour; strokes that live come last."""
+    strokes, withdrawn = {}, set()
+    shapes = {b"place": run_pixels, b"disc": disc_pixels}
+    for words in map(bytes.split, lines.split(b"\n")):
+        if words[:1] == [b"withdraw"]:
+            withdrawn.add(uuid.UUID(words[1].decode()))
+        elif words and words[0] in shapes:
+            strokes[uuid.UUID(words[1].decode())] = set(shapes[words[0]](words[3]))
+    gone = ((pixel, WITHDRAWN_COLOUR) for tag in strokes.keys() & withdrawn
+            for pixel in strokes[tag] - inner(inner(strokes[tag])))
+    live = ((pixel, STROKE_COLOUR) for tag in strokes.keys() - withdrawn
+            for pixel in strokes[tag])
+    return [*gone, *live]
 
 
 def chunk(kind, data):
@@ -100,8 +127,9 @@ def main():
     channels = 3 if words.strokes else 1
     pixels = [bytes(channels * [sample]) for sample in samples]
     if words.strokes:
-        for x, y in stroke_pixels(lines):
-            pixels[y * width + x] = STROKE_COLOUR
+        for (x, y), colour in read_strokes(lines):
+            if 0 <= x < width and 0 <= y < height:
+                pixels[y * width + x] = colour
     Path(words.target).write_bytes(png_file(width, height, pixels, words.scale))
 
 

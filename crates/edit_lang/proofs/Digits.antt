@@ -27,11 +27,15 @@ all_three : (a b c : Bool) → a ≡ true → b ≡ true → c ≡ true → (a &
 all_three a b c p q r = rw (p, q, r) refl
 
 -- one to five digits, of which the last has been read
-pub is_value : (word : List ℕ) (i n : ℕ) → 0 < length word → length word ≤ 5 → length word ≤ i → list_all is_ascii_digit (take i word) ≡ true
+pub is_value : (word : List ℕ) (i n : ℕ) → 0 < length word → length word ≤ 5 → length word ≤ i
+    → list_all is_ascii_digit (take i word) ≡ true
     → digits_value_after 10 n (drop i word) ≡ digits_value 10 word → Some n ≡ number_of word
 unfolding number_of
 is_value word i n some few end digits value =
-    let all : list_all is_ascii_digit word ≡ true = ap (list_all is_ascii_digit) (sym (take_all i word end)) ∙ digits in
-    let same : n ≡ digits_value 10 word = ap (λ ds. digits_value_after 10 n ds) (sym (drop_of_length-le word end)) ∙ value in
-    let test : is_number word ≡ true = all_three _ _ _ (lt-ltb 0 (length word) some) (le-leb (length word) 5 few) all in
+    let all : list_all is_ascii_digit word ≡ true =
+    ap (list_all is_ascii_digit) (sym (take_all i word end)) ∙ digits in
+    let same : n ≡ digits_value 10 word = ap (λ ds. digits_value_after 10 n ds) (sym (drop_of_length-le word end)) ∙
+    value in
+    let test : is_number word ≡ true = all_three _ _ _ (lt-ltb 0 (length word) some) (le-leb (length word) 5 few) all
+    in
     ap Some same ∙ sym (ap (λ b. cond b (Some (digits_value 10 word)) None) test)

@@ -1,6 +1,7 @@
+pub mod Lists
 pub mod Cutting
 pub mod Digits
-pub mod RunLemmas
-pub mod Saying
+pub mod Runs
+pub mod Seeds
 pub mod Meaning
-pub mod EveryText
+pub mod Reading

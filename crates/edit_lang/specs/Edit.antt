@@ -1,79 +1,103 @@
--- What an edit text means: the strokes that its lines place, or the first fault.
-use Rattle.std.specs.Prelude.{◌≡◌, ℕ, ◌+◌, Bool, List, [], ◌∷◌, ◌++◌, ◌⊎◌, if◌then◌else◌, map, codes, nat_eq, Option, Some, None, option_to_list, Result, Ok, Err}
-use Rattle.std.specs.Option.{ok_or}
+-- What an edit text means: a state for each of its edits, or the fault of its first faulty line.
+use Rattle.std.specs.Prelude.{◌≡◌, ℕ, ◌+◌, List, [], ◌∷◌, ◌++◌, ◌⊎◌, if◌then◌else◌, codes, nat_eq, Option, Some, None, option_to_list, Result, Ok, Err}
 use Rattle.std.specs.List.{starts_with}
 use Rattle.std.specs.Str.{bytes_eq}
-use Rattle.stroke_core.specs.Seed.{Seed, IsCanonical, IsRefusal}
+use Rattle.stroke_core.specs.Seed.{Seed, Runs, IsCanonical, IsRefusal}
 use Rattle.stroke_core.specs.Tag.{tag_of}
 use Rattle.stroke_core.specs.declared.error.StrokeError.{StrokeError}
+use Rattle.stroke_lattice.specs.State.{State, placed, withdrawn}
 use Rattle.edit_lang.specs.declared.error.EditError.{EditError}
 use Rattle.edit_lang.specs.declared.error.EditError.TheVariants.{BadLine, BadTag, BadStroke}
 use Rattle.edit_lang.specs.Lines.{lines_of, words_of}
-use Rattle.edit_lang.specs.Numbers.{number_of, runs_of}
+use Rattle.edit_lang.specs.Numbers.{◌>>=◌, number_of}
+use Rattle.edit_lang.specs.Shapes.{runs_of, disc_of}
 
--- a stroke, and the tag under which it is placed
-pub record Place : Type 0 where
-  pub tag : ℕ
-  pub seed : Seed
+-- what a line asks for: nothing, a seed to be placed under a tag, or a tag to be withdrawn; the tag is a word,
+-- not read yet
+pub data Edit : Type 0 where
+  Nothing : Edit
+  Place : (tag : List ℕ) (seed : Seed) → Edit
+  Withdraw : (tag : List ℕ) → Edit
 
--- pairs of a tag and a stroke, as places
-abbrev pub seen : List (ℕ × Seed) → List Place
-seen pairs = map (λ (p : ℕ × Seed). record { tag = p.0; seed = p.1 }) pairs
+-- the three words behind the first, where there are three
+unfoldable pub three_of : List (List ℕ) → Option (List ℕ × List ℕ × List ℕ)
+three_of (tag ∷ level ∷ shape ∷ []) = Some (tag, level, shape)
+three_of _ = None
 
-infixl 10 ◌>>=◌
-abbrev pub ◌>>=◌ : {A B : Type 0} → Result A EditError → (A → Result B EditError) → Result B EditError
-(Ok x) >>= f = f x
-(Err e) >>= f = Err e
+-- TAG LEVEL RUNS
+unfoldable pub runs_edit : List (List ℕ) → Option Edit
+runs_edit words = do
+  (tag, level, runs) ← three_of words
+  number ← number_of level
+  rows ← runs_of runs
+  Some (Place tag (record { level = number; shape = Runs rows }))
 
--- the three words after `place` on line n: a tag, a level and runs
-unfoldable pub place_of : ℕ → List (List ℕ) → Result Place EditError
-place_of n (tag ∷ level ∷ runs ∷ []) = do
-  number ← ok_or (number_of level) (BadLine n)
-  rows ← ok_or (runs_of runs) (BadLine n)
-  name ← ok_or (tag_of tag) (BadTag n)
-  Ok (record { tag = name; seed = record { level = number; runs = rows } })
-place_of n _ = Err (BadLine n)
+-- TAG LEVEL DISC
+unfoldable pub disc_edit : List (List ℕ) → Option Edit
+disc_edit words = do
+  (tag, level, disc) ← three_of words
+  number ← number_of level
+  shape ← disc_of disc
+  Some (Place tag (record { level = number; shape = shape }))
 
--- whether a line with this first word is a comment
-abbrev pub is_comment : List ℕ → Bool
-is_comment first = starts_with nat_eq first (codes ";")
+-- TAG
+unfoldable pub withdrawal : List (List ℕ) → Option Edit
+withdrawal (tag ∷ []) = Some (Withdraw tag)
+withdrawal _ = None
 
--- whether a line with this first word places a stroke
-abbrev pub is_place : List ℕ → Bool
-is_place first = bytes_eq first (codes "place")
+-- what a first word asks for with the words behind it, or None where they have no form of the language
+unfoldable pub edit_named : List ℕ → List (List ℕ) → Option Edit
+edit_named first others =
+    if bytes_eq first (codes "place") then runs_edit others
+    else (if bytes_eq first (codes "disc") then disc_edit others
+    else (if bytes_eq first (codes "withdraw") then withdrawal others
+    else None))
 
--- what the words of line n say, before the level and the runs are judged
-unfoldable pub said : ℕ → List (List ℕ) → Result (Option Place) EditError
-said n [] = Ok None
-said n (first ∷ others) =
-    if is_comment first then Ok None
-    else (if is_place first then (place_of n others >>= λ p. Ok (Some p)) else Err (BadLine n))
+-- what the words of a line ask for: nothing where there are none, and where the first begins a comment
+unfoldable pub edit_of : List (List ℕ) → Option Edit
+edit_of [] = Some Nothing
+edit_of (first ∷ others) = if starts_with nat_eq first (codes ";") then Some Nothing else edit_named first others
 
--- what line n means: nothing, a place with a canonical stroke, or the fault of the line
-abbrev pub LineMeans : ℕ → List ℕ → Result (Option Place) EditError → Type 0
-LineMeans n line (Ok None) = said n (words_of line) ≡ Ok None
-LineMeans n line (Ok (Some p)) = (said n (words_of line) ≡ Ok (Some p)) × IsCanonical p.seed
-LineMeans n line (Err e) =
-    (said n (words_of line) ≡ Err e)
-    ⊎ ((p : Place) × (why : StrokeError) × (said n (words_of line) ≡ Ok (Some p)) × IsRefusal p.seed.level p.seed.runs why × (e ≡ BadStroke n why))
+-- a seed on line n means a state that holds it where it is canonical, and else the fault E3 with the reason
+abbrev pub SeedMeans : ℕ → ℕ → Seed → Result (Option State) EditError → Type 0
+SeedMeans n tag seed r =
+    (IsCanonical seed × (r ≡ Ok (Some (placed tag seed))))
+    ⊎ ((why : StrokeError) × IsRefusal seed why × (r ≡ Err (BadStroke n why)))
 
--- the lines from number n on mean these places, in order
-abbrev pub LinesSpell : ℕ → List (List ℕ) → List Place → Type 0
-LinesSpell n [] places = places ≡ []
-LinesSpell n (line ∷ lines) places =
-    (first : Option Place) × (others : List Place) × LineMeans n line (Ok first) × LinesSpell (n + 1) lines others
-    × (places ≡ option_to_list first ++ others)
+-- a seed on line n, under the tag that was read, or under a word that is no tag
+abbrev pub PlaceMeans : ℕ → Option ℕ → Seed → Result (Option State) EditError → Type 0
+PlaceMeans n None seed r = r ≡ Err (BadTag n)
+PlaceMeans n (Some tag) seed r = SeedMeans n tag seed r
 
--- of the lines from number n on, the first that has a fault has this one
-abbrev pub HaveFirstFault : ℕ → List (List ℕ) → EditError → Type 0
-HaveFirstFault n [] e = ⊥
-HaveFirstFault n (line ∷ lines) e =
-    LineMeans n line (Err e) ⊎ ((first : Option Place) × LineMeans n line (Ok first) × HaveFirstFault (n + 1) lines e)
+-- a withdrawal on line n, of the tag that was read, or of a word that is no tag
+abbrev pub WithdrawMeans : ℕ → Option ℕ → Result (Option State) EditError → Type 0
+WithdrawMeans n None r = r ≡ Err (BadTag n)
+WithdrawMeans n (Some tag) r = r ≡ Ok (Some (withdrawn tag))
 
--- the lines of the text mean these places, in order
-abbrev pub EditSpells : List ℕ → List Place → Type 0
-EditSpells text places = LinesSpell 1 (lines_of text) places
+-- what an edit on line n means: nothing, a state, or the fault of the line
+abbrev pub EditMeans : ℕ → Option Edit → Result (Option State) EditError → Type 0
+EditMeans n None r = r ≡ Err (BadLine n)
+EditMeans n (Some Nothing) r = r ≡ Ok None
+EditMeans n (Some (Place tag seed)) r = PlaceMeans n (tag_of tag) seed r
+EditMeans n (Some (Withdraw tag)) r = WithdrawMeans n (tag_of tag) r
+
+-- what line n means
+abbrev pub LineMeans : ℕ → List ℕ → Result (Option State) EditError → Type 0
+LineMeans n line r = EditMeans n (edit_of (words_of line)) r
+
+-- the lines from number n on mean these states, in order, or the fault of the first faulty one
+abbrev pub LinesMean : ℕ → List (List ℕ) → Result (List State) EditError → Type 0
+LinesMean n [] r = r ≡ Ok []
+LinesMean n (line ∷ lines) (Ok deltas) =
+    (first : Option State) × (others : List State) × LineMeans n line (Ok first) × LinesMean (n + 1) lines (Ok others)
+    × (deltas ≡ option_to_list first ++ others)
+LinesMean n (line ∷ lines) (Err e) =
+    LineMeans n line (Err e) ⊎ ((first : Option State) × LineMeans n line (Ok first) × LinesMean (n + 1) lines (Err e))
+
+-- the lines of the text mean these states, in order
+abbrev pub EditSpells : List ℕ → List State → Type 0
+EditSpells text deltas = LinesMean 1 (lines_of text) (Ok deltas)
 
 -- the fault of the first line that has one
 abbrev pub IsFirstFault : List ℕ → EditError → Type 0
-IsFirstFault text e = HaveFirstFault 1 (lines_of text) e
+IsFirstFault text e = LinesMean 1 (lines_of text) (Err e)

@@ -1,15 +1,32 @@
-//! The edit language: lines that place strokes under tags, and their reading.
+//! The edit language of Seedpaint: a text that places strokes, as runs of pixels or as discs, and
+//! withdraws them, one edit a line.
+//!
+//! ```text
+//! ; runs y:x0-x1 of level 9 on row 0, a disc y:x+r of level 5, and the first stroke taken back
+//! place 00000000-0000-0000-0000-000000000001 9 0:1-2,0:4-4
+//! disc 00000000-0000-0000-0000-000000000002 5 2:2+1
+//! withdraw 00000000-0000-0000-0000-000000000001
+//! ```
+//!
+//! [`parse`] reads such a text into one delta an edit, to be merged in order. It answers exactly what the
+//! text spells, or an [`EditError`], which tells the fault of the first faulty line. That a text spells one
+//! list of deltas or has one first fault is [`one_meaning`].
+//!
+//! What a text means stands in `specs/Edit.antt`: the words of a line (`Lines`) ask for an edit, in which
+//! `Numbers` and `Shapes` say what a number, a run and a disc look like, and the edit means a state of one
+//! stroke or one tombstone (`stroke_lattice`), or a fault. In the code `text` goes from line to line, `line`
+//! from a line to its delta, and `words`, `number` and `shape` read its parts.
 #![tactic(auto)]
 
 mod error;
 mod line;
 mod number;
-mod parse;
-mod run;
+mod shape;
+mod text;
 mod words;
 
 pub use error::EditError;
-pub use parse::{one_meaning, parse_places};
+pub use text::{one_meaning, parse};
 
 #[cfg(test)]
 mod tests;

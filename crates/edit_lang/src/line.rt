@@ -1,106 +1,174 @@
-ghost use Rattle.std.specs.Prelude.{◌≡◌, ℕ, List, [], ◌∷◌, ◌⊎◌, Ok, Err, Some, MatchOption, MatchResult, option_map};
+ghost use Rattle.std.specs.Prelude.{◌≡◌, ◌⊎◌, Ok, Err, Some, IfOk, MatchResult, option_map};
+ghost use Rattle.stroke_core.specs.Seed.{Runs, Disc};
 ghost use Rattle.edit_lang.specs.declared.error.EditError.TheVariants as errors;
+ghost use Rattle.stroke_lattice.specs.State.{placed};
 ghost use Rattle.edit_lang.specs.Lines.{words_of};
-ghost use Rattle.edit_lang.specs.Edit.{LineMeans, is_comment, is_place, place_of, said};
+ghost use Rattle.edit_lang.specs.Edit.{Place, Withdraw, three_of, runs_edit, disc_edit, withdrawal};
+ghost use Rattle.edit_lang.specs.Edit.{edit_named, EditMeans, LineMeans};
 
 use crate::error::EditError;
 use crate::number::parse_number;
-use crate::run::parse_runs;
+use crate::shape::{Circle, parse_disc, parse_runs};
 use crate::words::first_word;
-use std::alloc::Global;
+use std::alloc::{AllocError, Global};
 use stroke_core::{Run, Stroke, Tag};
+use stroke_lattice::{Delta, State};
 
-/// What the line of this number means: a stroke to be placed, or nothing.
+/// What the line of this number means: a delta, or nothing.
 ///
 /// Errors, in this order: E1 where it is no line of the language, E2 where the tag is no UUID, E3 where
-/// the level and the runs make no stroke. E4 may come in place of any.
+/// the level and the runs or the disc make no stroke. E4 may come in place of any.
+#[tactic(auto, unfolding(crate::specs::Edit::edit_of))]
 pub(crate) fn parse_line(
     alloc: Global,
     number: u64,
     line: &[u8],
-) -> Result<Option<(Tag, Stroke)>, EditError>
-    ensures { MatchResult result
-        (λ found. LineMeans number line.now (Ok (option_map (λ p. record { tag = p.0; seed = p.1 }) found)))
+) -> Result<Option<Delta>, EditError>
+    ensures { MatchResult result (λ found. LineMeans number line.now (Ok found))
         (λ e. (e ≡ errors.Memory) ⊎ LineMeans number line.now (Err e)) }
-{
-    let Some((tag, level, runs)) = parse_words(alloc, number, line)? else {
-        return Ok(None);
-    };
-    match Stroke::new(level, runs) {
-        Ok(stroke) => Ok(Some((tag, stroke))),
-        Err(refused) => Err(EditError::BadStroke(number, refused.why)),
-    }
-}
-
-/// The tag, the level and the runs on a line that places a stroke. They are not judged yet.
-fn parse_words(
-    alloc: Global,
-    number: u64,
-    line: &[u8],
-) -> Result<Option<(Tag, u32, Vec<Run>)>, EditError>
-    ensures { MatchResult result
-        (λ found. said number (words_of line.now)
-        ≡ Ok (option_map (λ p. record { tag = p.0; seed = record { level = p.1; runs = p.2.items } }) found))
-        (λ e. (e ≡ errors.Memory) ⊎ (said number (words_of line.now) ≡ Err e)) }
 {
     let Some((first, others)) = first_word(line) else {
         return Ok(None);
     };
-    if is_comment(first) {
+    if first.starts_with(b";") {
         return Ok(None);
     }
-    if !is_place(first) {
-        return Err(EditError::BadLine(number));
-    }
-    let place = parse_place(alloc, number, others)?;
-    Ok(Some(place))
+    let delta = parse_edit(alloc, number, first, others)?;
+    Ok(Some(delta))
 }
 
-/// Whether a line with this first word is a comment.
-fn is_comment(first: &[u8]) -> bool
-    ensures { result ≡ is_comment first.now }
-{
-    first.starts_with(b";")
-}
-
-/// Whether a line with this first word places a stroke.
-fn is_place(first: &[u8]) -> bool
-    ensures { result ≡ is_place first.now }
-{
-    first == b"place".as_slice()
-}
-
-/// The tag, the level and the runs that follow the word `place`.
-fn parse_place(alloc: Global, number: u64, words: &[u8]) -> Result<(Tag, u32, Vec<Run>), EditError>
+/// What a first word asks for with the words behind it.
+#[tactic(auto, unfolding(crate::specs::Edit::edit_named))]
+fn parse_edit(alloc: Global, number: u64, first: &[u8], others: &[u8]) -> Result<Delta, EditError>
     ensures { MatchResult result
-        (λ p. place_of number (words_of words.now)
-        ≡ Ok (record { tag = p.0; seed = record { level = p.1; runs = p.2.items } }))
-        (λ e. (e ≡ errors.Memory) ⊎ (place_of number (words_of words.now) ≡ Err e)) }
+        (λ delta. EditMeans number (edit_named first.now (words_of others.now)) (Ok (Some delta)))
+        (λ e. (e ≡ errors.Memory) ⊎ EditMeans number (edit_named first.now (words_of others.now)) (Err e)) }
+{
+    if first == b"place".as_slice() {
+        parse_placement(alloc, number, others)
+    } else if first == b"disc".as_slice() {
+        parse_disc_placement(alloc, number, others)
+    } else if first == b"withdraw".as_slice() {
+        parse_withdrawal(alloc, number, others)
+    } else {
+        Err(EditError::BadLine(number))
+    }
+}
+
+/// The delta of `TAG LEVEL RUNS`.
+fn parse_placement(alloc: Global, number: u64, words: &[u8]) -> Result<Delta, EditError>
+    ensures { MatchResult result (λ delta. EditMeans number (runs_edit (words_of words.now)) (Ok (Some delta)))
+        (λ e. (e ≡ errors.Memory) ⊎ EditMeans number (runs_edit (words_of words.now)) (Err e)) }
+{
+    let Some((tag, level, runs)) = runs_words(alloc, words)? else {
+        return Err(EditError::BadLine(number));
+    };
+    match (Tag::parse_ascii(tag), Stroke::new(level, runs)) {
+        (Err(_), _) => Err(EditError::BadTag(number)),
+        (Ok(_), Err(refused)) => Err(EditError::BadStroke(number, refused.why)),
+        (Ok(tag), Ok(stroke)) => place(alloc, tag, stroke),
+    }
+}
+
+/// The delta of `TAG LEVEL DISC`.
+fn parse_disc_placement(alloc: Global, number: u64, words: &[u8]) -> Result<Delta, EditError>
+    ensures { MatchResult result (λ delta. EditMeans number (disc_edit (words_of words.now)) (Ok (Some delta)))
+        (λ e. (e ≡ errors.Memory) ⊎ EditMeans number (disc_edit (words_of words.now)) (Err e)) }
+{
+    let Some((tag, level, disc)) = disc_words(words) else {
+        return Err(EditError::BadLine(number));
+    };
+    let stroke = Stroke::disc(level, disc.x, disc.y, u32::from(disc.r));
+    match (Tag::parse_ascii(tag), stroke) {
+        (Err(_), _) => Err(EditError::BadTag(number)),
+        (Ok(_), Err(why)) => Err(EditError::BadStroke(number, why)),
+        (Ok(tag), Ok(stroke)) => place(alloc, tag, stroke),
+    }
+}
+
+/// The delta of `TAG`.
+fn parse_withdrawal(alloc: Global, number: u64, words: &[u8]) -> Result<Delta, EditError>
+    ensures { MatchResult result (λ delta. EditMeans number (withdrawal (words_of words.now)) (Ok (Some delta)))
+        (λ e. (e ≡ errors.Memory) ⊎ EditMeans number (withdrawal (words_of words.now)) (Err e)) }
+{
+    let Some(tag) = one_word(words) else {
+        return Err(EditError::BadLine(number));
+    };
+    let Ok(tag) = Tag::parse_ascii(tag) else {
+        return Err(EditError::BadTag(number));
+    };
+    match State::withdrawn(alloc, tag) {
+        Ok(delta) => Ok(delta),
+        Err(_) => Err(EditError::Memory),
+    }
+}
+
+/// The delta of one stroke.
+///
+/// Errors: E4.
+fn place(alloc: Global, tag: Tag, stroke: Stroke) -> Result<Delta, EditError>
+    ensures { MatchResult result (λ delta. delta ≡ placed tag stroke) (λ e. e ≡ errors.Memory) }
+{
+    match State::placed(alloc, tag, stroke) {
+        Ok(delta) => Ok(delta),
+        Err(_) => Err(EditError::Memory),
+    }
+}
+
+/// The word of the tag, the level and the runs, or `None` where the words are others.
+///
+/// Errors: out of memory.
+#[tactic(auto, unfolding(crate::specs::Edit::runs_edit))]
+fn runs_words(alloc: Global, words: &[u8]) -> Result<Option<(&[u8], u32, Vec<Run>)>, AllocError>
+    ensures { IfOk result (λ found.
+        option_map (λ p. Place p.0.now (record { level = p.1; shape = Runs p.2.items })) found
+        ≡ runs_edit (words_of words.now)) }
 {
     let Some((tag, level, runs)) = three_words(words) else {
-        return Err(EditError::BadLine(number));
+        return Ok(None);
     };
     let Some(level) = parse_number(level) else {
-        return Err(EditError::BadLine(number));
+        return Ok(None);
     };
-    let Some(runs) = parse_runs(alloc, runs)? else {
-        return Err(EditError::BadLine(number));
-    };
-    match Tag::parse_ascii(tag) {
-        Ok(tag) => Ok((tag, level, runs)),
-        Err(_) => Err(EditError::BadTag(number)),
+    match parse_runs(alloc, runs)? {
+        Some(runs) => Ok(Some((tag, level, runs))),
+        None => Ok(None),
+    }
+}
+
+/// The word of the tag, the level and the disc, or `None` where the words are others.
+#[tactic(auto, unfolding(crate::specs::Edit::disc_edit))]
+fn disc_words(words: &[u8]) -> Option<(&[u8], u32, Circle)>
+    ensures { option_map (λ p. Place p.0.now (record { level = p.1; shape = Disc p.2.x p.2.y p.2.r })) result
+        ≡ disc_edit (words_of words.now) }
+{
+    let (tag, level, disc) = three_words(words)?;
+    let level = parse_number(level)?;
+    let disc = parse_disc(disc)?;
+    Some((tag, level, disc))
+}
+
+/// The word of a line that has one, or `None` where it has more or none.
+#[tactic(auto, unfolding(crate::specs::Edit::withdrawal))]
+fn one_word(line: &[u8]) -> Option<&[u8]>
+    ensures { option_map (λ word. Withdraw word.now) result ≡ withdrawal (words_of line.now) }
+{
+    let (word, rest) = first_word(line)?;
+    match first_word(rest) {
+        None => Some(word),
+        Some(_) => None,
     }
 }
 
 /// The words of a line that has three, or `None` where it has more or fewer.
+#[tactic(auto, unfolding(crate::specs::Edit::three_of))]
 fn three_words(line: &[u8]) -> Option<(&[u8], &[u8], &[u8])>
-    ensures { MatchOption result ((a b c : List ℕ) → words_of line.now ≡ a ∷ b ∷ c ∷ [] → ⊥)
-        (λ words. words_of line.now ≡ words.0.now ∷ words.1.now ∷ words.2.now ∷ []) }
+    ensures { option_map (λ words. (words.0.now, words.1.now, words.2.now)) result ≡ three_of (words_of line.now) }
 {
     let (first, rest) = first_word(line)?;
     let (second, rest) = first_word(rest)?;
-    let (third, rest) = first_word(rest)?;
-    match first_word(rest) {
+    let (third, behind) = first_word(rest)?;
+    match first_word(behind) {
         None => Some((first, second, third)),
         Some(_) => None,
     }

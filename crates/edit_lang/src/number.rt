@@ -21,7 +21,7 @@ pub(crate) fn parse_number(word: &[u8]) -> Option<u32>
     Some(value)
 }
 
-/// The row or the column that the word writes, or `None` where it is no number up to 65535.
+/// The row, the column or the radius that the word writes, or `None` where it is no number up to 65535.
 #[tactic(auto, unfolding(crate::specs::Numbers::coordinate_of))]
 pub(crate) fn parse_coordinate(word: &[u8]) -> Option<u16>
     ensures { result ≡ coordinate_of word.now }

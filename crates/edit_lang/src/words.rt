@@ -1,21 +1,24 @@
-ghost use Rattle.std.specs.Prelude.{◌≡◌, ◌<◌, ◌≤◌, ◌==◌, [], ◌∷◌, length, MatchOption};
-ghost use Rattle.std.specs.List.{before_first, after_first, position_or_len};
+ghost use Rattle.std.specs.Prelude.{◌≡◌, ◌<◌, [], ◌∷◌, length, position, ◌==◌, option_map, IfSome, MatchOption};
+ghost use Rattle.std.specs.List.{position_or_len};
 ghost use Rattle.std.specs.Str.Lines.{strip_carriage_return};
-ghost use Rattle.edit_lang.specs.Lines.{lines_of, words_of, is_blank};
+ghost use Rattle.edit_lang.specs.Lines.{lines_of, words_of, is_blank, cut_at};
 
-/// What stands before the first such separator and what stands after it, or `None` where there is none.
-pub(crate) fn cut_at(bytes: &[u8], separator: u8) -> Option<(&[u8], &[u8])>
-    ensures { MatchOption result (length bytes.now ≤ position_or_len (λ b. b == separator) bytes.now)
-        (λ parts. (position_or_len (λ b. b == separator) bytes.now < length bytes.now)
-        × (parts.0.now ≡ before_first (λ b. b == separator) bytes.now)
-        × (parts.1.now ≡ after_first (λ b. b == separator) bytes.now)) }
+/// What stands before the first such byte and what stands after it, or `None` where there is none.
+#[tactic(auto, unfolding(crate::specs::Lines::cut_at))]
+pub(crate) fn cut_at(bytes: &[u8], mark: u8) -> Option<(&[u8], &[u8])>
+    ensures parts { option_map (λ parts. (parts.0.now, parts.1.now)) result ≡ cut_at mark bytes.now }
+    ensures shorter { IfSome result (λ parts. length parts.1.now < length bytes.now) }
 {
-    for (i, byte) in bytes.iter().enumerate() {
-        if *byte == separator {
-            return Some((&bytes[..i], &bytes[i + 1..]));
-        }
-    }
-    None
+    let i = find(bytes, mark)?;
+    Some((&bytes[..i], &bytes[i + 1..]))
+}
+
+/// Where the first such byte stands, or `None` where there is none.
+fn find(bytes: &[u8], mark: u8) -> Option<usize>
+    ensures place { result ≡ position (λ b. b == mark) bytes.now }
+    ensures inside { IfSome result (λ i. i < length bytes.now) }
+{
+    bytes.iter().position(|byte| *byte == mark)
 }
 
 /// The first line, without its end, and the text after it.
@@ -39,7 +42,8 @@ fn without_return(line: &[u8]) -> &[u8]
 
 /// The first word of a line and what stands after it, or `None` where the line has no word.
 pub(crate) fn first_word(line: &[u8]) -> Option<(&[u8], &[u8])>
-    ensures { MatchOption result (words_of line.now ≡ []) (λ parts. words_of line.now ≡ parts.0.now ∷ words_of parts.1.now) }
+    ensures { MatchOption result (words_of line.now ≡ [])
+        (λ parts. words_of line.now ≡ parts.0.now ∷ words_of parts.1.now) }
 {
     let rest = without_blanks(line);
     if rest.is_empty() {

@@ -1,8 +1,10 @@
 -- The rows around a pixel hold its neighbours, and no other pixel.
-use Rattle.std.proofs.Common.{◌≡◌, ℕ, ◌+◌, ◌-◌, ◌<◌, ◌≤◌, Bool, true, false, List, [], ◌++◌, refl, ap, subst, arith, inl, inr, ◌⊎◌}
+use Rattle.std.proofs.Common.{◌≡◌, ℕ, ◌+◌, ◌-◌, ◌<◌, ◌≤◌, Bool, true, false, List, [], ◌++◌, refl, ap, subst, arith}
+use Rattle.std.proofs.Common.{inl, inr, ◌⊎◌}
 use Rattle.std.specs.Prelude.{◌&&◌, nat_lt, if◌then◌else◌, Contains}
 use Rattle.std.proofs.lemmas.Bool.{cases_lt, ltb-true, lt-ltb}
-use Rattle.std.proofs.lemmas.List.Elements.{Contains-append_left, Contains-append_right, Contains-append_cases, Contains-push_cases}
+use Rattle.std.proofs.lemmas.List.Elements.{Contains-append_left, Contains-append_right, Contains-append_cases}
+use Rattle.std.proofs.lemmas.List.Elements.{Contains-push_cases}
 use Rattle.grid_core.specs.declared.conn.Conn.{Conn}
 use Rattle.grid_core.specs.declared.conn.Conn.TheVariants.{Four, Eight}
 use Rattle.grid_core.specs.declared.pixel.Pixel.{Pixel}
@@ -36,21 +38,25 @@ pixel_if_has false x y q h same_x same_y = absurd cc
 -- which pixels stand in a row around column x
 pub record IsInRow (width x y : ℕ) (sides middle : Bool) (q : Pixel) : Type 0 where
   pub row : y ≡ q.y
-  pub column : ((sides ≡ true) × (q.x + 1 ≡ x)) ⊎ (((middle ≡ true) × (q.x ≡ x)) ⊎ ((sides ≡ true) × (q.x ≡ x + 1) × (q.x < width)))
+  pub column : ((sides ≡ true) × (q.x + 1 ≡ x))
+      ⊎ (((middle ≡ true) × (q.x ≡ x)) ⊎ ((sides ≡ true) × (q.x ≡ x + 1) × (q.x < width)))
 
-in_row : (width x y : ℕ) (sides middle : Bool) (q : Pixel) → Contains (row_around width x y sides middle) q → IsInRow width x y sides middle q
+in_row : (width x y : ℕ) (sides middle : Bool) (q : Pixel) → Contains (row_around width x y sides middle) q
+    → IsInRow width x y sides middle q
 in_row width x y sides middle q h =
-    elim (Contains-append_cases (pixel_if (sides && nat_lt 0 x) (x - 1) y ++ pixel_if middle x y) (pixel_if (sides && nat_lt (x + 1) width) (x + 1) y) q h) [
-      | inl front ↦ elim (Contains-append_cases (pixel_if (sides && nat_lt 0 x) (x - 1) y) (pixel_if middle x y) q front) [
-        | inl left ↦
-            let found = in_pixel_if (sides && nat_lt 0 x) (x - 1) y q left in
-            let tests = both_true sides (nat_lt 0 x) found.0 in
-            let positive : 0 < x = ltb-true 0 x tests.1 in
-            record { row = found.2; column = inl (tests.0, omega arith) }
-        | inr centre ↦
-            let found = in_pixel_if middle x y q centre in
-            record { row = found.2; column = inr (inl (found.0, omega arith)) }
-      ]
+    elim (Contains-append_cases (pixel_if (sides && nat_lt 0 x) (x - 1) y ++ pixel_if middle x y)
+    (pixel_if (sides && nat_lt (x + 1) width) (x + 1) y) q h) [
+      | inl front ↦ elim (Contains-append_cases (pixel_if (sides && nat_lt 0 x) (x - 1) y)
+          (pixel_if middle x y) q front) [
+            | inl left ↦
+                let found = in_pixel_if (sides && nat_lt 0 x) (x - 1) y q left in
+                let tests = both_true sides (nat_lt 0 x) found.0 in
+                let positive : 0 < x = ltb-true 0 x tests.1 in
+                record { row = found.2; column = inl (tests.0, omega arith) }
+            | inr centre ↦
+                let found = in_pixel_if middle x y q centre in
+                record { row = found.2; column = inr (inl (found.0, omega arith)) }
+          ]
       | inr right ↦
           let found = in_pixel_if (sides && nat_lt (x + 1) width) (x + 1) y q right in
           let tests = both_true sides (nat_lt (x + 1) width) found.0 in
@@ -62,7 +68,8 @@ true_and : (a b : Bool) → a ≡ true → b ≡ true → a && b ≡ true
 true_and true b p q = q
 true_and false b p q = absurd cc
 
-row_has : (width x y : ℕ) (sides middle : Bool) (q : Pixel) → IsInRow width x y sides middle q → Contains (row_around width x y sides middle) q
+row_has : (width x y : ℕ) (sides middle : Bool) (q : Pixel) → IsInRow width x y sides middle q
+    → Contains (row_around width x y sides middle) q
 row_has width x y sides middle q h =
     let lefts = pixel_if (sides && nat_lt 0 x) (x - 1) y in
     let centres = pixel_if middle x y in
@@ -70,12 +77,18 @@ row_has width x y sides middle q h =
     elim h.column [
       | inl left ↦
           let test : sides && nat_lt 0 x ≡ true = true_and sides (nat_lt 0 x) left.0 (lt-ltb 0 x (omega arith)) in
-          Contains-append_left (lefts ++ centres) rights q (Contains-append_left lefts centres q (pixel_if_has (sides && nat_lt 0 x) (x - 1) y q test (omega arith) h.row))
+          Contains-append_left (lefts ++ centres) rights q
+          (Contains-append_left lefts centres q (pixel_if_has (sides && nat_lt 0 x) (x - 1) y q test
+          (omega arith) h.row))
       | inr other ↦ elim other [
-        | inl centre ↦ Contains-append_left (lefts ++ centres) rights q (Contains-append_right lefts centres q (pixel_if_has middle x y q centre.0 (omega arith) h.row))
+        | inl centre ↦
+            Contains-append_left (lefts ++ centres) rights q
+            (Contains-append_right lefts centres q (pixel_if_has middle x y q centre.0 (omega arith) h.row))
         | inr right ↦
-            let test : sides && nat_lt (x + 1) width ≡ true = true_and sides (nat_lt (x + 1) width) right.0 (lt-ltb (x + 1) width (omega arith)) in
-            Contains-append_right (lefts ++ centres) rights q (pixel_if_has (sides && nat_lt (x + 1) width) (x + 1) y q test (omega arith) h.row)
+            let test : sides && nat_lt (x + 1) width ≡ true =
+            true_and sides (nat_lt (x + 1) width) right.0 (lt-ltb (x + 1) width (omega arith)) in
+            Contains-append_right (lefts ++ centres) rights q
+            (pixel_if_has (sides && nat_lt (x + 1) width) (x + 1) y q test (omega arith) h.row)
       ]
     ]
 
@@ -92,7 +105,8 @@ if_has false ps q e h = absurd cc
 -- ---- all rows
 
 -- a pixel of the row above or below is a neighbour, by a corner only where diagonals are
-beside_row : (conn : Conn) (w h : ℕ) (p q : Pixel) (y : ℕ) → IsInside w h p → apart p.y y ≡ 1 → y < h → IsInRow w p.x y (has_diagonals conn) true q → AreNeighbours conn p q × IsInside w h q
+beside_row : (conn : Conn) (w h : ℕ) (p q : Pixel) (y : ℕ) → IsInside w h p → apart p.y y ≡ 1 → y < h
+    → IsInRow w p.x y (has_diagonals conn) true q → AreNeighbours conn p q × IsInside w h q
 beside_row Four w h p q y inside near within found = elim found.column [
   | inl left ↦ absurd (let no : false ≡ true = left.0 in cc)
   | inr other ↦ elim other [
@@ -101,14 +115,24 @@ beside_row Four w h p q y inside near within found = elim found.column [
   ]
 ]
 beside_row Eight w h p q y inside near within found = elim found.column [
-  | inl left ↦ ((omega (arith, left.1), omega (arith, found.row), omega (arith, left.1, found.row)), (omega (arith, left.1), omega (arith, found.row)))
+  | inl left ↦ (
+    (omega (arith, left.1), omega (arith, found.row), omega (arith, left.1, found.row)),
+    (omega (arith, left.1), omega (arith, found.row)),
+  )
   | inr other ↦ elim other [
-    | inl centre ↦ ((omega (arith, centre.1), omega (arith, found.row), omega (arith, centre.1, found.row)), (omega (arith, centre.1), omega (arith, found.row)))
-    | inr right ↦ ((omega (arith, right.1), omega (arith, found.row), omega (arith, right.1, found.row)), (omega (arith, right.2), omega (arith, found.row)))
+    | inl centre ↦ (
+      (omega (arith, centre.1), omega (arith, found.row), omega (arith, centre.1, found.row)),
+      (omega (arith, centre.1), omega (arith, found.row)),
+    )
+    | inr right ↦ (
+      (omega (arith, right.1), omega (arith, found.row), omega (arith, right.1, found.row)),
+      (omega (arith, right.2), omega (arith, found.row)),
+    )
   ]
 ]
 
-own_row : (conn : Conn) (w h : ℕ) (p q : Pixel) → IsInside w h p → IsInRow w p.x p.y true false q → AreNeighbours conn p q × IsInside w h q
+own_row : (conn : Conn) (w h : ℕ) (p q : Pixel) → IsInside w h p → IsInRow w p.x p.y true false q
+    → AreNeighbours conn p q × IsInside w h q
 own_row Four w h p q inside found = elim found.column [
   | inl left ↦ (omega (arith, left.1, found.row), (omega (arith, left.1), omega (arith, found.row)))
   | inr other ↦ elim other [
@@ -117,15 +141,22 @@ own_row Four w h p q inside found = elim found.column [
   ]
 ]
 own_row Eight w h p q inside found = elim found.column [
-  | inl left ↦ ((omega (arith, left.1), omega (arith, found.row), omega (arith, left.1, found.row)), (omega (arith, left.1), omega (arith, found.row)))
+  | inl left ↦ (
+    (omega (arith, left.1), omega (arith, found.row), omega (arith, left.1, found.row)),
+    (omega (arith, left.1), omega (arith, found.row)),
+  )
   | inr other ↦ elim other [
     | inl centre ↦ absurd (let no : false ≡ true = centre.0 in cc)
-    | inr right ↦ ((omega (arith, right.1), omega (arith, found.row), omega (arith, right.1, found.row)), (omega (arith, right.2), omega (arith, found.row)))
+    | inr right ↦ (
+      (omega (arith, right.1), omega (arith, found.row), omega (arith, right.1, found.row)),
+      (omega (arith, right.2), omega (arith, found.row)),
+    )
   ]
 ]
 
 -- every pixel of the rows is a neighbour inside
-pub around_are_neighbours : (conn : Conn) (w h : ℕ) (p q : Pixel) → IsInside w h p → Contains (rows_around conn w h p) q → AreNeighbours conn p q × IsInside w h q
+pub around_are_neighbours : (conn : Conn) (w h : ℕ) (p q : Pixel) → IsInside w h p → Contains (rows_around conn w h p) q
+    → AreNeighbours conn p q × IsInside w h q
 around_are_neighbours conn w h p q inside found =
     let above = if nat_lt 0 p.y then row_around w p.x (p.y - 1) (has_diagonals conn) true else [] in
     let own = row_around w p.x p.y true false in
@@ -135,18 +166,22 @@ around_are_neighbours conn w h p q inside found =
         | inl up ↦
             let there = in_if (nat_lt 0 p.y) (row_around w p.x (p.y - 1) (has_diagonals conn) true) q up in
             let positive : 0 < p.y = ltb-true 0 p.y there.0 in
-            beside_row conn w h p q (p.y - 1) inside (omega arith) (omega (arith, inside)) (in_row w p.x (p.y - 1) (has_diagonals conn) true q there.1)
+            beside_row conn w h p q (p.y - 1) inside (omega arith) (omega (arith, inside))
+            (in_row w p.x (p.y - 1) (has_diagonals conn) true q there.1)
         | inr here ↦ own_row conn w h p q inside (in_row w p.x p.y true false q here)
       ]
       | inr down ↦
           let there = in_if (nat_lt (p.y + 1) h) (row_around w p.x (p.y + 1) (has_diagonals conn) true) q down in
           let within : p.y + 1 < h = ltb-true (p.y + 1) h there.0 in
-          beside_row conn w h p q (p.y + 1) inside (omega arith) within (in_row w p.x (p.y + 1) (has_diagonals conn) true q there.1)
+          beside_row conn w h p q (p.y + 1) inside (omega arith) within
+          (in_row w p.x (p.y + 1) (has_diagonals conn) true q there.1)
     ]
 
 -- a neighbour in another row stands in that row's columns
-beside_columns : (conn : Conn) (w h : ℕ) (p q : Pixel) → AreNeighbours conn p q → IsInside w h q → (q.y ≡ p.y → ⊥) → IsInRow w p.x q.y (has_diagonals conn) true q
-beside_columns Four w h p q beside inside other = record { row = refl; column = let same : q.x ≡ p.x = omega arith in inr (inl (refl, same)) }
+beside_columns : (conn : Conn) (w h : ℕ) (p q : Pixel) → AreNeighbours conn p q → IsInside w h q → (q.y ≡ p.y → ⊥)
+    → IsInRow w p.x q.y (has_diagonals conn) true q
+beside_columns Four w h p q beside inside other =
+    record { row = refl; column = let same : q.x ≡ p.x = omega arith in inr (inl (refl, same)) }
 beside_columns Eight w h p q beside inside other = record {
   row = refl;
   column = elim (cases_lt q.x p.x) [
@@ -158,7 +193,8 @@ beside_columns Eight w h p q beside inside other = record {
   ];
 }
 
-own_columns : (conn : Conn) (w h : ℕ) (p q : Pixel) → AreNeighbours conn p q → IsInside w h q → q.y ≡ p.y → IsInRow w p.x p.y true false q
+own_columns : (conn : Conn) (w h : ℕ) (p q : Pixel) → AreNeighbours conn p q → IsInside w h q → q.y ≡ p.y
+    → IsInRow w p.x p.y true false q
 own_columns Four w h p q beside inside same = record {
   row = omega arith;
   column = elim (cases_lt q.x p.x) [
@@ -180,7 +216,8 @@ rows_apart Four p q beside = omega arith
 rows_apart Eight p q beside = beside.1
 
 -- the rows hold every neighbour inside
-pub neighbours_are_around : (conn : Conn) (w h : ℕ) (p q : Pixel) → AreNeighbours conn p q → IsInside w h q → Contains (rows_around conn w h p) q
+pub neighbours_are_around : (conn : Conn) (w h : ℕ) (p q : Pixel) → AreNeighbours conn p q → IsInside w h q
+    → Contains (rows_around conn w h p) q
 neighbours_are_around conn w h p q beside inside =
     let near = rows_apart conn p q beside in
     let above = if nat_lt 0 p.y then row_around w p.x (p.y - 1) (has_diagonals conn) true else [] in
@@ -189,17 +226,25 @@ neighbours_are_around conn w h p q beside inside =
     elim (cases_lt q.y p.y) [
       | inl up ↦
           let row : q.y ≡ p.y - 1 = omega arith in
-          let place : IsInRow w p.x (p.y - 1) (has_diagonals conn) true q = subst (λ y. IsInRow w p.x y (has_diagonals conn) true q) row (beside_columns conn w h p q beside inside (λ e. omega (arith, e))) in
+          let place : IsInRow w p.x (p.y - 1) (has_diagonals conn) true q =
+          subst (λ y. IsInRow w p.x y (has_diagonals conn) true q) row
+          (beside_columns conn w h p q beside inside (λ e. omega (arith, e))) in
           Contains-append_left (above ++ own) below q (Contains-append_left above own q
-          (if_has (nat_lt 0 p.y) (row_around w p.x (p.y - 1) (has_diagonals conn) true) q (lt-ltb 0 p.y (omega arith)) (row_has w p.x (p.y - 1) (has_diagonals conn) true q place)))
+          (if_has (nat_lt 0 p.y) (row_around w p.x (p.y - 1) (has_diagonals conn) true) q (lt-ltb 0 p.y (omega arith))
+          (row_has w p.x (p.y - 1) (has_diagonals conn) true q place)))
       | inr not_up ↦ elim (cases_lt p.y q.y) [
         | inl down ↦
             let row : q.y ≡ p.y + 1 = omega arith in
-            let place : IsInRow w p.x (p.y + 1) (has_diagonals conn) true q = subst (λ y. IsInRow w p.x y (has_diagonals conn) true q) row (beside_columns conn w h p q beside inside (λ e. omega (arith, e))) in
+            let place : IsInRow w p.x (p.y + 1) (has_diagonals conn) true q =
+            subst (λ y. IsInRow w p.x y (has_diagonals conn) true q) row
+            (beside_columns conn w h p q beside inside (λ e. omega (arith, e))) in
             Contains-append_right (above ++ own) below q
-            (if_has (nat_lt (p.y + 1) h) (row_around w p.x (p.y + 1) (has_diagonals conn) true) q (lt-ltb (p.y + 1) h (omega (arith, inside))) (row_has w p.x (p.y + 1) (has_diagonals conn) true q place))
+            (if_has (nat_lt (p.y + 1) h) (row_around w p.x (p.y + 1) (has_diagonals conn) true) q
+            (lt-ltb (p.y + 1) h (omega (arith, inside))) (row_has w p.x (p.y + 1) (has_diagonals conn) true q
+            place))
         | inr not_down ↦
             let row : q.y ≡ p.y = omega arith in
-            Contains-append_left (above ++ own) below q (Contains-append_right above own q (row_has w p.x p.y true false q (own_columns conn w h p q beside inside row)))
+            Contains-append_left (above ++ own) below q (Contains-append_right above own q
+            (row_has w p.x p.y true false q (own_columns conn w h p q beside inside row)))
       ]
     ]

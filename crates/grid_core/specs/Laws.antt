@@ -13,7 +13,8 @@ AtMostOneReconstruction =
 -- a pixel that reaches a level reaches each lower one
 abbrev pub ReachesLowerLevels : Type 0
 ReachesLowerLevels =
-    (d : Domain) (mask marker : Pixel → ℕ) (p : Pixel) (k l : ℕ) → l ≤ k → Reaches d mask marker p k → Reaches d mask marker p l
+    (d : Domain) (mask marker : Pixel → ℕ) (p : Pixel) (k l : ℕ) → l ≤ k → Reaches d mask marker p k
+    → Reaches d mask marker p l
 
 -- a pixel reaches level 0
 abbrev pub ReachesLevelZero : Type 0
@@ -32,13 +33,15 @@ ReachRisesWithMarker =
 -- a raise keeps an image lawful
 abbrev pub RaiseKeepsLawful : Type 0
 RaiseKeepsLawful =
-    (d : Domain) (mask marker old new : Pixel → ℕ) (p q : Pixel) → IsLawful d mask marker old → IsRaise d mask old new p q
+    (d : Domain) (mask marker old new : Pixel → ℕ) (p q : Pixel) → IsLawful d mask marker old
+    → IsRaise d mask old new p q
     → IsLawful d mask marker new
 
 -- a lawful image that no raise can change is the reconstruction
 abbrev pub ClosedLawfulIsReconstruction : Type 0
 ClosedLawfulIsReconstruction =
-    (d : Domain) (mask marker j : Pixel → ℕ) → IsLawful d mask marker j → IsClosed d mask j → IsReconstruction d mask marker j
+    (d : Domain) (mask marker j : Pixel → ℕ) → IsLawful d mask marker j → IsClosed d mask j
+    → IsReconstruction d mask marker j
 
 -- a lawful image lies between the marker and the reconstruction
 abbrev pub LawfulLiesBetween : Type 0

@@ -5,3 +5,4 @@ pub mod Path
 pub mod Reconstruction
 pub mod Laws
 pub mod RasterLaws
+pub mod Code

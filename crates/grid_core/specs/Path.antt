@@ -3,7 +3,7 @@ use Rattle.std.specs.Prelude.{ℕ, ◌≤◌, List, [], ◌∷◌}
 use Rattle.std.specs.List.{AllByRecursion}
 use Rattle.grid_core.specs.declared.conn.Conn.{Conn}
 use Rattle.grid_core.specs.declared.pixel.Pixel.{Pixel}
-use Rattle.grid_core.specs.Raster.{IsInside}
+use Rattle.grid_core.specs.Raster.{Raster, IsInside}
 use Rattle.grid_core.specs.Neighbours.{AreNeighbours}
 
 -- where images are defined: a rectangle of pixels, with its connectivity
@@ -12,6 +12,11 @@ pub record Domain : Type 0 where
   pub height : ℕ
   pub conn : Conn
 
+-- where an image is defined, with a connectivity
+abbrev pub domain_of : Raster → Conn → Domain
+domain_of image conn = record { width = image.width; height = image.height; conn = conn }
+
+-- the pixel lies in the domain
 abbrev pub Inside : Domain → Pixel → Type 0
 Inside d p = IsInside d.width d.height p
 

@@ -24,13 +24,30 @@ value_at r p = slice_index r.cells (index_of r.width p)
 abbrev pub with_value : Raster → Pixel → ℕ → Raster
 with_value r p v = record { width = r.width; height = r.height; cells = slice_set r.cells (index_of r.width p) v }
 
--- a value for each pixel, and sides from 1 to the limit
-pub record IsSized (limit : ℕ) (r : Raster) : Type 0 where
-  pub some_width : 0 < r.width
-  pub some_height : 0 < r.height
-  pub width_within : r.width ≤ limit
-  pub height_within : r.height ≤ limit
-  pub filled : length r.cells ≡ r.width * r.height
+-- the greatest width and height of an image
+abbrev pub max_side : ℕ
+max_side = 16384
+
+-- the greatest number of pixels of an image, 2^26
+abbrev pub max_pixels : ℕ
+max_pixels = 67108864
+
+-- the sides that an image may have: each from 1 to the greatest, and not too many pixels in all
+pub record IsImageSize (width height : ℕ) : Type 0 where
+  pub some_width : 0 < width
+  pub some_height : 0 < height
+  pub width_within : width ≤ max_side
+  pub height_within : height ≤ max_side
+  pub pixels_within : width * height ≤ max_pixels
+
+-- a value for each pixel
+abbrev pub IsFilled : Raster → Type 0
+IsFilled r = length r.cells ≡ r.width * r.height
+
+-- sides that an image may have, and a value for each pixel
+pub record IsSized (r : Raster) : Type 0 where
+  pub size : IsImageSize r.width r.height
+  pub filled : IsFilled r
 
 -- equal sizes, and no value of the first is greater than the second's
 pub record IsBelow (a b : Raster) : Type 0 where

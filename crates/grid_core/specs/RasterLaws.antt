@@ -1,12 +1,12 @@
 -- Laws of images, as statements. Public functions have them as their contracts.
 use Rattle.std.specs.Prelude.{◌≡◌, ◌≢◌, ◌≤◌, ℕ}
 use Rattle.grid_core.specs.declared.pixel.Pixel.{Pixel}
-use Rattle.grid_core.specs.Raster.{Raster, IsInside, IsSized, IsBelow, value_at, with_value}
+use Rattle.grid_core.specs.Raster.{Raster, IsInside, IsFilled, IsBelow, value_at, with_value}
 
 -- a new value at a pixel is read back there
 abbrev pub SetIsRead : Type 0
 SetIsRead =
-    (limit : ℕ) (r : Raster) (p : Pixel) (v : ℕ) → IsSized limit r → IsInside r.width r.height p → value_at (with_value r p v) p ≡ v
+    (r : Raster) (p : Pixel) (v : ℕ) → IsFilled r → IsInside r.width r.height p → value_at (with_value r p v) p ≡ v
 
 -- a new value at a pixel leaves every other pixel as it was
 abbrev pub SetKeepsOthers : Type 0
@@ -17,16 +17,16 @@ SetKeepsOthers =
 -- images of one size with equal values at each pixel are equal
 abbrev pub EqualPixelsEqualImages : Type 0
 EqualPixelsEqualImages =
-    (limit : ℕ) (r s : Raster) → IsSized limit r → IsSized limit s → r.width ≡ s.width → r.height ≡ s.height
+    (r s : Raster) → IsFilled r → IsFilled s → r.width ≡ s.width → r.height ≡ s.height
     → ((p : Pixel) → IsInside r.width r.height p → value_at r p ≡ value_at s p) → r ≡ s
 
 -- an image below another is below it at each pixel
 abbrev pub BelowAtEachPixel : Type 0
 BelowAtEachPixel =
-    (limit : ℕ) (r s : Raster) → IsSized limit r → IsBelow r s → (p : Pixel) → IsInside r.width r.height p → value_at r p ≤ value_at s p
+    (r s : Raster) → IsFilled r → IsBelow r s → (p : Pixel) → IsInside r.width r.height p → value_at r p ≤ value_at s p
 
 -- an image of the same size that is below at each pixel is below
 abbrev pub EachPixelBelow : Type 0
 EachPixelBelow =
-    (limit : ℕ) (r s : Raster) → IsSized limit r → r.width ≡ s.width → r.height ≡ s.height
+    (r s : Raster) → IsFilled r → r.width ≡ s.width → r.height ≡ s.height
     → ((p : Pixel) → IsInside r.width r.height p → value_at r p ≤ value_at s p) → IsBelow r s

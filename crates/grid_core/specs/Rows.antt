@@ -17,7 +17,8 @@ pixel_if b x y = if b then record { x = x; y = y } ∷ [] else []
 -- of row y, within the width: the pixels at columns x - 1 and x + 1 if `sides`, and the one at x if `middle`
 abbrev pub row_around : ℕ → ℕ → ℕ → Bool → Bool → List Pixel
 row_around width x y sides middle =
-    pixel_if (sides && nat_lt 0 x) (x - 1) y ++ pixel_if middle x y ++ pixel_if (sides && nat_lt (x + 1) width) (x + 1) y
+    pixel_if (sides && nat_lt 0 x) (x - 1) y ++ pixel_if middle x y
+    ++ pixel_if (sides && nat_lt (x + 1) width) (x + 1) y
 
 -- the rows around a pixel: above, its own, and below
 abbrev pub rows_around : Conn → ℕ → ℕ → Pixel → List Pixel

@@ -1,7 +1,7 @@
 ghost use Rattle.std.specs.Prelude.{◌≡◌, ◌*◌, ◌<◌, ◌⊎◌, ◌↔◌, length, replicate, IsTrue, IfOk, IsErrOf};
+ghost use Rattle.grid_core.specs.Code.{code_of};
 ghost use Rattle.grid_core.specs.declared.grid.GridError.TheVariants as errors;
-ghost use Rattle.grid_core.specs.declared.grid.TheConstants.{MAX_SIDE};
-ghost use Rattle.grid_core.specs.Raster.{IsInside, IsSized, IsBelow, index_of, value_at, with_value};
+ghost use Rattle.grid_core.specs.Raster.{IsInside, IsImageSize, IsSized, IsBelow, index_of, value_at, with_value};
 
 use crate::memory::Memory;
 use crate::pixel::Pixel;
@@ -10,7 +10,17 @@ use std::marker::Model;
 use thiserror::Error;
 
 /// The greatest width and height of an image.
-pub const MAX_SIDE: u32 = 4096;
+pub const MAX_SIDE: u32 = 16_384;
+
+/// The greatest number of pixels of an image.
+pub const MAX_PIXELS: u32 = 1 << 26;
+
+/// Whether an image may have these sides: each from 1 to [`MAX_SIDE`], and at most [`MAX_PIXELS`] pixels.
+pub fn is_image_size(w: u32, h: u32) -> bool
+    ensures { IsTrue result ↔ IsImageSize w h }
+{
+    w > 0 && h > 0 && w <= MAX_SIDE && h <= MAX_SIDE && w * h <= MAX_PIXELS
+}
 
 /// Why a grid could not be made. The first that applies is answered, in this order.
 #[derive(Clone, Copy, Debug, PartialEq, Eq, Error)]
@@ -18,12 +28,25 @@ pub enum GridError {
     /// G1: a side is 0.
     #[error("G1: a side is 0")]
     ZeroSize,
-    /// G2: a side is above [`MAX_SIDE`].
-    #[error("G2: a side is above 4096")]
+    /// G2: a side is above [`MAX_SIDE`], or there are more than [`MAX_PIXELS`] pixels.
+    #[error("G2: the image is too large")]
     TooLarge,
     /// G3: out of memory.
     #[error("G3: out of memory")]
     Memory,
+}
+
+impl GridError {
+    /// The code, as `G2`.
+    pub fn code(self) -> &'static str
+        ensures { result.now ≡ code_of self }
+    {
+        match self {
+            GridError::ZeroSize => "G1",
+            GridError::TooLarge => "G2",
+            GridError::Memory => "G3",
+        }
+    }
 }
 
 impl From<AllocError> for GridError {
@@ -43,7 +66,7 @@ impl<T: Drop> From<AllocFailed<T>> for GridError {
 }
 
 /// A value for each pixel of an image: `w * h` cells of 32 bits, row by row from the top, each row from
-/// the left. Sides are 1 to [`MAX_SIDE`].
+/// the left. Sides are 1 to [`MAX_SIDE`], with at most [`MAX_PIXELS`] pixels.
 #[derive(Debug, Drop)]
 pub struct Grid {
     w: u32,
@@ -58,24 +81,25 @@ impl Model for Grid {
 
     ghost view = { λ g. record { width = g.w; height = g.h; cells = g.cells.items } };
 
-    ghost invariant = { λ g. IsSized 4096 (record { width = g.w; height = g.h; cells = g.cells.items }) };
+    ghost invariant = { λ g. IsSized (record { width = g.w; height = g.h; cells = g.cells.items }) };
 }
 
 impl Grid {
     /// A grid of `w * h` cells, each with the value `fill`.
     ///
-    /// Errors: G1 where a side is 0, else G2 where one is above [`MAX_SIDE`], else G3 where memory is refused.
+    /// Errors: G1 where a side is 0, else G2 where one is above [`MAX_SIDE`] or there are more than
+    /// [`MAX_PIXELS`] pixels, else G3 where memory is refused.
     pub fn new(alloc: Global, w: u32, h: u32, fill: u32) -> Result<Grid, GridError>
         ensures width { IfOk result (λ g. g.width ≡ w) }
         ensures height { IfOk result (λ g. g.height ≡ h) }
         ensures cells { IfOk result (λ g. g.cells ≡ replicate (w * h) fill) }
         ensures zero { IsErrOf result errors.ZeroSize ↔ ((w ≡ 0) ⊎ (h ≡ 0)) }
-        ensures large { IsErrOf result errors.TooLarge ↔ ((0 < w) × (0 < h) × ((MAX_SIDE < w) ⊎ (MAX_SIDE < h))) }
+        ensures large { IsErrOf result errors.TooLarge ↔ ((0 < w) × (0 < h) × (IsImageSize w h → ⊥)) }
     {
         if w == 0 || h == 0 {
             return Err(GridError::ZeroSize);
         }
-        if w > MAX_SIDE || h > MAX_SIDE {
+        if !is_image_size(w, h) {
             return Err(GridError::TooLarge);
         }
         let cells = vec![in alloc; fill; w as usize * h as usize]?;
@@ -84,7 +108,7 @@ impl Grid {
 
     /// The grid of these values, row by row from the top. It takes no memory.
     pub fn from_cells(w: u32, h: u32, cells: Vec<u32>) -> Grid
-        requires { IsSized MAX_SIDE (record { width = w; height = h; cells = cells.items }) }
+        requires { IsSized (record { width = w; height = h; cells = cells.items }) }
         ensures { result ≡ record { width = w; height = h; cells = cells.items } }
     {
         Grid { w, h, cells }
@@ -93,7 +117,7 @@ impl Grid {
     /// The number of columns.
     pub fn width(&self) -> u32
         ensures value { result ≡ self.now.width }
-        ensures sized { IsSized MAX_SIDE self.now }
+        ensures sized { IsSized self.now }
     {
         self.w
     }
@@ -101,7 +125,7 @@ impl Grid {
     /// The number of rows.
     pub fn height(&self) -> u32
         ensures value { result ≡ self.now.height }
-        ensures sized { IsSized MAX_SIDE self.now }
+        ensures sized { IsSized self.now }
     {
         self.h
     }
@@ -109,7 +133,7 @@ impl Grid {
     /// The values, row by row from the top.
     pub fn cells(&self) -> &[u32]
         ensures values { result.now ≡ self.now.cells }
-        ensures sized { IsSized MAX_SIDE self.now }
+        ensures sized { IsSized self.now }
     {
         &self.cells
     }

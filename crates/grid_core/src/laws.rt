@@ -1,7 +1,10 @@
 //! Laws of images and of their reconstruction. Each is the contract of a function that does nothing.
 
-ghost use Rattle.grid_core.specs.Laws.{AtMostOneReconstruction, ReachesLowerLevels, ReachesLevelZero, ReachIsWithinMask, ReachRisesWithMarker, RaiseKeepsLawful, ClosedLawfulIsReconstruction, LawfulLiesBetween};
-ghost use Rattle.grid_core.specs.RasterLaws.{SetIsRead, SetKeepsOthers, EqualPixelsEqualImages, BelowAtEachPixel, EachPixelBelow};
+ghost use Rattle.grid_core.specs.Laws.{AtMostOneReconstruction, ReachesLowerLevels, ReachesLevelZero};
+ghost use Rattle.grid_core.specs.Laws.{ReachIsWithinMask, ReachRisesWithMarker, RaiseKeepsLawful};
+ghost use Rattle.grid_core.specs.Laws.{ClosedLawfulIsReconstruction, LawfulLiesBetween};
+ghost use Rattle.grid_core.specs.RasterLaws.{SetIsRead, SetKeepsOthers, EqualPixelsEqualImages, BelowAtEachPixel};
+ghost use Rattle.grid_core.specs.RasterLaws.{EachPixelBelow};
 
 /// A new value at a pixel is read back there.
 pub fn set_is_read()

@@ -1,8 +1,25 @@
 //! Grids of grey values, the pixels beside a pixel, and what a reconstruction is.
 //!
-//! The reconstruction is that of Vincent, "Morphological Grayscale Reconstruction in Image Analysis" (1993),
-//! by thresholds, with paths of neighbouring pixels. The laws that growing methods rest on are the contracts
-//! of the functions in `laws`.
+//! A [`Grid`] has a value of 32 bits for each pixel of an image, row by row from the top. Columns and rows are
+//! counted from 0. [`neighbours`] lists the pixels beside a pixel, by an edge or also by a corner:
+//!
+//! ```text
+//! let mut image = Grid::new(alloc, 3, 2, 7)?;   // 3 columns, 2 rows, 7 at each pixel
+//! let corner = Pixel { x: 2, y: 0 };
+//! image.set(corner, 9);                         // the cells are 7 7 9 7 7 7
+//! let beside = neighbours(3, 2, Conn::Four, corner);
+//! beside.as_slice();                            // (1, 0) and (2, 1)
+//! ```
+//!
+//! A size that no image may have, and want of memory, are told as a [`GridError`], whose codes are G1 to G3.
+//!
+//! The reconstruction of a mask from a marker is that of Vincent, "Morphological Grayscale Reconstruction in
+//! Image Analysis" (1993), by thresholds, with paths of neighbouring pixels. This crate says what it is and
+//! makes none.
+//!
+//! Read on in `specs/Raster.antt`, which says what an image is and which sides it may have; in
+//! `specs/Neighbours.antt`, `specs/Path.antt` and `specs/Reconstruction.antt`, in this order, for what a
+//! reconstruction is; and in [`laws`] for what growing methods rest on.
 #![tactic(auto)]
 
 mod conn;
@@ -13,7 +30,7 @@ mod neighbourhood;
 mod pixel;
 
 pub use conn::Conn;
-pub use grid::{Grid, GridError, MAX_SIDE};
+pub use grid::{Grid, GridError, MAX_PIXELS, MAX_SIDE, is_image_size};
 pub use memory::Memory;
 pub use neighbourhood::{Neighbourhood, neighbours};
 pub use pixel::Pixel;

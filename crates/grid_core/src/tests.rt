@@ -15,27 +15,46 @@ fn new_fills_each_cell(rt: HostRuntime) -> Result<(), Fail> {
     assert_eq!(rt; (grid.width(), grid.height()), (3, 2));
     assert_eq!(rt; grid.cells(), [7, 7, 7, 7, 7, 7].as_slice());
     let widest = Grid::new(rt.alloc(), MAX_SIDE, 1, 0)?;
-    assert_eq!(rt; widest.width(), 4096);
-    assert_eq!(rt; widest.cells().len(), 4096);
+    assert_eq!(rt; widest.width(), 16_384);
+    assert_eq!(rt; widest.cells().len(), 16_384);
     Ok(())
 }
 
 #[test]
 fn new_refuses_sides(rt: HostRuntime) {
-    for (w, h) in [(0, 5000), (5000, 0), (0, 0), (0, 1), (1, 0)] {
+    for (w, h) in [(0, 20_000), (20_000, 0), (0, 0), (0, 1), (1, 0)] {
         let refused = Grid::new(rt.alloc(), w, h, 0);
         assert!(rt;
             matches!(refused, Err(GridError::ZeroSize)),
             "at {w} by {h}"
         );
     }
-    for (w, h) in [(4097, 1), (1, 4097), (4097, 4097)] {
+    for (w, h) in [(16_385, 1), (1, 16_385), (4096, 16_384 + 1), (16_384, 4097)] {
         let refused = Grid::new(rt.alloc(), w, h, 0);
         assert!(rt;
             matches!(refused, Err(GridError::TooLarge)),
             "at {w} by {h}"
         );
     }
+}
+
+#[test]
+fn sides_end_at_16_384_and_pixels_at_2_to_the_26(rt: HostRuntime) {
+    for (w, h) in [(16_384, 4096), (4096, 16_384), (16_384, 1), (1, 16_384)] {
+        assert!(rt; is_image_size(w, h), "at {w} by {h}");
+    }
+    for (w, h) in [(16_384, 4097), (4097, 16_384), (16_385, 1), (1, 16_385)] {
+        assert!(rt; !is_image_size(w, h), "at {w} by {h}");
+    }
+}
+
+#[test]
+fn messages_begin_with_their_code(rt: HostRuntime) -> Result<(), Fail> {
+    for error in [GridError::ZeroSize, GridError::TooLarge, GridError::Memory] {
+        let message = format!(in rt.alloc(); "{error}")?;
+        assert!(rt; message.starts_with(error.code()), "{error}");
+    }
+    Ok(())
 }
 
 #[test]

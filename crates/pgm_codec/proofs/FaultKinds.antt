@@ -1,43 +1,71 @@
--- Which faults a text can have.
+-- Which faults a text can have: want of memory and a device's failure are none of them.
 use Rattle.std.proofs.Common.{◌≡◌, ℕ, List, Option, Some, inl, inr, arith}
 use Rattle.pgm_codec.specs.declared.error.PgmError.{PgmError}
 use Rattle.pgm_codec.specs.declared.error.PgmError.TheVariants.{Memory, Device}
-use Rattle.pgm_codec.specs.Spelling.{side_fault, maxval_fault}
-use Rattle.pgm_codec.specs.Fault.{GoodFieldFault, PgmFault, in_magic, in_width, in_height, in_maxval, in_raster}
+use Rattle.pgm_codec.specs.declared.grammar.Encoding.{Encoding}
+use Rattle.pgm_codec.specs.declared.grammar.Encoding.TheVariants.{Plain, Raw}
+use Rattle.pgm_codec.specs.Spelling.{width_fault, height_fault, maxval_fault}
+use Rattle.pgm_codec.specs.FirstFault.{MagicFault, FieldFault, GoodFieldFault, SampleFault, EndFault, RasterFault, PgmFault, in_magic, in_width, in_height, in_maxval, in_raster}
 
--- a judgement that is of texts alone
-record IsOfText (fault : ℕ → Option PgmError) : Type 0 where
-  memory : (n : ℕ) → fault n ≡ Some Memory → ⊥
-  device : (n : ℕ) → fault n ≡ Some Device → ⊥
+-- a fault that a text can have
+abbrev pub IsOfText : PgmError → Type 0
+IsOfText Memory = ⊥
+IsOfText Device = ⊥
+IsOfText _ = Unit {0}
 
-side_of_text : IsOfText side_fault
-side_of_text = record { memory = λ n e. grind arith; device = λ n e. grind arith }
+magic_kind : (text : List ℕ) (e : PgmError) → MagicFault text e → IsOfText e
+magic_kind text Memory f = f
+magic_kind text Device f = f
+magic_kind text _ f = tt
 
-maxval_of_text : IsOfText maxval_fault
-maxval_of_text = record { memory = λ n e. grind arith; device = λ n e. grind arith }
+spelling_kind : (text : List ℕ) (e : PgmError) → FieldFault text e → IsOfText e
+spelling_kind text Memory f = f
+spelling_kind text Device f = f
+spelling_kind text _ f = tt
 
-field_memory : (fault : ℕ → Option PgmError) → IsOfText fault → (text : List ℕ) → GoodFieldFault fault text Memory → ⊥
-field_memory fault of_text text (inl f) = f
-field_memory fault of_text text (inr (n, rest, h, e)) = of_text.memory n e
+field_kind : (fault : ℕ → Option PgmError) → ((n : ℕ) (e : PgmError) → fault n ≡ Some e → IsOfText e)
+    → (text : List ℕ) (e : PgmError)
+    → GoodFieldFault fault text e → IsOfText e
+field_kind fault kind text e (inl f) = spelling_kind text e f
+field_kind fault kind text e (inr (n, rest, h, f)) = kind n e f
 
-field_device : (fault : ℕ → Option PgmError) → IsOfText fault → (text : List ℕ) → GoodFieldFault fault text Device → ⊥
-field_device fault of_text text (inl f) = f
-field_device fault of_text text (inr (n, rest, h, e)) = of_text.device n e
+width_kind : (n : ℕ) (e : PgmError) → width_fault n ≡ Some e → IsOfText e
+width_kind n Memory f = grind arith
+width_kind n Device f = grind arith
+width_kind n _ f = tt
 
--- want of memory is no fault of a text
-pub not_memory : (text : List ℕ) → PgmFault text Memory → ⊥
-not_memory text (in_magic f) = f
-not_memory text (in_width a ha f) = field_memory side_fault side_of_text a f
-not_memory text (in_height a b w ha hw f) = field_memory side_fault side_of_text b f
-not_memory text (in_maxval a b c w h ha hw hh f) = field_memory maxval_fault maxval_of_text c f
-not_memory text (in_raster rest w h m head (ss, behind, all, inl (lt, f))) = f
-not_memory text (in_raster rest w h m head (ss, behind, all, inr (len, f))) = f
+height_kind : (w n : ℕ) (e : PgmError) → height_fault w n ≡ Some e → IsOfText e
+height_kind w n Memory f = grind arith
+height_kind w n Device f = grind arith
+height_kind w n _ f = tt
 
--- a device's failure is no fault of a text
-pub not_device : (text : List ℕ) → PgmFault text Device → ⊥
-not_device text (in_magic f) = f
-not_device text (in_width a ha f) = field_device side_fault side_of_text a f
-not_device text (in_height a b w ha hw f) = field_device side_fault side_of_text b f
-not_device text (in_maxval a b c w h ha hw hh f) = field_device maxval_fault maxval_of_text c f
-not_device text (in_raster rest w h m head (ss, behind, all, inl (lt, f))) = f
-not_device text (in_raster rest w h m head (ss, behind, all, inr (len, f))) = f
+maxval_kind : (n : ℕ) (e : PgmError) → maxval_fault n ≡ Some e → IsOfText e
+maxval_kind n Memory f = grind arith
+maxval_kind n Device f = grind arith
+maxval_kind n _ f = tt
+
+sample_kind : (k : Encoding) (m : ℕ) (text : List ℕ) (e : PgmError) → SampleFault k m text e → IsOfText e
+sample_kind Plain m text Memory f = f
+sample_kind Raw m text Memory f = f
+sample_kind Plain m text Device f = f
+sample_kind Raw m text Device f = f
+sample_kind _ m text _ f = tt
+
+end_kind : (k : Encoding) (text : List ℕ) (e : PgmError) → EndFault k text e → IsOfText e
+end_kind Plain text Memory f = f
+end_kind Raw text Memory f = f
+end_kind Plain text Device f = f
+end_kind Raw text Device f = f
+end_kind _ text _ f = tt
+
+raster_kind : (k : Encoding) (m count : ℕ) (text : List ℕ) (e : PgmError) → RasterFault k m count text e → IsOfText e
+raster_kind k m count text e (ss, rest, all, inl (lt, f)) = sample_kind k m rest e f
+raster_kind k m count text e (ss, rest, all, inr (len, f)) = end_kind k rest e f
+
+-- the fault of a text is one that a text can have
+pub fault_kind : (text : List ℕ) (e : PgmError) → PgmFault text e → IsOfText e
+fault_kind text e (in_magic f) = magic_kind text e f
+fault_kind text e (in_width k a ha f) = field_kind width_fault width_kind a e f
+fault_kind text e (in_height k a b w ha hw f) = field_kind (height_fault w) (height_kind w) b e f
+fault_kind text e (in_maxval k a b c w h ha hw hh f) = field_kind maxval_fault maxval_kind c e f
+fault_kind text e (in_raster k rest w h m head f) = raster_kind k m _ rest e f

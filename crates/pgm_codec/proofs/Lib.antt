@@ -1,7 +1,10 @@
-pub mod Numbers
+pub mod Decimals
 pub mod Fields
 pub mod Rasters
 pub mod Images
 pub mod FaultKinds
 pub mod SampleLoop
+pub mod WriteLoop
+pub mod RawSamples
+pub mod RawTexts
 pub mod Pieces

@@ -1,5 +1,5 @@
 -- Lists that are taken piece by piece, and clauses on a `Result` that hold either way.
-use Rattle.std.proofs.Common.{◌≡◌, ℕ, ◌+◌, ◌-◌, ◌≤◌, List, ◌++◌, Option, Some, None, IfSome, Result, Ok, Err, OnErr, subst, length, take, drop, sym, ap, ◌∙◌, append_assoc, take-append-drop, length-take-le, take_at, drop-drop}
+use Rattle.std.proofs.Common.{◌≡◌, ℕ, ◌+◌, ◌-◌, ◌≤◌, List, ◌++◌, Option, Some, None, IfSome, Result, Ok, Err, OnErr, subst, length, take, drop, sym, ap, ◌∙◌, append_assoc, take-append-drop, take-add, length-take-le, take_at, drop-drop}
 use Rattle.std.proofs.lemmas.List.{take_rest}
 
 -- a fact holds on `Err` where it holds
@@ -8,7 +8,8 @@ OnErr-always P (Ok x) h = tt
 OnErr-always P (Err e) h = h
 
 -- the first n of what is left go to those that are done
-pub moves_front : (all done rest : List ℕ) (n : ℕ) → all ≡ done ++ rest → all ≡ (done ++ take n rest) ++ take (length rest - n) (drop n rest)
+pub moves_front : (all done rest : List ℕ) (n : ℕ) → all ≡ done ++ rest
+    → all ≡ (done ++ take n rest) ++ take (length rest - n) (drop n rest)
 moves_front all done rest n e =
     e ∙ ap (λ l. done ++ l) (sym (take-append-drop n rest)) ∙ sym (append_assoc done (take n rest) (drop n rest))
     ∙ ap (λ l. (done ++ take n rest) ++ l) (sym (take_rest rest n))
@@ -20,9 +21,17 @@ copied_piece xs piece buf at n fits same =
     let left = drop at xs in
     let long : length piece ≡ n = ap length same ∙ length-take-le n left fits in
     let front : take n (piece ++ drop n buf) ≡ take n left = take_at piece (drop n buf) n long ∙ same in
-    sym (take-append-drop n left) ∙ ap (λ l. l ++ drop n left) (sym front) ∙ ap (λ l. take n (piece ++ drop n buf) ++ l) (drop-drop n at xs)
+    sym (take-append-drop n left) ∙ ap (λ l. l ++ drop n left) (sym front)
+    ∙ ap (λ l. take n (piece ++ drop n buf) ++ l) (drop-drop n at xs)
 
 -- what holds of the text holds of the known bytes, if they are the text
-pub IfSome-known : (known : Option (List ℕ)) (text : List ℕ) (P : List ℕ → Type 0) → IfSome known (λ xs. text ≡ xs) → P text → IfSome known P
+pub IfSome-known : (known : Option (List ℕ)) (text : List ℕ) (P : List ℕ → Type 0) → IfSome known (λ xs. text ≡ xs)
+    → P text → IfSome known P
 IfSome-known None text P e h = tt
 IfSome-known (Some xs) text P e h = subst P e h
+
+-- what stands in front stays, and n more stand behind it
+pub filled_more : (before after : List ℕ) (filled n : ℕ) → take filled after ≡ take filled before
+    → take filled before ++ take n (drop filled after) ≡ take (filled + n) after
+filled_more before after filled n same =
+    ap (λ (l : List ℕ). l ++ take n (drop filled after)) (sym same) ∙ sym (take-add filled n after)

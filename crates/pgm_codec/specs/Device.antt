@@ -23,7 +23,8 @@ abbrev pub CountsEnd : {E : Type 0} → Result ℕ E → ℕ → ℕ → Type 0
 CountsEnd result old new =
     MatchResult result (λ n. (n ≡ 0 → new ≡ count_after old 1) × (0 < n → new ≡ old)) (λ _. new ≡ old)
 
--- a pull failed; or so many pulls were made, and none of them found the end
+-- the count of failures has risen or stands at its limit; or no more ends were counted, and the count of
+-- pulls has risen by so many or stands at its limit
 abbrev pub GivesUp : {S : Type 0} → (S → ℕ) → (S → ℕ) → (S → ℕ) → ℕ → S → S → Type 0
 GivesUp failures pulls ends most old new =
     HasRisen (failures old) (failures new) ⊎ (HasRisenBy most (pulls old) (pulls new) × (ends new ≡ ends old))

@@ -7,9 +7,14 @@ pub record Graymap : Type 0 where
   pub raster : Raster
   pub maxval : ℕ
 
--- sides from 1 to 4096 with a sample for each pixel, maxval from 1 to 65535, and no sample above it
+-- the greatest maxval of a file
+abbrev pub max_maxval : ℕ
+max_maxval = 65535
+
+-- sides that an image may have with a sample for each pixel, a maxval that a file may have, and no sample
+-- above it
 pub record IsGraymap (g : Graymap) : Type 0 where
-  pub sized : IsSized 4096 g.raster
+  pub sized : IsSized g.raster
   pub some_maxval : 0 < g.maxval
-  pub maxval_within : g.maxval ≤ 65535
+  pub maxval_within : g.maxval ≤ max_maxval
   pub samples_within : EachIndex g.raster.cells (λ k. slice_index g.raster.cells k ≤ g.maxval)

@@ -1,6 +1,7 @@
 pub use Rattle.grid_core.specs.Raster
+pub mod Code
 pub mod Device
-pub mod Fault
+pub mod FirstFault
 pub mod Graymap
 pub mod MemoryDevice
 pub mod Reading

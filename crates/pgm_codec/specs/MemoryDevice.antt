@@ -10,10 +10,12 @@ pub record MemoryInput : Type 0 where
   pub failures : ℕ
   pub ends : ℕ
 
--- the bytes taken so far, the most that one put takes, the put that fails (counted from 1), and the counts
+-- the bytes taken so far, the most that one put takes, the put that fails (counted from 1), and the
+-- counts; refused are the puts that found no memory
 pub record MemoryOutput : Type 0 where
   pub written : List ℕ
   pub piece : ℕ
   pub fails_at : Option ℕ
   pub puts : ℕ
   pub failures : ℕ
+  pub refused : ℕ

@@ -1,7 +1,9 @@
 -- The raw file of an image (Netpbm pgm(5)).
 use Rattle.std.specs.Prelude.{ℕ, ◌/◌, ◌%◌, nat_lt, List, [], ◌∷◌, ◌++◌, decimal, if◌then◌else◌}
 use Rattle.std.specs.List.{flat_map}
+use Rattle.pgm_codec.specs.declared.grammar.Encoding.TheVariants.{Raw}
 use Rattle.pgm_codec.specs.Graymap.{Graymap}
+use Rattle.pgm_codec.specs.Spelling.{line_feed, blank, magic}
 
 -- one byte a sample where maxval is below 256, else two, the more significant first
 abbrev pub sample_bytes : ℕ → ℕ → List ℕ
@@ -10,7 +12,9 @@ sample_bytes maxval s = if nat_lt maxval 256 then s ∷ [] else s / 256 ∷ s % 
 -- `P5`, LF, width, blank, height, LF, maxval, LF, in decimal without leading zeros
 abbrev pub raw_header : Graymap → List ℕ
 raw_header g =
-    80 ∷ 53 ∷ 10 ∷ (decimal g.raster.width ++ 32 ∷ (decimal g.raster.height ++ 10 ∷ (decimal g.maxval ++ 10 ∷ [])))
+    magic Raw ++ line_feed
+    ∷ (decimal g.raster.width ++ blank
+    ∷ (decimal g.raster.height ++ line_feed ∷ (decimal g.maxval ++ line_feed ∷ [])))
 
 -- the header, and then the samples row by row from the top
 unfoldable pub raw_text : Graymap → List ℕ

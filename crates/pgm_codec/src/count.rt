@@ -2,7 +2,7 @@
 ghost use Rattle.std.specs.Prelude.{◌≡◌};
 ghost use Rattle.pgm_codec.specs.Device.{count_after};
 
-/// Counts one more.
+// Counts one more.
 pub(crate) fn count_one(count: &mut u64)
     ensures { count.new ≡ count_after count.old 1 }
 {

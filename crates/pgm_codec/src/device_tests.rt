@@ -1,7 +1,7 @@
 use super::*;
 use crate::transfer::put_all;
 use std::alloc::Global;
-use std::io::{self, Cursor, Write};
+use std::io::{self, Cursor, ErrorKind, Read, Write};
 use std::test::Fail;
 
 const TEXT: &[u8] = b"ten bytes!";
@@ -92,6 +92,83 @@ fn readers_and_writers_of_std_serve(rt: HostRuntime) -> Result<(), Fail> {
     put_all(&mut sink, &bytes)?;
     assert_eq!(rt; sink.into_inner().as_slice(), TEXT);
     Ok(())
+}
+
+#[test]
+fn a_sink_that_failed_once_goes_on(rt: HostRuntime) -> Result<(), Fail> {
+    let mut sink = MemorySink::new(rt.alloc()).failing_at(1);
+    assert_eq!(rt; put_all(&mut sink, TEXT), Err(Fault));
+    put_all(&mut sink, TEXT)?;
+    assert_eq!(rt; sink.written(), TEXT);
+    assert_eq!(rt; (sink.puts(), sink.failures(), sink.refused()), (2, 1, 0));
+    Ok(())
+}
+
+#[test]
+fn a_long_text_is_read_whole(rt: HostRuntime) -> Result<(), Fail> {
+    let mut text = Vec::new(rt.alloc());
+    for k in 0..200_000u32 {
+        text.push((k % 251) as u8)?;
+    }
+    let mut source = MemorySource::new(text.clone()?).in_pieces(999);
+    let bytes = read_all(rt.alloc(), &mut source)?;
+    assert!(rt; bytes.as_slice() == text.as_slice());
+    Ok(())
+}
+
+// A device of std that meets an error of this kind so many times, and then takes or gives what there is.
+#[derive(Drop)]
+struct Stumbling {
+    error: ErrorKind,
+    times: u32,
+}
+
+impl Stumbling {
+    fn meet(&mut self) -> io::Result<()> {
+        if self.times == 0 {
+            return Ok(());
+        }
+        self.times -= 1;
+        Err(self.error.into())
+    }
+}
+
+impl Read for Stumbling {
+    fn read(&mut self, _buf: &mut [u8]) -> io::Result<usize> {
+        self.meet()?;
+        Ok(0)
+    }
+}
+
+impl Write for Stumbling {
+    fn write(&mut self, buf: &[u8]) -> io::Result<usize> {
+        self.meet()?;
+        Ok(buf.len())
+    }
+
+    fn flush(&mut self) -> io::Result<()> {
+        Ok(())
+    }
+}
+
+#[test]
+fn calls_interrupted_many_times_are_tried_again(rt: HostRuntime) {
+    let (error, times) = (ErrorKind::Interrupted, 1_000);
+    let mut source = StdSource::new(Stumbling { error, times });
+    assert_eq!(rt; source.pull(&mut [0; 4]), Ok(0));
+    let mut sink = StdSink::new(Stumbling { error, times });
+    assert_eq!(rt; sink.put(TEXT), Ok(TEXT.len()));
+}
+
+#[test]
+fn other_errors_are_answered_at_once(rt: HostRuntime) {
+    let (error, times) = (ErrorKind::BrokenPipe, 1);
+    let mut source = StdSource::new(Stumbling { error, times });
+    assert_eq!(rt; source.pull(&mut [0; 4]), Err(Fault));
+    assert_eq!(rt; source.pull(&mut [0; 4]), Ok(0));
+    let mut sink = StdSink::new(Stumbling { error, times });
+    assert_eq!(rt; sink.put(TEXT), Err(Fault));
+    assert_eq!(rt; sink.put(TEXT), Ok(TEXT.len()));
 }
 
 // A writer that takes none of any bytes.

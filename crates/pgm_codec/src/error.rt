@@ -1,6 +1,7 @@
 //! What may go wrong with images and their files.
 ghost use Rattle.std.specs.Prelude.{◌≡◌};
 ghost use Rattle.pgm_codec.specs.declared.error.PgmError.TheVariants as errors;
+ghost use Rattle.pgm_codec.specs.Code.{code_of};
 
 use crate::fault::Fault;
 use std::alloc::{AllocError, AllocFailed};
@@ -18,8 +19,8 @@ pub enum PgmError {
     /// P3: a side is 0.
     #[error("P3: a side is 0")]
     ZeroSize,
-    /// P4: a side is above 4096.
-    #[error("P4: a side is above 4096")]
+    /// P4: a side is above [`grid_core::MAX_SIDE`], or there are more than [`grid_core::MAX_PIXELS`] pixels.
+    #[error("P4: the image is too large")]
     TooLarge,
     /// P5: maxval is 0 or above 65535.
     #[error("P5: maxval is 0 or above 65535")]
@@ -42,6 +43,27 @@ pub enum PgmError {
     /// P11: a device failed, or a source did not end in time.
     #[error("P11: a device failed")]
     Device,
+}
+
+impl PgmError {
+    /// The code, as `P6`.
+    pub fn code(self) -> &'static str
+        ensures { result.now ≡ code_of self }
+    {
+        match self {
+            PgmError::BadMagic => "P1",
+            PgmError::BadHeader => "P2",
+            PgmError::ZeroSize => "P3",
+            PgmError::TooLarge => "P4",
+            PgmError::BadMaxval => "P5",
+            PgmError::Truncated => "P6",
+            PgmError::SampleRange => "P7",
+            PgmError::BadSample => "P8",
+            PgmError::Trailing => "P9",
+            PgmError::Memory => "P10",
+            PgmError::Device => "P11",
+        }
+    }
 }
 
 impl From<AllocError> for PgmError {

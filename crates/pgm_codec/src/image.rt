@@ -9,7 +9,8 @@ use std::alloc::Global;
 use std::marker::Model;
 
 /// A greyscale image: `w * h` samples, row by row from the top, each row from the left. Sides are 1 to
-/// 4096, `maxval` is 1 to 65535, and no sample is above it.
+/// [`grid_core::MAX_SIDE`], with at most [`grid_core::MAX_PIXELS`] pixels, `maxval` is 1 to 65535, and no
+/// sample is above it.
 #[derive(Debug, Drop)]
 pub struct Image {
     w: u32,
@@ -28,21 +29,33 @@ impl Model for Image {
     ghost invariant = { λ i. IsGraymap (record { raster = record { width = i.w; height = i.h; cells = i.samples.items }; maxval = i.maxval }) };
 }
 
-/// The same numbers in 16 bits.
+// The same numbers in 16 bits.
 fn narrowed(alloc: Global, cells: &[u32], maxval: u16) -> Result<Vec<u16>, PgmError>
     requires { (k : ℕ) → k < length cells.now → slice_index cells.now k ≤ maxval }
     ensures value { IfOk result (λ samples. samples.items ≡ cells.now) }
     ensures only_memory { IsOkUnless result errors.Memory }
 {
-    let mut samples = Vec::with_capacity(alloc, cells.len())?;
-    for cell in cells {
-        samples.push(*cell as u16)?;
+    let mut samples = vec![in alloc; 0; cells.len()]?;
+    for i in 0..cells.len() {
+        samples[i] = cells[i] as u16;
     }
     Ok(samples)
 }
 
+// The same numbers in 32 bits.
+fn widened(alloc: Global, samples: &[u16]) -> Result<Vec<u32>, PgmError>
+    ensures value { IfOk result (λ cells. cells.items ≡ samples.now) }
+    ensures only_memory { IsOkUnless result errors.Memory }
+{
+    let mut cells = vec![in alloc; 0; samples.len()]?;
+    for i in 0..samples.len() {
+        cells[i] = u32::from(samples[i]);
+    }
+    Ok(cells)
+}
+
 impl Image {
-    /// The image of these samples. It takes no memory.
+    // The image of these samples. It takes no memory.
     pub(crate) fn from_samples(w: u32, h: u32, maxval: u16, samples: Vec<u16>) -> Image
         requires { IsGraymap (record { raster = record { width = w; height = h; cells = samples.items }; maxval = maxval }) }
         ensures { result ≡ record { raster = record { width = w; height = h; cells = samples.items }; maxval = maxval } }
@@ -86,14 +99,11 @@ impl Image {
         ensures value { IfOk result (λ grid. grid ≡ self.now.raster) }
         ensures only_memory { IsOkUnless result errors.Memory }
     {
-        let mut cells = Vec::with_capacity(alloc, self.samples.len())?;
-        for sample in &self.samples {
-            cells.push(u32::from(*sample))?;
-        }
+        let cells = widened(alloc, &self.samples)?;
         Ok(Grid::from_cells(self.w, self.h, cells))
     }
 
-    /// The number of columns, 1 to 4096.
+    /// The number of columns, at least 1.
     pub fn width(&self) -> u32
         ensures value { result ≡ self.now.raster.width }
         ensures is_graymap { IsGraymap self.now }
@@ -101,7 +111,7 @@ impl Image {
         self.w
     }
 
-    /// The number of rows, 1 to 4096.
+    /// The number of rows, at least 1.
     pub fn height(&self) -> u32
         ensures value { result ≡ self.now.raster.height }
         ensures is_graymap { IsGraymap self.now }

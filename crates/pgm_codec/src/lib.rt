@@ -1,15 +1,34 @@
 //! Greyscale images and their files: the PGM format of Netpbm, pgm(5), in a profile of its own.
 //!
-//! Read are plain files (magic `P2`) of one image without comments, sides of 1 to 4096 and a maxval of
-//! 1 to 65535. Written are raw files (magic `P5`).
+//! An [`Image`] is `w * h` samples, row by row from the top, none above its maxval. [`read`] makes one of a
+//! file's text, plain (magic `P2`) or raw (magic `P5`), or answers the first fault of the text, a
+//! [`PgmError`]; [`write_raw`] gives the raw file of an image, which spells that image and no other
+//! ([`raw_text_is_read`]). A file is one image; comments stand before the numbers of the header alone.
+//!
+//! ```
+//! let image = read(alloc, b"P2\n2 1\n255\n10 35\n")?;
+//! let raw = write_raw(alloc, &image)?; // P5, 2 1, 255, and the bytes 0A 23
+//! ```
+//!
+//! Bytes come from a [`Source`] and go to a [`Sink`]: those of std ([`StdSource`], [`StdSink`]), or in memory
+//! ([`MemorySource`], [`MemorySink`]), where a chosen call can be made to fail. [`read_from`] and [`write_to`]
+//! join them to the format.
+//!
+//! Read on: `specs/Spelling.antt` says which text spells which image, `specs/FirstFault.antt` which fault a
+//! text has, and `specs/Writing.antt` what is written; the laws [`one_image`], [`one_fault`] and [`every_text`]
+//! say that each text has exactly one of the two. `specs/Device.antt` has the words on sources and sinks.
 #![tactic(auto)]
 
 mod count;
 mod error;
 mod fault;
+mod grammar;
+mod header;
 mod image;
 mod memory_sink;
 mod memory_source;
+mod numbers;
+mod raster;
 mod reading;
 mod sink;
 mod source;
@@ -23,7 +42,7 @@ pub use fault::Fault;
 pub use image::Image;
 pub use memory_sink::MemorySink;
 pub use memory_source::MemorySource;
-pub use reading::{every_text, one_fault, one_image, read};
+pub use reading::{every_text, one_fault, one_image, raw_text_is_read, read};
 pub use sink::Sink;
 pub use source::Source;
 pub use std_sink::StdSink;

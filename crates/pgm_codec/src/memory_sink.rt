@@ -1,8 +1,8 @@
 //! A sink in memory.
-ghost use Rattle.std.specs.Prelude.{◌≡◌, ◌<◌, min, [], length, Some, None, IfOk, IsErr};
+ghost use Rattle.std.specs.Prelude.{◌≡◌, ◌<◌, ◌⊎◌, min, [], length, Some, None, IfOk, OnOk, IsErr};
 ghost use Rattle.std.specs.Io.{WritesAtMost};
 ghost use Rattle.std.specs.Io.KnownBytes.{WriteAppends};
-ghost use Rattle.pgm_codec.specs.Device.{count_after, CountsFault};
+ghost use Rattle.pgm_codec.specs.Device.{count_after, CountsFault, HasRisen};
 
 use crate::count::count_one;
 use crate::fault::Fault;
@@ -19,6 +19,7 @@ pub struct MemorySink {
     fails_at: Option<u64>,
     puts: u64,
     failures: u64,
+    refused: u64,
 }
 
 impl Model for MemorySink {
@@ -33,6 +34,7 @@ impl Model for MemorySink {
       fails_at = s.fails_at;
       puts = s.puts;
       failures = s.failures;
+      refused = s.refused;
     } };
 
     ghost invariant = { λ s. 0 < s.piece };
@@ -47,6 +49,7 @@ impl MemorySink {
           fails_at = None;
           puts = 0;
           failures = 0;
+          refused = 0;
         } }
     {
         MemorySink {
@@ -55,6 +58,7 @@ impl MemorySink {
             fails_at: None,
             puts: 0,
             failures: 0,
+            refused: 0,
         }
     }
 
@@ -93,6 +97,13 @@ impl MemorySink {
         self.puts
     }
 
+    /// How many puts found no memory.
+    pub fn refused(&self) -> u64
+        ensures { result ≡ self.now.refused }
+    {
+        self.refused
+    }
+
     /// How many puts failed.
     pub fn failures(&self) -> u64
         ensures { result ≡ self.now.failures }
@@ -112,16 +123,25 @@ impl Sink for MemorySink {
         ensures bytes { WriteAppends (Some self.old.written) (Some self.new.written) result bytes.now }
         ensures failures { CountsFault result self.old.failures self.new.failures }
 
-        // As many as make a piece; the chosen put fails.
+        // As many as make a piece; the chosen put fails, and otherwise only one that finds no memory.
         ensures count { IfOk result (λ n. n ≡ min self.old.piece (length bytes.now)) }
         ensures chosen { self.old.fails_at ≡ Some self.new.puts → IsErr result }
+        ensures others { IsErr result
+            → (self.old.fails_at ≡ Some self.new.puts) ⊎ HasRisen self.old.refused self.new.refused }
+        ensures steady { OnOk result (self.new.refused ≡ self.old.refused) }
+        ensures not_refused { self.old.fails_at ≡ Some self.new.puts → self.new.refused ≡ self.old.refused }
         ensures puts { self.new.puts ≡ count_after self.old.puts 1 }
         ensures same_piece { self.new.piece ≡ self.old.piece }
         ensures same_choice { self.new.fails_at ≡ self.old.fails_at }
     {
         count_one(&mut self.puts);
         let n = self.piece.min(bytes.len());
-        if self.fails_at == Some(self.puts) || self.bytes.extend_from_slice(&bytes[..n]).is_err() {
+        if self.fails_at == Some(self.puts) {
+            count_one(&mut self.failures);
+            return Err(Fault);
+        }
+        if self.bytes.extend_from_slice(&bytes[..n]).is_err() {
+            count_one(&mut self.refused);
             count_one(&mut self.failures);
             return Err(Fault);
         }

@@ -1,193 +1,48 @@
-//! Reading plain files, from left to right.
-ghost use Rattle.std.specs.Prelude.{◌≡◌, ℕ, ◌*◌, ◌<◌, ◌≤◌, ◌⊎◌, List, length, slice_index, All, vec_len, Ok, IfOk, IfErr, IsErrOf};
+//! Reading a whole file, from left to right.
+ghost use Rattle.std.specs.Prelude.{◌≡◌, ◌⊎◌, List, ℕ, Ok, IfOk, IfErr, IsErrOf};
 ghost use Rattle.pgm_codec.specs.declared.error.PgmError.{PgmError};
 ghost use Rattle.pgm_codec.specs.declared.error.PgmError.TheVariants as errors;
-ghost use Rattle.pgm_codec.specs.Graymap.{Graymap};
-ghost use Rattle.pgm_codec.specs.Spelling.{PgmSpells, is_white, side_fault, maxval_fault};
-ghost use Rattle.pgm_codec.specs.Fault.{PgmFault};
-ghost use Rattle.pgm_codec.specs.Reading.{Gives, GivesOrMemory, after_gap, digits_after, number_at, field_at, good_field_at, sample_at, samples_at, magic_at, image_at};
+ghost use Rattle.pgm_codec.specs.Graymap.{Graymap, IsGraymap};
+ghost use Rattle.pgm_codec.specs.Spelling.{PgmSpells};
+ghost use Rattle.pgm_codec.specs.FirstFault.{PgmFault};
+ghost use Rattle.pgm_codec.specs.Reading.{GivesOrMemory, image_at};
+ghost use Rattle.pgm_codec.specs.Writing.{raw_text};
 
 use crate::error::PgmError;
+use crate::header::{height, magic, maxval, width};
 use crate::image::Image;
-use grid_core::MAX_SIDE;
+use crate::raster::{end, samples};
 use std::alloc::Global;
 
-/// What each greater number is read as: past every side, maxval and sample that may stand in a file.
-const TOO_GREAT: u32 = 65_536;
-
-fn is_white(b: u8) -> bool
-    ensures { result ≡ is_white b }
-{
-    matches!(b, b' ' | b'\t' | b'\r' | b'\n')
-}
-
-/// The text behind its leading whitespace.
-#[tactic(auto, unfolding(crate::specs::Reading::after_gap))]
-fn after_gap(text: &[u8]) -> &[u8]
-    ensures { result.now ≡ after_gap text.now }
-{
-    let mut rest = text;
-    while let [b, after @ ..] = rest {
-        if !is_white(*b) {
-            break;
-        }
-        rest = after;
-    }
-    rest
-}
-
-/// The number that the leading digits write, at most `TOO_GREAT`, and the text behind them.
-#[tactic(auto, unfolding(crate::specs::Reading::digits_after))]
-fn digits(text: &[u8]) -> (u32, &[u8])
-    ensures read { (result.0, result.1.now) ≡ digits_after 0 text.now }
-    ensures capped { result.0 ≤ TOO_GREAT }
-{
-    let mut value = 0;
-    let mut rest = text;
-    while let [b, after @ ..] = rest {
-        if !b.is_ascii_digit() {
-            break;
-        }
-        value = TOO_GREAT.min(value * 10 + u32::from(*b - b'0'));
-        rest = after;
-    }
-    (value, rest)
-}
-
-/// The number that stands behind leading whitespace, and the text behind its digits.
-///
-/// Errors: `stray` where a byte that is no digit stands in its place, P6 where nothing does.
-#[tactic(auto, unfolding(crate::specs::Reading::number_at))]
-fn number(text: &[u8], stray: PgmError) -> Result<(u32, &[u8]), PgmError>
-    ensures read { Gives (λ x. (x.0, x.1.now)) result (number_at stray (after_gap text.now)) }
-    ensures capped { IfOk result (λ x. x.0 ≤ TOO_GREAT) }
-{
-    let text = after_gap(text);
-    match text {
-        [] => Err(PgmError::Truncated),
-        [b, ..] if b.is_ascii_digit() => Ok(digits(text)),
-        [_, ..] => Err(stray),
-    }
-}
-
-/// A header number with the whitespace byte that ends it, and the text behind both.
-#[tactic(auto, unfolding(crate::specs::Reading::field_at, crate::specs::Reading::field_end))]
-fn field(text: &[u8]) -> Result<(u32, &[u8]), PgmError>
-    ensures read { Gives (λ x. (x.0, x.1.now)) result (field_at text.now) }
-{
-    let (n, rest) = number(text, PgmError::BadHeader)?;
-    match rest {
-        [] => Err(PgmError::Truncated),
-        [b, rest @ ..] if is_white(*b) => Ok((n, rest)),
-        [_, ..] => Err(PgmError::BadHeader),
-    }
-}
-
-/// A width or a height, and the text behind it.
-#[tactic(auto, unfolding(crate::specs::Reading::good_field_at))]
-fn side(text: &[u8]) -> Result<(u32, &[u8]), PgmError>
-    ensures read { Gives (λ x. (x.0, x.1.now)) result (good_field_at side_fault text.now) }
-    ensures range { IfOk result (λ x. (0 < x.0) × (x.0 ≤ 4096)) }
-{
-    let (n, rest) = field(text)?;
-    if n == 0 {
-        Err(PgmError::ZeroSize)
-    } else if n > MAX_SIDE {
-        Err(PgmError::TooLarge)
-    } else {
-        Ok((n, rest))
-    }
-}
-
-/// The maxval, and the text behind it.
-#[tactic(auto, unfolding(crate::specs::Reading::good_field_at))]
-fn maxval(text: &[u8]) -> Result<(u16, &[u8]), PgmError>
-    ensures read { Gives (λ x. (x.0, x.1.now)) result (good_field_at maxval_fault text.now) }
-    ensures range { IfOk result (λ x. 0 < x.0) }
-{
-    let (n, rest) = field(text)?;
-    if n == 0 || n > 65_535 {
-        Err(PgmError::BadMaxval)
-    } else {
-        Ok((n as u16, rest))
-    }
-}
-
-/// The next sample of a plain raster, and the text behind its digits.
-#[tactic(auto, unfolding(crate::specs::Reading::sample_at, crate::specs::Reading::sample_end))]
-fn sample(text: &[u8], maxval: u16) -> Result<(u16, &[u8]), PgmError>
-    ensures read { Gives (λ x. (x.0, x.1.now)) result (sample_at maxval text.now) }
-    ensures range { IfOk result (λ x. x.0 ≤ maxval) }
-{
-    let (n, rest) = number(text, PgmError::BadSample)?;
-    if n > u32::from(maxval) {
-        return Err(PgmError::SampleRange);
-    }
-    match rest {
-        [b, ..] if !is_white(*b) => Err(PgmError::BadSample),
-        _ => Ok((n as u16, rest)),
-    }
-}
-
-/// As many samples of a plain raster, and the text behind the last.
-fn samples(
-    alloc: Global,
-    text: &[u8],
-    maxval: u16,
-    count: usize,
-) -> Result<(Vec<u16>, &[u8]), PgmError>
-    ensures read { GivesOrMemory (λ x. (x.0.items, x.1.now)) result (samples_at maxval count text.now) }
-    ensures length { IfOk result (λ x. length x.0.items ≡ count) }
-    ensures range { IfOk result (λ x. All (λ s. s ≤ maxval) x.0.items) }
-{
-    let mut samples = Vec::new(alloc);
-    let mut rest = text;
-    for _ in 0..count {
-        let (s, after) = sample(rest, maxval)?;
-        samples.push(s)?;
-        rest = after;
-    }
-    Ok((samples, rest))
-}
-
-/// The text behind the magic and its whitespace byte.
-#[tactic(auto, unfolding(crate::specs::Reading::magic_at, crate::specs::Reading::magic_end))]
-fn magic(text: &[u8]) -> Result<&[u8], PgmError>
-    ensures { Gives (λ x. x.now) result (magic_at text.now) }
-{
-    match text {
-        [b'P', b'2', rest @ ..] => match rest {
-            [] => Err(PgmError::Truncated),
-            [b, rest @ ..] if is_white(*b) => Ok(rest),
-            [_, ..] => Err(PgmError::BadHeader),
-        },
-        _ => Err(PgmError::BadMagic),
-    }
-}
-
-#[tactic(auto, unfolding(crate::specs::Reading::image_at, crate::specs::Reading::raster_at, crate::specs::Reading::at_end))]
+// The image that is read from left to right.
+#[tactic(auto, unfolding(crate::specs::Reading::image_at, crate::specs::Reading::raster_at))]
 fn image(alloc: Global, text: &[u8]) -> Result<Image, PgmError>
     ensures { GivesOrMemory (λ x. x) result (image_at text.now) }
 {
-    let rest = magic(text)?;
-    let (w, rest) = side(rest)?;
-    let (h, rest) = side(rest)?;
+    let (encoding, rest) = magic(text)?;
+    let (w, rest) = width(rest)?;
+    let (h, rest) = height(rest, w)?;
     let (maxval, rest) = maxval(rest)?;
-    let (samples, rest) = samples(alloc, rest, maxval, w as usize * h as usize)?;
-    match after_gap(rest) {
-        [] => Ok(Image::from_samples(w, h, maxval, samples)),
-        [_, ..] => Err(PgmError::Trailing),
-    }
+    let (samples, rest) = samples(alloc, encoding, rest, maxval, w as usize * h as usize)?;
+    end(encoding, rest)?;
+    Ok(Image::from_samples(w, h, maxval, samples))
 }
 
-/// The image that a text spells: one plain file (Netpbm, pgm(5), magic `P2`), all of the text, without
-/// comments. Whitespace is blank, TAB, CR or LF, and leading zeros are accepted.
+/// The image that a text spells: one file (Netpbm, pgm(5)), all of the text.
+///
+/// A header is the magic, `P2` for a plain raster or `P5` for a raw one, and width, height and maxval in
+/// decimal, leading zeros accepted. Before each number stands a whitespace byte (blank, TAB, CR or LF),
+/// and behind it any number of whitespace bytes and comments; a comment is `#`, any bytes but CR and LF,
+/// and then one CR or LF. One whitespace byte ends the header. A plain raster has a decimal number for each
+/// pixel, with whitespace between two of them, and whitespace may surround them. A raw raster has one byte
+/// for each pixel where maxval is below 256, else two, the more significant first, and nothing behind.
 ///
 /// Errors: the first fault from the left. P1 for another magic; in the header P6 where the text ends, P2
-/// for a byte that fits none of the parts in its place, P3 and P4 for a side of 0 and above 4096, P5 for a
-/// maxval of 0 or above 65535; in the raster P6 where samples are missing, P7 for a sample above maxval,
-/// P8 for a byte that is no part of a sample, P9 for what follows the last one. P10 may stand in place of
-/// any answer.
+/// for a byte that fits none of the parts in its place, P3 for a side of 0, P4 for a side above
+/// [`grid_core::MAX_SIDE`] or for more pixels than [`grid_core::MAX_PIXELS`], judged once the height is,
+/// P5 for a maxval of 0 or above 65535; in the raster P6 where samples are missing, P7 for a sample above
+/// maxval, P8 for a byte that is no part of a plain sample, P9 for what follows the last one. P10 may stand
+/// in place of any answer.
 pub fn read(alloc: Global, text: &[u8]) -> Result<Image, PgmError>
     // What is read is spelled so.
     ensures found { IfOk result (λ image. PgmSpells text.now image) }
@@ -217,4 +72,11 @@ pub fn one_image()
 /// Each text spells an image or has a fault.
 pub fn every_text()
     ensures { (text : List ℕ) → ((image : Graymap) × PgmSpells text image) ⊎ ((e : PgmError) × PgmFault text e) }
+{}
+
+/// The raw file of each image, as [`write_raw`](crate::write_raw) gives it, spells that image and no
+/// other. So reading gives back what was written.
+pub fn raw_text_is_read()
+    ensures spelled { (image : Graymap) → IsGraymap image → PgmSpells (raw_text image) image }
+    ensures only { (image other : Graymap) → IsGraymap image → PgmSpells (raw_text image) other → other ≡ image }
 {}

@@ -1,37 +1,41 @@
 //! The writers of std as sinks.
-ghost use Rattle.std.specs.Prelude.{◌≡◌, ◌<◌, length, IfOk};
+ghost use Rattle.std.specs.Prelude.{◌≡◌, ◌<◌, length, IfOk, IfErr};
 ghost use Rattle.std.specs.Io.{WritesAtMost};
 ghost use Rattle.std.specs.Io.KnownBytes.{WriteAppends};
+ghost use Rattle.std.specs.IoError.{error_kind};
+ghost use Rattle.std.specs.declared.io.ErrorKind.TheVariants.{Interrupted};
 
 use crate::count::count_one;
 use crate::fault::Fault;
 use crate::sink::Sink;
-use std::io::{ErrorKind, Write};
+use std::io::{self, ErrorKind, Write};
 
-/// How often an interrupted write is tried again.
+// How often an interrupted write is tried again.
 const MOST_TRIES: u32 = 1_000_000;
 
-// One write, tried again where a signal interrupts it.
-fn write_retrying<W: Write>(writer: &mut W, bytes: &[u8]) -> Result<usize, Fault>
+// One write, tried again where a signal interrupts it. Where no try is left it is out of time, and one that
+// takes none of some bytes has failed.
+fn write_retrying<W: Write>(writer: &mut W, bytes: &[u8]) -> io::Result<usize>
     ensures bound { WritesAtMost result bytes.now }
     ensures some { IfOk result (λ n. 0 < length bytes.now → 0 < n) }
     ensures bytes { WriteAppends (W.contents writer.old) (W.contents writer.new) result bytes.now }
+    ensures retried { IfErr result (λ e. error_kind e ≡ Interrupted → ⊥) }
 {
     for _ in 0..MOST_TRIES {
         match writer.write(bytes) {
-            Ok(0) if !bytes.is_empty() => return Err(Fault),
+            Ok(0) if !bytes.is_empty() => return Err(ErrorKind::WriteZero.into()),
             Ok(n) => return Ok(n),
             Err(e) => {
                 if e.kind() != ErrorKind::Interrupted {
-                    return Err(Fault);
+                    return Err(e);
                 }
             }
         }
     }
-    Err(Fault)
+    Err(ErrorKind::TimedOut.into())
 }
 
-/// A writer of std as a sink. An interrupted write is tried again, up to a million times; every other
+/// A writer of std as a sink. An interrupted write is tried again many times; every other
 /// error of the writer is a fault, and so is a write that takes none of some bytes.
 #[derive(Drop)]
 pub struct StdSink<W: Write> {
@@ -65,10 +69,12 @@ impl<W: Write> Sink for StdSink<W> {
     ghost failures = { λ s. s.failures };
 
     fn put(&mut self, bytes: &[u8]) -> Result<usize, Fault> {
-        let taken = write_retrying(&mut self.writer, bytes);
-        if taken.is_err() {
-            count_one(&mut self.failures);
+        match write_retrying(&mut self.writer, bytes) {
+            Ok(n) => Ok(n),
+            Err(_) => {
+                count_one(&mut self.failures);
+                Err(Fault)
+            }
         }
-        taken
     }
 }

@@ -1,35 +1,38 @@
 //! The readers of std as sources.
-ghost use Rattle.std.specs.Prelude.{◌≡◌};
+ghost use Rattle.std.specs.Prelude.{◌≡◌, IfErr};
 ghost use Rattle.std.specs.Io.{ReadsAtMost};
 ghost use Rattle.std.specs.Io.KnownBytes.{ReadConsumes};
+ghost use Rattle.std.specs.IoError.{error_kind};
+ghost use Rattle.std.specs.declared.io.ErrorKind.TheVariants.{Interrupted};
 
 use crate::count::count_one;
 use crate::fault::Fault;
 use crate::source::Source;
-use std::io::{ErrorKind, Read};
+use std::io::{self, ErrorKind, Read};
 
-/// How often an interrupted read is tried again.
+// How often an interrupted read is tried again.
 const MOST_TRIES: u32 = 1_000_000;
 
-// One read, tried again where a signal interrupts it.
-fn read_retrying<R: Read>(reader: &mut R, buf: &mut [u8]) -> Result<usize, Fault>
+// One read, tried again where a signal interrupts it. Where no try is left it is out of time.
+fn read_retrying<R: Read>(reader: &mut R, buf: &mut [u8]) -> io::Result<usize>
     ensures bound { ReadsAtMost result buf.new }
     ensures bytes { ReadConsumes (R.remaining reader.old) (R.remaining reader.new) result buf.new }
+    ensures retried { IfErr result (λ e. error_kind e ≡ Interrupted → ⊥) }
 {
     for _ in 0..MOST_TRIES {
         match reader.read(buf) {
             Ok(n) => return Ok(n),
             Err(e) => {
                 if e.kind() != ErrorKind::Interrupted {
-                    return Err(Fault);
+                    return Err(e);
                 }
             }
         }
     }
-    Err(Fault)
+    Err(ErrorKind::TimedOut.into())
 }
 
-/// A reader of std as a source. An interrupted read is tried again, up to a million times; every other
+/// A reader of std as a source. An interrupted read is tried again many times; every other
 /// error of the reader is a fault.
 #[derive(Drop)]
 pub struct StdSource<R: Read> {
@@ -74,9 +77,9 @@ impl<R: Read> Source for StdSource<R> {
                 }
                 Ok(n)
             }
-            Err(fault) => {
+            Err(_) => {
                 count_one(&mut self.failures);
-                Err(fault)
+                Err(Fault)
             }
         }
     }

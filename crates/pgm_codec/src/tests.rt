@@ -35,16 +35,80 @@ fn whitespace_and_leading_zeros(rt: HostRuntime) -> Result<(), Fail> {
 }
 
 #[test]
+fn raw_files_with_comments(rt: HostRuntime) -> Result<(), Fail> {
+    let texts: [&[u8]; 5] = [
+        b"P5\n# CREATOR: x\n2 1\n255\n\x0a\x23",
+        b"P5 #a\r\n2 #b # c\n#\n1\r# d\r255\n\x0a\x23",
+        b"P5\n2\n#1 1\n 1\n# 9\n255\t\x0a\x23",
+        b"P2\n# CREATOR: x\n2 1\n# more\n255\n10 35",
+        b"P2 2 1 255\r\n10\n35\n",
+    ];
+    for text in &texts {
+        let image = read(rt.alloc(), text).ok().ok_or("an image")?;
+        assert_eq!(rt;
+            (image.width(), image.height(), image.maxval()),
+            (2, 1, 255)
+        );
+        assert_eq!(rt; image.samples(), [10, 35].as_slice());
+    }
+    Ok(())
+}
+
+#[test]
+fn raw_samples_of_two_bytes(rt: HostRuntime) -> Result<(), Fail> {
+    let image = read(rt.alloc(), b"P5\n1 1\n256\n\x01\x00")
+        .ok()
+        .ok_or("an image")?;
+    assert_eq!(rt; image.samples(), [256].as_slice());
+    let image = read(rt.alloc(), b"P5\n3 1\n65535\n\x00\x01\xff\xfe\x01\x02")
+        .ok()
+        .ok_or("an image")?;
+    assert_eq!(rt; image.samples(), [1, 65534, 258].as_slice());
+    Ok(())
+}
+
+#[test]
+fn what_is_written_is_read_again(rt: HostRuntime) -> Result<(), Fail> {
+    for text in [LEVELS, b"P2 3 2 65535 0 1 256 65535 255 40000"] {
+        let image = read(rt.alloc(), text).ok().ok_or("an image")?;
+        let raw = write_raw(rt.alloc(), &image).ok().ok_or("memory")?;
+        let again = read(rt.alloc(), &raw).ok().ok_or("an image")?;
+        assert_eq!(rt;
+            (again.width(), again.height()),
+            (image.width(), image.height())
+        );
+        assert_eq!(rt; again.samples(), image.samples());
+    }
+    Ok(())
+}
+
+#[test]
+fn a_row_of_4097_pixels(rt: HostRuntime) -> Result<(), Fail> {
+    let mut text = b"P5\n4097 1\n255\n".to_vec(rt.alloc())?;
+    text.resize(text.len() + 4097, 7)?;
+    let image = read(rt.alloc(), &text).ok().ok_or("an image")?;
+    assert_eq!(rt; image.width(), 4097);
+    assert_eq!(rt; image.samples().len(), 4097);
+    assert!(rt; image.samples().iter().all(|s| *s == 7));
+    Ok(())
+}
+
+#[test]
 fn the_first_fault_of_a_header_is_answered(rt: HostRuntime) {
-    let cases: [(&[u8], PgmError); 26] = [
+    let cases: [(&[u8], PgmError); 39] = [
         (b"", PgmError::BadMagic),
         (b"P", PgmError::BadMagic),
         (b"P6\n1 1\n1\n1", PgmError::BadMagic),
-        (b"P5\n1 1\n1\n\x01", PgmError::BadMagic),
         (b" P2\n1 1\n1\n1", PgmError::BadMagic),
         (b"P2#x", PgmError::BadHeader),
         (b"P21 1 1 1", PgmError::BadHeader),
-        (b"P2\n# a comment\n1 1\n1\n1", PgmError::BadHeader),
+        (b"P5#x", PgmError::BadHeader),
+        (b"P5\n1#x\n1 1\n1", PgmError::BadHeader),
+        (b"P5\n1 # x\n#y", PgmError::Truncated),
+        (b"P5\n# never ended", PgmError::Truncated),
+        (b"P5\n1 1\n# never ended", PgmError::Truncated),
+        (b"P5", PgmError::Truncated),
+        (b"P5\n1 1\n255", PgmError::Truncated),
         (b"P2 x", PgmError::BadHeader),
         (b"P2 0x", PgmError::BadHeader),
         (b"P2 1 1 0#", PgmError::BadHeader),
@@ -56,12 +120,20 @@ fn the_first_fault_of_a_header_is_answered(rt: HostRuntime) {
         (b"P2 1 1 1", PgmError::Truncated),
         (b"P2\n0 1\n", PgmError::ZeroSize),
         (b"P2\n1 000 ", PgmError::ZeroSize),
-        (b"P2\n4097 1\n", PgmError::TooLarge),
-        (b"P2\n1 4097\n", PgmError::TooLarge),
+        (b"P5\n0 1\n", PgmError::ZeroSize),
+        (b"P5\n16385 1\n", PgmError::TooLarge),
+        (b"P5\n16385 x", PgmError::TooLarge),
+        (b"P2\n1 16385\n", PgmError::TooLarge),
+        (b"P5\n16384 4097\n", PgmError::TooLarge),
+        (b"P5\n16384 4097\n0\n", PgmError::TooLarge),
+        (b"P5\n4097 16384\n", PgmError::TooLarge),
+        (b"P5\n16384 4096\n", PgmError::Truncated),
         (b"P2\n4294967297 1\n", PgmError::TooLarge),
-        (b"P2\n0 4097\n", PgmError::ZeroSize),
+        (b"P2\n0 16385\n", PgmError::ZeroSize),
         (b"P2\n1 1\n0\n", PgmError::BadMaxval),
         (b"P2\n1 1\n65536\n", PgmError::BadMaxval),
+        (b"P5\n1 1\n0\n\x01", PgmError::BadMaxval),
+        (b"P5\n1 1\n65536\n\xff\xff", PgmError::BadMaxval),
         (b"P2\n1 1\n4294967297\n", PgmError::BadMaxval),
     ];
     for (text, fault) in &cases {
@@ -71,7 +143,7 @@ fn the_first_fault_of_a_header_is_answered(rt: HostRuntime) {
 
 #[test]
 fn the_first_fault_of_a_raster_is_answered(rt: HostRuntime) {
-    let cases: [(&[u8], PgmError); 14] = [
+    let cases: [(&[u8], PgmError); 24] = [
         (b"P2\n1 1\n9\n", PgmError::Truncated),
         (b"P2\n2 1\n9\n5 ", PgmError::Truncated),
         (b"P2\n2 2\n9\n1 2 3", PgmError::Truncated),
@@ -86,6 +158,22 @@ fn the_first_fault_of_a_raster_is_answered(rt: HostRuntime) {
         (b"P2\n1 1\n9\n5 x", PgmError::Trailing),
         (b"P2\n1 1\n9\n5 6", PgmError::Trailing),
         (b"P2\n1 1\n9\n5\n\n#", PgmError::Trailing),
+        (b"P5\n# CREATOR: x\n2 1\n255\n\x0a", PgmError::Truncated),
+        (
+            b"P5\n# CREATOR: x\n2 1\n255\n\x0a\x23\x00",
+            PgmError::Trailing,
+        ),
+        (
+            b"P5\n# CREATOR: x\n2 1\n255\r\n\x0a\x23",
+            PgmError::Trailing,
+        ),
+        (b"P5\n2 1\n9\n\x0a", PgmError::SampleRange),
+        (b"P5\n1 1\n9\n\x0a\x00", PgmError::SampleRange),
+        (b"P5\n1 1\n256\n\x01\x01", PgmError::SampleRange),
+        (b"P5\n1 1\n256\n\x02", PgmError::Truncated),
+        (b"P5\n2 1\n256\n\x00\x01\x02", PgmError::Truncated),
+        (b"P5\n1 1\n256\n\x01\x00\n", PgmError::Trailing),
+        (b"P5\n1 1\n256\n", PgmError::Truncated),
     ];
     for (text, fault) in &cases {
         assert_eq!(rt; read(rt.alloc(), text).err(), Some(*fault));
@@ -114,23 +202,24 @@ fn images_and_grids(rt: HostRuntime) -> Result<(), Fail> {
 }
 
 #[test]
-fn the_codes_of_the_refusals(rt: HostRuntime) -> Result<(), Fail> {
+fn messages_begin_with_the_code(rt: HostRuntime) -> Result<(), Fail> {
     let refusals = [
-        (PgmError::BadMagic, "P1: "),
-        (PgmError::BadHeader, "P2: "),
-        (PgmError::ZeroSize, "P3: "),
-        (PgmError::TooLarge, "P4: "),
-        (PgmError::BadMaxval, "P5: "),
-        (PgmError::Truncated, "P6: "),
-        (PgmError::SampleRange, "P7: "),
-        (PgmError::BadSample, "P8: "),
-        (PgmError::Trailing, "P9: "),
-        (PgmError::Memory, "P10: "),
-        (PgmError::Device, "P11: "),
+        PgmError::BadMagic,
+        PgmError::BadHeader,
+        PgmError::ZeroSize,
+        PgmError::TooLarge,
+        PgmError::BadMaxval,
+        PgmError::Truncated,
+        PgmError::SampleRange,
+        PgmError::BadSample,
+        PgmError::Trailing,
+        PgmError::Memory,
+        PgmError::Device,
     ];
-    for (refusal, code) in &refusals {
+    for refusal in &refusals {
         let text = refusal.to_string(rt.alloc())?;
-        assert!(rt; text.starts_with(code));
+        let rest = text.strip_prefix(refusal.code()).unwrap_or("");
+        assert!(rt; rest.starts_with(": "));
     }
     Ok(())
 }

@@ -1,5 +1,5 @@
 //! Writing raw files.
-ghost use Rattle.std.specs.Prelude.{◌≡◌, ◌≤◌, ◌++◌, length, string_bytes, All, OnOk, IfOk, IsOkUnless};
+ghost use Rattle.std.specs.Prelude.{◌≡◌, ◌+◌, ◌*◌, ◌<◌, ◌≤◌, ◌++◌, length, take, string_bytes, All, IfOk, IsOkUnless};
 ghost use Rattle.std.specs.List.{flat_map};
 ghost use Rattle.pgm_codec.specs.declared.error.PgmError.TheVariants as errors;
 ghost use Rattle.pgm_codec.specs.Writing.{sample_bytes, raw_header, raw_text};
@@ -8,34 +8,31 @@ use crate::error::PgmError;
 use crate::image::Image;
 use std::alloc::Global;
 
-/// Writes a sample at the end: one byte where `maxval` is below 256, else two, the more significant first.
-fn push_sample(out: &mut Vec<u8>, maxval: u16, sample: u16) -> Result<(), PgmError>
-    requires { sample ≤ maxval }
-    ensures bytes { OnOk result (out.new.items ≡ out.old.items ++ sample_bytes maxval sample) }
-    ensures only_memory { IsOkUnless result errors.Memory }
+// Writes samples of one byte each behind the first `at` bytes.
+fn put_narrow(out: &mut [u8], at: usize, maxval: u16, samples: &[u16])
+    requires narrow { maxval < 256 }
+    requires within { All (λ s. s ≤ maxval) samples.now }
+    requires room { at + length samples.now ≡ length out.old }
+    ensures { out.new ≡ take at out.old ++ flat_map (sample_bytes maxval) samples.now }
 {
-    if maxval >= 256 {
-        out.push((sample / 256) as u8)?;
-        out.push((sample % 256) as u8)?;
-    } else {
-        out.push(sample as u8)?;
+    for i in 0..samples.len() {
+        out[at + i] = samples[i] as u8;
     }
-    Ok(())
 }
 
-/// Writes the samples at the end.
-fn push_samples(out: &mut Vec<u8>, maxval: u16, samples: &[u16]) -> Result<(), PgmError>
-    requires { All (λ s. s ≤ maxval) samples.now }
-    ensures bytes { OnOk result (out.new.items ≡ out.old.items ++ flat_map (sample_bytes maxval) samples.now) }
-    ensures only_memory { IsOkUnless result errors.Memory }
+// Writes samples of two bytes each behind the first `at` bytes, the more significant byte first.
+fn put_wide(out: &mut [u8], at: usize, maxval: u16, samples: &[u16])
+    requires wide { 256 ≤ maxval }
+    requires room { at + length samples.now * 2 ≡ length out.old }
+    ensures { out.new ≡ take at out.old ++ flat_map (sample_bytes maxval) samples.now }
 {
-    for sample in samples {
-        push_sample(out, maxval, *sample)?;
+    for i in 0..samples.len() {
+        out[at + i * 2] = (samples[i] / 256) as u8;
+        out[at + i * 2 + 1] = (samples[i] % 256) as u8;
     }
-    Ok(())
 }
 
-/// The header of the raw file.
+// The header of the raw file.
 fn header(alloc: Global, image: &Image) -> Result<String, PgmError>
     ensures text { IfOk result (λ t. string_bytes t ≡ raw_header image.now) }
     ensures only_memory { IsOkUnless result errors.Memory }
@@ -46,7 +43,7 @@ fn header(alloc: Global, image: &Image) -> Result<String, PgmError>
 
 /// The raw file of an image, its text: `P5`, LF, width, blank, height, LF, maxval, LF, and the
 /// samples row by row from the top (Netpbm, pgm(5)). A sample is one byte where maxval is below 256, else
-/// two, the more significant first.
+/// two, the more significant first. Memory of its exact length is taken.
 ///
 /// Errors: P10.
 #[tactic(auto, unfolding(crate::specs::Writing::raw_text))]
@@ -55,8 +52,16 @@ pub fn write_raw(alloc: Global, image: &Image) -> Result<Vec<u8>, PgmError>
     ensures only_memory { IsOkUnless result errors.Memory }
 {
     let header = header(alloc, image)?;
-    let mut out = Vec::new(alloc);
+    let (maxval, samples) = (image.maxval(), image.samples());
+    let wide = maxval > 255;
+    let length = header.len() + samples.len() * if wide { 2 } else { 1 };
+    let mut out = Vec::with_capacity(alloc, length)?;
     out.extend_from_slice(header.as_bytes())?;
-    push_samples(&mut out, image.maxval(), image.samples())?;
+    out.resize(length, 0)?;
+    if wide {
+        put_wide(&mut out, header.len(), maxval, samples);
+    } else {
+        put_narrow(&mut out, header.len(), maxval, samples);
+    }
     Ok(out)
 }

@@ -1,4 +1,6 @@
-use crate::fault::{RunError, fault_line, status};
+mod words;
+
+use crate::run_error::{CoreError, RunError, fault_line, status};
 use crate::view::view_run;
 use edit_lang::EditError;
 use grid_core::Conn;
@@ -17,6 +19,8 @@ const STORED_VIEW: [u8; 16] = [
 
 const ROW: &str = "image\nP2\n5 1\n9\n3 5 2 5 4\n";
 
+const SQUARE: &str = "image\nP2\n5 5\n9\n9 9 9 9 9 9 9 9 9 9 9 9 9 9 9 9 9 9 9 9 9 9 9 9 9\n";
+
 const DIAGONAL: &str =
     "place 00000000-0000-0000-0000-000000000001 7 0:0-0\nimage\nP2\n2 2\n7\n7 0\n0 7\n";
 
@@ -28,19 +32,34 @@ fn source_of(alloc: Global, input: &str) -> Result<MemorySource, Fail> {
 fn shown(alloc: Global, conn: Conn, input: &str) -> Result<Vec<u8>, Fail> {
     let mut source = source_of(alloc, input)?;
     let mut sink = MemorySink::new(alloc);
-    view_run(alloc, &mut source, conn, &mut sink)?;
+    if view_run(alloc, &mut source, conn, &mut sink).is_err() {
+        return Err(Fail::new("the input is refused"));
+    }
     Ok(Vec::from_slice(alloc, sink.written())?)
 }
 
-// Why the input is refused; nothing may have been written.
-fn refused(rt: &impl Abort, alloc: Global, input: &str) -> Result<RunError, Fail> {
+// The text with the tags 1 and 2 written out where it has A and B.
+fn with_tags(alloc: Global, text: &str) -> Result<String, Fail> {
+    let mut written = String::new(alloc);
+    for letter in text.chars() {
+        match letter {
+            'A' => written.push_str("00000000-0000-0000-0000-000000000001")?,
+            'B' => written.push_str("00000000-0000-0000-0000-000000000002")?,
+            _ => written.push(letter)?,
+        }
+    }
+    Ok(written)
+}
+
+// The line and the status of a refused input; nothing may have been written.
+fn refused(rt: &impl Abort, alloc: Global, input: &str) -> Result<(String, u8), Fail> {
     let mut source = source_of(alloc, input)?;
     let mut sink = MemorySink::new(alloc);
     let outcome = view_run(alloc, &mut source, Conn::Four, &mut sink);
     assert_eq!(rt; sink.written().len(), 0, "{input}");
     match outcome {
         Ok(()) => Err(Fail::new("the input is accepted")),
-        Err(error) => Ok(error),
+        Err(error) => Ok((fault_line(alloc, &error)?, status(&error))),
     }
 }
 
@@ -49,14 +68,17 @@ fn worked_examples(rt: HostRuntime) -> Result<(), Fail> {
     let alloc = rt.alloc();
     let one = "place 00000000-0000-0000-0000-000000000001 9 0:1-1\n";
     let two = "place 00000000-0000-0000-0000-000000000002 3 0:4-4\n";
+    let gone = "withdraw 00000000-0000-0000-0000-000000000001\n";
     let cases = [
-        ("", "", [0, 0, 0, 0, 0]),
-        (one, "", [3, 5, 2, 2, 2]),
-        (one, two, [3, 5, 2, 3, 3]),
-        (one, one, [3, 5, 2, 2, 2]),
+        ("", "", "", [0, 0, 0, 0, 0]),
+        (one, "", "", [3, 5, 2, 2, 2]),
+        (one, two, "", [3, 5, 2, 3, 3]),
+        (one, one, "", [3, 5, 2, 2, 2]),
+        (one, two, gone, [2, 2, 2, 3, 3]),
+        (gone, two, one, [2, 2, 2, 3, 3]),
     ];
-    for (first, second, samples) in cases {
-        let input = format!(in alloc; "{first}{second}{ROW}")?;
+    for (first, second, third, samples) in cases {
+        let input = format!(in alloc; "{first}{second}{third}{ROW}")?;
         let file = shown(alloc, Conn::Four, input.as_str())?;
         assert_eq!(rt; file.len(), 14, "{input}");
         assert_eq!(rt; &file[..9], b"P5\n5 1\n9\n".as_slice());
@@ -64,6 +86,66 @@ fn worked_examples(rt: HostRuntime) -> Result<(), Fail> {
     }
     let stored = shown(alloc, Conn::Four, STORED)?;
     assert_eq!(rt; stored.as_slice(), STORED_VIEW.as_slice());
+    Ok(())
+}
+
+#[test]
+fn a_withdrawal_counts_in_either_order(rt: HostRuntime) -> Result<(), Fail> {
+    let alloc = rt.alloc();
+    let one = "place 00000000-0000-0000-0000-000000000001 9 0:1-1\n";
+    let spot = "disc 00000000-0000-0000-0000-000000000001 9 0:1+1\n";
+    let gone = "withdraw 00000000-0000-0000-0000-000000000001\n";
+    for stroke in [one, spot] {
+        for edits in [
+            [stroke, gone, "", ""],
+            [gone, stroke, "", ""],
+            [stroke, gone, stroke, gone],
+        ] {
+            let [first, second, third, fourth] = edits;
+            let input = format!(in alloc; "{first}{second}{third}{fourth}{ROW}")?;
+            let file = shown(alloc, Conn::Four, input.as_str())?;
+            assert_eq!(rt;
+                file.as_slice(),
+                b"P5\n5 1\n9\n\0\0\0\0\0".as_slice(),
+                "{input}"
+            );
+        }
+    }
+    Ok(())
+}
+
+#[test]
+fn a_disc_grows(rt: HostRuntime) -> Result<(), Fail> {
+    let alloc = rt.alloc();
+    for disc in ["5 2:2+2", "5 2:2+0", "5 0:0+1", "5 4:4+255"] {
+        let input = format!(in alloc;
+            "disc 00000000-0000-0000-0000-000000000001 {disc}\n{SQUARE}"
+        )?;
+        let file = shown(alloc, Conn::Four, input.as_str())?;
+        assert_eq!(rt; file.len(), 9 + 25, "{disc}");
+        assert_eq!(rt; &file[9..], [5; 25].as_slice(), "{disc}");
+    }
+    Ok(())
+}
+
+// A raw file with a comment, and what was written read again.
+#[test]
+fn raw_files_are_read(rt: HostRuntime) -> Result<(), Fail> {
+    let alloc = rt.alloc();
+    let edits = "place 00000000-0000-0000-0000-000000000001 9 0:1-1\nimage\n";
+    let commented = format!(in alloc; "{edits}P5\n# CREATOR: x\n5 1\n9\n\x03\x05\x02\x05\x04")?;
+    let first = shown(alloc, Conn::Four, commented.as_str())?;
+    assert_eq!(rt;
+        first.as_slice(),
+        b"P5\n5 1\n9\n\x03\x05\x02\x02\x02".as_slice()
+    );
+    let mut again = Vec::from_slice(alloc, edits.as_bytes())?;
+    again.extend_from_slice(&first)?;
+    let mut source = MemorySource::new(again);
+    let mut sink = MemorySink::new(alloc);
+    let again = view_run(alloc, &mut source, Conn::Four, &mut sink);
+    assert_eq!(rt; again, Ok(()));
+    assert_eq!(rt; sink.written(), first.as_slice());
     Ok(())
 }
 
@@ -96,36 +178,60 @@ fn runs_with_a_pixel_between_are_accepted(rt: HostRuntime) -> Result<(), Fail> {
 #[test]
 fn each_refusal_has_its_line_and_status(rt: HostRuntime) -> Result<(), Fail> {
     let alloc = rt.alloc();
-    let tag = "00000000-0000-0000-0000-000000000001";
     let cases = [
-        ("", "", "seedpaint: V1"),
-        ("9 0:1-2,0:3-4", ROW, "seedpaint: E3 1 S4"),
-        ("9 0:1", ROW, "seedpaint: E1 1"),
-        ("0 0:1-1", ROW, "seedpaint: E3 1 S1"),
+        ("", "seedpaint: V1"),
+        ("place A 9 0:1-2,0:3-4\nimage\n", "seedpaint: E3 1 S4"),
+        ("place A 9 0:1\nimage\n", "seedpaint: E1 1"),
+        ("place A 0 0:1-1\nimage\n", "seedpaint: E3 1 S1"),
         (
-            "9 0:5-5",
-            ROW,
-            "seedpaint: C1 00000000-0000-0000-0000-000000000001",
+            "place A 9 0:5-5\nimage\nP2\n5 1\n9\n3 5 2 5 4\n",
+            "seedpaint: C1 A",
         ),
-        ("9 0:1-1", "image\nP5\n1 1\n9\n\x00", "seedpaint: P1"),
-        ("9 0:1-1", "image\nP2\n1 1\n9\n10", "seedpaint: P7"),
+        ("place A 9 0:1-1\nimage\nP6\n1 1\n9\n\x00", "seedpaint: P1"),
+        ("place A 9 0:1-1\nimage\nP2\n1 1\n9\n10", "seedpaint: P7"),
+        ("place A 9 0:1-1\nimage\nP5\n1 1\n9\n\x0a", "seedpaint: P7"),
     ];
-    for (rest, file, line) in cases {
-        let input = if rest.is_empty() {
-            format!(in alloc; "")?
-        } else {
-            format!(in alloc; "place {tag} {rest}\n{file}")?
-        };
-        let error = refused(&rt, alloc, input.as_str())?;
-        assert_eq!(rt; fault_line(alloc, &error)?.as_str(), line);
-        assert_eq!(rt; status(&error), 1, "{line}");
+    for (input, line) in cases {
+        let input = with_tags(alloc, input)?;
+        let line = with_tags(alloc, line)?;
+        let (told, number) = refused(&rt, alloc, input.as_str())?;
+        assert_eq!(rt; told.as_str(), line.as_str(), "{input}");
+        assert_eq!(rt; number, 1, "{line}");
     }
-    let both = format!(in alloc; "place {tag} 3 0:1-1\nplace {tag} 4 0:1-1\n{ROW}")?;
-    let error = refused(&rt, alloc, both.as_str())?;
-    assert_eq!(rt;
-        fault_line(alloc, &error)?.as_str(),
-        "seedpaint: C2 00000000-0000-0000-0000-000000000001"
-    );
+    Ok(())
+}
+
+#[test]
+fn each_refused_line_is_named(rt: HostRuntime) -> Result<(), Fail> {
+    let alloc = rt.alloc();
+    let cases = [
+        ("place A 3 0:1-1\nplace A 4 0:1-1\n", "seedpaint: C2 A"),
+        ("place A 3 0:1-1\ndisc A 3 0:1+0\n", "seedpaint: C2 A"),
+        (
+            "place A 3 0:1-1\nwithdraw A\nplace A 4 0:1-1\n",
+            "seedpaint: C2 A",
+        ),
+        ("place A 3 0:1-1\nplace A 4 0:5-5\n", "seedpaint: C1 A"),
+        ("withdraw B\nplace B 3 0:5-5\n", "seedpaint: C1 B"),
+        (
+            "place B 3 0:1-1\nplace B 4 0:1-1\nplace A 3 0:5-5\n",
+            "seedpaint: C2 B",
+        ),
+        ("disc A 5 9:9+1\n", "seedpaint: C1 A"),
+        ("disc A 5 0:4+255\ndisc A 5 0:4+254\n", "seedpaint: C2 A"),
+        ("; a\ndisc A 5 2:2+256\n", "seedpaint: E3 2 S7"),
+        ("disc A 0 2:2+256\n", "seedpaint: E3 1 S1"),
+        ("withdraw zz\n", "seedpaint: E2 1"),
+        ("withdraw A A\n", "seedpaint: E1 1"),
+    ];
+    for (edits, line) in cases {
+        let edits = with_tags(alloc, edits)?;
+        let line = with_tags(alloc, line)?;
+        let input = format!(in alloc; "{edits}{ROW}")?;
+        let (told, number) = refused(&rt, alloc, input.as_str())?;
+        assert_eq!(rt; told.as_str(), line.as_str(), "{edits}");
+        assert_eq!(rt; number, 1, "{line}");
+    }
     Ok(())
 }
 
@@ -147,8 +253,8 @@ fn the_first_image_line_splits(rt: HostRuntime) -> Result<(), Fail> {
         ),
     ];
     for (input, line) in cases {
-        let error = refused(&rt, alloc, input)?;
-        assert_eq!(rt; fault_line(alloc, &error)?.as_str(), line, "{input}");
+        let (told, _) = refused(&rt, alloc, input)?;
+        assert_eq!(rt; told.as_str(), line, "{input}");
     }
     Ok(())
 }
@@ -168,8 +274,9 @@ fn other_statuses(rt: HostRuntime) -> Result<(), Fail> {
             1,
             "seedpaint: E3 3 S3",
         ),
+        (RunError::Core(CoreError::Memory), 3, "seedpaint: C4"),
         (
-            RunError::OutOfImage(Tag(255)),
+            RunError::Core(CoreError::OutOfImage(Tag(255))),
             1,
             "seedpaint: C1 00000000-0000-0000-0000-0000000000ff",
         ),

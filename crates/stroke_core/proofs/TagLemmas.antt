@@ -1,5 +1,6 @@
 -- The 16 bytes of a number of 128 bits, and the texts that spell them.
-use Rattle.std.proofs.Common.{◌≡◌, ℕ, zero, suc, ◌<◌, ◌^◌, length, Option, Some, None, All, get_or, refl, sym, ap, ◌∙◌, inl, arith}
+use Rattle.std.proofs.Common.{◌≡◌, ℕ, zero, suc, ◌<◌, ◌^◌, length, Option, Some, None, All, get_or}
+use Rattle.std.proofs.Common.{refl, sym, ap, ◌∙◌, inl, arith}
 use Rattle.std.specs.Int.{w128, byte_at, bytes_high_first, from_be_bytes, to_be_bytes}
 use Rattle.std.specs.Option.{option_map}
 use Rattle.uuid.specs.Text.{lower, parsed}
@@ -34,5 +35,6 @@ pub tag_of-text_of : (n : ℕ) → n < 2 ^ 128 → tag_of (text_of n) ≡ Some n
 tag_of-text_of n fits =
     let bytes = to_be_bytes w128 n in
     let small : All (λ b. b < 256) bytes = all_fit bytes (λ k _. bytes_fit 16 n k) in
-    let found : Some bytes ≡ parsed (text_of n) = parses_hyphenated lower bytes (inl refl) (length-bytes_high_first 16 n) small in
+    let found : Some bytes ≡ parsed (text_of n) =
+    parses_hyphenated lower bytes (inl refl) (length-bytes_high_first 16 n) small in
     ap (option_map (from_be_bytes w128)) (sym found) ∙ ap Some (from_be_bytes-to_be_bytes_16 n fits)

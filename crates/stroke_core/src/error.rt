@@ -1,4 +1,5 @@
 ghost use Rattle.std.specs.Prelude.{◌≡◌};
+ghost use Rattle.stroke_core.specs.Code.{code_of};
 ghost use Rattle.stroke_core.specs.declared.error.StrokeError.TheVariants as errors;
 
 use crate::run::Run;
@@ -26,6 +27,30 @@ pub enum StrokeError {
     /// S6: out of memory.
     #[error("S6: out of memory")]
     Memory,
+    /// S7: the radius of a disc is above 255.
+    #[error("S7: the radius is above 255")]
+    BadRadius,
+    /// S8: a kind that is neither runs nor a disc. No call of this crate answers it.
+    #[error("S8: the kind is neither runs nor a disc")]
+    BadKind,
+}
+
+impl StrokeError {
+    /// The code, as `S4`.
+    pub fn code(self) -> &'static str
+        ensures { result.now ≡ code_of self }
+    {
+        match self {
+            StrokeError::BadLevel => "S1",
+            StrokeError::NoRuns => "S2",
+            StrokeError::TooManyRuns => "S3",
+            StrokeError::RunOrder => "S4",
+            StrokeError::BadTag => "S5",
+            StrokeError::Memory => "S6",
+            StrokeError::BadRadius => "S7",
+            StrokeError::BadKind => "S8",
+        }
+    }
 }
 
 impl From<AllocError> for StrokeError {

@@ -1,26 +1,35 @@
-ghost use Rattle.std.specs.Prelude.{◌≡◌, ℕ, ◌≤◌, ◌↔◌, List, IsTrue, IsOk, IfOk, IfErr, MatchOption};
-ghost use Rattle.stroke_core.specs.Seed.{AreOrdered, IsBefore, IsCanonical, IsRefusal, Fits, covers};
-ghost use Rattle.stroke_core.specs.declared.run.Run.{Run};
+ghost use Rattle.std.specs.Prelude.{◌≡◌, ◌≤◌, ◌↔◌, IsTrue, IsOk, IfOk, IfErr, MatchOption};
+ghost use Rattle.stroke_core.specs.Seed.{Seed, Runs, Disc, AreOrdered, IsBefore, IsCanonical};
+ghost use Rattle.stroke_core.specs.Seed.{IsRefusal, Fits, covers, shape_covers, kind_of, runs_of};
+ghost use Rattle.stroke_core.specs.Seed.{byte_len_of, max_level};
 ghost use Rattle.stroke_core.specs.declared.error.StrokeError.{StrokeError};
 
 use crate::error::{RefusedRuns, StrokeError};
+use crate::kind::Kind;
 use crate::run::Run;
-use grid_core::Pixel;
+use crate::shape::Shape;
+use grid_core::{Memory, Pixel};
+use std::alloc::Global;
 use std::marker::Model;
 
 /// The greatest level of a stroke. The least is 1.
 pub const MAX_LEVEL: u32 = 65535;
 
-/// The greatest number of runs of a stroke. The least is 1.
+/// The greatest number of runs of a stroke of runs. The least is 1.
 pub const MAX_RUNS: usize = 160;
 
-/// A seed: a grey level painted on runs of pixels, which neither touch nor overlap. The level
-/// is 1 to [`MAX_LEVEL`]. There are 1 to [`MAX_RUNS`] runs, which rise by row and then by column, and at
-/// least one pixel lies between two runs of one row.
+/// The greatest radius of a disc, in pixels. The least is 0.
+pub const MAX_RADIUS: u32 = 255;
+
+/// A seed: a grey level, 1 to [`MAX_LEVEL`], painted on runs of pixels or on a disc.
+///
+/// Of runs there are 1 to [`MAX_RUNS`]. They rise by row and then by column, and neither touch nor overlap:
+/// at least one pixel lies between two runs of one row. A disc has a radius of at most [`MAX_RADIUS`] pixels,
+/// and the pixels that lie at most so far away from its centre.
 #[derive(Debug, Drop)]
 pub struct Stroke {
     level: u16,
-    runs: Vec<Run>,
+    shape: Shape,
 }
 
 impl Model for Stroke {
@@ -28,9 +37,11 @@ impl Model for Stroke {
 
     ghost Value = { Seed };
 
-    ghost view = { λ s. record { level = s.level; runs = s.runs.items } };
+    ghost use Rattle.stroke_core.specs.Held.{shape_of};
 
-    ghost invariant = { λ s. IsCanonical (record { level = s.level; runs = s.runs.items }) };
+    ghost view = { λ s. record { level = s.level; shape = shape_of s.shape } };
+
+    ghost invariant = { λ s. IsCanonical (record { level = s.level; shape = shape_of s.shape }) };
 }
 
 impl Stroke {
@@ -40,18 +51,40 @@ impl Stroke {
     /// [`MAX_LEVEL`], S2 where there are no runs, S3 where there are more than [`MAX_RUNS`], S4 where a run
     /// ends before it starts or is not in order with the run before it.
     pub fn new(level: u32, runs: Vec<Run>) -> Result<Stroke, RefusedRuns>
-        ensures ok { IfOk result (λ s. s ≡ record { level = level; runs = runs.items }) }
-        ensures canonical { IsOk result ↔ IsCanonical (record { level = level; runs = runs.items }) }
-        ensures why { IfErr result (λ e. IsRefusal level runs.items e.why) }
+        ensures ok { IfOk result (λ s. s ≡ record { level = level; shape = Runs runs.items }) }
+        ensures canonical { IsOk result ↔ IsCanonical (record { level = level; shape = Runs runs.items }) }
+        ensures why { IfErr result (λ e. IsRefusal (record { level = level; shape = Runs runs.items }) e.why) }
         ensures returned { IfErr result (λ e. e.runs.items ≡ runs.items) }
     {
         match refusal(level, &runs) {
             Some(why) => Err(RefusedRuns { why, runs }),
             None => Ok(Stroke {
                 level: level as u16,
-                runs,
+                shape: Shape::Runs(runs),
             }),
         }
+    }
+
+    /// The stroke of a level and the disc round the pixel in column `x` and row `y` with the radius `r`. It
+    /// takes no memory.
+    ///
+    /// Errors, the first that applies: S1 where the level is not 1 to [`MAX_LEVEL`], S7 where the radius is
+    /// above [`MAX_RADIUS`].
+    pub fn disc(level: u32, x: u16, y: u16, r: u32) -> Result<Stroke, StrokeError>
+        ensures ok { IfOk result (λ s. s ≡ record { level = level; shape = Disc x y r }) }
+        ensures canonical { IsOk result ↔ IsCanonical (record { level = level; shape = Disc x y r }) }
+        ensures why { IfErr result (λ e. IsRefusal (record { level = level; shape = Disc x y r }) e) }
+    {
+        if !is_level(level) {
+            return Err(StrokeError::BadLevel);
+        }
+        if r > MAX_RADIUS {
+            return Err(StrokeError::BadRadius);
+        }
+        Ok(Stroke {
+            level: level as u16,
+            shape: Shape::Disc { x, y, r: r as u8 },
+        })
     }
 
     /// The level, 1 to [`MAX_LEVEL`].
@@ -62,46 +95,129 @@ impl Stroke {
         self.level
     }
 
-    /// The runs, rising by row and then by column.
-    pub fn runs(&self) -> &[Run]
-        ensures values { result.now ≡ self.now.runs }
+    /// Of which kind the stroke is.
+    pub fn kind(&self) -> Kind
+        ensures value { result ≡ kind_of self.now.shape }
         ensures canonical { IsCanonical self.now }
     {
-        &self.runs
+        match &self.shape {
+            Shape::Runs(_) => Kind::Runs,
+            Shape::Disc { x, y, r } => Kind::Disc {
+                x: *x,
+                y: *y,
+                r: *r,
+            },
+        }
     }
 
-    /// Whether a run has the pixel.
+    /// The runs, rising by row and then by column. A disc has none.
+    pub fn runs(&self) -> &[Run]
+        ensures values { result.now ≡ runs_of self.now.shape }
+        ensures canonical { IsCanonical self.now }
+    {
+        match &self.shape {
+            Shape::Runs(runs) => runs,
+            Shape::Disc { .. } => &[],
+        }
+    }
+
+    /// Whether the stroke is painted on the pixel.
     pub fn covers(&self, p: Pixel) -> bool
         ensures { result ≡ covers self.now p }
     {
-        self.runs.iter().any(|run| {
-            u32::from(run.y) == p.y && u32::from(run.x0) <= p.x && p.x <= u32::from(run.x1)
-        })
+        match &self.shape {
+            Shape::Runs(runs) => is_in_runs(runs, p),
+            Shape::Disc { x, y, r } => is_in_disc(*x, *y, *r, p),
+        }
     }
 
-    /// Whether every run lies in an image of `w` columns and `h` rows.
+    /// Whether every run, or the centre of the disc, lies in an image of `w` columns and `h` rows.
     pub fn fits(&self, w: u32, h: u32) -> bool
         ensures { IsTrue result ↔ Fits w h self.now }
     {
-        self.runs
-            .iter()
-            .all(|run| u32::from(run.y) < h && u32::from(run.x1) < w)
+        match &self.shape {
+            Shape::Runs(runs) => runs
+                .iter()
+                .all(|run| u32::from(run.y) < h && u32::from(run.x1) < w),
+            Shape::Disc { x, y, .. } => u32::from(*x) < w && u32::from(*y) < h,
+        }
     }
 
-    /// Whether both strokes have the same level and the same runs.
+    /// How many bytes the stroke takes in a frame, with its tag: 21 and 6 for each run, or 25 for a disc.
+    pub fn byte_len(&self) -> usize
+        ensures { result ≡ byte_len_of self.now.shape }
+    {
+        match &self.shape {
+            Shape::Runs(runs) => 21 + 6 * runs.len(),
+            Shape::Disc { .. } => 25,
+        }
+    }
+
+    /// A stroke of the same level, kind and pixels.
+    ///
+    /// Errors: out of memory.
+    pub fn copy(&self, alloc: Global) -> Result<Stroke, Memory>
+        ensures { IfOk result (λ s. s ≡ self.now) }
+    {
+        let shape = match &self.shape {
+            Shape::Runs(runs) => Shape::Runs(Vec::from_slice(alloc, runs)?),
+            Shape::Disc { x, y, r } => Shape::Disc {
+                x: *x,
+                y: *y,
+                r: *r,
+            },
+        };
+        Ok(Stroke {
+            level: self.level,
+            shape,
+        })
+    }
+
+    /// Whether both strokes have the same level, and the same runs or the same disc. A disc and runs over
+    /// the same pixels are not the same.
     pub fn is_same(&self, other: &Stroke) -> bool
         ensures { IsTrue result ↔ (self.now ≡ other.now) }
     {
-        self.runs == other.runs && self.level == other.level
+        self.level() == other.level() && self.kind() == other.kind() && self.runs() == other.runs()
     }
+}
+
+/// Whether a level may be a stroke's.
+fn is_level(level: u32) -> bool
+    ensures { IsTrue result ↔ ((1 ≤ level) × (level ≤ max_level)) }
+{
+    level >= 1 && level <= MAX_LEVEL
+}
+
+/// Whether some run has the pixel.
+fn is_in_runs(runs: &[Run], p: Pixel) -> bool
+    ensures { result ≡ shape_covers (Runs runs.now) p }
+{
+    runs.iter().any(|run| {
+        u32::from(run.y) == p.y && u32::from(run.x0) <= p.x && p.x <= u32::from(run.x1)
+    })
+}
+
+/// Whether a pixel lies at most `r` away from the pixel in column `x` and row `y`.
+#[tactic(auto, using(crate::proofs::SeedLemmas::far_in_one_coordinate))]
+fn is_in_disc(x: u16, y: u16, r: u8, p: Pixel) -> bool
+    ensures { result ≡ shape_covers (Disc x y r) p }
+{
+    let dx = u32::from(x).abs_diff(p.x);
+    let dy = u32::from(y).abs_diff(p.y);
+    let r = u32::from(r);
+    if dx > r || dy > r {
+        return false;
+    }
+    dx * dx + dy * dy <= r * r
 }
 
 /// Why the level and the runs make no stroke, or `None` where they make one.
 fn refusal(level: u32, runs: &[Run]) -> Option<StrokeError>
-    ensures { MatchOption result (IsCanonical (record { level = level; runs = runs.now }))
-        (IsRefusal level runs.now) }
+    ensures { MatchOption result (IsCanonical (record { level = level; shape = Runs runs.now }))
+        (IsRefusal (record { level = level; shape = Runs runs.now })) }
 {
-    if level == 0 || level > MAX_LEVEL {
+    if !is_level(level) {
         Some(StrokeError::BadLevel)
     } else if runs.is_empty() {
         Some(StrokeError::NoRuns)
@@ -139,8 +255,7 @@ fn is_before(run: Run, others: &[Run]) -> bool
     }
 }
 
-/// A level and runs are refused for one reason only.
+/// A level and a shape are refused for one reason only.
 pub fn one_refusal()
-    ensures { (level : ℕ) (runs : List Run) (d e : StrokeError)
-        → IsRefusal level runs d → IsRefusal level runs e → d ≡ e }
+    ensures { (s : Seed) (d e : StrokeError) → IsRefusal s d → IsRefusal s e → d ≡ e }
 {}

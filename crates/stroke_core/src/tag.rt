@@ -30,7 +30,7 @@ impl Tag {
         Tag::parse_ascii(text.as_bytes())
     }
 
-    /// Reads the same texts from bytes.
+    /// Reads a UUID from the bytes of its simple, hyphenated, URN or braced form, in digits of either case.
     ///
     /// Errors: S5 where the bytes are no such text. It takes no memory.
     pub fn parse_ascii(text: &[u8]) -> Result<Tag, StrokeError>

@@ -72,6 +72,99 @@ fn pixels_of_a_stroke(rt: HostRuntime) -> Result<(), Fail> {
     Ok(())
 }
 
+// How many pixels of an image of 5 by 5 the stroke covers.
+fn covered(stroke: &Stroke) -> usize {
+    (0..25)
+        .filter(|i| stroke.covers(Pixel { x: i % 5, y: i / 5 }))
+        .count()
+}
+
+#[test]
+fn pixels_of_a_disc(rt: HostRuntime) -> Result<(), Fail> {
+    for (x, y, r, count) in [(2, 2, 2, 13), (2, 2, 0, 1), (0, 0, 1, 3), (4, 4, 255, 25)] {
+        let disc = Stroke::disc(5, x, y, r)?;
+        assert_eq!(rt; covered(&disc), count, "round {x} {y} within {r}");
+    }
+    let corner = Stroke::disc(5, 0, 0, 1)?;
+    for (x, y) in [(0, 0), (1, 0), (0, 1)] {
+        assert!(rt; corner.covers(Pixel { x, y }), "at {x} {y}");
+    }
+    let widest = Stroke::disc(5, 65535, 0, 255)?;
+    assert!(rt; widest.covers(Pixel { x: 65790, y: 0 }));
+    assert!(rt; !widest.covers(Pixel { x: 65791, y: 0 }));
+    assert!(rt;
+        !widest.covers(Pixel {
+            x: u32::MAX,
+            y: u32::MAX
+        })
+    );
+    Ok(())
+}
+
+#[test]
+fn a_disc_fits_where_its_centre_is(rt: HostRuntime) -> Result<(), Fail> {
+    let disc = Stroke::disc(5, 4, 2, 255)?;
+    assert!(rt; disc.fits(5, 3));
+    assert!(rt; !disc.fits(4, 3));
+    assert!(rt; !disc.fits(5, 2));
+    Ok(())
+}
+
+#[test]
+fn refusals_of_a_disc(rt: HostRuntime) -> Result<(), Fail> {
+    for (level, r, why) in [
+        (0, 256, StrokeError::BadLevel),
+        (65536, 0, StrokeError::BadLevel),
+        (1, 256, StrokeError::BadRadius),
+        (65535, u32::MAX, StrokeError::BadRadius),
+    ] {
+        let refused = Stroke::disc(level, 0, 0, r).err();
+        assert_eq!(rt; refused, Some(why), "at level {level}, within {r}");
+    }
+    let disc = Stroke::disc(65535, 7, 65535, 255)?;
+    assert_eq!(rt; disc.level(), 65535);
+    assert_eq!(rt;
+        disc.kind(),
+        Kind::Disc {
+            x: 7,
+            y: 65535,
+            r: 255
+        }
+    );
+    assert!(rt; disc.runs().is_empty());
+    Ok(())
+}
+
+#[test]
+fn copies_and_lengths(rt: HostRuntime) -> Result<(), Fail> {
+    let alloc = rt.alloc();
+    let line = Stroke::new(9, vec![in alloc; run(2, 1, 3)]?)?;
+    let lines = Stroke::new(9, Vec::from_slice(alloc, &[run(2, 1, 3), run(3, 0, 0)])?)?;
+    let disc = Stroke::disc(9, 2, 2, 2)?;
+    for (stroke, byte_len) in [(&line, 27), (&lines, 33), (&disc, 25)] {
+        assert_eq!(rt; stroke.byte_len(), byte_len);
+        let copy = stroke.copy(alloc)?;
+        assert!(rt; copy.is_same(stroke));
+        assert_eq!(rt; copy.kind(), stroke.kind());
+        assert!(rt; copy.runs() == stroke.runs());
+    }
+    assert_eq!(rt; line.kind(), Kind::Runs);
+    Ok(())
+}
+
+#[test]
+fn a_disc_and_a_run_over_one_pixel_differ(rt: HostRuntime) -> Result<(), Fail> {
+    let dot = Stroke::disc(9, 3, 1, 0)?;
+    let line = Stroke::new(9, vec![in rt.alloc(); run(1, 3, 3)]?)?;
+    assert_eq!(rt; covered(&dot), 1);
+    assert_eq!(rt; covered(&line), 1);
+    assert!(rt; dot.covers(Pixel { x: 3, y: 1 }) && line.covers(Pixel { x: 3, y: 1 }));
+    assert!(rt; !dot.is_same(&line) && !line.is_same(&dot));
+    assert!(rt; !dot.is_same(&Stroke::disc(9, 3, 1, 1)?));
+    assert!(rt; !dot.is_same(&Stroke::disc(8, 3, 1, 0)?));
+    Ok(())
+}
+
 #[test]
 fn tags_in_text(rt: HostRuntime) -> Result<(), Fail> {
     let tag = Tag(0x67e5504410b1426f9247bb680e5fe0c8);
@@ -87,6 +180,7 @@ fn tags_in_text(rt: HostRuntime) -> Result<(), Fail> {
         assert_eq!(rt; Tag::parse_ascii(text.as_bytes()), Ok(tag));
     }
     assert_eq!(rt; Tag::parse("zz"), Err(StrokeError::BadTag));
+    assert_eq!(rt; StrokeError::BadTag.code(), "S5");
     assert_eq!(rt; Tag::parse_ascii(&[255; 32]), Err(StrokeError::BadTag));
     let one = Tag(1).text(rt.alloc())?;
     assert_eq!(rt; one.as_str(), "00000000-0000-0000-0000-000000000001");

@@ -19,6 +19,11 @@ loop-rest-preserved g c =
     let rest = c.loop-rest.rest.now in
     let n = c.in_ok-n.n in
     record {
-      taken = (done ++ take n rest, moves_front _ done rest n split, Appends-trans _ _ _ _ _ taken c.in_ok-n.ensures.bytes);
+      taken = (
+        done ++ take n rest,
+        moves_front _ done rest n split,
+        Appends-trans _ _ _ _ _ taken
+            c.in_ok-n.ensures.bytes,
+      );
       failures = c.in_ok-n.ensures.failures ∙ c.loop-rest.invariant.failures;
     }

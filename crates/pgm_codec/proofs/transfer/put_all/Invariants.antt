@@ -5,7 +5,8 @@ use Rattle.pgm_codec.proofs.transfer.put_all.Given as goal
 
 abbrev pub invariant-loop-rest : goal.invariant-loop-rest
 invariant-loop-rest g l = record {
-  taken : (done : List ℕ) × (l.initial.rest ≡ done ++ l.rest) × Appends (g.K.Sink.written l.initial.sink) (g.K.Sink.written l.sink) done;
+  taken : (done : List ℕ) × (l.initial.rest ≡ done ++ l.rest)
+      × Appends (g.K.Sink.written l.initial.sink) (g.K.Sink.written l.sink) done;
   failures : g.K.Sink.failures l.sink ≡ g.K.Sink.failures l.initial.sink;
 }
 

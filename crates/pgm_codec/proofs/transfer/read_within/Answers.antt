@@ -1,33 +1,30 @@
-use Rattle.std.proofs.Common.{◌≡◌, ◌++◌, take, sym, ◌∙◌, subst, arith, refl, rules}
+use Rattle.std.proofs.Common.{◌≡◌, ◌+◌, take, sym, ap, ◌∙◌, subst, arith, rules, length-drop}
 use Rattle.std.specs.Io.KnownBytes.{Consumes}
-use Rattle.std.proofs.KnownBytes.{Consumes-nil, Consumes-trans}
+use Rattle.std.proofs.KnownBytes.{Consumes-trans}
 use Rattle.std.proofs.lemmas.List.{places, with_items_is}
+use Rattle.pgm_codec.proofs.Pieces.{filled_more}
 use Rattle.pgm_codec.proofs.transfer.read_within.Goals as goal
-
-pub loop-pull-init : goal.loop-pull-init
-loop-pull-init g c = record {
-  consumed = subst (Consumes _ _) (sym c.new-bytes.ensures.items) (Consumes-nil _);
-  at_least = omega arith;
-  at_most = omega arith;
-  failures = refl;
-  ends = refl;
-  room = omega (arith, c.in_ok-piece.ensures);
-}
 
 pub loop-pull-preserved : goal.loop-pull-preserved
 loop-pull-preserved g c =
     let before = c.loop-pull.invariant in
     let pulled = c.in_ok-n.ensures in
     let n = c.in_ok-n.n in
-    let grown_by = c.in_ok-extend_from_slice.ensures.items in
-    let slice_is = c.deref.ensures.value in
-    let filled = with_items_is c.loop-pull.piece c.pull.new.buf (search (rules, places)) in
-    let grown : c.loop-pull.bytes.items ++ take n c.pull.new.buf ≡ c.extend_from_slice.new.self.items = cc in
+    let filled = c.loop-pull.filled in
+    let now = c.pull_behind.new.bytes in
+    let items = with_items_is c.make_room.new.bytes now (search (rules, places)) in
+    let front : take filled now ≡ take filled c.loop-pull.bytes.items =
+    pulled.front ∙ ap (take filled) c.deref_mut.ensures.value ∙ c.in_ok-make_room.ensures.front in
+    let room = c.in_ok-make_room.ensures.room in
+    let len = c.deref_mut.ensures.len in
     record {
-      consumed = subst (Consumes _ _) grown (Consumes-trans _ _ _ _ _ before.consumed pulled.bytes.0);
+      consumed = subst (Consumes _ _) (filled_more c.loop-pull.bytes.items now filled n front
+          ∙ ap (take (filled + n)) (sym items))
+          (Consumes-trans _ _ _ _ _ before.consumed pulled.bytes.0);
       at_least = omega (arith, pulled.pulls);
       at_most = omega (arith, pulled.pulls);
       failures = pulled.failures ∙ before.failures;
       ends = pulled.ends.1 (omega arith) ∙ before.ends;
-      room = before.room;
+      filled = omega (arith, pulled.bound.0, length-drop filled now, pulled.len, len, room);
+      room = omega (arith, room);
     }

@@ -1,5 +1,13 @@
-use Rattle.seedpaint.proofs.NoView.{no_view_of_a_refused_input}
+use Rattle.seedpaint.proofs.LowerLaws.{ReadingLaws}
+use Rattle.seedpaint.proofs.Refusals.{no_view_of_a_refused_input}
 use Rattle.seedpaint.proofs.laws.no_view_of_a_refused_input.Goals as goal
 
 pub returns : goal.returns
-returns c = no_view_of_a_refused_input
+returns c = no_view_of_a_refused_input (record {
+  one_list = c.one_meaning.ensures.one_list;
+  no_edit_fault = c.one_meaning.ensures.no_fault;
+  one_edit_fault = c.one_meaning.ensures.one_fault;
+  one_image = c.one_image.ensures;
+  no_pgm_fault = c.one_fault.ensures.none;
+  one_pgm_fault = c.one_fault.ensures.first;
+}) c.at_most_one_join_of_a_list.ensures

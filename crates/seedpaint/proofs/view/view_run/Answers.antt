@@ -1,10 +1,16 @@
-use Rattle.std.proofs.Common.{◌≡◌, List, ℕ, Err, inr, refl, ap, subst}
+use Rattle.std.proofs.Common.{◌≡◌, List, ℕ, Result, Err, inr, refl, ap, subst}
 use Rattle.std.proofs.lemmas.Result.{err_from_is_err_and}
 use Rattle.pgm_codec.specs.Writing.{raw_text}
+use Rattle.pgm_codec.specs.declared.error.PgmError.{PgmError}
 use Rattle.pgm_codec.specs.declared.error.PgmError.TheVariants.{Device}
+use Rattle.seedpaint.specs.declared.run_error.RunError.{RunError}
+use Rattle.seedpaint.specs.declared.run_error.RunError.TheVariants.{Pgm}
 use Rattle.seedpaint.specs.View.{IsImageOfView}
-use Rattle.seedpaint.proofs.Viewing.{same_device}
 use Rattle.seedpaint.proofs.view.view_run.Goals as goal
+
+-- the device's fault under its `Err`
+same_device : {T : Type 0} (e : PgmError) → ◌≡◌ {A = Result T RunError} (Err (Pgm e)) (Err (Pgm Device)) → e ≡ Device
+same_device e same = cc
 
 pub returns-in_err-write_to-clause-written : goal.returns-in_err-write_to-clause-written
 returns-in_err-write_to-clause-written g c =

@@ -8,5 +8,9 @@ returns-else-n-eq0-clause-bytes c =
     let s = c.self.inside in
     let n = c.min-n.result in
     let fits : n ≤ length (drop s.at s.bytes.items) = search (rules, places) in
-    let copied : c.copy_from_slice.new.self ≡ take n (drop s.at s.bytes.items) = search (rules, places) in
-    (ap (λ r. r.left) (sym c.self.view_is) ∙ copied_piece s.bytes.items c.copy_from_slice.new.self c.args.buf.now s.at n fits copied, λ none room. absurd (c.if-n-eq0.false none))
+    let copied : c.copy_from_slice.new.self ≡ take n (drop s.at s.bytes.items) = search (rules, places) in (
+      ap (λ r. r.left) (sym c.self.view_is)
+          ∙ copied_piece s.bytes.items c.copy_from_slice.new.self c.args.buf.now s.at n fits copied,
+      λ none room.
+          absurd (c.if-n-eq0.false none),
+    )

@@ -1,0 +1,34 @@
+//! The marker of a state, made anew.
+
+ghost use Rattle.std.specs.Prelude.{IfOk};
+ghost use Rattle.grid_core.specs.declared.conn.Conn.{Conn};
+ghost use Rattle.grid_core.specs.Path.{domain_of};
+ghost use Rattle.grid_core.specs.Raster.{IsBelow, value_at};
+ghost use Rattle.stroke_lattice.specs.State.{StateFits};
+ghost use Rattle.marker_tiles.specs.Marker.{IsMarker};
+
+use crate::paint::paint;
+use grid_core::{Grid, Memory};
+use std::alloc::Global;
+use stroke_lattice::State;
+
+/// The marker of a mask and a state, `w * h` cells as the mask: at each pixel the lesser of the mask and of the
+/// greatest level of a live stroke that covers the pixel, 0 where none does.
+///
+/// Each stroke of the state, live or not, has to fit the mask.
+///
+/// Errors: out of memory.
+#[tactic(auto, using(crate::proofs::Marking::under_way_start))]
+pub fn marker(alloc: Global, mask: &Grid, state: &State) -> Result<Grid, Memory>
+    requires { StateFits mask.now.width mask.now.height state.now }
+    ensures below { IfOk result (λ m. IsBelow m mask.now) }
+    ensures marks { IfOk result (λ m. (conn : Conn)
+        → IsMarker (domain_of mask.now conn) (value_at mask.now) state.now (value_at m)) }
+{
+    let cells = vec![in alloc; 0; mask.cells().len()]?;
+    let mut marker = Grid::from_cells(mask.width(), mask.height(), cells);
+    for (_, stroke) in state.live() {
+        paint(&mut marker, mask, stroke);
+    }
+    Ok(marker)
+}

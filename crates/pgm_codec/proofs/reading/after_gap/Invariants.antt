@@ -1,9 +1,0 @@
-use Rattle.std.proofs.Common.{◌≡◌, length}
-use Rattle.pgm_codec.specs.Reading.{after_gap}
-use Rattle.pgm_codec.proofs.reading.after_gap.Given as goal
-
-abbrev pub invariant-loop-rest : goal.invariant-loop-rest
-invariant-loop-rest l = after_gap l.rest ≡ after_gap l.text
-
-abbrev pub decreases-loop-rest : goal.decreases-loop-rest
-decreases-loop-rest l = length l.rest

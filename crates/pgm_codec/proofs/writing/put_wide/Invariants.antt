@@ -1,0 +1,11 @@
+use Rattle.std.proofs.Common.{◌≡◌, ◌+◌, ◌*◌, ◌++◌, length, take}
+use Rattle.std.specs.List.{flat_map}
+use Rattle.pgm_codec.specs.Writing.{sample_bytes}
+use Rattle.pgm_codec.proofs.writing.put_wide.Given as goal
+
+abbrev pub invariant-loop-i : goal.invariant-loop-i
+invariant-loop-i l = record {
+  len : length l.out ≡ length l.initial.out;
+  written : take (l.at + l.i * 2) l.out ≡ take l.at l.initial.out ++ flat_map (sample_bytes l.maxval)
+      (take l.i l.samples);
+}

@@ -1,0 +1,159 @@
+//! The samples of a file, in decimal numbers or in bytes.
+ghost use Rattle.std.specs.Prelude.{◌≡◌, ℕ, ◌*◌, ◌<◌, ◌≤◌, false, true, nat_lt, length, slice_index, All, IfOk};
+ghost use Rattle.std.specs.List.{list_any};
+ghost use Rattle.pgm_codec.specs.declared.grammar.Encoding.TheVariants.{Plain, Raw};
+ghost use Rattle.pgm_codec.specs.Reading.{Gives, GivesOrMemory, sample_at, sample_width, raw_value, samples_at, end_at};
+
+use crate::error::PgmError;
+use crate::grammar::{Encoding, Place};
+use crate::numbers::{after_gap, is_white, number};
+use std::alloc::{AllocError, Global};
+
+// The next sample of a plain raster, and the text behind its digits.
+#[tactic(auto, unfolding(crate::specs::Reading::sample_at, crate::specs::Reading::sample_end))]
+fn plain_sample(text: &[u8], maxval: u16) -> Result<(u16, &[u8]), PgmError>
+    ensures read { Gives (λ x. (x.0, x.1.now)) result (sample_at Plain maxval text.now) }
+    ensures range { IfOk result (λ x. x.0 ≤ maxval) }
+{
+    let (n, rest) = number(Place::Raster, text, PgmError::BadSample)?;
+    if n > u32::from(maxval) {
+        return Err(PgmError::SampleRange);
+    }
+    match rest {
+        [b, ..] if !is_white(*b) => Err(PgmError::BadSample),
+        _ => Ok((n as u16, rest)),
+    }
+}
+
+// As many samples of a plain raster, and the text behind the last.
+fn plain_samples(
+    alloc: Global,
+    text: &[u8],
+    maxval: u16,
+    count: usize,
+) -> Result<(Vec<u16>, &[u8]), PgmError>
+    ensures read { GivesOrMemory (λ x. (x.0.items, x.1.now)) result (samples_at Plain maxval count text.now) }
+    ensures length { IfOk result (λ x. length x.0.items ≡ count) }
+    ensures range { IfOk result (λ x. All (λ s. s ≤ maxval) x.0.items) }
+{
+    // A sample takes two bytes, but for the last.
+    let mut samples = Vec::with_capacity(alloc, count.min(text.len() / 2 + 1))?;
+    let mut rest = text;
+    for _ in 0..count {
+        let (s, after) = plain_sample(rest, maxval)?;
+        samples.push(s)?;
+        rest = after;
+    }
+    Ok((samples, rest))
+}
+
+// The values of single bytes.
+fn widen(bytes: &[u8], samples: &mut [u16])
+    requires { length samples.old ≤ length bytes.now }
+    ensures len { length samples.new ≡ length samples.old }
+    ensures values { (k : ℕ) → k < length samples.old → slice_index samples.new k ≡ raw_value false bytes.now k }
+{
+    for i in 0..samples.len() {
+        samples[i] = u16::from(bytes[i]);
+    }
+}
+
+// The values of pairs of bytes, the more significant first.
+fn join(bytes: &[u8], samples: &mut [u16])
+    requires { length samples.old * 2 ≤ length bytes.now }
+    ensures len { length samples.new ≡ length samples.old }
+    ensures values { (k : ℕ) → k < length samples.old → slice_index samples.new k ≡ raw_value true bytes.now k }
+{
+    for i in 0..samples.len() {
+        samples[i] = u16::from(bytes[i * 2]) * 256 + u16::from(bytes[i * 2 + 1]);
+    }
+}
+
+// How many bytes a raw sample has.
+fn sample_width(wide: bool) -> usize
+    ensures { result ≡ sample_width wide }
+{
+    if wide { 2 } else { 1 }
+}
+
+// The first values of a raw raster, of two bytes each or of one.
+fn raw_values(alloc: Global, text: &[u8], wide: bool, count: usize) -> Result<Vec<u16>, AllocError>
+    requires { count * sample_width wide ≤ length text.now }
+    ensures length { IfOk result (λ v. length v.items ≡ count) }
+    ensures values { IfOk result (λ v. (k : ℕ) → k < count → slice_index v.items k ≡ raw_value wide text.now k) }
+{
+    let mut samples = vec![in alloc; 0; count]?;
+    if wide {
+        join(text, &mut samples);
+    } else {
+        widen(text, &mut samples);
+    }
+    Ok(samples)
+}
+
+// Whether some sample is above maxval.
+fn is_any_above(samples: &[u16], maxval: u16) -> bool
+    ensures { result ≡ list_any (λ s. nat_lt maxval s) samples.now }
+{
+    samples.iter().any(|s| *s > maxval)
+}
+
+// As many samples of a raw raster, and the text behind the last. It takes no more memory than the
+// samples need that are there.
+fn raw_samples(
+    alloc: Global,
+    text: &[u8],
+    maxval: u16,
+    count: usize,
+) -> Result<(Vec<u16>, &[u8]), PgmError>
+    ensures read { GivesOrMemory (λ x. (x.0.items, x.1.now)) result (samples_at Raw maxval count text.now) }
+    ensures length { IfOk result (λ x. length x.0.items ≡ count) }
+    ensures range { IfOk result (λ x. All (λ s. s ≤ maxval) x.0.items) }
+{
+    let wide = maxval > 255;
+    let width = sample_width(wide);
+    let whole = count.min(text.len() / width);
+    let samples = raw_values(alloc, text, wide, whole)?;
+    if is_any_above(&samples, maxval) {
+        return Err(PgmError::SampleRange);
+    }
+    if whole < count {
+        return Err(PgmError::Truncated);
+    }
+    Ok((samples, &text[whole * width..]))
+}
+
+// As many samples, and the text behind the last.
+pub(crate) fn samples(
+    alloc: Global,
+    encoding: Encoding,
+    text: &[u8],
+    maxval: u16,
+    count: usize,
+) -> Result<(Vec<u16>, &[u8]), PgmError>
+    ensures read { GivesOrMemory (λ x. (x.0.items, x.1.now)) result (samples_at encoding maxval count text.now) }
+    ensures length { IfOk result (λ x. length x.0.items ≡ count) }
+    ensures range { IfOk result (λ x. All (λ s. s ≤ maxval) x.0.items) }
+{
+    match encoding {
+        Encoding::Plain => plain_samples(alloc, text, maxval, count),
+        Encoding::Raw => raw_samples(alloc, text, maxval, count),
+    }
+}
+
+// Nothing is left but what may follow the last sample.
+//
+// Errors: P9.
+#[tactic(auto, unfolding(crate::specs::Reading::end_at, crate::specs::Reading::nothing_at))]
+pub(crate) fn end(encoding: Encoding, text: &[u8]) -> Result<(), PgmError>
+    ensures { Gives (λ _. tt) result (end_at encoding text.now) }
+{
+    let rest = match encoding {
+        Encoding::Plain => after_gap(Place::Raster, text),
+        Encoding::Raw => text,
+    };
+    match rest {
+        [] => Ok(()),
+        [_, ..] => Err(PgmError::Trailing),
+    }
+}

@@ -1,0 +1,4 @@
+pub mod Cells
+pub mod Flooding
+pub mod Seeding
+pub mod Spreading

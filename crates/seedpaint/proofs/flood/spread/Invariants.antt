@@ -1,9 +1,0 @@
-use Rattle.std.proofs.Common.{◌+◌, length}
-use Rattle.seedpaint.specs.Flood.{missing}
-use Rattle.seedpaint.proofs.Spreading.{IsSpreading}
-use Rattle.seedpaint.proofs.flood.spread.Given as goal
-
-abbrev pub invariant-loop-beside : goal.invariant-loop-beside
-invariant-loop-beside l =
-    IsSpreading l.source.conn l.source.mask.now l.source.marker.now l.level l.fn.pixel l.beside-items
-    (length l.fn.waiting.items + missing l.level l.fn.image.cells) l.beside-index l.image l.waiting.items

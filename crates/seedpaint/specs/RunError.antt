@@ -1,0 +1,89 @@
+-- What the program says of a fault: one line, and an exit status.
+use Rattle.std.specs.Prelude.{ℕ, List, ◌++◌, codes, decimal}
+use Rattle.edit_lang.specs.declared.error.EditError.{EditError}
+use Rattle.edit_lang.specs.declared.error.EditError.TheVariants as edit
+use Rattle.edit_lang.specs.Code.{code_of as edit_code_of}
+use Rattle.pgm_codec.specs.declared.error.PgmError.{PgmError}
+use Rattle.pgm_codec.specs.declared.error.PgmError.TheVariants as pgm
+use Rattle.pgm_codec.specs.Code.{code_of as pgm_code_of}
+use Rattle.stroke_core.specs.Code.{code_of as stroke_code_of}
+use Rattle.stroke_core.specs.Tag.{text_of}
+use Rattle.stroke_lattice.specs.declared.error.StateError.{StateError}
+use Rattle.stroke_lattice.specs.declared.error.StateError.TheVariants as state
+use Rattle.seedpaint.specs.declared.run_error.CoreError.{CoreError}
+use Rattle.seedpaint.specs.declared.run_error.CoreError.TheVariants as core
+use Rattle.seedpaint.specs.declared.run_error.RunError.{RunError}
+use Rattle.seedpaint.specs.declared.run_error.RunError.TheVariants.{Usage, NoImage, Edit, Pgm, Core, Memory}
+
+-- why a state was not merged, as the fault of a delta
+abbrev pub refused_state : StateError → CoreError
+refused_state (state.Conflict tag) = core.Conflict tag
+refused_state state.Memory = core.Memory
+
+-- the code of a refused delta
+abbrev pub core_code_of : CoreError → List ℕ
+core_code_of (core.OutOfImage tag) = codes "C1"
+core_code_of (core.Conflict tag) = codes "C2"
+core_code_of core.Memory = codes "C4"
+
+-- the code, the number of the line, and of a stroke its code
+abbrev pub edit_text : EditError → List ℕ
+edit_text (edit.BadLine n) = edit_code_of (edit.BadLine n) ++ codes " " ++ decimal n
+edit_text (edit.BadTag n) = edit_code_of (edit.BadTag n) ++ codes " " ++ decimal n
+edit_text (edit.BadStroke n why) = edit_code_of (edit.BadStroke n why) ++ codes " " ++ decimal n ++ codes " " ++ stroke_code_of why
+edit_text edit.Memory = edit_code_of edit.Memory
+
+-- the code, and the text of the tag that is named
+abbrev pub core_text : CoreError → List ℕ
+core_text (core.OutOfImage tag) = core_code_of (core.OutOfImage tag) ++ codes " " ++ text_of tag
+core_text (core.Conflict tag) = core_code_of (core.Conflict tag) ++ codes " " ++ text_of tag
+core_text core.Memory = core_code_of core.Memory
+
+-- what stands behind `seedpaint: `
+abbrev pub code_text : RunError → List ℕ
+code_text Usage = codes "usage"
+code_text NoImage = codes "V1"
+code_text (Edit e) = edit_text e
+code_text (Pgm e) = pgm_code_of e
+code_text (Core e) = core_text e
+code_text Memory = codes "memory"
+
+-- the line of a fault, without its LF
+abbrev pub fault_text : RunError → List ℕ
+fault_text e = codes "seedpaint: " ++ code_text e
+
+-- the status of a fault in the edit text: 3 for memory, 1 for a text that is refused
+abbrev pub edit_status : EditError → ℕ
+edit_status (edit.BadLine n) = 1
+edit_status (edit.BadTag n) = 1
+edit_status (edit.BadStroke n why) = 1
+edit_status edit.Memory = 3
+
+-- the status of a fault in the image file: 3 for memory and a device, 1 for a file that is refused
+abbrev pub pgm_status : PgmError → ℕ
+pgm_status pgm.BadMagic = 1
+pgm_status pgm.BadHeader = 1
+pgm_status pgm.ZeroSize = 1
+pgm_status pgm.TooLarge = 1
+pgm_status pgm.BadMaxval = 1
+pgm_status pgm.Truncated = 1
+pgm_status pgm.SampleRange = 1
+pgm_status pgm.BadSample = 1
+pgm_status pgm.Trailing = 1
+pgm_status pgm.Memory = 3
+pgm_status pgm.Device = 3
+
+-- the status of a refused delta: 3 for memory, 1 for a stroke that is refused
+abbrev pub core_status : CoreError → ℕ
+core_status (core.OutOfImage tag) = 1
+core_status (core.Conflict tag) = 1
+core_status core.Memory = 3
+
+-- 2 for words on the command line, 3 for memory and devices, 1 for an input that is refused
+abbrev pub status_of : RunError → ℕ
+status_of Usage = 2
+status_of NoImage = 1
+status_of (Edit e) = edit_status e
+status_of (Pgm e) = pgm_status e
+status_of (Core e) = core_status e
+status_of Memory = 3

@@ -1,0 +1,55 @@
+-- What the words of the command line say.
+use Rattle.std.specs.Prelude.{◌≡◌, ◌⊎◌, [], List, Option, Some, None, String, map, drop, codes, true, string_bytes}
+use Rattle.std.specs.Iterator.{Drains}
+use Rattle.std.specs.Vec.Iter.{into_iter_steps}
+use Rattle.std.specs.declared.vec.IntoIter.{IntoIter}
+use Rattle.clap.specs.Words.{App, Row, Rule, Text, first_of, fault_of, new_app, new_rule, subcommand_of, with_rule, with_subcommand}
+use Rattle.clap.specs.Simple.{on_top}
+use Rattle.grid_core.specs.declared.conn.Conn.{Conn}
+use Rattle.grid_core.specs.declared.conn.Conn.TheVariants.{Four, Eight}
+use Rattle.seedpaint.specs.declared.words.Call.{Call}
+use Rattle.seedpaint.specs.declared.words.Call.TheVariants.{View}
+
+-- the option `--conn`, which takes one value
+abbrev pub conn_option : Rule
+conn_option = record (new_rule (codes "conn")) { long = Some (codes "conn") }
+
+-- the subcommand `view`, with that option alone
+abbrev pub view_command : App
+view_command = with_rule (new_app (codes "view")) conn_option
+
+-- the program: its words begin behind its name, they have to name a subcommand, and they can ask for no help
+abbrev pub program : App
+program = with_subcommand (on_top (λ top. record top {
+  no_binary_name = true;
+  disable_help_flag = true;
+  disable_help_subcommand = true;
+  subcommand_required = true;
+}) (new_app (codes "seedpaint"))) view_command.top
+
+-- the value of `--conn` names this connectivity; where there is none, it is that of four neighbours
+abbrev pub ConnIs : Option Text → Conn → Type 0
+ConnIs None conn = conn ≡ Four
+ConnIs (Some value) conn = ((value ≡ codes "4") × (conn ≡ Four)) ⊎ ((value ≡ codes "8") × (conn ≡ Eight))
+
+-- the value of `--conn` names no connectivity
+abbrev pub NamesNoConn : Option Text → Type 0
+NamesNoConn value = (conn : Conn) → ConnIs value conn → ⊥
+
+-- the subcommand that the words name, with what they give its options, is this call
+abbrev pub IsCall : Option (Text × List Row) → Call → Type 0
+IsCall named (View conn) =
+    (rows : List Row) × (named ≡ Some (codes "view", rows)) × ConnIs (first_of (codes "conn") rows) conn
+
+-- the words say this call: no word says `view` with four neighbours, and in others clap finds no fault and reads it
+abbrev pub Says : List Text → Call → Type 0
+Says words call = ((words ≡ []) × (call ≡ View Four))
+    ⊎ ((fault_of program words ≡ []) × IsCall (subcommand_of program words) call)
+
+-- the words say no call
+abbrev pub IsUsage : List Text → Type 0
+IsUsage words = (call : Call) → Says words call → ⊥
+
+-- the arguments of a process give these words behind the first, which is the program's name
+abbrev pub GivesWords : {Z : Type 0} → IntoIter (String Z) Z → List Text → Type 0
+GivesWords args words = (all : List _) × Drains into_iter_steps args all × (words ≡ map string_bytes (drop 1 all))

@@ -1,0 +1,226 @@
+//! Why a run ended, and how the program says so.
+
+ghost use Rattle.std.specs.Prelude.{◌≡◌, ◌++◌, IfOk, OnOk, codes, decimal, string_bytes};
+ghost use Rattle.stroke_core.specs.Tag.{text_of};
+ghost use Rattle.seedpaint.specs.RunError.{fault_text, edit_text, core_text, core_code_of, refused_state, status_of, edit_status, pgm_status, core_status};
+ghost use Rattle.seedpaint.specs.declared.run_error.RunError.TheVariants as errors;
+
+use edit_lang::EditError;
+use grid_core::Memory;
+use pgm_codec::PgmError;
+use std::alloc::Global;
+use stroke_core::Tag;
+use stroke_lattice::StateError;
+use thiserror::Error;
+
+/// Why deltas can not all be merged. The first delta that can not be is meant.
+#[derive(Clone, Copy, Debug, PartialEq, Eq, Error)]
+pub enum CoreError {
+    /// C1: the stroke of this tag does not fit the image. It is the least such tag of the delta.
+    #[error("C1: a stroke does not fit the image")]
+    OutOfImage(Tag),
+    /// C2: another stroke before it has this tag. It is the least such tag of the delta.
+    #[error("C2: two strokes have one tag")]
+    Conflict(Tag),
+    /// C4: out of memory.
+    #[error("C4: out of memory")]
+    Memory,
+}
+
+impl CoreError {
+    /// The code: C1, C2 or C4.
+    pub fn code(self) -> &'static str
+        ensures { result.now ≡ core_code_of self }
+    {
+        match self {
+            CoreError::OutOfImage(_) => "C1",
+            CoreError::Conflict(_) => "C2",
+            CoreError::Memory => "C4",
+        }
+    }
+}
+
+impl From<StateError> for CoreError {
+    ghost from_gives = { λ e f. f ≡ refused_state e };
+
+    fn from(e: StateError) -> CoreError {
+        match e {
+            StateError::Conflict(tag) => CoreError::Conflict(tag),
+            StateError::Memory => CoreError::Memory,
+        }
+    }
+}
+
+/// Why a run ended without its image.
+#[derive(Clone, Copy, Debug, PartialEq, Eq, Error)]
+pub enum RunError {
+    /// The words of the command line ask for nothing that the program does.
+    #[error("usage")]
+    Usage,
+    /// V1: the input has no line `image`.
+    #[error("V1: there is no image line")]
+    NoImage,
+    /// E1 to E4: the edit text before that line.
+    #[error("{0}")]
+    Edit(EditError),
+    /// P1 to P11: the image file behind it, or a device.
+    #[error("{0}")]
+    Pgm(PgmError),
+    /// C1, C2 and C4: the strokes and withdrawals can not all be merged.
+    #[error("{0}")]
+    Core(CoreError),
+    /// Out of memory, outside reading, merging and writing.
+    #[error("out of memory")]
+    Memory,
+}
+
+impl From<EditError> for RunError {
+    ghost from_gives = { λ e f. f ≡ errors.Edit e };
+
+    fn from(e: EditError) -> RunError {
+        RunError::Edit(e)
+    }
+}
+
+impl From<PgmError> for RunError {
+    ghost from_gives = { λ e f. f ≡ errors.Pgm e };
+
+    fn from(e: PgmError) -> RunError {
+        RunError::Pgm(e)
+    }
+}
+
+impl From<CoreError> for RunError {
+    ghost from_gives = { λ e f. f ≡ errors.Core e };
+
+    fn from(e: CoreError) -> RunError {
+        RunError::Core(e)
+    }
+}
+
+impl From<Memory> for RunError {
+    ghost from_gives = { λ _ f. f ≡ errors.Memory };
+
+    fn from(_e: Memory) -> RunError {
+        RunError::Memory
+    }
+}
+
+/// The one line that the program writes on standard error, without its LF: `seedpaint: ` and the code.
+/// After E1 and E2 a blank and the number of the line, after E3 also a blank and the code of the stroke,
+/// after C1 and C2 a blank and the tag's text.
+///
+/// Errors: out of memory.
+pub fn fault_line(alloc: Global, error: &RunError) -> Result<String, Memory>
+    ensures { IfOk result (λ line. string_bytes line ≡ fault_text error.now) }
+{
+    let mut line = String::from_str(alloc, "seedpaint: ")?;
+    match error {
+        RunError::Usage => line.push_str("usage")?,
+        RunError::NoImage => line.push_str("V1")?,
+        RunError::Edit(e) => push_edit_fault(alloc, &mut line, e)?,
+        RunError::Pgm(e) => line.push_str(e.code())?,
+        RunError::Core(e) => push_core_fault(alloc, &mut line, e)?,
+        RunError::Memory => line.push_str("memory")?,
+    }
+    Ok(line)
+}
+
+/// The exit status of the program: 1 for an input that is refused, 2 for words on the command line, 3 for
+/// want of memory and for a device that failed. A run that writes its image has status 0.
+pub fn status(error: &RunError) -> u8
+    ensures { result ≡ status_of error.now }
+{
+    match error {
+        RunError::Usage => 2,
+        RunError::NoImage => 1,
+        RunError::Edit(e) => edit_status(e),
+        RunError::Pgm(e) => pgm_status(e),
+        RunError::Core(e) => core_status(e),
+        RunError::Memory => 3,
+    }
+}
+
+fn edit_status(error: &EditError) -> u8
+    ensures { result ≡ edit_status error.now }
+{
+    match error {
+        EditError::BadLine(_) | EditError::BadTag(_) | EditError::BadStroke(_, _) => 1,
+        EditError::Memory => 3,
+    }
+}
+
+fn pgm_status(error: &PgmError) -> u8
+    ensures { result ≡ pgm_status error.now }
+{
+    match error {
+        PgmError::BadMagic
+        | PgmError::BadHeader
+        | PgmError::ZeroSize
+        | PgmError::TooLarge
+        | PgmError::BadMaxval
+        | PgmError::Truncated
+        | PgmError::SampleRange
+        | PgmError::BadSample
+        | PgmError::Trailing => 1,
+        PgmError::Memory | PgmError::Device => 3,
+    }
+}
+
+fn core_status(error: &CoreError) -> u8
+    ensures { result ≡ core_status error.now }
+{
+    match error {
+        CoreError::OutOfImage(_) | CoreError::Conflict(_) => 1,
+        CoreError::Memory => 3,
+    }
+}
+
+// Adds the code of a fault in the edit text, with the number of its line.
+fn push_edit_fault(alloc: Global, line: &mut String, error: &EditError) -> Result<(), Memory>
+    ensures { OnOk result (string_bytes line.new ≡ string_bytes line.old ++ edit_text error.now) }
+{
+    line.push_str(error.code())?;
+    match error {
+        EditError::BadLine(n) | EditError::BadTag(n) => push_number(alloc, line, *n),
+        EditError::BadStroke(n, why) => {
+            push_number(alloc, line, *n)?;
+            line.push_str(" ")?;
+            line.push_str(why.code())?;
+            Ok(())
+        }
+        EditError::Memory => Ok(()),
+    }
+}
+
+// Adds the code of a refused delta, with the tag that is named.
+fn push_core_fault(alloc: Global, line: &mut String, error: &CoreError) -> Result<(), Memory>
+    ensures { OnOk result (string_bytes line.new ≡ string_bytes line.old ++ core_text error.now) }
+{
+    line.push_str(error.code())?;
+    match error {
+        CoreError::OutOfImage(tag) => push_tag(alloc, line, *tag),
+        CoreError::Conflict(tag) => push_tag(alloc, line, *tag),
+        CoreError::Memory => Ok(()),
+    }
+}
+
+// Adds a blank and the text of a tag.
+fn push_tag(alloc: Global, line: &mut String, tag: Tag) -> Result<(), Memory>
+    ensures { OnOk result (string_bytes line.new ≡ string_bytes line.old ++ codes " " ++ text_of tag) }
+{
+    line.push_str(" ")?;
+    let text = tag.text(alloc).map_err(|_| Memory)?;
+    line.push_str(text.as_str())?;
+    Ok(())
+}
+
+// Adds a blank and a number in decimal.
+fn push_number(alloc: Global, line: &mut String, n: u64) -> Result<(), Memory>
+    ensures { OnOk result (string_bytes line.new ≡ string_bytes line.old ++ codes " " ++ decimal n) }
+{
+    line.push_str(" ")?;
+    let digits = n.to_string(alloc)?;
+    line.push_str(digits.as_str())?;
+    Ok(())
+}

@@ -1,0 +1,10 @@
+pub mod Lists
+pub mod Decide
+pub mod Joins
+pub mod Joining
+pub mod Views
+pub mod Walking
+pub mod Picking
+pub mod Comparing
+pub mod Growing
+pub mod Refusing

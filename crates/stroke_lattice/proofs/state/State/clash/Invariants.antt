@@ -1,0 +1,7 @@
+use Rattle.stroke_lattice.proofs.Walking.{StrokesLeft}
+use Rattle.stroke_lattice.proofs.Comparing.{HasNoOther}
+use Rattle.stroke_lattice.proofs.state.State.clash.Given as goal
+
+-- the strokes so far do not clash
+abbrev pub invariant-loop-tag : goal.invariant-loop-tag
+invariant-loop-tag l = StrokesLeft (HasNoOther l.self) l.delta l.tag-iterator
