@@ -1,6 +1,6 @@
 -- The rows around a pixel hold its neighbours, and no other pixel.
 use Rattle.std.proofs.Common.{◌≡◌, ℕ, ◌+◌, ◌-◌, ◌<◌, ◌≤◌, Bool, true, false, List, [], ◌++◌, refl, ap, subst, arith}
-use Rattle.std.proofs.Common.{inl, inr, ◌⊎◌}
+use Rattle.std.proofs.Common.{inl, inr, ◌⊎◌, rules}
 use Rattle.std.specs.Prelude.{◌&&◌, nat_lt, if◌then◌else◌, Contains}
 use Rattle.std.proofs.lemmas.Bool.{cases_lt, ltb-true, lt-ltb}
 use Rattle.std.proofs.lemmas.List.Elements.{Contains-append_left, Contains-append_right, Contains-append_cases}
@@ -9,7 +9,7 @@ use Rattle.grid_core.specs.declared.conn.Conn.{Conn}
 use Rattle.grid_core.specs.declared.conn.Conn.TheVariants.{Four, Eight}
 use Rattle.grid_core.specs.declared.pixel.Pixel.{Pixel}
 use Rattle.grid_core.specs.Raster.{IsInside}
-use Rattle.grid_core.specs.Neighbours.{apart, AreNeighbours}
+use Rattle.grid_core.specs.Neighbours.{apart, AreNeighbours, IsInRasterOrder}
 use Rattle.grid_core.specs.Rows.{has_diagonals, pixel_if, row_around, rows_around}
 use Rattle.grid_core.proofs.Pixels.{same_pixel}
 
@@ -248,3 +248,7 @@ neighbours_are_around conn w h p q beside inside =
             (row_has w p.x p.y true false q (own_columns conn w h p q beside inside row)))
       ]
     ]
+
+-- the rows stand in raster order
+pub around_in_order : (conn : Conn) (w h : ℕ) (p : Pixel) → IsInRasterOrder (rows_around conn w h p)
+around_in_order conn w h p = search rules

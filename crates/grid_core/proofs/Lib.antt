@@ -3,3 +3,8 @@ pub mod Reach
 pub mod Images
 pub mod Around
 pub mod Cells
+pub mod GivenBack
+pub mod Rectangles
+pub mod Spans
+pub mod Tilings
+pub mod TilesBeside

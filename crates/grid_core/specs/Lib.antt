@@ -3,6 +3,10 @@ pub mod Neighbours
 pub mod Rows
 pub mod Path
 pub mod Reconstruction
+pub mod Rects
+pub mod Tiles
+pub mod TileLaws
 pub mod Laws
 pub mod RasterLaws
 pub mod Code
+pub mod Lending

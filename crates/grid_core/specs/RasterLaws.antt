@@ -1,7 +1,10 @@
 -- Laws of images, as statements. Public functions have them as their contracts.
-use Rattle.std.specs.Prelude.{◌≡◌, ◌≢◌, ◌≤◌, ℕ}
+use Rattle.std.specs.Prelude.{◌≡◌, ◌≢◌, ◌≤◌, ◌↔◌, ℕ, Contains}
+use Rattle.grid_core.specs.declared.conn.Conn.{Conn}
 use Rattle.grid_core.specs.declared.pixel.Pixel.{Pixel}
 use Rattle.grid_core.specs.Raster.{Raster, IsInside, IsFilled, IsBelow, value_at, with_value}
+use Rattle.grid_core.specs.Neighbours.{AreNeighbours, IsInRasterOrder}
+use Rattle.grid_core.specs.Rows.{rows_around}
 
 -- a new value at a pixel is read back there
 abbrev pub SetIsRead : Type 0
@@ -30,3 +33,10 @@ abbrev pub EachPixelBelow : Type 0
 EachPixelBelow =
     (r s : Raster) → IsFilled r → r.width ≡ s.width → r.height ≡ s.height
     → ((p : Pixel) → IsInside r.width r.height p → value_at r p ≤ value_at s p) → IsBelow r s
+
+-- the rows around a pixel are its neighbours in the image, in raster order
+abbrev pub NeighboursByRows : Type 0
+NeighboursByRows =
+    (conn : Conn) (width height : ℕ) (p : Pixel) → IsInside width height p
+    → ((q : Pixel) → Contains (rows_around conn width height p) q ↔ (AreNeighbours conn p q × IsInside width height q))
+    × IsInRasterOrder (rows_around conn width height p)

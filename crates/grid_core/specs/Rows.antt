@@ -1,5 +1,4 @@
--- The neighbours of a pixel row by row, as the private functions list them. `IsInRasterOrder` and
--- `AreNeighbours` say what the list is.
+-- The neighbours of a pixel row by row, as a list. `NeighboursByRows` says what the list is.
 use Rattle.std.specs.Prelude.{ℕ, ◌+◌, ◌-◌, Bool, true, false, ◌&&◌, nat_lt, if◌then◌else◌, List, [], ◌∷◌, ◌++◌}
 use Rattle.grid_core.specs.declared.conn.Conn.{Conn}
 use Rattle.grid_core.specs.declared.conn.Conn.TheVariants.{Four, Eight}

@@ -1,6 +1,8 @@
 ghost use Rattle.std.specs.Prelude.{◌≡◌, ◌*◌, ◌<◌, ◌⊎◌, ◌↔◌, length, replicate, IsTrue, IfOk, IsErrOf};
+ghost use Rattle.std.specs.Borrow.{sem};
 ghost use Rattle.grid_core.specs.Code.{code_of};
 ghost use Rattle.grid_core.specs.declared.grid.GridError.TheVariants as errors;
+ghost use Rattle.grid_core.specs.Lending.{LendsCells};
 ghost use Rattle.grid_core.specs.Raster.{IsInside, IsImageSize, IsSized, IsBelow, index_of, value_at, with_value};
 
 use crate::memory::Memory;
@@ -65,6 +67,22 @@ impl<T: Drop> From<AllocFailed<T>> for GridError {
     }
 }
 
+/// Whether an image may have these sides, as an error where it may not: G1 where a side is 0, else G2.
+pub(crate) fn check_size(w: u32, h: u32) -> Result<(), GridError>
+    ensures ok { IfOk result (λ _. IsImageSize w h) }
+    ensures zero { IsErrOf result errors.ZeroSize ↔ ((w ≡ 0) ⊎ (h ≡ 0)) }
+    ensures large { IsErrOf result errors.TooLarge ↔ ((0 < w) × (0 < h) × (IsImageSize w h → ⊥)) }
+    ensures size_alone { IsErrOf result errors.Memory → ⊥ }
+{
+    if w == 0 || h == 0 {
+        return Err(GridError::ZeroSize);
+    }
+    if !is_image_size(w, h) {
+        return Err(GridError::TooLarge);
+    }
+    Ok(())
+}
+
 /// A value for each pixel of an image: `w * h` cells of 32 bits, row by row from the top, each row from
 /// the left. Sides are 1 to [`MAX_SIDE`], with at most [`MAX_PIXELS`] pixels.
 #[derive(Debug, Drop)]
@@ -96,12 +114,7 @@ impl Grid {
         ensures zero { IsErrOf result errors.ZeroSize ↔ ((w ≡ 0) ⊎ (h ≡ 0)) }
         ensures large { IsErrOf result errors.TooLarge ↔ ((0 < w) × (0 < h) × (IsImageSize w h → ⊥)) }
     {
-        if w == 0 || h == 0 {
-            return Err(GridError::ZeroSize);
-        }
-        if !is_image_size(w, h) {
-            return Err(GridError::TooLarge);
-        }
+        check_size(w, h)?;
         let cells = vec![in alloc; fill; w as usize * h as usize]?;
         Ok(Grid { w, h, cells })
     }
@@ -136,6 +149,15 @@ impl Grid {
         ensures sized { IsSized self.now }
     {
         &self.cells
+    }
+
+    /// The values, row by row from the top, to be changed in place.
+    pub fn cells_mut(&mut self) -> &mut [u32]
+        ensures* writes_back { sem 𝓛 (LendsCells self.entry result) }
+        ensures values { result.now ≡ self.old.cells }
+        ensures sized { IsSized self.old }
+    {
+        self.cells.as_mut_slice()
     }
 
     // Where the value of a pixel stands among the cells.

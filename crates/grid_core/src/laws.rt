@@ -3,8 +3,11 @@
 ghost use Rattle.grid_core.specs.Laws.{AtMostOneReconstruction, ReachesLowerLevels, ReachesLevelZero};
 ghost use Rattle.grid_core.specs.Laws.{ReachIsWithinMask, ReachRisesWithMarker, RaiseKeepsLawful};
 ghost use Rattle.grid_core.specs.Laws.{ClosedLawfulIsReconstruction, LawfulLiesBetween};
+ghost use Rattle.grid_core.specs.Lending.{CellsGivenBack};
+ghost use Rattle.grid_core.specs.TileLaws.{EachPixelInOneTile, TilesLieInside, NeighboursLieInTouchingTiles};
+ghost use Rattle.grid_core.specs.TileLaws.{RectPixelsLieInRect, RectPixelsLieInside, TilePixels, NeighboursInRect};
 ghost use Rattle.grid_core.specs.RasterLaws.{SetIsRead, SetKeepsOthers, EqualPixelsEqualImages, BelowAtEachPixel};
-ghost use Rattle.grid_core.specs.RasterLaws.{EachPixelBelow};
+ghost use Rattle.grid_core.specs.RasterLaws.{EachPixelBelow, NeighboursByRows};
 
 /// A new value at a pixel is read back there.
 pub fn set_is_read()
@@ -14,6 +17,11 @@ pub fn set_is_read()
 /// A new value at a pixel leaves every other pixel as it was.
 pub fn set_keeps_others()
     ensures { SetKeepsOthers }
+{}
+
+/// An image whose cells were lent to be changed has afterwards just the values that are then in them.
+pub fn cells_given_back()
+    ensures { CellsGivenBack }
 {}
 
 /// Images of one size with equal values at each pixel are equal.
@@ -69,4 +77,44 @@ pub fn closed_lawful_is_reconstruction()
 /// A lawful image lies between the marker and the reconstruction.
 pub fn lawful_lies_between()
     ensures { LawfulLiesBetween }
+{}
+
+/// Each pixel of the image lies in the rectangle of its tile and of no other.
+pub fn each_pixel_in_one_tile()
+    ensures { EachPixelInOneTile }
+{}
+
+/// Each tile has a pixel, and lies in the image.
+pub fn tiles_lie_inside()
+    ensures { TilesLieInside }
+{}
+
+/// Two neighbouring pixels lie in one tile or in tiles that touch.
+pub fn neighbours_lie_in_touching_tiles()
+    ensures { NeighboursLieInTouchingTiles }
+{}
+
+/// The pixels of a rectangle are those of the image that lie in it.
+pub fn rect_pixels_lie_in_rect()
+    ensures { RectPixelsLieInRect }
+{}
+
+/// The pixels of a tile's rectangle are those of the image that lie in the tile.
+pub fn tile_pixels()
+    ensures { TilePixels }
+{}
+
+/// Pixels of a rectangle are neighbours in it where they are neighbours in the image.
+pub fn neighbours_in_rect()
+    ensures { NeighboursInRect }
+{}
+
+/// A pixel of a rectangle that fits an image is one of the image.
+pub fn rect_pixels_lie_inside()
+    ensures { RectPixelsLieInside }
+{}
+
+/// The neighbours of a pixel row by row: just these, in raster order.
+pub fn neighbours_by_rows()
+    ensures { NeighboursByRows }
 {}
