@@ -1,6 +1,7 @@
 -- Where a number stands first, behind a gap: what reading finds there, and that each text is of one of
 -- three kinds.
-use Rattle.std.proofs.Common.{◌≡◌, ℕ, ◌+◌, ◌*◌, ◌<◌, min, true, false, List, [], ◌∷◌, ◌++◌, Ok, Err, refl, sym, ap, ◌∙◌, arith, ◌⊎◌, inl, inr, append_assoc, subst}
+use Rattle.std.proofs.Common.{◌≡◌, ℕ, ◌+◌, ◌*◌, ◌<◌, min, true, false, List, [], ◌∷◌, ◌++◌, Ok, Err, refl, sym, ap, ◌∙◌}
+use Rattle.std.proofs.Common.{arith, ◌⊎◌, inl, inr, append_assoc, subst}
 use Rattle.std.proofs.lemmas.List.{append-nil}
 use Rattle.std.proofs.lemmas.Bool.{cond-true, cond-false, cases_Bool}
 use Rattle.std.proofs.lemmas.Str.Parse.{digit_from_value}
@@ -12,7 +13,8 @@ use Rattle.pgm_codec.specs.declared.error.PgmError.{PgmError}
 use Rattle.pgm_codec.specs.declared.error.PgmError.TheVariants.{Truncated}
 use Rattle.pgm_codec.specs.declared.grammar.Place.{Place}
 use Rattle.pgm_codec.specs.declared.grammar.Place.TheVariants.{Header, Raster}
-use Rattle.pgm_codec.specs.Spelling.{is_white, is_line_end, opens_comment, IsOpenComment, IsComment, IsWhitespace, IsGap, StartsNoDigit, StartsNumber}
+use Rattle.pgm_codec.specs.Spelling.{is_white, is_line_end, opens_comment, IsOpenComment, IsComment, IsWhitespace}
+use Rattle.pgm_codec.specs.Spelling.{IsGap, StartsNoDigit, StartsNumber}
 use Rattle.pgm_codec.specs.FirstFault.{EndsInGap, StartsOther, StartsStray}
 use Rattle.pgm_codec.specs.Reading.{after_gap, digits_after, number_at, too_great}
 

@@ -5,7 +5,8 @@ use Rattle.pgm_codec.specs.declared.error.PgmError.TheVariants.{Memory, Device}
 use Rattle.pgm_codec.specs.declared.grammar.Encoding.{Encoding}
 use Rattle.pgm_codec.specs.declared.grammar.Encoding.TheVariants.{Plain, Raw}
 use Rattle.pgm_codec.specs.Spelling.{width_fault, height_fault, maxval_fault}
-use Rattle.pgm_codec.specs.FirstFault.{MagicFault, FieldFault, GoodFieldFault, SampleFault, EndFault, RasterFault, PgmFault, in_magic, in_width, in_height, in_maxval, in_raster}
+use Rattle.pgm_codec.specs.FirstFault.{MagicFault, FieldFault, GoodFieldFault, SampleFault, EndFault, RasterFault}
+use Rattle.pgm_codec.specs.FirstFault.{PgmFault, in_magic, in_width, in_height, in_maxval, in_raster}
 
 -- a fault that a text can have
 abbrev pub IsOfText : PgmError → Type 0

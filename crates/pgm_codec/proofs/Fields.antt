@@ -1,5 +1,6 @@
 -- A header number and a sample: what reading finds is what stands there.
-use Rattle.std.proofs.Common.{◌≡◌, ℕ, ◌+◌, ◌*◌, ◌<◌, ◌≤◌, min, Bool, true, false, ◌⊎◌, List, [], ◌∷◌, Option, Some, None, Result, Ok, Err, refl, sym, ap, subst, ◌∙◌, arith, inl, inr}
+use Rattle.std.proofs.Common.{◌≡◌, ℕ, ◌+◌, ◌*◌, ◌<◌, ◌≤◌, min, Bool, true, false, ◌⊎◌, List, [], ◌∷◌, Option, Some}
+use Rattle.std.proofs.Common.{None, Result, Ok, Err, refl, sym, ap, subst, ◌∙◌, arith, inl, inr}
 use Rattle.std.specs.Prelude.{nat_lt}
 use Rattle.std.proofs.lemmas.Bool.{cond-true, cond-false, cases_Bool, cases_lt, lt-ltb, le-ltb}
 use Rattle.std.specs.Str.Parse.{digits_value}
@@ -9,9 +10,11 @@ use Rattle.pgm_codec.specs.declared.grammar.Encoding.{Encoding}
 use Rattle.pgm_codec.specs.declared.grammar.Encoding.TheVariants.{Plain, Raw}
 use Rattle.pgm_codec.specs.declared.grammar.Place.TheVariants.{Header, Raster}
 use Rattle.pgm_codec.specs.Graymap.{max_maxval}
-use Rattle.pgm_codec.specs.Spelling.{is_white, is_wide, StartsApart, StartsNumber, StartsBytes, StartsField, StartsGoodField, StartsSample, width_fault, height_fault, maxval_fault}
+use Rattle.pgm_codec.specs.Spelling.{is_white, is_wide, StartsApart, StartsNumber, StartsBytes, StartsField}
+use Rattle.pgm_codec.specs.Spelling.{StartsGoodField, StartsSample, width_fault, height_fault, maxval_fault}
 use Rattle.pgm_codec.specs.FirstFault.{EndsInGap, StartsStray, FieldFault, GoodFieldFault, IsShort, SampleFault}
-use Rattle.pgm_codec.specs.Reading.{◌>>=◌, field_end, field_at, judged, good_field_at, sample_end, bytes_at, within, sample_at, too_great}
+use Rattle.pgm_codec.specs.Reading.{◌>>=◌, field_end, field_at, judged, good_field_at, sample_end, bytes_at, within}
+use Rattle.pgm_codec.specs.Reading.{sample_at, too_great}
 use Rattle.pgm_codec.proofs.Decimals.{number_read, stray_read, gap_read, NumberCases, number_cases}
 
 -- a number and the text behind it, or a fault

@@ -1,5 +1,6 @@
 -- A whole text: what reading finds is what the text spells, or its fault.
-use Rattle.std.proofs.Common.{◌≡◌, ℕ, ◌<◌, ◌≤◌, true, false, eqb, List, [], ◌∷◌, ◌++◌, length, take, Result, Ok, Err, refl, sym, ap, subst, ◌∙◌, ◌⊎◌, inl, inr, arith}
+use Rattle.std.proofs.Common.{◌≡◌, ℕ, ◌<◌, ◌≤◌, true, false, eqb, List, [], ◌∷◌, ◌++◌, length, take, Result, Ok, Err}
+use Rattle.std.proofs.Common.{refl, sym, ap, subst, ◌∙◌, ◌⊎◌, inl, inr, arith}
 use Rattle.std.specs.Prelude.{IfOk, IfErr}
 use Rattle.std.proofs.lemmas.List.{append-nil}
 use Rattle.std.proofs.lemmas.Bool.{cond-true, cond-false, cases_Bool, eqb-true, eqb-false}
@@ -8,11 +9,14 @@ use Rattle.pgm_codec.specs.declared.error.PgmError.TheVariants.{BadMagic, BadHea
 use Rattle.pgm_codec.specs.declared.grammar.Encoding.{Encoding}
 use Rattle.pgm_codec.specs.declared.grammar.Encoding.TheVariants.{Plain, Raw}
 use Rattle.pgm_codec.specs.Graymap.{Graymap, max_maxval}
-use Rattle.pgm_codec.specs.Spelling.{is_white, magic, StartsMagic, StartsGoodField, StartsHeader, PgmSpells, width_fault, height_fault, maxval_fault}
+use Rattle.pgm_codec.specs.Spelling.{is_white, magic, StartsMagic, StartsGoodField, StartsHeader, PgmSpells}
+use Rattle.pgm_codec.specs.Spelling.{width_fault, height_fault, maxval_fault}
 use Rattle.pgm_codec.specs.FirstFault.{MagicFault, PgmFault, in_magic, in_width, in_height, in_maxval, in_raster}
-use Rattle.pgm_codec.specs.Reading.{◌>>=◌, GivesOrMemory, good_field_at, letter_p, digit_two, digit_five, magic_at, magic_end, raster_at, image_at}
+use Rattle.pgm_codec.specs.Reading.{◌>>=◌, GivesOrMemory, good_field_at, letter_p, digit_two, digit_five, magic_at}
+use Rattle.pgm_codec.specs.Reading.{magic_end, raster_at, image_at}
 use Rattle.pgm_codec.proofs.FaultKinds.{fault_kind}
-use Rattle.pgm_codec.proofs.Fields.{Found, good_read, good_fault_read, IsGoodField, good_found, width_capped, height_capped, maxval_capped}
+use Rattle.pgm_codec.proofs.Fields.{Found, good_read, good_fault_read, IsGoodField, good_found, width_capped}
+use Rattle.pgm_codec.proofs.Fields.{height_capped, maxval_capped}
 use Rattle.pgm_codec.proofs.Rasters.{raster_read, raster_fault_read, IsRaster, raster_found}
 
 -- ---- the magic

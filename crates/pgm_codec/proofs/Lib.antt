@@ -7,4 +7,5 @@ pub mod SampleLoop
 pub mod WriteLoop
 pub mod RawSamples
 pub mod RawTexts
+pub mod Maxval
 pub mod Pieces

@@ -1,5 +1,7 @@
 -- Lists that are taken piece by piece, and clauses on a `Result` that hold either way.
-use Rattle.std.proofs.Common.{◌≡◌, ℕ, ◌+◌, ◌-◌, ◌≤◌, List, ◌++◌, Option, Some, None, IfSome, Result, Ok, Err, OnErr, subst, length, take, drop, sym, ap, ◌∙◌, append_assoc, take-append-drop, take-add, length-take-le, take_at, drop-drop}
+use Rattle.std.proofs.Common.{◌≡◌, ℕ, ◌+◌, ◌-◌, ◌≤◌, List, ◌++◌, Option, Some, None, IfSome, Result, Ok, Err, OnErr}
+use Rattle.std.proofs.Common.{subst, length, take, drop, sym, ap, ◌∙◌, append_assoc, take-append-drop, take-add}
+use Rattle.std.proofs.Common.{length-take-le, take_at, drop-drop}
 use Rattle.std.proofs.lemmas.List.{take_rest}
 
 -- a fact holds on `Err` where it holds

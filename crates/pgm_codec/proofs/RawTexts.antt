@@ -1,5 +1,6 @@
 -- The raw text of an image spells it.
-use Rattle.std.proofs.Common.{◌≡◌, ℕ, suc, ◌/◌, ◌%◌, ◌^◌, ◌<◌, ◌≤◌, true, false, List, [], ◌∷◌, ◌++◌, length, slice_index, None, decimal, refl, sym, ap, subst, arith, inl, inr, append_assoc}
+use Rattle.std.proofs.Common.{◌≡◌, ℕ, suc, ◌/◌, ◌%◌, ◌^◌, ◌<◌, ◌≤◌, true, false, List, [], ◌∷◌, ◌++◌, length}
+use Rattle.std.proofs.Common.{slice_index, None, decimal, refl, sym, ap, subst, arith, inl, inr, append_assoc}
 use Rattle.std.specs.Char.{is_ascii_digit}
 use Rattle.std.specs.List.{flat_map}
 use Rattle.std.proofs.lemmas.Bool.{cond-true, cond-false, cases_lt, lt-ltb, le-ltb}
@@ -7,7 +8,8 @@ use Rattle.std.proofs.lemmas.Fmt.{decimal_is_IsNumeral}
 use Rattle.grid_core.specs.Raster.{IsImageSize}
 use Rattle.pgm_codec.specs.declared.grammar.Encoding.TheVariants.{Raw}
 use Rattle.pgm_codec.specs.Graymap.{Graymap, IsGraymap}
-use Rattle.pgm_codec.specs.Spelling.{is_white, magic, StartsField, StartsHeader, StartsSamples, is_wide, StartsBytes, PgmSpells, width_fault, height_fault, maxval_fault}
+use Rattle.pgm_codec.specs.Spelling.{is_white, magic, StartsField, StartsHeader, StartsSamples, is_wide, StartsBytes}
+use Rattle.pgm_codec.specs.Spelling.{PgmSpells, width_fault, height_fault, maxval_fault}
 use Rattle.pgm_codec.specs.Writing.{sample_bytes, raw_text}
 use Rattle.pgm_codec.proofs.Images.{same_image}
 

@@ -1,14 +1,18 @@
 -- The first fault of a text that spells no image: all that stands before it fits and was judged.
-use Rattle.std.specs.Prelude.{◌≡◌, ℕ, ◌*◌, ◌<◌, ◌≤◌, Bool, true, false, List, [], ◌∷◌, ◌++◌, length, take, Option, Some, ◌⊎◌}
+use Rattle.std.specs.Prelude.{◌≡◌, ℕ, ◌*◌, ◌<◌, ◌≤◌, Bool, true, false, List, [], ◌∷◌, ◌++◌, length, take, Option, Some}
+use Rattle.std.specs.Prelude.{◌⊎◌}
 use Rattle.std.specs.Char.{is_ascii_digit}
 use Rattle.std.specs.Str.Parse.{digits_value}
 use Rattle.pgm_codec.specs.declared.error.PgmError.{PgmError}
-use Rattle.pgm_codec.specs.declared.error.PgmError.TheVariants.{BadMagic, BadHeader, Truncated, SampleRange, BadSample, Trailing}
+use Rattle.pgm_codec.specs.declared.error.PgmError.TheVariants.{BadMagic, BadHeader, Truncated, SampleRange, BadSample}
+use Rattle.pgm_codec.specs.declared.error.PgmError.TheVariants.{Trailing}
 use Rattle.pgm_codec.specs.declared.grammar.Encoding.{Encoding}
 use Rattle.pgm_codec.specs.declared.grammar.Encoding.TheVariants.{Plain, Raw}
 use Rattle.pgm_codec.specs.declared.grammar.Place.{Place}
 use Rattle.pgm_codec.specs.declared.grammar.Place.TheVariants.{Header, Raster}
-use Rattle.pgm_codec.specs.Spelling.{is_white, opens_comment, IsOpenComment, IsGap, StartsNumber, StartsField, StartsGoodField, magic, StartsMagic, StartsHeader, is_wide, StartsBytes, StartsSamples, width_fault, height_fault, maxval_fault}
+use Rattle.pgm_codec.specs.Spelling.{is_white, opens_comment, IsOpenComment, IsGap, StartsNumber, StartsField}
+use Rattle.pgm_codec.specs.Spelling.{StartsGoodField, magic, StartsMagic, StartsHeader, is_wide, StartsBytes}
+use Rattle.pgm_codec.specs.Spelling.{StartsSamples, width_fault, height_fault, maxval_fault}
 
 -- nothing but a gap stands there, or a gap and a comment that the end cuts off
 abbrev pub EndsInGap : Place → List ℕ → Type 0

@@ -1,6 +1,7 @@
 -- Reading from left to right, with the first fault that is met. The contracts of private functions alone
 -- say this; public ones say what a text spells (Spelling) and its first fault (FirstFault).
-use Rattle.std.specs.Prelude.{◌≡◌, ℕ, zero, suc, ◌+◌, ◌*◌, Bool, true, false, List, slice_index, [], ◌∷◌, Option, Some, None, Result, Ok, Err, nat_lt, min, ◌==◌, if◌then◌else◌, ◌⊎◌}
+use Rattle.std.specs.Prelude.{◌≡◌, ℕ, zero, suc, ◌+◌, ◌*◌, Bool, true, false, List, slice_index, [], ◌∷◌, Option, Some}
+use Rattle.std.specs.Prelude.{None, Result, Ok, Err, nat_lt, min, ◌==◌, if◌then◌else◌, ◌⊎◌}
 use Rattle.std.specs.Char.{is_ascii_digit, digit_value}
 use Rattle.pgm_codec.specs.declared.error.PgmError.{PgmError}
 use Rattle.pgm_codec.specs.declared.error.PgmError.TheVariants as errors
@@ -9,7 +10,8 @@ use Rattle.pgm_codec.specs.declared.grammar.Encoding.{Encoding}
 use Rattle.pgm_codec.specs.declared.grammar.Encoding.TheVariants.{Plain, Raw}
 use Rattle.pgm_codec.specs.declared.grammar.Place.{Place}
 use Rattle.pgm_codec.specs.declared.grammar.Place.TheVariants.{Header, Raster}
-use Rattle.pgm_codec.specs.Spelling.{is_white, is_line_end, opens_comment, is_wide, width_fault, height_fault, maxval_fault}
+use Rattle.pgm_codec.specs.Spelling.{is_white, is_line_end, opens_comment, is_wide, width_fault, height_fault}
+use Rattle.pgm_codec.specs.Spelling.{maxval_fault}
 
 infixl 10 ◌>>=◌
 abbrev pub ◌>>=◌ : {A B : Type 0} → Result A PgmError → (A → Result B PgmError) → Result B PgmError

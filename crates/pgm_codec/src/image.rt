@@ -1,22 +1,22 @@
 //! Greyscale images.
-ghost use Rattle.std.specs.Prelude.{◌≡◌, ℕ, ◌<◌, ◌≤◌, ◌↔◌, ◌⊎◌, length, slice_index, Any, IfOk, IfErr, IsErrOf, IsOkUnless};
+ghost use Rattle.std.specs.Prelude.{◌≡◌, ◌<◌, ◌↔◌, ◌⊎◌, Any, IfOk, IfErr, IsErrOf, IsOkUnless};
+ghost use Rattle.grid_core.specs.Raster.{Raster, IsFilled, IsBelow};
 ghost use Rattle.pgm_codec.specs.declared.error.PgmError.TheVariants as errors;
-ghost use Rattle.pgm_codec.specs.Graymap.{IsGraymap};
+ghost use Rattle.pgm_codec.specs.Graymap.{Graymap, IsGraymap};
 
 use crate::error::PgmError;
+use crate::samples::is_any_above;
 use grid_core::Grid;
 use std::alloc::Global;
 use std::marker::Model;
 
 /// A greyscale image: `w * h` samples, row by row from the top, each row from the left. Sides are 1 to
 /// [`grid_core::MAX_SIDE`], with at most [`grid_core::MAX_PIXELS`] pixels, `maxval` is 1 to 65535, and no
-/// sample is above it.
+/// sample is above it. The samples are the cells of a grid, of 32 bits each.
 #[derive(Debug, Drop)]
 pub struct Image {
-    w: u32,
-    h: u32,
+    grid: Grid,
     maxval: u16,
-    samples: Vec<u16>,
 }
 
 impl Model for Image {
@@ -24,53 +24,25 @@ impl Model for Image {
 
     ghost Value = { Graymap };
 
-    ghost view = { λ i. record { raster = record { width = i.w; height = i.h; cells = i.samples.items }; maxval = i.maxval } };
+    ghost view = { λ i. record { raster = i.grid; maxval = i.maxval } };
 
-    ghost invariant = { λ i. IsGraymap (record { raster = record { width = i.w; height = i.h; cells = i.samples.items }; maxval = i.maxval }) };
-}
-
-// The same numbers in 16 bits.
-fn narrowed(alloc: Global, cells: &[u32], maxval: u16) -> Result<Vec<u16>, PgmError>
-    requires { (k : ℕ) → k < length cells.now → slice_index cells.now k ≤ maxval }
-    ensures value { IfOk result (λ samples. samples.items ≡ cells.now) }
-    ensures only_memory { IsOkUnless result errors.Memory }
-{
-    let mut samples = vec![in alloc; 0; cells.len()]?;
-    for i in 0..cells.len() {
-        samples[i] = cells[i] as u16;
-    }
-    Ok(samples)
-}
-
-// The same numbers in 32 bits.
-fn widened(alloc: Global, samples: &[u16]) -> Result<Vec<u32>, PgmError>
-    ensures value { IfOk result (λ cells. cells.items ≡ samples.now) }
-    ensures only_memory { IsOkUnless result errors.Memory }
-{
-    let mut cells = vec![in alloc; 0; samples.len()]?;
-    for i in 0..samples.len() {
-        cells[i] = u32::from(samples[i]);
-    }
-    Ok(cells)
+    ghost invariant = { λ i. IsGraymap (record { raster = i.grid; maxval = i.maxval }) };
 }
 
 impl Image {
-    // The image of these samples. It takes no memory.
-    pub(crate) fn from_samples(w: u32, h: u32, maxval: u16, samples: Vec<u16>) -> Image
-        requires { IsGraymap (record { raster = record { width = w; height = h; cells = samples.items }; maxval = maxval }) }
-        ensures { result ≡ record { raster = record { width = w; height = h; cells = samples.items }; maxval = maxval } }
+    /// The image whose samples are the grid's cells. It takes no memory, and reads no cell: where it is not
+    /// known that no cell is above `maxval`, [`Image::from_grid`] is the test.
+    pub fn over(grid: Grid, maxval: u16) -> Image
+        requires { IsGraymap (record { raster = grid; maxval = maxval }) }
+        ensures { result ≡ record { raster = grid; maxval = maxval } }
     {
-        Image {
-            w,
-            h,
-            maxval,
-            samples,
-        }
+        Image { grid, maxval }
     }
 
     /// The image of a grid's values. Its samples are the cells.
     ///
     /// Errors: P5 where `maxval` is 0, else P7 where a cell is above it, else P10.
+    #[tactic(auto, using(crate::proofs::Maxval::some_above))]
     pub fn from_grid(alloc: Global, grid: &Grid, maxval: u16) -> Result<Image, PgmError>
         ensures value { IfOk result (λ image. image ≡ record { raster = grid.now; maxval = maxval }) }
         ensures bad_maxval { IsErrOf result errors.BadMaxval ↔ (maxval ≡ 0) }
@@ -80,27 +52,37 @@ impl Image {
         if maxval == 0 {
             return Err(PgmError::BadMaxval);
         }
-        if grid.cells().iter().any(|cell| *cell > u32::from(maxval)) {
+        if is_any_above(grid.cells(), maxval) {
             return Err(PgmError::SampleRange);
         }
-        let samples = narrowed(alloc, grid.cells(), maxval)?;
-        Ok(Image {
-            w: grid.width(),
-            h: grid.height(),
-            maxval,
-            samples,
-        })
+        let grid = grid.copy(alloc)?;
+        Ok(Image { grid, maxval })
     }
 
-    /// The grid of the image's samples.
+    /// The grid of the image's samples, as another grid.
     ///
     /// Errors: P10.
     pub fn to_grid(&self, alloc: Global) -> Result<Grid, PgmError>
         ensures value { IfOk result (λ grid. grid ≡ self.now.raster) }
         ensures only_memory { IsOkUnless result errors.Memory }
     {
-        let cells = widened(alloc, &self.samples)?;
-        Ok(Grid::from_cells(self.w, self.h, cells))
+        Ok(self.grid.copy(alloc)?)
+    }
+
+    /// The grid of the image's samples, without the image. It takes no memory.
+    pub fn into_grid(self) -> Grid
+        ensures { result ≡ self.raster }
+    {
+        let Image { grid, .. } = self;
+        grid
+    }
+
+    /// The grid of the image's samples.
+    pub fn grid(&self) -> &Grid
+        ensures value { result.now ≡ self.now.raster }
+        ensures is_graymap { IsGraymap self.now }
+    {
+        &self.grid
     }
 
     /// The number of columns, at least 1.
@@ -108,7 +90,7 @@ impl Image {
         ensures value { result ≡ self.now.raster.width }
         ensures is_graymap { IsGraymap self.now }
     {
-        self.w
+        self.grid.width()
     }
 
     /// The number of rows, at least 1.
@@ -116,7 +98,7 @@ impl Image {
         ensures value { result ≡ self.now.raster.height }
         ensures is_graymap { IsGraymap self.now }
     {
-        self.h
+        self.grid.height()
     }
 
     /// The greatest sample that the image may have, 1 to 65535.
@@ -128,10 +110,16 @@ impl Image {
     }
 
     /// The samples, row by row from the top.
-    pub fn samples(&self) -> &[u16]
+    pub fn samples(&self) -> &[u32]
         ensures value { result.now ≡ self.now.raster.cells }
         ensures is_graymap { IsGraymap self.now }
     {
-        &self.samples
+        self.grid.cells()
     }
 }
+
+/// A grid that is nowhere above the samples of an image keeps the image's maxval, as [`Image::over`] asks.
+pub fn below_keeps_maxval()
+    ensures { (image : Graymap) (grid : Raster) → IsGraymap image → IsFilled grid → IsBelow grid image.raster
+        → IsGraymap (record { raster = grid; maxval = image.maxval }) }
+{}

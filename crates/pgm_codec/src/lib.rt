@@ -1,3 +1,5 @@
+#![tactic(auto)]
+
 //! Greyscale images and their files: the PGM format of Netpbm, pgm(5), in a profile of its own.
 //!
 //! An [`Image`] is `w * h` samples, row by row from the top, none above its maxval. [`read`] makes one of a
@@ -17,7 +19,6 @@
 //! Read on: `specs/Spelling.antt` says which text spells which image, `specs/FirstFault.antt` which fault a
 //! text has, and `specs/Writing.antt` what is written; the laws [`one_image`], [`one_fault`] and [`every_text`]
 //! say that each text has exactly one of the two. `specs/Device.antt` has the words on sources and sinks.
-#![tactic(auto)]
 
 mod count;
 mod error;
@@ -30,6 +31,7 @@ mod memory_source;
 mod numbers;
 mod raster;
 mod reading;
+mod samples;
 mod sink;
 mod source;
 mod std_sink;
@@ -39,7 +41,7 @@ mod writing;
 
 pub use error::PgmError;
 pub use fault::Fault;
-pub use image::Image;
+pub use image::{Image, below_keeps_maxval};
 pub use memory_sink::MemorySink;
 pub use memory_source::MemorySource;
 pub use reading::{every_text, one_fault, one_image, raw_text_is_read, read};

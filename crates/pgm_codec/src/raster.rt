@@ -7,11 +7,12 @@ ghost use Rattle.pgm_codec.specs.Reading.{Gives, GivesOrMemory, sample_at, sampl
 use crate::error::PgmError;
 use crate::grammar::{Encoding, Place};
 use crate::numbers::{after_gap, is_white, number};
+use crate::samples::is_any_above;
 use std::alloc::{AllocError, Global};
 
 // The next sample of a plain raster, and the text behind its digits.
 #[tactic(auto, unfolding(crate::specs::Reading::sample_at, crate::specs::Reading::sample_end))]
-fn plain_sample(text: &[u8], maxval: u16) -> Result<(u16, &[u8]), PgmError>
+fn plain_sample(text: &[u8], maxval: u16) -> Result<(u32, &[u8]), PgmError>
     ensures read { Gives (λ x. (x.0, x.1.now)) result (sample_at Plain maxval text.now) }
     ensures range { IfOk result (λ x. x.0 ≤ maxval) }
 {
@@ -21,7 +22,7 @@ fn plain_sample(text: &[u8], maxval: u16) -> Result<(u16, &[u8]), PgmError>
     }
     match rest {
         [b, ..] if !is_white(*b) => Err(PgmError::BadSample),
-        _ => Ok((n as u16, rest)),
+        _ => Ok((n, rest)),
     }
 }
 
@@ -31,7 +32,7 @@ fn plain_samples(
     text: &[u8],
     maxval: u16,
     count: usize,
-) -> Result<(Vec<u16>, &[u8]), PgmError>
+) -> Result<(Vec<u32>, &[u8]), PgmError>
     ensures read { GivesOrMemory (λ x. (x.0.items, x.1.now)) result (samples_at Plain maxval count text.now) }
     ensures length { IfOk result (λ x. length x.0.items ≡ count) }
     ensures range { IfOk result (λ x. All (λ s. s ≤ maxval) x.0.items) }
@@ -48,24 +49,20 @@ fn plain_samples(
 }
 
 // The values of single bytes.
-fn widen(bytes: &[u8], samples: &mut [u16])
-    requires { length samples.old ≤ length bytes.now }
-    ensures len { length samples.new ≡ length samples.old }
-    ensures values { (k : ℕ) → k < length samples.old → slice_index samples.new k ≡ raw_value false bytes.now k }
+fn widened(alloc: Global, bytes: &[u8]) -> Result<Vec<u32>, AllocError>
+    ensures { IfOk result (λ v. v.items ≡ bytes.now) }
 {
-    for i in 0..samples.len() {
-        samples[i] = u16::from(bytes[i]);
-    }
+    bytes.iter().map(|b| u32::from(*b)).collect(alloc)
 }
 
 // The values of pairs of bytes, the more significant first.
-fn join(bytes: &[u8], samples: &mut [u16])
+fn join(bytes: &[u8], samples: &mut [u32])
     requires { length samples.old * 2 ≤ length bytes.now }
     ensures len { length samples.new ≡ length samples.old }
     ensures values { (k : ℕ) → k < length samples.old → slice_index samples.new k ≡ raw_value true bytes.now k }
 {
     for i in 0..samples.len() {
-        samples[i] = u16::from(bytes[i * 2]) * 256 + u16::from(bytes[i * 2 + 1]);
+        samples[i] = u32::from(bytes[i * 2]) * 256 + u32::from(bytes[i * 2 + 1]);
     }
 }
 
@@ -77,25 +74,17 @@ fn sample_width(wide: bool) -> usize
 }
 
 // The first values of a raw raster, of two bytes each or of one.
-fn raw_values(alloc: Global, text: &[u8], wide: bool, count: usize) -> Result<Vec<u16>, AllocError>
+fn raw_values(alloc: Global, text: &[u8], wide: bool, count: usize) -> Result<Vec<u32>, AllocError>
     requires { count * sample_width wide ≤ length text.now }
     ensures length { IfOk result (λ v. length v.items ≡ count) }
     ensures values { IfOk result (λ v. (k : ℕ) → k < count → slice_index v.items k ≡ raw_value wide text.now k) }
 {
-    let mut samples = vec![in alloc; 0; count]?;
-    if wide {
-        join(text, &mut samples);
-    } else {
-        widen(text, &mut samples);
+    if !wide {
+        return widened(alloc, &text[..count]);
     }
+    let mut samples = vec![in alloc; 0; count]?;
+    join(text, &mut samples);
     Ok(samples)
-}
-
-// Whether some sample is above maxval.
-fn is_any_above(samples: &[u16], maxval: u16) -> bool
-    ensures { result ≡ list_any (λ s. nat_lt maxval s) samples.now }
-{
-    samples.iter().any(|s| *s > maxval)
 }
 
 // As many samples of a raw raster, and the text behind the last. It takes no more memory than the
@@ -105,7 +94,7 @@ fn raw_samples(
     text: &[u8],
     maxval: u16,
     count: usize,
-) -> Result<(Vec<u16>, &[u8]), PgmError>
+) -> Result<(Vec<u32>, &[u8]), PgmError>
     ensures read { GivesOrMemory (λ x. (x.0.items, x.1.now)) result (samples_at Raw maxval count text.now) }
     ensures length { IfOk result (λ x. length x.0.items ≡ count) }
     ensures range { IfOk result (λ x. All (λ s. s ≤ maxval) x.0.items) }
@@ -130,7 +119,7 @@ pub(crate) fn samples(
     text: &[u8],
     maxval: u16,
     count: usize,
-) -> Result<(Vec<u16>, &[u8]), PgmError>
+) -> Result<(Vec<u32>, &[u8]), PgmError>
     ensures read { GivesOrMemory (λ x. (x.0.items, x.1.now)) result (samples_at encoding maxval count text.now) }
     ensures length { IfOk result (λ x. length x.0.items ≡ count) }
     ensures range { IfOk result (λ x. All (λ s. s ≤ maxval) x.0.items) }

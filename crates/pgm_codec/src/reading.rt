@@ -12,6 +12,7 @@ use crate::error::PgmError;
 use crate::header::{height, magic, maxval, width};
 use crate::image::Image;
 use crate::raster::{end, samples};
+use grid_core::Grid;
 use std::alloc::Global;
 
 // The image that is read from left to right.
@@ -25,7 +26,7 @@ fn image(alloc: Global, text: &[u8]) -> Result<Image, PgmError>
     let (maxval, rest) = maxval(rest)?;
     let (samples, rest) = samples(alloc, encoding, rest, maxval, w as usize * h as usize)?;
     end(encoding, rest)?;
-    Ok(Image::from_samples(w, h, maxval, samples))
+    Ok(Image::over(Grid::from_cells(w, h, samples), maxval))
 }
 
 /// The image that a text spells: one file (Netpbm, pgm(5)), all of the text.

@@ -198,6 +198,25 @@ fn images_and_grids(rt: HostRuntime) -> Result<(), Fail> {
     assert_eq!(rt; again.width(), 2);
     assert_eq!(rt; again.height(), 1);
     assert_eq!(rt; again.cells(), grid.cells());
+    assert_eq!(rt; image.grid().cells(), grid.cells());
+    let given = image.into_grid();
+    assert_eq!(rt; (given.width(), given.height()), (2, 1));
+    assert_eq!(rt; given.cells(), grid.cells());
+    Ok(())
+}
+
+#[test]
+fn an_image_over_a_grid_is_written(rt: HostRuntime) -> Result<(), Fail> {
+    let image = read(rt.alloc(), b"P2 3 1 300 7 300 256")?;
+    let maxval = image.maxval();
+    let image = Image::over(image.into_grid(), maxval);
+    assert_eq!(rt; image.maxval(), 300);
+    assert_eq!(rt; image.samples(), [7, 300, 256].as_slice());
+    let text = write_raw(rt.alloc(), &image)?;
+    assert_eq!(rt;
+        text.as_slice(),
+        b"P5\n3 1\n300\n\x00\x07\x01\x2C\x01\x00".as_slice()
+    );
     Ok(())
 }
 

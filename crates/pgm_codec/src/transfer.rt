@@ -1,5 +1,6 @@
 //! Whole texts from a source and to a sink.
-ghost use Rattle.std.specs.Prelude.{◌≡◌, Ok, ◌+◌, ◌^◌, ◌<◌, ◌≤◌, ◌⊎◌, length, take, drop, vec_len, IfOk, IfErr, IfSome, OnOk, OnErr, MatchResult, IsErrOf};
+ghost use Rattle.std.specs.Prelude.{◌≡◌, Ok, ◌+◌, ◌^◌, ◌<◌, ◌≤◌, ◌⊎◌, length, take, drop, vec_len};
+ghost use Rattle.std.specs.Prelude.{IfOk, IfErr, IfSome, OnOk, OnErr, MatchResult, IsErrOf};
 ghost use Rattle.std.specs.Io.{ReadsAtMost};
 ghost use Rattle.std.specs.Io.KnownBytes.{Appends, IsAtEnd, ReadConsumes};
 ghost use Rattle.pgm_codec.specs.Graymap.{Graymap};
@@ -22,6 +23,9 @@ pub const MOST_PULLS: u64 = 1 << 28;
 
 // How many bytes the first pull has room for.
 const FIRST_ROOM: usize = 65_536;
+
+// How many bytes of room are made where a pull has none.
+const MORE_ROOM: usize = 262_144;
 
 /// Everything that the source has left, up to its end.
 ///
@@ -72,7 +76,8 @@ fn read_within<S: Source>(alloc: Global, source: &mut S, pulls: u64) -> Result<V
     Err(PgmError::Device)
 }
 
-// Room behind the first `filled` bytes, which stay. The length grows to its double.
+// Room behind the first `filled` bytes, which stay. No more of it is made than a few pulls fill: the memory
+// behind it stays untouched.
 fn make_room(bytes: &mut Vec<u8>, filled: usize) -> Result<(), AllocError>
     requires within { filled ≤ vec_len bytes.old }
     requires some { 0 < vec_len bytes.old }
@@ -81,7 +86,7 @@ fn make_room(bytes: &mut Vec<u8>, filled: usize) -> Result<(), AllocError>
 {
     let len = bytes.len();
     if filled == len {
-        bytes.resize(len.saturating_mul(2), 0)?;
+        bytes.resize(len.saturating_add(MORE_ROOM), 0)?;
     }
     Ok(())
 }

@@ -9,7 +9,7 @@ use crate::image::Image;
 use std::alloc::Global;
 
 // Writes samples of one byte each behind the first `at` bytes.
-fn put_narrow(out: &mut [u8], at: usize, maxval: u16, samples: &[u16])
+fn put_narrow(out: &mut [u8], at: usize, maxval: u16, samples: &[u32])
     requires narrow { maxval < 256 }
     requires within { All (λ s. s ≤ maxval) samples.now }
     requires room { at + length samples.now ≡ length out.old }
@@ -21,8 +21,9 @@ fn put_narrow(out: &mut [u8], at: usize, maxval: u16, samples: &[u16])
 }
 
 // Writes samples of two bytes each behind the first `at` bytes, the more significant byte first.
-fn put_wide(out: &mut [u8], at: usize, maxval: u16, samples: &[u16])
+fn put_wide(out: &mut [u8], at: usize, maxval: u16, samples: &[u32])
     requires wide { 256 ≤ maxval }
+    requires within { All (λ s. s ≤ maxval) samples.now }
     requires room { at + length samples.now * 2 ≡ length out.old }
     ensures { out.new ≡ take at out.old ++ flat_map (sample_bytes maxval) samples.now }
 {
