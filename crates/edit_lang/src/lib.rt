@@ -1,3 +1,4 @@
+#![tactic(auto)]
 //! The edit language of Seedpaint: a text that places strokes, as runs of pixels or as discs, and
 //! withdraws them, one edit a line.
 //!
@@ -16,7 +17,6 @@
 //! `Numbers` and `Shapes` say what a number, a run and a disc look like, and the edit means a state of one
 //! stroke or one tombstone (`stroke_lattice`), or a fault. In the code `text` goes from line to line, `line`
 //! from a line to its delta, and `words`, `number` and `shape` read its parts.
-#![tactic(auto)]
 
 mod error;
 mod line;

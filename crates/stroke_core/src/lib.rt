@@ -1,3 +1,4 @@
+#![tactic(auto)]
 //! Seed strokes: a grey level painted on runs of pixels or on a disc, and the tags that name them.
 //!
 //! A [`Stroke`] is what one touch of the brush leaves: a level, and either [`Run`]s of pixels or the disc round
@@ -16,7 +17,6 @@
 //!
 //! Read on in `specs/Seed.antt`, which says what canonical strokes are, which pixels they cover, and why runs or
 //! a disc are refused; in `specs/Tag.antt` for the texts of tags; and then at [`Stroke`].
-#![tactic(auto)]
 
 mod error;
 mod kind;

@@ -12,12 +12,10 @@ pub record State : Type 0 where
   pub strokes : map.FinMap nat_cmp Seed
   pub tombstones : set.FinSet nat_cmp
 
--- the stroke of the tag is this seed
 -- the state has this stroke under the tag, live or not
 abbrev pub HasStroke : State → ℕ → Seed → Type 0
 HasStroke s tag seed = map.get s.strokes tag ≡ Some seed
 
--- the tag was withdrawn
 -- the tag was withdrawn
 abbrev pub HasTombstone : State → ℕ → Type 0
 HasTombstone s tag = IsTrue (set.contains s.tombstones tag)

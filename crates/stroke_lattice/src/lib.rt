@@ -1,3 +1,4 @@
+#![tactic(auto)]
 //! The set of strokes that replicas share: a lattice that only rises.
 //!
 //! A [`State`] has strokes under their tags and tombstones, which are tags that were withdrawn. A tag is live
@@ -21,7 +22,6 @@
 //! when two states clash; in `specs/Change.antt` for births and deaths; in `specs/Walks.antt` for the walks
 //! over a state; and then at [`State`]. The laws of joining, as [`joining_is_associative`], are the contracts
 //! of functions that do nothing.
-#![tactic(auto)]
 
 mod change;
 mod compare;
