@@ -13,16 +13,17 @@ use Rattle.grid_core.specs.Path.{Domain}
 use Rattle.stroke_core.specs.Seed.{Seed, covers}
 use Rattle.stroke_lattice.specs.State.{State, HasStroke}
 use Rattle.marker_tiles.specs.Marker.{IsMarkedAt, IsTopLevel, IsMarker}
-use Rattle.marker_tiles.proofs.Levels.{level_at, level_or_none, level_where}
+use Rattle.marker_tiles.specs.UnderTags.{level_at}
+use Rattle.marker_tiles.proofs.Levels.{level_or_none, level_where}
 
 -- the level at the pixel of what a tag has, where it is not withdrawn
-abbrev level_of : Option Seed → Bool → Pixel → ℕ
+abbrev pub level_of : Option Seed → Bool → Pixel → ℕ
 level_of None withdrawn p = 0
 level_of (Some seed) true p = 0
 level_of (Some seed) false p = level_at seed p
 
 -- the greatest of the levels that tags of the state have at the pixel
-abbrev top_of : State → List ℕ → Pixel → ℕ
+abbrev pub top_of : State → List ℕ → Pixel → ℕ
 top_of s [] p = 0
 top_of s (tag ∷ tags) p = max (level_of (map.get s.strokes tag) (set.contains s.tombstones tag) p) (top_of s tags p)
 
@@ -97,7 +98,11 @@ among_keys : (s : State) (tag : ℕ) (seed : Seed) → HasStroke s tag seed
     → list_any (eq_by_cmp nat_cmp tag) (map.keys s.strokes) ≡ true
 among_keys s tag seed has = sym (map.contains_key-keys s.strokes tag) ∙ ap is_some has
 
-has_top : (s : State) (p : Pixel) → IsTopLevel s p (top_of s (map.keys s.strokes) p)
+-- the greatest level of the live strokes that cover the pixel
+abbrev pub top_at : State → Pixel → ℕ
+top_at s p = top_of s (map.keys s.strokes) p
+
+pub has_top : (s : State) (p : Pixel) → IsTopLevel s p (top_at s p)
 has_top s p = record {
   attained = top_is_marked s p (map.keys s.strokes);
   greatest = λ level marked.
@@ -106,5 +111,4 @@ has_top s p = record {
 
 pub some_marker : (d : Domain) (mask : Pixel → ℕ) (s : State) → (marker : Pixel → ℕ) × IsMarker d mask s marker
 some_marker d mask s =
-    let top : Pixel → ℕ = λ p. top_of s (map.keys s.strokes) p in
-    (λ p. min (mask p) (top p), λ p inside. (top p, has_top s p, refl))
+    (λ p. min (mask p) (top_at s p), λ p inside. (top_at s p, has_top s p, refl))

@@ -8,6 +8,7 @@ use Rattle.grid_core.specs.Path.{Domain, Inside}
 use Rattle.stroke_core.specs.Seed.{Seed, covers}
 use Rattle.stroke_lattice.specs.State.{State, IsLive}
 use Rattle.marker_tiles.specs.Marker.{IsTopLevel, IsMarker}
+use Rattle.marker_tiles.specs.UnderTags.{level_at}
 use Rattle.marker_tiles.proofs.Lists.{first, later, first_or_later, not_in_empty}
 
 -- ---- it is one number, and so the marker is one
@@ -41,10 +42,6 @@ marker_within d mask s marker is p inside = omega (arith, (is p inside).2)
 -- a stroke under its tag
 abbrev pub Entry : Type 0
 Entry = ℕ × Seed
-
--- the level of the seed where it covers the pixel, else 0
-abbrev pub level_at : Seed → Pixel → ℕ
-level_at seed p = if covers seed p then seed.level else 0
 
 -- the greatest of the levels that the seeds have at the pixel
 abbrev pub top_level : List Entry → Pixel → ℕ

@@ -1,6 +1,11 @@
+pub mod Cutting
+pub mod Enclosing
 pub mod Existence
+pub mod Keeping
 pub mod Levels
 pub mod Lists
 pub mod Marking
 pub mod Painted
+pub mod Raising
+pub mod RunRows
 pub mod Spans

@@ -1,106 +1,178 @@
--- How paintings of one level add up.
-use Rattle.std.proofs.Common.{◌≡◌, ℕ, ◌+◌, ◌<◌, Bool, true, false, List, length, get_or, take, sym, ap, subst}
-use Rattle.std.proofs.Common.{◌∙◌, refl, arith, inl, inr, length-set}
-use Rattle.std.specs.Prelude.{◌||◌, min, max}
+-- How paintings with one brush add up.
+use Rattle.std.proofs.Common.{◌≡◌, ℕ, ◌+◌, ◌*◌, ◌<◌, ◌≤◌, Bool, true, false, List, length, get_or, take, sym, ap}
+use Rattle.std.proofs.Common.{◌∙◌, refl, arith, inl, inr, subst}
+use Rattle.std.specs.Prelude.{◌||◌, ◌&&◌, slice_index}
 use Rattle.std.specs.List.{list_any}
+use Rattle.std.proofs.Math.Nat.{mul-le-mul_right}
+use Rattle.std.proofs.lemmas.Bool.{cases_lt}
 use Rattle.std.proofs.lemmas.Bool.Decides.{nat_tests}
 use Rattle.std.proofs.lemmas.List.Folds.{list_any_more}
 use Rattle.grid_core.specs.declared.pixel.Pixel.{Pixel}
-use Rattle.grid_core.specs.Raster.{Raster, IsInside, index_of, value_at, with_value}
-use Rattle.grid_core.proofs.Pixels.{same_pixel, same_pixel_or_not}
-use Rattle.grid_core.proofs.Cells.{set_is_read, set_keeps_others}
+use Rattle.grid_core.specs.Raster.{Raster, IsInside, index_of, value_at}
+use Rattle.grid_core.proofs.Cells.{index_of-within}
 use Rattle.stroke_core.specs.declared.run.Run.{Run}
-use Rattle.stroke_core.specs.Seed.{run_covers}
-use Rattle.marker_tiles.specs.Painting.{AreOfOneSize, IsPaintedBy, raised, is_at}
+use Rattle.stroke_core.specs.Seed.{Seed, covers, run_covers}
+use Rattle.marker_tiles.specs.declared.brush.Brush.{Brush}
+use Rattle.marker_tiles.specs.declared.brush.Brush.TheVariants.{Raise, Clear}
+use Rattle.marker_tiles.specs.declared.window.Window.{Window}
+use Rattle.marker_tiles.specs.Painting.{AreOfOneSize, IsPaintedBy, AreCellsBrushed, brushed, brushed_if}
+use Rattle.marker_tiles.specs.Painting.{in_window, in_some, is_between}
 
--- to raise twice to one value is to raise where either test holds
-raised_twice : (a b : Bool) (value old : ℕ) → raised b value (raised a value old) ≡ raised (a || b) value old
-raised_twice true true value old = omega arith
-raised_twice true false value old = refl
-raised_twice false b value old = refl
+-- a brush led twice leaves what it left at first
+brushed_again : (brush : Brush) (limit old : ℕ)
+    → brushed brush limit (brushed brush limit old) ≡ brushed brush limit old
+brushed_again (Raise level) limit old = omega arith
+brushed_again Clear limit old = refl
+
+-- to lead it where one test holds and then where another does is to lead it where either does
+brushed_twice : (a b : Bool) (brush : Brush) (limit old : ℕ)
+    → brushed_if b brush limit (brushed_if a brush limit old) ≡ brushed_if (a || b) brush limit old
+brushed_twice true true brush limit old = brushed_again brush limit old
+brushed_twice true false brush limit old = refl
+brushed_twice false b brush limit old = refl
 
 -- two paintings are one of the pixels that either test has
-pub painted_also : (a b both : Pixel → Bool) (level : ℕ) (mask old middle new : Raster)
-    → IsPaintedBy a level mask old middle → IsPaintedBy b level mask middle new
-    → ((p : Pixel) → IsInside mask.width mask.height p → both p ≡ (a p || b p)) → IsPaintedBy both level mask old new
-painted_also a b both level mask old middle new first second same = record {
+pub painted_also : (a b both : Pixel → Bool) (brush : Brush) (mask old middle new : Raster)
+    → IsPaintedBy a brush mask old middle → IsPaintedBy b brush mask middle new
+    → ((p : Pixel) → IsInside mask.width mask.height p → both p ≡ (a p || b p)) → IsPaintedBy both brush mask old new
+painted_also a b both brush mask old middle new first second same = record {
   size = second.size;
   values = λ p inside.
-      let value = min (value_at mask p) level in
+      let limit = value_at mask p in
       second.values p inside
-      ∙ ap (λ v. raised (b p) value v) (first.values p inside)
-      ∙ raised_twice (a p) (b p) value (value_at old p)
-      ∙ ap (λ t. raised t value (value_at old p)) (sym (same p inside));
+      ∙ ap (λ v. brushed_if (b p) brush limit v) (first.values p inside)
+      ∙ brushed_twice (a p) (b p) brush limit (value_at old p)
+      ∙ ap (λ t. brushed_if t brush limit (value_at old p)) (sym (same p inside));
 }
 
 -- an image is painted by a test that no pixel passes
-pub painted_nothing : (test : Pixel → Bool) (level : ℕ) (mask old : Raster) → AreOfOneSize mask old
-    → ((p : Pixel) → IsInside mask.width mask.height p → test p ≡ false) → IsPaintedBy test level mask old old
-painted_nothing test level mask old size none = record {
+pub painted_nothing : (test : Pixel → Bool) (brush : Brush) (mask old : Raster) → AreOfOneSize mask old
+    → ((p : Pixel) → IsInside mask.width mask.height p → test p ≡ false) → IsPaintedBy test brush mask old old
+painted_nothing test brush mask old size none = record {
   size = size;
-  values = λ p inside. ap (λ t. raised t (min (value_at mask p) level) (value_at old p)) (sym (none p inside));
+  values = λ p inside. ap (λ t. brushed_if t brush (value_at mask p) (value_at old p)) (sym (none p inside));
 }
 
 -- tests that agree on the pixels of the image paint alike
-pub painted_alike : (a b : Pixel → Bool) (level : ℕ) (mask old new : Raster) → IsPaintedBy a level mask old new
-    → ((p : Pixel) → IsInside mask.width mask.height p → b p ≡ a p) → IsPaintedBy b level mask old new
-painted_alike a b level mask old new painted same = record {
+pub painted_alike : (a b : Pixel → Bool) (brush : Brush) (mask old new : Raster) → IsPaintedBy a brush mask old new
+    → ((p : Pixel) → IsInside mask.width mask.height p → b p ≡ a p) → IsPaintedBy b brush mask old new
+painted_alike a b brush mask old new painted same = record {
   size = painted.size;
   values = λ p inside.
-      painted.values p inside ∙ ap (λ t. raised t (min (value_at mask p) level) (value_at old p)) (sym (same p inside));
+      painted.values p inside
+      ∙ ap (λ t. brushed_if t brush (value_at mask p) (value_at old p)) (sym (same p inside));
 }
-
--- the value to which one pixel is raised
-abbrev pub raised_value : Raster → Raster → ℕ → Pixel → ℕ
-raised_value mask old level q = max (min (value_at mask q) level) (value_at old q)
-
-is_at_itself : (q : Pixel) → is_at q.x q.y q ≡ true
-is_at_itself q = grind (arith, nat_tests)
-
-is_at_no_other : (p q : Pixel) → (p ≡ q → ⊥) → is_at q.x q.y p ≡ false
-is_at_no_other p q other =
-    let differ : p.x ≡ q.x → p.y ≡ q.y → ⊥ = λ same_x same_y. other (same_pixel p q same_x same_y) in
-    grind (arith, nat_tests)
-
--- a pixel that gets the raised value is painted
-pub painted_pixel : (q : Pixel) (level : ℕ) (mask old : Raster) → AreOfOneSize mask old
-    → IsInside mask.width mask.height q
-    → IsPaintedBy (is_at q.x q.y) level mask old (with_value old q (raised_value mask old level q))
-painted_pixel q level mask old size inside =
-    let value = raised_value mask old level q in
-    let new = with_value old q value in
-    let within : (p : Pixel) → IsInside mask.width mask.height p → IsInside old.width old.height p =
-    λ p h. rw (size.width, size.height) h in
-    record {
-      size = record {
-        width = size.width;
-        height = size.height;
-        filled = length-set old.cells (index_of old.width q) value ∙ size.filled;
-      };
-      values = λ p inside_p. elim (same_pixel_or_not p q) [
-        | inl same ↦
-            let here : value_at new q ≡ raised (is_at q.x q.y q) (min (value_at mask q) level) (value_at old q) =
-            set_is_read old q value size.filled (within q inside)
-            ∙ (let e : value ≡ max (value_at old q) (min (value_at mask q) level) = omega arith in e)
-            ∙ ap (λ t. raised t (min (value_at mask q) level) (value_at old q)) (sym (is_at_itself q)) in
-            subst
-            (λ (r : Pixel). value_at new r ≡ raised (is_at q.x q.y r) (min (value_at mask r) level) (value_at old r))
-            (sym same) here
-        | inr other ↦
-            set_keeps_others old q p value (within q inside) (within p inside_p) other
-            ∙ ap (λ t. raised t (min (value_at mask p) level) (value_at old p)) (sym (is_at_no_other p q other))
-      ];
-    }
 
 -- ---- run by run
 
--- one of the runs has the pixel
-abbrev pub run_of_some : List Run → Pixel → Bool
-run_of_some runs p = list_any (λ run. run_covers run p) runs
+-- the window has the pixel, and so has one of the runs
+abbrev pub run_of_some : Window → List Run → Pixel → Bool
+run_of_some w runs p = in_window w p && list_any (λ run. run_covers run p) runs
+
+and_or : (a b c : Bool) → (a && (b || c)) ≡ ((a && b) || (a && c))
+and_or true b c = refl
+and_or false b c = refl
 
 -- one more run
-pub one_run_more : (runs : List Run) (i : ℕ) (run : Run) (p : Pixel) → i < length runs → run ≡ get_or runs i run
-    → run_of_some (take (i + 1) runs) p ≡ (run_of_some (take i runs) p || run_covers run p)
-one_run_more runs i run p within read =
-    list_any_more (λ r. run_covers r p) runs i run within
-    ∙ ap (λ (r : Run). run_of_some (take i runs) p || run_covers r p) (sym read)
+pub one_run_more : (w : Window) (runs : List Run) (i : ℕ) (run : Run) (p : Pixel) → i < length runs
+    → run ≡ get_or runs i run
+    → run_of_some w (take (i + 1) runs) p ≡ (run_of_some w (take i runs) p || (in_window w p && run_covers run p))
+one_run_more w runs i run p within read =
+    ap (λ t. in_window w p && t)
+    (list_any_more (λ r. run_covers r p) runs i run within
+    ∙ ap (λ (r : Run). list_any (λ r. run_covers r p) (take i runs) || run_covers r p) (sym read))
+    ∙ and_or (in_window w p) (list_any (λ r. run_covers r p) (take i runs)) (run_covers run p)
+
+-- ---- window by window
+
+-- one of the windows has the pixel, and the seed covers it
+abbrev pub covered_in : List Window → Seed → Pixel → Bool
+covered_in ws seed p = in_some ws p && covers seed p
+
+-- ---- a span as cells
+
+-- a place on an earlier row is before the start of a row
+row_before : (width x y row : ℕ) → x < width → y < row → y * width + x < row * width
+row_before width x y row inside before =
+    let next : y + 1 ≤ row = omega arith in
+    let rows : (y + 1) * width ≤ row * width = mul-le-mul_right width next in
+    omega (arith, rows)
+
+-- cells led over between two places of one row
+module _ (y first end from to : ℕ) (brush : Brush) (mask old new : Raster) (size : AreOfOneSize mask old)
+    (columns : end ≤ mask.width) (from_is : from ≡ y * mask.width + first) (to_is : to ≡ y * mask.width + end)
+    (cells : AreCellsBrushed from to brush mask old new) (p : Pixel) (inside : IsInside mask.width mask.height p) where
+  old_at : value_at old p ≡ slice_index old.cells (index_of mask.width p)
+  old_at = ap (λ w. slice_index old.cells (index_of w p)) size.width
+
+  new_at : value_at new p ≡ slice_index new.cells (index_of mask.width p)
+  new_at = ap (λ w. slice_index new.cells (index_of w p)) (cells.width ∙ size.width)
+
+  within_old : index_of mask.width p < length old.cells
+  within_old =
+      subst (λ w. index_of w p < length old.cells) size.width
+      (index_of-within old p size.filled (rw (size.width, size.height) inside))
+
+  -- a pixel of the span
+  cell_in_span : is_between y first end p ≡ true
+      → value_at new p ≡ brushed_if (is_between y first end p) brush (value_at mask p) (value_at old p)
+  cell_in_span between =
+      let row : p.y ≡ y = grind (arith, nat_tests) in
+      let above : first ≤ p.x = grind (arith, nat_tests) in
+      let below : p.x < end = grind (arith, nat_tests) in
+      let start : p.y * mask.width ≡ y * mask.width = ap (λ k. k * mask.width) row in
+      let led = cells.inside (index_of mask.width p) (omega arith) (omega arith) in
+      new_at ∙ led ∙ ap (λ v. brushed brush (value_at mask p) v) (sym old_at)
+      ∙ ap (λ t. brushed_if t brush (value_at mask p) (value_at old p)) (sym between)
+
+  -- a pixel beside it
+  cell_beside : is_between y first end p ≡ false
+      → slice_index new.cells (index_of mask.width p) ≡ slice_index old.cells (index_of mask.width p)
+      → value_at new p ≡ brushed_if (is_between y first end p) brush (value_at mask p) (value_at old p)
+  cell_beside beside same =
+      new_at ∙ same ∙ sym old_at
+      ∙ ap (λ t. brushed_if t brush (value_at mask p) (value_at old p)) (sym beside)
+
+  pub cell_of_span : value_at new p ≡ brushed_if (is_between y first end p) brush (value_at mask p) (value_at old p)
+  cell_of_span = elim (cases_lt p.y y) [
+    | inl earlier ↦
+        let before : p.y * mask.width + p.x < y * mask.width = row_before mask.width p.x p.y y inside.0 earlier in
+        cell_beside (grind (arith, nat_tests)) (cells.before (index_of mask.width p) (omega arith))
+    | inr not_earlier ↦ elim (cases_lt y p.y) [
+      | inl later ↦
+          let next : y + 1 ≤ p.y = omega arith in
+          let rows : (y + 1) * mask.width ≤ p.y * mask.width = mul-le-mul_right mask.width next in
+          cell_beside (grind (arith, nat_tests)) (cells.after (index_of mask.width p) (omega (arith, rows)) within_old)
+      | inr not_later ↦
+          let row : p.y ≡ y = omega arith in
+          let start : p.y * mask.width ≡ y * mask.width = ap (λ k. k * mask.width) row in
+          elim (cases_lt p.x first) [
+            | inl left ↦ cell_beside (grind (arith, nat_tests)) (cells.before (index_of mask.width p) (omega arith))
+            | inr not_left ↦ elim (cases_lt p.x end) [
+              | inl here ↦ cell_in_span (grind (arith, nat_tests))
+              | inr right ↦
+                  cell_beside (grind (arith, nat_tests)) (cells.after (index_of mask.width p) (omega arith) within_old)
+            ]
+          ]
+    ]
+  ]
+
+-- cells led over between two places of one row are a painted span
+pub cells_are_span : (y first end from to : ℕ) (brush : Brush) (mask old new : Raster) → AreOfOneSize mask old
+    → end ≤ mask.width → from ≡ y * mask.width + first → to ≡ y * mask.width + end
+    → AreCellsBrushed from to brush mask old new
+    → IsPaintedBy (is_between y first end) brush mask old new
+cells_are_span y first end from to brush mask old new size columns from_is to_is cells = record {
+  size = record {
+    width = cells.width ∙ size.width;
+    height = cells.height ∙ size.height;
+    filled = rw (cells.width, cells.height) (cells.count ∙ size.filled);
+  };
+  values = λ p inside. cell_of_span y first end from to brush mask old new size columns from_is to_is cells p inside;
+}
+
+-- an empty span paints nothing
+pub empty_span : (y first end : ℕ) (brush : Brush) (mask old : Raster) → AreOfOneSize mask old → end ≤ first
+    → IsPaintedBy (is_between y first end) brush mask old old
+empty_span y first end brush mask old size empty =
+    painted_nothing (is_between y first end) brush mask old size (λ p _. grind (arith, nat_tests))

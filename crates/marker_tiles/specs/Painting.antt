@@ -1,15 +1,34 @@
--- What is painted on a marker: runs and the rows of a disc, span by span. Private functions have it in their contracts.
-use Rattle.std.specs.Prelude.{◌≡◌, ℕ, ◌==◌, ◌&&◌, Bool, min, max, nat_le, nat_lt, if◌then◌else◌}
+-- What is painted on an image: runs and the rows of a disc, span by span, within a window. Private functions have it
+-- in their contracts.
+use Rattle.std.specs.Prelude.{◌≡◌, ℕ, ◌<◌, ◌≤◌, ◌==◌, ◌&&◌, Bool, min, max, nat_le, nat_lt, if◌then◌else◌}
+use Rattle.std.specs.Prelude.{List, length, slice_index}
+use Rattle.std.specs.List.{list_any, AllByRecursion}
 use Rattle.grid_core.specs.declared.pixel.Pixel.{Pixel}
 use Rattle.grid_core.specs.Raster.{Raster, IsInside, IsFilled, value_at}
-
--- the pixel has these coordinates
-abbrev pub is_at : ℕ → ℕ → Pixel → Bool
-is_at x y p = (p.y == y) && (p.x == x)
+use Rattle.marker_tiles.specs.declared.brush.Brush.{Brush}
+use Rattle.marker_tiles.specs.declared.brush.Brush.TheVariants.{Raise, Clear}
+use Rattle.marker_tiles.specs.declared.window.Window.{Window}
 
 -- the pixel lies on this row, from the first column up to the end, which is left out
 abbrev pub is_between : ℕ → ℕ → ℕ → Pixel → Bool
 is_between y first end p = (p.y == y) && (nat_le first p.x && nat_lt p.x end)
+
+-- the pixel lies in the window
+abbrev pub in_window : Window → Pixel → Bool
+in_window w p = (nat_le w.left p.x && nat_lt p.x w.right) && (nat_le w.top p.y && nat_lt p.y w.bottom)
+
+-- one of the windows has the pixel
+abbrev pub in_some : List Window → Pixel → Bool
+in_some windows p = list_any (λ w. in_window w p) windows
+
+-- the window ends where an image of this width and height does, or before
+pub record WindowFits (width height : ℕ) (w : Window) : Type 0 where
+  pub columns : w.right ≤ width
+  pub rows : w.bottom ≤ height
+
+-- all these windows do
+abbrev pub WindowsFit : ℕ → ℕ → List Window → Type 0
+WindowsFit width height windows = AllByRecursion (λ w. WindowFits width height w) windows
 
 -- the images have one size, and the second has a value for each pixel
 pub record AreOfOneSize (mask image : Raster) : Type 0 where
@@ -17,12 +36,28 @@ pub record AreOfOneSize (mask image : Raster) : Type 0 where
   pub height : image.height ≡ mask.height
   pub filled : IsFilled image
 
--- the greater of the two values where the test holds, else the old one
-abbrev pub raised : Bool → ℕ → ℕ → ℕ
-raised b value old = if b then max old value else old
+-- the value that a brush leaves where the mask and the image have these
+abbrev pub brushed : Brush → ℕ → ℕ → ℕ
+brushed (Raise level) limit old = max old (min limit level)
+brushed Clear limit old = 0
 
--- the new image is the old one, raised where the test holds to the level, as far as the mask lets it
-pub record IsPaintedBy (test : Pixel → Bool) (level : ℕ) (mask old new : Raster) : Type 0 where
+-- the value that the brush leaves where the test holds, else the old one
+abbrev pub brushed_if : Bool → Brush → ℕ → ℕ → ℕ
+brushed_if b brush limit old = if b then brushed brush limit old else old
+
+-- the new image is the old one, with the brush led over the pixels where the test holds
+pub record IsPaintedBy (test : Pixel → Bool) (brush : Brush) (mask old new : Raster) : Type 0 where
   pub size : AreOfOneSize mask new
   pub values : (p : Pixel) → IsInside mask.width mask.height p
-      → value_at new p ≡ raised (test p) (min (value_at mask p) level) (value_at old p)
+      → value_at new p ≡ brushed_if (test p) brush (value_at mask p) (value_at old p)
+
+-- the cells of the new image from the first place up to the second are those of the old one with the brush led over
+-- them, and the others are the old ones
+pub record AreCellsBrushed (from to : ℕ) (brush : Brush) (mask old new : Raster) : Type 0 where
+  pub width : new.width ≡ old.width
+  pub height : new.height ≡ old.height
+  pub count : length new.cells ≡ length old.cells
+  pub inside : (k : ℕ) → from ≤ k → k < to
+      → slice_index new.cells k ≡ brushed brush (slice_index mask.cells k) (slice_index old.cells k)
+  pub before : (k : ℕ) → k < from → slice_index new.cells k ≡ slice_index old.cells k
+  pub after : (k : ℕ) → to ≤ k → k < length old.cells → slice_index new.cells k ≡ slice_index old.cells k

@@ -3,11 +3,13 @@
 ghost use Rattle.std.specs.Prelude.{IfOk};
 ghost use Rattle.grid_core.specs.declared.conn.Conn.{Conn};
 ghost use Rattle.grid_core.specs.Path.{domain_of};
-ghost use Rattle.grid_core.specs.Raster.{IsBelow, value_at};
+ghost use Rattle.grid_core.specs.Raster.{IsBelow, IsSized, value_at};
 ghost use Rattle.stroke_lattice.specs.State.{StateFits};
 ghost use Rattle.marker_tiles.specs.Marker.{IsMarker};
+ghost use Rattle.marker_tiles.specs.UnderTags.{IsBlankOn};
 
-use crate::paint::paint;
+use crate::strokes::raise_by_live;
+use crate::window::Window;
 use grid_core::{Grid, Memory};
 use std::alloc::Global;
 use stroke_lattice::State;
@@ -18,17 +20,22 @@ use stroke_lattice::State;
 /// Each stroke of the state, live or not, has to fit the mask.
 ///
 /// Errors: out of memory.
-#[tactic(auto, using(crate::proofs::Marking::under_way_start))]
 pub fn marker(alloc: Global, mask: &Grid, state: &State) -> Result<Grid, Memory>
     requires { StateFits mask.now.width mask.now.height state.now }
     ensures below { IfOk result (λ m. IsBelow m mask.now) }
     ensures marks { IfOk result (λ m. (conn : Conn)
         → IsMarker (domain_of mask.now conn) (value_at mask.now) state.now (value_at m)) }
 {
-    let cells = vec![in alloc; 0; mask.cells().len()]?;
-    let mut marker = Grid::from_cells(mask.width(), mask.height(), cells);
-    for (_, stroke) in state.live() {
-        paint(&mut marker, mask, stroke);
-    }
+    let mut marker = blank(alloc, mask)?;
+    raise_by_live(&mut marker, mask, state, &[Window::whole(mask)]);
     Ok(marker)
+}
+
+/// An image of zeros, of the mask's size.
+pub(crate) fn blank(alloc: Global, mask: &Grid) -> Result<Grid, Memory>
+    ensures blank { IfOk result (IsBlankOn mask.now) }
+    ensures sized { IsSized mask.now }
+{
+    let cells = vec![in alloc; 0; mask.cells().len()]?;
+    Ok(Grid::from_cells(mask.width(), mask.height(), cells))
 }

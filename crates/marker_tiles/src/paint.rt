@@ -1,62 +1,104 @@
-//! Painting one stroke onto a marker.
+//! Painting one stroke onto an image.
 
-ghost use Rattle.std.specs.Prelude.{◌+◌, ◌*◌, ◌<◌, ◌≤◌};
+ghost use Rattle.std.specs.Prelude.{◌+◌, ◌*◌, ◌<◌, ◌≤◌, ◌&&◌, length};
 ghost use Rattle.std.specs.List.{list_any, AllByRecursion};
-ghost use Rattle.grid_core.specs.Raster.{IsInside};
-ghost use Rattle.stroke_core.specs.Seed.{Fits, covers, run_covers, disc_covers, max_radius};
-ghost use Rattle.marker_tiles.specs.Painting.{AreOfOneSize, IsPaintedBy, is_at, is_between};
+ghost use Rattle.stroke_core.specs.Seed.{AreOrdered, Fits, covers, run_covers, disc_covers, max_radius};
+ghost use Rattle.marker_tiles.specs.Painting.{AreOfOneSize, WindowFits, WindowsFit, IsPaintedBy};
+ghost use Rattle.marker_tiles.specs.Painting.{AreCellsBrushed, in_window, in_some, is_between};
 
+use crate::brush::{Brush, brush_row};
+use crate::window::Window;
+use grid_core::laws::cells_given_back;
 use grid_core::{Grid, Pixel};
 use stroke_core::{Kind, Run, Stroke};
 
-/// Raises the marker on each pixel of the image that the stroke covers to the stroke's level, as far as the
-/// mask lets it.
-pub(crate) fn paint(marker: &mut Grid, mask: &Grid, stroke: &Stroke)
+/// Leads the brush over each pixel of one of the windows that the stroke covers.
+pub(crate) fn paint_within(
+    marker: &mut Grid,
+    mask: &Grid,
+    stroke: &Stroke,
+    windows: &[Window],
+    brush: Brush,
+)
     requires size { AreOfOneSize mask.now marker.old }
     requires fits { Fits mask.now.width mask.now.height stroke.now }
-    ensures { IsPaintedBy (covers stroke.now) stroke.now.level mask.now marker.old marker.new }
+    requires windows { WindowsFit mask.now.width mask.now.height windows.now }
+    ensures { IsPaintedBy (λ p. in_some windows.now p && covers stroke.now p) brush mask.now marker.old marker.new }
 {
-    let level = u32::from(stroke.level());
+    for window in windows {
+        paint(marker, mask, stroke, *window, brush);
+    }
+}
+
+/// Leads the brush over each pixel of the window that the stroke covers.
+pub(crate) fn paint(marker: &mut Grid, mask: &Grid, stroke: &Stroke, window: Window, brush: Brush)
+    requires size { AreOfOneSize mask.now marker.old }
+    requires fits { Fits mask.now.width mask.now.height stroke.now }
+    requires window { WindowFits mask.now.width mask.now.height window }
+    ensures { IsPaintedBy (λ p. in_window window p && covers stroke.now p) brush mask.now marker.old marker.new }
+{
     match stroke.kind() {
-        Kind::Runs => paint_runs(marker, mask, stroke.runs(), level),
+        Kind::Runs => paint_runs(marker, mask, stroke.runs(), window, brush),
         Kind::Disc { x, y, r } => {
             let center = Pixel {
                 x: u32::from(x),
                 y: u32::from(y),
             };
-            paint_disc(marker, mask, center, u32::from(r), level);
+            paint_disc(marker, mask, center, u32::from(r), window, brush);
         }
     }
 }
 
-// Raises the marker on each pixel of the runs to the level, as far as the mask lets it.
-fn paint_runs(marker: &mut Grid, mask: &Grid, runs: &[Run], level: u32)
+// Leads the brush over each pixel of the window that one of the runs has.
+fn paint_runs(marker: &mut Grid, mask: &Grid, runs: &[Run], window: Window, brush: Brush)
     requires size { AreOfOneSize mask.now marker.old }
+    requires order { AreOrdered runs.now }
     requires fit { AllByRecursion (λ run. (run.y < mask.now.height) × (run.x1 < mask.now.width)) runs.now }
-    ensures { IsPaintedBy (λ p. list_any (λ run. run_covers run p) runs.now) level mask.now marker.old marker.new }
+    requires window { WindowFits mask.now.width mask.now.height window }
+    ensures { IsPaintedBy (λ p. in_window window p && list_any (λ run. run_covers run p) runs.now) brush mask.now
+        marker.old marker.new }
 {
+    if !window.meets(runs) {
+        return;
+    }
     for run in runs {
-        let y = u32::from(run.y);
-        let first = u32::from(run.x0);
-        let last = u32::from(run.x1);
-        paint_span(marker, mask, y, first, last + 1, level);
+        paint_run(marker, mask, *run, window, brush);
     }
 }
 
-// Raises the marker on each pixel of the disc that lies in the image to the level, as far as the mask lets it.
-fn paint_disc(marker: &mut Grid, mask: &Grid, center: Pixel, r: u32, level: u32)
+// Leads the brush over each pixel of the window that the run has.
+fn paint_run(marker: &mut Grid, mask: &Grid, run: Run, window: Window, brush: Brush)
     requires size { AreOfOneSize mask.now marker.old }
-    requires inside { IsInside mask.now.width mask.now.height center }
-    requires radius { r ≤ max_radius }
-    ensures { IsPaintedBy (disc_covers center.x center.y r) level mask.now marker.old marker.new }
+    requires row { run.y < mask.now.height }
+    requires columns { run.x1 < mask.now.width }
+    requires window { WindowFits mask.now.width mask.now.height window }
+    ensures { IsPaintedBy (λ p. in_window window p && run_covers run p) brush mask.now marker.old marker.new }
 {
-    let top = center.y.saturating_sub(r);
-    let bottom = mask.height().min(center.y + r + 1);
+    let y = u32::from(run.y);
+    if window.top <= y && y < window.bottom {
+        let first = window.left.max(u32::from(run.x0));
+        let end = window.right.min(u32::from(run.x1) + 1);
+        paint_span(marker, mask, y, first, end, brush);
+    }
+}
+
+// Leads the brush over each pixel of the window that the disc has.
+fn paint_disc(marker: &mut Grid, mask: &Grid, center: Pixel, r: u32, window: Window, brush: Brush)
+    requires size { AreOfOneSize mask.now marker.old }
+    requires column { center.x ≤ u16.MAX }
+    requires row { center.y ≤ u16.MAX }
+    requires radius { r ≤ max_radius }
+    requires window { WindowFits mask.now.width mask.now.height window }
+    ensures { IsPaintedBy (λ p. in_window window p && disc_covers center.x center.y r p) brush mask.now
+        marker.old marker.new }
+{
+    let top = window.top.max(center.y.saturating_sub(r));
+    let bottom = window.bottom.min(center.y + r + 1);
     for y in top..bottom {
         let half = half_width(r, center.y.abs_diff(y));
-        let first = center.x.saturating_sub(half);
-        let end = mask.width().min(center.x + half + 1);
-        paint_span(marker, mask, y, first, end, level);
+        let first = window.left.max(center.x.saturating_sub(half));
+        let end = window.right.min(center.x + half + 1);
+        paint_span(marker, mask, y, first, end, brush);
     }
 }
 
@@ -70,24 +112,34 @@ fn half_width(r: u32, dy: u32) -> u32
     (r * r - dy * dy).isqrt()
 }
 
-// Raises the marker on the pixels of row `y` from column `first` up to column `end`, which is left out.
-fn paint_span(marker: &mut Grid, mask: &Grid, y: u32, first: u32, end: u32, level: u32)
+// Leads the brush over the pixels of row `y` from column `first` up to column `end`, which is left out.
+fn paint_span(marker: &mut Grid, mask: &Grid, y: u32, first: u32, end: u32, brush: Brush)
     requires size { AreOfOneSize mask.now marker.old }
     requires row { y < mask.now.height }
     requires columns { end ≤ mask.now.width }
-    ensures { IsPaintedBy (is_between y first end) level mask.now marker.old marker.new }
+    ensures { IsPaintedBy (is_between y first end) brush mask.now marker.old marker.new }
 {
-    for x in first..end {
-        raise(marker, mask, Pixel { x, y }, level);
+    if first < end {
+        let start = y as usize * mask.width() as usize;
+        paint_cells(
+            marker,
+            mask,
+            start + first as usize,
+            start + end as usize,
+            brush,
+        );
     }
 }
 
-// Raises the marker at one pixel to the level, as far as the mask lets it.
-fn raise(marker: &mut Grid, mask: &Grid, p: Pixel, level: u32)
+// Leads the brush over the cells from `from` up to `to`, which is left out.
+fn paint_cells(marker: &mut Grid, mask: &Grid, from: usize, to: usize, brush: Brush)
     requires size { AreOfOneSize mask.now marker.old }
-    requires inside { IsInside mask.now.width mask.now.height p }
-    ensures { IsPaintedBy (is_at p.x p.y) level mask.now marker.old marker.new }
+    requires order { from ≤ to }
+    requires within { to ≤ length marker.old.cells }
+    ensures { AreCellsBrushed from to brush mask.now marker.old marker.new }
 {
-    let value = mask.get(p).min(level).max(marker.get(p));
-    marker.set(p, value);
+    cells_given_back();
+    let limits = &mask.cells()[from..to];
+    let cells = marker.cells_mut();
+    brush_row(&mut cells[from..to], limits, brush);
 }

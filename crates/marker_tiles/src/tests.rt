@@ -1,6 +1,10 @@
 ghost use Rattle.grid_core.specs.Raster.{IsSized};
 
+mod keeping;
+mod scene;
+
 use crate::marker;
+use crate::tests::scene::Scene;
 use grid_core::Grid;
 use std::alloc::Global;
 use std::test::Fail;

@@ -5,4 +5,5 @@ use Rattle.marker_tiles.proofs.paint.paint_runs.Given as goal
 
 -- the runs so far are painted
 abbrev pub invariant-loop-run : goal.invariant-loop-run
-invariant-loop-run l = IsPaintedBy (run_of_some (take l.run-index l.runs)) l.level l.mask l.fn.marker l.marker
+invariant-loop-run l =
+    IsPaintedBy (run_of_some l.window (take l.run-index l.runs)) l.brush l.mask l.fn.marker l.marker

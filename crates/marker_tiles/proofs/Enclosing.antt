@@ -1,0 +1,46 @@
+-- The windows round runs and discs.
+use Rattle.std.proofs.Common.{◌≡◌, ℕ, ◌+◌, ◌-◌, ◌<◌, ◌≤◌, ◌⊎◌, inl, inr, Bool, true, false, List, length, get_or}
+use Rattle.std.proofs.Common.{take, sym, ap, ◌∙◌, refl, arith}
+use Rattle.std.specs.Prelude.{◌||◌, IsTrue}
+use Rattle.std.specs.List.{list_any}
+use Rattle.std.proofs.lemmas.Bool.{cases_lt}
+use Rattle.std.proofs.lemmas.Bool.Decides.{nat_tests}
+use Rattle.std.proofs.lemmas.List.Folds.{list_any_more}
+use Rattle.grid_core.specs.declared.pixel.Pixel.{Pixel}
+use Rattle.grid_core.specs.Neighbours.{apart}
+use Rattle.stroke_core.specs.Seed.{disc_covers}
+use Rattle.marker_tiles.specs.declared.window.Window.{Window}
+use Rattle.marker_tiles.specs.Painting.{in_window}
+use Rattle.marker_tiles.proofs.Spans.{beyond_radius, beyond_column}
+
+-- a pixel of a disc is on a row, and in a column, at most the radius away
+disc_near_row : (x y r : ℕ) (p : Pixel) → disc_covers x y r p ≡ true → apart y p.y ≤ r
+disc_near_row x y r p has = elim (cases_lt r (apart y p.y)) [
+  | inl far ↦ absurd (let none = beyond_radius x y r p far in let both : true ≡ false = sym has ∙ none in cc)
+  | inr near ↦ near
+]
+
+disc_near_column : (x y r : ℕ) (p : Pixel) → disc_covers x y r p ≡ true → apart x p.x ≤ r
+disc_near_column x y r p has = elim (cases_lt r (apart x p.x)) [
+  | inl far ↦ absurd (let none = beyond_column x y r p far in let both : true ≡ false = sym has ∙ none in cc)
+  | inr near ↦ near
+]
+
+pub disc_in_window : (x y r : ℕ) (w : Window) (p : Pixel) → w.left ≡ x - r → w.right ≡ x + r + 1 → w.top ≡ y - r
+    → w.bottom ≡ y + r + 1 → IsTrue (disc_covers x y r p) → IsTrue (in_window w p)
+disc_in_window x y r w p left right top bottom has =
+    let row : apart y p.y ≤ r = disc_near_row x y r p has in
+    let column : apart x p.x ≤ r = disc_near_column x y r p has in
+    grind (arith, nat_tests)
+
+pub either : (a b : Bool) → (a || b) ≡ true → (a ≡ true) ⊎ (b ≡ true)
+either true b e = inl refl
+either false b e = inr e
+
+-- what one of some elements passes, one of those before the last or the last does
+pub any_of_more : {X : Type 0} (test : X → Bool) (xs : List X) (i : ℕ) (x : X) → i < length xs
+    → x ≡ get_or xs i x → IsTrue (list_any test (take (i + 1) xs))
+    → IsTrue (list_any test (take i xs)) ⊎ IsTrue (test x)
+any_of_more test xs i x within read has =
+    either (list_any test (take i xs)) (test x)
+    (ap (λ y. list_any test (take i xs) || test y) read ∙ sym (list_any_more test xs i x within) ∙ has)

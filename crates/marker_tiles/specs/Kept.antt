@@ -1,0 +1,25 @@
+-- A marker that is kept up to date while the state changes.
+use Rattle.grid_core.specs.declared.conn.Conn.{Conn}
+use Rattle.grid_core.specs.Path.{domain_of}
+use Rattle.grid_core.specs.Raster.{Raster, value_at}
+use Rattle.grid_core.specs.Tiles.{Tiles}
+use Rattle.stroke_lattice.specs.State.{State, IsBelow}
+use Rattle.stroke_lattice.specs.Change.{Turnover, IsChange}
+use Rattle.marker_tiles.specs.Marker.{IsMarker}
+
+-- a mask, the marker that is kept for it, and how both are cut into tiles
+pub record Kept : Type 0 where
+  pub mask : Raster
+  pub marker : Raster
+  pub tiling : Tiles
+
+-- the image is the marker of the mask and the state, whichever pixels are neighbours
+abbrev pub IsMarkerOf : Raster → State → Raster → Type 0
+IsMarkerOf mask s image = (conn : Conn) → IsMarker (domain_of mask conn) (value_at mask) s (value_at image)
+
+-- the image is the marker of the mask and of a state that has since grown to this one, by this change
+pub record HasGrown (mask image : Raster) (after : State) (change : Turnover) : Type 0 where
+  pub before : State
+  pub was : IsMarkerOf mask before image
+  pub rises : IsBelow before after
+  pub changed : IsChange before after change

@@ -1,0 +1,47 @@
+//! What painting leaves on the values of a row.
+
+ghost use Rattle.std.specs.Prelude.{◌≡◌, length, slice_index, EachIndex, max, min};
+ghost use Rattle.stroke_core.specs.Seed.{Seed};
+ghost use Rattle.marker_tiles.specs.Painting.{brushed};
+ghost use Rattle.marker_tiles.specs.declared.brush.Brush.{Brush};
+
+use stroke_core::Stroke;
+
+/// What painting does to a value.
+#[derive(Clone, Copy)]
+pub(crate) enum Brush {
+    /// Raises it to this level, as far as the mask lets it.
+    Raise(u32),
+    /// Makes it 0.
+    Clear,
+}
+
+/// The brush that raises to the level of a stroke.
+pub(crate) fn level_brush(stroke: &Stroke) -> Brush
+    ensures { result ≡ Brush.Raise stroke.now.level }
+{
+    Brush::Raise(u32::from(stroke.level()))
+}
+
+/// Leads the brush over a row of values, under the mask's values there.
+pub(crate) fn brush_row(row: &mut [u32], limits: &[u32], brush: Brush)
+    requires { length limits.now ≡ length row.old }
+    ensures { EachIndex row.new (λ k. slice_index row.new k
+        ≡ brushed brush (slice_index limits.now k) (slice_index row.old k)) }
+{
+    match brush {
+        Brush::Raise(level) => raise_row(row, limits, level),
+        Brush::Clear => row.fill(0),
+    }
+}
+
+// Raises each value to the level, as far as its limit lets it.
+fn raise_row(row: &mut [u32], limits: &[u32], level: u32)
+    requires { length limits.now ≡ length row.old }
+    ensures { EachIndex row.new (λ k. slice_index row.new k
+        ≡ max (slice_index row.old k) (min (slice_index limits.now k) level)) }
+{
+    for i in 0..row.len() {
+        row[i] = row[i].max(limits[i].min(level));
+    }
+}
