@@ -1,4 +1,9 @@
 pub use Rattle.grid_core.specs.Path
 pub use Rattle.grid_core.specs.Raster
 pub use Rattle.grid_core.specs.Reconstruction
+pub use Rattle.grid_core.specs.Rects
 pub mod Flood
+pub mod Growth
+pub mod RowPairs
+pub mod RowRaises
+pub mod Spans

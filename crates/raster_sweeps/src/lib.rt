@@ -1,21 +1,46 @@
+#![tactic(auto)]
 //! Growing: the reconstruction by dilation of a mask from a marker (Vincent, "Morphological Grayscale
 //! Reconstruction in Image Analysis", 1993).
 //!
 //! The marker has to be at most the mask, pixel by pixel. Its levels spread from neighbour to neighbour, as far
-//! as the mask lets them. [`slow`] makes the reconstruction:
+//! as the mask lets them. [`grow`] makes the reconstruction:
 //!
 //! ```text
 //! let mask = Grid::from_cells(5, 1, [3, 5, 2, 5, 4].to_vec(alloc)?);
 //! let marker = Grid::from_cells(5, 1, [0, 5, 0, 0, 0].to_vec(alloc)?);
-//! let image = slow(alloc, &mask, &marker, Conn::Four)?;   // the cells are 3 5 2 2 2
+//! let image = grow(alloc, &mask, &marker, Conn::Four)?;   // the cells are 3 5 2 2 2
+//! is_closed(&mask, &image, Conn::Four);                   // true: no pixel can raise a neighbour further
 //! ```
 //!
-//! It floods one threshold after another, as the definition says it, and so takes time for each level.
+//! It has the hybrid form of that paper: a raster scan raises each pixel by those before it, an anti-raster scan by
+//! those after it, and what can then still be raised goes through a queue, first in, first out. Where the queue is
+//! full, it goes back to the scans.
 //!
-//! Read on in `grid_core`: its `specs/Path.antt` says which levels a pixel reaches, and its
-//! `specs/Reconstruction.antt` what a reconstruction is; and then at [`slow`].
-#![tactic(auto)]
+//! [`grow_in_place`] does the same to an image that is there already, and [`grow_within`] inside a rectangle of one,
+//! where it leaves every pixel outside as it was. That takes no memory: the caller lends it a [`Room`], and may use
+//! that again. There each row is checked first, so that a rectangle in which little can rise is not scanned.
+//!
+//! [`slow`] floods one threshold after another, as the definition says it, and so takes time for each level. It is
+//! there to compare with.
+//!
+//! Read on in `grid_core`: its `specs/Path.antt` says which levels a pixel reaches, its
+//! `specs/Reconstruction.antt` what a reconstruction is, and its `specs/Rects.antt` what a rectangle is; and then at
+//! [`grow_within`].
 
+mod closed;
+mod growth;
+mod neighbourhood;
+mod open_pairs;
+mod raising;
+mod row_raises;
+mod rows;
+mod scans;
 mod thresholds;
+mod waiting;
 
+pub use closed::is_closed;
+pub use growth::{Room, grow, grow_in_place, grow_within};
 pub use thresholds::slow;
+
+#[cfg(test)]
+mod tests;

@@ -1,0 +1,197 @@
+-- Cells that are raised to one level, as far as the mask lets them, and the queue of those that rose.
+use Rattle.std.proofs.Common.{◌≡◌, ℕ, ◌+◌, ◌<◌, ◌≤◌, ◌⊎◌, List, [], ◌∷◌, ◌++◌, length, min, max, set, sym, ◌∙◌, subst}
+use Rattle.std.proofs.Common.{arith, inl, inr, refl, get_or}
+use Rattle.std.specs.List.{Contains}
+use Rattle.std.proofs.lemmas.Bool.{cases_eq, cases_lt}
+use Rattle.std.proofs.lemmas.List.{length-set, get_or-set_same, get_or-set_other}
+use Rattle.std.proofs.lemmas.List.Elements.{Contains-append_left, Contains-push}
+use Rattle.raster_sweeps.specs.declared.neighbourhood.Span.{Span}
+use Rattle.raster_sweeps.specs.Spans.{InSpan, IsRaised, AreQueued}
+
+-- no cell is raised
+pub raised_none : (at : ℕ → Type 0) (mask : List ℕ) (level : ℕ) (cells : List ℕ) → ((k : ℕ) → at k → ⊥)
+    → IsRaised at mask level cells cells
+raised_none at mask level cells none = record {
+  filled = refl;
+  raised = λ k here. absurd (none k here);
+  each = λ k. inl refl;
+}
+
+-- the same cells, said in another way
+pub raised_at : (at other : ℕ → Type 0) (mask : List ℕ) (level : ℕ) (before after : List ℕ)
+    → ((k : ℕ) → at k → other k) → ((k : ℕ) → other k → at k)
+    → IsRaised at mask level before after → IsRaised other mask level before after
+raised_at at other mask level before after to from raised = record {
+  filled = raised.filled;
+  raised = λ k here. raised.raised k (from k here);
+  each = λ k. elim (raised.each k) [ inl same ↦ inl same | inr rose ↦ inr (to k rose.0, rose.1) ];
+}
+
+-- a cell is raised that lies lower
+pub raised_one : (mask : List ℕ) (level : ℕ) (cells : List ℕ) (j : ℕ) → j < length cells
+    → get_or cells j 0 < min level (get_or mask j 0)
+    → IsRaised (λ k. k ≡ j) mask level cells (set cells j (min level (get_or mask j 0)))
+raised_one mask level cells j within lower =
+    let v : ℕ = min level (get_or mask j 0) in
+    let new : List ℕ = set cells j v in
+    let here : get_or new j 0 ≡ v = get_or-set_same cells j v 0 within in
+    let rose : get_or new j 0 ≡ max (get_or cells j 0) (min level (get_or mask j 0)) = omega (arith, here, lower) in
+    let at_j : (k : ℕ) → k ≡ j → get_or new k 0 ≡ max (get_or cells k 0) (min level (get_or mask k 0)) =
+    λ k e. subst (λ i. get_or new i 0 ≡ max (get_or cells i 0) (min level (get_or mask i 0))) (sym e) rose in
+    record {
+      filled = length-set cells j v;
+      raised = at_j;
+      each = λ k. elim (cases_eq k j) [
+        | inl e ↦ inr (e, at_j k e)
+        | inr other ↦ inl (get_or-set_other cells j k v 0 other)
+      ];
+    }
+
+-- a cell is not raised that lies as high
+pub raised_not : (mask : List ℕ) (level : ℕ) (cells : List ℕ) (j : ℕ)
+    → min level (get_or mask j 0) ≤ get_or cells j 0 → IsRaised (λ k. k ≡ j) mask level cells cells
+raised_not mask level cells j high = record {
+  filled = refl;
+  raised = λ k e.
+      subst (λ i. get_or cells i 0 ≡ max (get_or cells i 0) (min level (get_or mask i 0))) (sym e)
+      (omega (arith, high));
+  each = λ k. inl refl;
+}
+
+-- cells are raised, and then others
+pub raised_twice : (at other : ℕ → Type 0) (mask : List ℕ) (level : ℕ) (before between after : List ℕ)
+    → IsRaised at mask level before between → IsRaised other mask level between after
+    → IsRaised (λ k. at k ⊎ other k) mask level before after
+raised_twice at other mask level before between after first second =
+    let from_between : (k : ℕ) → get_or between k 0 ≡ max (get_or before k 0) (min level (get_or mask k 0))
+    → get_or after k 0 ≡ max (get_or before k 0) (min level (get_or mask k 0)) =
+    λ k e. elim (second.each k) [ inl same ↦ omega (arith, same, e) | inr rose ↦ omega (arith, rose.1, e) ] in
+    let at_other : (k : ℕ) → other k → get_or after k 0 ≡ max (get_or before k 0) (min level (get_or mask k 0)) =
+    λ k here. elim (first.each k) [
+      | inl same ↦ omega (arith, same, second.raised k here)
+      | inr rose ↦ omega (arith, rose.1, second.raised k here)
+    ] in
+    record {
+      filled = second.filled ∙ first.filled;
+      raised = λ k here. elim here [
+        | inl at_first ↦ from_between k (first.raised k at_first)
+        | inr at_second ↦ at_other k at_second
+      ];
+      each = λ k. elim (second.each k) [
+        | inr rose ↦ inr (inr rose.0, at_other k rose.0)
+        | inl same ↦ elim (first.each k) [
+          | inl kept ↦ inl (same ∙ kept)
+          | inr rose ↦ inr (inl rose.0, same ∙ rose.1)
+        ]
+      ];
+    }
+
+-- no cell that is raised falls
+pub raised_rises : (at : ℕ → Type 0) (mask : List ℕ) (level : ℕ) (before after : List ℕ)
+    → IsRaised at mask level before after → (k : ℕ) → get_or before k 0 ≤ get_or after k 0
+raised_rises at mask level before after raised k =
+    elim (raised.each k) [ inl same ↦ omega (arith, same) | inr rose ↦ omega (arith, rose.1) ]
+
+-- no cell is queued
+pub queued_none : (at : ℕ → Type 0) (mask : List ℕ) (level : ℕ) (cells waiting : List ℕ) → ((k : ℕ) → at k → ⊥)
+    → AreQueued at mask level cells waiting waiting
+queued_none at mask level cells waiting none = record {
+  kept = λ i waits. waits;
+  added = λ k here lower. absurd (none k here);
+}
+
+-- the same cells, said in another way
+pub queued_at : (at other : ℕ → Type 0) (mask : List ℕ) (level : ℕ) (cells old new : List ℕ)
+    → ((k : ℕ) → other k → at k) → AreQueued at mask level cells old new → AreQueued other mask level cells old new
+queued_at at other mask level cells old new from queued = record {
+  kept = queued.kept;
+  added = λ k here. queued.added k (from k here);
+}
+
+-- a cell that is raised is queued
+pub queued_one : (mask : List ℕ) (level : ℕ) (cells waiting : List ℕ) (j : ℕ)
+    → AreQueued (λ k. k ≡ j) mask level cells waiting (waiting ++ j ∷ [])
+queued_one mask level cells waiting j = record {
+  kept = Contains-append_left waiting (j ∷ []);
+  added = λ k e lower. subst (λ i. Contains (waiting ++ j ∷ []) i) (sym e) (Contains-push waiting j);
+}
+
+-- a cell that is not raised need not be queued
+pub queued_not : (mask : List ℕ) (level : ℕ) (cells waiting : List ℕ) (j : ℕ)
+    → min level (get_or mask j 0) ≤ get_or cells j 0 → AreQueued (λ k. k ≡ j) mask level cells waiting waiting
+queued_not mask level cells waiting j high = record {
+  kept = λ i waits. waits;
+  added = λ k e lower.
+      let low : get_or cells j 0 < min level (get_or mask j 0) =
+      subst (λ i. get_or cells i 0 < min level (get_or mask i 0)) e lower in
+      absurd (omega (arith, low, high));
+}
+
+-- cells are queued, and then others
+pub queued_twice : (at other : ℕ → Type 0) (mask : List ℕ) (level : ℕ) (before between old middle new : List ℕ)
+    → IsRaised at mask level before between → AreQueued at mask level before old middle
+    → AreQueued other mask level between middle new → AreQueued (λ k. at k ⊎ other k) mask level before old new
+queued_twice at other mask level before between old middle new raised first second = record {
+  kept = λ i waits. second.kept i (first.kept i waits);
+  added = λ k here lower. elim here [
+    | inl at_first ↦ second.kept k (first.added k at_first lower)
+    | inr at_second ↦ elim (raised.each k) [
+      | inl same ↦ second.added k at_second (omega (arith, same, lower))
+      | inr rose ↦ second.kept k (first.added k rose.0 lower)
+    ]
+  ];
+}
+
+-- the span up to the next cell has the cells of the span, and that cell
+abbrev pub span_to : ℕ → ℕ → Span
+span_to first end = record { first = first; end = end }
+
+pub span_more : (first j k : ℕ) → first ≤ j → InSpan (span_to first j) k ⊎ (k ≡ j) → InSpan (span_to first (j + 1)) k
+span_more first j k from here =
+    elim here [
+      | inl before ↦ (before.0, omega (arith, before.1))
+      | inr last ↦ (omega (arith, last), omega (arith, last))
+    ]
+
+pub span_less : (first j k : ℕ) → InSpan (span_to first (j + 1)) k → InSpan (span_to first j) k ⊎ (k ≡ j)
+span_less first j k here =
+    elim (cases_lt k j) [ inl before ↦ inl (here.0, before) | inr last ↦ inr (omega (arith, here.1)) ]
+
+module _ (mask : List ℕ) (level : ℕ) (before cells old waiting : List ℕ) (first j : ℕ) (from : first ≤ j)
+    (within : j < length cells)
+    (raised : IsRaised (InSpan (span_to first j)) mask level before cells) where
+  -- the next cell of the span is raised
+  pub next_raised : get_or cells j 0 < min level (get_or mask j 0)
+      → IsRaised (InSpan (span_to first (j + 1))) mask level before (set cells j (min level (get_or mask j 0)))
+  next_raised lower =
+      raised_at (λ k. InSpan (span_to first j) k ⊎ (k ≡ j)) (InSpan (span_to first (j + 1))) mask level before
+      (set cells j (min level (get_or mask j 0))) (λ k. span_more first j k from) (span_less first j)
+      (raised_twice (InSpan (span_to first j)) (λ k. k ≡ j) mask level before cells
+      (set cells j (min level (get_or mask j 0))) raised (raised_one mask level cells j within lower))
+
+  -- the next cell of the span lies as high
+  pub next_not_raised : min level (get_or mask j 0) ≤ get_or cells j 0
+      → IsRaised (InSpan (span_to first (j + 1))) mask level before cells
+  next_not_raised high =
+      raised_at (λ k. InSpan (span_to first j) k ⊎ (k ≡ j)) (InSpan (span_to first (j + 1))) mask level before
+      cells (λ k. span_more first j k from) (span_less first j)
+      (raised_twice (InSpan (span_to first j)) (λ k. k ≡ j) mask level before cells cells raised
+      (raised_not mask level cells j high))
+
+  module _ (queued : AreQueued (InSpan (span_to first j)) mask level before old waiting) where
+    -- the next cell of the span is raised and queued
+    pub next_queued : AreQueued (InSpan (span_to first (j + 1))) mask level before old (waiting ++ j ∷ [])
+    next_queued =
+        queued_at (λ k. InSpan (span_to first j) k ⊎ (k ≡ j)) (InSpan (span_to first (j + 1))) mask level before old
+        (waiting ++ j ∷ []) (span_less first j)
+        (queued_twice (InSpan (span_to first j)) (λ k. k ≡ j) mask level before cells old waiting (waiting ++ j ∷ [])
+        raised queued (queued_one mask level cells waiting j))
+
+    -- the next cell of the span lies as high, and need not be queued
+    pub next_not_queued : min level (get_or mask j 0) ≤ get_or cells j 0
+        → AreQueued (InSpan (span_to first (j + 1))) mask level before old waiting
+    next_not_queued high =
+        queued_at (λ k. InSpan (span_to first j) k ⊎ (k ≡ j)) (InSpan (span_to first (j + 1))) mask level before old
+        waiting (span_less first j)
+        (queued_twice (InSpan (span_to first j)) (λ k. k ≡ j) mask level before cells old waiting waiting
+        raised queued (queued_not mask level cells waiting j high))

@@ -1,0 +1,101 @@
+-- Pairs of pixels in one row or in two rows that touch.
+use Rattle.std.proofs.Common.{◌≡◌, ℕ, ◌+◌, ◌-◌, ◌<◌, ◌≤◌, ◌↔◌, Bool, true, false, List, length, get_or, take, min, refl}
+use Rattle.std.proofs.Common.{sym, ap, ◌∙◌, zero-add}
+use Rattle.std.proofs.Common.{inl, inr, below_more, arith}
+use Rattle.std.specs.Prelude.{◌||◌}
+use Rattle.std.specs.List.{between}
+use Rattle.std.proofs.lemmas.Bool.{cases_lt}
+use Rattle.std.proofs.lemmas.List.{get_or-take, length-take-le}
+use Rattle.std.proofs.lemmas.List.Edits.{length-between, get_or-between}
+use Rattle.raster_sweeps.specs.RowPairs.{AreAside, IsClosedStraight, IsClosedTo}
+
+-- a flag that tells whether one of the first places failed, after one more place
+pub flag_more : (P : ℕ → Type 0) (i : ℕ) (flag test : Bool) → (flag ≡ false) ↔ ((k : ℕ) → k < i → P k)
+    → (test ≡ false) ↔ P i
+    → (flag || test ≡ false) ↔ ((k : ℕ) → k < i + 1 → P k)
+flag_more P i true test before here = (
+  λ e. absurd cc,
+  λ all. absurd (let no : true ≡ false = before.1 (λ k h. all k (omega arith)) in cc),
+)
+flag_more P i false test before here = (
+  λ e. below_more P i (before.0 refl) (here.0 e),
+  λ all. here.1 (all i (omega arith)),
+)
+
+-- the list stands in the other, from a place on
+pub record IsPart (part whole : List ℕ) (start size : ℕ) : Type 0 where
+  pub long : length part ≡ size
+  pub reads : (k : ℕ) → k < size → get_or part k 0 ≡ get_or whole (start + k) 0
+
+pub part_front : (xs : List ℕ) (n : ℕ) → n ≤ length xs → IsPart (take n xs) xs 0 n
+part_front xs n within = record {
+  long = length-take-le n xs within;
+  reads = λ k less. get_or-take n xs k 0 less ∙ ap (λ i. get_or xs i 0) (sym (zero-add k));
+}
+
+pub part_between : (xs : List ℕ) (i j n : ℕ) → i + n ≡ j → j ≤ length xs → IsPart (between i j xs) xs i n
+part_between xs i j n same within = record {
+  long = omega (arith, length-between xs i j within);
+  reads = λ k less. get_or-between xs i j k 0 (omega arith);
+}
+
+-- parts of rows, pair by pair
+pub straight_parts : (from mask to f m t : List ℕ) (i j n : ℕ) → IsPart f from i n → IsPart m mask j n → IsPart t to j n
+    → IsClosedStraight f m t
+    ↔ ((k : ℕ) → k < n → min (get_or from (i + k) 0) (get_or mask (j + k) 0) ≤ get_or to (j + k) 0)
+straight_parts from mask to f m t i j n part_f part_m part_t = (
+  λ closed k less.
+      omega (
+        arith,
+        closed k (omega (arith, part_t.long)),
+        part_f.reads k less,
+        part_m.reads k less,
+        part_t.reads k less,
+      ),
+  λ closed k less.
+      let within : k < n = omega (arith, part_t.long) in
+      omega (arith, closed k within, part_f.reads k within, part_m.reads k within, part_t.reads k within),
+)
+
+module _ (from mask to : List ℕ) (some : 0 < length to) (same_from : length from ≡ length to)
+    (same_mask : length mask ≡ length to) where
+  -- no pixel raises the one in the next column to the right
+  abbrev pub IsClosedRight : Type 0
+  IsClosedRight =
+      IsClosedStraight (take (length to - 1) from) (between 1 (length mask) mask) (between 1 (length to) to)
+
+  -- no pixel raises the one in the next column to the left
+  abbrev pub IsClosedLeft : Type 0
+  IsClosedLeft =
+      IsClosedStraight (between 1 (length from) from) (take (length to - 1) mask) (take (length to - 1) to)
+
+  rights : IsClosedRight
+      ↔ ((k : ℕ) → k < length to - 1 → min (get_or from (0 + k) 0) (get_or mask (1 + k) 0) ≤ get_or to (1 + k) 0)
+  rights =
+      let n = length to - 1 in
+      straight_parts from mask to (take n from) (between 1 (length mask) mask) (between 1 (length to) to) 0 1 n
+      (part_front from n (omega arith)) (part_between mask 1 (length mask) n (omega arith) (omega arith))
+      (part_between to 1 (length to) n (omega arith) (omega arith))
+
+  lefts : IsClosedLeft
+      ↔ ((k : ℕ) → k < length to - 1 → min (get_or from (1 + k) 0) (get_or mask (0 + k) 0) ≤ get_or to (0 + k) 0)
+  lefts =
+      let n = length to - 1 in
+      straight_parts from mask to (between 1 (length from) from) (take n mask) (take n to) 1 0 n
+      (part_between from 1 (length from) n (omega arith) (omega arith)) (part_front mask n (omega arith))
+      (part_front to n (omega arith))
+
+  -- both are what the columns that are next to one another say
+  pub closed_aslant : IsClosedRight → IsClosedLeft → IsClosedTo AreAside from mask to
+  closed_aslant right left a b less_a less_b aside = elim (cases_lt a b) [
+    | inl less ↦ let next : b ≡ 1 + a = omega arith in rw next (simp zero-add at (rights.0 right a (omega arith)))
+    | inr more ↦ let next : a ≡ 1 + b = omega arith in rw next (simp zero-add at (lefts.0 left b (omega arith)))
+  ]
+
+  pub aslant_right : IsClosedTo AreAside from mask to → IsClosedRight
+  aslant_right closed =
+      rights.1 (λ k less. closed (0 + k) (1 + k) (omega arith) (omega arith) (omega arith))
+
+  pub aslant_left : IsClosedTo AreAside from mask to → IsClosedLeft
+  aslant_left closed =
+      lefts.1 (λ k less. closed (1 + k) (0 + k) (omega arith) (omega arith) (omega arith))

@@ -1,0 +1,72 @@
+-- A scan, row by row.
+use Rattle.std.proofs.Common.{◌≡◌, ℕ, ◌+◌, ◌≤◌, Bool, IsTrue, List, [], length, min, refl, sym, ap, ◌∙◌}
+use Rattle.std.proofs.Common.{subst, inl, inr, arith}
+use Rattle.std.specs.List.{Contains}
+use Rattle.std.proofs.lemmas.Bool.{cases_lt}
+use Rattle.grid_core.specs.declared.conn.Conn.{Conn}
+use Rattle.grid_core.specs.declared.rect.Rect.{Rect}
+use Rattle.grid_core.specs.Raster.{Raster}
+use Rattle.raster_sweeps.specs.Growth.{IsOpenIn, WaitFrom, AllWait, AreInside, cell_of}
+use Rattle.raster_sweeps.specs.RowPairs.{IsOpenCell, HaveJoined}
+use Rattle.raster_sweeps.specs.RowRaises.{IsRowGrown}
+use Rattle.raster_sweeps.proofs.Grown.{grown_twice}
+use Rattle.raster_sweeps.proofs.OpenRows.{IsUpper}
+
+-- a row that has grown twice
+pub row_grown_twice : (conn : Conn) (rect : Rect) (mask : Raster) (y : ℕ) (before between after : Raster)
+    → IsRowGrown conn rect mask y before between → IsRowGrown conn rect mask y between after
+    → IsRowGrown conn rect mask y before after
+row_grown_twice conn rect mask y before between after first second = record {
+  grown = grown_twice conn rect mask before between after first.grown second.grown;
+  others = λ p inside other. second.others p inside other ∙ first.others p inside other;
+}
+
+-- what has joined a queue of cells of the rectangle is inside too
+pub joined_inside : (conn : Conn) (rect : Rect) (mask image : Raster) (y width : ℕ) (room : Bool) (old new : List ℕ)
+    → image.width ≡ width → AreInside rect width old
+    → HaveJoined (IsOpenCell conn rect mask image (IsUpper y)) room old new
+    → AreInside rect width new
+joined_inside conn rect mask image y width room old new same inside joined i there = elim (joined.each i there) [
+  | inl before ↦ inside i before
+  | inr o ↦ (
+    o.pixel,
+    o.raises.from_inside,
+    subst (λ w. cell_of rect w o.pixel ≡ i) same o.place,
+  )
+]
+
+module _ (conn : Conn) (rect : Rect) (mask before after : Raster) (y : ℕ) (room : Bool) (old new : List ℕ)
+    (grown : IsRowGrown conn rect mask y before after)
+    (joined : HaveJoined (IsOpenCell conn rect mask after (IsUpper y)) room old new) (all : IsTrue room) where
+  -- the first pixels of the open pairs from this row on wait, once the row is scanned and checked
+  pub row_waits : WaitFrom conn rect mask before (y + 1) old → WaitFrom conn rect mask after y new
+  row_waits waits p q raises from_p from_q = elim (cases_lt y (min p.y q.y)) [
+    | inr own ↦
+        joined.every all (cell_of rect after.width p)
+        (record { pixel = p; other = q; raises = raises; rows = omega arith; place = refl })
+    | inl lower ↦
+        let same_p = grown.others p raises.from_inside (λ e. omega arith) in
+        let same_q = grown.others q raises.to_inside (λ e. omega arith) in
+        let raised : IsOpenIn conn rect mask before p q = record {
+          from_inside = raises.from_inside;
+          to_inside = raises.to_inside;
+          beside = raises.beside;
+          lower = omega (arith, raises.lower, same_p, same_q);
+        } in
+        let there : Contains old (cell_of rect before.width p) = waits p q raised (omega arith) (omega arith) in
+        joined.kept (cell_of rect after.width p)
+        (subst (λ w. Contains old (cell_of rect w p)) (sym grown.grown.width) there)
+  ]
+
+-- below the last row nothing can wait
+pub none_below : (conn : Conn) (rect : Rect) (mask image : Raster) (waiting : List ℕ)
+    → (y : ℕ) → rect.h ≤ y → WaitFrom conn rect mask image y waiting
+none_below conn rect mask image waiting y past p q raises from_p from_q =
+    absurd (omega (arith, raises.from_inside.1))
+
+pub none_inside : (rect : Rect) (width : ℕ) (waiting : List ℕ) → waiting ≡ [] → AreInside rect width waiting
+none_inside rect width waiting empty i there = absurd (omega (arith, there.1, ap length empty))
+
+pub all_wait : (conn : Conn) (rect : Rect) (mask image : Raster) (waiting : List ℕ) (y : ℕ) → y ≡ 0
+    → WaitFrom conn rect mask image y waiting → AllWait conn rect mask image waiting
+all_wait conn rect mask image waiting y top waits p q raises = waits p q raises (omega arith) (omega arith)

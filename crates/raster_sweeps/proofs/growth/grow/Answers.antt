@@ -1,0 +1,11 @@
+use Rattle.std.proofs.Common.{subst}
+use Rattle.grid_core.specs.Path.{domain_of}
+use Rattle.grid_core.specs.Raster.{Raster, value_at}
+use Rattle.grid_core.specs.Reconstruction.{IsReconstruction}
+use Rattle.raster_sweeps.proofs.growth.grow.Goals as goal
+
+pub returns-clause-reconstruction : goal.returns-clause-reconstruction
+returns-clause-reconstruction c =
+    let mask = c.args.mask.now in
+    subst (λ (r : Raster). IsReconstruction (domain_of mask c.args.conn) (value_at mask) (value_at r)
+    (value_at c.grow_in_place.new.image)) c.in_ok-image.ensures c.in_ok-grow_in_place.ensures.reconstruction

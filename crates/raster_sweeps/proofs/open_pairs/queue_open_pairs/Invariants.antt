@@ -1,0 +1,8 @@
+use Rattle.std.proofs.Common.{true}
+use Rattle.raster_sweeps.specs.RowPairs.{IsOpenCell, HaveJoined}
+use Rattle.raster_sweeps.proofs.OpenRows.{IsUpperAbove}
+use Rattle.raster_sweeps.proofs.open_pairs.queue_open_pairs.Given as goal
+
+abbrev pub invariant-loop-y : goal.invariant-loop-y
+invariant-loop-y l =
+    HaveJoined (IsOpenCell l.conn l.rect l.mask l.image (IsUpperAbove l.y)) true l.fn.waiting l.waiting

@@ -1,0 +1,57 @@
+use Rattle.std.proofs.Common.{◌≤◌, subst, sym, ◌∙◌, arith, inl, inr}
+use Rattle.std.proofs.lemmas.Bool.{false≢true}
+use Rattle.raster_sweeps.specs.Growth.{AllWait, headroom}
+use Rattle.raster_sweeps.proofs.Grown.{fits_below, grown_headroom, grown_same, grown_twice}
+use Rattle.raster_sweeps.proofs.raising.drain.Goals as goal
+use Rattle.raster_sweeps.proofs.raising.drain.Goals.{then-not-room-via-then-not-room}
+use Rattle.raster_sweeps.proofs.raising.drain.Goals.{then-not-room-via-else-not-room+then-len-before}
+
+pub loop-cell-init : goal.loop-cell-init
+loop-cell-init c = record {
+  grown =
+      grown_same c.args.conn c.args.rect c.args.mask.now c.args.image.now c.requires.filled c.requires.below
+      (fits_below c.args.rect c.args.mask.now c.args.image.now c.requires.below c.requires.fits);
+  inside = c.requires.inside;
+  waits = λ waited. waited;
+  some = c.requires.some;
+}
+
+pub returns-then-not-room-clause-grown : goal.returns-then-not-room-clause-grown
+returns-then-not-room-clause-grown c =
+    grown_twice c.args.conn c.args.rect c.args.mask.now c.args.image.now c.loop-cell.image c.spread-room.new.image
+    c.loop-cell.invariant.grown c.spread-room.ensures.grown
+
+pub returns-then-not-room-clause-rose : goal.returns-then-not-room-clause-rose
+returns-then-not-room-clause-rose c =
+    let before : headroom c.loop-cell.image.cells ≤ headroom c.args.image.now.cells =
+    grown_headroom c.args.conn c.args.rect c.args.mask.now c.args.image.now c.loop-cell.image c.requires.filled
+    c.loop-cell.invariant.grown in
+    elim c.then-not-room.branch [
+      | then-not-room-via-then-not-room w ↦ elim c.spread-room.ensures.fell [
+        | inl room ↦ absurd (false≢true (sym w.if-not-room.true ∙ room))
+        | inr less ↦ inr (omega (arith, less, before))
+      ]
+      | then-not-room-via-else-not-room+then-len-before w ↦
+          inr (omega (
+            arith,
+            c.spread-room.ensures.effort w.if-not-room.false,
+            w.if-len-before.true,
+            w.len.ensures,
+            c.len-before.ensures,
+            c.loop-cell.invariant.some,
+            before,
+          ))
+    ]
+
+pub loop-cell-preserved : goal.loop-cell-preserved
+loop-cell-preserved c = record {
+  grown =
+      grown_twice c.args.conn c.args.rect c.args.mask.now c.args.image.now c.loop-cell.image c.spread-room.new.image
+      c.loop-cell.invariant.grown c.spread-room.ensures.grown;
+  inside = c.spread-room.ensures.inside;
+  waits = λ waited.
+      c.spread-room.ensures.waits c.if-not-room.false
+      (subst (AllWait c.args.conn c.args.rect c.args.mask.now c.loop-cell.image) c.in-Some.ensures
+      (c.loop-cell.invariant.waits waited));
+  some = omega (arith, c.if-len-before.false, c.len.ensures, c.len-in-Some.ensures);
+}

@@ -1,0 +1,119 @@
+use Rattle.std.proofs.Common.{◌≡◌, ◌+◌, ◌<◌, ◌≤◌, ◌⊎◌, ◌∷◌, [], ◌++◌, ℕ, List, length, min, set, get_or}
+use Rattle.std.proofs.Common.{subst, sym, ◌∙◌, ap}
+use Rattle.std.proofs.Common.{arith, inl, inr, length-append}
+use Rattle.std.specs.Prelude.{Contains, IsTrue}
+use Rattle.std.proofs.lemmas.Bool.{false≢true}
+use Rattle.std.proofs.lemmas.List.Elements.{Contains-push_cases}
+use Rattle.raster_sweeps.specs.Growth.{headroom}
+use Rattle.raster_sweeps.specs.Spans.{InSpan}
+use Rattle.raster_sweeps.proofs.Headroom.{headroom_set}
+use Rattle.raster_sweeps.proofs.Raised.{span_to, next_raised, next_not_raised, next_queued, next_not_queued}
+use Rattle.raster_sweeps.proofs.Raised.{raised_at}
+use Rattle.raster_sweeps.proofs.raising.raise.Goals as goal
+use Rattle.raster_sweeps.proofs.raising.raise.Goals.{then-cells-at+then-push, then-cells-at+else-push, else-cells-at}
+
+-- what was queued before, or is of the span, is so up to the next cell
+inside_more : (old : List ℕ) (first j i : ℕ) → Contains old i ⊎ InSpan (span_to first j) i
+    → Contains old i ⊎ InSpan (span_to first (j + 1)) i
+inside_more old first j i here =
+    elim here [ inl earlier ↦ inl earlier | inr spanned ↦ inr (spanned.0, omega (arith, spanned.1)) ]
+
+pub loop-cell-preserved : goal.loop-cell-preserved
+loop-cell-preserved c =
+    let mask = c.args.mask.now in
+    let level = c.args.level in
+    let before = c.args.cells.now in
+    let cells = c.loop-cell.cells in
+    let old = c.args.waiting.now in
+    let waiting = c.loop-cell.waiting in
+    let first = c.args.span.first in
+    let j = c.loop-cell.cell in
+    let held = c.loop-cell.invariant in
+    let from : first ≤ j = c.loop-cell.auto.cell in
+    let within : j < length cells =
+    omega (arith, c.requires.within j (from, c.loop-cell-test.true), held.raised.filled) in
+    let v : c.min-raised.result ≡ min level (get_or mask j 0) = c.min-raised.ensures in
+    let top : c.min-raised.result < 4294967296 = c.min-raised.type_inv in
+    elim c.if-cells-at.branch [
+      | then-cells-at+then-push w ↦
+          let drawn : c.if-cells-at.cells ≡ set cells j (min level (get_or mask j 0)) =
+          w.cells-is ∙ ap (λ x. set cells j x) v in
+          let listed : c.if-cells-at.waiting ≡ waiting ++ j ∷ [] = w.waiting-is ∙ w.if-push.ensures.added in
+          let lower : get_or cells j 0 < min level (get_or mask j 0) = omega (arith, w.if-cells-at.true, v) in
+          let less : headroom c.if-cells-at.cells < headroom cells =
+          rw drawn (headroom_set cells j (min level (get_or mask j 0)) within lower (omega (arith, v, top))) in
+          let long : length c.if-cells-at.waiting ≡ length waiting + 1 =
+          ap length listed ∙ length-append waiting (j ∷ []) in
+          record {
+            raised =
+                rw drawn (next_raised mask level before cells old waiting first j from within held.raised lower);
+            inside = λ i waits.
+                elim (Contains-push_cases waiting j i (subst (λ xs. Contains xs i) listed waits)) [
+                  | inl earlier ↦ inside_more old first j i (held.inside i earlier)
+                  | inr same ↦ inr (omega (arith, from, same), omega (arith, same))
+                ];
+            queued = λ room.
+                rw listed (next_queued mask level before cells old waiting first j from within held.raised
+                (held.queued (subst IsTrue w.room-is room)));
+            count = λ room. omega (arith, long, held.count (subst IsTrue w.room-is room));
+            effort = λ room. omega (arith, long, less, held.effort (subst IsTrue w.room-is room));
+            fell = inr (omega (arith, less, held.kept));
+            ends = inr (omega (arith, c.loop-cell-test.true));
+            kept = omega (arith, less, held.kept);
+          }
+      | then-cells-at+else-push w ↦
+          let drawn : c.if-cells-at.cells ≡ set cells j (min level (get_or mask j 0)) =
+          w.cells-is ∙ ap (λ x. set cells j x) v in
+          let listed : c.if-cells-at.waiting ≡ waiting = w.waiting-is ∙ w.if-push.ensures.added in
+          let lower : get_or cells j 0 < min level (get_or mask j 0) = omega (arith, w.if-cells-at.true, v) in
+          let less : headroom c.if-cells-at.cells < headroom cells =
+          rw drawn (headroom_set cells j (min level (get_or mask j 0)) within lower (omega (arith, v, top))) in
+          let none : IsTrue c.if-cells-at.room → ⊥ =
+          λ room. false≢true (sym (w.room-is ∙ w.if-push.false) ∙ room) in
+          record {
+            raised =
+                rw drawn (next_raised mask level before cells old waiting first j from within held.raised lower);
+            inside = λ i waits. inside_more old first j i (held.inside i (subst (λ xs. Contains xs i) listed waits));
+            queued = λ room. absurd (none room);
+            count = λ room. absurd (none room);
+            effort = λ room. absurd (none room);
+            fell = inr (omega (arith, less, held.kept));
+            ends = inr (omega (arith, c.loop-cell-test.true));
+            kept = omega (arith, less, held.kept);
+          }
+      | else-cells-at w ↦
+          let high : min level (get_or mask j 0) ≤ get_or cells j 0 = omega (arith, w.if-cells-at.false, v) in
+          record {
+            raised =
+                rw w.cells-is (next_not_raised mask level before cells old waiting first j from within held.raised
+                high);
+            inside = λ i waits.
+                inside_more old first j i (held.inside i (subst (λ xs. Contains xs i) w.waiting-is waits));
+            queued = λ room.
+                rw w.waiting-is (next_not_queued mask level before cells old waiting first j from within held.raised
+                (held.queued (subst IsTrue w.room-is room)) high);
+            count = λ room. rw w.waiting-is (held.count (subst IsTrue w.room-is room));
+            effort = λ room. rw (w.waiting-is, w.cells-is) (held.effort (subst IsTrue w.room-is room));
+            fell = rw (w.room-is, w.cells-is) held.fell;
+            ends = inr (omega (arith, c.loop-cell-test.true));
+            kept = rw w.cells-is held.kept;
+          }
+    ]
+
+pub returns-clause-raised : goal.returns-clause-raised
+returns-clause-raised c =
+    let first = c.args.span.first in
+    let j = c.loop-cell.cell in
+    let test : c.args.span.end ≤ j = c.loop-cell-test.false in
+    raised_at (InSpan (span_to first j)) (InSpan c.args.span) c.args.mask.now c.args.level c.args.cells.now
+    c.loop-cell.cells
+    (λ k here. (here.0, omega (arith, here.1, here.0, c.loop-cell.invariant.ends)))
+    (λ k here. (here.0, omega (arith, here.1, test)))
+    c.loop-cell.invariant.raised
+
+pub returns-clause-inside : goal.returns-clause-inside
+returns-clause-inside c = λ i waits.
+    elim (c.loop-cell.invariant.inside i waits) [
+      | inl earlier ↦ inl earlier
+      | inr here ↦ inr (here.0, omega (arith, here.1, here.0, c.loop-cell.invariant.ends))
+    ]

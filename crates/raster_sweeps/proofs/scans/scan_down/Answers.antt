@@ -1,0 +1,17 @@
+use Rattle.raster_sweeps.proofs.Grown.{grown_twice}
+use Rattle.raster_sweeps.proofs.Scanning.{row_grown_twice}
+use Rattle.raster_sweeps.proofs.scans.scan_down.Goals as goal
+
+pub loop-y-init : goal.loop-y-init
+loop-y-init c = (c.raise_row_from_left.ensures c.args.conn).grown
+
+pub loop-y-preserved : goal.loop-y-preserved
+loop-y-preserved c =
+    let conn = c.args.conn in
+    let rect = c.args.rect in
+    let mask = c.args.mask.now in
+    let between = c.raise_row_by.new.image in
+    let after = c.raise_row_from_left-in-loop-y.new.image in
+    grown_twice conn rect mask c.args.image.now c.loop-y.image after c.loop-y.invariant
+    (row_grown_twice conn rect mask c.loop-y.y c.loop-y.image between after c.raise_row_by.ensures
+    (c.raise_row_from_left-in-loop-y.ensures conn)).grown

@@ -1,0 +1,70 @@
+-- Growing an image in place, inside a rectangle. Only private functions have these words in their contracts. What a
+-- reconstruction is stands in `specs/Reconstruction.antt` of `grid_core`, and what a rectangle is in `specs/Rects.antt`
+-- there.
+use Rattle.std.specs.Prelude.{◌≡◌, ℕ, ◌-◌, ◌<◌, ◌≤◌, List, length, min}
+use Rattle.std.specs.List.{Contains, sum_by}
+use Rattle.grid_core.specs.declared.conn.Conn.{Conn}
+use Rattle.grid_core.specs.declared.pixel.Pixel.{Pixel}
+use Rattle.grid_core.specs.declared.rect.Rect.{Rect}
+use Rattle.grid_core.specs.Neighbours.{AreNeighbours}
+use Rattle.grid_core.specs.Path.{Domain, Inside}
+use Rattle.grid_core.specs.Raster.{Raster, IsInside, IsBelow, index_of, value_at}
+use Rattle.grid_core.specs.Reconstruction.{IsLawful}
+use Rattle.grid_core.specs.Rects.{IsInRect, domain_in, in_image, part}
+
+-- the first of two neighbours can still raise the second, as far as the mask lets it
+pub record IsOpen (d : Domain) (mask image : Pixel → ℕ) (p q : Pixel) : Type 0 where
+  pub from_inside : Inside d p
+  pub to_inside : Inside d q
+  pub beside : AreNeighbours d.conn p q
+  pub lower : image q < min (image p) (mask q)
+
+-- a pair of neighbours of the rectangle is open, both counted from its upper left corner
+abbrev pub IsOpenIn : Conn → Rect → Raster → Raster → Pixel → Pixel → Type 0
+IsOpenIn conn rect mask image p q =
+    IsOpen (domain_in rect conn) (part rect (value_at mask)) (part rect (value_at image)) p q
+
+-- an image has grown inside the rectangle: it has its size, every pixel outside has its value, it is below the mask,
+-- and inside each value is at least what it was, and a level that the pixel reaches there
+pub record IsGrown (conn : Conn) (rect : Rect) (mask before after : Raster) : Type 0 where
+  pub width : after.width ≡ before.width
+  pub height : after.height ≡ before.height
+  pub filled : length after.cells ≡ length before.cells
+  pub below : IsBelow after mask
+  pub outside : (p : Pixel) → IsInside before.width before.height p → (IsInRect rect p → ⊥)
+      → value_at after p ≡ value_at before p
+  pub lawful : IsLawful (domain_in rect conn) (part rect (value_at mask)) (part rect (value_at before))
+      (part rect (value_at after))
+
+-- where a pixel of the rectangle stands among the cells of an image of this width
+abbrev pub cell_of : Rect → ℕ → Pixel → ℕ
+cell_of rect width p = index_of width (in_image rect p)
+
+-- each open pair of the rectangle whose pixels both lie in its rows from `y` on has its first pixel in the queue
+abbrev pub WaitFrom : Conn → Rect → Raster → Raster → ℕ → List ℕ → Type 0
+WaitFrom conn rect mask image y waiting =
+    (p q : Pixel) → IsOpenIn conn rect mask image p q → y ≤ p.y → y ≤ q.y
+    → Contains waiting (cell_of rect image.width p)
+
+-- each open pair of the rectangle has its first pixel in the queue
+abbrev pub AllWait : Conn → Rect → Raster → Raster → List ℕ → Type 0
+AllWait conn rect mask image waiting =
+    (p q : Pixel) → IsOpenIn conn rect mask image p q → Contains waiting (cell_of rect image.width p)
+
+-- the cell is that of a pixel of the rectangle
+abbrev pub IsCellIn : Rect → ℕ → ℕ → Type 0
+IsCellIn rect width i = (p : Pixel) × IsInside rect.w rect.h p × (cell_of rect width p ≡ i)
+
+-- each cell in the queue is that of a pixel of the rectangle
+abbrev pub AreInside : Rect → ℕ → List ℕ → Type 0
+AreInside rect width waiting = (i : ℕ) → Contains waiting i → IsCellIn rect width i
+
+-- each cell in the queue is that of the first pixel of an open pair
+abbrev pub AreOpen : Conn → Rect → Raster → Raster → List ℕ → Type 0
+AreOpen conn rect mask image waiting =
+    (i : ℕ) → Contains waiting i
+    → (p : Pixel) × (q : Pixel) × IsOpenIn conn rect mask image p q × (cell_of rect image.width p ≡ i)
+
+-- how far the values lie below the greatest that a cell can have, in all
+abbrev pub headroom : List ℕ → ℕ
+headroom cells = sum_by (λ v. 4294967295 - v) cells

@@ -1,0 +1,78 @@
+-- Pairs of pixels in one row or in two rows that touch, by their columns. Only private functions have these words in
+-- their contracts; which pixels are neighbours stands in `specs/Neighbours.antt` of `grid_core`.
+use Rattle.std.specs.Prelude.{◌≡◌, ℕ, ◌+◌, ◌<◌, ◌≤◌, ◌⊎◌, Bool, IsTrue, List, length, slice_index, min}
+use Rattle.std.specs.List.{Contains}
+use Rattle.grid_core.specs.declared.conn.Conn.{Conn}
+use Rattle.grid_core.specs.declared.conn.Conn.TheVariants.{Four, Eight}
+use Rattle.grid_core.specs.declared.pixel.Pixel.{Pixel}
+use Rattle.grid_core.specs.declared.rect.Rect.{Rect}
+use Rattle.grid_core.specs.Neighbours.{apart, AreNeighbours}
+use Rattle.grid_core.specs.Path.{Domain, Inside}
+use Rattle.grid_core.specs.Raster.{Raster}
+use Rattle.raster_sweeps.specs.Growth.{IsOpenIn, cell_of}
+
+-- the pixels at these columns of two rows that touch are neighbours
+abbrev pub AreBeside : Conn → ℕ → ℕ → Type 0
+AreBeside Four a b = a ≡ b
+AreBeside Eight a b = apart a b ≤ 1
+
+-- the columns are next to one another
+abbrev pub AreAside : ℕ → ℕ → Type 0
+AreAside a b = apart a b ≡ 1
+
+-- no pixel of the first row raises the one in the same column of the other, as far as the other's mask lets it
+abbrev pub IsClosedStraight : List ℕ → List ℕ → List ℕ → Type 0
+IsClosedStraight from mask to =
+    (k : ℕ) → k < length to → min (slice_index from k) (slice_index mask k) ≤ slice_index to k
+
+-- no pixel of the first row raises a pixel of the other in a column beside it, as far as the other's mask lets it
+abbrev pub IsClosedTo : (ℕ → ℕ → Type 0) → List ℕ → List ℕ → List ℕ → Type 0
+IsClosedTo IsBeside from mask to =
+    (a b : ℕ) → a < length to → b < length to → IsBeside a b
+    → min (slice_index from a) (slice_index mask b) ≤ slice_index to b
+
+-- the list has the values of row y, from the left, of as many columns as the width says
+pub record IsRowOf (width : ℕ) (f : Pixel → ℕ) (y : ℕ) (row : List ℕ) : Type 0 where
+  pub long : length row ≡ width
+  pub values : (x : ℕ) → x < width → slice_index row x ≡ f (record { x = x; y = y })
+
+-- no pixel raises a neighbour, of the pairs whose upper pixel, or both, lie in this row
+abbrev pub IsRowClosed : Domain → (Pixel → ℕ) → (Pixel → ℕ) → ℕ → Type 0
+IsRowClosed d mask j y =
+    (p q : Pixel) → Inside d p → Inside d q → AreNeighbours d.conn p q → min p.y q.y ≡ y → min (j p) (mask q) ≤ j q
+
+-- the cell is that of a pixel of the first row, whose cells begin at `first`, that raises the one in the same column of
+-- the other, as far as the other's mask lets it
+pub record RaisesStraight (first : ℕ) (from mask to : List ℕ) (cell : ℕ) : Type 0 where
+  pub column : ℕ
+  pub within : column < length to
+  pub lower : slice_index to column < min (slice_index from column) (slice_index mask column)
+  pub place : first + column ≡ cell
+
+-- the cell is that of a pixel of the first row, whose cells begin at `first`, that raises one of the other in a column
+-- beside it, as far as the other's mask lets it
+pub record RaisesTo (IsBeside : ℕ → ℕ → Type 0) (first : ℕ) (from mask to : List ℕ) (cell : ℕ) : Type 0 where
+  pub column : ℕ
+  pub other : ℕ
+  pub within : column < length to
+  pub other_within : other < length to
+  pub beside : IsBeside column other
+  pub lower : slice_index to other < min (slice_index from column) (slice_index mask other)
+  pub place : first + column ≡ cell
+
+-- the cell is that of the first pixel of an open pair whose two rows, counted from the rectangle's top, are such
+pub record IsOpenCell (conn : Conn) (rect : Rect) (mask image : Raster) (AreRows : ℕ → ℕ → Type 0) (cell : ℕ) : Type 0
+  where
+    pub pixel : Pixel
+    pub other : Pixel
+    pub raises : IsOpenIn conn rect mask image pixel other
+    pub rows : AreRows pixel.y other.y
+    pub place : cell_of rect image.width pixel ≡ cell
+
+-- such cells have joined the queue: it has what it had, each cell that is new is such a cell, and if there was room
+-- then each such cell is in it; else it is not empty
+pub record HaveJoined (IsSuch : ℕ → Type 0) (room : Bool) (old new : List ℕ) : Type 0 where
+  pub kept : (i : ℕ) → Contains old i → Contains new i
+  pub each : (i : ℕ) → Contains new i → Contains old i ⊎ IsSuch i
+  pub every : IsTrue room → (i : ℕ) → IsSuch i → Contains new i
+  pub full : IsTrue room ⊎ (0 < length new)

@@ -1,0 +1,38 @@
+-- The cells around a cell, row by row, and what raising them by it does. Only private functions have these words in
+-- their contracts.
+use Rattle.std.specs.Prelude.{◌≡◌, ℕ, ◌<◌, ◌≤◌, ◌⊎◌, List, length, min, max, slice_index}
+use Rattle.std.specs.List.{Contains}
+use Rattle.grid_core.specs.declared.conn.Conn.{Conn}
+use Rattle.grid_core.specs.declared.pixel.Pixel.{Pixel}
+use Rattle.grid_core.specs.declared.rect.Rect.{Rect}
+use Rattle.grid_core.specs.Neighbours.{AreNeighbours}
+use Rattle.grid_core.specs.Raster.{IsInside}
+use Rattle.raster_sweeps.specs.declared.neighbourhood.Span.{Span}
+use Rattle.raster_sweeps.specs.declared.neighbourhood.Spans.{Spans}
+use Rattle.raster_sweeps.specs.Growth.{cell_of}
+
+-- the cell is in the span
+abbrev pub InSpan : Span → ℕ → Type 0
+InSpan span k = (span.first ≤ k) × (k < span.end)
+
+-- the cell is in one of the three spans
+abbrev pub IsAround : Spans → ℕ → Type 0
+IsAround spans k = InSpan spans.above k ⊎ (InSpan spans.beside k ⊎ InSpan spans.below k)
+
+-- the three spans hold the neighbours of the pixel in the rectangle, and nothing else but the pixel itself
+pub record AreSpansOf (conn : Conn) (rect : Rect) (width : ℕ) (p : Pixel) (spans : Spans) : Type 0 where
+  pub each : (k : ℕ) → IsAround spans k
+      → (q : Pixel) × IsInside rect.w rect.h q × (cell_of rect width q ≡ k) × ((q ≡ p) ⊎ AreNeighbours conn p q)
+  pub every : (q : Pixel) → IsInside rect.w rect.h q → AreNeighbours conn p q → IsAround spans (cell_of rect width q)
+
+-- the cells at these places are raised to the level, as far as the mask lets them, and the others stay
+pub record IsRaised (at : ℕ → Type 0) (mask : List ℕ) (level : ℕ) (before after : List ℕ) : Type 0 where
+  pub filled : length after ≡ length before
+  pub raised : (k : ℕ) → at k → slice_index after k ≡ max (slice_index before k) (min level (slice_index mask k))
+  pub each : (k : ℕ) → (slice_index after k ≡ slice_index before k)
+      ⊎ (at k × (slice_index after k ≡ max (slice_index before k) (min level (slice_index mask k))))
+
+-- the queue has what it had, and each cell at these places that rises
+pub record AreQueued (at : ℕ → Type 0) (mask : List ℕ) (level : ℕ) (before old new : List ℕ) : Type 0 where
+  pub kept : (i : ℕ) → Contains old i → Contains new i
+  pub added : (k : ℕ) → at k → slice_index before k < min level (slice_index mask k) → Contains new k

@@ -1,0 +1,63 @@
+//! Whether a pair of neighbours is open: whether the first can raise the second, as far as the mask lets it.
+
+ghost use Rattle.std.specs.Prelude.{◌≡◌, ◌<◌, ◌↔◌, IsTrue};
+ghost use Rattle.grid_core.specs.Path.{domain_of};
+ghost use Rattle.grid_core.specs.Raster.{value_at};
+ghost use Rattle.grid_core.specs.Reconstruction.{IsClosed};
+ghost use Rattle.grid_core.specs.Rects.{RectFits, domain_in, part};
+ghost use Rattle.raster_sweeps.specs.RowPairs.{IsRowClosed};
+
+use crate::rows::{is_closed_aslant, is_closed_to, row_in};
+use grid_core::{Conn, Grid, Rect};
+
+/// Whether no pixel of the image can raise a neighbour further, as far as the mask lets it. It takes no memory.
+pub fn is_closed(mask: &Grid, image: &Grid, conn: Conn) -> bool
+    requires width { mask.now.width ≡ image.now.width }
+    requires height { mask.now.height ≡ image.now.height }
+    ensures { IsTrue result ↔ IsClosed (domain_of mask.now conn) (value_at mask.now) (value_at image.now) }
+{
+    let whole = Rect {
+        x: 0,
+        y: 0,
+        w: mask.width(),
+        h: mask.height(),
+    };
+    is_closed_in(mask, image, whole, conn)
+}
+
+// Whether no pixel of the rectangle can raise a neighbour in it.
+fn is_closed_in(mask: &Grid, image: &Grid, rect: Rect, conn: Conn) -> bool
+    requires mask { RectFits mask.now.width mask.now.height rect }
+    requires image { RectFits image.now.width image.now.height rect }
+    ensures { IsTrue result
+        ↔ IsClosed (domain_in rect conn) (part rect (value_at mask.now)) (part rect (value_at image.now)) }
+{
+    for y in 0..rect.h {
+        if !is_row_closed(mask, image, rect, y, conn) {
+            return false;
+        }
+    }
+    true
+}
+
+// Whether no pixel of the rectangle's row `y`, counted from its top, can raise a neighbour in it or in the row
+// below, and none of the row below one in it.
+fn is_row_closed(mask: &Grid, image: &Grid, rect: Rect, y: u32, conn: Conn) -> bool
+    requires mask { RectFits mask.now.width mask.now.height rect }
+    requires image { RectFits image.now.width image.now.height rect }
+    requires row { y < rect.h }
+    ensures { IsTrue result
+        ↔ IsRowClosed (domain_in rect conn) (part rect (value_at mask.now)) (part rect (value_at image.now)) y }
+{
+    let mask_row = row_in(mask, rect, y);
+    let row = row_in(image, rect, y);
+    if !is_closed_aslant(row, mask_row, row) {
+        return false;
+    }
+    if y + 1 == rect.h {
+        return true;
+    }
+    let mask_below = row_in(mask, rect, y + 1);
+    let below = row_in(image, rect, y + 1);
+    is_closed_to(row, mask_below, below, conn) && is_closed_to(below, mask_row, row, conn)
+}

@@ -1,0 +1,207 @@
+//! Growing in place: until no pair of neighbours is open (Vincent, "Morphological Grayscale Reconstruction in Image
+//! Analysis", 1993).
+
+ghost use Rattle.std.specs.Prelude.{◌≡◌, ◌<◌, ◌⊎◌, [], IfOk, IsTrue, OnErr, OnOk};
+ghost use Rattle.grid_core.specs.Path.{domain_of};
+ghost use Rattle.grid_core.specs.Raster.{IsBelow, IsFilled, IsInside, value_at};
+ghost use Rattle.grid_core.specs.Reconstruction.{IsClosed, IsReconstruction};
+ghost use Rattle.grid_core.specs.Rects.{IsInRect, RectFits, domain_in, part};
+ghost use Rattle.raster_sweeps.specs.Growth.{AllWait, AreInside, AreOpen, IsGrown, headroom};
+
+use crate::open_pairs::queue_open_pairs;
+use crate::raising::{drain, spread};
+use crate::scans::{scan_down, scan_up};
+use crate::waiting::Waiting;
+use grid_core::{Conn, Grid, Memory, Rect};
+use std::alloc::Global;
+
+#[cfg(test)]
+mod tests;
+
+/// The memory that growing needs: room for the cells whose neighbours are still to be raised.
+///
+/// It may be used for one rectangle after another. Any room serves any rectangle; where it is small, the growth goes
+/// back to whole scans more often.
+#[derive(Drop)]
+pub struct Room {
+    waiting: Waiting,
+}
+
+// How a growth begins, where cells are to be found whose neighbours can be raised.
+#[derive(Clone, Copy)]
+enum Start {
+    // By the check of each row.
+    Check,
+    // By the raster and the anti-raster scan.
+    Scans,
+}
+
+impl Room {
+    /// Room for growing in rectangles of about so many pixels: 4 bytes for each 64th pixel, and at least 4,096.
+    ///
+    /// Errors: out of memory.
+    pub fn new(alloc: Global, pixels: u32) -> Result<Room, Memory> {
+        let waiting = Waiting::new(alloc, (pixels as usize / 64).max(1024))?;
+        Ok(Room { waiting })
+    }
+}
+
+/// Raises an image inside a rectangle until it is the reconstruction there: of the part of the mask in the rectangle,
+/// as an image by itself, from what the image was. The image must be at most the mask, and the rectangle lie in it.
+///
+/// Each row is checked for pairs of neighbours where the first can still raise the second; then a queue spreads from
+/// these, and where many pixels rise, a raster and an anti-raster scan come between (Vincent 1993). It takes no memory.
+pub fn grow_within(room: &mut Room, mask: &Grid, image: &mut Grid, rect: Rect, conn: Conn)
+    requires below { IsBelow image.old mask.now }
+    requires fits { RectFits mask.now.width mask.now.height rect }
+    ensures width { image.new.width ≡ image.old.width }
+    ensures height { image.new.height ≡ image.old.height }
+    ensures filled { IsFilled image.new }
+    ensures below { IsBelow image.new mask.now }
+    ensures outside { (p : _) → IsInside image.old.width image.old.height p → (IsInRect rect p → ⊥)
+        → value_at image.new p ≡ value_at image.old p }
+    ensures reconstruction { IsReconstruction (domain_in rect conn) (part rect (value_at mask.now))
+        (part rect (value_at image.old)) (part rect (value_at image.new)) }
+{
+    prove!(image.width() == mask.width());
+    close(mask, image, rect, conn, &mut room.waiting, Start::Check);
+}
+
+/// The reconstruction by dilation of `mask` from `marker`, `w * h` cells row by row.
+///
+/// A raster scan, an anti-raster scan that fills a queue, and then the queue (Vincent 1993).
+///
+/// Errors: out of memory.
+pub fn grow(alloc: Global, mask: &Grid, marker: &Grid, conn: Conn) -> Result<Grid, Memory>
+    requires { IsBelow marker.now mask.now }
+    ensures filled { IfOk result IsFilled }
+    ensures width { IfOk result (λ image. image.width ≡ mask.now.width) }
+    ensures height { IfOk result (λ image. image.height ≡ mask.now.height) }
+    ensures below { IfOk result (λ image. IsBelow image mask.now) }
+    ensures reconstruction { IfOk result (λ image.
+        IsReconstruction (domain_of mask.now conn) (value_at mask.now) (value_at marker.now) (value_at image)) }
+{
+    let mut image = marker.copy(alloc)?;
+    grow_in_place(alloc, mask, &mut image, conn)?;
+    Ok(image)
+}
+
+/// Raises an image until it is the reconstruction of `mask` from what it was. It must be at most the mask.
+///
+/// This is [`grow`] without a second image.
+///
+/// Errors: out of memory; the image is then as it was.
+pub fn grow_in_place(alloc: Global, mask: &Grid, image: &mut Grid, conn: Conn) -> Result<(), Memory>
+    requires { IsBelow image.old mask.now }
+    ensures width { image.new.width ≡ image.old.width }
+    ensures height { image.new.height ≡ image.old.height }
+    ensures filled { OnOk result (IsFilled image.new) }
+    ensures below { IsBelow image.new mask.now }
+    ensures reconstruction { OnOk result (IsReconstruction (domain_of mask.now conn) (value_at mask.now)
+        (value_at image.old) (value_at image.new)) }
+    ensures untouched { OnErr result (image.new ≡ image.old) }
+{
+    let w = image.width();
+    let h = image.height();
+    let mut room = Room::new(alloc, w * h)?;
+    let whole = Rect { x: 0, y: 0, w, h };
+    close(mask, image, whole, conn, &mut room.waiting, Start::Scans);
+    Ok(())
+}
+
+// Raises the image inside the rectangle until no pair of neighbours there is open.
+fn close(mask: &Grid, image: &mut Grid, rect: Rect, conn: Conn, waiting: &mut Waiting, start: Start)
+    requires filled { IsFilled image.old }
+    requires below { IsBelow image.old mask.now }
+    requires fits { RectFits mask.now.width mask.now.height rect }
+    ensures grown { IsGrown conn rect mask.now image.old image.new }
+    ensures closed { IsClosed (domain_in rect conn) (part rect (value_at mask.now)) (part rect (value_at image.new)) }
+{
+    let budget = budget(rect, start);
+    let mut next = start;
+    'rounds: loop {
+        let all = fill(mask, image, rect, conn, waiting, next);
+        if all && drain(mask, image, rect, conn, waiting, budget) {
+            return;
+        }
+        next = Start::Scans;
+    }
+}
+
+// How many cells may rise by the queue before the next scans: an eighth of the rectangle's where it was checked first,
+// else as many as it has.
+fn budget(rect: Rect, start: Start) -> usize
+    ensures { 0 < result }
+{
+    let pixels = rect.w as usize * rect.h as usize;
+    match start {
+        Start::Check => (pixels / 8).max(1),
+        Start::Scans => pixels.max(1),
+    }
+}
+
+// Fills the queue with the cells whose neighbours can be raised, and says whether there was room for all of them. Where
+// there was not, some cell has risen.
+fn fill(
+    mask: &Grid,
+    image: &mut Grid,
+    rect: Rect,
+    conn: Conn,
+    waiting: &mut Waiting,
+    start: Start,
+) -> bool
+    requires filled { IsFilled image.old }
+    requires below { IsBelow image.old mask.now }
+    requires fits { RectFits mask.now.width mask.now.height rect }
+    ensures grown { IsGrown conn rect mask.now image.old image.new }
+    ensures inside { AreInside rect image.new.width waiting.new }
+    ensures waits { IsTrue result → AllWait conn rect mask.now image.new waiting.new }
+    ensures rose { IsTrue result ⊎ (headroom image.new.cells < headroom image.old.cells) }
+{
+    waiting.clear();
+    match start {
+        Start::Check => check(mask, image, rect, conn, waiting),
+        Start::Scans => scan(mask, image, rect, conn, waiting),
+    }
+}
+
+// Fills the queue by the raster and the anti-raster scan, and says whether there was room for all open pairs. Where
+// there was not, the rows are checked.
+fn scan(mask: &Grid, image: &mut Grid, rect: Rect, conn: Conn, waiting: &mut Waiting) -> bool
+    requires filled { IsFilled image.old }
+    requires below { IsBelow image.old mask.now }
+    requires fits { RectFits mask.now.width mask.now.height rect }
+    requires empty { waiting.old ≡ [] }
+    ensures grown { IsGrown conn rect mask.now image.old image.new }
+    ensures inside { AreInside rect image.new.width waiting.new }
+    ensures waits { IsTrue result → AllWait conn rect mask.now image.new waiting.new }
+    ensures rose { IsTrue result ⊎ (headroom image.new.cells < headroom image.old.cells) }
+{
+    scan_down(mask, image, rect, conn);
+    if scan_up(mask, image, rect, conn, waiting) {
+        return true;
+    }
+    waiting.clear();
+    check(mask, image, rect, conn, waiting)
+}
+
+// Fills the queue by the check of each row, and says whether there was room for all open pairs. Where there was not,
+// the first cell has spread.
+fn check(mask: &Grid, image: &mut Grid, rect: Rect, conn: Conn, waiting: &mut Waiting) -> bool
+    requires filled { IsFilled image.old }
+    requires below { IsBelow image.old mask.now }
+    requires fits { RectFits mask.now.width mask.now.height rect }
+    requires empty { waiting.old ≡ [] }
+    ensures grown { IsGrown conn rect mask.now image.old image.new }
+    ensures inside { AreInside rect image.new.width waiting.new }
+    ensures waits { IsTrue result → AllWait conn rect mask.now image.new waiting.new }
+    ensures rose { IsTrue result ⊎ (headroom image.new.cells < headroom image.old.cells) }
+{
+    if queue_open_pairs(mask, image, rect, conn, waiting) {
+        return true;
+    }
+    if let Some(cell) = waiting.pop() {
+        let _room = spread(mask, image, rect, conn, waiting, cell);
+    }
+    false
+}

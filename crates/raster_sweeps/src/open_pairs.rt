@@ -1,0 +1,203 @@
+//! The check of rows for open pairs: neighbours of which the first can still raise the second, as far as the mask lets
+//! it. The first pixels of such pairs are put into the queue.
+
+ghost use Rattle.std.specs.Prelude.{◌≡◌, ◌+◌, ◌<◌, ◌≤◌, ◌⊎◌, [], length, min, IsTrue};
+ghost use Rattle.grid_core.specs.Neighbours.{apart};
+ghost use Rattle.grid_core.specs.Raster.{IsBelow, max_pixels};
+ghost use Rattle.grid_core.specs.Rects.{RectFits};
+ghost use Rattle.raster_sweeps.specs.Growth.{AllWait, AreOpen, cell_of};
+ghost use Rattle.raster_sweeps.specs.RowPairs.{AreAside, AreBeside, RaisesStraight, RaisesTo, IsOpenCell, HaveJoined};
+
+use crate::rows::{is_closed_straight, row_in};
+use crate::waiting::Waiting;
+use grid_core::{Conn, Grid, Rect};
+
+// How many columns are checked at once.
+const STRIP: usize = 64;
+
+/// Puts the first pixel of each open pair of the rectangle into the queue. Each row is checked, 64 columns at once.
+///
+/// It answers whether there was room for all of them, and stops where there was not.
+pub fn queue_open_pairs(
+    mask: &Grid,
+    image: &Grid,
+    rect: Rect,
+    conn: Conn,
+    waiting: &mut Waiting,
+) -> bool
+    requires below { IsBelow image.now mask.now }
+    requires fits { RectFits mask.now.width mask.now.height rect }
+    requires empty { waiting.old ≡ [] }
+    ensures open { AreOpen conn rect mask.now image.now waiting.new }
+    ensures waits { IsTrue result → AllWait conn rect mask.now image.now waiting.new }
+    ensures full { IsTrue result ⊎ (0 < length waiting.new) }
+{
+    for y in 0..rect.h {
+        if !queue_row(mask, image, rect, y, conn, waiting) {
+            return false;
+        }
+    }
+    true
+}
+
+/// Puts the first pixels of the open pairs whose upper pixel, or both, lie in the rectangle's row `y` into the queue.
+///
+/// It answers whether there was room for all of them.
+pub fn queue_row(
+    mask: &Grid,
+    image: &Grid,
+    rect: Rect,
+    y: u32,
+    conn: Conn,
+    waiting: &mut Waiting,
+) -> bool
+    requires below { IsBelow image.now mask.now }
+    requires fits { RectFits mask.now.width mask.now.height rect }
+    requires row { y < rect.h }
+    ensures { HaveJoined (IsOpenCell conn rect mask.now image.now (λ a b. min a b ≡ y)) result
+        waiting.old waiting.new }
+{
+    if !queue_within(mask, image, rect, y, waiting) {
+        return false;
+    }
+    if y + 1 == rect.h {
+        return true;
+    }
+    queue_between(mask, image, rect, y, y + 1, conn, waiting)
+        && queue_between(mask, image, rect, y + 1, y, conn, waiting)
+}
+
+// Puts the first pixels of the open pairs within a row into the queue. It answers whether there was room for all of
+// them.
+fn queue_within(mask: &Grid, image: &Grid, rect: Rect, y: u32, waiting: &mut Waiting) -> bool
+    requires below { IsBelow image.now mask.now }
+    requires fits { RectFits mask.now.width mask.now.height rect }
+    requires row { y < rect.h }
+    ensures { (conn : _) → HaveJoined (IsOpenCell conn rect mask.now image.now (λ a b. (a ≡ y) × (b ≡ y))) result
+        waiting.old waiting.new }
+{
+    let first = first_cell(image, rect, y);
+    let row = row_in(image, rect, y);
+    let limits = row_in(mask, rect, y);
+    queue_aslant(row, limits, row, first, waiting)
+}
+
+// Puts the first pixels of the open pairs from a row to another, which touches it, into the queue. It answers whether
+// there was room for all of them.
+fn queue_between(
+    mask: &Grid,
+    image: &Grid,
+    rect: Rect,
+    from: u32,
+    to: u32,
+    conn: Conn,
+    waiting: &mut Waiting,
+) -> bool
+    requires below { IsBelow image.now mask.now }
+    requires fits { RectFits mask.now.width mask.now.height rect }
+    requires from { from < rect.h }
+    requires to { to < rect.h }
+    requires touch { apart from to ≡ 1 }
+    ensures { HaveJoined (IsOpenCell conn rect mask.now image.now (λ a b. (a ≡ from) × (b ≡ to))) result
+        waiting.old waiting.new }
+{
+    let first = first_cell(image, rect, from);
+    let raising = row_in(image, rect, from);
+    let limits = row_in(mask, rect, to);
+    let raised = row_in(image, rect, to);
+    queue_to(raising, limits, raised, first, conn, waiting)
+}
+
+// Puts the cells of the row `from`, which begin at `first`, that raise a neighbour in the row `to`, which touches it,
+// into the queue. It answers whether there was room for all of them.
+fn queue_to(
+    from: &[u32],
+    mask: &[u32],
+    to: &[u32],
+    first: u32,
+    conn: Conn,
+    waiting: &mut Waiting,
+) -> bool
+    requires some { 0 < length to.now }
+    requires from { length from.now ≡ length to.now }
+    requires mask { length mask.now ≡ length to.now }
+    requires cells { first + length to.now ≤ max_pixels }
+    ensures { HaveJoined (RaisesTo (AreBeside conn) first from.now mask.now to.now) result waiting.old waiting.new }
+{
+    if !queue_straight(from, mask, to, first, waiting) {
+        return false;
+    }
+    match conn {
+        Conn::Four => true,
+        Conn::Eight => queue_aslant(from, mask, to, first, waiting),
+    }
+}
+
+// Puts the cells of the row `from`, which begin at `first`, that raise one in the next column of the row `to`, to the
+// right or the left, into the queue. It answers whether there was room for all of them.
+fn queue_aslant(from: &[u32], mask: &[u32], to: &[u32], first: u32, waiting: &mut Waiting) -> bool
+    requires some { 0 < length to.now }
+    requires from { length from.now ≡ length to.now }
+    requires mask { length mask.now ≡ length to.now }
+    requires cells { first + length to.now ≤ max_pixels }
+    ensures { HaveJoined (RaisesTo AreAside first from.now mask.now to.now) result waiting.old waiting.new }
+{
+    let last = to.len() - 1;
+    queue_straight(&from[..last], &mask[1..], &to[1..], first, waiting)
+        && queue_straight(&from[1..], &mask[..last], &to[..last], first + 1, waiting)
+}
+
+// Puts the cells of the row `from`, which begin at `first`, that raise the one in the same column of the row `to` into
+// the queue. It answers whether there was room for all of them.
+fn queue_straight(from: &[u32], mask: &[u32], to: &[u32], first: u32, waiting: &mut Waiting) -> bool
+    requires from { length from.now ≡ length to.now }
+    requires mask { length mask.now ≡ length to.now }
+    requires cells { first + length to.now ≤ max_pixels }
+    ensures { HaveJoined (RaisesStraight first from.now mask.now to.now) result waiting.old waiting.new }
+{
+    let mut start = 0;
+    while start < to.len() {
+        let end = (start + STRIP).min(to.len());
+        let next = first + start as u32;
+        if !queue_strip(
+            &from[start..end],
+            &mask[start..end],
+            &to[start..end],
+            next,
+            waiting,
+        ) {
+            return false;
+        }
+        start = end;
+    }
+    true
+}
+
+// The same for a few columns, which are looked at one by one only where a pair is open.
+fn queue_strip(from: &[u32], mask: &[u32], to: &[u32], first: u32, waiting: &mut Waiting) -> bool
+    requires from { length from.now ≡ length to.now }
+    requires mask { length mask.now ≡ length to.now }
+    requires cells { first + length to.now ≤ max_pixels }
+    ensures { HaveJoined (RaisesStraight first from.now mask.now to.now) result waiting.old waiting.new }
+{
+    if is_closed_straight(from, mask, to) {
+        return true;
+    }
+    for i in 0..to.len() {
+        if to[i] < from[i].min(mask[i]) && !waiting.push(first + i as u32) {
+            return false;
+        }
+    }
+    true
+}
+
+// The cell of the first pixel of the rectangle's row `y`.
+fn first_cell(image: &Grid, rect: Rect, y: u32) -> u32
+    requires fits { RectFits image.now.width image.now.height rect }
+    requires row { y < rect.h }
+    ensures place { result ≡ cell_of rect image.now.width (record { x = 0; y = y }) }
+    ensures within { result + rect.w ≤ max_pixels }
+{
+    let width = image.width();
+    (rect.y + y) * width + rect.x
+}

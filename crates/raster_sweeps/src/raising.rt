@@ -1,0 +1,137 @@
+//! Spreading: a cell that waits raises the cells around it, and those that rise wait in turn.
+
+ghost use Rattle.std.specs.Prelude.{◌≡◌, ◌+◌, ◌<◌, ◌≤◌, ◌⊎◌, ◌∷◌, [], length, min, slice_index};
+ghost use Rattle.std.specs.Prelude.{Contains, IsTrue};
+ghost use Rattle.grid_core.specs.Path.{domain_of};
+ghost use Rattle.grid_core.specs.Raster.{IsBelow, IsFilled, value_at};
+ghost use Rattle.grid_core.specs.Reconstruction.{IsClosed};
+ghost use Rattle.grid_core.specs.Rects.{RectFits, domain_in, part};
+ghost use Rattle.raster_sweeps.specs.Growth.{AllWait, AreInside, AreOpen, IsCellIn, IsGrown, headroom};
+ghost use Rattle.raster_sweeps.specs.Spans.{AreQueued, InSpan, IsAround, IsRaised};
+
+use crate::neighbourhood::{Span, Spans, spans_around};
+use crate::waiting::Waiting;
+use grid_core::laws::cells_given_back;
+use grid_core::{Conn, Grid, Rect};
+
+/// Lets the waiting cells spread until none waits, which it answers by `true`.
+///
+/// Where the queue was full, or `budget` cells rose, it stops with `false`.
+pub fn drain(
+    mask: &Grid,
+    image: &mut Grid,
+    rect: Rect,
+    conn: Conn,
+    waiting: &mut Waiting,
+    budget: usize,
+) -> bool
+    requires filled { IsFilled image.old }
+    requires below { IsBelow image.old mask.now }
+    requires fits { RectFits mask.now.width mask.now.height rect }
+    requires inside { AreInside rect image.old.width waiting.old }
+    requires some { 0 < budget }
+    ensures grown { IsGrown conn rect mask.now image.old image.new }
+    ensures closed { IsTrue result → AllWait conn rect mask.now image.old waiting.old
+        → IsClosed (domain_in rect conn) (part rect (value_at mask.now)) (part rect (value_at image.new)) }
+    ensures rose { IsTrue result ⊎ (headroom image.new.cells < headroom image.old.cells) }
+{
+    let mut left = budget;
+    while let Some(cell) = waiting.pop() {
+        let before = waiting.len();
+        let room = spread(mask, image, rect, conn, waiting, cell);
+        if !room || waiting.len() - before >= left {
+            return false;
+        }
+        left -= waiting.len() - before;
+    }
+    true
+}
+
+/// Raises the cells around a cell by it, as far as the mask lets them, and puts those that rise into the queue.
+///
+/// It answers whether there was room for all of them.
+#[inline(always)]
+pub fn spread(
+    mask: &Grid,
+    image: &mut Grid,
+    rect: Rect,
+    conn: Conn,
+    waiting: &mut Waiting,
+    cell: u32,
+) -> bool
+    requires below { IsBelow image.old mask.now }
+    requires fits { RectFits mask.now.width mask.now.height rect }
+    requires inside { AreInside rect image.old.width (cell ∷ waiting.old) }
+    ensures grown { IsGrown conn rect mask.now image.old image.new }
+    ensures inside { AreInside rect image.new.width waiting.new }
+    ensures waits { IsTrue result → AllWait conn rect mask.now image.old (cell ∷ waiting.old)
+        → AllWait conn rect mask.now image.new waiting.new }
+    ensures count { IsTrue result → length waiting.old ≤ length waiting.new }
+    ensures effort { IsTrue result → length waiting.new + headroom image.new.cells
+        ≤ length waiting.old + headroom image.old.cells }
+    ensures fell { IsTrue result ⊎ (headroom image.new.cells < headroom image.old.cells) }
+    ensures rose { AreOpen conn rect mask.now image.old (cell ∷ [])
+        → headroom image.new.cells < headroom image.old.cells }
+{
+    cells_given_back();
+    let spans = spans_around(mask.width(), rect, conn, cell);
+    let limits = mask.cells();
+    let cells = image.cells_mut();
+    let level = cells[cell as usize];
+    raise_around(limits, cells, waiting, level, spans)
+}
+
+// Raises the cells of the spans to the level, as far as the mask lets them, and puts those that rise into the queue.
+// It answers whether there was room for all of them.
+#[inline(always)]
+fn raise_around(
+    mask: &[u32],
+    cells: &mut [u32],
+    waiting: &mut Waiting,
+    level: u32,
+    spans: Spans,
+) -> bool
+    requires within { (k : _) → IsAround spans k → k < length cells.old }
+    requires same { length mask.now ≡ length cells.old }
+    ensures raised { IsRaised (IsAround spans) mask.now level cells.old cells.new }
+    ensures inside { (i : _) → Contains waiting.new i → Contains waiting.old i ⊎ IsAround spans i }
+    ensures queued { IsTrue result → AreQueued (IsAround spans) mask.now level cells.old waiting.old waiting.new }
+    ensures count { IsTrue result → length waiting.old ≤ length waiting.new }
+    ensures effort { IsTrue result
+        → length waiting.new + headroom cells.new ≤ length waiting.old + headroom cells.old }
+    ensures fell { IsTrue result ⊎ (headroom cells.new < headroom cells.old) }
+    ensures less { (k : _) → IsAround spans k → slice_index cells.old k < min level (slice_index mask.now k)
+        → headroom cells.new < headroom cells.old }
+{
+    let above = raise(mask, cells, waiting, level, spans.above);
+    let beside = raise(mask, cells, waiting, level, spans.beside);
+    let below = raise(mask, cells, waiting, level, spans.below);
+    above && beside && below
+}
+
+// Raises the cells of the span to the level, as far as the mask lets them, and puts those that rise into the queue.
+// It answers whether there was room for all of them.
+#[inline(always)]
+fn raise(mask: &[u32], cells: &mut [u32], waiting: &mut Waiting, level: u32, span: Span) -> bool
+    requires within { (k : _) → InSpan span k → k < length cells.old }
+    requires same { length mask.now ≡ length cells.old }
+    ensures raised { IsRaised (InSpan span) mask.now level cells.old cells.new }
+    ensures inside { (i : _) → Contains waiting.new i → Contains waiting.old i ⊎ InSpan span i }
+    ensures queued { IsTrue result → AreQueued (InSpan span) mask.now level cells.old waiting.old waiting.new }
+    ensures count { IsTrue result → length waiting.old ≤ length waiting.new }
+    ensures effort { IsTrue result
+        → length waiting.new + headroom cells.new ≤ length waiting.old + headroom cells.old }
+    ensures fell { IsTrue result ⊎ (headroom cells.new < headroom cells.old) }
+    ensures kept { headroom cells.new ≤ headroom cells.old }
+{
+    let mut room = true;
+    for cell in span.first..span.end {
+        let at = cell as usize;
+        let raised = level.min(mask[at]);
+        if cells[at] < raised {
+            cells[at] = raised;
+            room = waiting.push(cell) && room;
+        }
+    }
+    room
+}

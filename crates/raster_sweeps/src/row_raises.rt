@@ -1,0 +1,70 @@
+//! How a scan raises a row: by another row that touches it, and along itself.
+
+ghost use Rattle.std.specs.Prelude.{◌≡◌, ◌<◌, length};
+ghost use Rattle.raster_sweeps.specs.RowPairs.{AreAside, AreBeside};
+ghost use Rattle.raster_sweeps.specs.RowRaises.{IsRaisedStraight, IsRaisedBy, IsRaisedFromLeft, IsRaisedFromRight};
+
+use grid_core::Conn;
+
+/// Raises each pixel of a row by its neighbours in a row that touches it, as far as the mask lets it.
+pub fn raise_by(mask: &[u32], by: &[u32], row: &mut [u32], conn: Conn)
+    requires some { 0 < length row.old }
+    requires mask { length mask.now ≡ length row.old }
+    requires by { length by.now ≡ length row.old }
+    ensures { IsRaisedBy (AreBeside conn) mask.now by.now row.old row.new }
+{
+    raise_straight(mask, by, row);
+    if conn == Conn::Eight {
+        raise_aslant(mask, by, row);
+    }
+}
+
+// Raises each pixel of a row by those of another in the columns to its left and right, as far as the mask lets it.
+fn raise_aslant(mask: &[u32], by: &[u32], row: &mut [u32])
+    requires some { 0 < length row.old }
+    requires mask { length mask.now ≡ length row.old }
+    requires by { length by.now ≡ length row.old }
+    ensures { IsRaisedBy AreAside mask.now by.now row.old row.new }
+{
+    let last = row.len() - 1;
+    raise_straight(&mask[1..], &by[..last], &mut row[1..]);
+    raise_straight(&mask[..last], &by[1..], &mut row[..last]);
+}
+
+// Raises each pixel of a row by the one in the same column of another, as far as the mask lets it.
+//
+// Inside the loop over the rows it would not become vector code.
+#[inline(never)]
+fn raise_straight(mask: &[u32], by: &[u32], row: &mut [u32])
+    requires mask { length mask.now ≡ length row.old }
+    requires by { length by.now ≡ length row.old }
+    ensures { IsRaisedStraight mask.now by.now row.old row.new }
+{
+    for i in 0..row.len() {
+        row[i] = row[i].max(by[i].min(mask[i]));
+    }
+}
+
+/// Raises each pixel of a row, from the left, by the one to its left, as far as the mask lets it.
+pub fn raise_from_left(mask: &[u32], row: &mut [u32])
+    requires { length mask.now ≡ length row.old }
+    ensures { IsRaisedFromLeft mask.now row.old row.new }
+{
+    let mut level = 0;
+    for i in 0..row.len() {
+        level = level.min(mask[i]).max(row[i]);
+        row[i] = level;
+    }
+}
+
+/// Raises each pixel of a row, from the right, by the one to its right, as far as the mask lets it.
+pub fn raise_from_right(mask: &[u32], row: &mut [u32])
+    requires { length mask.now ≡ length row.old }
+    ensures { IsRaisedFromRight mask.now row.old row.new }
+{
+    let mut level = 0;
+    for i in (0..row.len()).rev() {
+        level = level.min(mask[i]).max(row[i]);
+        row[i] = level;
+    }
+}

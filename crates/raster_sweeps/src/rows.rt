@@ -1,0 +1,54 @@
+//! What is asked of rows of pixels, as slices of equal length.
+
+ghost use Rattle.std.specs.Prelude.{◌≡◌, ◌<◌, ◌↔◌, length, IsTrue};
+ghost use Rattle.grid_core.specs.Raster.{value_at};
+ghost use Rattle.grid_core.specs.Rects.{RectFits, part};
+ghost use Rattle.raster_sweeps.specs.RowPairs.{AreBeside, AreAside, IsClosedStraight, IsClosedTo, IsRowOf};
+
+use grid_core::{Conn, Grid, Rect};
+
+// The values of the rectangle's row `y`, counted from its top.
+pub fn row_in(grid: &Grid, rect: Rect, y: u32) -> &[u32]
+    requires fits { RectFits grid.now.width grid.now.height rect }
+    requires row { y < rect.h }
+    ensures { IsRowOf rect.w (part rect (value_at grid.now)) y result.now }
+{
+    let width = grid.width() as usize;
+    let start = (rect.y + y) as usize * width + rect.x as usize;
+    &grid.cells()[start..start + rect.w as usize]
+}
+
+// Whether no pixel of the row `from` raises the one in the same column of the row `to`.
+pub fn is_closed_straight(from: &[u32], mask: &[u32], to: &[u32]) -> bool
+    requires from { length from.now ≡ length to.now }
+    requires mask { length mask.now ≡ length to.now }
+    ensures { IsTrue result ↔ IsClosedStraight from.now mask.now to.now }
+{
+    let mut open = false;
+    for i in 0..to.len() {
+        open |= to[i] < from[i].min(mask[i]);
+    }
+    !open
+}
+
+// Whether no pixel of the row `from` raises one in the next column, to the right or the left, of the row `to`.
+pub fn is_closed_aslant(from: &[u32], mask: &[u32], to: &[u32]) -> bool
+    requires some { 0 < length to.now }
+    requires from { length from.now ≡ length to.now }
+    requires mask { length mask.now ≡ length to.now }
+    ensures { IsTrue result ↔ IsClosedTo AreAside from.now mask.now to.now }
+{
+    let last = to.len() - 1;
+    is_closed_straight(&from[..last], &mask[1..], &to[1..])
+        && is_closed_straight(&from[1..], &mask[..last], &to[..last])
+}
+
+// Whether no pixel of the row `from` raises a neighbour in the row `to`, which touches it.
+pub fn is_closed_to(from: &[u32], mask: &[u32], to: &[u32], conn: Conn) -> bool
+    requires some { 0 < length to.now }
+    requires from { length from.now ≡ length to.now }
+    requires mask { length mask.now ≡ length to.now }
+    ensures { IsTrue result ↔ IsClosedTo (AreBeside conn) from.now mask.now to.now }
+{
+    is_closed_straight(from, mask, to) && (conn == Conn::Four || is_closed_aslant(from, mask, to))
+}

@@ -1,0 +1,128 @@
+//! The raster and the anti-raster scan of a rectangle (Vincent, "Morphological Grayscale Reconstruction in Image
+//! Analysis", 1993).
+
+ghost use Rattle.std.specs.Prelude.{◌≡◌, ◌+◌, ◌<◌, ◌≤◌, ◌⊎◌, [], length, IsTrue};
+ghost use Rattle.grid_core.specs.Neighbours.{apart};
+ghost use Rattle.grid_core.specs.Raster.{IsBelow};
+ghost use Rattle.grid_core.specs.Rects.{RectFits};
+ghost use Rattle.raster_sweeps.specs.Growth.{AllWait, AreInside, IsGrown};
+ghost use Rattle.raster_sweeps.specs.RowRaises.{AreCellsRaised, IsRowGrown};
+
+use crate::open_pairs::queue_row;
+use crate::row_raises::{raise_by, raise_from_left, raise_from_right};
+use crate::rows::row_in;
+use crate::waiting::Waiting;
+use grid_core::laws::cells_given_back;
+use grid_core::{Conn, Grid, Rect};
+
+/// The raster scan: row by row from the top, each row from the left, each pixel of the rectangle is raised by its
+/// earlier neighbours there, as far as the mask lets it.
+pub fn scan_down(mask: &Grid, image: &mut Grid, rect: Rect, conn: Conn)
+    requires below { IsBelow image.old mask.now }
+    requires fits { RectFits mask.now.width mask.now.height rect }
+    ensures { IsGrown conn rect mask.now image.old image.new }
+{
+    raise_row_from_left(mask, image, rect, 0);
+    for y in 1..rect.h {
+        raise_row_by(mask, image, rect, y - 1, y, conn);
+        raise_row_from_left(mask, image, rect, y);
+    }
+}
+
+/// The anti-raster scan, from the last pixel of the rectangle back. After each row those of its pixels and of the row
+/// below that can still raise a neighbour in these rows are put into the queue.
+///
+/// It answers whether there was room for all of them. Where there was not, the rows above are raised and not checked.
+pub fn scan_up(mask: &Grid, image: &mut Grid, rect: Rect, conn: Conn, waiting: &mut Waiting) -> bool
+    requires below { IsBelow image.old mask.now }
+    requires fits { RectFits mask.now.width mask.now.height rect }
+    requires empty { waiting.old ≡ [] }
+    ensures grown { IsGrown conn rect mask.now image.old image.new }
+    ensures inside { AreInside rect image.new.width waiting.new }
+    ensures waits { IsTrue result → AllWait conn rect mask.now image.new waiting.new }
+{
+    let last = rect.h - 1;
+    raise_row_from_right(mask, image, rect, last);
+    let mut all = queue_row(mask, image, rect, last, conn, waiting);
+    for y in (0..last).rev() {
+        raise_row_by(mask, image, rect, y + 1, y, conn);
+        raise_row_from_right(mask, image, rect, y);
+        all = all && queue_row(mask, image, rect, y, conn, waiting);
+    }
+    all
+}
+
+// Raises the pixels of the rectangle's row `to` by their neighbours in the row `from`, which touches it.
+fn raise_row_by(mask: &Grid, image: &mut Grid, rect: Rect, from: u32, to: u32, conn: Conn)
+    requires below { IsBelow image.old mask.now }
+    requires fits { RectFits mask.now.width mask.now.height rect }
+    requires from { from < rect.h }
+    requires to { to < rect.h }
+    requires touch { apart from to ≡ 1 }
+    ensures { IsRowGrown conn rect mask.now to image.old image.new }
+{
+    cells_given_back();
+    let limits = row_in(mask, rect, to);
+    let width = image.width() as usize;
+    let source = (rect.y + from) as usize * width + rect.x as usize;
+    let target = (rect.y + to) as usize * width + rect.x as usize;
+    raise_cells_by(limits, image.cells_mut(), source, target, conn);
+}
+
+// Raises the row of cells that begins at `target` by the row that begins at `source`, above or below it.
+fn raise_cells_by(limits: &[u32], cells: &mut [u32], source: usize, target: usize, conn: Conn)
+    requires some { 0 < length limits.now }
+    requires source { source + length limits.now ≤ length cells.old }
+    requires target { target + length limits.now ≤ length cells.old }
+    requires touch { (source + length limits.now ≤ target) ⊎ (target + length limits.now ≤ source) }
+    ensures { AreCellsRaised conn limits.now source target cells.old cells.new }
+{
+    let size = limits.len();
+    if source < target {
+        let (above, below) = cells.split_at_mut(target);
+        raise_by(
+            limits,
+            &above[source..source + size],
+            &mut below[..size],
+            conn,
+        );
+    } else {
+        let (above, below) = cells.split_at_mut(source);
+        raise_by(
+            limits,
+            &below[..size],
+            &mut above[target..target + size],
+            conn,
+        );
+    }
+}
+
+// Raises the pixels of the rectangle's row `y`, from the left, by those to their left.
+fn raise_row_from_left(mask: &Grid, image: &mut Grid, rect: Rect, y: u32)
+    requires below { IsBelow image.old mask.now }
+    requires fits { RectFits mask.now.width mask.now.height rect }
+    requires row { y < rect.h }
+    ensures { (conn : _) → IsRowGrown conn rect mask.now y image.old image.new }
+{
+    cells_given_back();
+    let limits = row_in(mask, rect, y);
+    let width = image.width() as usize;
+    let start = (rect.y + y) as usize * width + rect.x as usize;
+    let cells = image.cells_mut();
+    raise_from_left(limits, &mut cells[start..start + rect.w as usize]);
+}
+
+// Raises the pixels of the rectangle's row `y`, from the right, by those to their right.
+fn raise_row_from_right(mask: &Grid, image: &mut Grid, rect: Rect, y: u32)
+    requires below { IsBelow image.old mask.now }
+    requires fits { RectFits mask.now.width mask.now.height rect }
+    requires row { y < rect.h }
+    ensures { (conn : _) → IsRowGrown conn rect mask.now y image.old image.new }
+{
+    cells_given_back();
+    let limits = row_in(mask, rect, y);
+    let width = image.width() as usize;
+    let start = (rect.y + y) as usize * width + rect.x as usize;
+    let cells = image.cells_mut();
+    raise_from_right(limits, &mut cells[start..start + rect.w as usize]);
+}
