@@ -1,12 +1,14 @@
 -- The first delta that a state does not take.
-use Rattle.std.proofs.Common.{◌≡◌, ℕ, suc, ◌+◌, ◌<◌, ◌≤◌, List, [], ◌∷◌, ◌++◌, length, take, drop, get_or, Some, refl, sym, ap, ◌∙◌, subst, add-one, arith, inl, inr, ◌⊎◌}
+use Rattle.std.proofs.Common.{◌≡◌, ℕ, suc, ◌+◌, ◌<◌, List, [], ◌∷◌, ◌++◌, length, take, drop, get_or, Some, refl, sym, ap, ◌∙◌, subst, add-one, arith, inl, inr, ◌⊎◌}
 use Rattle.std.specs.Prelude.{◌↔◌}
 use Rattle.std.specs.List.{AllByRecursion}
 use Rattle.std.proofs.lemmas.Bool.{cases_lt}
 use Rattle.std.proofs.lemmas.List.{take_more, take-append-drop}
 use Rattle.std.proofs.Math.Seq.{drop-cons, take-length}
+use Rattle.grid_core.specs.Raster.{Raster}
+use Rattle.marker_tiles.specs.Kept.{Kept, IsMarkerOf}
 use Rattle.stroke_core.specs.Seed.{Seed, Fits}
-use Rattle.stroke_lattice.specs.State.{State, nothing, HasStroke, StateFits, SomeHasStroke, IsJoin, IsJoinOf, AreCompatible, IsOutside, IsLeastOutside, ClashAt, IsLeastClash}
+use Rattle.stroke_lattice.specs.State.{State, nothing, HasStroke, StateFits, SomeHasStroke, IsJoin, IsJoinOf, AreCompatible, IsLeastClash}
 use Rattle.stroke_lattice.specs.declared.error.StateError.{StateError}
 use Rattle.stroke_lattice.specs.declared.error.StateError.TheVariants as merge
 use Rattle.seedpaint.specs.RunError.{refused_state}
@@ -100,6 +102,66 @@ join_fits w h deltas state merged tag seed has = go deltas merged.fit ((merged.j
     go [] fit some = absurd some
     go (s ∷ states) fit (inl here) = fit.0 tag seed here
     go (s ∷ states) fit (inr there) = go states fit.1 there
+
+-- deltas are merged into the state, and the markers are those of it on the mask where they began
+pub record IsKept (first : Kept) (deltas : List State) (state : State) (markers : Kept) : Type 0 where
+  pub merged : AreMerged first.mask.width first.mask.height deltas state
+  pub marks : IsMarkerOf markers.mask state markers.marker
+  pub mask : markers.mask ≡ first.mask
+
+-- their strokes fit the mask
+pub kept_fits : (first : Kept) (deltas : List State) (state : State) (markers : Kept) → IsKept first deltas state markers
+    → StateFits markers.mask.width markers.mask.height state
+kept_fits first deltas state markers kept =
+    subst (λ (r : Raster). StateFits r.width r.height state) (sym kept.mask)
+    (join_fits first.mask.width first.mask.height deltas state kept.merged)
+
+-- one delta more is merged, and the markers are kept for it
+pub kept_more : LongerJoinLaw → (first : Kept) (deltas : List State) (i : ℕ) (delta state next : State) (markers after : Kept) → i < length deltas
+    → delta ≡ get_or deltas i delta → IsKept first (take i deltas) state markers → StateFits markers.mask.width markers.mask.height delta
+    → IsJoin state delta next → IsMarkerOf after.mask next after.marker → after.mask ≡ markers.mask → IsKept first (take (i + 1) deltas) next after
+kept_more longer first deltas i delta state next markers after within read kept fits join marks same = record {
+  merged = merged_more longer first.mask.width first.mask.height deltas i delta state next within read kept.merged
+      (subst (λ (r : Raster). StateFits r.width r.height delta) kept.mask fits) join;
+  marks = marks;
+  mask = same ∙ kept.mask;
+}
+
+-- the delta at an index is refused, or there is no memory for it
+pub kept_refused : (first : Kept) (deltas : List State) (i : ℕ) (delta state : State) (markers : Kept) (e : CoreError) → i < length deltas
+    → delta ≡ get_or deltas i delta → IsKept first (take i deltas) state markers
+    → ((e ≡ Memory) × StateFits markers.mask.width markers.mask.height delta × AreCompatible state delta)
+    ⊎ IsRefusedBy markers.mask.width markers.mask.height state delta e
+    → ((e ≡ Memory) × IsHalted first.mask.width first.mask.height deltas) ⊎ IsFirstRefusal first.mask.width first.mask.height deltas e
+kept_refused first deltas i delta state markers e within read kept (inl halted) =
+    let fits = subst (λ (r : Raster). StateFits r.width r.height delta) kept.mask halted.1 in
+    inl (halted.0, halted_at first.mask.width first.mask.height deltas i delta state within read kept.merged fits halted.2)
+kept_refused first deltas i delta state markers e within read kept (inr refused) =
+    let by_first = subst (λ (r : Raster). IsRefusedBy r.width r.height state delta e) kept.mask refused in
+    inr (refused_at first.mask.width first.mask.height deltas i delta state e within read kept.merged by_first)
+
+-- what is known of an image's sides, as they were told, holds of the image
+pub of_size : (P : ℕ → ℕ → Type 0) (told image : Raster) (w h : ℕ) → told ≡ image → w ≡ told.width → h ≡ told.height → P w h
+    → P image.width image.height
+of_size P told image w h same same_w same_h p =
+    subst (λ (r : Raster). P r.width r.height) same (subst (P told.width) same_h (subst (λ n. P n h) same_w p))
+
+-- the join of two states that fit does
+pub joined_fits : LongerJoinLaw → (w h : ℕ) (a b join : State) → StateFits w h a → StateFits w h b → IsJoin a b join → StateFits w h join
+joined_fits law w h a b join fits_a fits_b is_join tag seed has =
+    elim ((both.strokes tag seed).0 has) [
+      | inl first ↦ fits_a tag seed first
+      | inr rest ↦ elim rest [ inl second ↦ fits_b tag seed second | inr none ↦ absurd none ]
+    ]
+  where
+    alone : IsJoinOf (a ∷ []) a
+    alone = record {
+      strokes = λ t s. (λ here. inl here, λ some. elim some [ inl here ↦ here | inr none ↦ absurd none ]);
+      tombstones = λ t. (λ here. inl here, λ some. elim some [ inl here ↦ here | inr none ↦ absurd none ]);
+    }
+
+    both : IsJoinOf (a ∷ b ∷ []) join
+    both = (law (a ∷ []) a b join alone).1 is_join
 
 -- ---- a refused delta
 

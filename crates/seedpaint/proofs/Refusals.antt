@@ -10,7 +10,7 @@ use Rattle.pgm_codec.specs.declared.error.PgmError.{PgmError}
 use Rattle.stroke_lattice.specs.State.{State}
 use Rattle.seedpaint.specs.Input.{IsSplit, HasNoImageLine}
 use Rattle.seedpaint.specs.Merging.{AreMerged, IsFirstRefusal}
-use Rattle.seedpaint.specs.View.{InputSpells, IsImageOfView, IsView, InputIsRefused}
+use Rattle.seedpaint.specs.View.{InputSpells, IsView, InputIsRefused}
 use Rattle.seedpaint.specs.declared.run_error.CoreError.{CoreError}
 use Rattle.seedpaint.specs.declared.run_error.RunError.{RunError}
 use Rattle.seedpaint.specs.declared.run_error.RunError.TheVariants.{Usage, NoImage, Edit, Pgm, Core, Memory}

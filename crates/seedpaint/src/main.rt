@@ -1,9 +1,9 @@
+#![tactic(auto)]
 //! Seedpaint grows seed strokes into a greyscale image: edit lines, a line `image` and a PGM file on
 //! standard input, the reconstruction by dilation as a raw PGM file on standard output.
 //!
 //! `view` has the theorem, from bytes to bytes. `process` makes the call that the words of the command line say,
 //! and `run_error` tells why a run ended. Read on in `docs/ARCHITECTURE.md`.
-#![tactic(auto)]
 
 mod input;
 pub mod laws;

@@ -4,19 +4,25 @@ ghost use Rattle.std.specs.Prelude.{◌≡◌, ◌⊎◌, ◌+◌, ◌^◌, ◌<
 ghost use Rattle.std.specs.Io.KnownBytes.{Appends, IsAtEnd};
 ghost use Rattle.pgm_codec.specs.Device.{HasRisen, GivesUp, AppendsFront, count_after};
 ghost use Rattle.pgm_codec.specs.declared.error.PgmError.TheVariants as pgm;
-ghost use Rattle.stroke_lattice.specs.State.{StateFits};
+ghost use Rattle.marker_tiles.specs.Kept.{IsMarkerOf};
+ghost use Rattle.stroke_lattice.specs.State.{State, nothing};
+ghost use Rattle.seedpaint.specs.Merging.{AreMerged, IsFirstRefusal};
 ghost use Rattle.seedpaint.specs.View.{IsView, IsImageOfView, InputIsRefused, IsInputOf, IsMemoryFault, IsShown, UnlessCutShort};
+ghost use Rattle.seedpaint.specs.declared.run_error.CoreError.{CoreError};
 
 use crate::input::split;
 use crate::merging::merge_all;
 use crate::run_error::RunError;
 use edit_lang::parse;
-use grid_core::Conn;
-use marker_tiles::marker;
-use pgm_codec::{Image, Sink, Source, read, read_all, write_to};
-use raster_sweeps::slow;
+use grid_core::{Conn, Grid, Memory, Tiling};
+use marker_tiles::Markers;
+use pgm_codec::{Image, Sink, Source, below_keeps_maxval, read, read_all, write_to};
+use raster_sweeps::grow_in_place;
 use std::alloc::Global;
-use stroke_lattice::State;
+use stroke_lattice::Delta;
+
+// The side of a tile.
+const TILE_SIDE: u32 = 64;
 
 /// Reads an input to its end, and writes the image that it asks for as a raw PGM file with the mask's
 /// maxval: the reconstruction by dilation of the mask (Vincent 1993) from the marker of its live strokes.
@@ -76,20 +82,48 @@ pub fn view(alloc: Global, input: &[u8], conn: Conn) -> Result<Image, RunError>
     };
     let deltas = parse(alloc, edits)?;
     let mask = read(alloc, file)?;
-    let state = merge_all(alloc, &deltas, mask.width(), mask.height())?;
-    show(alloc, &mask, &state, conn)
+    show(alloc, mask, &deltas, conn)
 }
 
-/// The mask grown from the marker of a state, with the mask's maxval.
+/// The mask grown from the marker of deltas that are merged in order, with the mask's maxval.
 ///
-/// Errors: P10 and plain want of memory.
-fn show(alloc: Global, mask: &Image, state: &State, conn: Conn) -> Result<Image, RunError>
-    requires { StateFits mask.now.raster.width mask.now.raster.height state.now }
-    ensures shown { IfOk result (IsShown conn mask.now state.now) }
-    ensures memory { IfErr result IsMemoryFault }
+/// Errors: C1 or C2 at the first delta that meets it; C4 or plain want of memory.
+fn show(alloc: Global, mask: Image, deltas: &[Delta], conn: Conn) -> Result<Image, RunError>
+    ensures shown { IfOk result (λ image. (state : State)
+        × AreMerged mask.raster.width mask.raster.height deltas.now state × IsShown conn mask state image) }
+    ensures refused { IfErr result (λ e. IsMemoryFault e ⊎ ((why : CoreError)
+        × (e ≡ RunError.Core why) × IsFirstRefusal mask.raster.width mask.raster.height deltas.now why)) }
 {
-    let grid = mask.to_grid(alloc)?;
-    let marker = marker(alloc, &grid, state)?;
-    let image = slow(alloc, &grid, &marker, conn)?;
-    Ok(Image::from_grid(alloc, &image, mask.maxval())?)
+    below_keeps_maxval();
+    let maxval = mask.maxval();
+    let mut markers = markers_on(alloc, mask)?;
+    merge_all(alloc, deltas, &mut markers)?;
+    let (mask, mut image) = markers.into_grids();
+    grow_in_place(alloc, &mask, &mut image, conn)?;
+    Ok(Image::over(image, maxval))
+}
+
+/// The markers of the empty state on a mask.
+///
+/// Errors: plain want of memory.
+fn markers_on(alloc: Global, mask: Image) -> Result<Markers, Memory>
+    ensures mask { IfOk result (λ markers. markers.mask ≡ mask.raster) }
+    ensures marks { IfOk result (λ markers. IsMarkerOf markers.mask nothing markers.marker) }
+{
+    let grid = mask.into_grid();
+    let tiling = tiling_of(&grid);
+    match Markers::over(alloc, grid, tiling) {
+        Ok(markers) => Ok(markers),
+        Err(_) => Err(Memory),
+    }
+}
+
+/// The tiles of a grid, of the usual side.
+fn tiling_of(grid: &Grid) -> Tiling
+    ensures { result ≡ record { width = grid.now.width; height = grid.now.height; side = 64 } }
+{
+    match Tiling::new(grid.width(), grid.height(), TILE_SIDE) {
+        Ok(tiling) => tiling,
+        Err(_) => unreachable!(),
+    }
 }

@@ -1,4 +1,3 @@
-use Rattle.seedpaint.proofs.LowerLaws.{ReadingLaws}
 use Rattle.seedpaint.proofs.Refusals.{no_view_of_a_refused_input}
 use Rattle.seedpaint.proofs.laws.no_view_of_a_refused_input.Goals as goal
 

@@ -1,4 +1,3 @@
-use Rattle.seedpaint.proofs.LowerLaws.{ReadingLaws}
 use Rattle.seedpaint.proofs.Refusals.{one_refusal}
 use Rattle.seedpaint.proofs.laws.one_refusal.Goals as goal
 

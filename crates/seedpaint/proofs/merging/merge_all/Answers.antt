@@ -1,32 +1,48 @@
-use Rattle.std.proofs.Common.{inl, inr, arith}
+use Rattle.std.proofs.Common.{refl, ◌∙◌, arith, take}
 use Rattle.std.proofs.lemmas.Result.{err_from_is_err_and}
-use Rattle.seedpaint.proofs.Deltas.{merged_none, merged_more, merged_all, refused_at, halted_at}
+use Rattle.seedpaint.proofs.Deltas.{merged_none, merged_all, kept_fits, kept_more, kept_refused}
 use Rattle.seedpaint.proofs.merging.merge_all.Goals as goal
 
 pub loop-delta-init : goal.loop-delta-init
-loop-delta-init c = merged_none c.join_of_an_empty_list.ensures c.args.w c.args.h c.in_ok-state.state c.in_ok-state.ensures.value
+loop-delta-init c =
+    let mask = c.args.markers.now.mask in
+    record {
+      merged = merged_none c.join_of_an_empty_list.ensures mask.width mask.height c.in_ok-state.state c.in_ok-state.ensures.value;
+      marks = rw (c.in_ok-state.ensures.value) c.requires;
+      mask = refl;
+    }
+
+pub merge_one-requires-clause-fits : goal.merge_one-requires-clause-fits
+merge_one-requires-clause-fits c =
+    kept_fits c.args.markers.now (take c.loop-delta.delta-index c.args.deltas.now) c.loop-delta.state c.loop-delta.markers c.loop-delta.invariant
+
+pub merge_one-requires-clause-marks : goal.merge_one-requires-clause-marks
+merge_one-requires-clause-marks c = c.loop-delta.invariant.marks
+
+pub returns-in_err-merge_one-clause-mask : goal.returns-in_err-merge_one-clause-mask
+returns-in_err-merge_one-clause-mask c = c.merge_one.ensures.mask ∙ c.loop-delta.invariant.mask
 
 pub returns-in_err-merge_one-clause-refused : goal.returns-in_err-merge_one-clause-refused
 returns-in_err-merge_one-clause-refused c =
     let p = err_from_is_err_and c.from_residual-in_err-merge_one.result c.from_residual-in_err-merge_one.ensures.1 in
-    let deltas = c.args.deltas.now in
-    let i = c.loop-delta.delta-index in
-    let delta = c.delta-item.result in
-    let merged = c.loop-delta.invariant in
-    rw (p.1, p.2) (elim c.in_err-merge_one.ensures.refused [
-      | inl halted ↦ inl (
-        halted.0,
-        halted_at c.args.w c.args.h deltas i delta c.loop-delta.state (omega (arith, c.loop-delta-test.true)) c.delta-item.is merged halted.1 halted.2,
-      )
-      | inr refused ↦ inr (refused_at c.args.w c.args.h deltas i delta c.loop-delta.state c.in_err-merge_one.field-0.0
-          (omega (arith, c.loop-delta-test.true)) c.delta-item.is merged refused)
-    ])
+    rw (p.1, p.2) (kept_refused c.args.markers.now c.args.deltas.now c.loop-delta.delta-index c.delta-item.result c.loop-delta.state
+    c.loop-delta.markers c.in_err-merge_one.field-0.0 (omega (arith, c.loop-delta-test.true)) c.delta-item.is c.loop-delta.invariant
+    c.in_err-merge_one.ensures.refused)
 
 pub loop-delta-preserved : goal.loop-delta-preserved
 loop-delta-preserved c =
-    merged_more c.join_of_a_longer_list.ensures c.args.w c.args.h c.args.deltas.now c.loop-delta.delta-index c.delta-item.result c.loop-delta.state
-    c.merge_one.new.state (omega (arith, c.loop-delta-test.true)) c.delta-item.is c.loop-delta.invariant c.in_ok-merge_one.ensures.fits c.in_ok-merge_one.ensures.join
+    kept_more c.join_of_a_longer_list.ensures c.args.markers.now c.args.deltas.now c.loop-delta.delta-index c.delta-item.result c.loop-delta.state
+    c.merge_one.new.state c.loop-delta.markers c.merge_one.new.markers (omega (arith, c.loop-delta-test.true)) c.delta-item.is
+    c.loop-delta.invariant c.in_ok-merge_one.ensures.fits c.in_ok-merge_one.ensures.join c.in_ok-merge_one.ensures.marks c.merge_one.ensures.mask
 
 pub returns-clause-merged : goal.returns-clause-merged
 returns-clause-merged c =
-    merged_all c.args.w c.args.h c.args.deltas.now c.loop-delta.delta-index c.loop-delta.state (omega (arith, c.loop-delta-test.false, c.loop-delta.auto.delta-index-end)) c.loop-delta.invariant
+    let mask = c.args.markers.now.mask in
+    merged_all mask.width mask.height c.args.deltas.now c.loop-delta.delta-index c.loop-delta.state
+    (omega (arith, c.loop-delta-test.false, c.loop-delta.auto.delta-index-end)) c.loop-delta.invariant.merged
+
+pub returns-clause-marks : goal.returns-clause-marks
+returns-clause-marks c = c.loop-delta.invariant.marks
+
+pub returns-clause-mask : goal.returns-clause-mask
+returns-clause-mask c = c.loop-delta.invariant.mask
