@@ -1,0 +1,116 @@
+-- Pixels inside a tile have no neighbour in another tile.
+use Rattle.std.proofs.Common.{◌≡◌, ℕ, zero, suc, ◌+◌, ◌<◌, ◌≤◌, Bool, false, cond, List, [], ◌∷◌, ◌++◌, map}
+use Rattle.std.proofs.Common.{true, refl, ap, sym, ◌∙◌, arith, append-nil}
+use Rattle.std.specs.Prelude.{◌&&◌, not, nat_eq, nat_lt, Contains}
+use Rattle.std.specs.List.{filter, flat_map, range_with_len}
+use Rattle.std.proofs.lemmas.Bool.{eq-eqb, le-ltb}
+use Rattle.std.proofs.lemmas.List.Elements.{Contains-append_right}
+use Rattle.std.proofs.lemmas.List.Folds.{flat_map-map}
+use Rattle.grid_core.specs.declared.conn.Conn.{Conn}
+use Rattle.grid_core.specs.declared.conn.Conn.TheVariants.{Four, Eight}
+use Rattle.grid_core.specs.declared.pixel.Pixel.{Pixel}
+use Rattle.grid_core.specs.declared.rect.Rect.{Rect}
+use Rattle.grid_core.specs.Raster.{IsInside}
+use Rattle.grid_core.specs.RasterLaws.{NeighboursByRows}
+use Rattle.grid_core.specs.Neighbours.{apart, AreNeighbours}
+use Rattle.grid_core.specs.Rects.{IsInRect}
+use Rattle.grid_core.specs.Rows.{rows_around}
+use Rattle.grid_core.specs.Tiles.{tile_of}
+use Rattle.border_queues.specs.declared.hint.Hint.{Hint}
+use Rattle.border_queues.specs.declared.border.Border.{Border}
+use Rattle.border_queues.specs.OpenEdges.{Sender, hint_to, is_open, hints_to, hints_from, level_to, row_of}
+use Rattle.border_queues.specs.Borders.{sender_of, IsBorder}
+
+-- a test that each element fails keeps none
+filter_none : (test : Pixel → Bool) (qs : List Pixel) → ((q : Pixel) → Contains qs q → test q ≡ false)
+    → filter test qs ≡ []
+filter_none test [] fails = refl
+filter_none test (q ∷ qs) fails =
+    ap (λ b. cond b (q ∷ filter test qs) (filter test qs)) (fails q (0, omega arith, refl))
+    ∙ filter_none test qs (λ r there. fails r (Contains-append_right (q ∷ []) qs r there))
+
+-- the surroundings of a pixel that lies on no border of the rectangle lie in it
+pub record IsInterior (rect : Rect) (p : Pixel) : Type 0 where
+  pub left : rect.x < p.x
+  pub right : p.x + 1 < rect.x + rect.w
+  pub above : rect.y < p.y
+  pub below : p.y + 1 < rect.y + rect.h
+
+near : (conn : Conn) (p q : Pixel) → AreNeighbours conn p q → (apart p.x q.x ≤ 1) × (apart p.y q.y ≤ 1)
+near Four p q beside = (omega arith, omega arith)
+near Eight p q beside = (beside.0, beside.1)
+
+neighbour_in_rect : (rect : Rect) (conn : Conn) (p q : Pixel) → IsInterior rect p → AreNeighbours conn p q
+    → IsInRect rect q
+neighbour_in_rect rect conn p q interior beside =
+    let close = near conn p q beside in (
+      omega (arith, close, interior.left),
+      omega (arith, close, interior.right),
+      omega (arith, close, interior.above),
+      omega (arith, close, interior.below),
+    )
+
+-- a pixel inside a tile tells nothing
+pub interior_tells_none : (b : Border) (p : Pixel) → IsBorder b → NeighboursByRows → IsInterior b.rect p
+    → hints_from (sender_of b) p ≡ []
+interior_tells_none b p border by_rows interior =
+    let s = sender_of b in
+    let inside : IsInside b.tiling.width b.tiling.height p =
+    (omega (arith, interior.right, border.columns), omega (arith, interior.below, border.rows)) in
+    let around = by_rows b.conn b.tiling.width b.tiling.height p inside in
+    ap (map (hint_to s (s.image p))) (filter_none (is_open s (s.image p))
+    (rows_around b.conn b.tiling.width b.tiling.height p) (λ q there.
+    let beside = (around.0 q).0 there in
+    let same = (border.own q beside.1).0 (neighbour_in_rect b.rect b.conn p q interior beside.0) in
+    ap (λ t. not t && nat_lt (s.image q) (level_to s (s.image p) q)) (eq-eqb (tile_of b.tiling q) b.tile same)))
+
+-- ---- a row tells what its ends tell
+
+none_told : (f : ℕ → List Hint) (a n : ℕ) → ((k : ℕ) → a ≤ k → k < a + n → f k ≡ [])
+    → flat_map f (range_with_len a n) ≡ []
+none_told f a zero none = refl
+none_told f a (suc n) none =
+    ap (λ hs. hs ++ flat_map f (range_with_len (a + 1) n)) (none a (omega arith) (omega arith))
+    ∙ none_told f (a + 1) n (λ k low high. none k (omega arith) (omega arith))
+
+last_told : (f : ℕ → List Hint) (a n : ℕ) → ((k : ℕ) → a ≤ k → k < a + n → f k ≡ [])
+    → flat_map f (range_with_len a (suc n)) ≡ f (a + n)
+last_told f a zero none = let here : a ≡ a + 0 = omega arith in append-nil (f a) ∙ ap f here
+last_told f a (suc n) none =
+    let there : a + 1 + n ≡ a + suc n = omega arith in
+    ap (λ hs. hs ++ flat_map f (range_with_len (a + 1) (suc n))) (none a (omega arith) (omega arith))
+    ∙ last_told f (a + 1) n (λ k low high. none k (omega arith) (omega arith)) ∙ ap f there
+
+pub ends_told : (f : ℕ → List Hint) (a n : ℕ) → ((k : ℕ) → a < k → k < a + suc n → f k ≡ [])
+    → flat_map f (range_with_len a (suc (suc n))) ≡ f a ++ f (a + suc n)
+ends_told f a n none =
+    let there : a + 1 + n ≡ a + suc n = omega arith in
+    ap (λ hs. f a ++ hs)
+    (last_told f (a + 1) n (λ k low high. none k (omega arith) (omega arith)) ∙ ap f there)
+
+-- a row with one pixel
+pub end_told : (f : ℕ → List Hint) (a : ℕ) → flat_map f (range_with_len a 1) ≡ f a
+end_told f a = append-nil (f a)
+
+-- the hints of a row, column by column
+pub by_columns : (s : Sender) (rect : Rect) (y : ℕ)
+    → flat_map (hints_from s) (row_of rect y)
+    ≡ flat_map (λ x. hints_from s (record { x = x; y = y })) (range_with_len rect.x rect.w)
+by_columns s rect y = flat_map-map (hints_from s) (λ x. record { x = x; y = y }) (range_with_len rect.x rect.w)
+
+-- ---- a pixel of value 0 tells nothing
+
+and_false : (a b : Bool) → b ≡ false → a && b ≡ false
+and_false true b h = h
+and_false false b h = refl
+
+never_open : (s : Sender) (q : Pixel) → is_open s 0 q ≡ false
+never_open s q =
+    and_false (not (nat_eq (tile_of s.tiles q) s.tile)) (nat_lt (s.image q) (level_to s 0 q))
+    (le-ltb (s.image q) (level_to s 0 q) (omega arith))
+
+pub zero_tells_none : (s : Sender) (p : Pixel) → 0 ≡ s.image p → hints_from s p ≡ []
+zero_tells_none s p black =
+    let qs = rows_around s.conn s.tiles.width s.tiles.height p in
+    ap (λ v. hints_to s v qs) (sym black)
+    ∙ ap (map (hint_to s 0)) (filter_none (is_open s 0) qs (λ q there. never_open s q))

@@ -1,0 +1,49 @@
+use Rattle.std.proofs.Common.{◌≡◌, ℕ, suc, ◌+◌, ◌-◌, ◌<◌, List, ◌++◌, ap, sym, ◌∙◌, append_assoc, arith}
+use Rattle.std.specs.List.{flat_map, range_with_len}
+use Rattle.grid_core.specs.RasterLaws.{NeighboursByRows}
+use Rattle.border_queues.specs.declared.hint.Hint.{Hint}
+use Rattle.border_queues.specs.declared.border.Border.{Border}
+use Rattle.border_queues.specs.OpenEdges.{hints_from, row_of}
+use Rattle.border_queues.specs.Borders.{sender_of, IsBorder}
+use Rattle.border_queues.proofs.Interior.{interior_tells_none, ends_told, end_told, by_columns}
+use Rattle.border_queues.proofs.border.Border.push_ends.Goals as goal
+
+-- a row of more than one pixel tells what its ends tell
+row_tells : (b : Border) (y : ℕ) → IsBorder b → NeighboursByRows → b.rect.y < y → y + 1 < b.rect.y + b.rect.h
+    → 0 < b.rect.w - 1 → flat_map (hints_from (sender_of b)) (row_of b.rect y)
+    ≡ hints_from (sender_of b) (record { x = b.rect.x; y = y })
+    ++ hints_from (sender_of b) (record { x = b.rect.x + (b.rect.w - 1); y = y })
+row_tells b y border by_rows above below wide =
+    let f : ℕ → List Hint = λ x. hints_from (sender_of b) (record { x = x; y = y }) in
+    let n : ℕ = b.rect.w - 2 in
+    let wide_by_two : b.rect.w ≡ suc (suc n) = omega arith in
+    let last : suc n ≡ b.rect.w - 1 = omega arith in
+    by_columns (sender_of b) b.rect y ∙ ap (λ w. flat_map f (range_with_len b.rect.x w)) wide_by_two
+    ∙ ends_told f b.rect.x n (λ k low high. interior_tells_none b (record { x = k; y = y }) border by_rows (record {
+      left = low;
+      right = omega arith;
+      above = above;
+      below = below;
+    }))
+    ∙ ap (λ k. f b.rect.x ++ f (b.rect.x + k)) last
+
+pub returns-then-last-gt0-clause-hints : goal.returns-then-last-gt0-clause-hints
+returns-then-last-gt0-clause-hints c =
+    let b = c.args.self.now in
+    let y = c.args.y in
+    let first = hints_from (sender_of b) (record { x = b.rect.x; y = y }) in
+    let last = hints_from (sender_of b) (record { x = b.rect.x + (b.rect.w - 1); y = y }) in
+    c.push_from-then-last-gt0.ensures.hints ∙ ap (λ hs. hs ++ last) c.push_from.ensures.hints
+    ∙ append_assoc c.args.out.now.hints first last
+    ∙ ap (λ hs. c.args.out.now.hints ++ hs) (sym (row_tells b y c.requires.border c.neighbours_by_rows.ensures
+    c.requires.above c.requires.below (omega arith)))
+
+pub returns-else-last-gt0-clause-hints : goal.returns-else-last-gt0-clause-hints
+returns-else-last-gt0-clause-hints c =
+    let b = c.args.self.now in
+    let y = c.args.y in
+    let f : ℕ → List Hint = λ x. hints_from (sender_of b) (record { x = x; y = y }) in
+    let one : b.rect.w ≡ 1 = omega arith in
+    c.push_from.ensures.hints
+    ∙ ap (λ hs. c.args.out.now.hints ++ hs) (sym (by_columns (sender_of b) b.rect y
+    ∙ ap (λ w. flat_map f (range_with_len b.rect.x w)) one ∙ end_told f b.rect.x))

@@ -1,0 +1,26 @@
+use Rattle.std.proofs.Common.{◌≡◌, sym, subst}
+use Rattle.std.specs.Prelude.{◌↔◌}
+use Rattle.grid_core.specs.declared.rect.Rect.{Rect}
+use Rattle.grid_core.specs.Rects.{IsInRect}
+use Rattle.grid_core.specs.Tiles.{tile_of}
+use Rattle.border_queues.proofs.edges.border_of.Goals as goal
+
+pub returns-clause-border : goal.returns-clause-border
+returns-clause-border c =
+    let t = c.args.tiling.now in
+    let tile = c.args.tile in
+    let same = c.rect-rect.ensures.value in
+    let fits = c.rect-rect.ensures.fits in
+    record {
+      tiled = c.side.ensures.tiled;
+      rect = same;
+      mask = c.requires.mask;
+      image = c.requires.image;
+      inside = c.width.ensures.sized.size;
+      inside_columns = rw same c.requires.columns;
+      inside_rows = rw same c.requires.rows;
+      columns = fits.columns;
+      rows = fits.rows;
+      own = λ p inside. subst (λ (rect : Rect). IsInRect rect p ↔ (tile_of t p ≡ tile)) (sym same)
+          ((c.each_pixel_in_one_tile.ensures t p c.side.ensures.tiled inside).1 tile c.requires.tile);
+    }

@@ -1,0 +1,29 @@
+use Rattle.std.proofs.Common.{◌≡◌, ℕ, ◌++◌, ap, ◌∙◌, zero-add}
+use Rattle.std.specs.List.{flat_map}
+use Rattle.grid_core.specs.declared.pixel.Pixel.{Pixel}
+use Rattle.grid_core.specs.Raster.{value_at}
+use Rattle.border_queues.specs.OpenEdges.{Sender, hints_from, pixels_of, with_tile}
+use Rattle.border_queues.specs.Borders.{moved, sender_of}
+use Rattle.border_queues.proofs.edges.open_edges.Goals as goal
+
+pub returns-clause-hints : goal.returns-clause-hints
+returns-clause-hints c =
+    let t = c.args.tiling.now in
+    let tile = c.args.tile in
+    let border = c.border_of-border.result in
+    let inside = value_at c.args.inside.now in
+    let corner : Pixel = record { x = 0; y = 0 } in
+    let unmoved : (λ (p : Pixel). inside (moved corner p)) ≡ inside = λ i p.
+    inside (record { x = zero-add p.x i; y = zero-add p.y i }) in
+    let to_sender : (Pixel → ℕ) → Sender = λ f. record {
+      tiles = t;
+      conn = c.args.conn;
+      mask = value_at c.args.mask.now;
+      image = with_tile t tile f (value_at c.args.image.now);
+      tile = tile;
+      generation = c.args.generation;
+    } in
+    let sender : sender_of border ≡ to_sender inside = c.border_of-border.ensures.sender ∙ ap to_sender unmoved in
+    c.push_all.ensures.hints
+    ∙ (λ i. c.reserve.ensures.hints i
+    ++ flat_map (hints_from (sender i)) (pixels_of (c.border_of-border.ensures.rect i)))

@@ -1,0 +1,36 @@
+use Rattle.std.proofs.Common.{◌≡◌, ◌++◌, ap, ◌∙◌}
+use Rattle.std.specs.List.{flat_map}
+use Rattle.grid_core.specs.declared.pixel.Pixel.{Pixel}
+use Rattle.grid_core.specs.declared.rect.Rect.{Rect}
+use Rattle.grid_core.specs.Raster.{value_at}
+use Rattle.border_queues.specs.OpenEdges.{Sender, hints_from, pixels_of, open_edges, with_tile}
+use Rattle.border_queues.specs.Borders.{moved}
+use Rattle.border_queues.proofs.SameEdges.{own_part}
+use Rattle.border_queues.proofs.edges.open_edges_in.Goals as goal
+
+pub returns-clause-hints : goal.returns-clause-hints
+returns-clause-hints c =
+    let t = c.args.tiling.now in
+    let tile = c.args.tile in
+    let tiled = c.side.ensures.tiled in
+    let image = value_at c.args.image.now in
+    let rect = c.rect-rect.result in
+    let corner : Pixel = record { x = rect.x; y = rect.y } in
+    let s : Sender = record {
+      tiles = t;
+      conn = c.args.conn;
+      mask = value_at c.args.mask.now;
+      image = with_tile t tile (λ p. image (moved corner p)) image;
+      tile = tile;
+      generation = c.args.generation;
+    } in
+    let same = ap (λ (r : Rect). r.x) c.rect-rect.ensures.value in
+    let same_top = ap (λ (r : Rect). r.y) c.rect-rect.ensures.value in
+    let itself : open_edges s ≡ open_edges (record s { image = image }) =
+    c.same_image_same_edges.ensures s image tiled c.requires.tile (λ p inside.
+    own_part t tile image corner p same same_top (λ there.
+    ((c.each_pixel_in_one_tile.ensures t p tiled inside).1 tile c.requires.tile).1 there)) in
+    c.push_all.ensures.hints
+    ∙ (λ i. c.reserve.ensures.hints i
+    ++ flat_map (hints_from (c.border_of-border.ensures.sender i)) (pixels_of (c.border_of-border.ensures.rect i)))
+    ∙ ap (λ hs. c.args.out.now.hints ++ hs) itself

@@ -1,0 +1,35 @@
+-- Laws of open edges, as statements. Public functions have them as their contracts.
+use Rattle.std.specs.Prelude.{◌≡◌, ℕ, ◌<◌, ◌⊎◌, ◌↔◌, List, [], ◌∷◌, map, Contains}
+use Rattle.std.specs.List.{AllByRecursion}
+use Rattle.grid_core.specs.declared.pixel.Pixel.{Pixel}
+use Rattle.grid_core.specs.Raster.{IsInside}
+use Rattle.grid_core.specs.Neighbours.{IsBefore}
+use Rattle.grid_core.specs.Tiles.{IsTiled, count_of}
+use Rattle.border_queues.specs.OpenEdges.{Sender, IsOpenEdge, hint_to, open_edges}
+
+-- senders whose images are equal at each pixel have the same open edges
+abbrev pub SameImageSameEdges : Type 0
+SameImageSameEdges =
+    (s : Sender) (image : Pixel → ℕ) → IsTiled s.tiles → s.tile < count_of s.tiles
+    → ((p : Pixel) → IsInside s.tiles.width s.tiles.height p → s.image p ≡ image p)
+    → open_edges s ≡ open_edges (record s { image = image })
+
+-- a pair comes before another: its inner pixel does, or it is the same and its outer pixel does
+abbrev pub IsPairBefore : Pixel × Pixel → Pixel × Pixel → Type 0
+IsPairBefore a b = IsBefore a.0 b.0 ⊎ ((a.0 ≡ b.0) × IsBefore a.1 b.1)
+
+-- each pair comes before all later ones
+abbrev pub AreInPairOrder : List (Pixel × Pixel) → Type 0
+AreInPairOrder [] = Unit {0}
+AreInPairOrder (a ∷ rest) = AllByRecursion (IsPairBefore a) rest × AreInPairOrder rest
+
+-- the hints are those of these open edges and of no others, in raster order of the inner and then the outer pixel
+pub record AreHintsOf (s : Sender) (pairs : List (Pixel × Pixel)) : Type 0 where
+  pub edges : (p q : Pixel) → Contains pairs (p, q) ↔ IsOpenEdge s p q
+  pub order : AreInPairOrder pairs
+  pub hints : open_edges s ≡ map (λ a. hint_to s (s.image a.0) a.1) pairs
+
+-- a tile's hints are those of its open edges
+abbrev pub EdgesAreOpen : Type 0
+EdgesAreOpen =
+    (s : Sender) → IsTiled s.tiles → s.tile < count_of s.tiles → (pairs : List (Pixel × Pixel)) × AreHintsOf s pairs

@@ -1,0 +1,8 @@
+pub use Rattle.grid_core.specs.Path
+pub use Rattle.grid_core.specs.Raster
+pub use Rattle.grid_core.specs.Rects
+pub use Rattle.grid_core.specs.Tiles
+pub mod Waiting
+pub mod OpenEdges
+pub mod Laws
+pub mod Borders

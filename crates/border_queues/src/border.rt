@@ -1,0 +1,192 @@
+//! The walk along a tile's border.
+
+ghost use Rattle.std.specs.Prelude.{◌≡◌, ◌+◌, ◌*◌, ◌<◌, ◌≤◌, [], ◌∷◌, true, if◌then◌else◌};
+ghost use Rattle.std.specs.Prelude.{IsTrue, ◌++◌};
+ghost use Rattle.std.specs.List.{flat_map};
+ghost use Rattle.grid_core.specs.Raster.{IsInside, value_at};
+ghost use Rattle.grid_core.specs.Rects.{IsInRect};
+ghost use Rattle.grid_core.specs.Rows.{has_diagonals, pixel_if, row_around};
+ghost use Rattle.border_queues.specs.Waiting.{places};
+ghost use Rattle.border_queues.specs.OpenEdges.{hints_to, hints_from, row_of, pixels_of};
+ghost use Rattle.border_queues.specs.Borders.{sender_of, IsBorder};
+
+use crate::hint::Hint;
+use crate::inbox::Inbox;
+use grid_core::laws::neighbours_by_rows;
+use grid_core::{Conn, Grid, Pixel, Rect, Tiling};
+
+/// A tile, and the images in which its open edges are looked for.
+#[derive(Clone, Copy)]
+pub struct Border<'a> {
+    pub tiling: Tiling,
+    pub conn: Conn,
+    pub mask: &'a Grid,
+    pub image: &'a Grid,
+    // Has the tile's own values.
+    pub inside: &'a Grid,
+    // Where the tile's upper left pixel stands in `inside`.
+    pub corner: Pixel,
+    pub tile: usize,
+    pub generation: u64,
+    // The tile's rectangle.
+    pub rect: Rect,
+}
+
+impl Border<'_> {
+    // The value of a pixel of the tile.
+    fn value(&self, p: Pixel) -> u32
+        requires border { IsBorder self.now }
+        requires own { IsInRect self.now.rect p }
+        ensures { result ≡ (sender_of self.now).image p }
+    {
+        self.inside.get(Pixel {
+            x: self.corner.x + (p.x - self.rect.x),
+            y: self.corner.y + (p.y - self.rect.y),
+        })
+    }
+
+    // Tells a neighbour of a pixel of this value, if it lies in another tile and can rise.
+    fn push_open(&self, value: u32, q: Pixel, out: &mut Inbox)
+        requires border { IsBorder self.now }
+        requires inside { IsInside self.now.tiling.width self.now.tiling.height q }
+        requires room { 0 < out.old.room }
+        ensures hints { out.new.hints ≡ out.old.hints ++ hints_to (sender_of self.now) value (q ∷ []) }
+        ensures room { out.old.room ≤ out.new.room + 1 }
+        ensures kept { places out.old ≤ places out.new }
+    {
+        if self.rect.contains(q) {
+            return;
+        }
+        let now = self.image.get(q);
+        if now < value && now < self.mask.get(q) {
+            let _ = out.push(Hint {
+                from: self.tile,
+                from_generation: self.generation,
+                to_pixel: q,
+                value: value.min(self.mask.get(q)),
+            });
+        }
+    }
+
+    // Tells the pixel at `x` and `y`, where it is wanted.
+    fn push_if(&self, wanted: bool, value: u32, x: u32, y: u32, out: &mut Inbox)
+        requires border { IsBorder self.now }
+        requires column { IsTrue wanted → x < self.now.tiling.width }
+        requires row { IsTrue wanted → y < self.now.tiling.height }
+        requires room { 0 < out.old.room }
+        ensures hints { out.new.hints ≡ out.old.hints ++ hints_to (sender_of self.now) value (pixel_if wanted x y) }
+        ensures room { out.old.room ≤ out.new.room + 1 }
+        ensures kept { places out.old ≤ places out.new }
+    {
+        if wanted {
+            self.push_open(value, Pixel { x, y }, out);
+        }
+    }
+
+    // Tells the pixel at `x` of row `y`, where the row is wanted, and those at its sides, if `sides`.
+    fn push_row(&self, wanted: bool, value: u32, x: u32, y: u32, sides: bool, out: &mut Inbox)
+        requires border { IsBorder self.now }
+        requires column { x < self.now.tiling.width }
+        requires row { IsTrue wanted → y < self.now.tiling.height }
+        requires room { 3 ≤ out.old.room }
+        ensures hints { out.new.hints ≡ out.old.hints
+            ++ hints_to (sender_of self.now) value (if wanted then row_around self.now.tiling.width x y sides true else []) }
+        ensures room { out.old.room ≤ out.new.room + 3 }
+        ensures kept { places out.old ≤ places out.new }
+    {
+        if !wanted {
+            return;
+        }
+        self.push_if(sides && x > 0, value, x.saturating_sub(1), y, out);
+        self.push_if(true, value, x, y, out);
+        self.push_if(sides && x + 1 < self.tiling.width(), value, x + 1, y, out);
+    }
+
+    // Tells the neighbours of the pixel of the tile at `x` and `y`.
+    fn push_from(&self, x: u32, y: u32, out: &mut Inbox)
+        requires border { IsBorder self.now }
+        requires own { IsInRect self.now.rect (record { x = x; y = y }) }
+        requires room { 8 ≤ out.old.room }
+        ensures hints { out.new.hints ≡ out.old.hints ++ hints_from (sender_of self.now) (record { x = x; y = y }) }
+        ensures room { out.old.room ≤ out.new.room + 8 }
+        ensures kept { places out.old ≤ places out.new }
+    {
+        let value = self.value(Pixel { x, y });
+        if value == 0 {
+            return;
+        }
+        let sides = diagonals(self.conn);
+        let right = x + 1 < self.tiling.width();
+        let below = y + 1 < self.tiling.height();
+        self.push_row(y > 0, value, x, y.saturating_sub(1), sides, out);
+        self.push_if(x > 0, value, x.saturating_sub(1), y, out);
+        self.push_if(right, value, x + 1, y, out);
+        self.push_row(below, value, x, y + 1, sides, out);
+    }
+
+    // Tells the neighbours of all pixels of a row of the tile.
+    fn push_line(&self, y: u32, out: &mut Inbox)
+        requires border { IsBorder self.now }
+        requires above { self.now.rect.y ≤ y }
+        requires below { y < self.now.rect.y + self.now.rect.h }
+        requires room { 8 * self.now.rect.w ≤ out.old.room }
+        ensures hints { out.new.hints
+            ≡ out.old.hints ++ flat_map (hints_from (sender_of self.now)) (row_of self.now.rect y) }
+        ensures room { out.old.room ≤ out.new.room + 8 * self.now.rect.w }
+        ensures kept { places out.old ≤ places out.new }
+    {
+        for i in 0..self.rect.w {
+            self.push_from(self.rect.x + i, y, out);
+        }
+    }
+
+    // Tells the neighbours of the first and the last pixel of a row of the tile that is neither the first nor the
+    // last: those of the others lie in the tile.
+    fn push_ends(&self, y: u32, out: &mut Inbox)
+        requires border { IsBorder self.now }
+        requires above { self.now.rect.y < y }
+        requires below { y + 1 < self.now.rect.y + self.now.rect.h }
+        requires some { 0 < self.now.rect.w }
+        requires room { 16 ≤ out.old.room }
+        ensures hints { out.new.hints
+            ≡ out.old.hints ++ flat_map (hints_from (sender_of self.now)) (row_of self.now.rect y) }
+        ensures room { out.old.room ≤ out.new.room + 16 }
+        ensures kept { places out.old ≤ places out.new }
+    {
+        neighbours_by_rows();
+        let last = self.rect.w - 1;
+        self.push_from(self.rect.x, y, out);
+        if last > 0 {
+            self.push_from(self.rect.x + last, y, out);
+        }
+    }
+
+    // Tells the neighbours of all pixels of the tile.
+    pub fn push_all(&self, out: &mut Inbox)
+        requires border { IsBorder self.now }
+        requires columns { 0 < self.now.rect.w }
+        requires rows { 0 < self.now.rect.h }
+        requires room { 16 * self.now.rect.w + 16 * self.now.rect.h ≤ out.old.room }
+        ensures hints { out.new.hints
+            ≡ out.old.hints ++ flat_map (hints_from (sender_of self.now)) (pixels_of self.now.rect) }
+        ensures kept { places out.old ≤ places out.new }
+    {
+        let last = self.rect.h - 1;
+        self.push_line(self.rect.y, out);
+        for i in 1..last {
+            self.push_ends(self.rect.y + i, out);
+        }
+        if last > 0 {
+            self.push_line(self.rect.y + last, out);
+        }
+    }
+}
+
+fn diagonals(conn: Conn) -> bool
+    ensures { result ≡ has_diagonals conn }
+{
+    match conn {
+        Conn::Four => false,
+        Conn::Eight => true,
+    }
+}

@@ -1,0 +1,24 @@
+//! Laws of open edges. Each is the contract of a function that does nothing.
+
+ghost use Rattle.border_queues.specs.Laws.{SameImageSameEdges, EdgesAreOpen};
+
+use grid_core::laws::{
+    each_pixel_in_one_tile, neighbours_by_rows, rect_pixels_lie_in_rect, tiles_lie_inside,
+};
+
+/// Open edges rest on the values of an image at its pixels alone.
+pub fn same_image_same_edges()
+    ensures { SameImageSameEdges }
+{
+    neighbours_by_rows();
+    tiles_lie_inside();
+}
+
+/// The hints of a tile are those of its open edges, in raster order of the inner and then of the outer pixel.
+pub fn edges_are_open()
+    ensures { EdgesAreOpen }
+{
+    each_pixel_in_one_tile();
+    neighbours_by_rows();
+    tiles_lie_inside();
+}

@@ -1,0 +1,36 @@
+#![tactic(auto)]
+//! Hints: what a tile of an image tells the pixels beyond its border, and the inboxes where hints wait.
+//!
+//! An image J grows under a mask I tile by tile. An open edge of a tile is a pair of neighbouring pixels, p in the
+//! tile and q in another, where q is lower than p can raise it: `J(q) < min(J(p), I(q))`. [`open_edges`] tells each
+//! of them by a [`Hint`] to q of the value `min(J(p), I(q))`, into an [`Inbox`]:
+//!
+//! ```text
+//! let tiling = Tiling::new(16, 8, 8)?;                  // two tiles side by side
+//! let mask = Grid::new(alloc, 16, 8, 9)?;
+//! let mut image = Grid::new(alloc, 16, 8, 0)?;
+//! image.set(Pixel { x: 7, y: 0 }, 6);                   // at the right border of tile 0
+//! let mut out = Inbox::new(alloc);
+//! open_edges_in(&image, &mask, &tiling, 0, 0, Conn::Four, &mut out)?;
+//! out.as_slice();                                       // one hint: to (8, 0), of the value 6
+//! ```
+//!
+//! Want of memory is told as a [`QueueError`], whose code is Q1. An inbox with room takes no memory.
+//!
+//! Read on in `specs/OpenEdges.antt`, which says what an open edge is and which hints it makes; in
+//! `specs/Waiting.antt` for inboxes; and in [`laws`]: the hints are those of the open edges, in raster order.
+
+mod border;
+mod edges;
+mod error;
+mod hint;
+mod inbox;
+pub mod laws;
+
+pub use edges::{open_edges, open_edges_in, room_for_edges};
+pub use error::QueueError;
+pub use hint::Hint;
+pub use inbox::Inbox;
+
+#[cfg(test)]
+mod tests;

@@ -1,0 +1,22 @@
+#![tactic(auto)]
+//! One replica's core: a mask, the strokes on it, the image that grows from them tile by tile, and the work that is
+//! left at each tile.
+//!
+//! What a core is stands in `specs/Work.antt`. What can happen to it, what each event answers and what the core is
+//! then, is one table, in `specs/Events.antt`, over `specs/Merge.antt`, `specs/Sweeps.antt` and `specs/Hints.antt`;
+//! which tiles a withdrawal resets stands in `specs/Hits.antt`. What every core keeps is `IsSound` in
+//! `specs/Invariant.antt`: the image is supported by the strokes, the waiting hints are valid, and each pair of
+//! neighbours that is still open has work. Lists of events, settling among them, stand in `specs/Runs.antt`, and
+//! schedules in `specs/Schedule.antt`.
+//!
+//! [`laws`] says what follows: each event has one answer, and keeps a core sound; and where a sound core is quiet, its
+//! image is the reconstruction (Vincent, "Morphological Grayscale Reconstruction in Image Analysis", 1993).
+
+mod answers;
+mod error;
+pub mod laws;
+mod step;
+
+pub use answers::{Back, Handed};
+pub use error::CoreError;
+pub use step::Step;

@@ -1,0 +1,5 @@
+pub use Rattle.grid_core.specs.Path
+pub use Rattle.grid_core.specs.Raster
+pub use Rattle.grid_core.specs.Reconstruction
+pub mod Generations
+pub mod Jobs

@@ -1,0 +1,106 @@
+//! Jobs.
+
+ghost use Rattle.std.specs.Prelude.{◌≡◌, IfOk, IfErr};
+ghost use Rattle.grid_core.specs.Raster.{IsBelow};
+ghost use Rattle.tile_generations.specs.Jobs.{IsJob, IsSwept};
+
+use crate::swept::Swept;
+use crate::ticket::Ticket;
+use grid_core::{Conn, Grid, Memory};
+use raster_sweeps::grow;
+use std::alloc::Global;
+use std::marker::Model;
+
+/// A tile to be swept: its ticket, the connectivity, and the tile's pixels and mask, each as an image by itself. The
+/// pixels, which are called the base, are at most the mask.
+#[derive(Debug, Drop)]
+pub struct Job {
+    ticket: Ticket,
+    conn: Conn,
+    base: Grid,
+    mask: Grid,
+}
+
+impl Model for Job {
+    ghost use Rattle.tile_generations.specs.Jobs.{Job as Task, IsJob};
+
+    ghost Value = { Task };
+
+    ghost view = { λ j. record { ticket = j.ticket; conn = j.conn; base = j.base; mask = j.mask } };
+
+    ghost invariant = { λ j. IsJob (record { ticket = j.ticket; conn = j.conn; base = j.base; mask = j.mask }) };
+}
+
+impl Job {
+    /// A job on a tile. It takes no memory.
+    pub fn new(ticket: Ticket, conn: Conn, base: Grid, mask: Grid) -> Job
+        requires { IsBelow base mask }
+        ensures { result ≡ record { ticket = ticket; conn = conn; base = base; mask = mask } }
+    {
+        prove!(base.width() == mask.width());
+        Job {
+            ticket,
+            conn,
+            base,
+            mask,
+        }
+    }
+
+    /// Which job it is.
+    pub fn ticket(&self) -> Ticket
+        ensures { result ≡ self.now.ticket }
+    {
+        self.ticket
+    }
+
+    /// Which pixels are neighbours.
+    pub fn conn(&self) -> Conn
+        ensures { result ≡ self.now.conn }
+    {
+        self.conn
+    }
+
+    /// The pixels of the tile when the job was taken.
+    pub fn base(&self) -> &Grid
+        ensures value { result.now ≡ self.now.base }
+        ensures job { IsJob self.now }
+    {
+        &self.base
+    }
+
+    /// The mask of the tile.
+    pub fn mask(&self) -> &Grid
+        ensures value { result.now ≡ self.now.mask }
+        ensures job { IsJob self.now }
+    {
+        &self.mask
+    }
+
+    /// A copy.
+    ///
+    /// Errors: out of memory.
+    pub(crate) fn copy(&self, alloc: Global) -> Result<Job, Memory>
+        ensures { IfOk result (λ j. j ≡ self.now) }
+    {
+        let base = self.base().copy(alloc)?;
+        let mask = self.mask().copy(alloc)?;
+        Ok(Job::new(self.ticket(), self.conn(), base, mask))
+    }
+
+    /// Sweeps the tile: its pixels become the reconstruction of its mask from its base.
+    ///
+    /// Errors: out of memory, with the job handed back.
+    pub fn sweep(self, alloc: Global) -> Result<Swept, (Job, Memory)>
+        ensures job { IfOk result (λ swept. swept.job ≡ self) }
+        ensures swept { IfOk result IsSwept }
+        ensures returned { IfErr result (λ e. e.0 ≡ self) }
+    {
+        let mask = self.mask();
+        let base = self.base();
+        let conn = self.conn();
+        match grow(alloc, mask, base, conn) {
+            Ok(pixels) => Ok(Swept::new(self, pixels)),
+            Err(why) => Err((self, why)),
+        }
+    }
+}

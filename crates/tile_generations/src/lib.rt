@@ -1,0 +1,25 @@
+#![tactic(auto)]
+//! Jobs on tiles, and the generations by which late results are known.
+//!
+//! A [`Job`] is what a hand needs to sweep a tile of an image by itself: the tile's pixels, its mask and the
+//! connectivity. [`Job::sweep`] raises the pixels to the reconstruction of the mask from them (Vincent, "Morphological
+//! Grayscale Reconstruction in Image Analysis", 1993), and answers a [`Swept`]. Jobs and results own what they hold, so
+//! that a tile can be swept elsewhere and given back late.
+//!
+//! Each carries a [`Ticket`]: the tile, its generation and a serial. [`Generations`] counts for each tile how often it
+//! was reset, so that a result from before a reset is known by its generation.
+//!
+//! Read on in `specs/Jobs.antt`, which says what a swept tile is, and in `specs/Generations.antt`.
+
+mod generations;
+mod job;
+mod swept;
+mod ticket;
+
+pub use generations::{Generations, GenerationsSpent, MAX_GENERATION};
+pub use job::Job;
+pub use swept::Swept;
+pub use ticket::Ticket;
+
+#[cfg(test)]
+mod tests;
