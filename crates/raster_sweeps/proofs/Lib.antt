@@ -15,5 +15,7 @@ pub mod RowQueues
 pub mod OpenRows
 pub mod Replacing
 pub mod RowRaises
+pub mod ClosedRows
+pub mod Strips
 pub mod RowGrowth
 pub mod Scanning

@@ -1,10 +1,14 @@
 //! How a scan raises a row: by another row that touches it, and along itself.
 
-ghost use Rattle.std.specs.Prelude.{◌≡◌, ◌<◌, length};
+ghost use Rattle.std.specs.Prelude.{◌≡◌, ◌<◌, length, IsTrue};
 ghost use Rattle.raster_sweeps.specs.RowPairs.{AreAside, AreBeside};
 ghost use Rattle.raster_sweeps.specs.RowRaises.{IsRaisedStraight, IsRaisedBy, IsRaisedFromLeft, IsRaisedFromRight};
 
+use crate::rows::is_closed_straight;
 use grid_core::Conn;
+
+// How many pixels of a row are looked at together for one that is to be raised along the row.
+const STRIP: usize = 64;
 
 /// Raises each pixel of a row by its neighbours in a row that touches it, as far as the mask lets it.
 pub fn raise_by(mask: &[u32], by: &[u32], row: &mut [u32], conn: Conn)
@@ -50,6 +54,30 @@ pub fn raise_from_left(mask: &[u32], row: &mut [u32])
     requires { length mask.now ≡ length row.old }
     ensures { IsRaisedFromLeft mask.now row.old row.new }
 {
+    let mut end = 1;
+    while end < row.len() {
+        let start = end - 1;
+        end = row.len().min(end + STRIP);
+        raise_strip_from_left(&mask[start..end], &mut row[start..end]);
+    }
+}
+
+// Raises each pixel of a strip but the first, from the left, where there is one to be raised.
+fn raise_strip_from_left(mask: &[u32], strip: &mut [u32])
+    requires some { 0 < length strip.old }
+    requires mask { length mask.now ≡ length strip.old }
+    ensures { IsRaisedFromLeft mask.now strip.old strip.new }
+{
+    if !is_raised_from_left(mask, strip) {
+        run_from_left(mask, strip);
+    }
+}
+
+// Raises each pixel of a row, from the left, by the one to its left, as far as the mask lets it.
+fn run_from_left(mask: &[u32], row: &mut [u32])
+    requires { length mask.now ≡ length row.old }
+    ensures { IsRaisedFromLeft mask.now row.old row.new }
+{
     let mut level = 0;
     for i in 0..row.len() {
         level = level.min(mask[i]).max(row[i]);
@@ -62,9 +90,53 @@ pub fn raise_from_right(mask: &[u32], row: &mut [u32])
     requires { length mask.now ≡ length row.old }
     ensures { IsRaisedFromRight mask.now row.old row.new }
 {
+    let mut end = row.len();
+    while end > 1 {
+        let start = (end - 1).saturating_sub(STRIP);
+        raise_strip_from_right(&mask[start..end], &mut row[start..end]);
+        end = start + 1;
+    }
+}
+
+// Raises each pixel of a strip but the last, from the right, where there is one to be raised.
+fn raise_strip_from_right(mask: &[u32], strip: &mut [u32])
+    requires some { 0 < length strip.old }
+    requires mask { length mask.now ≡ length strip.old }
+    ensures { IsRaisedFromRight mask.now strip.old strip.new }
+{
+    if !is_raised_from_right(mask, strip) {
+        run_from_right(mask, strip);
+    }
+}
+
+// Raises each pixel of a row, from the right, by the one to its right, as far as the mask lets it.
+fn run_from_right(mask: &[u32], row: &mut [u32])
+    requires { length mask.now ≡ length row.old }
+    ensures { IsRaisedFromRight mask.now row.old row.new }
+{
     let mut level = 0;
     for i in (0..row.len()).rev() {
         level = level.min(mask[i]).max(row[i]);
         row[i] = level;
     }
+}
+
+// Whether no pixel of a row raises the one to its right.
+fn is_raised_from_left(mask: &[u32], row: &[u32]) -> bool
+    requires some { 0 < length row.now }
+    requires mask { length mask.now ≡ length row.now }
+    ensures { IsTrue result → IsRaisedFromLeft mask.now row.now row.now }
+{
+    let last = row.len() - 1;
+    is_closed_straight(&row[..last], &mask[1..], &row[1..])
+}
+
+// Whether no pixel of a row raises the one to its left.
+fn is_raised_from_right(mask: &[u32], row: &[u32]) -> bool
+    requires some { 0 < length row.now }
+    requires mask { length mask.now ≡ length row.now }
+    ensures { IsTrue result → IsRaisedFromRight mask.now row.now row.now }
+{
+    let last = row.len() - 1;
+    is_closed_straight(&row[1..], &mask[..last], &row[..last])
 }
