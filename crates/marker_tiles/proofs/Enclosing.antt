@@ -1,8 +1,9 @@
 -- The windows round runs and discs.
-use Rattle.std.proofs.Common.{◌≡◌, ℕ, ◌+◌, ◌-◌, ◌<◌, ◌≤◌, ◌⊎◌, inl, inr, Bool, true, false, List, length, get_or}
+use Rattle.std.proofs.Common.{◌≡◌, ℕ, ◌+◌, ◌-◌, ◌*◌, ◌<◌, ◌≤◌, ◌⊎◌, inl, inr, Bool, true, false, List, length, get_or}
 use Rattle.std.proofs.Common.{take, sym, ap, ◌∙◌, refl, arith}
 use Rattle.std.specs.Prelude.{◌||◌, IsTrue}
 use Rattle.std.specs.List.{list_any}
+use Rattle.std.proofs.Math.Nat.{mul-le-mul}
 use Rattle.std.proofs.lemmas.Bool.{cases_lt}
 use Rattle.std.proofs.lemmas.Bool.Decides.{nat_tests}
 use Rattle.std.proofs.lemmas.List.Folds.{list_any_more}
@@ -11,7 +12,26 @@ use Rattle.grid_core.specs.Neighbours.{apart}
 use Rattle.stroke_core.specs.Seed.{disc_covers}
 use Rattle.marker_tiles.specs.declared.window.Window.{Window}
 use Rattle.marker_tiles.specs.Painting.{in_window}
-use Rattle.marker_tiles.proofs.Spans.{beyond_radius, beyond_column}
+
+square_le : (a b : ℕ) → a ≤ b → a * a ≤ b * b
+square_le a b h = mul-le-mul h h
+
+next_square : (r : ℕ) → r * r < (r + 1) * (r + 1)
+next_square r = omega arith
+
+-- a disc has no pixel on a row farther from its centre than the radius
+beyond_radius : (x y r : ℕ) (p : Pixel) → r < apart y p.y → disc_covers x y r p ≡ false
+beyond_radius x y r p far =
+    let more : (r + 1) * (r + 1) ≤ apart y p.y * apart y p.y = square_le (r + 1) (apart y p.y) (omega arith) in
+    let least : r * r < (r + 1) * (r + 1) = next_square r in
+    grind (arith, nat_tests)
+
+-- nor in a column farther from its centre
+beyond_column : (x y r : ℕ) (p : Pixel) → r < apart x p.x → disc_covers x y r p ≡ false
+beyond_column x y r p far =
+    let more : (r + 1) * (r + 1) ≤ apart x p.x * apart x p.x = square_le (r + 1) (apart x p.x) (omega arith) in
+    let least : r * r < (r + 1) * (r + 1) = next_square r in
+    grind (arith, nat_tests)
 
 -- a pixel of a disc is on a row, and in a column, at most the radius away
 disc_near_row : (x y r : ℕ) (p : Pixel) → disc_covers x y r p ≡ true → apart y p.y ≤ r

@@ -7,5 +7,4 @@ pub mod Lists
 pub mod Marking
 pub mod Painted
 pub mod Raising
-pub mod RunRows
 pub mod Spans

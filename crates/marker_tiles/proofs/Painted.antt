@@ -1,22 +1,19 @@
 -- How paintings with one brush add up.
-use Rattle.std.proofs.Common.{◌≡◌, ℕ, ◌+◌, ◌*◌, ◌<◌, ◌≤◌, Bool, true, false, List, length, get_or, take, sym, ap}
+use Rattle.std.proofs.Common.{◌≡◌, ℕ, ◌+◌, ◌*◌, ◌<◌, ◌≤◌, Bool, true, false, List, length, sym, ap}
 use Rattle.std.proofs.Common.{◌∙◌, refl, arith, inl, inr, subst}
 use Rattle.std.specs.Prelude.{◌||◌, ◌&&◌, slice_index}
-use Rattle.std.specs.List.{list_any}
 use Rattle.std.proofs.Math.Nat.{mul-le-mul_right}
 use Rattle.std.proofs.lemmas.Bool.{cases_lt}
 use Rattle.std.proofs.lemmas.Bool.Decides.{nat_tests}
-use Rattle.std.proofs.lemmas.List.Folds.{list_any_more}
 use Rattle.grid_core.specs.declared.pixel.Pixel.{Pixel}
 use Rattle.grid_core.specs.Raster.{Raster, IsInside, index_of, value_at}
 use Rattle.grid_core.proofs.Cells.{index_of-within}
-use Rattle.stroke_core.specs.declared.run.Run.{Run}
-use Rattle.stroke_core.specs.Seed.{Seed, covers, run_covers}
+use Rattle.stroke_core.specs.Seed.{Seed, covers}
 use Rattle.marker_tiles.specs.declared.brush.Brush.{Brush}
 use Rattle.marker_tiles.specs.declared.brush.Brush.TheVariants.{Raise, Clear}
 use Rattle.marker_tiles.specs.declared.window.Window.{Window}
 use Rattle.marker_tiles.specs.Painting.{AreOfOneSize, IsPaintedBy, AreCellsBrushed, brushed, brushed_if}
-use Rattle.marker_tiles.specs.Painting.{in_window, in_some, is_between}
+use Rattle.marker_tiles.specs.Painting.{in_some, is_between}
 
 -- a brush led twice leaves what it left at first
 brushed_again : (brush : Brush) (limit old : ℕ)
@@ -62,26 +59,6 @@ painted_alike a b brush mask old new painted same = record {
       painted.values p inside
       ∙ ap (λ t. brushed_if t brush (value_at mask p) (value_at old p)) (sym (same p inside));
 }
-
--- ---- run by run
-
--- the window has the pixel, and so has one of the runs
-abbrev pub run_of_some : Window → List Run → Pixel → Bool
-run_of_some w runs p = in_window w p && list_any (λ run. run_covers run p) runs
-
-and_or : (a b c : Bool) → (a && (b || c)) ≡ ((a && b) || (a && c))
-and_or true b c = refl
-and_or false b c = refl
-
--- one more run
-pub one_run_more : (w : Window) (runs : List Run) (i : ℕ) (run : Run) (p : Pixel) → i < length runs
-    → run ≡ get_or runs i run
-    → run_of_some w (take (i + 1) runs) p ≡ (run_of_some w (take i runs) p || (in_window w p && run_covers run p))
-one_run_more w runs i run p within read =
-    ap (λ t. in_window w p && t)
-    (list_any_more (λ r. run_covers r p) runs i run within
-    ∙ ap (λ (r : Run). list_any (λ r. run_covers r p) (take i runs) || run_covers r p) (sym read))
-    ∙ and_or (in_window w p) (list_any (λ r. run_covers r p) (take i runs)) (run_covers run p)
 
 -- ---- window by window
 

@@ -1,103 +1,83 @@
--- Which pixels a span has, and a run and a disc as spans within a window.
-use Rattle.std.proofs.Common.{◌≡◌, ℕ, ◌+◌, ◌-◌, ◌*◌, ◌<◌, ◌≤◌, Bool, false, sym, subst, arith, inl}
-use Rattle.std.proofs.Common.{inr}
-use Rattle.std.specs.Prelude.{◌||◌, ◌&&◌, nat_le, nat_lt, min, max}
-use Rattle.std.proofs.Math.Nat.{mul-le-mul}
-use Rattle.std.proofs.lemmas.Bool.{cases_lt, cases_eq}
+-- The spans of a stroke that have pixels in a window.
+use Rattle.std.proofs.Common.{◌≡◌, ℕ, zero, suc, ◌+◌, ◌<◌, ◌≤◌, ◌⊎◌, inl, inr, Bool, true, false, List, [], ◌∷◌, length}
+use Rattle.std.proofs.Common.{take, Some, refl, ap, subst, ◌∙◌, arith}
+use Rattle.std.specs.Prelude.{◌||◌, ◌&&◌, slice_get}
+use Rattle.std.specs.List.{list_any, AllWithin}
 use Rattle.std.proofs.lemmas.Bool.Decides.{nat_tests}
+use Rattle.std.proofs.lemmas.List.Folds.{list_any_more}
+use Rattle.std.proofs.lemmas.Option.{slice_get_within, get_or_from_slice_get}
 use Rattle.grid_core.specs.declared.pixel.Pixel.{Pixel}
-use Rattle.grid_core.specs.Neighbours.{apart}
-use Rattle.stroke_core.specs.declared.run.Run.{Run}
-use Rattle.stroke_core.specs.Seed.{run_covers, disc_covers}
+use Rattle.stroke_core.specs.declared.span.Span.{Span}
+use Rattle.stroke_core.specs.Spans.{span_has}
 use Rattle.marker_tiles.specs.declared.window.Window.{Window}
-use Rattle.marker_tiles.specs.Painting.{is_between, in_window}
+use Rattle.marker_tiles.specs.Painting.{in_window}
 
--- a run is a span, within the window too
-pub run_in_window : (w : Window) (run : Run) (p : Pixel) → w.top ≤ run.y → run.y < w.bottom
-    → (in_window w p && run_covers run p) ≡ is_between run.y (max w.left run.x0) (min w.right (run.x1 + 1)) p
-run_in_window w run p below above = grind (arith, nat_tests)
+-- the window has the pixel, and so has one of the spans
+abbrev pub span_of_some : Window → List Span → Pixel → Bool
+span_of_some w spans p = in_window w p && list_any (λ s. span_has s p) spans
 
--- a run on a row outside the window has no pixel in it
-pub run_above_window : (w : Window) (run : Run) (p : Pixel) → run.y < w.top
-    → (in_window w p && run_covers run p) ≡ false
-run_above_window w run p above = grind (arith, nat_tests)
+-- what is said of the spans between two numbers is so of each
+pub span_between : (P : Span → Type 0) (spans : List Span) (low high i : ℕ) (span : Span) → AllWithin P spans low high
+    → slice_get spans i ≡ Some span → low ≤ i → i < high → P span
+span_between P spans low high i span all found above below =
+    subst P (get_or_from_slice_get spans i span span found) (all i span above below)
 
-pub run_below_window : (w : Window) (run : Run) (p : Pixel) → w.bottom ≤ run.y
-    → (in_window w p && run_covers run p) ≡ false
-run_below_window w run p below = grind (arith, nat_tests)
+and_or : (a b c : Bool) → (a && (b || c)) ≡ ((a && b) || (a && c))
+and_or true b c = refl
+and_or false b c = refl
 
--- ---- discs
+-- one more span
+pub one_span_more : (w : Window) (spans : List Span) (i : ℕ) (span : Span) (p : Pixel) → slice_get spans i ≡ Some span
+    → span_of_some w (take (i + 1) spans) p ≡ (span_of_some w (take i spans) p || (in_window w p && span_has span p))
+one_span_more w spans i span p found =
+    ap (λ t. in_window w p && t)
+    (list_any_more (λ s. span_has s p) spans i span (slice_get_within spans i span found)
+    ∙ ap (λ (s : Span). list_any (λ s. span_has s p) (take i spans) || span_has s p)
+    (get_or_from_slice_get spans i span span found))
+    ∙ and_or (in_window w p) (list_any (λ s. span_has s p) (take i spans)) (span_has span p)
 
-square_le : (a b : ℕ) → a ≤ b → a * a ≤ b * b
-square_le a b h = mul-le-mul h h
+off_rows : (w : Window) (s : Span) (p : Pixel) → (s.y < w.top) ⊎ (w.bottom ≤ s.y)
+    → (in_window w p && span_has s p) ≡ false
+off_rows w s p (inl above) = grind (arith, nat_tests)
+off_rows w s p (inr below) = grind (arith, nat_tests)
 
-next_square : (r : ℕ) → r * r < (r + 1) * (r + 1)
-next_square r = omega arith
+none_of_either : (a b c : Bool) → (a && b) ≡ false → (a && c) ≡ false → (a && (b || c)) ≡ false
+none_of_either true true c b_none c_none = b_none
+none_of_either true false c b_none c_none = c_none
+none_of_either false b c b_none c_none = refl
 
--- a disc has no pixel on a row farther from its centre than the radius
-pub beyond_radius : (x y r : ℕ) (p : Pixel) → r < apart y p.y → disc_covers x y r p ≡ false
-beyond_radius x y r p far =
-    let more : (r + 1) * (r + 1) ≤ apart y p.y * apart y p.y = square_le (r + 1) (apart y p.y) (omega arith) in
-    let least : r * r < (r + 1) * (r + 1) = next_square r in
-    grind (arith, nat_tests)
+-- spans above a window have no pixel in it
+pub spans_above : (w : Window) (spans : List Span) (n : ℕ) (p : Pixel) → AllWithin (λ s. s.y < w.top) spans 0 n
+    → span_of_some w (take n spans) p ≡ false
+spans_above w [] zero p all = grind (arith, nat_tests)
+spans_above w [] (suc n) p all = grind (arith, nat_tests)
+spans_above w (s ∷ rest) zero p all = grind (arith, nat_tests)
+spans_above w (s ∷ rest) (suc n) p all =
+    none_of_either (in_window w p) (span_has s p) (list_any (λ s. span_has s p) (take n rest))
+    (off_rows w s p (inl (all 0 s (omega arith) (omega arith))))
+    (spans_above w rest n p (λ k d low high. all (suc k) d (omega arith) (omega arith)))
 
--- nor in a column farther from its centre
-pub beyond_column : (x y r : ℕ) (p : Pixel) → r < apart x p.x → disc_covers x y r p ≡ false
-beyond_column x y r p far =
-    let more : (r + 1) * (r + 1) ≤ apart x p.x * apart x p.x = square_le (r + 1) (apart x p.x) (omega arith) in
-    let least : r * r < (r + 1) * (r + 1) = next_square r in
-    grind (arith, nat_tests)
+only_the_other : (a b c : Bool) → (a && b) ≡ false → (a && c) ≡ (a && false) → (a && (b || c)) ≡ (a && false)
+only_the_other true true c none same = absurd cc
+only_the_other true false c none same = same
+only_the_other false b c none same = refl
 
--- on a row, a disc has the pixels at most this far from the column of its centre
-pub disc_on_row : (x y r half : ℕ) (p : Pixel) → half * half + apart y p.y * apart y p.y ≤ r * r
-    → r * r < (half + 1) * (half + 1) + apart y p.y * apart y p.y → disc_covers x y r p ≡ nat_le (apart x p.x) half
-disc_on_row x y r half p reached no_more = elim (cases_lt half (apart x p.x)) [
-  | inl far ↦
-      let more : (half + 1) * (half + 1) ≤ apart x p.x * apart x p.x =
-      square_le (half + 1) (apart x p.x) (omega arith) in
-      grind (arith, nat_tests)
-  | inr near ↦
-      let less : apart x p.x * apart x p.x ≤ half * half = square_le (apart x p.x) half near in
-      grind (arith, nat_tests)
-]
+with_one_more : (a b c d : Bool) → (a && c) ≡ (a && d) → (a && (b || c)) ≡ (a && (b || d))
+with_one_more true true c d same = refl
+with_one_more true false c d same = same
+with_one_more false b c d same = refl
 
--- the pixels of a disc in a window, above this row
-abbrev pub disc_above : Window → ℕ → ℕ → ℕ → ℕ → Pixel → Bool
-disc_above w x y r row p = (in_window w p && disc_covers x y r p) && nat_lt p.y row
-
--- above its top row, or that of the window, there is none
-pub disc_top : (w : Window) (x y r row : ℕ) (p : Pixel) → row ≡ max w.top (y - r) → disc_above w x y r row p ≡ false
-disc_top w x y r row p first = elim (cases_lt p.y (y - r)) [
-  | inl above ↦
-      let none : disc_covers x y r p ≡ false = beyond_radius x y r p (omega arith) in
-      grind (arith, nat_tests)
-  | inr below ↦ grind (arith, nat_tests)
-]
-
--- below its bottom row, or that of the window, there is none either
-pub disc_bottom : (w : Window) (x y r row : ℕ) (p : Pixel) → min w.bottom (y + r + 1) ≤ row
-    → (in_window w p && disc_covers x y r p) ≡ disc_above w x y r row p
-disc_bottom w x y r row p past = elim (cases_lt p.y row) [
-  | inl above ↦ grind (arith, nat_tests)
-  | inr below ↦ elim (cases_lt p.y (y + r + 1)) [
-    | inl near ↦ grind (arith, nat_tests)
-    | inr far ↦
-        let none : disc_covers x y r p ≡ false = beyond_radius x y r p (omega arith) in
-        grind (arith, nat_tests)
-  ]
-]
-
--- one row more is one span more
-pub disc_row_more : (w : Window) (x y r half row : ℕ) (p : Pixel)
-    → half * half + apart y row * apart y row ≤ r * r
-    → r * r < (half + 1) * (half + 1) + apart y row * apart y row → w.top ≤ row → row < w.bottom
-    → disc_above w x y r (row + 1) p
-    ≡ (disc_above w x y r row p || is_between row (max w.left (x - half)) (min w.right (x + half + 1)) p)
-disc_row_more w x y r half row p reached no_more below above = elim (cases_eq p.y row) [
-  | inl here ↦
-      let on_row : disc_covers x y r p ≡ nat_le (apart x p.x) half =
-      disc_on_row x y r half p (subst (λ v. half * half + apart y v * apart y v ≤ r * r) (sym here) reached)
-      (subst (λ v. r * r < (half + 1) * (half + 1) + apart y v * apart y v) (sym here) no_more) in
-      grind (arith, nat_tests)
-  | inr other ↦ grind (arith, nat_tests)
-]
+-- nor have those below it
+pub spans_below : (w : Window) (spans : List Span) (n : ℕ) (p : Pixel)
+    → AllWithin (λ s. w.bottom ≤ s.y) spans n (length spans)
+    → span_of_some w spans p ≡ span_of_some w (take n spans) p
+spans_below w [] zero p all = refl
+spans_below w [] (suc n) p all = refl
+spans_below w (s ∷ rest) zero p all =
+    only_the_other (in_window w p) (span_has s p) (list_any (λ s. span_has s p) rest)
+    (off_rows w s p (inr (all 0 s (omega arith) (omega arith))))
+    (spans_below w rest zero p (λ k d low high. all (suc k) d (omega arith) (omega arith)))
+spans_below w (s ∷ rest) (suc n) p all =
+    with_one_more (in_window w p) (span_has s p) (list_any (λ s. span_has s p) rest)
+    (list_any (λ s. span_has s p) (take n rest))
+    (spans_below w rest n p (λ k d low high. all (suc k) d (omega arith) (omega arith)))

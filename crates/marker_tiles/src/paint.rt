@@ -1,16 +1,16 @@
 //! Painting one stroke onto an image.
 
 ghost use Rattle.std.specs.Prelude.{◌+◌, ◌*◌, ◌<◌, ◌≤◌, ◌&&◌, length};
-ghost use Rattle.std.specs.List.{list_any, AllByRecursion};
-ghost use Rattle.stroke_core.specs.Seed.{AreOrdered, Fits, covers, run_covers, disc_covers, max_radius};
+ghost use Rattle.stroke_core.specs.Seed.{Fits, covers};
+ghost use Rattle.stroke_core.specs.Spans.{span_has};
 ghost use Rattle.marker_tiles.specs.Painting.{AreOfOneSize, WindowFits, WindowsFit, IsPaintedBy};
 ghost use Rattle.marker_tiles.specs.Painting.{AreCellsBrushed, in_window, in_some, is_between};
 
 use crate::brush::{Brush, brush_row};
 use crate::window::Window;
+use grid_core::Grid;
 use grid_core::laws::cells_given_back;
-use grid_core::{Grid, Pixel};
-use stroke_core::{Kind, Run, Stroke};
+use stroke_core::{Span, Stroke, spans_cover};
 
 /// Leads the brush over each pixel of one of the windows that the stroke covers.
 pub(crate) fn paint_within(
@@ -37,83 +37,29 @@ pub(crate) fn paint(marker: &mut Grid, mask: &Grid, stroke: &Stroke, window: Win
     requires window { WindowFits mask.now.width mask.now.height window }
     ensures { IsPaintedBy (λ p. in_window window p && covers stroke.now p) brush mask.now marker.old marker.new }
 {
-    match stroke.kind() {
-        Kind::Runs => paint_runs(marker, mask, stroke.runs(), window, brush),
-        Kind::Disc { x, y, r } => {
-            let center = Pixel {
-                x: u32::from(x),
-                y: u32::from(y),
-            };
-            paint_disc(marker, mask, center, u32::from(r), window, brush);
-        }
+    spans_cover();
+    let from = stroke.first_span_from(window.top);
+    let end = stroke.first_span_from(window.bottom);
+    for i in from..end {
+        paint_span(marker, mask, stroke.span(i), window, brush);
     }
 }
 
-// Leads the brush over each pixel of the window that one of the runs has.
-fn paint_runs(marker: &mut Grid, mask: &Grid, runs: &[Run], window: Window, brush: Brush)
+// Leads the brush over each pixel of the window that the span has. It lies on a row of the window.
+fn paint_span(marker: &mut Grid, mask: &Grid, span: Span, window: Window, brush: Brush)
     requires size { AreOfOneSize mask.now marker.old }
-    requires order { AreOrdered runs.now }
-    requires fit { AllByRecursion (λ run. (run.y < mask.now.height) × (run.x1 < mask.now.width)) runs.now }
+    requires top { window.top ≤ span.y }
+    requires bottom { span.y < window.bottom }
     requires window { WindowFits mask.now.width mask.now.height window }
-    ensures { IsPaintedBy (λ p. in_window window p && list_any (λ run. run_covers run p) runs.now) brush mask.now
-        marker.old marker.new }
+    ensures { IsPaintedBy (λ p. in_window window p && span_has span p) brush mask.now marker.old marker.new }
 {
-    if !window.meets(runs) {
-        return;
-    }
-    for run in runs {
-        paint_run(marker, mask, *run, window, brush);
-    }
-}
-
-// Leads the brush over each pixel of the window that the run has.
-fn paint_run(marker: &mut Grid, mask: &Grid, run: Run, window: Window, brush: Brush)
-    requires size { AreOfOneSize mask.now marker.old }
-    requires row { run.y < mask.now.height }
-    requires columns { run.x1 < mask.now.width }
-    requires window { WindowFits mask.now.width mask.now.height window }
-    ensures { IsPaintedBy (λ p. in_window window p && run_covers run p) brush mask.now marker.old marker.new }
-{
-    let y = u32::from(run.y);
-    if window.top <= y && y < window.bottom {
-        let first = window.left.max(u32::from(run.x0));
-        let end = window.right.min(u32::from(run.x1) + 1);
-        paint_span(marker, mask, y, first, end, brush);
-    }
-}
-
-// Leads the brush over each pixel of the window that the disc has.
-fn paint_disc(marker: &mut Grid, mask: &Grid, center: Pixel, r: u32, window: Window, brush: Brush)
-    requires size { AreOfOneSize mask.now marker.old }
-    requires column { center.x ≤ u16.MAX }
-    requires row { center.y ≤ u16.MAX }
-    requires radius { r ≤ max_radius }
-    requires window { WindowFits mask.now.width mask.now.height window }
-    ensures { IsPaintedBy (λ p. in_window window p && disc_covers center.x center.y r p) brush mask.now
-        marker.old marker.new }
-{
-    let top = window.top.max(center.y.saturating_sub(r));
-    let bottom = window.bottom.min(center.y + r + 1);
-    for y in top..bottom {
-        let half = half_width(r, center.y.abs_diff(y));
-        let first = window.left.max(center.x.saturating_sub(half));
-        let end = window.right.min(center.x + half + 1);
-        paint_span(marker, mask, y, first, end, brush);
-    }
-}
-
-// How far a disc reaches to either side of its centre, on a row so far from it.
-fn half_width(r: u32, dy: u32) -> u32
-    requires radius { r ≤ max_radius }
-    requires within { dy ≤ r }
-    ensures reached { result * result + dy * dy ≤ r * r }
-    ensures no_more { r * r < (result + 1) * (result + 1) + dy * dy }
-{
-    (r * r - dy * dy).isqrt()
+    let first = window.left.max(span.first);
+    let end = window.right.min(span.end);
+    paint_between(marker, mask, span.y, first, end, brush);
 }
 
 // Leads the brush over the pixels of row `y` from column `first` up to column `end`, which is left out.
-fn paint_span(marker: &mut Grid, mask: &Grid, y: u32, first: u32, end: u32, brush: Brush)
+fn paint_between(marker: &mut Grid, mask: &Grid, y: u32, first: u32, end: u32, brush: Brush)
     requires size { AreOfOneSize mask.now marker.old }
     requires row { y < mask.now.height }
     requires columns { end ≤ mask.now.width }

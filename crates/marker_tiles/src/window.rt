@@ -1,10 +1,10 @@
 //! The part of an image that is painted.
 
-ghost use Rattle.std.specs.Prelude.{◌≡◌, ◌≤◌, ◌&&◌, IsTrue, false};
+ghost use Rattle.std.specs.Prelude.{◌≤◌, IsTrue};
 ghost use Rattle.std.specs.List.{list_any};
 ghost use Rattle.grid_core.specs.declared.pixel.Pixel.{Pixel};
 ghost use Rattle.grid_core.specs.Raster.{IsInside};
-ghost use Rattle.stroke_core.specs.Seed.{AreOrdered, covers, run_covers, disc_covers, max_radius};
+ghost use Rattle.stroke_core.specs.Seed.{covers, run_covers, disc_covers, max_radius};
 ghost use Rattle.marker_tiles.specs.Painting.{WindowFits, in_window};
 
 use grid_core::Grid;
@@ -68,20 +68,6 @@ impl Window {
             right: self.right.min(image.width()),
             top: self.top,
             bottom: self.bottom.min(image.height()),
-        }
-    }
-
-    /// Whether the rows from that of the first run to that of the last meet the window's. The runs are in order.
-    pub(crate) fn meets(self, runs: &[Run]) -> bool
-        requires { AreOrdered runs.now }
-        ensures { result ≡ false → (p : Pixel)
-            → (in_window self p && list_any (λ run. run_covers run p) runs.now) ≡ false }
-    {
-        match (runs.first(), runs.last()) {
-            (Some(first), Some(last)) => {
-                u32::from(first.y) < self.bottom && self.top <= u32::from(last.y)
-            }
-            _ => false,
         }
     }
 

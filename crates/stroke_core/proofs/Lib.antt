@@ -1,2 +1,4 @@
+pub mod RowLemmas
 pub mod SeedLemmas
+pub mod SpanLemmas
 pub mod TagLemmas

@@ -3,4 +3,5 @@ pub use Rattle.uuid.specs.Text
 pub mod Code
 pub mod Held
 pub mod Seed
+pub mod Spans
 pub mod Tag

@@ -16,19 +16,22 @@
 //! whose codes are S1 to S8.
 //!
 //! Read on in `specs/Seed.antt`, which says what canonical strokes are, which pixels they cover, and why runs or
-//! a disc are refused; in `specs/Tag.antt` for the texts of tags; and then at [`Stroke`].
+//! a disc are refused; in `specs/Spans.antt` for the rows of a stroke as [`Span`]s; in `specs/Tag.antt` for the
+//! texts of tags; and then at [`Stroke`].
 
 mod error;
 mod kind;
 mod run;
 mod shape;
+mod span;
 mod stroke;
 mod tag;
 
 pub use error::{RefusedRuns, StrokeError};
 pub use kind::Kind;
 pub use run::Run;
-pub use stroke::{MAX_LEVEL, MAX_RADIUS, MAX_RUNS, Stroke, one_refusal};
+pub use span::Span;
+pub use stroke::{MAX_LEVEL, MAX_RADIUS, MAX_RUNS, Stroke, one_refusal, spans_cover};
 pub use tag::{Tag, text_parses_back};
 
 #[cfg(test)]

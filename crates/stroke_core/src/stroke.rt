@@ -1,13 +1,19 @@
-ghost use Rattle.std.specs.Prelude.{◌≡◌, ◌≤◌, ◌↔◌, IsTrue, IsOk, IfOk, IfErr, MatchOption};
+ghost use Rattle.std.specs.Prelude.{◌≡◌, ◌<◌, ◌≤◌, ◌↔◌, IsTrue, IsOk, IfOk, IfErr, MatchOption};
+ghost use Rattle.std.specs.Prelude.{ℕ, ◌+◌, length, min, slice_get};
+ghost use Rattle.std.specs.List.{list_any};
+ghost use Rattle.std.specs.List.Sorted.{IsPartitionPoint};
+ghost use Rattle.grid_core.specs.declared.pixel.Pixel.{Pixel};
 ghost use Rattle.stroke_core.specs.Seed.{Seed, Runs, Disc, AreOrdered, IsBefore, IsCanonical};
-ghost use Rattle.stroke_core.specs.Seed.{IsRefusal, Fits, covers, shape_covers, kind_of, runs_of};
+ghost use Rattle.stroke_core.specs.Seed.{IsRefusal, Fits, ShapeFits, covers, shape_covers, kind_of, runs_of};
 ghost use Rattle.stroke_core.specs.Seed.{byte_len_of, max_level};
+ghost use Rattle.stroke_core.specs.Spans.{spans_of, spans_of_shape, span_has};
 ghost use Rattle.stroke_core.specs.declared.error.StrokeError.{StrokeError};
 
 use crate::error::{RefusedRuns, StrokeError};
 use crate::kind::Kind;
 use crate::run::Run;
 use crate::shape::Shape;
+use crate::span::Span;
 use grid_core::{Memory, Pixel};
 use std::alloc::Global;
 use std::marker::Model;
@@ -131,6 +137,51 @@ impl Stroke {
         }
     }
 
+    /// The number of spans: one for each run, or one for each row of a disc that is not above the image.
+    #[tactic(auto, using(crate::proofs::SpanLemmas::run_count, crate::proofs::SpanLemmas::row_count))]
+    pub fn span_count(&self) -> usize
+        ensures { result ≡ length (spans_of self.now) }
+    {
+        match &self.shape {
+            Shape::Runs(runs) => runs.len(),
+            Shape::Disc { y, r, .. } => row_count(*y, *r),
+        }
+    }
+
+    /// The span of this number, counted from 0. Together the spans have the pixels that the stroke covers, and
+    /// no others ([`spans_cover`]). It takes no memory.
+    ///
+    /// No span is empty. In an image that the stroke fits, each span starts left of the right edge, and spans
+    /// of runs lie inside. Spans of a disc may end beyond the right edge or lie below the image: the caller
+    /// clips them.
+    #[tactic(auto, using(crate::proofs::SpanLemmas::run_count, crate::proofs::SpanLemmas::row_count))]
+    pub fn span(&self, i: usize) -> Span
+        requires { i < length (spans_of self.now) }
+        ensures value { slice_get (spans_of self.now) i ≡ Some result }
+        ensures nonempty { result.first < result.end }
+        ensures starts { (w h : ℕ) → Fits w h self.now → result.first < w }
+        ensures inside { (w h : ℕ) → Fits w h self.now → kind_of self.now.shape ≡ Kind.Runs
+            → (result.y < h) × (result.end ≤ w) }
+    {
+        match &self.shape {
+            Shape::Runs(runs) => run_span(runs, i),
+            Shape::Disc { x, y, r } => disc_span(*x, *y, *r, i),
+        }
+    }
+
+    /// The number of the first span on this row or below it, or the number of spans where there is none. The rows
+    /// of spans never fall, so that those on some rows next to each other are found without a walk.
+    #[tactic(auto, using(crate::proofs::SpanLemmas::run_count, crate::proofs::SpanLemmas::row_count))]
+    pub fn first_span_from(&self, row: u32) -> usize
+        ensures within { result ≤ length (spans_of self.now) }
+        ensures point { IsPartitionPoint (λ span. span.y < row) (λ span. row ≤ span.y) (spans_of self.now) result }
+    {
+        match &self.shape {
+            Shape::Runs(runs) => first_run_from(runs, row),
+            Shape::Disc { x, y, r } => first_row_from(*x, *y, *r, row),
+        }
+    }
+
     /// Whether every run, or the centre of the disc, lies in an image of `w` columns and `h` rows.
     pub fn fits(&self, w: u32, h: u32) -> bool
         ensures { IsTrue result ↔ Fits w h self.now }
@@ -212,6 +263,56 @@ fn is_in_disc(x: u16, y: u16, r: u8, p: Pixel) -> bool
     dx * dx + dy * dy <= r * r
 }
 
+/// The span of one of the runs.
+fn run_span(runs: &[Run], i: usize) -> Span
+    requires order { AreOrdered runs.now }
+    requires within { i < length runs.now }
+    ensures value { slice_get (spans_of_shape (Runs runs.now)) i ≡ Some result }
+    ensures nonempty { result.first < result.end }
+    ensures inside { (w h : ℕ) → ShapeFits w h (Runs runs.now) → (result.y < h) × (result.end ≤ w) }
+{
+    Span::of_run(runs[i])
+}
+
+/// How many rows of a disc round a pixel of row `y` are not above the image.
+fn row_count(y: u16, r: u8) -> usize
+    ensures { result ≡ min y r + r + 1 }
+{
+    usize::from(y).min(usize::from(r)) + usize::from(r) + 1
+}
+
+/// The span of one of the rows of a disc.
+#[tactic(auto, using(crate::proofs::SpanLemmas::span_of_row_at))]
+fn disc_span(x: u16, y: u16, r: u8, i: usize) -> Span
+    requires { i < min y r + r + 1 }
+    ensures value { slice_get (spans_of_shape (Disc x y r)) i ≡ Some result }
+    ensures nonempty { result.first < result.end }
+    ensures starts { result.first ≤ x }
+{
+    let (x, y, r) = (u32::from(x), u32::from(y), u32::from(r));
+    Span::of_row(x, y, r, y.saturating_sub(r) + i as u32)
+}
+
+/// The number of the first run on this row or below it, or the number of runs where there is none.
+fn first_run_from(runs: &[Run], row: u32) -> usize
+    requires { AreOrdered runs.now }
+    ensures within { result ≤ length runs.now }
+    ensures point { IsPartitionPoint (λ span. span.y < row) (λ span. row ≤ span.y)
+        (spans_of_shape (Runs runs.now)) result }
+{
+    runs.partition_point(|run| u32::from(run.y) < row)
+}
+
+/// How many rows of a disc that are not above the image are above this row.
+fn first_row_from(x: u16, y: u16, r: u8, row: u32) -> usize
+    ensures within { result ≤ min y r + r + 1 }
+    ensures point { IsPartitionPoint (λ span. span.y < row) (λ span. row ≤ span.y)
+        (spans_of_shape (Disc x y r)) result }
+{
+    let top = u32::from(y).saturating_sub(u32::from(r));
+    row_count(y, r).min(row.saturating_sub(top) as usize)
+}
+
 /// Why the level and the runs make no stroke, or `None` where they make one.
 fn refusal(level: u32, runs: &[Run]) -> Option<StrokeError>
     ensures { MatchOption result (IsCanonical (record { level = level; shape = Runs runs.now }))
@@ -258,4 +359,10 @@ fn is_before(run: Run, others: &[Run]) -> bool
 /// A level and a shape are refused for one reason only.
 pub fn one_refusal()
     ensures { (s : Seed) (d e : StrokeError) → IsRefusal s d → IsRefusal s e → d ≡ e }
+{}
+
+/// A stroke covers the pixels of its spans, and no others.
+#[tactic(auto, using(crate::proofs::SpanLemmas::spans_cover))]
+pub fn spans_cover()
+    ensures { (s : Seed) (p : Pixel) → covers s p ≡ list_any (λ span. span_has span p) (spans_of s) }
 {}

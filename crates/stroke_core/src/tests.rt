@@ -101,6 +101,113 @@ fn pixels_of_a_disc(rt: HostRuntime) -> Result<(), Fail> {
     Ok(())
 }
 
+// Whether the spans of the stroke have the pixels of an image of 9 by 9 that it covers, and no others.
+fn spans_agree(stroke: &Stroke) -> bool {
+    (0..81).all(|i| {
+        let p = Pixel { x: i % 9, y: i / 9 };
+        let some_span_has = (0..stroke.span_count()).any(|k| {
+            let span = stroke.span(k);
+            span.y == p.y && span.first <= p.x && p.x < span.end
+        });
+        stroke.covers(p) == some_span_has
+    })
+}
+
+#[test]
+fn spans_have_the_pixels_of_a_stroke(rt: HostRuntime) -> Result<(), Fail> {
+    spans_cover();
+    for (x, y, r) in [
+        (4, 4, 0),
+        (0, 0, 0),
+        (0, 0, 3),
+        (8, 0, 2),
+        (4, 4, 3),
+        (3, 5, 255),
+    ] {
+        assert!(rt;
+            spans_agree(&Stroke::disc(5, x, y, r)?),
+            "round {x} {y} within {r}"
+        );
+    }
+    let runs = [run(0, 1, 2), run(0, 4, 65535), run(2, 0, 0), run(8, 8, 8)];
+    assert!(rt; spans_agree(&Stroke::new(9, Vec::from_slice(rt.alloc(), &runs)?)?));
+    Ok(())
+}
+
+#[test]
+fn spans_of_runs_and_of_discs(rt: HostRuntime) -> Result<(), Fail> {
+    let runs = [run(0, 1, 2), run(2, 4, 65535)];
+    let stroke = Stroke::new(9, Vec::from_slice(rt.alloc(), &runs)?)?;
+    assert_eq!(rt; stroke.span_count(), 2);
+    assert_eq!(rt;
+        stroke.span(1),
+        Span {
+            y: 2,
+            first: 4,
+            end: 65536
+        }
+    );
+    for (x, y, r, count) in [
+        (7, 7, 0, 1),
+        (0, 0, 255, 256),
+        (9, 300, 255, 511),
+        (9, 1, 2, 4),
+    ] {
+        assert_eq!(rt;
+            Stroke::disc(5, x, y, r)?.span_count(),
+            count,
+            "round {x} {y} within {r}"
+        );
+    }
+    let disc = Stroke::disc(5, 1, 65535, 5)?;
+    assert_eq!(rt;
+        disc.span(0),
+        Span {
+            y: 65530,
+            first: 1,
+            end: 2
+        }
+    );
+    assert_eq!(rt;
+        disc.span(2),
+        Span {
+            y: 65532,
+            first: 0,
+            end: 6
+        }
+    );
+    assert_eq!(rt;
+        disc.span(10),
+        Span {
+            y: 65540,
+            first: 1,
+            end: 2
+        }
+    );
+    Ok(())
+}
+
+#[test]
+fn spans_from_a_row_on(rt: HostRuntime) -> Result<(), Fail> {
+    let runs = [run(1, 0, 0), run(1, 5, 5), run(4, 2, 2)];
+    let stroke = Stroke::new(9, Vec::from_slice(rt.alloc(), &runs)?)?;
+    let disc = Stroke::disc(9, 3, 5, 2)?;
+    let cut = Stroke::disc(9, 3, 1, 2)?;
+    for (row, of_runs, of_disc, of_cut) in [
+        (0, 0, 0, 0),
+        (1, 0, 0, 1),
+        (2, 2, 0, 2),
+        (4, 2, 1, 4),
+        (5, 3, 2, 4),
+        (u32::MAX, 3, 5, 4),
+    ] {
+        assert_eq!(rt; stroke.first_span_from(row), of_runs, "runs from row {row}");
+        assert_eq!(rt; disc.first_span_from(row), of_disc, "disc from row {row}");
+        assert_eq!(rt; cut.first_span_from(row), of_cut, "cut disc from row {row}");
+    }
+    Ok(())
+}
+
 #[test]
 fn a_disc_fits_where_its_centre_is(rt: HostRuntime) -> Result<(), Fail> {
     let disc = Stroke::disc(5, 4, 2, 255)?;

@@ -1,6 +1,6 @@
 use Rattle.std.proofs.Common.{◌≡◌, ◌+◌, ◌*◌, ap}
 use Rattle.marker_tiles.proofs.Painted.{cells_are_span}
-use Rattle.marker_tiles.proofs.paint.paint_span.Goals as goal
+use Rattle.marker_tiles.proofs.paint.paint_between.Goals as goal
 
 pub returns-then-first-end : goal.returns-then-first-end
 returns-then-first-end c =
