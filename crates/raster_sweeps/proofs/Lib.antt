@@ -19,3 +19,6 @@ pub mod ClosedRows
 pub mod Strips
 pub mod RowGrowth
 pub mod Scanning
+pub mod Borders
+pub mod BorderPairs
+pub mod BorderColumns

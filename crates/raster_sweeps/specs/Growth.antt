@@ -1,6 +1,6 @@
--- Growing an image in place, inside a rectangle. Only private functions have these words in their contracts. What a
--- reconstruction is stands in `specs/Reconstruction.antt` of `grid_core`, and what a rectangle is in `specs/Rects.antt`
--- there.
+-- Growing an image in place, inside a rectangle. Only private functions have these words in their contracts, but for
+-- open pairs, of which `specs/Borders.antt` speaks. What a reconstruction is stands in `specs/Reconstruction.antt` of
+-- `grid_core`, and what a rectangle is in `specs/Rects.antt` there.
 use Rattle.std.specs.Prelude.{◌≡◌, ℕ, ◌-◌, ◌<◌, ◌≤◌, List, length, min}
 use Rattle.std.specs.List.{Contains, sum_by}
 use Rattle.grid_core.specs.declared.conn.Conn.{Conn}

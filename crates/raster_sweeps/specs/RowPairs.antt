@@ -69,6 +69,16 @@ pub record IsOpenCell (conn : Conn) (rect : Rect) (mask image : Raster) (AreRows
     pub rows : AreRows pixel.y other.y
     pub place : cell_of rect image.width pixel ≡ cell
 
+-- the cell is that of a pixel of this kind, counted from the rectangle's upper left corner, that is the first of an
+-- open pair
+pub record IsOpenFrom (conn : Conn) (rect : Rect) (mask image : Raster) (IsFrom : Pixel → Type 0) (cell : ℕ) : Type 0
+  where
+    pub pixel : Pixel
+    pub other : Pixel
+    pub raises : IsOpenIn conn rect mask image pixel other
+    pub from : IsFrom pixel
+    pub place : cell_of rect image.width pixel ≡ cell
+
 -- such cells have joined the queue: it has what it had, each cell that is new is such a cell, and if there was room
 -- then each such cell is in it; else it is not empty
 pub record HaveJoined (IsSuch : ℕ → Type 0) (room : Bool) (old new : List ℕ) : Type 0 where

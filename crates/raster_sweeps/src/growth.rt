@@ -1,13 +1,16 @@
 //! Growing in place: until no pair of neighbours is open (Vincent, "Morphological Grayscale Reconstruction in Image
 //! Analysis", 1993).
 
-ghost use Rattle.std.specs.Prelude.{◌≡◌, ◌<◌, ◌⊎◌, [], IfOk, IsTrue, OnErr, OnOk};
+ghost use Rattle.std.specs.Prelude.{◌≡◌, ◌<◌, ◌⊎◌, [], length, IfOk, IsTrue, OnErr, OnOk};
 ghost use Rattle.grid_core.specs.Path.{domain_of};
 ghost use Rattle.grid_core.specs.Raster.{IsBelow, IsFilled, IsInside, value_at};
 ghost use Rattle.grid_core.specs.Reconstruction.{IsClosed, IsReconstruction};
 ghost use Rattle.grid_core.specs.Rects.{IsInRect, RectFits, domain_in, part};
+ghost use Rattle.raster_sweeps.specs.declared.growth.Start.TheVariants as starts;
+ghost use Rattle.raster_sweeps.specs.Borders.{OpenPairsBeginOnBorder};
 ghost use Rattle.raster_sweeps.specs.Growth.{AllWait, AreInside, AreOpen, IsGrown, headroom};
 
+use crate::border::queue_border;
 use crate::open_pairs::queue_open_pairs;
 use crate::raising::{drain, spread};
 use crate::scans::{scan_down, scan_up};
@@ -32,6 +35,8 @@ pub struct Room {
 enum Start {
     // By the check of each row.
     Check,
+    // By the check of the pixels on the rectangle's border.
+    Border,
     // By the raster and the anti-raster scan.
     Scans,
 }
@@ -65,6 +70,29 @@ pub fn grow_within(room: &mut Room, mask: &Grid, image: &mut Grid, rect: Rect, c
 {
     prove!(image.width() == mask.width());
     close(mask, image, rect, conn, &mut room.waiting, Start::Check);
+}
+
+/// Raises an image inside a rectangle as [`grow_within`] does, where only pixels on the rectangle's border can still
+/// raise a neighbour in it: where the image was grown there before, and since then pixels of the border have risen. The
+/// image must be at most the mask, and the rectangle lie in it.
+///
+/// The pixels on the border are checked, and no others; then the queue spreads, as in [`grow_within`]. It takes no
+/// memory.
+pub fn grow_from_border(room: &mut Room, mask: &Grid, image: &mut Grid, rect: Rect, conn: Conn)
+    requires below { IsBelow image.old mask.now }
+    requires fits { RectFits mask.now.width mask.now.height rect }
+    requires border { OpenPairsBeginOnBorder conn rect mask.now image.old }
+    ensures width { image.new.width ≡ image.old.width }
+    ensures height { image.new.height ≡ image.old.height }
+    ensures filled { IsFilled image.new }
+    ensures below { IsBelow image.new mask.now }
+    ensures outside { (p : _) → IsInside image.old.width image.old.height p → (IsInRect rect p → ⊥)
+        → value_at image.new p ≡ value_at image.old p }
+    ensures reconstruction { IsReconstruction (domain_in rect conn) (part rect (value_at mask.now))
+        (part rect (value_at image.old)) (part rect (value_at image.new)) }
+{
+    prove!(image.width() == mask.width());
+    close(mask, image, rect, conn, &mut room.waiting, Start::Border);
 }
 
 /// The reconstruction by dilation of `mask` from `marker`, `w * h` cells row by row.
@@ -114,6 +142,7 @@ fn close(mask: &Grid, image: &mut Grid, rect: Rect, conn: Conn, waiting: &mut Wa
     requires filled { IsFilled image.old }
     requires below { IsBelow image.old mask.now }
     requires fits { RectFits mask.now.width mask.now.height rect }
+    requires border { start ≡ starts.Border → OpenPairsBeginOnBorder conn rect mask.now image.old }
     ensures grown { IsGrown conn rect mask.now image.old image.new }
     ensures closed { IsClosed (domain_in rect conn) (part rect (value_at mask.now)) (part rect (value_at image.new)) }
 {
@@ -128,14 +157,14 @@ fn close(mask: &Grid, image: &mut Grid, rect: Rect, conn: Conn, waiting: &mut Wa
     }
 }
 
-// How many cells may rise by the queue before the next scans: an eighth of the rectangle's where it was checked first,
-// else as many as it has.
+// How many cells may rise by the queue before the next scans: as many as the rectangle has where it was scanned first,
+// else an eighth of them.
 fn budget(rect: Rect, start: Start) -> usize
     ensures { 0 < result }
 {
     let pixels = rect.w as usize * rect.h as usize;
     match start {
-        Start::Check => (pixels / 8).max(1),
+        Start::Check | Start::Border => (pixels / 8).max(1),
         Start::Scans => pixels.max(1),
     }
 }
@@ -153,6 +182,7 @@ fn fill(
     requires filled { IsFilled image.old }
     requires below { IsBelow image.old mask.now }
     requires fits { RectFits mask.now.width mask.now.height rect }
+    requires border { start ≡ starts.Border → OpenPairsBeginOnBorder conn rect mask.now image.old }
     ensures grown { IsGrown conn rect mask.now image.old image.new }
     ensures inside { AreInside rect image.new.width waiting.new }
     ensures waits { IsTrue result → AllWait conn rect mask.now image.new waiting.new }
@@ -161,6 +191,7 @@ fn fill(
     waiting.clear();
     match start {
         Start::Check => check(mask, image, rect, conn, waiting),
+        Start::Border => check_border(mask, image, rect, conn, waiting),
         Start::Scans => scan(mask, image, rect, conn, waiting),
     }
 }
@@ -200,8 +231,47 @@ fn check(mask: &Grid, image: &mut Grid, rect: Rect, conn: Conn, waiting: &mut Wa
     if queue_open_pairs(mask, image, rect, conn, waiting) {
         return true;
     }
+    spread_first(mask, image, rect, conn, waiting);
+    false
+}
+
+// Fills the queue by the check of the pixels on the border, and says whether there was room for all open pairs. Where
+// there was not, the first cell has spread.
+fn check_border(
+    mask: &Grid,
+    image: &mut Grid,
+    rect: Rect,
+    conn: Conn,
+    waiting: &mut Waiting,
+) -> bool
+    requires filled { IsFilled image.old }
+    requires below { IsBelow image.old mask.now }
+    requires fits { RectFits mask.now.width mask.now.height rect }
+    requires border { OpenPairsBeginOnBorder conn rect mask.now image.old }
+    requires empty { waiting.old ≡ [] }
+    ensures grown { IsGrown conn rect mask.now image.old image.new }
+    ensures inside { AreInside rect image.new.width waiting.new }
+    ensures waits { IsTrue result → AllWait conn rect mask.now image.new waiting.new }
+    ensures rose { IsTrue result ⊎ (headroom image.new.cells < headroom image.old.cells) }
+{
+    if queue_border(mask, image, rect, conn, waiting) {
+        return true;
+    }
+    spread_first(mask, image, rect, conn, waiting);
+    false
+}
+
+// Lets the first of some cells that can raise a neighbour spread.
+fn spread_first(mask: &Grid, image: &mut Grid, rect: Rect, conn: Conn, waiting: &mut Waiting)
+    requires below { IsBelow image.old mask.now }
+    requires fits { RectFits mask.now.width mask.now.height rect }
+    requires open { AreOpen conn rect mask.now image.old waiting.old }
+    requires some { 0 < length waiting.old }
+    ensures grown { IsGrown conn rect mask.now image.old image.new }
+    ensures inside { AreInside rect image.new.width waiting.new }
+    ensures rose { headroom image.new.cells < headroom image.old.cells }
+{
     if let Some(cell) = waiting.pop() {
         let _room = spread(mask, image, rect, conn, waiting, cell);
     }
-    false
 }

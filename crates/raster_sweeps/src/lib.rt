@@ -27,8 +27,10 @@
 //! `specs/Reconstruction.antt` what a reconstruction is, and its `specs/Rects.antt` what a rectangle is; and then at
 //! [`grow_within`].
 
+mod border;
 mod closed;
 mod growth;
+pub mod laws;
 mod neighbourhood;
 mod open_pairs;
 mod raising;
@@ -39,7 +41,7 @@ mod thresholds;
 mod waiting;
 
 pub use closed::is_closed;
-pub use growth::{Room, grow, grow_in_place, grow_within};
+pub use growth::{Room, grow, grow_from_border, grow_in_place, grow_within};
 pub use thresholds::slow;
 
 #[cfg(test)]

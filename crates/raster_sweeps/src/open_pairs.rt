@@ -67,9 +67,9 @@ pub fn queue_row(
         && queue_between(mask, image, rect, y + 1, y, conn, waiting)
 }
 
-// Puts the first pixels of the open pairs within a row into the queue. It answers whether there was room for all of
-// them.
-fn queue_within(mask: &Grid, image: &Grid, rect: Rect, y: u32, waiting: &mut Waiting) -> bool
+/// Puts the first pixels of the open pairs within a row into the queue. It answers whether there was room for all of
+/// them.
+pub fn queue_within(mask: &Grid, image: &Grid, rect: Rect, y: u32, waiting: &mut Waiting) -> bool
     requires below { IsBelow image.now mask.now }
     requires fits { RectFits mask.now.width mask.now.height rect }
     requires row { y < rect.h }
@@ -82,9 +82,9 @@ fn queue_within(mask: &Grid, image: &Grid, rect: Rect, y: u32, waiting: &mut Wai
     queue_aslant(row, limits, row, first, waiting)
 }
 
-// Puts the first pixels of the open pairs from a row to another, which touches it, into the queue. It answers whether
-// there was room for all of them.
-fn queue_between(
+/// Puts the first pixels of the open pairs from a row to another, which touches it, into the queue. It answers whether
+/// there was room for all of them.
+pub fn queue_between(
     mask: &Grid,
     image: &Grid,
     rect: Rect,
@@ -191,8 +191,8 @@ fn queue_strip(from: &[u32], mask: &[u32], to: &[u32], first: u32, waiting: &mut
     true
 }
 
-// The cell of the first pixel of the rectangle's row `y`.
-fn first_cell(image: &Grid, rect: Rect, y: u32) -> u32
+/// The cell of the first pixel of the rectangle's row `y`.
+pub fn first_cell(image: &Grid, rect: Rect, y: u32) -> u32
     requires fits { RectFits image.now.width image.now.height rect }
     requires row { y < rect.h }
     ensures place { result ≡ cell_of rect image.now.width (record { x = 0; y = y }) }

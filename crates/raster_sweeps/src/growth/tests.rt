@@ -1,8 +1,11 @@
 ghost use Rattle.std.specs.Prelude.{◌≡◌, ◌+◌, ◌<◌, ◌≤◌, IfOk};
+ghost use Rattle.grid_core.specs.Raster.{IsBelow, IsInside};
 ghost use Rattle.grid_core.specs.Rects.{RectFits};
+ghost use Rattle.raster_sweeps.specs.Borders.{IsOnBorder, OpenPairsBeginOnBorder};
 
-use super::{Room, grow, grow_within};
+use super::{Room, grow, grow_from_border, grow_within};
 use crate::closed::is_closed;
+use crate::laws::{border_raise_keeps_border, reconstruction_begins_on_border};
 use crate::rows::row_in;
 use crate::thresholds::slow;
 use crate::waiting::Waiting;
@@ -87,6 +90,30 @@ fn are_equal_outside(a: &Grid, b: &Grid, rect: Rect) -> bool
     true
 }
 
+// Whether an image is in the rectangle the flood of what is cut out there of the one before, and elsewhere equal to it.
+fn is_flood_of(
+    alloc: Global,
+    mask: &Grid,
+    before: &Grid,
+    image: &Grid,
+    rect: Rect,
+    conn: Conn,
+) -> Result<bool, Fail>
+    requires width { image.now.width ≡ before.now.width }
+    requires height { image.now.height ≡ before.now.height }
+    requires before { RectFits before.now.width before.now.height rect }
+    requires fits { RectFits mask.now.width mask.now.height rect }
+{
+    let limits = cut(alloc, mask, rect)?;
+    let seeds = cut(alloc, before, rect)?;
+    if !seeds.is_below(&limits) {
+        return Err(Fail::new("the part is above the mask"));
+    }
+    let flooded = slow(alloc, &limits, &seeds, conn)?;
+    let grown = cut(alloc, image, rect)?;
+    Ok(grown.cells() == flooded.cells() && are_equal_outside(image, before, rect))
+}
+
 // Whether growing within the rectangle is the flood of what is cut out there, and leaves the rest.
 fn grows_within(
     alloc: Global,
@@ -105,14 +132,108 @@ fn grows_within(
         return Err(Fail::new("the image is above the mask"));
     }
     grow_within(room, mask, &mut image, rect, conn);
-    let limits = cut(alloc, mask, rect)?;
-    let seeds = cut(alloc, before, rect)?;
-    if !seeds.is_below(&limits) {
-        return Err(Fail::new("the part is above the mask"));
+    is_flood_of(alloc, mask, before, &image, rect, conn)
+}
+
+// A pixel of the rectangle's border, counted from its upper left corner.
+fn border_pixel(rect: Rect, seed: &mut u32) -> Pixel
+    requires width { 0 < rect.w }
+    requires height { 0 < rect.h }
+    ensures border { IsOnBorder rect result }
+    ensures inside { IsInside rect.w rect.h result }
+{
+    let x = next(seed) % rect.w;
+    let y = next(seed) % rect.h;
+    match next(seed) % 4 {
+        0 => Pixel { x: 0, y },
+        1 => Pixel { x: rect.w - 1, y },
+        2 => Pixel { x, y: 0 },
+        _ => Pixel { x, y: rect.h - 1 },
     }
-    let flooded = slow(alloc, &limits, &seeds, conn)?;
-    let grown = cut(alloc, &image, rect)?;
-    Ok(grown.cells() == flooded.cells() && are_equal_outside(&image, before, rect))
+}
+
+// Raises a pixel of the rectangle's border to the value, as far as the mask lets it.
+fn raise_pixel(mask: &Grid, image: &mut Grid, rect: Rect, p: Pixel, value: u32)
+    requires mask { RectFits mask.now.width mask.now.height rect }
+    requires image { RectFits image.old.width image.old.height rect }
+    requires border { IsOnBorder rect p }
+    requires inside { IsInside rect.w rect.h p }
+    ensures width { image.new.width ≡ image.old.width }
+    ensures height { image.new.height ≡ image.old.height }
+    ensures border { (conn : _) → OpenPairsBeginOnBorder conn rect mask.now image.old
+        → OpenPairsBeginOnBorder conn rect mask.now image.new }
+{
+    border_raise_keeps_border();
+    prove!(image.width() >= rect.x + rect.w && image.height() >= rect.y + rect.h);
+    let at = Pixel {
+        x: rect.x + p.x,
+        y: rect.y + p.y,
+    };
+    let raised = image.get(at).max(value.min(mask.get(at)));
+    image.set(at, raised);
+}
+
+// Raises a few pixels of the rectangle's border, as far as the mask lets them.
+fn raise_pixels(mask: &Grid, image: &mut Grid, rect: Rect, seed: &mut u32)
+    requires mask { RectFits mask.now.width mask.now.height rect }
+    requires image { RectFits image.old.width image.old.height rect }
+    ensures width { image.new.width ≡ image.old.width }
+    ensures height { image.new.height ≡ image.old.height }
+    ensures border { (conn : _) → OpenPairsBeginOnBorder conn rect mask.now image.old
+        → OpenPairsBeginOnBorder conn rect mask.now image.new }
+{
+    for _ in 0..6 {
+        let p = border_pixel(rect, seed);
+        raise_pixel(mask, image, rect, p, next(seed) % 10);
+    }
+}
+
+// Grows an image inside the rectangle, and then raises a few pixels of the rectangle's border.
+fn grow_and_raise(
+    room: &mut Room,
+    mask: &Grid,
+    image: &mut Grid,
+    rect: Rect,
+    conn: Conn,
+    seed: &mut u32,
+)
+    requires below { IsBelow image.old mask.now }
+    requires fits { RectFits mask.now.width mask.now.height rect }
+    ensures width { image.new.width ≡ image.old.width }
+    ensures height { image.new.height ≡ image.old.height }
+    ensures border { OpenPairsBeginOnBorder conn rect mask.now image.new }
+{
+    reconstruction_begins_on_border();
+    grow_within(room, mask, image, rect, conn);
+    raise_pixels(mask, image, rect, seed);
+}
+
+// Whether a rectangle that was grown, and of which then pixels on the border rose, grows from its border into the flood
+// of what is cut out there, and leaves the rest.
+fn grows_from_border(
+    alloc: Global,
+    room: &mut Room,
+    mask: &Grid,
+    marker: &Grid,
+    rect: Rect,
+    conn: Conn,
+    seed: &mut u32,
+) -> Result<bool, Fail>
+    requires width { marker.now.width ≡ mask.now.width }
+    requires height { marker.now.height ≡ mask.now.height }
+    requires fits { RectFits mask.now.width mask.now.height rect }
+{
+    let mut image = marker.copy(alloc)?;
+    if !image.is_below(mask) {
+        return Err(Fail::new("the image is above the mask"));
+    }
+    grow_and_raise(room, mask, &mut image, rect, conn, seed);
+    if !image.is_below(mask) {
+        return Err(Fail::new("the raised image is above the mask"));
+    }
+    let before = image.copy(alloc)?;
+    grow_from_border(room, mask, &mut image, rect, conn);
+    is_flood_of(alloc, mask, &before, &image, rect, conn)
 }
 
 // Whether the grown image is the flooded one, and closed.
@@ -187,6 +308,58 @@ fn rectangles_grow_as_what_is_cut_out_floods(rt: HostRuntime) -> Result<(), Fail
                 holds,
                 "round {round}, {rect:?} of {width} by {height}, {conn:?}"
             );
+        }
+    }
+    Ok(())
+}
+
+#[test]
+fn rectangles_grow_from_their_border(rt: HostRuntime) -> Result<(), Fail> {
+    let alloc = rt.alloc();
+    let mut seed = 64;
+    let mut room = Room::new(alloc, 64)?;
+    let mut small = Room {
+        waiting: Waiting::new(alloc, 3)?,
+    };
+    for round in 0..400 {
+        let width = 1 + next(&mut seed) % 12;
+        let height = 1 + next(&mut seed) % 12;
+        let most = 1 + next(&mut seed) % 9;
+        let mask = random_grid(alloc, width, height, most, &mut seed)?;
+        let mut marker = random_grid(alloc, width, height, most / 2, &mut seed)?;
+        clip(&mut marker, &mask);
+        let w = 1 + next(&mut seed) % width;
+        let h = 1 + next(&mut seed) % height;
+        let x = next(&mut seed) % (width - w + 1);
+        let y = next(&mut seed) % (height - h + 1);
+        let rect = Rect { x, y, w, h };
+        for conn in [Conn::Four, Conn::Eight] {
+            let holds = grows_from_border(alloc, &mut room, &mask, &marker, rect, conn, &mut seed)?;
+            let stops = grows_from_border(
+                alloc, &mut small, &mask, &marker, rect, conn, &mut seed,
+            )?;
+            assert!(rt;
+                holds && stops,
+                "round {round}, {rect:?} of {width} by {height}, {conn:?}"
+            );
+        }
+    }
+    Ok(())
+}
+
+#[test]
+fn single_rows_and_columns_grow_from_their_border(rt: HostRuntime) -> Result<(), Fail> {
+    let alloc = rt.alloc();
+    let mut seed = 1;
+    let mut room = Room::new(alloc, 64)?;
+    for (w, h) in [(1, 1), (1, 20), (20, 1), (2, 20), (20, 2), (20, 20)] {
+        let mask = random_grid(alloc, 22, 23, 9, &mut seed)?;
+        let mut marker = random_grid(alloc, 22, 23, 2, &mut seed)?;
+        clip(&mut marker, &mask);
+        let rect = Rect { x: 1, y: 2, w, h };
+        for conn in [Conn::Four, Conn::Eight] {
+            let holds = grows_from_border(alloc, &mut room, &mask, &marker, rect, conn, &mut seed)?;
+            assert!(rt; holds, "{w} by {h}, {conn:?}");
         }
     }
     Ok(())

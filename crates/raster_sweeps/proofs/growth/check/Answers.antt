@@ -1,5 +1,3 @@
-use Rattle.std.proofs.Common.{subst}
-use Rattle.raster_sweeps.specs.Growth.{AreInside}
 use Rattle.raster_sweeps.proofs.Grown.{fits_below, grown_same, open_inside}
 use Rattle.raster_sweeps.proofs.growth.check.Goals as goal
 
@@ -12,9 +10,3 @@ pub returns-then-queue_open_pairs-clause-inside : goal.returns-then-queue_open_p
 returns-then-queue_open_pairs-clause-inside c =
     open_inside c.args.conn c.args.rect c.args.mask.now c.args.image.now c.queue_open_pairs.new.waiting
     c.queue_open_pairs.ensures.open
-
-pub spread-room-requires-clause-inside : goal.spread-room-requires-clause-inside
-spread-room-requires-clause-inside c =
-    subst (AreInside c.args.rect c.args.image.now.width) c.in-Some.ensures
-    (open_inside c.args.conn c.args.rect c.args.mask.now c.args.image.now c.queue_open_pairs.new.waiting
-    c.queue_open_pairs.ensures.open)

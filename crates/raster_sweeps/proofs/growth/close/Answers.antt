@@ -1,21 +1,28 @@
-use Rattle.std.proofs.Common.{◌<◌, ◌≤◌, sym, ◌∙◌, arith, inl, inr}
+use Rattle.std.proofs.Common.{◌≡◌, ◌<◌, ◌≤◌, sym, ◌∙◌, arith, inl, inr}
 use Rattle.std.proofs.lemmas.Bool.{false≢true}
 use Rattle.grid_core.specs.Raster.{IsFilled}
+use Rattle.raster_sweeps.specs.declared.growth.Start.TheVariants.{Border, Scans}
 use Rattle.raster_sweeps.specs.Growth.{headroom}
 use Rattle.raster_sweeps.proofs.Grown.{fits_below, grown_filled, grown_headroom, grown_same, grown_twice}
 use Rattle.raster_sweeps.proofs.growth.close.Goals as goal
 use Rattle.raster_sweeps.proofs.growth.close.Goals.{else-all-via-then-all+else-drain, else-all-via-else-all}
 
 pub rounds-init : goal.rounds-init
-rounds-init c =
-    grown_same c.args.conn c.args.rect c.args.mask.now c.args.image.now c.requires.filled c.requires.below
-    (fits_below c.args.rect c.args.mask.now c.args.image.now c.requires.below c.requires.fits)
+rounds-init c = record {
+  grown =
+      grown_same c.args.conn c.args.rect c.args.mask.now c.args.image.now c.requires.filled c.requires.below
+      (fits_below c.args.rect c.args.mask.now c.args.image.now c.requires.below c.requires.fits);
+  border = c.requires.border;
+}
+
+pub fill-all-requires-clause-border : goal.fill-all-requires-clause-border
+fill-all-requires-clause-border c = c.rounds.invariant.border
 
 pub returns-then-drain-clause-grown : goal.returns-then-drain-clause-grown
 returns-then-drain-clause-grown c =
     grown_twice c.args.conn c.args.rect c.args.mask.now c.args.image.now c.fill-all.new.image c.drain.new.image
     (grown_twice c.args.conn c.args.rect c.args.mask.now c.args.image.now c.rounds.image c.fill-all.new.image
-    c.rounds.invariant c.fill-all.ensures.grown)
+    c.rounds.invariant.grown c.fill-all.ensures.grown)
     c.drain.ensures.grown
 
 pub returns-then-drain-clause-closed : goal.returns-then-drain-clause-closed
@@ -26,7 +33,7 @@ pub rounds-smaller : goal.rounds-smaller
 rounds-smaller c =
     let filled : IsFilled c.rounds.image =
     grown_filled c.args.conn c.args.rect c.args.mask.now c.args.image.now c.rounds.image c.requires.filled
-    c.rounds.invariant in
+    c.rounds.invariant.grown in
     let by_fill : headroom c.fill-all.new.image.cells ≤ headroom c.rounds.image.cells =
     grown_headroom c.args.conn c.args.rect c.args.mask.now c.rounds.image c.fill-all.new.image filled
     c.fill-all.ensures.grown in
@@ -47,10 +54,14 @@ pub rounds-preserved : goal.rounds-preserved
 rounds-preserved c =
     let filled =
     grown_twice c.args.conn c.args.rect c.args.mask.now c.args.image.now c.rounds.image c.fill-all.new.image
-    c.rounds.invariant c.fill-all.ensures.grown in
-    elim c.else-all.branch [
-      | else-all-via-then-all+else-drain w ↦
-          rw w.image-is (grown_twice c.args.conn c.args.rect c.args.mask.now c.args.image.now c.fill-all.new.image
-          w.drain.new.image filled w.drain.ensures.grown)
-      | else-all-via-else-all w ↦ rw w.image-is filled
-    ]
+    c.rounds.invariant.grown c.fill-all.ensures.grown in
+    record {
+      grown =
+          elim c.else-all.branch [
+            | else-all-via-then-all+else-drain w ↦
+                rw w.image-is (grown_twice c.args.conn c.args.rect c.args.mask.now c.args.image.now
+                c.fill-all.new.image w.drain.new.image filled w.drain.ensures.grown)
+            | else-all-via-else-all w ↦ rw w.image-is filled
+          ];
+      border = λ same. absurd (let no : Scans ≡ Border = same in cc);
+    }

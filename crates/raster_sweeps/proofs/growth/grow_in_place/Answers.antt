@@ -1,9 +1,10 @@
-use Rattle.std.proofs.Common.{ℕ, subst, ◌∙◌}
+use Rattle.std.proofs.Common.{◌≡◌, ℕ, subst, ◌∙◌}
 use Rattle.grid_core.specs.Raster.{value_at}
 use Rattle.grid_core.specs.Reconstruction.{IsReconstruction}
 use Rattle.grid_core.specs.Rects.{domain_in, part}
 use Rattle.grid_core.proofs.Images.{closed_is_reconstruction}
 use Rattle.raster_sweeps.proofs.Whole.{whole, whole_reconstruction}
+use Rattle.raster_sweeps.specs.declared.growth.Start.TheVariants.{Border, Scans}
 use Rattle.raster_sweeps.proofs.growth.grow_in_place.Goals as goal
 
 pub returns-clause-reconstruction : goal.returns-clause-reconstruction
@@ -23,3 +24,6 @@ returns-clause-reconstruction c =
     (value_at before) (value_at image)) (c.height-h.ensures.value ∙ c.requires.height)
     (subst (λ n. IsReconstruction (record { width = n; height = h; conn = conn }) (value_at mask)
     (value_at before) (value_at image)) (c.width-w.ensures.value ∙ c.requires.width) recon)
+
+pub close-requires-clause-border : goal.close-requires-clause-border
+close-requires-clause-border c = λ same. absurd (let no : Scans ≡ Border = same in cc)

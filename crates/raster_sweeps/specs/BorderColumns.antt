@@ -1,0 +1,24 @@
+-- The first and the last column of a rectangle, and what can rise beside them. Only private functions have these words
+-- in their contracts.
+use Rattle.std.specs.Prelude.{◌≡◌, ◌≢◌, ◌↔◌, ℕ, ◌<◌, ◌≤◌, min}
+use Rattle.grid_core.specs.declared.pixel.Pixel.{Pixel}
+use Rattle.grid_core.specs.declared.rect.Rect.{Rect}
+use Rattle.grid_core.specs.Neighbours.{apart}
+use Rattle.grid_core.specs.Raster.{Raster, IsInside, value_at}
+use Rattle.grid_core.specs.Rects.{part}
+use Rattle.raster_sweeps.specs.declared.border.Column.{Column}
+
+-- the rectangle has the column, and next to it no other than the one beside it
+pub record IsBorderColumn (rect : Rect) (column : Column) : Type 0 where
+  pub within : column.x < rect.w
+  pub beside_within : column.beside < rect.w
+  pub near : apart column.x column.beside ≤ 1
+  pub alone : (x : ℕ) → x < rect.w → apart column.x x ≤ 1 → x ≢ column.x → x ≡ column.beside
+
+-- a level raises one of such pixels of the rectangle, as far as the mask lets it, just where it is above this value
+abbrev pub IsLeastToRise : Rect → Raster → Raster → (Pixel → Type 0) → ℕ → Type 0
+IsLeastToRise rect mask image IsSuch least =
+    (level : ℕ) → level ≤ 4294967295
+    → (least < level)
+    ↔ ((q : Pixel) × IsInside rect.w rect.h q × IsSuch q
+    × (part rect (value_at image) q < min level (part rect (value_at mask) q)))
