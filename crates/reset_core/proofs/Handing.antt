@@ -24,7 +24,7 @@ use Rattle.reset_core.proofs.Removals.{left_was_there, left_or_taken, taken_was_
 use Rattle.reset_core.proofs.Supporting.{raise_is_supported}
 
 -- a place of an inbox that has a hint is of a tile of the core
-hint_of_tile : (core : Core) (t i : ℕ) (hint : Hint) → hint_at core t i ≡ Some hint → IsTile core t
+pub hint_of_tile : (core : Core) (t i : ℕ) (hint : Hint) → hint_at core t i ≡ Some hint → IsTile core t
 hint_of_tile core t i hint there = elim (cases_lt t (length core.tiles)) [
   | inl within ↦ within
   | inr past ↦

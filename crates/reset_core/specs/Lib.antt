@@ -22,3 +22,16 @@ pub mod Runs
 pub mod Schedule
 pub mod Laws
 pub mod Stored
+pub mod Codes
+pub mod TileSet
+pub mod WorkTable
+pub mod Replica
+pub mod Telling
+pub mod Settling
+pub mod Marks
+pub mod Renewing
+pub mod Parts
+pub mod Sweeping
+pub mod MergeSteps
+pub mod Closing
+pub mod Scheduling

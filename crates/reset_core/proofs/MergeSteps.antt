@@ -1,0 +1,406 @@
+-- A merge, one step after the other: from what each call did follows what the merge did.
+use Rattle.std.proofs.Common.{◌≡◌, ℕ, ◌<◌, ◌≤◌, max, false, Bool, List, [], ◌∷◌, length, replicate, refl, sym, ◌∙◌}
+use Rattle.std.proofs.Common.{ap, subst, arith, inl, inr, ◌⊎◌}
+use Rattle.std.specs.Prelude.{IsTrue, IsErrOf, Err}
+use Rattle.std.proofs.lemmas.Bool.{cases_lt, cases_eq}
+use Rattle.grid_core.specs.declared.pixel.Pixel.{Pixel}
+use Rattle.grid_core.specs.Raster.{Raster, IsInside, value_at}
+use Rattle.grid_core.specs.Path.{Inside}
+use Rattle.grid_core.specs.Tiles.{Tiles, tile_of, count_of}
+use Rattle.grid_core.proofs.Tilings.{each_pixel_in_one_tile}
+use Rattle.stroke_lattice.specs.State.{State, StateFits, AreCompatible, IsJoin, IsLive, IsLiveTag, IsLeastClash}
+use Rattle.grid_core.specs.declared.conn.Conn.{Conn}
+use Rattle.stroke_lattice.specs.Change.{Turnover}
+use Rattle.stroke_lattice.specs.declared.error.StateError.{StateError}
+use Rattle.stroke_lattice.specs.declared.error.StateError.TheVariants as state_errors
+use Rattle.stroke_lattice.proofs.Joins.{one_seed, join_is_union}
+use Rattle.stroke_lattice.proofs.Joining.{joined}
+use Rattle.marker_tiles.specs.Marker.{IsMarker, IsMarkedAt}
+use Rattle.marker_tiles.specs.Kept.{IsMarkerOf}
+use Rattle.tile_generations.specs.Generations.{max_generation}
+use Rattle.reset_core.specs.declared.error.CoreError.{CoreError}
+use Rattle.reset_core.specs.declared.error.CoreError.TheVariants.{GenerationsSpent, Memory}
+use Rattle.reset_core.specs.Codes.{refused_state}
+use Rattle.reset_core.specs.Work.{Core, TileWork, domain, tiling, mask_at, image_at, IsTile, work_at}
+use Rattle.reset_core.specs.Hits.{IsInTile, LeadTo, IsHit, TouchesHit}
+use Rattle.reset_core.specs.Merge.{HasRisen, IsReset, IsKept, IsMerged, IsRefused, IsAcceptable}
+use Rattle.reset_core.specs.Invariant.{IsSound}
+use Rattle.reset_core.specs.TileSet.{Has}
+use Rattle.reset_core.specs.Renewing.{IsPixelOf, IsTileReset, IsTileKept, TouchesMarked, HasRisenIn, IsUnder, row_at}
+use Rattle.reset_core.specs.Renewing.{AreReset, IsRaisedUnder, IsDirtyIf}
+use Rattle.reset_core.specs.Replica.{Parts, core_of, IsStored}
+use Rattle.reset_core.specs.MergeSteps.{IsMarked, HasSpentMark, IsGrown, AreMarkedReset, IsRaisedByBirths, IsRenewed}
+use Rattle.reset_core.specs.Image.{IsOfSize}
+use Rattle.reset_core.specs.Marks.{AreHits, IsCoreOf}
+use Rattle.reset_core.proofs.Storing.{empty_still}
+use Rattle.reset_core.proofs.RenewingResets.{reset_stays}
+use Rattle.reset_core.proofs.Merging.{merge_keeps_sound}
+use Rattle.reset_core.proofs.Resets.{one_refusal}
+
+-- ---- tiles that are hit
+
+tile_of_pixel_is_tile : (core : Core) (t : ℕ) (p : Pixel) → IsSound core → IsInTile core t p → IsTile core t
+tile_of_pixel_is_tile core t p sound in_tile =
+    let in_one = (each_pixel_in_one_tile (tiling core) p sound.shape.tiled in_tile.inside).0 in
+    let count = sound.shape.tiles in
+    let is_tile : IsTile core (tile_of (tiling core) p) = omega (arith, in_one, count) in
+    subst (IsTile core) in_tile.tile is_tile
+
+hit_is_tile : (core : Core) (after : State) (list : List ℕ) (t : ℕ) → IsSound core → LeadTo core after list t
+    → IsTile core t
+hit_is_tile core after [] t sound (p, in_tile, loses) = tile_of_pixel_is_tile core t p sound in_tile
+hit_is_tile core after (u ∷ list) t sound (lead, linked) = tile_of_pixel_is_tile core t linked.q sound linked.to
+
+module _ (core : Core) (delta : State) (marks : List Bool) (sound : IsSound core) (marked : IsMarked core delta marks)
+  where
+    marked_is_tile : (t : ℕ) → Has marks t → IsTile core t
+    marked_is_tile t has =
+        let count = marked.count in
+        let tiles = sound.shape.tiles in
+        omega (arith, has.0, count, tiles)
+
+    is_mark : (t : ℕ) → IsTile core t → t < length marks
+    is_mark t is_tile =
+        let count = marked.count in
+        let tiles = sound.shape.tiles in
+        omega (arith, is_tile, count, tiles)
+
+    pub hit_is_marked : (after : State) → IsJoin core.state delta after → (t : ℕ) → IsHit core after t → Has marks t
+    hit_is_marked after join t hit =
+        (marked.hits after join t (is_mark t (hit_is_tile core after hit.0 t sound hit.1))).1 hit
+
+    pub marked_is_hit : (after : State) → IsJoin core.state delta after → (t : ℕ) → Has marks t → IsHit core after t
+    marked_is_hit after join t has = (marked.hits after join t has.0).0 has
+
+    -- where no marked tile has spent its generations, each has one left
+    pub marked_are_unspent : (HasSpentMark core marks → ⊥) → (t : ℕ) → Has marks t
+        → (work_at core t).generation < max_generation
+    marked_are_unspent none t has = elim (cases_lt (work_at core t).generation max_generation) [
+      | inl below ↦ below
+      | inr above ↦
+          let bound = sound.shape.generations t (marked_is_tile t has) in
+          absurd (none (t, has, omega (arith, above, bound)))
+    ]
+
+    -- ---- refusals
+
+    pub spent_is_refused : HasSpentMark core marks → IsRefused core delta GenerationsSpent
+    spent_is_refused spent =
+        let join = joined core.state delta marked.compatible in (
+          marked.fits,
+          record {
+            joined = join.0;
+            join = join.1;
+            t = spent.0;
+            is_tile = marked_is_tile spent.0 spent.1;
+            hit = marked_is_hit join.0 join.1 spent.0 spent.1;
+            spent = spent.2;
+          },
+        )
+
+    pub unspent_is_acceptable : (HasSpentMark core marks → ⊥) → IsAcceptable core delta
+    unspent_is_acceptable none = record {
+      fits = marked.fits;
+      compatible = marked.compatible;
+      unspent = λ spent. none (spent.t, hit_is_marked spent.joined spent.join spent.t spent.hit, spent.spent);
+    }
+
+-- where nothing clashes, a state takes a delta unless memory runs out
+pub only_memory : (a b : State) (why : StateError)
+    → ((tag : ℕ) → why ≡ state_errors.Conflict tag → IsLeastClash a b tag) → AreCompatible a b
+    → refused_state why ≡ Memory
+only_memory a b (state_errors.Conflict tag) clashes compatible = absurd (compatible tag (clashes tag refl).0)
+only_memory a b state_errors.Memory clashes compatible = refl
+
+-- ---- what is merged
+
+-- the core with other strokes, another image and other work
+abbrev pub renewed_core : Core → State → Raster → List TileWork → Core
+renewed_core before state image work = record before { state = state; image = image; tiles = work }
+
+module _ (before : Core) (delta : State) (turnover : Turnover) (marks : List Bool) (state : State)
+    (marker middle new : Raster) (between after : List TileWork) (sound : IsSound before)
+    (marked : IsMarked before delta marks) (none_spent : HasSpentMark before marks → ⊥)
+    (grown : IsGrown before delta turnover state marker)
+    (reset : AreMarkedReset (tiling before) marks marker before.image middle before.tiles between)
+    (raised : IsRaisedByBirths (tiling before) turnover state marker middle new between after) where
+  is_new_marker : IsMarker (domain before) (mask_at before) state (value_at marker)
+  is_new_marker = grown.marker_is before.conn
+
+  in_middle : (p : Pixel) → Inside (domain before) p → IsInside middle.width middle.height p
+  in_middle p inside =
+      let width = reset.size.width ∙ sound.shape.image.width in
+      let height = reset.size.height ∙ sound.shape.image.height in
+      (omega (arith, width, inside.0), omega (arith, height, inside.1))
+
+  pixel_of_tile : (t : ℕ) (p : Pixel) → IsInTile before t p → IsPixelOf (tiling before) t p
+  pixel_of_tile t p in_tile = record { inside = in_tile.inside; tile = in_tile.tile }
+
+  -- ---- the image
+
+  -- a stroke that makes the marker at a pixel and was not born was there before
+  was_marked : (p : Pixel) (level : ℕ) → IsMarkedAt state p level → (IsUnder state turnover.born p → ⊥)
+      → (IsMarkedAt before.state p level → ⊥) → ⊥
+  was_marked p level is_marked out unmarked =
+      let not_before : IsLiveTag before.state is_marked.tag → ⊥ =
+      λ (seed, live).
+      let same = one_seed seed is_marked.seed
+      (sym (grown.join.first.strokes is_marked.tag seed live.0) ∙ is_marked.live.0) in
+      unmarked (record {
+        tag = is_marked.tag;
+        seed = is_marked.seed;
+        live = subst (IsLive before.state is_marked.tag) same live;
+        covered = is_marked.covered;
+        same_level = is_marked.same_level;
+      }) in
+      out (record {
+        tag = is_marked.tag;
+        seed = is_marked.seed;
+        listed = (grown.change.born is_marked.tag).1 ((is_marked.seed, is_marked.live), not_before);
+        has = is_marked.live.0;
+        covered = is_marked.covered;
+      })
+
+  -- where no stroke was born the new marker is nowhere above the image
+  marker_below_image : (p : Pixel) → Inside (domain before) p → (IsUnder state turnover.born p → ⊥)
+      → value_at marker p ≤ image_at before p
+  marker_below_image p inside out =
+      let (top, is_top, value) = sound.is_marker p inside in
+      let (new_top, is_new_top, new_value) = is_new_marker p inside in
+      let low : new_top ≤ top = elim is_new_top.attained [
+        | inl none ↦ omega (arith, none)
+        | inr is_marked ↦ elim (cases_lt top new_top) [
+          | inl above ↦ absurd (was_marked p new_top is_marked out
+              (λ was. let greatest = is_top.greatest new_top was in omega (arith, greatest, above)))
+          | inr at_most ↦ at_most
+        ]
+      ] in
+      let supported = (sound.supported p inside).0 in
+      omega (arith, low, value, new_value, supported)
+
+  -- a pixel of a tile that is not reset
+  raised_value : (p : Pixel) → Inside (domain before) p → value_at middle p ≡ image_at before p
+      → value_at new p ≡ max (image_at before p) (value_at marker p)
+  raised_value p inside same = elim (cases_eq (value_at new p) (max (image_at before p) (value_at marker p))) [
+    | inl equal ↦ equal
+    | inr differ ↦
+        let out : IsUnder state turnover.born p → ⊥ =
+        λ under. differ (raised.values.under p (in_middle p inside) under ∙ ap (λ v. max v (value_at marker p)) same) in
+        let stays = raised.values.beyond p (in_middle p inside) out in
+        let low = marker_below_image p inside out in
+        omega (arith, stays, same, low)
+  ]
+
+  -- a pixel of a tile that is reset
+  reset_value : (p : Pixel) → Inside (domain before) p → value_at middle p ≡ value_at marker p
+      → value_at new p ≡ value_at marker p
+  reset_value p inside same = elim (cases_eq (value_at new p) (value_at marker p)) [
+    | inl equal ↦ equal
+    | inr differ ↦
+        let out : IsUnder state turnover.born p → ⊥ =
+        λ under.
+        let is_raised = raised.values.under p (in_middle p inside) under in
+        differ (omega (arith, is_raised, same)) in
+        raised.values.beyond p (in_middle p inside) out ∙ same
+  ]
+
+  -- ---- the work at the tiles
+
+  touches_hit : (t : ℕ) → TouchesMarked (tiling before) (Has marks) t → TouchesHit before state t
+  touches_hit t touches = record {
+    u = touches.u;
+    is_tile = marked_is_tile before delta marks sound marked touches.u touches.marked;
+    hit = marked_is_hit before delta marks sound marked state grown.join touches.u touches.marked;
+    touching = touches.touching;
+  }
+
+  touches_marked : (t : ℕ) → TouchesHit before state t → TouchesMarked (tiling before) (Has marks) t
+  touches_marked t touches = record {
+    u = touches.u;
+    marked = hit_is_marked before delta marks sound marked state grown.join touches.u touches.hit;
+    touching = touches.touching;
+  }
+
+  row_is_tile : (t : ℕ) → IsTile before t → t < length between
+  row_is_tile t is_tile = let count = reset.count in omega (arith, is_tile, count)
+
+  -- a tile that is reset
+  tile_reset : (t : ℕ) → IsTile before t
+      → IsTileReset (tiling before) marker middle (row_at before.tiles t) (row_at between t) t
+      → IsReset before (value_at marker) (renewed_core before state new after) t
+  tile_reset t is_tile is_reset = record {
+    work =
+        reset_stays (HasRisenIn (tiling before) t middle new) (row_at before.tiles t) (row_at between t)
+        (row_at after t) is_reset.work (raised.dirty t (row_is_tile t is_tile));
+    image = λ p in_tile. reset_value p in_tile.inside (is_reset.values p (pixel_of_tile t p in_tile));
+  }
+
+  -- a tile that is kept
+  module _ (t : ℕ) (is_tile : IsTile before t)
+      (kept : IsTileKept (tiling before) (Has marks) before.image middle (row_at before.tiles t) (row_at between t) t)
+    where
+      risen : HasRisenIn (tiling before) t middle new → HasRisen before (renewed_core before state new after) t
+      risen rises =
+          let same = kept.values rises.p rises.of_tile in
+          let rose = rises.rose in (
+            rises.p,
+            record { inside = rises.of_tile.inside; tile = rises.of_tile.tile },
+            omega (arith, same, rose),
+          )
+
+      has_risen : HasRisen before (renewed_core before state new after) t → HasRisenIn (tiling before) t middle new
+      has_risen (p, in_tile, rose) =
+          let same = kept.values p (pixel_of_tile t p in_tile) in
+          record { p = p; of_tile = pixel_of_tile t p in_tile; rose = omega (arith, same, rose) }
+
+      why_dirty : IsTrue (row_at after t).dirty
+          → IsTrue (work_at before t).dirty ⊎ HasRisen before (renewed_core before state new after) t
+          ⊎ TouchesHit before state t
+      why_dirty dirty = elim ((raised.dirty t (row_is_tile t is_tile)).dirty.0 dirty) [
+        | inl was ↦ elim (kept.work.dirty.0 was) [
+          | inl old ↦ inl old
+          | inr touches ↦ inr (inr (touches_hit t touches))
+        ]
+        | inr rises ↦ inr (inl (risen rises))
+      ]
+
+      is_dirty : IsTrue (work_at before t).dirty ⊎ HasRisen before (renewed_core before state new after) t
+          ⊎ TouchesHit before state t → IsTrue (row_at after t).dirty
+      is_dirty (inl old) = (raised.dirty t (row_is_tile t is_tile)).dirty.1 (inl (kept.work.dirty.1 (inl old)))
+      is_dirty (inr (inl rises)) = (raised.dirty t (row_is_tile t is_tile)).dirty.1 (inr (has_risen rises))
+      is_dirty (inr (inr touches)) =
+          (raised.dirty t (row_is_tile t is_tile)).dirty.1 (inl (kept.work.dirty.1 (inr (touches_marked t touches))))
+
+      tile_kept : IsKept before (value_at marker) (renewed_core before state new after) t
+      tile_kept = record {
+        work =
+            (raised.dirty t (row_is_tile t is_tile)).rest
+            ∙ ap (λ (w : TileWork). record w { dirty = (row_at after t).dirty }) kept.work.rest;
+        dirty = (why_dirty, is_dirty);
+        image = λ p in_tile. raised_value p in_tile.inside (kept.values p (pixel_of_tile t p in_tile));
+      }
+
+  each_tile : (t : ℕ) → IsTile before t
+      → (IsHit before state t × IsReset before (value_at marker) (renewed_core before state new after) t)
+      ⊎ ((IsHit before state t → ⊥) × IsKept before (value_at marker) (renewed_core before state new after) t)
+  each_tile t is_tile = elim (reset.each t is_tile) [
+    | inl (has, is_reset) ↦
+        inl (marked_is_hit before delta marks sound marked state grown.join t has, tile_reset t is_tile is_reset)
+    | inr (spared, kept) ↦ inr (
+      λ hit. spared (hit_is_marked before delta marks sound marked state grown.join t hit),
+      tile_kept t is_tile kept,
+    )
+  ]
+
+  pub steps_merge : IsMerged before delta turnover (renewed_core before state new after)
+  steps_merge = record {
+    fits = marked.fits;
+    unspent = λ t hit. marked_are_unspent before delta marks sound marked none_spent t
+        (hit_is_marked before delta marks sound marked state grown.join t hit);
+    join = grown.join;
+    change = grown.change;
+    marker = value_at marker;
+    is_marker = is_new_marker;
+    each = each_tile;
+    size = record {
+      width = raised.size.width ∙ reset.size.width;
+      height = raised.size.height ∙ reset.size.height;
+      filled = raised.size.filled;
+    };
+    count = raised.count ∙ reset.count;
+    rest = refl;
+  }
+
+-- a join of strokes that fit has strokes that fit
+pub join_fits : (core : Core) (delta state : State) → IsSound core
+    → StateFits core.mask.width core.mask.height delta → IsJoin core.state delta state
+    → StateFits core.mask.width core.mask.height state
+join_fits core delta state sound fits join tag seed has =
+    elim ((join_is_union core.state delta state join).strokes tag seed has) [
+      | inl old ↦ sound.shape.strokes tag seed old
+      | inr given ↦ fits tag seed given
+    ]
+
+-- ---- what is stored
+
+module _ (before after : Parts) (delta : State) (turnover : Turnover) (stored : IsStored before)
+    (renewed : IsRenewed before delta turnover after) where
+  same_core : renewed_core (core_of before) after.state after.image after.work ≡ core_of after
+  same_core =
+      let core = renewed_core (core_of before) after.state after.image after.work in
+      ap (λ (m : Raster). record core { mask = m }) (sym renewed.mask)
+      ∙ ap (λ (t : Tiles). record core { mask = after.kept.mask; side = t.side }) (sym renewed.tiling_is)
+      ∙ ap (λ (conn : Conn). record core { mask = after.kept.mask; side = after.kept.tiling.side; conn = conn })
+      (sym renewed.conn)
+      ∙ ap (λ n. record (core_of after) { serial = n }) (sym renewed.serial)
+
+  pub renewed_is_merged : IsMerged (core_of before) delta turnover (core_of after)
+  renewed_is_merged =
+      subst (IsMerged (core_of before) delta turnover) same_core
+      (steps_merge (core_of before) delta turnover renewed.marks after.state after.kept.marker renewed.image.middle
+      after.image renewed.image.between after.work stored.sound renewed.marked renewed.none_spent renewed.grown
+      renewed.image.reset renewed.image.raised)
+
+  same_count : length after.work ≡ length before.work
+  same_count = renewed.image.raised.count ∙ renewed.image.reset.count
+
+  pub renewed_is_stored : IsStored after
+  renewed_is_stored = record {
+    sound = merge_keeps_sound (core_of before) (core_of after) delta turnover stored.sound renewed_is_merged;
+    marks =
+        subst (λ (m : Raster). IsMarkerOf m after.state after.kept.marker) (sym renewed.mask) renewed.grown.marker_is;
+    no_marks =
+        renewed.cleared
+        ∙ ap (λ n. replicate n false) (renewed.marked.count ∙ sym stored.sound.shape.tiles ∙ sym same_count);
+    none_queued = renewed.queue ∙ empty_still before.work after.work before.queue same_count stored.none_queued;
+  }
+
+-- ---- what the calls say
+
+pub hits_are_marked : (before : Parts) (core : Core) (tiles : Tiles) (delta : State) (marks : List Bool)
+    → core_of before ≡ core → tiles ≡ tiling (core_of before) → StateFits core.mask.width core.mask.height delta
+    → AreCompatible core.state delta → length marks ≡ count_of tiles
+    → ((k : Core) → IsCoreOf k tiles before.image before.conn before.state → AreHits k delta marks)
+    → IsMarked (core_of before) delta marks
+hits_are_marked before core tiles delta marks view tiles_are fits compatible count hits = record {
+  fits = subst (λ (k : Core). StateFits k.mask.width k.mask.height delta) (sym view) fits;
+  compatible = subst (λ (k : Core). AreCompatible k.state delta) (sym view) compatible;
+  count = count ∙ ap count_of tiles_are;
+  hits =
+      hits (core_of before)
+      (record { tiling_is = sym tiles_are; image_is = refl; conn_is = refl; state_is = refl });
+}
+
+module _ (tiles known : Tiles) (tiles_are : tiles ≡ known) (marker new_marker : Raster)
+    (marker_is : marker ≡ new_marker) where
+  pub marked_are_reset : (marks : List Bool) (old new : Raster) (work after : List TileWork) → IsOfSize old new
+      → length after ≡ length work → AreReset tiles (Has marks) marker old new work after
+      → AreMarkedReset known marks new_marker old new work after
+  marked_are_reset marks old new work after size count each = record {
+    size = size;
+    count = count;
+    each =
+        subst (λ (ts : Tiles). AreReset ts (Has marks) new_marker old new work after) tiles_are
+        (subst (λ (m : Raster). AreReset tiles (Has marks) m old new work after) marker_is each);
+  }
+
+  pub births_are_raised : (turnover : Turnover) (state : State) (old new : Raster) (work after : List TileWork)
+      (born : List ℕ) → born ≡ turnover.born → IsOfSize old new → length after ≡ length work
+      → IsRaisedUnder state born marker old new
+      → ((t : ℕ) → t < length work → IsDirtyIf (HasRisenIn tiles t old new) (row_at work t) (row_at after t))
+      → IsRaisedByBirths known turnover state new_marker old new work after
+  births_are_raised turnover state old new work after born born_is size count values risen = record {
+    size = size;
+    count = count;
+    values =
+        subst (λ (m : Raster). IsRaisedUnder state turnover.born m old new) marker_is
+        (subst (λ (tags : List ℕ). IsRaisedUnder state tags marker old new) born_is values);
+    dirty =
+        subst (λ (ts : Tiles). (t : ℕ) → t < length work
+        → IsDirtyIf (HasRisenIn ts t old new) (row_at work t) (row_at after t)) tiles_are risen;
+  }
+
+-- a refusal is the answer to each refusal
+pub exactly_this : {T : Type 0} (core : Core) (delta : State) (why : CoreError) → IsRefused core delta why
+    → (e : CoreError) → IsRefused core delta e → IsErrOf {T = T} {E = CoreError} (Err why) e
+exactly_this core delta why is e refused = ap Err (one_refusal core delta why e is refused)

@@ -1,0 +1,450 @@
+-- Schedules: what each step leads to, and how one goes after another.
+use Rattle.std.proofs.Common.{◌≡◌, ℕ, ◌+◌, ◌<◌, ◌≤◌, Bool, true, false, List, [], ◌∷◌, ◌++◌, length, take, drop}
+use Rattle.std.proofs.Common.{get_or, set, refl, sym, subst, ap, ◌∙◌, arith, inl, inr}
+use Rattle.std.specs.Prelude.{◌⊎◌, ◌≢◌, Option, Some, None, Result, Ok, Err, OnOk, OnErr, slice_get}
+use Rattle.std.specs.Borrow.{Bor}
+use Rattle.std.specs.Slice.{IsItemAt}
+use Rattle.std.proofs.lemmas.Option.{slice_get_past, slice_get_read}
+use Rattle.std.proofs.lemmas.List.{append-nil, length_push, take_more, take-append-drop, length-set, set-set}
+use Rattle.std.proofs.lemmas.List.{set-get_or}
+use Rattle.stroke_lattice.specs.State.{State}
+use Rattle.stroke_lattice.specs.Change.{Turnover}
+use Rattle.tile_generations.specs.declared.ticket.Ticket.{Ticket}
+use Rattle.tile_generations.specs.Jobs.{Job, Swept, IsSwept}
+use Rattle.reset_core.specs.declared.error.CoreError.{CoreError}
+use Rattle.reset_core.specs.declared.error.CoreError.TheVariants as errors
+use Rattle.reset_core.specs.declared.answers.Back.{Back}
+use Rattle.reset_core.specs.declared.answers.Handed.{Handed}
+use Rattle.reset_core.specs.declared.step.Step.{Step}
+use Rattle.reset_core.specs.declared.step.Step.TheVariants as steps
+use Rattle.reset_core.specs.Work.{Core, TileWork, work_at, with_work, idle}
+use Rattle.reset_core.specs.Merge.{IsMerged, IsRefused, IsAcceptable}
+use Rattle.reset_core.specs.Sweeps.{IsTaken, IsGivenBack, IsAbandoned, IsReady, IsOut, taken}
+use Rattle.reset_core.specs.Hints.{IsHanded}
+use Rattle.reset_core.specs.Events.{Event, Answer, Happens, Merge, Take, GiveBack, Abandon, Hand}
+use Rattle.reset_core.specs.Events.{OfMerge, OfTake, OfGiveBack, OfAbandon, OfHand}
+use Rattle.reset_core.specs.Runs.{Entry, jobs_of, abandons_of}
+use Rattle.reset_core.specs.Schedule.{Progress, Ran, started, passed, after_event, IsStep, AreSteps, IsStopped, ran_of}
+use Rattle.reset_core.specs.Scheduling.{Kept, Agrees, LeadsOn, HaveRun}
+use Rattle.reset_core.proofs.Cores.{work_there}
+use Rattle.reset_core.proofs.Settling.{jobs_append}
+
+-- ---- one more step
+
+abandons_push : (log : List Entry) (entry : Entry)
+    → abandons_of (log ++ entry ∷ []) ≡ abandons_of log + abandons_of (entry ∷ [])
+abandons_push [] entry = omega arith
+abandons_push ((Abandon ticket, OfAbandon true) ∷ log) entry =
+    let rest = abandons_push log entry in
+    omega (arith, rest)
+abandons_push (first ∷ log) entry = abandons_push log entry
+
+-- a step that adds nothing
+agrees_passed : (a : Progress) (now : Core) (kept : Kept) (n : ℕ) → Agrees now kept n a
+    → Agrees now kept (n + 1) (passed a)
+agrees_passed a now kept n so_far = record {
+  core_is = so_far.core_is;
+  count_is = ap (λ m. m + 1) so_far.count_is;
+  results_are = so_far.results_are;
+  jobs_are = so_far.jobs_are;
+  abandons_are = so_far.abandons_are;
+  accepted_are = so_far.accepted_are;
+  refused_are = so_far.refused_are;
+}
+
+-- a step that adds an event
+agrees_after : (a b : Progress) (before after : Core) (kept more : Kept) (n : ℕ) (entry : Entry)
+    → Agrees before kept n a → b.count ≡ a.count + 1 → b.core ≡ after → b.log ≡ a.log ++ entry ∷ []
+    → b.results ≡ more.results → length more.results ≡ length kept.results + jobs_of (entry ∷ [])
+    → more.abandons ≡ kept.abandons + abandons_of (entry ∷ []) → b.accepted ≡ more.accepted
+    → b.refused ≡ more.refused → Agrees after more (n + 1) b
+agrees_after a b before after kept more n entry so_far count core log results jobs abandons accepted refused = record {
+  core_is = core;
+  count_is = let was = so_far.count_is in omega (arith, was, count);
+  results_are = results;
+  jobs_are =
+      let now = ap jobs_of log in
+      let one_more = jobs_append a.log (entry ∷ []) in
+      let was = so_far.jobs_are in
+      omega (arith, now, one_more, was, jobs);
+  abandons_are =
+      let now = ap abandons_of log in
+      let one_more = abandons_push a.log entry in
+      let was = so_far.abandons_are in
+      omega (arith, now, one_more, was, abandons);
+  accepted_are = accepted;
+  refused_are = refused;
+}
+
+-- an event that adds no result, and is no edit
+event_agrees : (a : Progress) (before after : Core) (kept more : Kept) (n : ℕ) (event : Event) (answer : Answer)
+    → Agrees before kept n a → jobs_of ((event, answer) ∷ []) ≡ 0
+    → more ≡ record kept { abandons = kept.abandons + abandons_of ((event, answer) ∷ []) }
+    → Agrees after more (n + 1) (after_event a after event answer)
+event_agrees a before after kept more n event answer so_far no_job same =
+    let adds : Kept = record kept { abandons = kept.abandons + abandons_of ((event, answer) ∷ []) } in
+    subst (λ (k : Kept). Agrees after k (n + 1) (after_event a after event answer)) (sym same)
+    (agrees_after a (after_event a after event answer) before after kept adds n (event, answer) so_far refl refl refl
+    so_far.results_are (omega (arith, no_job)) refl so_far.accepted_are so_far.refused_are)
+
+-- the same event at the core of a schedule that agrees
+happens_there : (a : Progress) (before after : Core) (kept : Kept) (n : ℕ) (event : Event) (answer : Answer)
+    → Agrees before kept n a → Happens before event answer after → Happens a.core event answer after
+happens_there a before after kept n event answer so_far happens =
+    subst (λ (core : Core). Happens core event answer after) (sym so_far.core_is) happens
+
+result_there : (a : Progress) (now : Core) (kept : Kept) (n place : ℕ) (result : Option Swept) → Agrees now kept n a
+    → slice_get kept.results place ≡ result → slice_get a.results place ≡ result
+result_there a now kept n place result so_far there =
+    ap (λ results. slice_get results place) so_far.results_are ∙ there
+
+-- ---- what a look-up gives
+
+pub none_there : {X : Type 0} (o : Option X) → ((x : X) → o ≡ Some x → ⊥) → o ≡ None
+none_there None never = refl
+none_there (Some x) never = absurd (never x refl)
+
+pub no_item : (xs : List Swept) (i : ℕ) (item : Option (Bor Swept)) → IsItemAt xs i item
+    → ((x : Bor Swept) → item ≡ Some x → ⊥) → slice_get xs i ≡ None
+no_item xs i None is_item never = slice_get_past xs i is_item.3
+no_item xs i (Some x) is_item never = absurd (never x refl)
+
+pub item_there : (xs : List Swept) (i : ℕ) (item : Option (Bor Swept)) (x : Bor Swept) → IsItemAt xs i item
+    → item ≡ Some x → slice_get xs i ≡ Some x.now
+item_there xs i item x is_item same =
+    let here : IsItemAt xs i (Some x) = subst (IsItemAt xs i) same is_item in
+    slice_get_read xs (length xs) i x.now refl here.3.0 here.1
+
+-- what a function returns where it fails
+
+pub on_err : {T E P : Type 0} (r : Result T E) → P → OnErr r P
+on_err (Ok x) holds = tt
+on_err (Err e) holds = holds
+
+pub on_ok : {T E P : Type 0} (r : Result T E) → P → OnOk r P
+on_ok (Ok x) holds = holds
+on_ok (Err e) holds = tt
+
+pub on_ok_at_err : {T E : Type 0} (P : Type 0) (r : Result T E) (e : E) → r ≡ Err e → OnOk r P
+on_ok_at_err {T} {E} P r e same = subst (λ (s : Result T E). OnOk s P) (sym same) tt
+
+-- ---- edits
+
+pub edit_accepted : (n : ℕ) (delta : State) (before after : Core) (kept : Kept) (turnover : Turnover)
+    → IsMerged before delta turnover after
+    → LeadsOn (steps.Edit delta) n before kept after (record kept { accepted = kept.accepted ++ n ∷ [] })
+edit_accepted n delta before after kept turnover merged = record {
+  next = λ a so_far.
+      let event = Merge delta in
+      let answer = OfMerge turnover in
+      let b : Progress = record (after_event a after event answer) {
+        accepted = a.accepted ++ a.count ∷ [];
+        merged = a.merged ++ delta ∷ [];
+      } in
+      let numbers : a.accepted ++ a.count ∷ [] ≡ kept.accepted ++ n ∷ [] =
+      ap (λ ns. ns ++ a.count ∷ []) so_far.accepted_are ∙ ap (λ m. kept.accepted ++ m ∷ []) so_far.count_is in (
+        b,
+        inl (turnover, happens_there a before after kept n event answer so_far merged, refl),
+        agrees_after a b before after kept (record kept { accepted = kept.accepted ++ n ∷ [] }) n (event, answer) so_far
+            refl refl refl so_far.results_are (omega arith) (omega arith) numbers so_far.refused_are,
+      );
+}
+
+edit_refused : (n : ℕ) (delta : State) (now : Core) (kept : Kept) (why : CoreError) → IsRefused now delta why
+    → LeadsOn (steps.Edit delta) n now kept now (record kept { refused = kept.refused ++ (n, why) ∷ [] })
+edit_refused n delta now kept why refused = record {
+  next = λ a so_far.
+      let b : Progress = record (passed a) { refused = a.refused ++ (a.count, why) ∷ [] } in
+      let reasons : a.refused ++ (a.count, why) ∷ [] ≡ kept.refused ++ (n, why) ∷ [] =
+      ap (λ rs. rs ++ (a.count, why) ∷ []) so_far.refused_are
+      ∙ ap (λ m. kept.refused ++ (m, why) ∷ []) so_far.count_is in (
+        b,
+        inr (why, subst (λ (core : Core). IsRefused core delta why) (sym so_far.core_is) refused, refl),
+        record {
+          core_is = so_far.core_is;
+          count_is = ap (λ m. m + 1) so_far.count_is;
+          results_are = so_far.results_are;
+          jobs_are = so_far.jobs_are;
+          abandons_are = so_far.abandons_are;
+          accepted_are = so_far.accepted_are;
+          refused_are = reasons;
+        },
+      );
+}
+
+-- what a merge answers where it does not take the delta, and the reason is not memory
+pub edit_turned_down : (n : ℕ) (delta : State) (before after : Core) (kept more : Kept) (why : CoreError)
+    → IsRefused before delta why ⊎ ((why ≡ errors.Memory) × IsAcceptable before delta) → why ≢ errors.Memory
+    → after ≡ before → more ≡ record kept { refused = kept.refused ++ (n, why) ∷ [] }
+    → LeadsOn (steps.Edit delta) n before kept after more
+edit_turned_down n delta before after kept more why (inl refused) other same_core same =
+    subst (λ (core : Core). LeadsOn (steps.Edit delta) n before kept core more) (sym same_core)
+    (subst (λ (k : Kept). LeadsOn (steps.Edit delta) n before kept before k) (sym same)
+    (edit_refused n delta before kept why refused))
+edit_turned_down n delta before after kept more why (inr (memory, acceptable)) other same_core same =
+    absurd (other memory)
+
+-- ---- takes
+
+pub take_gives_none : (n t : ℕ) (before after : Core) (kept : Kept) → IsTaken before t None after
+    → LeadsOn (steps.Take t) n before kept after kept
+take_gives_none n t before after kept is_taken = record {
+  next = λ a so_far.
+      let event = Take t in
+      let answer = OfTake None in
+      let b : Progress = record (after_event a after event answer) { results = a.results ++ [] } in (
+        b,
+        (None, [], happens_there a before after kept n event answer so_far is_taken, refl, refl),
+        agrees_after a b before after kept kept n (event, answer) so_far refl refl refl
+            (append-nil a.results ∙ so_far.results_are) (omega arith) (omega arith) so_far.accepted_are
+            so_far.refused_are,
+      );
+}
+
+pub take_gives_job : (n t : ℕ) (before after : Core) (kept : Kept) (job : Job) (swept : Swept)
+    → IsTaken before t (Some job) after → IsSwept swept → swept.job ≡ job
+    → LeadsOn (steps.Take t) n before kept after (record kept { results = kept.results ++ swept ∷ [] })
+take_gives_job n t before after kept job swept is_taken is_swept same = record {
+  next = λ a so_far.
+      let event = Take t in
+      let answer = OfTake (Some job) in
+      let b : Progress = record (after_event a after event answer) { results = a.results ++ swept ∷ [] } in
+      let longer = length_push kept.results swept in (
+        b,
+        (
+          Some job,
+          swept ∷ [],
+          happens_there a before after kept n event answer so_far is_taken,
+          (swept, is_swept, same, refl),
+          refl,
+        ),
+        agrees_after a b before after kept (record kept { results = kept.results ++ swept ∷ [] }) n (event, answer)
+            so_far refl refl refl (ap (λ rs. rs ++ swept ∷ []) so_far.results_are) (omega (arith, longer)) (omega arith)
+            so_far.accepted_are so_far.refused_are,
+      );
+}
+
+-- ---- returns
+
+pub no_result_to_return : (n place : ℕ) (now : Core) (kept : Kept) → slice_get kept.results place ≡ None
+    → LeadsOn (steps.Return place) n now kept now kept
+no_result_to_return n place now kept none = record {
+  next = λ a so_far.
+      (passed a, inr (result_there a now kept n place None so_far none, refl), agrees_passed a now kept n so_far);
+}
+
+pub result_returned : (n place : ℕ) (before after : Core) (kept : Kept) (swept : Swept) (back : Back)
+    → slice_get kept.results place ≡ Some swept → IsSwept swept → IsGivenBack before swept back after
+    → LeadsOn (steps.Return place) n before kept after kept
+result_returned n place before after kept swept back there is_swept given = record {
+  next = λ a so_far.
+      let event = GiveBack swept in
+      let answer = OfGiveBack back in (
+        after_event a after event answer,
+        inl (
+          swept,
+          result_there a before kept n place (Some swept) so_far there,
+          (answer, happens_there a before after kept n event answer so_far (is_swept, given), refl),
+        ),
+        agrees_after a (after_event a after event answer) before after kept kept n (event, answer) so_far refl refl refl
+            so_far.results_are (omega arith) (omega arith) so_far.accepted_are so_far.refused_are,
+      );
+}
+
+-- ---- abandoned jobs
+
+pub no_result_to_abandon : (n place : ℕ) (now : Core) (kept : Kept) → slice_get kept.results place ≡ None
+    → LeadsOn (steps.Abandon place) n now kept now kept
+no_result_to_abandon n place now kept none = record {
+  next = λ a so_far.
+      (passed a, inr (result_there a now kept n place None so_far none, refl), agrees_passed a now kept n so_far);
+}
+
+pub job_abandoned : (n place : ℕ) (before after : Core) (kept : Kept) (swept : Swept)
+    → slice_get kept.results place ≡ Some swept → IsAbandoned before swept.job.ticket true after
+    → LeadsOn (steps.Abandon place) n before kept after (record kept { abandons = kept.abandons + 1 })
+job_abandoned n place before after kept swept there abandoned = record {
+  next = λ a so_far.
+      let event = Abandon swept.job.ticket in
+      let answer = OfAbandon true in (
+        after_event a after event answer,
+        inl (
+          swept,
+          result_there a before kept n place (Some swept) so_far there,
+          (answer, happens_there a before after kept n event answer so_far abandoned, refl),
+        ),
+        agrees_after a (after_event a after event answer) before after kept
+            (record kept { abandons = kept.abandons + 1 }) n (event, answer) so_far refl refl refl so_far.results_are
+            (omega arith) (omega arith) so_far.accepted_are so_far.refused_are,
+      );
+}
+
+pub job_not_out : (n place : ℕ) (before after : Core) (kept : Kept) (swept : Swept)
+    → slice_get kept.results place ≡ Some swept → IsAbandoned before swept.job.ticket false after
+    → LeadsOn (steps.Abandon place) n before kept after kept
+job_not_out n place before after kept swept there not_out = record {
+  next = λ a so_far.
+      let event = Abandon swept.job.ticket in
+      let answer = OfAbandon false in (
+        after_event a after event answer,
+        inl (
+          swept,
+          result_there a before kept n place (Some swept) so_far there,
+          (answer, happens_there a before after kept n event answer so_far not_out, refl),
+        ),
+        agrees_after a (after_event a after event answer) before after kept kept n (event, answer) so_far refl refl refl
+            so_far.results_are (omega arith) (omega arith) so_far.accepted_are so_far.refused_are,
+      );
+}
+
+-- ---- hints
+
+pub hint_handed : (n t place : ℕ) (before after : Core) (kept : Kept) (handed : Handed)
+    → IsHanded before t place handed after → LeadsOn (steps.Hand t place) n before kept after kept
+hint_handed n t place before after kept handed is_handed = record {
+  next = λ a so_far.
+      let event = Hand t place in
+      let answer = OfHand handed in (
+        after_event a after event answer,
+        (answer, happens_there a before after kept n event answer so_far is_handed, refl),
+        agrees_after a (after_event a after event answer) before after kept kept n (event, answer) so_far refl refl refl
+            so_far.results_are (omega arith) (omega arith) so_far.accepted_are so_far.refused_are,
+      );
+}
+
+-- ---- a job that is taken and abandoned at once
+
+-- what is at a tile once it is taken, and once its job is abandoned
+abbrev work_out : Core → ℕ → TileWork
+work_out before t = record (work_at before t) { dirty = false; out = Some before.serial }
+
+abbrev work_back : TileWork → TileWork
+work_back work = record work { dirty = true; out = None }
+
+-- the work at the tile is as before
+same_work : (before : Core) (t : ℕ) (work : TileWork) → work ≡ work_at before t
+    → with_work (taken before t) t work ≡ record before { serial = (taken before t).serial }
+same_work before t work same =
+    let tiles : set (taken before t).tiles t work ≡ before.tiles =
+    set-set before.tiles t (work_out before t) work ∙ ap (set before.tiles t) same
+    ∙ set-get_or before.tiles t idle in
+    let with_tiles : List TileWork → Core = λ works. record (taken before t) { tiles = works } in
+    ap with_tiles tiles
+
+taken_there : (before : Core) (t : ℕ) → IsReady before t → work_at (taken before t) t ≡ work_out before t
+taken_there before t ready = work_there before t (work_out before t) ready.is_tile
+
+work_is_back : (before : Core) (t : ℕ) → IsReady before t → work_back (work_at (taken before t) t) ≡ work_at before t
+work_is_back before t ready =
+    let put : Bool → Option ℕ → TileWork = λ dirty out. record (work_at before t) { dirty = dirty; out = out } in
+    ap work_back (taken_there before t ready) ∙ ap (λ dirty. put dirty None) (sym ready.dirty)
+    ∙ ap (put (work_at before t).dirty) (sym ready.none_out)
+
+taken_is_out : (before : Core) (t : ℕ) → IsReady before t
+    → IsOut (taken before t) (record { tile = t; generation = (work_at before t).generation; serial = before.serial })
+taken_is_out before t ready = record {
+  is_tile = subst (λ n. t < n) (sym (length-set before.tiles t (work_out before t))) ready.is_tile;
+  generation = ap (λ (work : TileWork). work.generation) (taken_there before t ready);
+  out = ap (λ (work : TileWork). work.out) (taken_there before t ready);
+}
+
+pub taken_and_abandoned : (before mid after : Core) (t : ℕ) (job : Job) (ticket : Ticket) (was_out : Bool)
+    → IsTaken before t (Some job) mid → ticket ≡ job.ticket → IsAbandoned mid ticket was_out after
+    → after ≡ record before { serial = after.serial }
+taken_and_abandoned before mid after t job ticket true (ready, next, same_mid) same (out, same_after) =
+    let back : Core → ℕ → Core = λ core u. with_work core u (work_back (work_at core u)) in
+    let tile : ticket.tile ≡ t = ap (λ (k : Ticket). k.tile) (same ∙ next.ticket) in
+    let restored : after ≡ record before { serial = (taken before t).serial } =
+    same_after ∙ ap (λ (core : Core). back core ticket.tile) same_mid ∙ ap (back (taken before t)) tile
+    ∙ same_work before t (work_back (work_at (taken before t) t)) (work_is_back before t ready) in
+    let with_serial : ℕ → Core = λ serial. record before { serial = serial } in
+    restored ∙ ap with_serial (sym (ap (λ (core : Core). core.serial) restored))
+taken_and_abandoned before mid after t job ticket false (ready, next, same_mid) same (not_out, same_after) =
+    absurd (not_out (subst (λ (core : Core). IsOut core ticket) (sym same_mid)
+    (subst (IsOut (taken before t)) (sym (same ∙ next.ticket)) (taken_is_out before t ready))))
+
+-- ---- step after step
+
+steps_push : (front : List Step) (step : Step) (a b c : Progress) → AreSteps front a b → IsStep step b c
+    → AreSteps (front ++ step ∷ []) a c
+steps_push [] step a b c same is_step = (c, subst (λ (p : Progress). IsStep step p c) same is_step, refl)
+steps_push (first ∷ front) step a b c (next, is_first, rest) is_step =
+    (next, is_first, steps_push front step next b c rest is_step)
+
+pub none_run : (start : Core) (all : List Step) (kept : Kept)
+    → kept ≡ record { results = []; abandons = 0; accepted = []; refused = [] } → HaveRun start all 0 start kept
+none_run start all kept same =
+    subst (λ (k : Kept). HaveRun start all 0 start k) (sym same) (record {
+      reached = started start;
+      are_steps = refl;
+      agrees = record {
+        core_is = refl;
+        count_is = refl;
+        results_are = refl;
+        jobs_are = refl;
+        abandons_are = refl;
+        accepted_are = refl;
+        refused_are = refl;
+      };
+      few = omega arith;
+    })
+
+pub one_more_run : (start : Core) (all : List Step) (n : ℕ) (now after : Core) (kept more : Kept) (step : Step)
+    → HaveRun start all n now kept → n < length all → step ≡ get_or all n step → LeadsOn step n now kept after more
+    → more.abandons ≤ kept.abandons + 1 → HaveRun start all (n + 1) after more
+one_more_run start all n now after kept more step so_far within there leads few =
+    let next = leads.next so_far.reached so_far.agrees in
+    let front : take (n + 1) all ≡ take n all ++ step ∷ [] =
+    take_more all n step within ∙ ap (λ s. take n all ++ s ∷ []) (sym there) in
+    record {
+      reached = next.0;
+      are_steps =
+          subst (λ front. AreSteps front (started start) next.0) (sym front)
+          (steps_push (take n all) step (started start) so_far.reached next.0 so_far.are_steps next.1);
+      agrees = next.2;
+      few = let was = so_far.few in omega (arith, was, few);
+    }
+
+account : (now : Core) (kept : Kept) (n : ℕ) (a : Progress) → Agrees now kept n a
+    → ran_of a ≡ record {
+      jobs = length kept.results;
+      abandons = kept.abandons;
+      accepted = kept.accepted;
+      refused = kept.refused;
+    }
+account now kept n a agrees =
+    let ran : ℕ → ℕ → List ℕ → List (ℕ × CoreError) → Ran = λ jobs abandons accepted refused.
+    record { jobs = jobs; abandons = abandons; accepted = accepted; refused = refused } in
+    ap (λ jobs. ran jobs (abandons_of a.log) a.accepted a.refused) agrees.jobs_are
+    ∙ ap (λ abandons. ran (length kept.results) abandons a.accepted a.refused) agrees.abandons_are
+    ∙ ap (λ numbers. ran (length kept.results) kept.abandons numbers a.refused) agrees.accepted_are
+    ∙ ap (ran (length kept.results) kept.abandons kept.accepted) agrees.refused_are
+
+pub all_run : (start : Core) (all : List Step) (n : ℕ) (now : Core) (kept : Kept) (ran : Ran)
+    → HaveRun start all n now kept → take n all ≡ all
+    → ran ≡ record {
+      jobs = length kept.results;
+      abandons = kept.abandons;
+      accepted = kept.accepted;
+      refused = kept.refused;
+    }
+    → (end : Progress) × AreSteps all (started start) end × (ran ≡ ran_of end) × (now ≡ end.core)
+all_run start all n now kept ran so_far whole same =
+    let end = so_far.reached in
+    let agrees = so_far.agrees in (
+      end,
+      subst (λ done. AreSteps done (started start) end) whole so_far.are_steps,
+      same ∙ sym (account now kept n end agrees),
+      sym agrees.core_is,
+    )
+
+pub run_stops : (start : Core) (all : List Step) (n : ℕ) (now after : Core) (kept : Kept) → HaveRun start all n now kept
+    → after ≡ record now { serial = after.serial } → IsStopped start all after
+run_stops start all n now after kept so_far same = record {
+  done = take n all;
+  left = drop n all;
+  parts = sym (take-append-drop n all);
+  reached = so_far.reached;
+  are_steps = so_far.are_steps;
+  core_is = subst (λ (core : Core). after ≡ record core { serial = after.serial }) (sym so_far.agrees.core_is) same;
+}

@@ -1,0 +1,388 @@
+-- Settling: jobs that are abandoned, hints that are handed over, and tiles that are swept, one after another.
+use Rattle.std.proofs.Common.{◌≡◌, ℕ, zero, suc, ◌+◌, ◌-◌, ◌*◌, ◌<◌, ◌≤◌, true, List, [], ◌∷◌, ◌++◌, length}
+use Rattle.std.proofs.Common.{refl, sym, ap, ◌∙◌, subst, arith, set, get_or, IsTrue}
+use Rattle.std.specs.Prelude.{◌≢◌, IsSome, Bool, false, Option, option_map, option_to_list, Some, None, remove, slice_get, if◌then◌else◌}
+use Rattle.std.specs.List.{All}
+use Rattle.border_queues.specs.declared.hint.Hint.{Hint}
+use Rattle.grid_core.specs.Tiles.{tile_of}
+use Rattle.reset_core.specs.Invariant.{IsSound}
+use Rattle.reset_core.proofs.Removals.{taken_was_there}
+use Rattle.std.proofs.lemmas.Nat.{mul-le}
+use Rattle.std.proofs.lemmas.List.{append-nil, append_assoc, length-append, length-set, map-append}
+use Rattle.std.proofs.lemmas.List.Edits.{length-remove}
+use Rattle.std.proofs.lemmas.List.Sums.{sum_by-set, sum_by-le}
+use Rattle.grid_core.specs.Raster.{Raster, IsSized}
+use Rattle.grid_core.specs.Tiles.{Tiles, IsTiled, count_of, columns_of, rows_of}
+use Rattle.grid_core.proofs.Spans.{spans-le}
+use Rattle.tile_generations.specs.declared.ticket.Ticket.{Ticket}
+use Rattle.reset_core.specs.declared.answers.Handed.{Handed}
+use Rattle.reset_core.specs.declared.answers.Handed.TheVariants.{Raised, Same, Stale, Nothing}
+use Rattle.reset_core.specs.Work.{Core, TileWork, idle, tiling, IsTile, work_at, with_work, IsQuiet}
+use Rattle.reset_core.specs.Sweeps.{IsAbandoned}
+use Rattle.reset_core.specs.Hints.{hint_at, without_hint, raised, IsHanded}
+use Rattle.reset_core.specs.Events.{Merge, Take, GiveBack, Abandon, Hand}
+use Rattle.reset_core.specs.Events.{OfTake, OfAbandon, OfHand}
+use Rattle.reset_core.specs.Runs.{IsSettled, IsCutShort, Entry, IsRun, IsWorkedOff, IsLeast, NoneOut, HasHints, IsDirty}
+use Rattle.reset_core.specs.Runs.{jobs_of, abandons_of, abandoned, tickets_out}
+use Rattle.reset_core.specs.WorkTable.{HasJobOut}
+use Rattle.reset_core.specs.Telling.{burden}
+use Rattle.reset_core.specs.Settling.{waiting_count, AreAbandoned, IsFirstHandedOver, AreHanded, AreWorkedOff}
+use Rattle.reset_core.proofs.Cores.{field_kept}
+use Rattle.reset_core.proofs.Sweeping.{let_go}
+use Rattle.reset_core.proofs.Running.{run_append}
+use Rattle.reset_core.proofs.InPlaceSweeps.{work_goes_on}
+
+-- ---- counts of lists of events
+
+pub jobs_append : (first second : List Entry) → jobs_of (first ++ second) ≡ jobs_of first + jobs_of second
+jobs_append [] second = omega arith
+jobs_append ((Take t, OfTake (Some job)) ∷ log) second =
+    let rest = jobs_append log second in
+    ap (λ n. 1 + n) rest ∙ (let e : 1 + (jobs_of log + jobs_of second) ≡ 1 + jobs_of log + jobs_of second = omega arith in e)
+jobs_append (entry ∷ log) second = jobs_append log second
+
+pub no_jobs_abandoned : (tickets : List Ticket) → jobs_of (abandoned tickets) ≡ 0
+no_jobs_abandoned [] = refl
+no_jobs_abandoned (ticket ∷ tickets) = no_jobs_abandoned tickets
+
+pub abandons_append : (tickets : List Ticket) (second : List Entry)
+    → abandons_of (abandoned tickets ++ second) ≡ length tickets + abandons_of second
+abandons_append [] second = omega arith
+abandons_append (ticket ∷ tickets) second =
+    let rest = abandons_append tickets second in
+    omega (arith, rest)
+
+-- working off abandons nothing
+pub none_abandoned : (before after : Core) (log : List Entry) → IsWorkedOff before log after → abandons_of log ≡ 0
+none_abandoned before after [] works = refl
+none_abandoned before after ((GiveBack swept, answer) ∷ log) (is_next, (next, happens, rest)) =
+    none_abandoned next after log rest
+none_abandoned before after ((Hand t place, answer) ∷ log) (is_next, (next, happens, rest)) =
+    none_abandoned next after log rest
+none_abandoned before after ((Take t, answer) ∷ log) (is_next, (next, happens, rest)) =
+    none_abandoned next after log rest
+none_abandoned before after ((Abandon ticket, answer) ∷ log) (is_next, more) = absurd is_next
+none_abandoned before after ((Merge delta, answer) ∷ log) (is_next, more) = absurd is_next
+
+-- ---- jobs that are abandoned
+
+-- the first tile that is out has the first ticket, and without it the others are left
+pub first_ticket : (k : ℕ) (works : List TileWork) (t serial : ℕ) → t < length works
+    → (get_or works t idle).out ≡ Some serial → ((u : ℕ) → u < t → (get_or works u idle).out ≡ None)
+    → tickets_out k works
+    ≡ record { tile = k + t; generation = (get_or works t idle).generation; serial = serial }
+    ∷ tickets_out k (set works t (let_go (get_or works t idle)))
+first_ticket k [] t serial within out first = absurd (omega (arith, within))
+first_ticket k (work ∷ works) zero serial within out first =
+    let here : k + 0 ≡ k = omega arith in
+    ap (λ o. tickets_out k (record work { out = o } ∷ works)) out
+    ∙ ap (λ n. record { tile = n; generation = work.generation; serial = serial } ∷ tickets_out (k + 1) works) (sym here)
+first_ticket k (work ∷ works) (suc t) serial within out first =
+    let next : k + 1 + t ≡ k + suc t = omega arith in
+    let rest = first_ticket (k + 1) works t serial (omega (arith, within)) out
+    (λ u before. first (suc u) (omega (arith, before))) in
+    let none : work.out ≡ None = first 0 (omega arith) in
+    ap (λ o. tickets_out k (record work { out = o } ∷ works)) none ∙ rest
+    ∙ ap (λ n. record { tile = n; generation = (get_or works t idle).generation; serial = serial }
+    ∷ tickets_out (k + 1) (set works t (let_go (get_or works t idle)))) next
+    ∙ ap (λ o. record { tile = k + suc t; generation = (get_or works t idle).generation; serial = serial }
+    ∷ tickets_out k (record work { out = o } ∷ set works t (let_go (get_or works t idle)))) (sym none)
+
+few_with : (make : ℕ → Ticket) (tickets : List Ticket) (n : ℕ) → length tickets ≤ n → (o : Option ℕ)
+    → length (option_to_list (option_map make o) ++ tickets) ≤ n + 1
+few_with make tickets n few None = omega (arith, few)
+few_with make tickets n few (Some serial) = omega (arith, few)
+
+pub few_tickets : (k : ℕ) (works : List TileWork) → length (tickets_out k works) ≤ length works
+few_tickets k [] = omega arith
+few_tickets k (work ∷ works) =
+    let few = few_with (λ serial. record { tile = k; generation = work.generation; serial = serial })
+    (tickets_out (k + 1) works) (length works) (few_tickets (k + 1) works) work.out in
+    omega (arith, few)
+
+pub no_tickets : (k : ℕ) (works : List TileWork) → ((t : ℕ) → t < length works → (get_or works t idle).out ≡ None)
+    → tickets_out k works ≡ []
+no_tickets k [] none = refl
+no_tickets k (work ∷ works) none =
+    ap (λ o. tickets_out k (record work { out = o } ∷ works)) (none 0 (omega arith))
+    ∙ no_tickets (k + 1) works (λ t within. none (suc t) (omega (arith, within)))
+
+some_out : (serial : ℕ) (o : Option ℕ) → o ≡ Some serial → IsSome o
+some_out serial o some = subst IsSome (sym some) refl
+
+-- where no tile is out, there is no ticket; else the first tile that is out has the first
+pub none_is_out : (core : Core) → ((t : ℕ) → HasJobOut core.tiles t → ⊥) → NoneOut core
+none_is_out core none t within = out_of (work_at core t).out refl where
+  out_of : (o : Option ℕ) → (work_at core t).out ≡ o → (work_at core t).out ≡ None
+  out_of None same = same
+  out_of (Some serial) same = absurd (none t (within, some_out serial (work_at core t).out same))
+
+module _ (core : Core) (t : ℕ) (least : IsLeast (HasJobOut core.tiles) t) where
+  before_none : (u : ℕ) → u < t → (work_at core u).out ≡ None
+  before_none u before = out_of (work_at core u).out refl where
+    out_of : (o : Option ℕ) → (work_at core u).out ≡ o → (work_at core u).out ≡ None
+    out_of None same = same
+    out_of (Some serial) same =
+        let within = least.0.0 in
+        let later = least.1 u (omega (arith, before, within), some_out serial (work_at core u).out same)
+        in absurd (omega (arith, before, later))
+
+  pub first_abandoned : (ticket : Ticket)
+      × (tickets_out 0 core.tiles ≡ ticket ∷ tickets_out 0 (set core.tiles t (let_go (work_at core t))))
+      × IsAbandoned core ticket true (with_work core t (let_go (work_at core t)))
+  first_abandoned = of_out (work_at core t).out refl where
+    of_out : (o : Option ℕ) → (work_at core t).out ≡ o → (ticket : Ticket)
+        × (tickets_out 0 core.tiles ≡ ticket ∷ tickets_out 0 (set core.tiles t (let_go (work_at core t))))
+        × IsAbandoned core ticket true (with_work core t (let_go (work_at core t)))
+    of_out None same = let no : IsSome {T = ℕ} None = subst IsSome same least.0.1 in absurd cc
+    of_out (Some serial) same =
+        let none : 0 + t ≡ t = omega arith in (
+          record { tile = t; generation = (work_at core t).generation; serial = serial },
+          first_ticket 0 core.tiles t serial least.0.0 same before_none
+              ∙ ap (λ n. record { tile = n; generation = (work_at core t).generation; serial = serial }
+              ∷ tickets_out 0 (set core.tiles t (let_go (work_at core t)))) none,
+          (record { is_tile = least.0.0; generation = refl; out = same }, refl),
+        )
+
+-- one job more is abandoned
+pub one_more_abandoned : (before now next : Core) (abandons : ℕ) (ticket : Ticket) → AreAbandoned before now abandons
+    → tickets_out 0 now.tiles ≡ ticket ∷ tickets_out 0 next.tiles → IsAbandoned now ticket true next
+    → AreAbandoned before next (abandons + 1)
+one_more_abandoned before now next abandons ticket so_far first happens = record {
+  done = so_far.done ++ ticket ∷ [];
+  clears =
+      subst (λ log. IsRun before log next)
+      (sym (map-append (λ (x : Ticket). (Abandon x, OfAbandon true)) so_far.done (ticket ∷ [])))
+      (run_append before now next (abandoned so_far.done) ((Abandon ticket, OfAbandon true) ∷ []) so_far.clears
+      (next, happens, refl));
+  parts =
+      so_far.parts ∙ ap (λ l. so_far.done ++ l) first
+      ∙ sym (append_assoc so_far.done (ticket ∷ []) (tickets_out 0 next.tiles));
+  count =
+      let long = length-append so_far.done (ticket ∷ []) in
+      let count = so_far.count in
+      omega (arith, long, count);
+}
+
+-- where no ticket is left, all jobs are abandoned
+pub all_abandoned : (before now : Core) (abandons : ℕ) → AreAbandoned before now abandons → tickets_out 0 now.tiles ≡ []
+    → IsRun before (abandoned (tickets_out 0 before.tiles)) now × (abandons ≡ length (tickets_out 0 before.tiles))
+all_abandoned before now abandons so_far none =
+    let all : tickets_out 0 before.tiles ≡ so_far.done =
+    so_far.parts ∙ ap (λ l. so_far.done ++ l) none ∙ append-nil so_far.done in (
+      subst (λ tickets. IsRun before (abandoned tickets) now) (sym all) so_far.clears,
+      so_far.count ∙ ap length (sym all),
+    )
+
+-- ---- hints that are handed over
+
+module _ (before : Core) (t : ℕ) (first : IsLeast (HasHints before) t) (none_out : NoneOut before) where
+  fewer_without : waiting_count (without_hint before t 0).tiles < waiting_count before.tiles
+  fewer_without =
+      let work : TileWork = record (work_at before t) { inbox = remove (work_at before t).inbox 0 } in
+      let moved = sum_by-set (λ (w : TileWork). length w.inbox) before.tiles t work idle first.0.0 in
+      let some : 0 < length (work_at before t).inbox = some_length (work_at before t).inbox first.0.1 in
+      let less = length-remove (work_at before t).inbox 0 some in
+      omega (arith, moved, less) where
+        some_length : (hints : List Hint) → hints ≢ [] → 0 < length hints
+        some_length [] some = absurd (some refl)
+        some_length (hint ∷ hints) some = omega arith
+
+  none_out_without : NoneOut (without_hint before t 0)
+  none_out_without u within =
+      let work : TileWork = record (work_at before t) { inbox = remove (work_at before t).inbox 0 } in
+      let count = length-set before.tiles t work in
+      field_kept before t work (λ (w : TileWork). w.out) first.0.0 refl u ∙ none_out u (omega (arith, within, count))
+
+  from_without : (handed : Handed) (after : Core) → IsHanded before t 0 handed after
+      → after ≡ without_hint before t 0 → IsFirstHandedOver before after
+  from_without handed after happens same = record {
+    t = t;
+    handed = handed;
+    first = first;
+    happens = happens;
+    none_out = subst NoneOut (sym same) none_out_without;
+    fewer =
+        subst (λ (core : Core). waiting_count core.tiles < waiting_count before.tiles) (sym same) fewer_without;
+    tiling = ap tiling same;
+  }
+
+  module _ (sound : IsSound before) (hint : Hint) (there : hint_at before t 0 ≡ Some hint) where
+    home_is_tile : IsTile (without_hint before t 0) (tile_of (tiling before) hint.to_pixel)
+    home_is_tile =
+        let work : TileWork = record (work_at before t) { inbox = remove (work_at before t).inbox 0 } in
+        let count = length-set before.tiles t work in
+        let home = (sound.hints t hint first.0.0 (taken_was_there (work_at before t).inbox 0 hint there)).to.tile in
+        let within = first.0.0 in
+        omega (arith, count, home, within)
+
+    from_raised : (after : Core) → IsHanded before t 0 Raised after
+        → after ≡ raised (without_hint before t 0) hint → IsFirstHandedOver before after
+    from_raised after happens same =
+        let lost = without_hint before t 0 in
+        let home = tile_of (tiling before) hint.to_pixel in
+        let work : TileWork = record (work_at lost home) { dirty = true } in
+        record {
+          t = t;
+          handed = Raised;
+          first = first;
+          happens = happens;
+          none_out =
+              subst NoneOut (sym same) (λ u within.
+              let count = length-set lost.tiles home work in
+              field_kept lost home work (λ (w : TileWork). w.out) home_is_tile refl u
+              ∙ none_out_without u (omega (arith, within, count)));
+          fewer =
+              let moved = sum_by-set (λ (w : TileWork). length w.inbox) lost.tiles home work idle home_is_tile in
+              let less = fewer_without in
+              subst (λ (core : Core). waiting_count core.tiles < waiting_count before.tiles) (sym same)
+              (omega (arith, moved, less));
+          tiling = ap tiling same;
+        }
+
+  none_there : hint_at before t 0 ≡ None → ⊥
+  none_there none = no_first (work_at before t).inbox first.0.1 none where
+    no_first : (hints : List Hint) → hints ≢ [] → slice_get hints 0 ≡ None → ⊥
+    no_first [] some none = some refl
+    no_first (hint ∷ hints) some none =
+        let there : slice_get (hint ∷ hints) 0 ≡ Some hint = refl in
+        let same : None ≡ Some hint = sym none ∙ there in
+        absurd cc
+
+  pub first_handed : IsSound before → (handed : Handed) (after : Core) → IsHanded before t 0 handed after
+      → IsFirstHandedOver before after
+  first_handed sound Nothing after (none, same) = absurd (none_there none)
+  first_handed sound Stale after (hint, there, absent, same) =
+      from_without Stale after (hint, there, absent, same) same
+  first_handed sound Same after (hint, there, present, low, same) =
+      from_without Same after (hint, there, present, low, same) same
+  first_handed sound Raised after (hint, there, present, above, same) =
+      from_raised sound hint there after (hint, there, present, above, same) same
+
+-- one hint more is handed over
+pub one_more_handed : (before now next : Core) → AreHanded before now → IsFirstHandedOver now next
+    → AreHanded before next
+one_more_handed before now next so_far first = record {
+  log = so_far.log ++ (Hand first.t 0, OfHand first.handed) ∷ [];
+  works =
+      work_goes_on before now next so_far.log ((Hand first.t 0, OfHand first.handed) ∷ []) so_far.works
+      ((so_far.none_out, first.first, refl), (next, first.happens, refl));
+  no_jobs =
+      let more = jobs_append so_far.log ((Hand first.t 0, OfHand first.handed) ∷ []) in
+      let none = so_far.no_jobs in
+      omega (arith, more, none);
+  none_out = first.none_out;
+  tiling = first.tiling ∙ so_far.tiling;
+}
+
+-- ---- tiles that are swept
+
+-- one tile more is swept
+pub one_more_swept : (before now next : Core) (jobs : ℕ) → AreWorkedOff before now jobs
+    → ((log : List Entry) × IsWorkedOff now log next × (jobs_of log ≡ 1)) → NoneOut next
+    → ((u : ℕ) → HasHints next u → ⊥) → tiling next ≡ tiling now → burden next < burden now
+    → AreWorkedOff before next (jobs + 1)
+one_more_swept before now next jobs so_far (log, works, one) none_out no_hints same less = record {
+  log = so_far.log ++ log;
+  works = work_goes_on before now next so_far.log log so_far.works works;
+  count =
+      let more = jobs_append so_far.log log in
+      let count = so_far.count in
+      omega (arith, more, count, one);
+  none_out = none_out;
+  no_hints = no_hints;
+  tiling = same ∙ so_far.tiling;
+  spent = let spent = so_far.spent in omega (arith, spent, less);
+}
+
+-- a core's burden is far below 2^64
+pub bounded_burden : (core : Core) → IsSized core.image → IsTiled (tiling core)
+    → length core.tiles ≡ count_of (tiling core) → burden core + 1 < 18446744073709551616
+bounded_burden core sized tiled count =
+    let t = tiling core in
+    let cells = sum_by-le (λ v. 4294967295 - v) 4294967295 core.image.cells
+    (All-of {P = λ v. 4294967295 - v ≤ 4294967295} (λ v. omega arith) core.image.cells) in
+    let rows = sum_by-le (λ (work : TileWork). if work.dirty then 1 else 0) 1 core.tiles
+    (All-of {P = λ work. (if work.dirty then 1 else 0) ≤ 1} (λ (work : TileWork). at_most_one work.dirty) core.tiles) in
+    let filled = sized.filled in
+    let few = sized.size.pixels_within in
+    let side = tiled.tile_side.at_least in
+    let columns : columns_of t ≤ t.width = spans-le t.width t.side (omega (arith, side)) in
+    let lines : rows_of t ≤ t.height = spans-le t.height t.side (omega (arith, side)) in
+    let tiles : count_of t ≤ t.width * t.height = mul-le (columns_of t) (rows_of t) t.width t.height columns lines in
+    let most = tiled.size.pixels_within in
+    let total : length core.image.cells ≤ 67108864 = omega (arith, filled, few) in
+    let all : length core.image.cells * 4294967295 ≤ 67108864 * 4294967295 =
+    mul-le (length core.image.cells) 4294967295 67108864 4294967295 total (omega arith) in
+    omega (arith, cells, rows, all, tiles, most, count) where
+      at_most_one : (b : Bool) → (if b then 1 else 0) ≤ 1
+      at_most_one true = omega arith
+      at_most_one false = omega arith
+
+      All-of : {X : Type 0} {P : X → Type 0} → ((x : X) → P x) → (xs : List X) → All P xs
+      All-of holds xs = λ k d within. holds (get_or xs k d)
+
+pub same_tiles : (a b : Core) → b.mask ≡ a.mask → b.side ≡ a.side → tiling b ≡ tiling a
+same_tiles a b mask side =
+    let tiles : Raster → ℕ → Tiles = λ m s. record { width = m.width; height = m.height; side = s } in
+    ap (λ m. tiles m b.side) mask ∙ ap (tiles a.mask) side
+
+-- a core at which no job is out, no hint waits and no tile is dirty is quiet
+pub quiet_from : (core : Core) → NoneOut core → ((u : ℕ) → HasHints core u → ⊥) → ((t : ℕ) → IsDirty core t → ⊥)
+    → IsQuiet core
+quiet_from core none_out no_hints clean t within = record {
+  clean = not_dirty (work_at core t).dirty (λ dirty. clean t (within, dirty));
+  none_out = none_out t within;
+  empty = no_hint (work_at core t).inbox (λ some. no_hints t (within, some));
+} where
+  not_dirty : (b : Bool) → (IsTrue b → ⊥) → b ≡ false
+  not_dirty true never = absurd (never refl)
+  not_dirty false never = refl
+
+  no_hint : (hints : List Hint) → (hints ≢ [] → ⊥) → hints ≡ []
+  no_hint [] never = refl
+  no_hint (hint ∷ hints) never = absurd (never (λ none. let e : hint ∷ hints ≡ [] = none in absurd cc))
+
+-- ---- settling
+
+-- where memory is wanted before anything is worked off, the jobs that were out are abandoned
+pub cut_before_work : (before after : Core) → IsRun before (abandoned (tickets_out 0 before.tiles)) after → NoneOut after
+    → (log : List Entry) × IsCutShort before log after
+cut_before_work before after clears none_out =
+    let tickets = abandoned (tickets_out 0 before.tiles) in (
+      tickets,
+      record {
+        reached = after;
+        done = tickets;
+        in_hand = [];
+        settling = record { cleared = after; work = []; clears = clears; works = refl; parts = sym (append-nil tickets) };
+        drops = refl;
+        at_most_one = omega arith;
+        none_out = none_out;
+        parts = sym (append-nil tickets);
+      },
+    )
+
+-- jobs that are abandoned, hints that are handed over and tiles that are swept until the core is quiet
+pub settled_by : (before cleared handed after : Core) (jobs abandons : ℕ)
+    → IsRun before (abandoned (tickets_out 0 before.tiles)) cleared → abandons ≡ length (tickets_out 0 before.tiles)
+    → ((log : List Entry) × IsWorkedOff cleared log handed × (jobs_of log ≡ 0))
+    → ((log : List Entry) × IsWorkedOff handed log after × (jobs_of log ≡ jobs)) → IsQuiet after
+    → (log : List Entry) × IsSettled before log after × (jobs ≡ jobs_of log) × (abandons ≡ abandons_of log)
+settled_by before cleared handed after jobs abandons clears count (hints, hands, no_jobs) (sweeps, works, swept) quiet =
+    let tickets = tickets_out 0 before.tiles in
+    let work = hints ++ sweeps in
+    let works_off = work_goes_on cleared handed after hints sweeps hands works in
+    let worked = jobs_append hints sweeps in
+    let all = jobs_append (abandoned tickets) work in
+    let no_sweeps = no_jobs_abandoned tickets in
+    let dropped = abandons_append tickets work in
+    let no_more = none_abandoned cleared after work works_off in (
+      abandoned tickets ++ work,
+      record {
+        settling = record { cleared = cleared; work = work; clears = clears; works = works_off; parts = refl };
+        quiet = quiet;
+      },
+      omega (arith, worked, all, no_sweeps, no_jobs, swept),
+      omega (arith, dropped, no_more, count),
+    )

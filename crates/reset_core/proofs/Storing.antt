@@ -1,0 +1,153 @@
+-- Cores as they are stored: what an event leaves as it is, and what it changes.
+use Rattle.std.proofs.Common.{◌≡◌, ℕ, ◌<◌, ◌≤◌, true, false, List, length, replicate, refl, sym, ◌∙◌, ap, subst, arith}
+use Rattle.std.specs.Prelude.{Bool, Some, slice_set, remove}
+use Rattle.std.proofs.lemmas.List.{length-set, length-replicate}
+use Rattle.grid_core.specs.Raster.{IsFilled}
+use Rattle.grid_core.specs.Tiles.{Tiles, IsTiled, count_of}
+use Rattle.stroke_lattice.specs.State.{State, nothing}
+use Rattle.tile_generations.specs.Generations.{max_generation}
+use Rattle.reset_core.specs.Opening.{blank, fresh, opened}
+use Rattle.reset_core.proofs.Opening.{opened_is_sound}
+use Rattle.grid_core.specs.Raster.{Raster, IsInside, IsBelow, with_value}
+use Rattle.grid_core.specs.Tiles.{tile_of}
+use Rattle.grid_core.proofs.Cells.{each_pixel_below}
+use Rattle.border_queues.specs.declared.hint.Hint.{Hint}
+use Rattle.marker_tiles.specs.Kept.{Kept, IsMarkerOf}
+use Rattle.reset_core.specs.declared.answers.Handed.{Handed}
+use Rattle.reset_core.specs.declared.answers.Handed.TheVariants.{Raised}
+use Rattle.reset_core.specs.Work.{Core, TileWork, tiling, image_at, IsTile, work_at, with_work}
+use Rattle.reset_core.specs.Hits.{IsInTile}
+use Rattle.reset_core.specs.Hints.{hint_at, IsPresent, without_hint, raised, IsHanded}
+use Rattle.reset_core.specs.Invariant.{IsSound}
+use Rattle.reset_core.specs.Replica.{Parts, core_of, IsEmptySet, IsStored}
+use Rattle.reset_core.proofs.Cores.{inside_image}
+use Rattle.tile_generations.specs.declared.ticket.Ticket.{Ticket}
+use Rattle.reset_core.specs.Sweeps.{IsAbandoned}
+use Rattle.reset_core.proofs.Handing.{hint_of_tile, hand_keeps_sound}
+use Rattle.reset_core.proofs.Taking.{abandon_keeps_sound}
+use Rattle.reset_core.proofs.Removals.{taken_was_there}
+
+-- the image of a sound core is nowhere above its mask
+pub image_below_mask : (core : Core) → IsSound core → IsBelow core.image core.mask
+image_below_mask core sound =
+    each_pixel_below core.image core.mask sound.shape.image.filled sound.shape.image.width sound.shape.image.height
+    (λ p inside.
+    let width = sound.shape.image.width in
+    let height = sound.shape.image.height in
+    (sound.supported p (omega (arith, width, inside.0), omega (arith, height, inside.1))).1)
+
+-- the tiles of a kept marker are those of its mask
+pub same_tiling : (kept : Kept) → kept.tiling.width ≡ kept.mask.width → kept.tiling.height ≡ kept.mask.height
+    → kept.tiling ≡ record { width = kept.mask.width; height = kept.mask.height; side = kept.tiling.side }
+same_tiling kept width height =
+    ap (λ w. record { width = w; height = kept.tiling.height; side = kept.tiling.side }) width
+    ∙ ap (λ h. record { width = kept.mask.width; height = h; side = kept.tiling.side }) height
+
+-- a set is empty still where the number of tiles is the same
+pub empty_still : (old new : List TileWork) (set : List Bool) → length new ≡ length old → IsEmptySet old set
+    → IsEmptySet new set
+empty_still old new set count empty = empty ∙ ap (λ n. replicate n false) (sym count)
+
+-- an event that changes image, work and serial alone leaves a stored core where it leaves a sound one
+pub stored_still : (old : Parts) (image : Raster) (work : List TileWork) (serial : ℕ) → IsStored old
+    → length work ≡ length old.work → IsSound (core_of (record old { image = image; work = work; serial = serial }))
+    → IsStored (record old { image = image; work = work; serial = serial })
+stored_still old image work serial stored count sound = record {
+  sound = sound;
+  marks = stored.marks;
+  no_marks = empty_still old.work work old.marks count stored.no_marks;
+  none_queued = empty_still old.work work old.queue count stored.none_queued;
+}
+
+-- ---- hints
+
+module _ (parts : Parts) (stored : IsStored parts) (t i : ℕ) (hint : Hint)
+    (there : hint_at (core_of parts) t i ≡ Some hint) where
+  pub is_hint_of_tile : IsTile (core_of parts) t
+  is_hint_of_tile = hint_of_tile (core_of parts) t i hint there
+
+  pub goes_to_tile : IsInTile (core_of parts) t hint.to_pixel
+  goes_to_tile =
+      (stored.sound.hints t hint is_hint_of_tile (taken_was_there (work_at (core_of parts) t).inbox i hint there)).to
+
+  pub goes_inside : IsInside parts.image.width parts.image.height hint.to_pixel
+  goes_inside = inside_image (core_of parts) hint.to_pixel stored.sound.shape goes_to_tile.inside
+
+  -- the hint leaves its inbox, and nothing else happens
+  pub lost_is_stored : (handed : Handed)
+      → IsHanded (core_of parts) t i handed (without_hint (core_of parts) t i)
+      → IsStored (record parts { work = (without_hint (core_of parts) t i).tiles })
+  lost_is_stored handed happens =
+      stored_still parts parts.image (without_hint (core_of parts) t i).tiles parts.serial stored
+      (length-set parts.work t (record (work_at (core_of parts) t) { inbox = remove (work_at (core_of parts) t).inbox i }))
+      (hand_keeps_sound (core_of parts) (without_hint (core_of parts) t i) t i handed stored.sound happens)
+
+  -- the hint leaves its inbox, its pixel is raised, and its tile is dirty
+  module _ (present : IsPresent (core_of parts) hint) (above : image_at (core_of parts) hint.to_pixel < hint.value) where
+    pub raised_happens : IsHanded (core_of parts) t i Raised (raised (without_hint (core_of parts) t i) hint)
+    raised_happens = (hint, there, present, above, refl)
+
+    pub raised_is_stored : IsStored (record parts {
+      image = with_value parts.image hint.to_pixel hint.value;
+      work = (raised (without_hint (core_of parts) t i) hint).tiles;
+    })
+    raised_is_stored =
+        let home = tile_of (tiling (core_of parts)) hint.to_pixel in
+        let lost = without_hint (core_of parts) t i in
+        stored_still parts (with_value parts.image hint.to_pixel hint.value) (raised lost hint).tiles parts.serial
+        stored
+        (length-set lost.tiles home (record (work_at lost home) { dirty = true })
+        ∙ length-set parts.work t (record (work_at (core_of parts) t) {
+          inbox = remove (work_at (core_of parts) t).inbox i;
+        }))
+        (hand_keeps_sound (core_of parts) (raised lost hint) t i Raised stored.sound raised_happens)
+
+-- ---- opening
+
+-- what a core is opened as
+pub is_opened : (parts : Parts) (mask : Raster) (side first : ℕ) → parts.kept.mask ≡ mask
+    → parts.kept.tiling.side ≡ side → parts.state ≡ nothing → parts.image ≡ blank mask
+    → parts.work
+    ≡ replicate (count_of (record { width = mask.width; height = mask.height; side = side })) (fresh first)
+    → parts.serial ≡ 0 → core_of parts ≡ opened mask parts.conn side first
+is_opened parts mask side first same_mask same_side state image work serial =
+    ap (λ (m : Raster). record (core_of parts) { mask = m }) same_mask
+    ∙ ap (λ s. record (core_of parts) { mask = mask; side = s }) same_side
+    ∙ ap (λ (s : State). record (core_of parts) { mask = mask; side = side; state = s }) state
+    ∙ ap (λ (i : Raster). record (core_of parts) { mask = mask; side = side; state = nothing; image = i }) image
+    ∙ ap (λ (w : List TileWork). record (core_of parts) {
+      mask = mask;
+      side = side;
+      state = nothing;
+      image = blank mask;
+      tiles = w;
+    }) work
+    ∙ ap (λ n. record (opened mask parts.conn side first) { serial = n }) serial
+
+pub opened_is_stored : (parts : Parts) (mask : Raster) (side first : ℕ) → IsFilled mask
+    → IsTiled (record { width = mask.width; height = mask.height; side = side }) → first ≤ max_generation
+    → core_of parts ≡ opened mask parts.conn side first → IsMarkerOf parts.kept.mask nothing parts.kept.marker
+    → parts.marks ≡ replicate (count_of (record { width = mask.width; height = mask.height; side = side })) false
+    → parts.queue ≡ replicate (count_of (record { width = mask.width; height = mask.height; side = side })) false
+    → IsStored parts
+opened_is_stored parts mask side first filled tiled bound is_open marks no_marks none_queued =
+    let tiling : Tiles = record { width = mask.width; height = mask.height; side = side } in
+    let count : length parts.work ≡ count_of tiling =
+    ap (λ (core : Core). length core.tiles) is_open ∙ length-replicate (count_of tiling) (fresh first) in
+    record {
+      sound = subst IsSound (sym is_open) (opened_is_sound mask parts.conn side first filled tiled bound);
+      marks = subst (λ s. IsMarkerOf parts.kept.mask s parts.kept.marker) (sym (ap (λ (core : Core). core.state) is_open))
+          marks;
+      no_marks = no_marks ∙ ap (λ n. replicate n false) (sym count);
+      none_queued = none_queued ∙ ap (λ n. replicate n false) (sym count);
+    }
+
+-- ---- jobs
+
+-- the job of a tile is abandoned
+pub let_go_is_stored : (parts : Parts) → IsStored parts → (t : ℕ) (ticket : Ticket) (work : TileWork)
+    → IsAbandoned (core_of parts) ticket true (with_work (core_of parts) t work)
+    → IsStored (record parts { work = slice_set parts.work t work })
+let_go_is_stored parts stored t ticket work happens =
+    stored_still parts parts.image (slice_set parts.work t work) parts.serial stored (length-set parts.work t work)
+    (abandon_keeps_sound (core_of parts) (with_work (core_of parts) t work) ticket true stored.sound happens)

@@ -1,0 +1,321 @@
+-- Taking a tile, giving it back and abandoning a job, as the stored core does them.
+use Rattle.std.proofs.Common.{◌≡◌, ℕ, ◌+◌, ◌%◌, ◌^◌, ◌<◌, Bool, true, false, List, [], ◌∷◌, ◌++◌, length}
+use Rattle.std.proofs.Common.{refl, sym, ◌∙◌, ap, subst, arith, inl, inr, ◌⊎◌}
+use Rattle.std.specs.Prelude.{◌==◌, Contains, Some, None, filter, map, if◌then◌else◌}
+use Rattle.std.specs.Prelude.{slice_index_or, slice_set, All}
+use Rattle.std.proofs.lemmas.Bool.{eqb-true}
+use Rattle.std.proofs.lemmas.Bool.Decides.{eqb_tells}
+use Rattle.std.proofs.lemmas.List.{length-set, get_or-set_same, get_or-set_other, append-nil}
+use Rattle.std.proofs.lemmas.List.Elements.{Contains-get_or, All-contains}
+use Rattle.grid_core.specs.declared.pixel.Pixel.{Pixel}
+use Rattle.grid_core.specs.declared.rect.Rect.{Rect}
+use Rattle.grid_core.specs.Raster.{Raster, IsInside, IsBelow, value_at}
+use Rattle.grid_core.specs.Path.{Inside}
+use Rattle.grid_core.specs.Rects.{in_image}
+use Rattle.grid_core.specs.Tiles.{Tiles, IsTiled, AreTouching, count_of, tile_of}
+use Rattle.grid_core.proofs.Cells.{each_pixel_below}
+use Rattle.grid_core.proofs.Pixels.{same_pixel}
+use Rattle.grid_core.proofs.Tilings.{each_pixel_in_one_tile, tile_pixels, neighbours_lie_in_touching_tiles}
+use Rattle.border_queues.specs.declared.hint.Hint.{Hint}
+use Rattle.border_queues.specs.OpenEdges.{Sender, hint_to, open_edges, from_corner, with_tile}
+use Rattle.border_queues.specs.Laws.{EdgesAreOpen, SameImageSameEdges}
+use Rattle.tile_generations.specs.declared.ticket.Ticket.{Ticket}
+use Rattle.tile_generations.specs.Jobs.{Job, Swept, IsSwept}
+use Rattle.reset_core.specs.declared.answers.Back.TheVariants.{Joined, Again}
+use Rattle.reset_core.specs.Image.{IsPart, IsJoinedWith}
+use Rattle.reset_core.specs.Work.{Core, TileWork, domain, tiling, image_at, idle, IsTile, work_at}
+use Rattle.reset_core.specs.Sweeps.{tile_rect, IsReady, IsNextJob, IsOut, IsKnown, IsUnchanged, HasOnlyRisen, sender_of}
+use Rattle.reset_core.specs.Sweeps.{hints_of, received, IsJoined}
+use Rattle.reset_core.specs.Invariant.{IsSound}
+use Rattle.reset_core.specs.Laws.{TakeKeepsSound, AbandonKeepsSound, GiveBackKeepsSound}
+use Rattle.reset_core.specs.Parts.{IsRaisedPart}
+use Rattle.reset_core.specs.WorkTable.{IsToTouching, AreReceived}
+use Rattle.reset_core.specs.Replica.{Parts, core_of, IsStored}
+use Rattle.reset_core.proofs.Storing.{stored_still}
+use Rattle.reset_core.proofs.Cores.{inside_image}
+use Rattle.reset_core.proofs.Removals.{passed_was_there, passed_test, from_map}
+
+-- ---- what is stored
+
+-- the work at a tile whose job goes out, is abandoned, or comes back
+abbrev pub gone_out : TileWork → ℕ → TileWork
+gone_out work serial = record work { dirty = false; out = Some serial }
+
+abbrev pub let_go : TileWork → TileWork
+let_go work = record work { dirty = true; out = None }
+
+abbrev pub come_back : TileWork → TileWork
+come_back work = record work { out = None }
+
+pub taken_is_stored : TakeKeepsSound → (parts : Parts) (core : Core) (t : ℕ) (job : Job) (work : List TileWork)
+    → core_of parts ≡ core → IsStored parts → IsReady core t → IsNextJob core t job
+    → work ≡ slice_set parts.work t (gone_out (slice_index_or parts.work t idle) parts.serial)
+    → IsStored (record parts { work = work; serial = (parts.serial + 1) % 2 ^ 64 })
+taken_is_stored keeps parts core t job work view stored ready next is =
+    let serial = (parts.serial + 1) % 2 ^ 64 in
+    let old = core_of parts in
+    let change = gone_out (slice_index_or parts.work t idle) parts.serial in
+    stored_still parts parts.image work serial stored (ap length is ∙ length-set parts.work t change)
+    (keeps old (core_of (record parts { work = work; serial = serial })) t (Some job) stored.sound (
+      subst (λ c. IsReady c t) (sym view) ready,
+      subst (λ c. IsNextJob c t job) (sym view) next,
+      λ i. record old { tiles = is i; serial = serial },
+    ))
+
+pub abandoned_is_stored : AbandonKeepsSound → (parts : Parts) (core : Core) (ticket : Ticket) (work : List TileWork)
+    → core_of parts ≡ core → IsStored parts → IsOut core ticket
+    → work ≡ slice_set parts.work ticket.tile (let_go (slice_index_or parts.work ticket.tile idle))
+    → IsStored (record parts { work = work })
+abandoned_is_stored keeps parts core ticket work view stored out is =
+    let old = core_of parts in
+    let change = let_go (slice_index_or parts.work ticket.tile idle) in
+    stored_still parts parts.image work parts.serial stored
+    (ap length is ∙ length-set parts.work ticket.tile change)
+    (keeps old (core_of (record parts { work = work })) ticket true stored.sound (
+      subst (λ c. IsOut c ticket) (sym view) out,
+      λ i. record old { tiles = is i },
+    ))
+
+-- ---- the next job
+
+-- the part of a sound core's image on a tile is below that of its mask
+pub base_is_below : (core : Core) (t : ℕ) (base mask : Raster) → IsSound core → IsTile core t
+    → IsPart (tile_rect core t) core.image base → IsPart (tile_rect core t) core.mask mask → IsBelow base mask
+base_is_below core t base mask sound is_tile of_image of_mask =
+    let count = sound.shape.tiles in
+    let within : t < count_of (tiling core) = omega (arith, is_tile, count) in
+    let width = of_image.width in
+    let height = of_image.height in
+    each_pixel_below base mask of_image.filled (width ∙ sym of_mask.width) (height ∙ sym of_mask.height) (λ p inside.
+    let in_rect : IsInside (tile_rect core t).w (tile_rect core t).h p =
+    (omega (arith, inside.0, width), omega (arith, inside.1, height)) in
+    let there = (tile_pixels (tiling core) t (in_image (tile_rect core t) p) sound.shape.tiled within).1
+    (p, in_rect, refl) in
+    let below = (sound.supported (in_image (tile_rect core t) p) there.0).1 in
+    let image = of_image.values p in_rect in
+    let limit = of_mask.values p in_rect in
+    omega (arith, below, image, limit))
+
+-- ---- hints
+
+-- hints of a tile's open edges are for tiles that touch it
+edge_touches : EdgesAreOpen → (s : Sender) → IsTiled s.tiles → s.tile < count_of s.tiles → (hint : Hint)
+    → Contains (open_edges s) hint → IsToTouching s.tiles s.tile hint
+edge_touches edges_open s tiled within hint there =
+    let (pairs, are_hints) = edges_open s tiled within in
+    let make : Pixel × Pixel → Hint = λ a. hint_to s (s.image a.0) a.1 in
+    let listed : Contains (map make pairs) hint = subst (λ hs. Contains hs hint) are_hints.hints there in
+    let (pair, held, is) = from_map make pairs hint (hint.to_pixel, hint.to_pixel) listed in
+    let edge = (are_hints.edges pair.0 pair.1).0 held in
+    subst (λ (h : Hint). IsToTouching s.tiles s.tile h) is (record {
+      inside = edge.to_inside;
+      touching = elim (neighbours_lie_in_touching_tiles s.tiles s.conn pair.0 pair.1 tiled edge.from_inside
+          edge.to_inside edge.beside) [
+            | inl one ↦ absurd (edge.to_other (sym one ∙ edge.from_tile))
+            | inr touching ↦ subst (λ t. AreTouching s.tiles t (tile_of s.tiles pair.1)) edge.from_tile touching
+          ];
+    })
+
+pub edges_touch : EdgesAreOpen → (s : Sender) → IsTiled s.tiles → s.tile < count_of s.tiles
+    → All (IsToTouching s.tiles s.tile) (open_edges s)
+edges_touch edges_open s tiled within k d below =
+    let hints = open_edges s in
+    edge_touches edges_open s tiled within (slice_index_or hints k d) (Contains-get_or hints k d below)
+
+module _ (core after : Core) (t : ℕ) (pixels raised : Raster) (sound : IsSound core) (is_tile : IsTile core t)
+    (is_raised : IsRaisedPart (tile_rect core t) core.image pixels raised)
+    (joined : IsJoinedWith (tile_rect core t) pixels core.image after.image) where
+  tile_within : t < count_of (tiling core)
+  tile_within = let count = sound.shape.tiles in omega (arith, is_tile, count)
+
+  -- the raised part on the tile and the old image elsewhere are the image afterwards
+  with_raised : (p : Pixel) → Inside (domain core) p
+      → with_tile (tiling core) t (value_at raised) (image_at core) p ≡ image_at after p
+  with_raised p inside =
+      let rect = tile_rect core t in
+      let there = value_at raised (from_corner rect p) in
+      let in_one = (each_pixel_in_one_tile (tiling core) p sound.shape.tiled inside).1 t tile_within in
+      elim (eqb_tells (tile_of (tiling core) p) t) [
+        | inl (passes, same) ↦
+            let found = in_one.1 same in
+            let near : IsInside rect.w rect.h (from_corner rect p) = (omega (arith, found), omega (arith, found)) in
+            let back : in_image rect (from_corner rect p) ≡ p =
+            same_pixel (in_image rect (from_corner rect p)) p (omega (arith, found)) (omega (arith, found)) in
+            ap (λ b. if b then there else image_at core p) passes
+            ∙ is_raised.values (from_corner rect p) near
+            ∙ sym (joined.within (from_corner rect p) near)
+            ∙ ap (λ (q : Pixel). image_at after q) back
+        | inr (fails, other) ↦
+            ap (λ b. if b then there else image_at core p) fails
+            ∙ sym (joined.beyond p (inside_image core p sound.shape inside) (λ found. other (in_one.0 found)))
+      ]
+
+  pub hints_once_joined : SameImageSameEdges
+      → open_edges (record (sender_of core t) {
+        image = with_tile (tiling core) t (value_at raised) (image_at core);
+      })
+      ≡ hints_of core after t
+  hints_once_joined same_edges =
+      same_edges (record (sender_of core t) { image = with_tile (tiling core) t (value_at raised) (image_at core) })
+      (image_at after) sound.shape.tiled tile_within with_raised
+
+-- ---- join
+
+-- a list without elements is empty
+none_is_empty : {X : Type 0} (xs : List X) → ((x : X) → Contains xs x → ⊥) → xs ≡ []
+none_is_empty [] none = refl
+none_is_empty (x ∷ xs) none = absurd (none x (0, omega arith, refl))
+
+module _ (core : Core) (swept : Swept) (image : Raster) (told done : List TileWork) (hints : List Hint)
+    (is_tile : IsTile core swept.job.ticket.tile)
+    (joined : IsJoinedWith (tile_rect core swept.job.ticket.tile) swept.pixels core.image image)
+    (touching : All (IsToTouching (tiling core) swept.job.ticket.tile) hints)
+    (receive : AreReceived (tiling core) hints core.tiles told)
+    (done_is : done ≡ slice_set told swept.job.ticket.tile (come_back (slice_index_or told swept.job.ticket.tile idle)))
+    (hints_are : hints ≡ hints_of core (record core { image = image; tiles = done }) swept.job.ticket.tile) where
+  -- no hint is for the tile itself
+  none_own : filter (λ hint. tile_of (tiling core) hint.to_pixel == swept.job.ticket.tile) hints ≡ []
+  none_own =
+      let own : Hint → Bool = λ hint. tile_of (tiling core) hint.to_pixel == swept.job.ticket.tile in
+      none_is_empty (filter own hints) (λ hint there.
+      (All-contains (IsToTouching (tiling core) swept.job.ticket.tile) hints hint touching
+      (passed_was_there own hints hint there)).touching.other
+      (sym (eqb-true (tile_of (tiling core) hint.to_pixel) swept.job.ticket.tile (passed_test own hints hint there))))
+
+  joined_own : slice_index_or done swept.job.ticket.tile idle
+      ≡ record (work_at core swept.job.ticket.tile) { out = None }
+  joined_own =
+      let t = swept.job.ticket.tile in
+      let count = receive.count in
+      let own = filter (λ hint. tile_of (tiling core) hint.to_pixel == t) hints in
+      ap (λ ts. slice_index_or ts t idle) done_is
+      ∙ get_or-set_same told t (come_back (slice_index_or told t idle)) idle (omega (arith, is_tile, count))
+      ∙ ap come_back (receive.each t is_tile)
+      ∙ ap (λ hs. come_back (received (work_at core t) hs)) none_own
+      ∙ ap (λ hs. record (work_at core t) { out = None; inbox = hs }) (append-nil (work_at core t).inbox)
+
+  pub is_joined : IsJoined core swept (record core { image = image; tiles = done })
+  is_joined =
+      let t = swept.job.ticket.tile in
+      let change = come_back (slice_index_or told t idle) in record {
+        image = joined;
+        own = joined_own;
+        others = λ u within other.
+            ap (λ ts. slice_index_or ts u idle) done_is
+            ∙ get_or-set_other told t u change idle other
+            ∙ receive.each u within
+            ∙ ap
+            (λ hs. received (work_at core u) (filter (λ hint. tile_of (tiling core) hint.to_pixel == u) hs)) hints_are;
+        count = ap length done_is ∙ length-set told t change ∙ receive.count;
+        rest = refl;
+      }
+
+-- joining keeps a core sound
+pub join_keeps_sound : GiveBackKeepsSound → (before after : Core) (swept : Swept) → IsSound before → IsSwept swept
+    → IsKnown before swept.job → IsOut before swept.job.ticket
+    → IsUnchanged before swept.job ⊎ HasOnlyRisen before swept.job → IsJoined before swept after → IsSound after
+join_keeps_sound keeps before after swept sound is_swept known out (inl unchanged) joined =
+    keeps before after swept Joined sound is_swept (known, out, unchanged, joined)
+join_keeps_sound keeps before after swept sound is_swept known out (inr risen) joined =
+    keeps before after swept Again sound is_swept (known, out, risen, joined)
+
+-- ---- the parts of a stored core
+
+module _ (parts : Parts) (core : Core) (tiles : Tiles) (view : core_of parts ≡ core)
+    (tiles_are : tiles ≡ parts.kept.tiling)
+    (width : parts.kept.tiling.width ≡ parts.kept.mask.width)
+    (height : parts.kept.tiling.height ≡ parts.kept.mask.height) where
+  stored_tiling : tiles ≡ tiling (core_of parts)
+  stored_tiling = tiles_are ∙ (λ i. record { width = width i; height = height i; side = parts.kept.tiling.side })
+
+  pub tiling_is : tiles ≡ tiling core
+  tiling_is = stored_tiling ∙ ap tiling view
+
+  -- the hints that a walk along the tile's border gave
+  pub told_are_edges : (t tile generation : ℕ) (mask raised : Raster) (before told : List Hint)
+      → mask ≡ parts.kept.mask → tile ≡ t → generation ≡ (slice_index_or parts.work tile idle).generation
+      → before ≡ []
+      → told
+      ≡ before ++ open_edges (record {
+        tiles = tiles;
+        conn = parts.conn;
+        mask = value_at mask;
+        image = with_tile tiles tile (value_at raised) (value_at parts.image);
+        tile = tile;
+        generation = generation;
+      })
+      → told
+      ≡ open_edges (record (sender_of core t) {
+        image = with_tile (tiling core) t (value_at raised) (image_at core);
+      })
+  told_are_edges t tile generation mask raised before told mask_is tile_is generation_is none told_is =
+      let one : Sender = record {
+        tiles = tiles;
+        conn = parts.conn;
+        mask = value_at mask;
+        image = with_tile tiles tile (value_at raised) (value_at parts.image);
+        tile = tile;
+        generation = generation;
+      } in
+      let sender : Core → Sender =
+      λ c. record (sender_of c t) { image = with_tile (tiling c) t (value_at raised) (image_at c) } in
+      let of_tile = generation_is ∙ ap (λ n. (slice_index_or parts.work n idle).generation) tile_is in
+      let stored : one ≡ sender (core_of parts) = λ i. record {
+        tiles = stored_tiling i;
+        conn = parts.conn;
+        mask = value_at (mask_is i);
+        image = with_tile (stored_tiling i) (tile_is i) (value_at raised) (value_at parts.image);
+        tile = tile_is i;
+        generation = of_tile i;
+      } in
+      told_is ∙ ap (λ hs. hs ++ open_edges one) none ∙ ap open_edges stored ∙ ap (λ c. open_edges (sender c)) view
+
+-- the part of a stored image, as it is raised
+pub stored_raised : (parts : Parts) (core : Core) (t tile : ℕ) (rect : Rect) (pixels held raised : Raster)
+    → core_of parts ≡ core → tile ≡ t → rect ≡ tile_rect core tile → held ≡ pixels
+    → IsRaisedPart rect parts.image held raised → IsRaisedPart (tile_rect core t) core.image pixels raised
+stored_raised parts core t tile rect pixels held raised view tile_is rect_is pixels_are raise =
+    subst (λ r. IsRaisedPart r core.image pixels raised) (rect_is ∙ ap (tile_rect core) tile_is)
+    (subst (λ q. IsRaisedPart rect core.image q raised) pixels_are
+    (subst (λ (c : Core). IsRaisedPart rect c.image held raised) view raise))
+
+module _ (parts : Parts) (core : Core) (swept : Swept) (tiles : Tiles) (tile : ℕ) (rect : Rect) (pixels image : Raster)
+    (told done : List TileWork) (hints slice : List Hint) (view : core_of parts ≡ core)
+    (tiles_are : tiles ≡ tiling core)
+    (tile_is : tile ≡ swept.job.ticket.tile) (rect_is : rect ≡ tile_rect core tile) (pixels_are : pixels ≡ swept.pixels)
+    (raise : IsJoinedWith rect pixels parts.image image)
+    (touching : All (IsToTouching (tiling core) swept.job.ticket.tile) hints) (slice_is : slice ≡ hints)
+    (receive : AreReceived tiles slice parts.work told)
+    (done_is : done ≡ slice_set told tile (come_back (slice_index_or told tile idle)))
+    (hints_are : (after : Core)
+    → IsJoinedWith (tile_rect core swept.job.ticket.tile) swept.pixels core.image after.image
+    → hints ≡ hints_of core after swept.job.ticket.tile)
+    (is_tile : IsTile core swept.job.ticket.tile) where
+  stored_joined : IsJoined core swept (record core { image = image; tiles = done })
+  stored_joined =
+      let t = swept.job.ticket.tile in
+      let joined : IsJoinedWith (tile_rect core t) swept.pixels core.image image =
+      subst (λ r. IsJoinedWith r swept.pixels core.image image) (rect_is ∙ ap (tile_rect core) tile_is)
+      (subst (λ q. IsJoinedWith rect q core.image image) pixels_are
+      (subst (λ (c : Core). IsJoinedWith rect pixels c.image image) view raise)) in
+      let received_all : AreReceived (tiling core) hints core.tiles told =
+      subst (λ (ts : Tiles). AreReceived ts hints core.tiles told) tiles_are
+      (subst (λ hs. AreReceived tiles hs core.tiles told) slice_is
+      (subst (λ (c : Core). AreReceived tiles slice c.tiles told) view receive)) in
+      is_joined core swept image told done hints is_tile joined touching received_all
+      (done_is ∙ ap (λ n. slice_set told n (come_back (slice_index_or told n idle))) tile_is)
+      (hints_are (record core { image = image; tiles = done }) joined)
+
+  pub parts_joined : IsJoined core swept (core_of (record parts { image = image; work = done }))
+  parts_joined =
+      subst (λ (c : Core). IsJoined core swept (record c { image = image; tiles = done })) (sym view) stored_joined
+
+  pub joined_is_stored : GiveBackKeepsSound → IsStored parts → IsSwept swept → IsKnown core swept.job
+      → IsOut core swept.job.ticket → IsUnchanged core swept.job ⊎ HasOnlyRisen core swept.job
+      → IsStored (record parts { image = image; work = done })
+  joined_is_stored keeps stored is_swept known out base =
+      let change = come_back (slice_index_or told tile idle) in
+      stored_still parts image done parts.serial stored
+      (ap length done_is ∙ length-set told tile change ∙ receive.count)
+      (join_keeps_sound keeps core (core_of (record parts { image = image; work = done })) swept
+      (subst IsSound view stored.sound) is_swept known out base parts_joined)

@@ -1,0 +1,184 @@
+-- Rows of images compared, copied and raised one after the other.
+use Rattle.std.proofs.Common.{◌≡◌, ℕ, ◌+◌, ◌-◌, ◌*◌, ◌<◌, ◌≤◌, max, List, ◌++◌, length, length-append, get_or}
+use Rattle.std.proofs.Common.{sym, ap, subst, ◌∙◌, arith, inl, inr}
+use Rattle.std.proofs.Math.Nat.{mul-le-mul_right}
+use Rattle.std.proofs.lemmas.Bool.{cases_lt}
+use Rattle.std.proofs.lemmas.List.{get_or_append_left, get_or-append_right}
+use Rattle.grid_core.specs.declared.pixel.Pixel.{Pixel}
+use Rattle.grid_core.specs.declared.rect.Rect.{Rect}
+use Rattle.grid_core.specs.Raster.{Raster, IsInside, index_of, value_at}
+use Rattle.grid_core.specs.Rects.{RectFits, in_image}
+use Rattle.reset_core.specs.Image.{IsJoinedWith}
+use Rattle.reset_core.specs.Parts.{IsRow, AreCellsRaised}
+
+-- ---- rows compared
+
+-- the rows so far are related pixel by pixel
+abbrev pub AreAlike : (ℕ → ℕ → Type 0) → ℕ → (Pixel → ℕ) → (Pixel → ℕ) → ℕ → Type 0
+AreAlike R width f g rows = (p : Pixel) → p.x < width → p.y < rows → R (f p) (g p)
+
+-- the rows are related cell by cell
+abbrev pub AreRelated : (ℕ → ℕ → Type 0) → List ℕ → List ℕ → Type 0
+AreRelated R a b = (k : ℕ) → k < length a → R (get_or a k 0) (get_or b k 0)
+
+module _ (R : ℕ → ℕ → Type 0) (width : ℕ) (f g : Pixel → ℕ) (y : ℕ) (a b : List ℕ) (row_a : IsRow width f y a)
+    (row_b : IsRow width g y b) where
+  pub alike_more : AreAlike R width f g y → AreRelated R a b → AreAlike R width f g (y + 1)
+  alike_more so_far related p column earlier = elim (cases_lt p.y y) [
+    | inl before ↦ so_far p column before
+    | inr not_before ↦
+        let here : y ≡ p.y = omega arith in
+        let count = row_a.count in
+        subst (λ v. R (f (record { x = p.x; y = v })) (g (record { x = p.x; y = v }))) here
+        (subst (λ v. R v (g (record { x = p.x; y = y }))) (row_a.values p.x column)
+        (subst (λ v. R (get_or a p.x 0) v) (row_b.values p.x column) (related p.x (omega (arith, count, column)))))
+  ]
+
+  pub related_row : (rows : ℕ) → AreAlike R width f g rows → y < rows → AreRelated R a b
+  related_row rows alike within k below =
+      let count = row_a.count in
+      let column : k < width = omega (arith, count, below) in
+      subst (λ v. R v (get_or b k 0)) (sym (row_a.values k column))
+      (subst (λ v. R (f (record { x = k; y = y })) v) (sym (row_b.values k column))
+      (alike (record { x = k; y = y }) column within))
+
+-- ---- rows copied
+
+-- the cells are the first rows
+abbrev pub AreRows : ℕ → (Pixel → ℕ) → ℕ → List ℕ → Type 0
+AreRows width image rows cells =
+    (length cells ≡ rows * width)
+    × ((p : Pixel) → p.x < width → p.y < rows → get_or cells (p.y * width + p.x) 0 ≡ image p)
+
+pub rows_more : (width : ℕ) (image : Pixel → ℕ) (y : ℕ) (row old new : List ℕ) → AreRows width image y old
+    → IsRow width image y row → new ≡ old ++ row → AreRows width image (y + 1) new
+rows_more width image y row old new so_far is_row new_is =
+    let count = is_row.count in (
+      ap length new_is ∙ length-append old row ∙ (omega (arith, count, so_far.0)),
+      λ p column earlier. ap (λ cells. get_or cells (p.y * width + p.x) 0) new_is ∙ elim (cases_lt p.y y) [
+        | inl before ↦
+            let rows : (p.y + 1) * width ≤ y * width = mul-le-mul_right width (omega arith) in
+            let short : p.y * width + p.x < length old = omega (arith, rows, so_far.0) in
+            get_or_append_left old row 0 (p.y * width + p.x) short ∙ so_far.1 p column before
+        | inr not_before ↦
+            let here : p.y ≡ y = omega arith in
+            let place : p.y * width ≡ y * width = ap (λ k. k * width) here in
+            let past : y * width ≤ p.y * width + p.x = omega (arith, place) in
+            let at : p.y * width + p.x - y * width ≡ p.x = omega (arith, place) in
+            get_or-append_right old row (y * width) (p.y * width + p.x) 0 so_far.0 past
+            ∙ ap (λ k. get_or row k 0) at
+            ∙ is_row.values p.x column
+            ∙ ap (λ v. image (record { x = p.x; y = v })) (sym here)
+      ],
+    )
+
+-- ---- cells raised
+
+module _ (start : ℕ) (values : List ℕ) (old new : Raster) (raised : AreCellsRaised start values old new) where
+  at_new : (p : Pixel) → value_at new p ≡ get_or new.cells (index_of old.width p) 0
+  at_new p = ap (λ w. get_or new.cells (index_of w p) 0) raised.width
+
+  -- a pixel that stands beside these cells keeps its value
+  pub beside_raised : (p : Pixel) → index_of old.width p < length old.cells
+      → ((k : ℕ) → k < length values → start + k ≡ index_of old.width p → ⊥) → value_at new p ≡ value_at old p
+  beside_raised p within beside = at_new p ∙ elim (cases_lt (index_of old.width p) start) [
+    | inl before ↦ raised.before (index_of old.width p) before
+    | inr from ↦ elim (cases_lt (index_of old.width p) (start + length values)) [
+      | inl here ↦
+          absurd (beside (index_of old.width p - start) (omega (arith, from, here)) (omega (arith, from)))
+      | inr past ↦ raised.after (index_of old.width p) past within
+    ]
+  ]
+
+  pub value_raised : (p : Pixel) (k : ℕ) → k < length values → start + k ≡ index_of old.width p
+      → value_at new p ≡ max (value_at old p) (get_or values k 0)
+  value_raised p k within place =
+      at_new p ∙ subst (λ i. get_or new.cells i 0 ≡ max (get_or old.cells i 0) (get_or values k 0)) place
+      (raised.raised k within)
+
+-- ---- rows of a rectangle raised
+
+-- a pixel of an earlier row stands before this row
+place_before : (w x y row : ℕ) → x < w → y < row → y * w + x < row * w
+place_before w x y row column earlier =
+    let rows : (y + 1) * w ≤ row * w = mul-le-mul_right w (omega arith) in
+    omega (arith, rows, column)
+
+module _ (rect : Rect) (piece old mid new : Raster) (y start : ℕ) (row : List ℕ)
+    (fits : RectFits old.width old.height rect) (below : y < rect.h)
+    (is_row : IsRow rect.w (value_at piece) y row) (start_is : start ≡ (rect.y + y) * mid.width + rect.x)
+    (raised : AreCellsRaised start row mid new) (so_far : IsJoinedWith (record rect { h = y }) piece old mid) where
+  -- the place of a pixel of the image
+  place_within : (q : Pixel) → IsInside old.width old.height q → index_of mid.width q < length mid.cells
+  place_within q inside =
+      let width = so_far.size.width in
+      let height = so_far.size.height in
+      let filled = so_far.size.filled in
+      let place = place_before mid.width q.x q.y mid.height (omega (arith, inside.0, width))
+      (omega (arith, inside.1, height)) in
+      omega (arith, place, filled)
+
+  -- the pixels that are not on this row of the rectangle keep their values
+  off_row : (q : Pixel) → IsInside old.width old.height q
+      → (rect.x ≤ q.x → q.x < rect.x + rect.w → q.y ≡ rect.y + y → ⊥) → value_at new q ≡ value_at mid q
+  off_row q inside off =
+      let width = so_far.size.width in
+      let count = is_row.count in
+      let columns = fits.columns in
+      beside_raised start row mid new raised q (place_within q inside) (λ k within same.
+      elim (cases_lt q.y (rect.y + y)) [
+        | inl above ↦
+            let place = place_before mid.width q.x q.y (rect.y + y) (omega (arith, inside.0, width)) above in
+            omega (arith, place, same, start_is)
+        | inr not_above ↦ elim (cases_lt (rect.y + y) q.y) [
+          | inl under ↦
+              let column : rect.x + k < mid.width = omega (arith, within, count, columns, width) in
+              let place = place_before mid.width (rect.x + k) (rect.y + y) q.y column under in
+              omega (arith, place, same, start_is)
+          | inr not_under ↦
+              let here : q.y ≡ rect.y + y = omega (arith, not_above, not_under) in
+              let line : q.y * mid.width ≡ (rect.y + y) * mid.width = ap (λ n. n * mid.width) here in
+              let column : q.x ≡ rect.x + k = omega (arith, line, same, start_is) in
+              off (omega (arith, column)) (omega (arith, column, within, count)) here
+        ]
+      ])
+
+  -- a row more
+  pub joined_more : IsJoinedWith (record rect { h = y + 1 }) piece old new
+  joined_more =
+      let columns = fits.columns in
+      let rows = fits.rows in
+      let count = is_row.count in
+      let inside_old : (p : Pixel) → IsInside rect.w (y + 1) p → IsInside old.width old.height (in_image rect p) =
+      λ p inside. (omega (arith, inside.0, columns), omega (arith, inside.1, below, rows)) in
+      record {
+        size = record {
+          width = raised.width ∙ so_far.size.width;
+          height = raised.height ∙ so_far.size.height;
+          filled =
+              raised.count ∙ so_far.size.filled
+              ∙ sym (ap (λ n. n * new.height) raised.width ∙ ap (λ n. mid.width * n) raised.height);
+        };
+        within = λ p inside. elim (cases_lt p.y y) [
+          | inl before ↦
+              off_row (in_image rect p) (inside_old p inside) (λ from to same. omega (arith, before, same))
+              ∙ so_far.within p (inside.0, before)
+          | inr not_before ↦
+              let here : p.y ≡ y = omega (arith, inside.1, not_before) in
+              let line : (rect.y + p.y) * mid.width ≡ (rect.y + y) * mid.width =
+              ap (λ n. (rect.y + n) * mid.width) here in
+              let place : start + p.x ≡ index_of mid.width (in_image rect p) = omega (arith, start_is, line) in
+              let raise = value_raised start row mid new raised (in_image rect p) p.x
+              (omega (arith, count, inside.0)) place in
+              let was : value_at mid (in_image rect p) ≡ value_at old (in_image rect p) =
+              so_far.beyond (in_image rect p) (inside_old p inside) (λ found. omega (arith, found.3, here)) in
+              let value : get_or row p.x 0 ≡ value_at piece p =
+              is_row.values p.x inside.0 ∙ ap (λ n. value_at piece (record { x = p.x; y = n })) (sym here) in
+              raise ∙ ap (λ v. max v (get_or row p.x 0)) was
+              ∙ ap (λ v. max (value_at old (in_image rect p)) v) value
+        ];
+        beyond = λ q inside outside.
+            off_row q inside (λ from to same. outside (from, to, omega (arith, same), omega (arith, same)))
+            ∙ so_far.beyond q inside
+            (λ found. outside (found.0, found.1, found.2, let last = found.3 in omega (arith, last)));
+      }

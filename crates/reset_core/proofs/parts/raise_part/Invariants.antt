@@ -1,0 +1,6 @@
+use Rattle.reset_core.specs.Image.{IsJoinedWith}
+use Rattle.reset_core.proofs.parts.raise_part.Given as goal
+
+-- the rows so far are raised
+abbrev pub invariant-loop-y : goal.invariant-loop-y
+invariant-loop-y l = IsJoinedWith (record l.rect { h = l.y }) l.piece l.fn.whole l.whole

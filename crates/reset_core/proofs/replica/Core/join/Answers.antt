@@ -1,0 +1,81 @@
+use Rattle.std.specs.Prelude.{All}
+use Rattle.std.proofs.Common.{ap, subst, sym}
+use Rattle.grid_core.specs.Tiles.{Tiles}
+use Rattle.tile_generations.specs.declared.ticket.Ticket.{Ticket}
+use Rattle.reset_core.specs.Replica.{Parts}
+use Rattle.reset_core.specs.WorkTable.{IsToTouching}
+use Rattle.reset_core.proofs.Sweeping.{tiling_is, parts_joined, joined_is_stored}
+use Rattle.reset_core.proofs.replica.Core.join.Goals as goal
+
+pub receive-requires-clause-touching : goal.receive-requires-clause-touching
+receive-requires-clause-touching c =
+    let held = c.self.inside in
+    let parts : Parts = record {
+      conn = held.conn;
+      state = held.state;
+      kept = held.markers;
+      image = held.image;
+      work = held.work;
+      serial = held.serial;
+      marks = held.marks;
+      queue = held.queue;
+    } in
+    let core = c.args.self.now in
+    let swept = c.args.swept.now in
+    let tile_is = ap (λ (k : Ticket). k.tile) c.ticket-tile.ensures in
+    let tiling = c.tiling-tiling.ensures in
+    let tiles = tiling_is parts core c.tiling-tiling.result c.self.view_is tiling.value tiling.width tiling.height in
+    let t = swept.job.ticket.tile in
+    let hints = c.in_ok-hints.hints.hints in
+    subst (λ hs. All (IsToTouching c.tiling-tiling.result c.ticket-tile.result.tile) hs) (sym c.as_slice.ensures)
+    (subst (λ n. All (IsToTouching c.tiling-tiling.result n) hints) (sym tile_is)
+    (subst (λ (ts : Tiles). All (IsToTouching ts t) hints) (sym tiles) c.in_ok-hints.ensures.touching))
+
+pub invariant_of-self-2 : goal.invariant_of-self-2
+invariant_of-self-2 c =
+    let held = c.self.inside in
+    let parts : Parts = record {
+      conn = held.conn;
+      state = held.state;
+      kept = held.markers;
+      image = held.image;
+      work = held.work;
+      serial = held.serial;
+      marks = held.marks;
+      queue = held.queue;
+    } in
+    let core = c.args.self.now in
+    let swept = c.args.swept.now in
+    let tile_is = ap (λ (k : Ticket). k.tile) c.ticket-tile.ensures in
+    let tiling = c.tiling-tiling.ensures in
+    let tiles = tiling_is parts core c.tiling-tiling.result c.self.view_is tiling.value tiling.width tiling.height in
+    joined_is_stored parts core swept c.tiling-tiling.result c.ticket-tile.result.tile c.rect-rect.result
+    c.pixels.result.now c.raise_part.new.whole c.receive.new.self c.end_job.new.self c.in_ok-hints.hints.hints
+    c.as_slice.result.now c.self.view_is tiles tile_is c.rect-rect.ensures.rect c.pixels.ensures.value
+    c.raise_part.ensures c.in_ok-hints.ensures.touching c.as_slice.ensures c.in_ok-receive.ensures.ok c.end_job.ensures
+    c.in_ok-hints.ensures.hints c.requires.known.is_tile c.give_back_keeps_sound.ensures c.self.invariant
+    c.pixels.ensures.swept c.requires.known c.requires.out c.requires.base
+
+pub returns-clause-joined : goal.returns-clause-joined
+returns-clause-joined c =
+    let held = c.self.inside in
+    let parts : Parts = record {
+      conn = held.conn;
+      state = held.state;
+      kept = held.markers;
+      image = held.image;
+      work = held.work;
+      serial = held.serial;
+      marks = held.marks;
+      queue = held.queue;
+    } in
+    let core = c.args.self.now in
+    let swept = c.args.swept.now in
+    let tile_is = ap (λ (k : Ticket). k.tile) c.ticket-tile.ensures in
+    let tiling = c.tiling-tiling.ensures in
+    let tiles = tiling_is parts core c.tiling-tiling.result c.self.view_is tiling.value tiling.width tiling.height in
+    parts_joined parts core swept c.tiling-tiling.result c.ticket-tile.result.tile c.rect-rect.result
+    c.pixels.result.now c.raise_part.new.whole c.receive.new.self c.end_job.new.self c.in_ok-hints.hints.hints
+    c.as_slice.result.now c.self.view_is tiles tile_is c.rect-rect.ensures.rect c.pixels.ensures.value
+    c.raise_part.ensures c.in_ok-hints.ensures.touching c.as_slice.ensures c.in_ok-receive.ensures.ok c.end_job.ensures
+    c.in_ok-hints.ensures.hints c.requires.known.is_tile

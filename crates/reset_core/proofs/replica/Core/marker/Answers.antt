@@ -1,0 +1,31 @@
+use Rattle.std.proofs.Common.{◌≡◌}
+use Rattle.marker_tiles.specs.Kept.{IsMarkerOf}
+use Rattle.reset_core.specs.Work.{tiling}
+use Rattle.reset_core.specs.Replica.{core_of}
+use Rattle.std.proofs.Common.{subst}
+use Rattle.reset_core.specs.Work.{Core}
+use Rattle.reset_core.proofs.Storing.{same_tiling}
+use Rattle.reset_core.proofs.replica.Core.marker.Goals as goal
+
+-- src/replica.rt:239:5
+pub returns-clause-tiling : goal.returns-clause-tiling
+returns-clause-tiling c =
+    let same : c.self.inside.markers.tiling
+    ≡ tiling (core_of (record {
+      conn = c.self.inside.conn;
+      state = c.self.inside.state;
+      kept = c.self.inside.markers;
+      image = c.self.inside.image;
+      work = c.self.inside.work;
+      serial = c.self.inside.serial;
+      marks = c.self.inside.marks;
+      queue = c.self.inside.queue;
+    })) =
+    same_tiling c.self.inside.markers c.tiling.ensures.width c.tiling.ensures.height in
+    subst (λ (core : Core). c.self.inside.markers.tiling ≡ tiling core) c.self.view_is same
+
+-- src/replica.rt:239:5
+pub returns-clause-marks : goal.returns-clause-marks
+returns-clause-marks c =
+    subst (λ (core : Core). IsMarkerOf core.mask core.state c.self.inside.markers.marker) c.self.view_is
+    c.self.invariant.marks

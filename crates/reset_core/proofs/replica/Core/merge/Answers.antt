@@ -1,0 +1,149 @@
+use Rattle.std.proofs.Common.{◌≡◌, true, false, refl, sym, ap, ◌∙◌, subst, inl, inr}
+use Rattle.std.specs.Prelude.{Err}
+use Rattle.std.proofs.lemmas.Result.{err_from_is_err_and}
+use Rattle.marker_tiles.specs.Kept.{IsMarkerOf}
+use Rattle.reset_core.specs.declared.error.CoreError.TheVariants as errors
+use Rattle.reset_core.specs.Work.{Core, tiling}
+use Rattle.reset_core.specs.Merge.{IsMerged, IsRefused, IsAcceptable}
+use Rattle.reset_core.specs.Replica.{Parts, core_of}
+use Rattle.reset_core.specs.MergeSteps.{IsMarked, IsImageRenewed, IsRenewed}
+use Rattle.reset_core.proofs.MergeSteps.{hits_are_marked, join_fits, exactly_this}
+use Rattle.reset_core.proofs.MergeSteps.{spent_is_refused, unspent_is_acceptable, only_memory}
+use Rattle.reset_core.proofs.MergeSteps.{renewed_is_merged, renewed_is_stored}
+use Rattle.reset_core.proofs.Resets.{refused_is_not_acceptable}
+use Rattle.reset_core.proofs.Sweeping.{tiling_is}
+use Rattle.reset_core.proofs.replica.Core.merge.Goals as goal
+use Rattle.reset_core.proofs.replica.Core.merge.Goals.{After-mark_hits, After-clear, After-merge}
+use Rattle.reset_core.proofs.replica.Core.merge.Goals.{After-renew, After-into}
+
+-- the parts that the core was stored as
+abbrev parts_before : After-mark_hits → Parts
+parts_before c = record {
+  conn = c.self.inside.conn;
+  state = c.self.inside.state;
+  kept = c.self.inside.markers;
+  image = c.self.inside.image;
+  work = c.self.inside.work;
+  serial = c.self.inside.serial;
+  marks = c.self.inside.marks;
+  queue = c.self.inside.queue;
+}
+
+tiles_are : (c : After-mark_hits) → c.tiling-tiling.result ≡ tiling (core_of (parts_before c))
+tiles_are c =
+    let known = c.tiling-tiling.ensures in
+    tiling_is (parts_before c) (core_of (parts_before c)) c.tiling-tiling.result refl known.value known.width
+    known.height
+
+is_marked : (c : After-mark_hits) → IsMarked (core_of (parts_before c)) c.args.delta.now c.mark_hits.new.marks
+is_marked c =
+    hits_are_marked (parts_before c) c.args.self.now c.tiling-tiling.result c.args.delta.now c.mark_hits.new.marks
+    c.self.view_is (tiles_are c) c.in_ok-check.ensures.fits c.in_ok-check.ensures.compatible c.mark_hits.ensures.count
+    c.mark_hits.ensures.marks
+
+-- ---- refusals
+
+pub returns-in_err-check-clause-exactly : goal.returns-in_err-check-clause-exactly
+returns-in_err-check-clause-exactly c =
+    let p = err_from_is_err_and c.from_residual.result c.from_residual.ensures.1 in
+    let refused = c.in_err-check.ensures.refused in
+    rw (p.1, p.2) (exactly_this c.args.self.now c.args.delta.now c.in_err-check.field-0.0 refused)
+
+is_refused : (c : After-clear) → IsRefused c.args.self.now c.args.delta.now errors.GenerationsSpent
+is_refused c =
+    let at = (goal.at.returns-then-is_one_spent-clause-refused c).After-mark_hits in
+    subst (λ (core : Core). IsRefused core c.args.delta.now errors.GenerationsSpent) c.self.view_is
+    (spent_is_refused (core_of (parts_before at)) c.args.delta.now c.mark_hits.new.marks c.self.invariant.sound
+    (is_marked at) (c.is_one_spent.ensures.0 c.if-is_one_spent.true))
+
+pub returns-then-is_one_spent-clause-refused : goal.returns-then-is_one_spent-clause-refused
+returns-then-is_one_spent-clause-refused c = inl (is_refused c)
+
+pub returns-then-is_one_spent-clause-exactly : goal.returns-then-is_one_spent-clause-exactly
+returns-then-is_one_spent-clause-exactly c =
+    exactly_this c.args.self.now c.args.delta.now errors.GenerationsSpent (is_refused c)
+
+is_acceptable : (c : After-into) → IsAcceptable c.args.self.now c.args.delta.now
+is_acceptable c =
+    let at = (goal.at.returns-in-Err-clause-refused c).After-mark_hits in
+    subst (λ (core : Core). IsAcceptable core c.args.delta.now) c.self.view_is
+    (unspent_is_acceptable (core_of (parts_before at)) c.args.delta.now c.mark_hits.new.marks c.self.invariant.sound
+    (is_marked at)
+    (λ spent. let no : true ≡ false = sym (c.is_one_spent.ensures.1 spent) ∙ c.if-is_one_spent.false in cc))
+
+pub returns-in-Err-clause-refused : goal.returns-in-Err-clause-refused
+returns-in-Err-clause-refused c =
+    let at = (goal.at.returns-in-Err-clause-refused c).After-mark_hits in
+    inr (
+      c.into.ensures
+          ∙ only_memory c.self.inside.state c.args.delta.now c.in-Err.why
+          (λ tag e. (c.in-Err.ensures.conflict tag).0 (ap Err e)) (is_marked at).compatible,
+      is_acceptable c,
+    )
+
+pub returns-in-Err-clause-exactly : goal.returns-in-Err-clause-exactly
+returns-in-Err-clause-exactly c = λ e refused.
+    absurd (refused_is_not_acceptable c.args.self.now c.args.delta.now e refused (is_acceptable c))
+
+-- ---- what the calls require
+
+pub renew-requires-clause-fits : goal.renew-requires-clause-fits
+renew-requires-clause-fits c =
+    let at = (goal.at.renew-requires-clause-fits c).After-mark_hits in
+    join_fits (core_of (parts_before at)) c.args.delta.now c.merge.new.self c.self.invariant.sound (is_marked at).fits
+    c.in-Ok.ensures.join
+
+-- ---- what is merged
+
+abbrev parts_after : After-renew → Parts
+parts_after c = record {
+  conn = c.self.inside.conn;
+  state = c.merge.new.self;
+  kept = c.renew.new.markers;
+  image = c.renew.new.image;
+  work = c.renew.new.work;
+  serial = c.self.inside.serial;
+  marks = c.renew.new.marks;
+  queue = c.mark_hits.new.queue;
+}
+
+is_renewed : (c : After-renew)
+    → IsRenewed (parts_before (goal.at.returns-in-Ok-clause-merged c).After-mark_hits) c.args.delta.now c.in-Ok.change
+    (parts_after c)
+is_renewed c =
+    let at = (goal.at.returns-in-Ok-clause-merged c).After-mark_hits in
+    record {
+      marks = c.mark_hits.new.marks;
+      marked = is_marked at;
+      none_spent = λ spent.
+          let no : true ≡ false = sym (c.is_one_spent.ensures.1 spent) ∙ c.if-is_one_spent.false in cc;
+      grown = record {
+        join = c.in-Ok.ensures.join;
+        change = c.in-Ok.ensures.change;
+        marker_is =
+            subst (λ mask. IsMarkerOf mask c.merge.new.self c.renew.new.markers.marker) c.renew.ensures.mask
+            c.renew.ensures.marker;
+      };
+      image =
+          subst (λ tiles. IsImageRenewed tiles c.mark_hits.new.marks c.in-Ok.change c.merge.new.self
+          c.renew.new.markers.marker c.self.inside.image c.renew.new.image c.self.inside.work c.renew.new.work)
+          (sym c.tiling-tiling.ensures.value ∙ tiles_are at) c.renew.ensures.image;
+      cleared = c.renew.ensures.marks;
+      queue = c.mark_hits.ensures.queue;
+      mask = c.renew.ensures.mask;
+      tiling_is = c.renew.ensures.tiling;
+      conn = refl;
+      serial = refl;
+    }
+
+pub invariant_of-self-in-Ok : goal.invariant_of-self-in-Ok
+invariant_of-self-in-Ok c =
+    let at = (goal.at.invariant_of-self-in-Ok c).After-mark_hits in
+    renewed_is_stored (parts_before at) (parts_after c) c.args.delta.now c.in-Ok.change c.self.invariant (is_renewed c)
+
+pub returns-in-Ok-clause-merged : goal.returns-in-Ok-clause-merged
+returns-in-Ok-clause-merged c =
+    let at = (goal.at.returns-in-Ok-clause-merged c).After-mark_hits in
+    subst (λ (core : Core). IsMerged core c.args.delta.now c.in-Ok.change (core_of (parts_after c))) c.self.view_is
+    (renewed_is_merged (parts_before at) (parts_after c) c.args.delta.now c.in-Ok.change c.self.invariant
+    (is_renewed c))

@@ -1,0 +1,21 @@
+use Rattle.std.proofs.Common.{◌∙◌, ap, subst}
+use Rattle.grid_core.specs.Raster.{Raster}
+use Rattle.reset_core.specs.Image.{IsPart}
+use Rattle.reset_core.specs.Invariant.{IsSound}
+use Rattle.reset_core.specs.Work.{Core}
+use Rattle.reset_core.proofs.Sweeping.{base_is_below}
+use Rattle.reset_core.proofs.replica.Core.next_job.Goals as goal
+
+pub new-requires : goal.new-requires
+new-requires c =
+    let core = c.args.self.now in
+    let rect = c.rect-rect.ensures.rect in
+    let image = ap (λ (r : Core). r.image) c.self.view_is in
+    let mask = c.mask.ensures.value ∙ ap (λ (r : Core). r.mask) c.self.view_is in
+    let sound = subst IsSound c.self.view_is c.self.invariant.sound in
+    base_is_below core c.args.tile c.in_ok-base.base c.in_ok-mask.mask sound
+    c.requires
+    (subst (λ r. IsPart r core.image c.in_ok-base.base) rect
+    (subst (λ (w : Raster). IsPart c.rect-rect.result w c.in_ok-base.base) image c.in_ok-base.ensures))
+    (subst (λ r. IsPart r core.mask c.in_ok-mask.mask) rect
+    (subst (λ (w : Raster). IsPart c.rect-rect.result w c.in_ok-mask.mask) mask c.in_ok-mask.ensures))

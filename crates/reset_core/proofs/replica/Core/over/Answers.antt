@@ -1,0 +1,28 @@
+use Rattle.std.proofs.Common.{refl, ◌∙◌, ap, subst, replicate, false}
+use Rattle.grid_core.specs.Tiles.{Tiles, IsTiled, count_of}
+use Rattle.reset_core.specs.Opening.{fresh}
+use Rattle.reset_core.specs.Replica.{Parts}
+use Rattle.reset_core.proofs.Storing.{is_opened, opened_is_stored}
+use Rattle.reset_core.proofs.replica.Core.over.Goals as goal
+
+pub with_markers-requires : goal.with_markers-requires
+with_markers-requires c =
+    let parts : Parts = record {
+      conn = c.args.conn;
+      state = c.in-Ok.beginning.state;
+      kept = c.in-Ok-over.markers;
+      image = c.in-Ok.beginning.image;
+      work = c.in-Ok.beginning.work;
+      serial = 0;
+      marks = c.in-Ok.beginning.marks;
+      queue = c.in-Ok.beginning.queue;
+    } in
+    let made = c.in-Ok-over.ensures in
+    let begun = c.in-Ok.ensures in
+    let side = ap (λ (t : Tiles). t.side) (made.tiling ∙ c.tiling_of-tiling.ensures) in
+    let tiled = subst IsTiled c.tiling_of-tiling.ensures c.count.ensures.tiled in
+    let count = c.count.ensures.value ∙ ap count_of c.tiling_of-tiling.ensures in
+    opened_is_stored parts c.args.mask c.args.side c.args.first begun.filled tiled c.requires
+    (is_opened parts c.args.mask c.args.side c.args.first made.mask side begun.state begun.image
+    (begun.work ∙ ap (λ n. replicate n (fresh c.args.first)) count) refl)
+    made.marks (begun.marks ∙ ap (λ n. replicate n false) count) (begun.queue ∙ ap (λ n. replicate n false) count)

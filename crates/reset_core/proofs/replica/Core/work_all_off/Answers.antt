@@ -1,0 +1,60 @@
+use Rattle.std.proofs.Common.{arith, [], refl, subst}
+use Rattle.reset_core.specs.Work.{Core}
+use Rattle.reset_core.specs.Runs.{IsDirty, IsLeast}
+use Rattle.reset_core.proofs.Settling.{one_more_swept, bounded_burden, quiet_from, same_tiles}
+use Rattle.reset_core.proofs.replica.Core.work_all_off.Goals as goal
+
+pub loop-tile-init : goal.loop-tile-init
+loop-tile-init c = (
+  record {
+    log = [];
+    works = refl;
+    count = refl;
+    none_out = c.requires.none_out;
+    no_hints = c.requires.no_hints;
+    tiling = refl;
+    spent = omega arith;
+  },
+  c.requires.enough,
+  c.requires.closed,
+)
+
+pub work_off-requires-clause-next : goal.work_off-requires-clause-next
+work_off-requires-clause-next c =
+    let least = subst (λ (core : Core). IsLeast (IsDirty core) c.in-Some.tile) c.self-in-loop-tile.view_is c.in-Some.ensures
+    in (c.loop-tile.invariant.0.none_out, c.loop-tile.invariant.0.no_hints, least)
+
+pub work_off-requires-clause-enough : goal.work_off-requires-clause-enough
+work_off-requires-clause-enough c = c.loop-tile.invariant.1
+
+pub work_off-requires-clause-closed : goal.work_off-requires-clause-closed
+work_off-requires-clause-closed c = c.loop-tile.invariant.2
+
+pub overflow_add-jobs : goal.overflow_add-jobs
+overflow_add-jobs c =
+    let spent = c.loop-tile.invariant.0.spent in
+    let most = bounded_burden c.args.self.now c.image.ensures.sized
+    c.tiling.ensures.tiled c.tiling.ensures.count in
+    let less = c.work_off.ensures.less in
+    omega (arith, spent, most, less)
+
+pub loop-tile-smaller : goal.loop-tile-smaller
+loop-tile-smaller c = c.work_off.ensures.less
+
+pub loop-tile-preserved : goal.loop-tile-preserved
+loop-tile-preserved c =
+    let same = same_tiles c.loop-tile.self c.work_off.new.self c.work_off.ensures.mask c.work_off.ensures.side in (
+      one_more_swept c.args.self.now c.loop-tile.self c.work_off.new.self c.loop-tile.jobs c.loop-tile.invariant.0
+          c.work_off.ensures.works c.work_off.ensures.none_out c.work_off.ensures.no_hints same c.work_off.ensures.less,
+      c.work_off.ensures.enough,
+      c.work_off.ensures.closed,
+    )
+
+pub returns-clause-works : goal.returns-clause-works
+returns-clause-works c =
+    (c.loop-tile.invariant.0.log, c.loop-tile.invariant.0.works, c.loop-tile.invariant.0.count)
+
+pub returns-clause-quiet : goal.returns-clause-quiet
+returns-clause-quiet c =
+    let none = subst (λ (core : Core). (t : _) → IsDirty core t → ⊥) c.self-in-loop-tile.view_is c.in_default.ensures in
+    quiet_from c.loop-tile.self c.loop-tile.invariant.0.none_out c.loop-tile.invariant.0.no_hints none

@@ -1,0 +1,20 @@
+use Rattle.std.proofs.Common.{get_or, arith}
+use Rattle.std.proofs.lemmas.List.Elements.{Contains-get_or}
+use Rattle.reset_core.proofs.TellingHands.{tile_handed_next}
+use Rattle.reset_core.proofs.replica.in_place.hand_over_all.Goals as goal
+
+pub loop-tile-preserved : goal.loop-tile-preserved
+loop-tile-preserved c =
+    tile_handed_next c.args.tiling.now c.args.hints.now c.args.tiles.now c.loop-tile.tile-index
+    (record { image = c.args.image.now; rows = c.args.work.now })
+    (record { image = c.loop-tile.image; rows = c.loop-tile.work })
+    (record { image = c.hand_over_in.new.image; rows = c.hand_over_in.new.work }) c.loop-tile-test.true
+    c.loop-tile.invariant c.hand_over_in.ensures
+
+pub hand_over_in-requires-clause-tile : goal.hand_over_in-requires-clause-tile
+hand_over_in-requires-clause-tile c =
+    let i = c.loop-tile.tile-index in
+    let tiles = c.args.tiles.now in
+    let within = c.requires.tiles (get_or tiles i 0) (Contains-get_or tiles i 0 c.loop-tile-test.true) in
+    let same = c.loop-tile.invariant.count in
+    omega (arith, within, same)

@@ -1,0 +1,10 @@
+use Rattle.std.proofs.Common.{take}
+use Rattle.std.specs.List.{flat_map}
+use Rattle.reset_core.specs.Telling.{hints_in, AreHandedOver}
+use Rattle.reset_core.proofs.replica.in_place.hand_over_all.Given as goal
+
+-- the hints for the tiles so far have been handed over
+abbrev pub invariant-loop-tile : goal.invariant-loop-tile
+invariant-loop-tile l =
+    AreHandedOver l.tiling (flat_map (hints_in l.tiling l.hints) (take l.tile-index l.tiles))
+    (record { image = l.initial.image; rows = l.initial.work }) (record { image = l.image; rows = l.work })

@@ -1,0 +1,21 @@
+use Rattle.std.proofs.Common.{get_or}
+use Rattle.std.proofs.lemmas.List.Elements.{Contains-get_or}
+use Rattle.border_queues.specs.declared.hint.Hint.{Hint}
+use Rattle.reset_core.proofs.TellingHands.{handed_next}
+use Rattle.reset_core.proofs.replica.in_place.hand_over_in.Goals as goal
+
+abbrev none : Hint
+none = record { from = 0; from_generation = 0; to_pixel = record { x = 0; y = 0 }; value = 0 }
+
+pub hand_over-requires-clause-inside : goal.hand_over-requires-clause-inside
+hand_over-requires-clause-inside c =
+    let i = c.loop-hint.hint-index in
+    c.requires.inside (get_or c.args.hints.now i none) (Contains-get_or c.args.hints.now i none c.loop-hint-test.true)
+
+pub loop-hint-preserved : goal.loop-hint-preserved
+loop-hint-preserved c =
+    handed_next c.args.tiling.now c.args.hints.now c.args.tile c.loop-hint.hint-index none
+    (record { image = c.args.image.now; rows = c.args.work.now })
+    (record { image = c.loop-hint.image; rows = c.loop-hint.work })
+    (record { image = c.hand_over.new.image; rows = c.hand_over.new.work }) c.loop-hint-test.true
+    c.loop-hint.invariant c.hand_over.ensures

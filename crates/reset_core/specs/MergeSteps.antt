@@ -1,0 +1,72 @@
+-- What a merge has done to the parts of a core, one call after the other.
+use Rattle.std.specs.Prelude.{◌≡◌, ℕ, ◌<◌, Bool, false, List, length, replicate}
+use Rattle.grid_core.specs.Raster.{Raster}
+use Rattle.grid_core.specs.Tiles.{Tiles, count_of}
+use Rattle.stroke_lattice.specs.State.{State, StateFits, AreCompatible, IsJoin}
+use Rattle.stroke_lattice.specs.Change.{Turnover, IsChange}
+use Rattle.marker_tiles.specs.Kept.{IsMarkerOf}
+use Rattle.tile_generations.specs.Generations.{max_generation}
+use Rattle.reset_core.specs.Image.{IsOfSize}
+use Rattle.reset_core.specs.Work.{Core, TileWork, tiling, work_at}
+use Rattle.reset_core.specs.Marks.{AreHits}
+use Rattle.reset_core.specs.TileSet.{Has}
+use Rattle.reset_core.specs.Replica.{Parts, core_of}
+use Rattle.reset_core.specs.Renewing.{AreReset, IsRaisedUnder, IsDirtyIf, HasRisenIn, row_at}
+
+-- the delta fits the core, and its hits are marked
+pub record IsMarked (core : Core) (delta : State) (marks : List Bool) : Type 0 where
+  pub fits : StateFits core.mask.width core.mask.height delta
+  pub compatible : AreCompatible core.state delta
+  pub count : length marks ≡ count_of (tiling core)
+  pub hits : AreHits core delta marks
+
+-- a marked tile has spent its generations
+abbrev pub HasSpentMark : Core → List Bool → Type 0
+HasSpentMark core marks = (t : ℕ) × Has marks t × ((work_at core t).generation ≡ max_generation)
+
+-- the strokes are joined, and the marker is theirs
+pub record IsGrown (before : Core) (delta : State) (turnover : Turnover) (state : State) (marker : Raster)
+    : Type 0 where
+  pub join : IsJoin before.state delta state
+  pub change : IsChange before.state state turnover
+  pub marker_is : IsMarkerOf before.mask state marker
+
+-- the marked tiles are reset
+pub record AreMarkedReset (tiles : Tiles) (marks : List Bool) (marker old new : Raster) (work after : List TileWork)
+    : Type 0 where
+  pub size : IsOfSize old new
+  pub count : length after ≡ length work
+  pub each : AreReset tiles (Has marks) marker old new work after
+
+-- the image is raised to the marker where a stroke that was born lies
+pub record IsRaisedByBirths (tiles : Tiles) (turnover : Turnover) (state : State) (marker old new : Raster)
+    (work after : List TileWork) : Type 0 where
+  pub size : IsOfSize old new
+  pub count : length after ≡ length work
+  pub values : IsRaisedUnder state turnover.born marker old new
+  pub dirty : (t : ℕ) → t < length work
+      → IsDirtyIf (HasRisenIn tiles t old new) (row_at work t) (row_at after t)
+
+-- the marked tiles are reset, and then the image is raised where a stroke that was born lies
+pub record IsImageRenewed (tiles : Tiles) (marks : List Bool) (turnover : Turnover) (state : State)
+    (marker old new : Raster) (work after : List TileWork) : Type 0 where
+  pub middle : Raster
+  pub between : List TileWork
+  pub reset : AreMarkedReset tiles marks marker old middle work between
+  pub raised : IsRaisedByBirths tiles turnover state marker middle new between after
+
+-- the parts that are stored before and after: the hits of the delta were marked and none of them had spent its
+-- generations, the strokes were joined, marker and image were renewed, and the marks were cleared
+pub record IsRenewed (before : Parts) (delta : State) (turnover : Turnover) (after : Parts) : Type 0 where
+  pub marks : List Bool
+  pub marked : IsMarked (core_of before) delta marks
+  pub none_spent : HasSpentMark (core_of before) marks → ⊥
+  pub grown : IsGrown (core_of before) delta turnover after.state after.kept.marker
+  pub image : IsImageRenewed (tiling (core_of before)) marks turnover after.state after.kept.marker before.image
+      after.image before.work after.work
+  pub cleared : after.marks ≡ replicate (length marks) false
+  pub queue : after.queue ≡ before.queue
+  pub mask : after.kept.mask ≡ before.kept.mask
+  pub tiling_is : after.kept.tiling ≡ before.kept.tiling
+  pub conn : after.conn ≡ before.conn
+  pub serial : after.serial ≡ before.serial

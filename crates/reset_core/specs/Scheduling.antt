@@ -1,0 +1,46 @@
+-- What is kept while a schedule runs. Only private functions have these words in their contracts.
+use Rattle.std.specs.Prelude.{◌≡◌, ℕ, ◌+◌, ◌≤◌, List, length, take}
+use Rattle.tile_generations.specs.Jobs.{Swept}
+use Rattle.reset_core.specs.declared.error.CoreError.{CoreError}
+use Rattle.reset_core.specs.declared.replica.scheduling.Tally.{Tally}
+use Rattle.reset_core.specs.declared.step.Step.{Step}
+use Rattle.reset_core.specs.Work.{Core}
+use Rattle.reset_core.specs.Runs.{jobs_of, abandons_of}
+use Rattle.reset_core.specs.Schedule.{Progress, started, IsStep, AreSteps}
+
+-- what is kept of a schedule so far, beside the core: the results, the number of jobs that were abandoned, and the
+-- numbers of the edits that were accepted and refused
+pub record Kept : Type 0 where
+  pub results : List Swept
+  pub abandons : ℕ
+  pub accepted : List ℕ
+  pub refused : List (ℕ × CoreError)
+
+abbrev pub kept_of : Tally → Kept
+kept_of tally = record {
+  results = tally.results.items;
+  abandons = tally.abandons;
+  accepted = tally.accepted.items;
+  refused = tally.refused.items;
+}
+
+-- a schedule that has come so far, after so many steps, left this core, and this was kept
+pub record Agrees (now : Core) (kept : Kept) (steps : ℕ) (a : Progress) : Type 0 where
+  pub core_is : a.core ≡ now
+  pub count_is : a.count ≡ steps
+  pub results_are : a.results ≡ kept.results
+  pub jobs_are : jobs_of a.log ≡ length kept.results
+  pub abandons_are : abandons_of a.log ≡ kept.abandons
+  pub accepted_are : a.accepted ≡ kept.accepted
+  pub refused_are : a.refused ≡ kept.refused
+
+-- the step of this number leads from the one core to the other, and from what was kept before it to what is kept then
+pub record LeadsOn (step : Step) (n : ℕ) (before : Core) (kept : Kept) (after : Core) (more : Kept) : Type 0 where
+  pub next : (a : Progress) → Agrees before kept n a → (b : Progress) × IsStep step a b × Agrees after more (n + 1) b
+
+-- so many steps of a schedule were made, and led to this core
+pub record HaveRun (start : Core) (all : List Step) (n : ℕ) (now : Core) (kept : Kept) : Type 0 where
+  pub reached : Progress
+  pub are_steps : AreSteps (take n all) (started start) reached
+  pub agrees : Agrees now kept n reached
+  pub few : kept.abandons ≤ n

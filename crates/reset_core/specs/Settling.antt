@@ -1,0 +1,48 @@
+-- The steps of settling. Only private functions have these words in their contracts.
+use Rattle.std.specs.Prelude.{◌≡◌, ℕ, ◌+◌, ◌<◌, ◌≤◌, List, ◌++◌, length}
+use Rattle.std.specs.List.{sum_by}
+use Rattle.tile_generations.specs.declared.ticket.Ticket.{Ticket}
+use Rattle.reset_core.specs.declared.answers.Handed.{Handed}
+use Rattle.reset_core.specs.Work.{Core, TileWork, tiling}
+use Rattle.reset_core.specs.Hints.{IsHanded}
+use Rattle.reset_core.specs.Runs.{Entry, IsRun, IsWorkedOff, NoneOut, HasHints, IsLeast, jobs_of, abandoned, tickets_out}
+use Rattle.reset_core.specs.Telling.{burden}
+
+-- some of the jobs that were out are abandoned
+pub record AreAbandoned (before now : Core) (abandons : ℕ) : Type 0 where
+  pub done : List Ticket
+  pub clears : IsRun before (abandoned done) now
+  pub parts : tickets_out 0 before.tiles ≡ done ++ tickets_out 0 now.tiles
+  pub count : abandons ≡ length done
+
+-- how many hints wait, in all
+abbrev pub waiting_count : List TileWork → ℕ
+waiting_count rows = sum_by (λ work. length work.inbox) rows
+
+-- the first hint of the first tile where one waits was handed over
+pub record IsFirstHandedOver (before after : Core) : Type 0 where
+  pub t : ℕ
+  pub handed : Handed
+  pub first : IsLeast (HasHints before) t
+  pub happens : IsHanded before t 0 handed after
+  pub none_out : NoneOut after
+  pub fewer : waiting_count after.tiles < waiting_count before.tiles
+  pub tiling : tiling after ≡ tiling before
+
+-- some of the hints that waited are handed over
+pub record AreHanded (before now : Core) : Type 0 where
+  pub log : List Entry
+  pub works : IsWorkedOff before log now
+  pub no_jobs : jobs_of log ≡ 0
+  pub none_out : NoneOut now
+  pub tiling : tiling now ≡ tiling before
+
+-- so many tiles are swept, and no hint waits
+pub record AreWorkedOff (before now : Core) (jobs : ℕ) : Type 0 where
+  pub log : List Entry
+  pub works : IsWorkedOff before log now
+  pub count : jobs_of log ≡ jobs
+  pub none_out : NoneOut now
+  pub no_hints : (u : ℕ) → HasHints now u → ⊥
+  pub tiling : tiling now ≡ tiling before
+  pub spent : jobs + burden now ≤ burden before

@@ -1,0 +1,85 @@
+-- Hints that are handed over as soon as they are told, and how much work a core can still have.
+use Rattle.std.specs.Prelude.{◌≡◌, ℕ, ◌+◌, ◌-◌, ◌≤◌, ◌==◌, true, nat_lt, if◌then◌else◌, List, [], ◌∷◌, length, filter}
+use Rattle.std.specs.Prelude.{◌<◌, slice_index_or, slice_set, Contains}
+use Rattle.std.specs.List.{sum_by}
+use Rattle.grid_core.specs.Raster.{Raster, value_at, with_value}
+use Rattle.grid_core.specs.Tiles.{Tiles, tile_of, count_of}
+use Rattle.border_queues.specs.declared.hint.Hint.{Hint}
+use Rattle.reset_core.specs.Work.{Core, TileWork, idle}
+
+-- ---- how much work a core can still have
+
+-- how far the values lie below the greatest that a cell can have, in all
+abbrev pub headroom : List ℕ → ℕ
+headroom cells = sum_by (λ v. 4294967295 - v) cells
+
+-- how many tiles are dirty
+abbrev pub dirty_count : List TileWork → ℕ
+dirty_count rows = sum_by (λ work. if work.dirty then 1 else 0) rows
+
+-- an image, and the work that is left at each tile
+pub record ImageAndWork : Type 0 where
+  pub image : Raster
+  pub rows : List TileWork
+
+-- how often a pixel can still rise or a tile be swept, at most
+abbrev pub burden_of : ImageAndWork → ℕ
+burden_of s = headroom s.image.cells + dirty_count s.rows
+
+abbrev pub image_and_work : Core → ImageAndWork
+image_and_work core = record { image = core.image; rows = core.tiles }
+
+abbrev pub burden : Core → ℕ
+burden core = burden_of (image_and_work core)
+
+-- ---- hints that are handed over
+
+-- the pixel of the hint has the hint's value, and its tile is dirty
+abbrev pub risen_by : Tiles → Hint → ImageAndWork → ImageAndWork
+risen_by tiles hint s =
+    let t = tile_of tiles hint.to_pixel in
+    record {
+      image = with_value s.image hint.to_pixel hint.value;
+      rows = slice_set s.rows t (record (slice_index_or s.rows t idle) { dirty = true });
+    }
+
+-- the hint raises its pixel where that is below the hint's value
+abbrev pub handed : Tiles → Hint → ImageAndWork → ImageAndWork
+handed tiles hint s = if nat_lt (value_at s.image hint.to_pixel) hint.value then risen_by tiles hint s else s
+
+-- the hints are handed over, one after another
+abbrev pub all_handed : Tiles → List Hint → ImageAndWork → ImageAndWork
+all_handed tiles [] s = s
+all_handed tiles (hint ∷ hints) s = all_handed tiles hints (handed tiles hint s)
+
+-- the hints for the pixels of a tile, in their order
+abbrev pub hints_in : Tiles → List Hint → ℕ → List Hint
+hints_in tiles hints t = filter (λ hint. tile_of tiles hint.to_pixel == t) hints
+
+-- these hints have been handed over: the sizes stay, and no more work can be left than before
+pub record AreHandedOver (tiles : Tiles) (hints : List Hint) (before after : ImageAndWork) : Type 0 where
+  pub result : all_handed tiles hints before ≡ after
+  pub width : after.image.width ≡ before.image.width
+  pub height : after.image.height ≡ before.image.height
+  pub cells : length after.image.cells ≡ length before.image.cells
+  pub count : length after.rows ≡ length before.rows
+  pub burden : burden_of after ≤ burden_of before
+
+-- no hint is for a tile before that of an earlier one
+abbrev pub AreInTileOrder : Tiles → List Hint → Type 0
+AreInTileOrder tiles [] = Unit {0}
+AreInTileOrder tiles (hint ∷ hints) =
+    ((later : Hint) → Contains hints later → tile_of tiles hint.to_pixel ≤ tile_of tiles later.to_pixel)
+    × AreInTileOrder tiles hints
+
+-- the same hints, tile by tile
+pub record AreByTile (tiles : Tiles) (hints by_tile : List Hint) : Type 0 where
+  pub same : (t : ℕ) → t < count_of tiles → hints_in tiles by_tile t ≡ hints_in tiles hints t
+  pub order : AreInTileOrder tiles by_tile
+  pub those : (hint : Hint) → Contains by_tile hint → Contains hints hint
+
+-- these hints have been handed over, tile by tile
+pub record AreTold (tiles : Tiles) (hints : List Hint) (before after : ImageAndWork) : Type 0 where
+  pub by_tile : List Hint
+  pub sorted : AreByTile tiles hints by_tile
+  pub over : AreHandedOver tiles by_tile before after

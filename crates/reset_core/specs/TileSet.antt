@@ -1,0 +1,54 @@
+-- Sets of the tiles of an image: for each tile, by its number, whether it is in the set.
+use Rattle.std.specs.Prelude.{◌≡◌, ◌≢◌, ℕ, ◌+◌, ◌/◌, ◌%◌, ◌<◌, ◌≤◌, Bool, false, IsTrue, ◌==◌, List, length, map}
+use Rattle.std.specs.Prelude.{slice_index, slice_index_or, count_by}
+use Rattle.std.specs.List.{range_with_len}
+use Rattle.std.specs.Int.{bit_at}
+
+-- the tile is in the set
+abbrev pub Has : List Bool → ℕ → Type 0
+Has set t = (t < length set) × IsTrue (slice_index_or set t false)
+
+-- no tile from this one on is in the set
+abbrev pub HasNoneFrom : List Bool → ℕ → Type 0
+HasNoneFrom set start = (t : ℕ) → start ≤ t → Has set t → ⊥
+
+-- the tile is the first of the set from this one on
+pub record IsFirstFrom (set : List Bool) (start t : ℕ) : Type 0 where
+  pub has : Has set t
+  pub from : start ≤ t
+  pub first : (u : ℕ) → start ≤ u → Has set u → t ≤ u
+
+-- how many tiles are in the set
+abbrev pub members : List Bool → ℕ
+members set = count_by (λ present. present) set
+
+-- ---- words of bits
+
+-- the bit at a place of words of 64 bits, of which the lowest comes first
+abbrev pub bit_of : List ℕ → ℕ → ℕ
+bit_of words place = bit_at (slice_index words (place / 64)) (place % 64)
+
+-- the set of the tiles whose bits are set
+abbrev pub tiles_of : ℕ → List ℕ → List Bool
+tiles_of count words = map (λ t. bit_of words t == 1) (range_with_len 0 count)
+
+-- the place is the lowest one from this one on whose bit is set
+pub record IsLowestFrom (bits : ℕ → ℕ) (start place : ℕ) : Type 0 where
+  pub bit : bits place ≡ 1
+  pub from : start ≤ place
+  pub lowest : (other : ℕ) → start ≤ other → bits other ≡ 1 → place ≤ other
+
+-- the bit at the place has been written, and nothing else
+pub record IsWritten (old new : List ℕ) (place bit : ℕ) : Type 0 where
+  pub count : length new ≡ length old
+  pub written : bit_of new place ≡ bit
+  pub others : (other : ℕ) → other ≢ place → bit_of new other ≡ bit_of old other
+  pub words : (word : ℕ) → word ≢ place / 64 → slice_index new word ≡ slice_index old word
+
+-- the words have bits of so many tiles alone, and bit w of the summary says whether word w is not 0
+pub record IsSummed (count : ℕ) (words summary : List ℕ) : Type 0 where
+  pub word_count : length words ≡ count / 64 + 1
+  pub summary_count : length summary ≡ length words / 64 + 1
+  pub tiles : (t : ℕ) → bit_of words t ≡ 1 → t < count
+  pub summed : (t : ℕ) → bit_of words t ≡ 1 → bit_of summary (t / 64) ≡ 1
+  pub some : (word : ℕ) → bit_of summary word ≡ 1 → 0 < slice_index words word

@@ -1,0 +1,149 @@
+//! Parts of a whole image: those in a rectangle, and the pieces that are compared with them.
+
+ghost use Rattle.std.specs.Prelude.{◌≡◌, ◌+◌, ◌<◌, ◌≤◌, ◌↔◌, length, max, slice_index, IsTrue, IfOk, EachIndex};
+ghost use Rattle.grid_core.specs.Raster.{value_at};
+ghost use Rattle.grid_core.specs.Rects.{RectFits, part};
+ghost use Rattle.reset_core.specs.Image.{IsPart, IsAtMostPart, IsJoinedWith};
+ghost use Rattle.reset_core.specs.Parts.{IsRow, AreCellsRaised, IsRaisedPart};
+
+use grid_core::laws::cells_given_back;
+use grid_core::{Grid, Memory, Rect};
+use std::alloc::Global;
+
+/// Whether the piece is the part of the whole image in the rectangle.
+pub(crate) fn is_part(whole: &Grid, rect: Rect, piece: &Grid) -> bool
+    requires { RectFits whole.now.width whole.now.height rect }
+    ensures { IsTrue result ↔ IsPart rect whole.now piece.now }
+{
+    if piece.width() != rect.w || piece.height() != rect.h {
+        return false;
+    }
+    for y in 0..rect.h {
+        if !is_equal(row(piece, y), row_within(whole, rect, y)) {
+            return false;
+        }
+    }
+    true
+}
+
+/// Whether the piece is at most the part of the whole image in the rectangle.
+pub(crate) fn is_at_most_part(whole: &Grid, rect: Rect, piece: &Grid) -> bool
+    requires { RectFits whole.now.width whole.now.height rect }
+    ensures { IsTrue result ↔ IsAtMostPart rect whole.now piece.now }
+{
+    if piece.width() != rect.w || piece.height() != rect.h {
+        return false;
+    }
+    for y in 0..rect.h {
+        if !is_at_most(row(piece, y), row_within(whole, rect, y)) {
+            return false;
+        }
+    }
+    true
+}
+
+/// The part of the whole image in the rectangle, as an image by itself.
+///
+/// Errors: out of memory.
+pub(crate) fn cut(alloc: Global, whole: &Grid, rect: Rect) -> Result<Grid, Memory>
+    requires { RectFits whole.now.width whole.now.height rect }
+    ensures { IfOk result (IsPart rect whole.now) }
+{
+    let _ = whole.width();
+    let mut cells = Vec::with_capacity(alloc, rect.w as usize * rect.h as usize)?;
+    for y in 0..rect.h {
+        cells.extend_from_slice(row_within(whole, rect, y))?;
+    }
+    Ok(Grid::from_cells(rect.w, rect.h, cells))
+}
+
+/// Raises the part of the whole image in the rectangle to the piece. It takes no memory.
+pub(crate) fn raise_part(whole: &mut Grid, rect: Rect, piece: &Grid)
+    requires fits { RectFits whole.old.width whole.old.height rect }
+    requires width { piece.now.width ≡ rect.w }
+    requires height { piece.now.height ≡ rect.h }
+    ensures { IsJoinedWith rect piece.now whole.old whole.new }
+{
+    let width = whole.width() as usize;
+    for y in 0..rect.h {
+        let start = (rect.y + y) as usize * width + rect.x as usize;
+        raise_cells(whole, start, row(piece, y));
+    }
+}
+
+/// The part of the whole image in the rectangle, raised to the piece, as an image by itself.
+///
+/// Errors: out of memory.
+pub(crate) fn raised_part(
+    alloc: Global,
+    whole: &Grid,
+    rect: Rect,
+    piece: &Grid,
+) -> Result<Grid, Memory>
+    requires fits { RectFits whole.now.width whole.now.height rect }
+    requires width { piece.now.width ≡ rect.w }
+    requires height { piece.now.height ≡ rect.h }
+    ensures { IfOk result (IsRaisedPart rect whole.now piece.now) }
+{
+    let mut part = cut(alloc, whole, rect)?;
+    raise_cells(&mut part, 0, piece.cells());
+    Ok(part)
+}
+
+// Row `y` of the image.
+fn row(image: &Grid, y: u32) -> &[u32]
+    requires { y < image.now.height }
+    ensures { IsRow image.now.width (value_at image.now) y result.now }
+{
+    let width = image.width() as usize;
+    let start = y as usize * width;
+    &image.cells()[start..start + width]
+}
+
+// Row `y` of the part of the whole image in the rectangle.
+fn row_within(whole: &Grid, rect: Rect, y: u32) -> &[u32]
+    requires fits { RectFits whole.now.width whole.now.height rect }
+    requires row { y < rect.h }
+    ensures { IsRow rect.w (part rect (value_at whole.now)) y result.now }
+{
+    let width = whole.width() as usize;
+    let start = (rect.y + y) as usize * width + rect.x as usize;
+    &whole.cells()[start..start + rect.w as usize]
+}
+
+// Whether the rows are equal.
+fn is_equal(a: &[u32], b: &[u32]) -> bool
+    requires { length a.now ≡ length b.now }
+    ensures { IsTrue result ↔ EachIndex a.now (λ k. slice_index a.now k ≡ slice_index b.now k) }
+{
+    a.iter().zip(b).all(|(a, b)| a == b)
+}
+
+// Whether no value of the first row is above that of the second.
+fn is_at_most(a: &[u32], b: &[u32]) -> bool
+    requires { length a.now ≡ length b.now }
+    ensures { IsTrue result ↔ EachIndex a.now (λ k. slice_index a.now k ≤ slice_index b.now k) }
+{
+    a.iter().zip(b).all(|(a, b)| a <= b)
+}
+
+// Raises the cells from a place on to these values.
+fn raise_cells(image: &mut Grid, start: usize, values: &[u32])
+    requires { start + length values.now ≤ length image.old.cells }
+    ensures { AreCellsRaised start values.now image.old image.new }
+{
+    cells_given_back();
+    let cells = image.cells_mut();
+    raise_row(&mut cells[start..start + values.len()], values);
+}
+
+// Raises each cell of the row to the value at its place.
+fn raise_row(row: &mut [u32], values: &[u32])
+    requires { length values.now ≡ length row.old }
+    ensures { EachIndex row.new (λ k. slice_index row.new k
+        ≡ max (slice_index row.old k) (slice_index values.now k)) }
+{
+    for i in 0..row.len() {
+        row[i] = row[i].max(values[i]);
+    }
+}

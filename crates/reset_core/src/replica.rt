@@ -1,0 +1,409 @@
+//! The core.
+
+ghost use Rattle.std.specs.Prelude.{◌≡◌, ◌<◌, ◌≤◌, ◌↔◌, ◌⊎◌, ◌≢◌, length, replicate, false, None, IfOk, IfErr, IsErr, IsErrOf, IsTrue};
+ghost use Rattle.grid_core.specs.Raster.{IsFilled, IsInside, IsSized, IsBelow, value_at};
+ghost use Rattle.grid_core.specs.Tiles.{IsTiled, IsTileSide, count_of};
+ghost use Rattle.marker_tiles.specs.Kept.{IsMarkerOf};
+ghost use Rattle.tile_generations.specs.Generations.{max_generation};
+ghost use Rattle.reset_core.specs.declared.error.CoreError.TheVariants as errors;
+ghost use Rattle.reset_core.specs.Work.{IsTile, IsQuiet, tiling, work_at};
+ghost use Rattle.reset_core.specs.Invariant.{HasLawfulImage, HasReconstruction};
+ghost use Rattle.reset_core.specs.Opening.{blank, fresh, opened};
+ghost use Rattle.reset_core.specs.Replica.{core_of, IsStored};
+ghost use Rattle.stroke_lattice.specs.State.{nothing};
+ghost use Rattle.reset_core.specs.Runs.{ticket_out};
+
+use crate::error::CoreError;
+use crate::tile_set::TileSet;
+use crate::work_table::WorkTable;
+use grid_core::{Conn, Grid, Pixel, Tiling, is_tile_side};
+use marker_tiles::Markers;
+use pgm_codec::Image;
+use std::alloc::Global;
+use std::marker::Model;
+use stroke_lattice::{State, StateError};
+use tile_generations::Ticket;
+
+mod handing;
+mod in_place;
+mod merging;
+mod scheduling;
+mod settling;
+mod sweeping;
+
+pub use scheduling::Ran;
+pub use settling::Count;
+
+/// The side of the tiles of a core that names no other.
+pub const TILE_SIDE: u32 = 64;
+
+/// A mask of which no core was opened.
+#[derive(Debug, Drop)]
+pub struct RefusedMask {
+    /// Why.
+    pub why: CoreError,
+    /// The mask.
+    pub mask: Grid,
+}
+
+/// One replica: a mask, the strokes on it, the image that grows from them, and the work that is left at each tile.
+///
+/// The image is cut into square tiles of one side, numbered row by row from 0.
+#[derive(Drop)]
+pub struct Core {
+    conn: Conn,
+    state: State,
+    markers: Markers,
+    image: Grid,
+    work: WorkTable,
+    serial: u64,
+    // Both are empty but within a merge.
+    marks: TileSet,
+    queue: TileSet,
+}
+
+impl Model for Core {
+    ghost use Rattle.stroke_core.specs.contracts.stroke.Stroke as stroke;
+    ghost use Rattle.reset_core.specs.Work.{Core as Replica};
+    ghost use Rattle.reset_core.specs.Stored.{core_code};
+    ghost use Rattle.reset_core.specs.Replica.{core_of, IsStored};
+
+    ghost Value = { Replica };
+
+    ghost coded = { core_code stroke.the_row.coded };
+
+    ghost view = { λ c. core_of (record {
+      conn = c.conn;
+      state = c.state;
+      kept = c.markers;
+      image = c.image;
+      work = c.work;
+      serial = c.serial;
+      marks = c.marks;
+      queue = c.queue;
+    }) };
+
+    ghost invariant = { λ c. IsStored (record {
+      conn = c.conn;
+      state = c.state;
+      kept = c.markers;
+      image = c.image;
+      work = c.work;
+      serial = c.serial;
+      marks = c.marks;
+      queue = c.queue;
+    }) };
+}
+
+impl Core {
+    /// A core of the image as its mask, with tiles of side 64.
+    ///
+    /// Errors: C4.
+    pub fn open(alloc: Global, mask: &Image, conn: Conn) -> Result<Core, CoreError>
+        ensures value { IfOk result (λ core. core ≡ opened mask.now.raster conn 64 0) }
+        ensures memory { IfErr result (λ e. e ≡ errors.Memory) }
+    {
+        Core::open_at(alloc, mask, conn, 0)
+    }
+
+    /// A core of the image as its mask, with tiles of side 64, whose generations begin at `first`.
+    ///
+    /// Errors: C4.
+    pub fn open_at(alloc: Global, mask: &Image, conn: Conn, first: u64) -> Result<Core, CoreError>
+        requires { first ≤ max_generation }
+        ensures value { IfOk result (λ core. core ≡ opened mask.now.raster conn 64 first) }
+        ensures memory { IfErr result (λ e. e ≡ errors.Memory) }
+    {
+        Core::open_tiled(alloc, mask, conn, TILE_SIDE, first)
+    }
+
+    /// A core of the image as its mask, with tiles of this side, whose generations begin at `first`. The mask is
+    /// copied.
+    ///
+    /// Errors: C5 where the side is less than 8 or more than 256, else C4.
+    pub fn open_tiled(
+        alloc: Global,
+        mask: &Image,
+        conn: Conn,
+        side: u32,
+        first: u64,
+    ) -> Result<Core, CoreError>
+        requires { first ≤ max_generation }
+        ensures value { IfOk result (λ core. core ≡ opened mask.now.raster conn side first) }
+        ensures side { IsErrOf result errors.BadSide ↔ (IsTileSide side → ⊥) }
+        ensures others { IfErr result (λ e. (e ≡ errors.BadSide) ⊎ (e ≡ errors.Memory)) }
+    {
+        if !is_tile_side(side) {
+            return Err(CoreError::BadSide);
+        }
+        let mask = mask.grid().copy(alloc)?;
+        match Core::over(alloc, mask, conn, side, first) {
+            Ok(core) => Ok(core),
+            Err(refused) => Err(refused.why),
+        }
+    }
+
+    /// As [`open_tiled`](Core::open_tiled), with the mask taken over, without a copy.
+    ///
+    /// Errors: C5 where the side is less than 8 or more than 256, else C4, with the mask handed back.
+    pub fn over(
+        alloc: Global,
+        mask: Grid,
+        conn: Conn,
+        side: u32,
+        first: u64,
+    ) -> Result<Core, RefusedMask>
+        requires { first ≤ max_generation }
+        ensures value { IfOk result (λ core. core ≡ opened mask conn side first) }
+        ensures side { (IsTileSide side → ⊥) → IsErr result }
+        ensures why { IfErr result (λ refused. ((refused.why ≡ errors.BadSide) × (IsTileSide side → ⊥))
+            ⊎ ((refused.why ≡ errors.Memory) × IsTileSide side)) }
+        ensures returned { IfErr result (λ refused. refused.mask ≡ mask) }
+    {
+        if !is_tile_side(side) {
+            return Err(RefusedMask {
+                mask,
+                why: CoreError::BadSide,
+            });
+        }
+        let tiling = tiling_of(&mask, side);
+        let beginning = match Beginning::new(alloc, &mask, tiling.count(), first) {
+            Ok(beginning) => beginning,
+            Err(_) => {
+                return Err(RefusedMask {
+                    mask,
+                    why: CoreError::Memory,
+                });
+            }
+        };
+        match Markers::over(alloc, mask, tiling) {
+            Ok(markers) => Ok(beginning.with_markers(conn, markers)),
+            Err((mask, _)) => Err(RefusedMask {
+                mask,
+                why: CoreError::Memory,
+            }),
+        }
+    }
+
+    /// Whether no work is left: no tile is dirty, no job is out, and no hint waits.
+    pub fn is_quiet(&self) -> bool
+        ensures { IsTrue result ↔ IsQuiet self.now }
+    {
+        self.work.is_quiet()
+    }
+
+    /// The image at a pixel.
+    pub fn pixel(&self, p: Pixel) -> u32
+        requires { IsInside self.now.mask.width self.now.mask.height p }
+        ensures { result ≡ value_at self.now.image p }
+    {
+        self.image.get(p)
+    }
+
+    /// The strokes and tombstones.
+    pub fn state(&self) -> &State
+        ensures { result.now ≡ self.now.state }
+    {
+        &self.state
+    }
+
+    /// The number of tiles.
+    pub fn tiles(&self) -> usize
+        ensures { result ≡ length self.now.tiles }
+    {
+        self.work.len()
+    }
+
+    /// The generation of a tile, which each reset raises by 1.
+    pub fn generation(&self, tile: usize) -> u64
+        requires { IsTile self.now tile }
+        ensures value { result ≡ (work_at self.now tile).generation }
+        ensures bounded { result ≤ max_generation }
+    {
+        self.work.generation(tile)
+    }
+
+    /// Whether a tile is to be swept.
+    pub fn is_dirty(&self, tile: usize) -> bool
+        requires { IsTile self.now tile }
+        ensures { result ≡ (work_at self.now tile).dirty }
+    {
+        self.work.is_dirty(tile)
+    }
+
+    /// Whether a job of the tile is out.
+    pub fn is_out(&self, tile: usize) -> bool
+        requires { IsTile self.now tile }
+        ensures { IsTrue result ↔ ((work_at self.now tile).out ≢ None) }
+    {
+        self.work.out(tile).is_some()
+    }
+
+    /// The ticket of the job of the tile that is out, if one is.
+    pub fn ticket_out(&self, tile: usize) -> Option<Ticket>
+        requires { IsTile self.now tile }
+        ensures { result ≡ ticket_out tile (work_at self.now tile) }
+    {
+        let serial = self.work.out(tile)?;
+        Some(Ticket {
+            tile,
+            generation: self.work.generation(tile),
+            serial,
+        })
+    }
+
+    /// How many hints wait for the tile.
+    pub fn waiting(&self, tile: usize) -> usize
+        requires { IsTile self.now tile }
+        ensures { result ≡ length (work_at self.now tile).inbox }
+    {
+        self.work.waiting(tile)
+    }
+
+    /// The image. At every moment it lies between the marker of the strokes and the reconstruction of the mask from it,
+    /// and where no work is left it is that reconstruction.
+    pub fn image(&self) -> &Grid
+        ensures value { result.now ≡ self.now.image }
+        ensures sized { IsSized self.now.image }
+        ensures below { IsBelow self.now.image self.now.mask }
+        ensures lawful { HasLawfulImage self.now }
+        ensures quiet { IsQuiet self.now → HasReconstruction self.now }
+    {
+        &self.image
+    }
+
+    /// The marker of the strokes.
+    pub fn marker(&self) -> &Markers
+        ensures mask { result.now.mask ≡ self.now.mask }
+        ensures tiling { result.now.tiling ≡ tiling self.now }
+        ensures marks { IsMarkerOf self.now.mask self.now.state result.now.marker }
+    {
+        let _ = self.markers.tiling();
+        &self.markers
+    }
+
+    /// The mask.
+    pub fn mask(&self) -> &Grid
+        ensures value { result.now ≡ self.now.mask }
+        ensures sized { IsSized self.now.mask }
+    {
+        self.markers.mask()
+    }
+
+    /// Which pixels are neighbours.
+    pub fn conn(&self) -> Conn
+        ensures { result ≡ self.now.conn }
+    {
+        self.conn
+    }
+
+    /// How the image is cut into tiles.
+    pub fn tiling(&self) -> Tiling
+        ensures value { result ≡ tiling self.now }
+        ensures tiled { IsTiled (tiling self.now) }
+        ensures count { length self.now.tiles ≡ count_of (tiling self.now) }
+    {
+        self.markers.tiling()
+    }
+
+    /// The mask, the image and the strokes, without the rest. It takes no memory.
+    pub fn into_parts(self) -> (Grid, Grid, State)
+        ensures mask { result.0 ≡ self.mask }
+        ensures image { result.1 ≡ self.image }
+        ensures state { result.2 ≡ self.state }
+    {
+        let Core {
+            markers,
+            image,
+            state,
+            ..
+        } = self;
+        let (mask, _) = markers.into_grids();
+        (mask, image, state)
+    }
+}
+
+// What a core begins with beside its markers.
+#[derive(Drop)]
+struct Beginning {
+    state: State,
+    image: Grid,
+    work: WorkTable,
+    marks: TileSet,
+    queue: TileSet,
+}
+
+impl Beginning {
+    // No strokes, an image of zeros of the mask's size, and so many tiles without work.
+    fn new(alloc: Global, mask: &Grid, count: usize, first: u64) -> Result<Beginning, StateError>
+        requires { first ≤ max_generation }
+        ensures state { IfOk result (λ b. b.state ≡ nothing) }
+        ensures image { IfOk result (λ b. b.image ≡ blank mask.now) }
+        ensures work { IfOk result (λ b. b.work ≡ replicate count (fresh first)) }
+        ensures marks { IfOk result (λ b. b.marks ≡ replicate count false) }
+        ensures queue { IfOk result (λ b. b.queue ≡ replicate count false) }
+        ensures filled { IsFilled mask.now }
+    {
+        let cells = vec![in alloc; 0; mask.cells().len()]?;
+        Ok(Beginning {
+            state: State::empty(alloc)?,
+            image: Grid::from_cells(mask.width(), mask.height(), cells),
+            work: WorkTable::new(alloc, count, first)?,
+            marks: TileSet::empty(alloc, count)?,
+            queue: TileSet::empty(alloc, count)?,
+        })
+    }
+
+    // The core that begins so.
+    fn with_markers(self, conn: Conn, markers: Markers) -> Core
+        requires { IsStored (record {
+          conn = conn;
+          state = self.state;
+          kept = markers;
+          image = self.image;
+          work = self.work;
+          serial = 0;
+          marks = self.marks;
+          queue = self.queue;
+        }) }
+        ensures { result ≡ core_of (record {
+          conn = conn;
+          state = self.state;
+          kept = markers;
+          image = self.image;
+          work = self.work;
+          serial = 0;
+          marks = self.marks;
+          queue = self.queue;
+        }) }
+    {
+        let Beginning {
+            state,
+            image,
+            work,
+            marks,
+            queue,
+        } = self;
+        Core {
+            conn,
+            state,
+            markers,
+            image,
+            work,
+            serial: 0,
+            marks,
+            queue,
+        }
+    }
+}
+
+// The tiles of this side of a mask.
+fn tiling_of(mask: &Grid, side: u32) -> Tiling
+    requires { IsTileSide side }
+    ensures { result ≡ record { width = mask.now.width; height = mask.now.height; side = side } }
+{
+    match Tiling::new(mask.width(), mask.height(), side) {
+        Ok(tiling) => tiling,
+        Err(_) => unreachable!(),
+    }
+}

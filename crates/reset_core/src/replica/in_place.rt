@@ -1,0 +1,196 @@
+//! The one step of settling: a dirty tile is swept in place, and its hints are handed over at once.
+
+ghost use Rattle.std.specs.Prelude.{◌≡◌, ◌<◌, ◌≤◌, ℕ, [], ◌∷◌, List, Contains, IsTrue, true, length};
+ghost use Rattle.std.specs.Prelude.{slice_index_or, slice_set};
+ghost use Rattle.std.specs.List.{flat_map};
+ghost use Rattle.grid_core.specs.Raster.{IsBelow, IsInside, IsFilled, value_at};
+ghost use Rattle.grid_core.specs.Reconstruction.{IsReconstruction};
+ghost use Rattle.grid_core.specs.Rects.{IsInRect, RectFits, domain_in, part};
+ghost use Rattle.grid_core.specs.Tiles.{IsTiled, count_of};
+ghost use Rattle.border_queues.specs.OpenEdges.{IsOnTiling, room_for_edges, open_edges};
+ghost use Rattle.border_queues.specs.Waiting.{places};
+ghost use Rattle.raster_sweeps.specs.Borders.{OpenPairsBeginOnBorder};
+ghost use Rattle.reset_core.specs.Work.{tiling, idle};
+ghost use Rattle.reset_core.specs.Events.{Take};
+ghost use Rattle.reset_core.specs.Runs.{Entry, IsNext, IsWorkedOff, NoneOut, HasHints, jobs_of};
+ghost use Rattle.reset_core.specs.Closing.{AreClosedInside};
+ghost use Rattle.reset_core.specs.Telling.{burden, hints_in, AreHandedOver, AreTold};
+
+use crate::replica::Core;
+use crate::tile_set::TileSet;
+use crate::work_table::WorkTable;
+use border_queues::laws::edges_are_open;
+use border_queues::{Hint, Inbox, open_edges_in};
+use grid_core::laws::{each_pixel_in_one_tile, neighbours_lie_in_touching_tiles};
+use grid_core::{Conn, Grid, Rect, Tiling};
+use raster_sweeps::{Room, grow_from_border, grow_within};
+
+impl Core {
+    /// Sweeps the next tile in place, and hands over the hints that this makes. It takes no memory.
+    ///
+    /// `told` needs room for the hints of one tile; what it holds is dropped. In the tiles of `swept` nothing is left
+    /// to grow but from their borders; the tile is one of them afterwards.
+    pub(crate) fn work_off(
+        &mut self,
+        tile: usize,
+        room: &mut Room,
+        told: &mut Inbox,
+        swept: &mut TileSet,
+    )
+        requires next { IsNext self.old (Take tile) }
+        requires enough { room_for_edges (tiling self.old) ≤ places told.old }
+        requires closed { AreClosedInside self.old swept.old }
+        ensures works { (log : List Entry) × IsWorkedOff self.old log self.new × (jobs_of log ≡ 1) }
+        ensures none_out { NoneOut self.new }
+        ensures no_hints { (u : ℕ) → HasHints self.new u → ⊥ }
+        ensures less { burden self.new < burden self.old }
+        ensures mask { self.new.mask ≡ self.old.mask }
+        ensures side { self.new.side ≡ self.old.side }
+        ensures conn { self.new.conn ≡ self.old.conn }
+        ensures enough { room_for_edges (tiling self.new) ≤ places told.new }
+        ensures closed { AreClosedInside self.new swept.new }
+        ensures swept { swept.new ≡ slice_set swept.old tile true }
+    {
+        edges_are_open();
+        let tiling = self.markers.tiling();
+        let mask = self.markers.mask();
+        let again = swept.contains(tile);
+        swept.insert(tile);
+        self.serial = self.serial.wrapping_add(1);
+        self.work.mark_clean(tile);
+        sweep(
+            room,
+            mask,
+            &mut self.image,
+            tiling.rect(tile),
+            self.conn,
+            again,
+        );
+        tell(
+            &mut self.image,
+            &mut self.work,
+            mask,
+            &tiling,
+            tile,
+            self.conn,
+            told,
+        );
+    }
+}
+
+// Grows the image in the rectangle: from the border alone where nothing else is left to grow.
+fn sweep(room: &mut Room, mask: &Grid, image: &mut Grid, rect: Rect, conn: Conn, from_border: bool)
+    requires below { IsBelow image.old mask.now }
+    requires fits { RectFits mask.now.width mask.now.height rect }
+    requires border { IsTrue from_border → OpenPairsBeginOnBorder conn rect mask.now image.old }
+    ensures width { image.new.width ≡ image.old.width }
+    ensures height { image.new.height ≡ image.old.height }
+    ensures filled { IsFilled image.new }
+    ensures outside { (p : _) → IsInside image.old.width image.old.height p → (IsInRect rect p → ⊥)
+        → value_at image.new p ≡ value_at image.old p }
+    ensures reconstruction { IsReconstruction (domain_in rect conn) (part rect (value_at mask.now))
+        (part rect (value_at image.old)) (part rect (value_at image.new)) }
+{
+    if from_border {
+        grow_from_border(room, mask, image, rect, conn);
+    } else {
+        grow_within(room, mask, image, rect, conn);
+    }
+}
+
+// Tells the hints of the tile's open edges, and hands them over, tile by tile.
+fn tell(
+    image: &mut Grid,
+    work: &mut WorkTable,
+    mask: &Grid,
+    tiling: &Tiling,
+    tile: usize,
+    conn: Conn,
+    told: &mut Inbox,
+)
+    requires image { IsOnTiling tiling.now image.old }
+    requires filled { IsFilled image.old }
+    requires mask { IsOnTiling tiling.now mask.now }
+    requires tiled { IsTiled tiling.now }
+    requires count { count_of tiling.now ≡ length work.old }
+    requires tile { tile < length work.old }
+    requires enough { room_for_edges tiling.now ≤ places told.old }
+    ensures hints { AreTold tiling.now (open_edges (record {
+      tiles = tiling.now;
+      conn = conn;
+      mask = value_at mask.now;
+      image = value_at image.old;
+      tile = tile;
+      generation = (slice_index_or work.old tile idle).generation;
+    })) (record { image = image.old; rows = work.old }) (record { image = image.new; rows = work.new }) }
+    ensures enough { places told.old ≤ places told.new }
+{
+    edges_are_open();
+    neighbours_lie_in_touching_tiles();
+    each_pixel_in_one_tile();
+    told.clear();
+    let generation = work.generation(tile);
+    let _ = open_edges_in(image, mask, tiling, tile, generation, conn, told);
+    if told.is_empty() {
+        return;
+    }
+    let touching = tiling.touching(tile);
+    hand_over_all(image, work, tiling, touching.as_slice(), told.as_slice());
+}
+
+// Hands over a hint, if its pixel lies in the tile.
+fn hand_over(image: &mut Grid, work: &mut WorkTable, tiling: &Tiling, tile: usize, hint: Hint)
+    requires image { IsOnTiling tiling.now image.old }
+    requires filled { IsFilled image.old }
+    requires tile { tile < length work.old }
+    requires inside { IsInside tiling.now.width tiling.now.height hint.to_pixel }
+    ensures { AreHandedOver tiling.now (hints_in tiling.now (hint ∷ []) tile)
+        (record { image = image.old; rows = work.old }) (record { image = image.new; rows = work.new }) }
+{
+    if tiling.tile_of(hint.to_pixel) == tile && image.get(hint.to_pixel) < hint.value {
+        image.set(hint.to_pixel, hint.value);
+        work.mark_dirty(tile);
+    }
+}
+
+// Hands over the hints for the pixels of a tile, in their order.
+fn hand_over_in(
+    image: &mut Grid,
+    work: &mut WorkTable,
+    tiling: &Tiling,
+    tile: usize,
+    hints: &[Hint],
+)
+    requires image { IsOnTiling tiling.now image.old }
+    requires filled { IsFilled image.old }
+    requires tile { tile < length work.old }
+    requires inside { (hint : _) → Contains hints.now hint
+        → IsInside tiling.now.width tiling.now.height hint.to_pixel }
+    ensures { AreHandedOver tiling.now (hints_in tiling.now hints.now tile)
+        (record { image = image.old; rows = work.old }) (record { image = image.new; rows = work.new }) }
+{
+    for hint in hints {
+        hand_over(image, work, tiling, tile, *hint);
+    }
+}
+
+// Hands over the hints for the pixels of these tiles, tile by tile.
+fn hand_over_all(
+    image: &mut Grid,
+    work: &mut WorkTable,
+    tiling: &Tiling,
+    tiles: &[usize],
+    hints: &[Hint],
+)
+    requires image { IsOnTiling tiling.now image.old }
+    requires filled { IsFilled image.old }
+    requires tiles { (tile : _) → Contains tiles.now tile → tile < length work.old }
+    requires inside { (hint : _) → Contains hints.now hint
+        → IsInside tiling.now.width tiling.now.height hint.to_pixel }
+    ensures { AreHandedOver tiling.now (flat_map (hints_in tiling.now hints.now) tiles.now)
+        (record { image = image.old; rows = work.old }) (record { image = image.new; rows = work.new }) }
+{
+    for tile in tiles {
+        hand_over_in(image, work, tiling, *tile, hints);
+    }
+}

@@ -1,0 +1,125 @@
+//! Deltas that are merged.
+
+ghost use Rattle.std.specs.Prelude.{◌≡◌, ◌<◌, ◌⊎◌, ℕ, false, length, replicate, IfOk, IfErr, IsErrOf, OnOk, OnErr};
+ghost use Rattle.grid_core.specs.Tiles.{count_of};
+ghost use Rattle.marker_tiles.specs.Kept.{IsMarkerOf, HasGrown};
+ghost use Rattle.border_queues.specs.OpenEdges.{IsOnTiling};
+ghost use Rattle.tile_generations.specs.Generations.{max_generation};
+ghost use Rattle.reset_core.specs.TileSet.{Has};
+ghost use Rattle.reset_core.specs.Renewing.{row_at};
+ghost use Rattle.reset_core.specs.MergeSteps.{IsImageRenewed};
+ghost use Rattle.reset_core.specs.declared.error.CoreError.{CoreError};
+ghost use Rattle.reset_core.specs.declared.error.CoreError.TheVariants as errors;
+ghost use Rattle.stroke_lattice.specs.State.{StateFits, AreCompatible};
+ghost use Rattle.reset_core.specs.Merge.{IsMerged, IsRefused, IsAcceptable};
+
+use super::Core;
+use crate::error::CoreError;
+use crate::hits::{is_one_spent, mark_hits};
+use crate::renewing::{raise_to_marker, reset_marked};
+use crate::tile_set::TileSet;
+use crate::work_table::WorkTable;
+use grid_core::Grid;
+use marker_tiles::Markers;
+use std::alloc::Global;
+use stroke_lattice::{Change, Delta, State};
+
+impl Core {
+    /// Merges a delta: the strokes become the join, the tiles that a withdrawal hits are reset, and the image is raised
+    /// to the new marker elsewhere. It answers the tags that became live, and those that ceased to be.
+    ///
+    /// A tile is hit where a stroke that dies covers a pixel of it, or where links lead to it from such a tile: from
+    /// tile to tile over neighbouring pixels at both of which the image is above 0.
+    ///
+    /// Errors: C1 where a stroke of the delta does not fit the image, live or not, else C2 where another stroke of the
+    /// core has one of its tags, else C3 where a tile that is hit has spent its generations, else C4. The core is then
+    /// as it was.
+    pub fn merge(&mut self, alloc: Global, delta: &Delta) -> Result<Change, CoreError>
+        ensures merged { IfOk result (λ change. IsMerged self.old delta.now change self.new) }
+        ensures refused { IfErr result (λ e. IsRefused self.old delta.now e
+            ⊎ ((e ≡ errors.Memory) × IsAcceptable self.old delta.now)) }
+        ensures exactly { (e : CoreError) → IsRefused self.old delta.now e → IsErrOf result e }
+        ensures err { OnErr result (self.new ≡ self.old) }
+    {
+        self.check(delta)?;
+        let tiling = self.markers.tiling();
+        mark_hits(
+            &mut self.marks,
+            &mut self.queue,
+            &self.image,
+            &tiling,
+            self.conn,
+            &self.state,
+            delta,
+        );
+        if is_one_spent(&self.marks, &self.work) {
+            self.marks.clear();
+            return Err(CoreError::GenerationsSpent);
+        }
+        match self.state.merge(alloc, delta) {
+            Ok(change) => {
+                renew(
+                    &mut self.marks,
+                    &mut self.image,
+                    &mut self.markers,
+                    &mut self.work,
+                    &self.state,
+                    &change,
+                );
+                Ok(change)
+            }
+            Err(why) => {
+                self.marks.clear();
+                Err(why.into())
+            }
+        }
+    }
+
+    // Looks whether the delta's strokes fit the image and the core's strokes.
+    //
+    // Errors: C1, else C2.
+    fn check(&self, delta: &Delta) -> Result<(), CoreError>
+        ensures fits { OnOk result (StateFits self.now.mask.width self.now.mask.height delta.now) }
+        ensures compatible { OnOk result (AreCompatible self.now.state delta.now) }
+        ensures refused { IfErr result (IsRefused self.now delta.now) }
+    {
+        let tiling = self.markers.tiling();
+        if let Some(tag) = delta.outside(tiling.width(), tiling.height()) {
+            return Err(CoreError::OutOfImage(tag));
+        }
+        match self.state.clash(delta) {
+            Some(tag) => Err(CoreError::Conflict(tag)),
+            None => Ok(()),
+        }
+    }
+}
+
+// Makes marker, image and work those of the strokes as they are now, where the tiles that are reset are marked. No mark
+// is left.
+fn renew(
+    marks: &mut TileSet,
+    image: &mut Grid,
+    markers: &mut Markers,
+    work: &mut WorkTable,
+    state: &State,
+    change: &Change,
+)
+    requires fits { StateFits markers.old.mask.width markers.old.mask.height state.now }
+    requires known { HasGrown markers.old.mask markers.old.marker state.now change.now }
+    requires image { IsOnTiling markers.old.tiling image.old }
+    requires work { length work.old ≡ count_of markers.old.tiling }
+    requires marks { length marks.old ≡ count_of markers.old.tiling }
+    requires unspent { (t : ℕ) → Has marks.old t → (row_at work.old t).generation < max_generation }
+    ensures mask { markers.new.mask ≡ markers.old.mask }
+    ensures tiling { markers.new.tiling ≡ markers.old.tiling }
+    ensures marker { IsMarkerOf markers.new.mask state.now markers.new.marker }
+    ensures marks { marks.new ≡ replicate (length marks.old) false }
+    ensures image { IsImageRenewed markers.old.tiling marks.old change.now state.now markers.new.marker
+        image.old image.new work.old work.new }
+{
+    let tiling = markers.tiling();
+    markers.apply(state, change);
+    let marker = markers.marker();
+    reset_marked(marks, image, marker, &tiling, work);
+    raise_to_marker(image, marker, &tiling, work, state, change.born());
+}

@@ -1,0 +1,284 @@
+//! Schedules: lists of steps, of which each takes, gives back, abandons, hands over or edits.
+
+ghost use Rattle.std.specs.Prelude.{◌≡◌, ◌≢◌, ℕ, ◌+◌, ◌<◌, ◌≤◌, [], ◌∷◌, ◌++◌, length, IfOk, OnOk, OnErr};
+ghost use Rattle.tile_generations.specs.Jobs.{Swept as Result, IsSwept};
+ghost use Rattle.reset_core.specs.declared.error.CoreError.TheVariants as errors;
+ghost use Rattle.reset_core.specs.declared.step.Step.TheVariants as steps;
+ghost use Rattle.reset_core.specs.Schedule.{Progress, started, AreSteps, IsStopped, ran_of};
+ghost use Rattle.reset_core.specs.Scheduling.{kept_of, LeadsOn};
+
+use super::Core;
+use crate::error::CoreError;
+use crate::step::Step;
+use grid_core::Memory;
+use std::alloc::Global;
+use std::marker::Model;
+use stroke_lattice::Delta;
+use tile_generations::{Job, Swept};
+
+/// What a schedule did.
+#[derive(Debug, Drop)]
+pub struct Ran {
+    jobs: u64,
+    abandons: u64,
+    accepted: Vec<usize>,
+    refused: Vec<(usize, CoreError)>,
+}
+
+impl Model for Ran {
+    ghost use Rattle.reset_core.specs.Schedule.{Ran as Account};
+
+    ghost Value = { Account };
+
+    ghost view = { λ r. record {
+      jobs = r.jobs;
+      abandons = r.abandons;
+      accepted = r.accepted.items;
+      refused = r.refused.items;
+    } };
+}
+
+impl Ran {
+    /// How many takes gave a job.
+    pub fn jobs(&self) -> u64
+        ensures { result ≡ self.now.jobs }
+    {
+        self.jobs
+    }
+
+    /// How many jobs were abandoned.
+    pub fn abandons(&self) -> u64
+        ensures { result ≡ self.now.abandons }
+    {
+        self.abandons
+    }
+
+    /// The numbers of the steps that were edits and were accepted, rising. Steps are counted from 0.
+    pub fn accepted(&self) -> &[usize]
+        ensures { result.now ≡ self.now.accepted }
+    {
+        &self.accepted
+    }
+
+    /// The numbers of the steps that were edits and were refused, rising, each with the reason: C1, C2 or C3.
+    pub fn refused(&self) -> &[(usize, CoreError)]
+        ensures { result.now ≡ self.now.refused }
+    {
+        &self.refused
+    }
+}
+
+impl Core {
+    /// Runs the steps of a schedule, one after another. Each take that gives a job is swept at once, and its result
+    /// kept as the next one, counted from 0. A return gives back a copy of a result, so that it may be returned late
+    /// or twice. A step that names nothing is passed over. An edit that is refused is listed.
+    ///
+    /// Errors: out of memory. The core is then as after the steps before, but serials may have been spent.
+    pub fn run_schedule(&mut self, alloc: Global, steps: &[Step]) -> Result<Ran, Memory>
+        ensures ran { IfOk result (λ ran. (end : Progress) × AreSteps steps.now (started self.old) end
+            × (ran ≡ ran_of end) × (self.new ≡ end.core)) }
+        ensures stopped { OnErr result (IsStopped self.old steps.now self.new) }
+    {
+        let mut tally = Tally::new(alloc);
+        for i in 0..steps.len() {
+            self.run_step(alloc, &mut tally, i, &steps[i])?;
+        }
+        Ok(tally.into_ran())
+    }
+
+    // Runs the step of this number.
+    //
+    // Errors: out of memory, where no more than the serial has changed.
+    fn run_step(
+        &mut self,
+        alloc: Global,
+        tally: &mut Tally,
+        number: usize,
+        step: &Step,
+    ) -> Result<(), Memory>
+        requires { tally.old.abandons < u64.MAX }
+        ensures step { OnOk result (LeadsOn step.now number self.old (kept_of tally.old) self.new (kept_of tally.new)) }
+        ensures few { tally.new.abandons ≤ tally.old.abandons + 1 }
+        ensures err { OnErr result (self.new ≡ record self.old { serial = self.new.serial }) }
+    {
+        match step {
+            Step::Edit(delta) => self.edit(alloc, tally, number, delta),
+            Step::Take(tile) => self.take_and_sweep(alloc, tally, *tile),
+            Step::Return(place) => self.give_back_copy(alloc, tally, *place),
+            Step::Abandon(place) => {
+                self.abandon_job_of(tally, *place);
+                Ok(())
+            }
+            Step::Hand(tile, place) => {
+                let _handed = self.hand(*tile, *place);
+                Ok(())
+            }
+        }
+    }
+
+    // Merges the delta of the step of this number, or lists why it is refused.
+    //
+    // Errors: out of memory, where the core is as it was.
+    fn edit(
+        &mut self,
+        alloc: Global,
+        tally: &mut Tally,
+        number: usize,
+        delta: &Delta,
+    ) -> Result<(), Memory>
+        ensures step { OnOk result (LeadsOn (steps.Edit delta.now) number self.old (kept_of tally.old) self.new
+            (kept_of tally.new)) }
+        ensures abandons { tally.new.abandons ≡ tally.old.abandons }
+        ensures err { OnErr result (self.new ≡ self.old) }
+    {
+        tally.accepted.reserve(1)?;
+        match self.merge(alloc, delta) {
+            Ok(_change) => tally.accepted.push_reserved(number),
+            Err(why) => tally.refuse(number, why)?,
+        }
+        Ok(())
+    }
+
+    // Takes a tile, sweeps its job, and keeps the result.
+    //
+    // Errors: out of memory, where the core is as it was, but a serial may have been spent.
+    fn take_and_sweep(
+        &mut self,
+        alloc: Global,
+        tally: &mut Tally,
+        tile: usize,
+    ) -> Result<(), Memory>
+        ensures step { OnOk result ((n : ℕ)
+            → LeadsOn (steps.Take tile) n self.old (kept_of tally.old) self.new (kept_of tally.new)) }
+        ensures abandons { tally.new.abandons ≡ tally.old.abandons }
+        ensures err { OnErr result (self.new ≡ record self.old { serial = self.new.serial }) }
+    {
+        let Some(job) = self.take(alloc, tile)? else {
+            return Ok(());
+        };
+        let ticket = job.ticket();
+        match tally.sweep(alloc, job) {
+            Ok(()) => Ok(()),
+            Err(why) => {
+                let _was_out = self.abandon(ticket);
+                Err(why)
+            }
+        }
+    }
+
+    // Gives back a copy of the result at this place, if there is one.
+    //
+    // Errors: out of memory, where the core is as it was.
+    fn give_back_copy(&mut self, alloc: Global, tally: &Tally, place: usize) -> Result<(), Memory>
+        ensures step { OnOk result ((n : ℕ)
+            → LeadsOn (steps.Return place) n self.old (kept_of tally.now) self.new (kept_of tally.now)) }
+        ensures err { OnErr result (self.new ≡ self.old) }
+    {
+        let Some(swept) = tally.results.get(place) else {
+            return Ok(());
+        };
+        let _ = swept.pixels();
+        let copy = swept.copy(alloc)?;
+        match self.give_back(alloc, copy) {
+            Ok(_back) => Ok(()),
+            Err((_, why)) => Err(why),
+        }
+    }
+
+    // Abandons the job of the result at this place, if there is one.
+    fn abandon_job_of(&mut self, tally: &mut Tally, place: usize)
+        requires { tally.old.abandons < u64.MAX }
+        ensures step { (n : ℕ)
+            → LeadsOn (steps.Abandon place) n self.old (kept_of tally.old) self.new (kept_of tally.new) }
+        ensures few { tally.new.abandons ≤ tally.old.abandons + 1 }
+    {
+        let Some(swept) = tally.results.get(place) else {
+            return;
+        };
+        let ticket = swept.ticket();
+        if self.abandon(ticket) {
+            tally.abandons += 1;
+        }
+    }
+}
+
+// What is kept of a schedule so far.
+#[derive(Drop)]
+struct Tally {
+    results: Vec<Swept>,
+    abandons: u64,
+    accepted: Vec<usize>,
+    refused: Vec<(usize, CoreError)>,
+}
+
+impl Tally {
+    // What is kept at the start.
+    fn new(alloc: Global) -> Tally
+        ensures { kept_of result ≡ record { results = []; abandons = 0; accepted = []; refused = [] } }
+    {
+        Tally {
+            results: Vec::new(alloc),
+            abandons: 0,
+            accepted: Vec::new(alloc),
+            refused: Vec::new(alloc),
+        }
+    }
+
+    // Lists that the edit of this number is refused.
+    //
+    // Errors: out of memory, also as the reason.
+    fn refuse(&mut self, number: usize, why: CoreError) -> Result<(), Memory>
+        ensures listed { OnOk result (kept_of self.new
+            ≡ record (kept_of self.old) { refused = self.old.refused.items ++ (number, why) ∷ [] }) }
+        ensures reason { OnOk result (why ≢ errors.Memory) }
+        ensures abandons { self.new.abandons ≡ self.old.abandons }
+    {
+        match why {
+            CoreError::Memory => Err(Memory),
+            _ => {
+                self.refused.push((number, why))?;
+                Ok(())
+            }
+        }
+    }
+
+    // Sweeps the job, and keeps the result as the next one.
+    //
+    // Errors: out of memory.
+    fn sweep(&mut self, alloc: Global, job: Job) -> Result<(), Memory>
+        ensures kept { OnOk result ((swept : Result) × IsSwept swept × (swept.job ≡ job) × (kept_of self.new
+            ≡ record (kept_of self.old) { results = self.old.results.items ++ swept ∷ [] })) }
+        ensures abandons { self.new.abandons ≡ self.old.abandons }
+    {
+        match job.sweep(alloc) {
+            Ok(swept) => {
+                self.results.push(swept)?;
+                Ok(())
+            }
+            Err((_, why)) => Err(why),
+        }
+    }
+
+    // What the schedule did.
+    fn into_ran(self) -> Ran
+        ensures { result ≡ record {
+          jobs = length self.results.items;
+          abandons = self.abandons;
+          accepted = self.accepted.items;
+          refused = self.refused.items;
+        } }
+    {
+        let Tally {
+            results,
+            abandons,
+            accepted,
+            refused,
+        } = self;
+        Ran {
+            jobs: results.len() as u64,
+            abandons,
+            accepted,
+            refused,
+        }
+    }
+}

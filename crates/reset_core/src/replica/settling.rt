@@ -1,0 +1,129 @@
+//! Settling: working until nothing is left to do.
+
+ghost use Rattle.std.specs.Prelude.{◌≡◌, ◌⊎◌, ◌<◌, ◌≤◌, ℕ, true, false, List, [], ◌∷◌, length, IfOk, OnErr, OnOk};
+ghost use Rattle.border_queues.specs.OpenEdges.{room_for_edges};
+ghost use Rattle.border_queues.specs.Waiting.{places};
+ghost use Rattle.tile_generations.specs.declared.ticket.Ticket.{Ticket};
+ghost use Rattle.reset_core.specs.Work.{IsQuiet, tiling};
+ghost use Rattle.reset_core.specs.Sweeps.{IsAbandoned};
+ghost use Rattle.reset_core.specs.Runs.{Entry, IsRun, IsWorkedOff, IsSettled, IsCutShort, NoneOut, HasHints};
+ghost use Rattle.reset_core.specs.Runs.{jobs_of, abandons_of, abandoned, tickets_out};
+ghost use Rattle.reset_core.specs.Closing.{AreClosedInside};
+ghost use Rattle.reset_core.specs.Telling.{burden};
+ghost use Rattle.reset_core.specs.Settling.{waiting_count, IsFirstHandedOver};
+
+use super::Core;
+use crate::tile_set::TileSet;
+use border_queues::{Inbox, room_for_edges};
+use grid_core::Memory;
+use raster_sweeps::Room;
+use std::alloc::Global;
+
+/// What settling took.
+#[derive(Clone, Copy, Debug, PartialEq, Eq)]
+pub struct Count {
+    /// How many tiles were swept, each as often as it was.
+    pub jobs: u64,
+    /// How many jobs were out at the start. They were abandoned.
+    pub abandons: u64,
+}
+
+impl Core {
+    /// Works until no work is left. The image is then the reconstruction of the mask from the marker of the strokes.
+    ///
+    /// Each job that is out is abandoned. Then, again and again, each waiting hint is handed over, tile by tile, and the
+    /// first dirty tile is swept. A tile that was swept before is checked on its border alone.
+    ///
+    /// Errors: out of memory, where only the jobs that were out have been abandoned.
+    pub fn settle(&mut self, alloc: Global) -> Result<Count, Memory>
+        ensures settled { IfOk result (λ count. (log : List Entry) × IsSettled self.old log self.new
+            × (count.jobs ≡ jobs_of log) × (count.abandons ≡ abandons_of log)) }
+        ensures cut_short { OnErr result ((log : List Entry) × IsCutShort self.old log self.new) }
+    {
+        let abandons = self.abandon_all();
+        let tiling = self.tiling();
+        let mut room = Room::new(alloc, tiling.side() * tiling.side())?;
+        let mut told = Inbox::new(alloc);
+        told.reserve(room_for_edges(&tiling)).map_err(|_| Memory)?;
+        let mut swept = TileSet::empty(alloc, tiling.count())?;
+        self.hand_all();
+        let jobs = self.work_all_off(&mut room, &mut told, &mut swept);
+        Ok(Count { jobs, abandons })
+    }
+
+    // Abandons each job that is out, tile by tile, and says how many there were.
+    fn abandon_all(&mut self) -> u64
+        ensures clears { IsRun self.old (abandoned (tickets_out 0 self.old.tiles)) self.new }
+        ensures none_out { NoneOut self.new }
+        ensures count { result ≡ length (tickets_out 0 self.old.tiles) }
+    {
+        let _ = self.tiles();
+        let mut abandons = 0;
+        while self.abandon_first() {
+            abandons += 1;
+        }
+        abandons
+    }
+
+    // Abandons the first job that is out, and says whether there was one.
+    fn abandon_first(&mut self) -> bool
+        ensures first { ((result ≡ true) × ((ticket : Ticket) × (tickets_out 0 self.old.tiles ≡ ticket ∷ tickets_out 0 self.new.tiles)
+            × IsAbandoned self.old ticket true self.new))
+            ⊎ ((result ≡ false) × (self.new ≡ self.old) × (tickets_out 0 self.old.tiles ≡ []) × NoneOut self.old) }
+        ensures few { length (tickets_out 0 self.old.tiles) ≤ length self.old.tiles }
+    {
+        match self.work.first_out() {
+            Some(tile) => {
+                self.work.abandon(tile);
+                true
+            }
+            None => false,
+        }
+    }
+
+    // Hands over each waiting hint, tile by tile.
+    fn hand_all(&mut self)
+        requires { NoneOut self.old }
+        ensures works { (log : List Entry) × IsWorkedOff self.old log self.new × (jobs_of log ≡ 0) }
+        ensures none_out { NoneOut self.new }
+        ensures no_hints { (u : ℕ) → HasHints self.new u → ⊥ }
+        ensures tiling { tiling self.new ≡ tiling self.old }
+    {
+        while self.hand_first() {}
+    }
+
+    // Hands over the first hint of the first tile where one waits, and says whether there was one.
+    fn hand_first(&mut self) -> bool
+        requires { NoneOut self.old }
+        ensures { ((result ≡ true) × IsFirstHandedOver self.old self.new)
+            ⊎ ((result ≡ false) × (self.new ≡ self.old) × ((u : ℕ) → HasHints self.old u → ⊥)) }
+    {
+        match self.work.first_waiting() {
+            Some(tile) => {
+                let _handed = self.hand(tile, 0);
+                true
+            }
+            None => false,
+        }
+    }
+
+    // Sweeps the first dirty tile in place until none is dirty, and says how often. In the tiles of `swept` nothing is
+    // left to grow but from their borders.
+    fn work_all_off(&mut self, room: &mut Room, told: &mut Inbox, swept: &mut TileSet) -> u64
+        requires none_out { NoneOut self.old }
+        requires no_hints { (u : ℕ) → HasHints self.old u → ⊥ }
+        requires enough { room_for_edges (tiling self.old) ≤ places told.old }
+        requires closed { AreClosedInside self.old swept.old }
+        ensures works { (log : List Entry) × IsWorkedOff self.old log self.new × (jobs_of log ≡ result) }
+        ensures quiet { IsQuiet self.new }
+    {
+        let _ = self.tiling();
+        let _ = self.image();
+        let mut jobs = 0;
+        while let Some(tile) = self.work.first_dirty() {
+            self.work_off(tile, room, told, swept);
+            jobs += 1;
+        }
+        jobs
+    }
+}

@@ -1,0 +1,205 @@
+//! Jobs that are taken, given back and abandoned.
+
+ghost use Rattle.std.specs.Prelude.{◌≡◌, ◌⊎◌, ◌↔◌, All, IfOk, IfErr, OnOk, OnErr, IsTrue};
+ghost use Rattle.reset_core.specs.Image.{IsJoinedWith};
+ghost use Rattle.reset_core.specs.Work.{Core as Replica, IsTile, tiling};
+ghost use Rattle.reset_core.specs.Sweeps.{IsReady, IsNextJob, IsTaken, IsKnown, IsOut, IsUnchanged, HasOnlyRisen};
+ghost use Rattle.reset_core.specs.Sweeps.{IsJoined, IsGivenBack, IsAbandoned, hints_of, tile_rect};
+ghost use Rattle.reset_core.specs.Sweeping.{IsJudged};
+ghost use Rattle.reset_core.specs.WorkTable.{IsToTouching};
+ghost use Rattle.grid_core.specs.Rects.{RectFits};
+
+use super::Core;
+use crate::answers::Back;
+use crate::laws::{abandon_keeps_sound, give_back_keeps_sound, take_keeps_sound};
+use crate::parts::{cut, is_at_most_part, is_part, raise_part, raised_part};
+use border_queues::laws::{edges_are_open, same_image_same_edges};
+use border_queues::{Inbox, open_edges};
+use grid_core::{Memory, Rect};
+use std::alloc::Global;
+use tile_generations::{Job, Swept, Ticket};
+
+impl Core {
+    /// The job of a tile that is dirty and not out: with the tile's pixels and mask as they stand, and with the next
+    /// serial. The tile is then out, and not dirty. None where there is no such tile, or it is clean or out.
+    ///
+    /// Errors: out of memory; nothing has changed then.
+    pub fn take(&mut self, alloc: Global, tile: usize) -> Result<Option<Job>, Memory>
+        ensures taken { IfOk result (λ job. IsTaken self.old tile job self.new) }
+        ensures memory { OnErr result (IsReady self.old tile) }
+        ensures err { OnErr result (self.new ≡ self.old) }
+    {
+        take_keeps_sound();
+        if !self.is_ready(tile) {
+            return Ok(None);
+        }
+        let job = self.next_job(alloc, tile)?;
+        self.work.take(tile, self.serial);
+        self.serial = self.serial.wrapping_add(1);
+        Ok(Some(job))
+    }
+
+    /// Gives back a swept tile. Where its job is out, and the tile is as it was or has only risen since, the image is
+    /// raised to the pixels, the tile is no longer out, and the hints of its open edges wait at the tiles beside it.
+    ///
+    /// Errors: out of memory, with the swept tile handed back; nothing has changed then.
+    pub fn give_back(&mut self, alloc: Global, swept: Swept) -> Result<Back, (Swept, Memory)>
+        ensures given { IfOk result (λ back. IsGivenBack self.old swept back self.new) }
+        ensures memory { OnErr result (IsKnown self.old swept.job × IsOut self.old swept.job.ticket
+            × (IsUnchanged self.old swept.job ⊎ HasOnlyRisen self.old swept.job)) }
+        ensures err { OnErr result (self.new ≡ self.old) }
+        ensures returned { IfErr result (λ e. e.0 ≡ swept) }
+    {
+        let back = self.answer_to(&swept);
+        match back {
+            Back::Joined | Back::Again => match self.join(alloc, &swept) {
+                Ok(()) => Ok(back),
+                Err(why) => Err((swept, why)),
+            },
+            Back::Stale | Back::Stranger => Ok(back),
+        }
+    }
+
+    /// Abandons a job that is out: the tile is then not out, and dirty. It says whether the job was out. It takes no
+    /// memory.
+    pub fn abandon(&mut self, ticket: Ticket) -> bool
+        ensures { IsAbandoned self.old ticket result self.new }
+    {
+        abandon_keeps_sound();
+        let was_out = self.has_out(ticket);
+        if was_out {
+            self.work.abandon(ticket.tile);
+        }
+        was_out
+    }
+
+    // Whether the tile can be taken.
+    fn is_ready(&self, tile: usize) -> bool
+        ensures { IsTrue result ↔ IsReady self.now tile }
+    {
+        tile < self.work.len() && self.work.is_dirty(tile) && self.work.out(tile).is_none()
+    }
+
+    // The job on a tile as the core stands.
+    fn next_job(&self, alloc: Global, tile: usize) -> Result<Job, Memory>
+        requires { IsTile self.now tile }
+        ensures { IfOk result (IsNextJob self.now tile) }
+    {
+        let rect = self.rect(tile);
+        let base = cut(alloc, &self.image, rect)?;
+        let mask = cut(alloc, self.markers.mask(), rect)?;
+        let ticket = Ticket {
+            tile,
+            generation: self.work.generation(tile),
+            serial: self.serial,
+        };
+        Ok(Job::new(ticket, self.conn, base, mask))
+    }
+
+    // The rectangle of a tile.
+    fn rect(&self, tile: usize) -> Rect
+        requires { IsTile self.now tile }
+        ensures rect { result ≡ tile_rect self.now tile }
+        ensures mask { RectFits self.now.mask.width self.now.mask.height result }
+        ensures image { RectFits self.now.image.width self.now.image.height result }
+    {
+        self.markers.tiling().rect(tile)
+    }
+
+    // Whether the job of the ticket is out.
+    fn has_out(&self, ticket: Ticket) -> bool
+        ensures { IsTrue result ↔ IsOut self.now ticket }
+    {
+        let tile = ticket.tile;
+        tile < self.work.len()
+            && self.work.generation(tile) == ticket.generation
+            && self.work.out(tile) == Some(ticket.serial)
+    }
+
+    // Whether the job may be one of this core.
+    fn knows(&self, swept: &Swept) -> bool
+        ensures { IsTrue result ↔ IsKnown self.now swept.now.job }
+    {
+        let ticket = swept.ticket();
+        ticket.tile < self.work.len()
+            && ticket.generation <= self.work.generation(ticket.tile)
+            && swept.conn() == self.conn
+            && is_part(self.markers.mask(), self.rect(ticket.tile), swept.mask())
+    }
+
+    // What becomes of a swept tile that is given back, if memory lasts.
+    fn answer_to(&self, swept: &Swept) -> Back
+        ensures { IsJudged self.now swept.now.job result }
+    {
+        let tile = swept.ticket().tile;
+        if !self.knows(swept) {
+            return Back::Stranger;
+        }
+        if !self.has_out(swept.ticket()) {
+            return Back::Stale;
+        }
+        if self.work.is_dirty(tile) {
+            if is_at_most_part(&self.image, self.rect(tile), swept.base()) {
+                return Back::Again;
+            }
+        } else if is_part(&self.image, self.rect(tile), swept.base()) {
+            return Back::Joined;
+        }
+        Back::Stranger
+    }
+
+    // Joins a swept tile into the image.
+    //
+    // Errors: out of memory; nothing has changed then.
+    fn join(&mut self, alloc: Global, swept: &Swept) -> Result<(), Memory>
+        requires known { IsKnown self.old swept.now.job }
+        requires out { IsOut self.old swept.now.job.ticket }
+        requires base { IsUnchanged self.old swept.now.job ⊎ HasOnlyRisen self.old swept.now.job }
+        ensures joined { OnOk result (IsJoined self.old swept.now self.new) }
+        ensures err { OnErr result (self.new ≡ self.old) }
+    {
+        give_back_keeps_sound();
+        let tile = swept.ticket().tile;
+        let rect = self.rect(tile);
+        let hints = self.hints_once_joined(alloc, swept)?;
+        let tiling = self.markers.tiling();
+        self.work.receive(&tiling, tile, hints.as_slice())?;
+        raise_part(&mut self.image, rect, swept.pixels());
+        self.work.end_job(tile);
+        Ok(())
+    }
+
+    // The hints of the tile's open edges, as they are once the swept tile is joined.
+    //
+    // Errors: out of memory.
+    fn hints_once_joined(&self, alloc: Global, swept: &Swept) -> Result<Inbox, Memory>
+        requires { IsKnown self.now swept.now.job }
+        ensures hints { IfOk result (λ inbox. (after : Replica)
+            → IsJoinedWith (tile_rect self.now swept.now.job.ticket.tile) swept.now.pixels self.now.image after.image
+            → inbox.hints ≡ hints_of self.now after swept.now.job.ticket.tile) }
+        ensures touching { IfOk result (λ inbox.
+            All (IsToTouching (tiling self.now) swept.now.job.ticket.tile) inbox.hints) }
+    {
+        edges_are_open();
+        same_image_same_edges();
+        let tile = swept.ticket().tile;
+        let raised = raised_part(alloc, &self.image, self.rect(tile), swept.pixels())?;
+        let mut inbox = Inbox::new(alloc);
+        let mask = self.markers.mask();
+        let tiling = self.markers.tiling();
+        let generation = self.work.generation(tile);
+        match open_edges(
+            &raised,
+            &self.image,
+            mask,
+            &tiling,
+            tile,
+            generation,
+            self.conn,
+            &mut inbox,
+        ) {
+            Ok(()) => Ok(inbox),
+            Err(_) => Err(Memory),
+        }
+    }
+}
