@@ -1,22 +1,25 @@
--- The first delta that a state does not take.
+-- Deltas that a core takes one after another, and the first that it does not take.
 use Rattle.std.proofs.Common.{◌≡◌, ℕ, suc, ◌+◌, ◌<◌, List, [], ◌∷◌, ◌++◌, length, take, drop, get_or, Some, refl, sym, ap, ◌∙◌, subst, add-one, arith, inl, inr, ◌⊎◌}
-use Rattle.std.specs.Prelude.{◌↔◌}
+use Rattle.std.proofs.Common.{append_assoc}
+use Rattle.std.specs.Prelude.{◌≢◌}
 use Rattle.std.specs.List.{AllByRecursion}
 use Rattle.std.proofs.lemmas.Bool.{cases_lt}
-use Rattle.std.proofs.lemmas.List.{take_more, take-append-drop}
+use Rattle.std.proofs.lemmas.List.{take_more, take-append-drop, append-nil}
 use Rattle.std.proofs.Math.Seq.{drop-cons, take-length}
 use Rattle.grid_core.specs.Raster.{Raster}
-use Rattle.marker_tiles.specs.Kept.{Kept, IsMarkerOf}
-use Rattle.stroke_core.specs.Seed.{Seed, Fits}
-use Rattle.stroke_lattice.specs.State.{State, nothing, HasStroke, StateFits, SomeHasStroke, IsJoin, IsJoinOf, AreCompatible, IsLeastClash}
-use Rattle.stroke_lattice.specs.declared.error.StateError.{StateError}
-use Rattle.stroke_lattice.specs.declared.error.StateError.TheVariants as merge
-use Rattle.seedpaint.specs.RunError.{refused_state}
-use Rattle.seedpaint.specs.Merging.{AreMerged, IsRefusedBy, IsFirstRefusal, IsHalted}
-use Rattle.seedpaint.specs.declared.run_error.CoreError.{CoreError}
-use Rattle.seedpaint.specs.declared.run_error.CoreError.TheVariants.{OutOfImage, Conflict, Memory}
-use Rattle.seedpaint.proofs.LowerLaws.{JoinLaw, LongerJoinLaw}
-use Rattle.seedpaint.proofs.Lists.{longer_front, same_parts, all_middle, all_push}
+use Rattle.stroke_core.specs.Seed.{Seed}
+use Rattle.stroke_lattice.specs.State.{State, nothing, HasStroke, StateFits, SomeHasStroke, IsJoinOf}
+use Rattle.stroke_lattice.specs.Change.{Turnover}
+use Rattle.reset_core.specs.declared.error.CoreError.{CoreError}
+use Rattle.reset_core.specs.declared.error.CoreError.TheVariants.{OutOfImage, Conflict, GenerationsSpent, Memory, BadSide}
+use Rattle.reset_core.specs.Work.{Core}
+use Rattle.reset_core.specs.Events.{Merge, OfMerge}
+use Rattle.reset_core.specs.Invariant.{IsSound}
+use Rattle.reset_core.specs.Laws.{MergeKeepsSound}
+use Rattle.reset_core.specs.Merge.{IsMerged, IsRefused, IsAcceptable}
+use Rattle.seedpaint.specs.Merging.{AreMerged, AreTaken, IsFirstRefusal, IsStop}
+use Rattle.seedpaint.proofs.LowerLaws.{LongerJoinLaw, EmptyJoinLaw, CoreLaws}
+use Rattle.seedpaint.proofs.Lists.{longer_front, same_parts, all_middle}
 
 -- ---- what stands among states
 
@@ -32,6 +35,12 @@ some_in_middle (s ∷ states) rest delta tag seed has = inr (some_in_middle stat
 one_stroke : (s : State) (tag : ℕ) (a b : Seed) → HasStroke s tag a → HasStroke s tag b → a ≡ b
 one_stroke s tag a b has_a has_b = let same : Some a ≡ Some b = sym has_a ∙ has_b in cc
 
+join_of_one : (s : State) → IsJoinOf (s ∷ []) s
+join_of_one s = record {
+  strokes = λ tag seed. (λ has. inl has, λ some. elim some [ inl has ↦ has | inr none ↦ absurd none ]);
+  tombstones = λ tag. (λ has. inl has, λ some. elim some [ inl has ↦ has | inr none ↦ absurd none ]);
+}
+
 -- ---- one delta after another
 
 -- the deltas in three: those before, the one at an index, and those after
@@ -41,182 +50,196 @@ parts_at deltas i delta within read =
     ∙ ap (λ (rest : List State). take i deltas ++ rest)
     (drop-cons deltas i delta within ∙ ap (λ (s : State). s ∷ drop (suc i) deltas) (sym read) ∙ ap (λ n. delta ∷ drop n deltas) (sym (add-one i)))
 
--- no delta is merged into nothing
-pub merged_none : ((join : State) → IsJoinOf [] join ↔ (join ≡ nothing)) → (w h : ℕ) (state : State) → state ≡ nothing → AreMerged w h [] state
-merged_none empty w h state is = record { fit = tt; join = (empty state).1 is }
+-- a core takes one delta more
+taken_push : (start core next : Core) (deltas : List State) (delta : State) (turnover : Turnover) → AreTaken start deltas core
+    → IsMerged core delta turnover next → AreTaken start (deltas ++ delta ∷ []) next
+taken_push start core next [] delta turnover same merged =
+    (next, turnover, subst (λ (c : Core). IsMerged c delta turnover next) same merged, refl)
+taken_push start core next (d ∷ deltas) delta turnover (first, change, merged_first, rest) merged =
+    (first, change, merged_first, taken_push first core next deltas delta turnover rest merged)
 
--- one delta more is merged
-pub merged_more : LongerJoinLaw → (w h : ℕ) (deltas : List State) (i : ℕ) (delta state next : State) → i < length deltas → delta ≡ get_or deltas i delta
-    → AreMerged w h (take i deltas) state → StateFits w h delta → IsJoin state delta next → AreMerged w h (take (i + 1) deltas) next
-merged_more longer w h deltas i delta state next within read merged fits join =
+pub taken_more : (start core next : Core) (deltas : List State) (i : ℕ) (delta : State) (turnover : Turnover) → i < length deltas
+    → delta ≡ get_or deltas i delta → AreTaken start (take i deltas) core → IsMerged core delta turnover next
+    → AreTaken start (take (i + 1) deltas) next
+taken_more start core next deltas i delta turnover within read taken merged =
     let more : take (i + 1) deltas ≡ take i deltas ++ delta ∷ [] =
     take_more deltas i delta within ∙ ap (λ (s : State). take i deltas ++ s ∷ []) (sym read) in
-    subst (λ states. AreMerged w h states next) (sym more) (record {
-      fit = all_push (StateFits w h) (take i deltas) delta merged.fit fits;
-      join = (longer (take i deltas) state delta next merged.join).1 join;
-    })
+    subst (λ (states : List State). AreTaken start states next) (sym more)
+    (taken_push start core next (take i deltas) delta turnover taken merged)
 
--- the delta at an index is refused, by the state of those before it
-pub refused_at : (w h : ℕ) (deltas : List State) (i : ℕ) (delta state : State) (e : CoreError) → i < length deltas → delta ≡ get_or deltas i delta
-    → AreMerged w h (take i deltas) state → IsRefusedBy w h state delta e → IsFirstRefusal w h deltas e
-refused_at w h deltas i delta state e within read merged refused = record {
-  before = take i deltas;
+-- a core takes all deltas
+pub taken_all : (start core : Core) (deltas : List State) (i : ℕ) → i ≡ length deltas → AreTaken start (take i deltas) core → AreTaken start deltas core
+taken_all start core deltas i end taken =
+    subst (λ (states : List State). AreTaken start states core) (ap (λ n. take n deltas) end ∙ take-length deltas) taken
+
+-- ---- where it stops
+
+-- why a core did not take a delta
+abbrev pub IsKeptOut : Core → State → CoreError → Type 0
+IsKeptOut core delta e = IsRefused core delta e ⊎ ((e ≡ Memory) × IsAcceptable core delta)
+
+-- a delta with others before it and after it is where merging stops
+stops_there : (start core : Core) (deltas before after : List State) (delta : State) (e : CoreError) → deltas ≡ before ++ delta ∷ after
+    → AreTaken start before core → IsKeptOut core delta e → IsStop start deltas e
+stops_there start core deltas before after delta e parts taken (inl refused) = inl (record {
+  before = before;
   delta = delta;
-  after = drop (i + 1) deltas;
-  parts = parts_at deltas i delta within read;
-  state = state;
-  merged = merged;
+  after = after;
+  parts = parts;
+  core = core;
+  taken = taken;
   refused = refused;
+})
+stops_there start core deltas before after delta e parts taken (inr (memory, acceptable)) = inr (
+  memory,
+  record {
+    before = before;
+    delta = delta;
+    after = after;
+    parts = parts;
+    core = core;
+    taken = taken;
+    acceptable = acceptable;
+  },
+)
+
+-- merging stops at an index
+pub stops_at : (start core : Core) (deltas : List State) (i : ℕ) (delta : State) (e : CoreError) → i < length deltas
+    → delta ≡ get_or deltas i delta → AreTaken start (take i deltas) core → IsKeptOut core delta e → IsStop start deltas e
+stops_at start core deltas i delta e within read taken kept_out =
+    stops_there start core deltas (take i deltas) (drop (i + 1) deltas) delta e (parts_at deltas i delta within read) taken kept_out
+
+-- merging stops at the first delta
+pub stops_first : (start : Core) (delta : State) (deltas : List State) (e : CoreError) → IsKeptOut start delta e → IsStop start (delta ∷ deltas) e
+stops_first start delta deltas e kept_out = stops_there start start (delta ∷ deltas) [] deltas delta e refl refl kept_out
+
+-- merging stops behind the first delta
+pub stops_later : (start next : Core) (delta : State) (turnover : Turnover) (deltas : List State) (e : CoreError) → IsMerged start delta turnover next
+    → IsStop next deltas e → IsStop start (delta ∷ deltas) e
+stops_later start next delta turnover deltas e merged (inl first) =
+    stops_there start first.core (delta ∷ deltas) (delta ∷ first.before) first.after first.delta e (ap (λ (ds : List State). delta ∷ ds) first.parts)
+    (next, turnover, merged, first.taken) (inl first.refused)
+stops_later start next delta turnover deltas e merged (inr (memory, halted)) =
+    stops_there start halted.core (delta ∷ deltas) (delta ∷ halted.before) halted.after halted.delta e (ap (λ (ds : List State). delta ∷ ds) halted.parts)
+    (next, turnover, merged, halted.taken) (inr (memory, halted.acceptable))
+
+-- ---- what a core that takes deltas keeps, and what it becomes
+
+-- the mask and the connectivity stay
+pub taken_mask : (start core : Core) (deltas : List State) → AreTaken start deltas core → core.mask ≡ start.mask
+taken_mask start core [] same = ap (λ (c : Core). c.mask) same
+taken_mask start core (delta ∷ deltas) (next, turnover, merged, rest) =
+    taken_mask next core deltas rest ∙ ap (λ (c : Core). c.mask) merged.rest
+
+pub taken_conn : (start core : Core) (deltas : List State) → AreTaken start deltas core → core.conn ≡ start.conn
+taken_conn start core [] same = ap (λ (c : Core). c.conn) same
+taken_conn start core (delta ∷ deltas) (next, turnover, merged, rest) =
+    taken_conn next core deltas rest ∙ ap (λ (c : Core). c.conn) merged.rest
+
+-- each delta fits the mask
+taken_fit : (start core : Core) (deltas : List State) → AreTaken start deltas core → AllByRecursion (StateFits start.mask.width start.mask.height) deltas
+taken_fit start core [] same = tt
+taken_fit start core (delta ∷ deltas) (next, turnover, merged, rest) = (
+  merged.fits,
+  subst (λ (r : Raster). AllByRecursion (StateFits r.width r.height) deltas) (ap (λ (c : Core). c.mask) merged.rest)
+      (taken_fit next core deltas rest),
+)
+
+-- its strokes are the join of those from which they began and of the deltas
+joined_behind : LongerJoinLaw → (start core : Core) (front deltas : List State) → IsJoinOf front start.state → AreTaken start deltas core
+    → IsJoinOf (front ++ deltas) core.state
+joined_behind longer start core front [] joined same =
+    subst (λ (states : List State). IsJoinOf states core.state) (sym (append-nil front))
+    (subst (λ (c : Core). IsJoinOf front c.state) (sym same) joined)
+joined_behind longer start core front (delta ∷ deltas) joined (next, turnover, merged, rest) =
+    subst (λ (states : List State). IsJoinOf states core.state) (append_assoc front (delta ∷ []) deltas)
+    (joined_behind longer next core (front ++ delta ∷ []) deltas ((longer front start.state delta next.state joined).1 merged.join) rest)
+
+pub taken_join : LongerJoinLaw → (start core : Core) (deltas : List State) → AreTaken start deltas core → IsJoinOf (start.state ∷ deltas) core.state
+taken_join longer start core deltas taken = joined_behind longer start core (start.state ∷ []) deltas (join_of_one start.state) taken
+
+-- from no strokes they are that of the deltas
+pub taken_join_alone : EmptyJoinLaw → LongerJoinLaw → (start core : Core) (deltas : List State) → start.state ≡ nothing → AreTaken start deltas core
+    → IsJoinOf deltas core.state
+taken_join_alone empty longer start core deltas none taken =
+    joined_behind longer start core [] deltas ((empty start.state).1 none) taken
+
+pub taken_merged : EmptyJoinLaw → LongerJoinLaw → (start core : Core) (deltas : List State) → start.state ≡ nothing → AreTaken start deltas core
+    → AreMerged start.mask.width start.mask.height deltas core.state
+taken_merged empty longer start core deltas none taken = record {
+  fit = taken_fit start core deltas taken;
+  join = taken_join_alone empty longer start core deltas none taken;
 }
 
--- or there is no memory for it
-pub halted_at : (w h : ℕ) (deltas : List State) (i : ℕ) (delta state : State) → i < length deltas → delta ≡ get_or deltas i delta
-    → AreMerged w h (take i deltas) state → StateFits w h delta → AreCompatible state delta → IsHalted w h deltas
-halted_at w h deltas i delta state within read merged fits compatible = record {
-  before = take i deltas;
-  delta = delta;
-  after = drop (i + 1) deltas;
-  parts = parts_at deltas i delta within read;
-  state = state;
-  merged = merged;
-  fits = fits;
-  compatible = compatible;
-}
-
--- why a merge was refused, after the delta was found to fit
-pub merge_refused : (w h : ℕ) (state delta : State) (e : StateError) → StateFits w h delta → (e ≡ merge.Memory → AreCompatible state delta)
-    → ((tag : ℕ) → e ≡ merge.Conflict tag → IsLeastClash state delta tag)
-    → ((refused_state e ≡ Memory) × StateFits w h delta × AreCompatible state delta) ⊎ IsRefusedBy w h state delta (refused_state e)
-merge_refused w h state delta (merge.Conflict tag) fits memory conflict = inr (fits, conflict tag refl)
-merge_refused w h state delta merge.Memory fits memory conflict = inl (refl, fits, memory refl)
-
--- all deltas are merged
-pub merged_all : (w h : ℕ) (deltas : List State) (i : ℕ) (state : State) → i ≡ length deltas → AreMerged w h (take i deltas) state → AreMerged w h deltas state
-merged_all w h deltas i state end merged = subst (λ states. AreMerged w h states state) (ap (λ n. take n deltas) end ∙ take-length deltas) merged
-
--- the join of deltas that all fit does
-pub join_fits : (w h : ℕ) (deltas : List State) (state : State) → AreMerged w h deltas state → StateFits w h state
-join_fits w h deltas state merged tag seed has = go deltas merged.fit ((merged.join.strokes tag seed).0 has)
-  where
-    go : (states : List State) → AllByRecursion (StateFits w h) states → SomeHasStroke states tag seed → Fits w h seed
-    go [] fit some = absurd some
-    go (s ∷ states) fit (inl here) = fit.0 tag seed here
-    go (s ∷ states) fit (inr there) = go states fit.1 there
-
--- deltas are merged into the state, and the markers are those of it on the mask where they began
-pub record IsKept (first : Kept) (deltas : List State) (state : State) (markers : Kept) : Type 0 where
-  pub merged : AreMerged first.mask.width first.mask.height deltas state
-  pub marks : IsMarkerOf markers.mask state markers.marker
-  pub mask : markers.mask ≡ first.mask
-
--- their strokes fit the mask
-pub kept_fits : (first : Kept) (deltas : List State) (state : State) (markers : Kept) → IsKept first deltas state markers
-    → StateFits markers.mask.width markers.mask.height state
-kept_fits first deltas state markers kept =
-    subst (λ (r : Raster). StateFits r.width r.height state) (sym kept.mask)
-    (join_fits first.mask.width first.mask.height deltas state kept.merged)
-
--- one delta more is merged, and the markers are kept for it
-pub kept_more : LongerJoinLaw → (first : Kept) (deltas : List State) (i : ℕ) (delta state next : State) (markers after : Kept) → i < length deltas
-    → delta ≡ get_or deltas i delta → IsKept first (take i deltas) state markers → StateFits markers.mask.width markers.mask.height delta
-    → IsJoin state delta next → IsMarkerOf after.mask next after.marker → after.mask ≡ markers.mask → IsKept first (take (i + 1) deltas) next after
-kept_more longer first deltas i delta state next markers after within read kept fits join marks same = record {
-  merged = merged_more longer first.mask.width first.mask.height deltas i delta state next within read kept.merged
-      (subst (λ (r : Raster). StateFits r.width r.height delta) kept.mask fits) join;
-  marks = marks;
-  mask = same ∙ kept.mask;
-}
-
--- the delta at an index is refused, or there is no memory for it
-pub kept_refused : (first : Kept) (deltas : List State) (i : ℕ) (delta state : State) (markers : Kept) (e : CoreError) → i < length deltas
-    → delta ≡ get_or deltas i delta → IsKept first (take i deltas) state markers
-    → ((e ≡ Memory) × StateFits markers.mask.width markers.mask.height delta × AreCompatible state delta)
-    ⊎ IsRefusedBy markers.mask.width markers.mask.height state delta e
-    → ((e ≡ Memory) × IsHalted first.mask.width first.mask.height deltas) ⊎ IsFirstRefusal first.mask.width first.mask.height deltas e
-kept_refused first deltas i delta state markers e within read kept (inl halted) =
-    let fits = subst (λ (r : Raster). StateFits r.width r.height delta) kept.mask halted.1 in
-    inl (halted.0, halted_at first.mask.width first.mask.height deltas i delta state within read kept.merged fits halted.2)
-kept_refused first deltas i delta state markers e within read kept (inr refused) =
-    let by_first = subst (λ (r : Raster). IsRefusedBy r.width r.height state delta e) kept.mask refused in
-    inr (refused_at first.mask.width first.mask.height deltas i delta state e within read kept.merged by_first)
-
--- what is known of an image's sides, as they were told, holds of the image
-pub of_size : (P : ℕ → ℕ → Type 0) (told image : Raster) (w h : ℕ) → told ≡ image → w ≡ told.width → h ≡ told.height → P w h
-    → P image.width image.height
-of_size P told image w h same same_w same_h p =
-    subst (λ (r : Raster). P r.width r.height) same (subst (P told.width) same_h (subst (λ n. P n h) same_w p))
-
--- the join of two states that fit does
-pub joined_fits : LongerJoinLaw → (w h : ℕ) (a b join : State) → StateFits w h a → StateFits w h b → IsJoin a b join → StateFits w h join
-joined_fits law w h a b join fits_a fits_b is_join tag seed has =
-    elim ((both.strokes tag seed).0 has) [
-      | inl first ↦ fits_a tag seed first
-      | inr rest ↦ elim rest [ inl second ↦ fits_b tag seed second | inr none ↦ absurd none ]
-    ]
-  where
-    alone : IsJoinOf (a ∷ []) a
-    alone = record {
-      strokes = λ t s. (λ here. inl here, λ some. elim some [ inl here ↦ here | inr none ↦ absurd none ]);
-      tombstones = λ t. (λ here. inl here, λ some. elim some [ inl here ↦ here | inr none ↦ absurd none ]);
-    }
-
-    both : IsJoinOf (a ∷ b ∷ []) join
-    both = (law (a ∷ []) a b join alone).1 is_join
+taken_sound : MergeKeepsSound → (start core : Core) (deltas : List State) → IsSound start → AreTaken start deltas core → IsSound core
+taken_sound law start core [] sound same = subst IsSound (sym same) sound
+taken_sound law start core (delta ∷ deltas) sound (next, turnover, merged, rest) =
+    taken_sound law next core deltas (law start next delta turnover sound merged) rest
 
 -- ---- a refused delta
 
--- deltas that are merged have no refused one among them
-pub none_refused : (w h : ℕ) (before after : List State) (delta state whole : State) (e : CoreError) → AreMerged w h (before ++ delta ∷ after) whole → AreMerged w h before state
-    → IsRefusedBy w h state delta e → ⊥
-none_refused w h before after delta state whole (OutOfImage tag) all front ((seed, has, unfit), least) =
-    unfit (all_middle (StateFits w h) before delta after all.fit tag seed has)
-none_refused w h before after delta state whole (Conflict tag) all front (fits, (clash, least)) =
+-- deltas that are merged have no delta among them that is refused for its strokes
+pub none_refused : (core : Core) (before after : List State) (delta whole : State) (e : CoreError)
+    → AreMerged core.mask.width core.mask.height (before ++ delta ∷ after) whole → IsJoinOf before core.state → e ≢ GenerationsSpent
+    → IsRefused core delta e → ⊥
+none_refused core before after delta whole (OutOfImage tag) all front other ((seed, has, unfit), least) =
+    unfit (all_middle (StateFits core.mask.width core.mask.height) before delta after all.fit tag seed has)
+none_refused core before after delta whole (Conflict tag) all front other (fits, (clash, least)) =
     let first : HasStroke whole tag clash.seed =
-    (all.join.strokes tag clash.seed).1 (some_in_front before (delta ∷ after) tag clash.seed ((front.join.strokes tag clash.seed).0 clash.in_first)) in
+    (all.join.strokes tag clash.seed).1 (some_in_front before (delta ∷ after) tag clash.seed ((front.strokes tag clash.seed).0 clash.in_first)) in
     let second : HasStroke whole tag clash.other = (all.join.strokes tag clash.other).1 (some_in_middle before after delta tag clash.other clash.in_second) in
     clash.differ (one_stroke whole tag clash.seed clash.other first second)
-none_refused w h before after delta state whole Memory all front refused = refused
+none_refused core before after delta whole GenerationsSpent all front other refused = other refl
+none_refused core before after delta whole Memory all front other refused = refused
+none_refused core before after delta whole BadSide all front other refused = refused
 
--- a delta is refused for one reason
-refused_once : (w h : ℕ) (state delta : State) (d e : CoreError) → IsRefusedBy w h state delta d → IsRefusedBy w h state delta e → d ≡ e
-refused_once w h state delta (OutOfImage t) (OutOfImage u) (out, least) (other, least_other) =
-    let same : t ≡ u = omega (arith, least u other, least_other t out) in ap (λ n. OutOfImage n) same
-refused_once w h state delta (OutOfImage t) (Conflict u) ((seed, has, unfit), least) (fits, clash) = absurd (unfit (fits t seed has))
-refused_once w h state delta (OutOfImage t) Memory a b = absurd b
-refused_once w h state delta (Conflict t) (OutOfImage u) (fits, clash) ((seed, has, unfit), least) = absurd (unfit (fits u seed has))
-refused_once w h state delta (Conflict t) (Conflict u) (fits, (clash, least)) (again, (other, least_other)) =
-    let same : t ≡ u = omega (arith, least u other, least_other t clash) in ap (λ n. Conflict n) same
-refused_once w h state delta (Conflict t) Memory a b = absurd b
-refused_once w h state delta Memory e a b = absurd a
+module _ (laws : CoreLaws) where
+  -- a sound core takes deltas in one way
+  one_taken : (start a b : Core) (deltas : List State) → IsSound start → AreTaken start deltas a → AreTaken start deltas b → a ≡ b
+  one_taken start a b [] sound same again = same ∙ sym again
+  one_taken start a b (delta ∷ deltas) sound (next, turnover, merged, rest) (other, change, also, more) =
+      let same : next ≡ other =
+      (laws.one_successor start next other (Merge delta) (OfMerge turnover) (OfMerge change) sound merged also).1 in
+      one_taken other a b deltas (laws.merge_keeps_sound start other delta change sound also)
+      (subst (λ (c : Core). AreTaken c deltas a) same rest) more
 
--- no delta is refused before the first one
-not_earlier : (w h : ℕ) (deltas : List State) (d e : CoreError) (a : IsFirstRefusal w h deltas d) (b : IsFirstRefusal w h deltas e) → length a.before < length b.before → ⊥
-not_earlier w h deltas d e a b less =
-    let longer = longer_front a.before a.after b.before (b.delta ∷ b.after) a.delta (sym a.parts ∙ b.parts) less in
-    none_refused w h a.before longer.0 a.delta a.state b.state d (subst (λ states. AreMerged w h states b.state) longer.1 b.merged) a.merged a.refused
+  -- no delta that is taken is refused
+  not_taken : (start core whole : Core) (before after : List State) (delta : State) (e : CoreError) → IsSound start
+      → AreTaken start (before ++ delta ∷ after) whole → AreTaken start before core → IsRefused core delta e → ⊥
+  not_taken start core whole [] after delta e sound (next, turnover, merged, rest) same refused =
+      laws.refused_is_not_acceptable start delta e (subst (λ (c : Core). IsRefused c delta e) same refused)
+      (laws.merged_is_acceptable start next delta turnover merged)
+  not_taken start core whole (first ∷ before) after delta e sound (next, turnover, merged, rest) (other, change, also, more) refused =
+      let same : next ≡ other =
+      (laws.one_successor start next other (Merge first) (OfMerge turnover) (OfMerge change) sound merged also).1 in
+      not_taken other core whole before after delta e (laws.merge_keeps_sound start other first change sound also)
+      (subst (λ (c : Core). AreTaken c (before ++ delta ∷ after) whole) same rest) more refused
 
--- deltas have one first refusal
-pub one_first_refusal : JoinLaw → (w h : ℕ) (deltas : List State) (d e : CoreError) → IsFirstRefusal w h deltas d → IsFirstRefusal w h deltas e → d ≡ e
-one_first_refusal one_join w h deltas d e a b =
-    elim (cases_lt (length a.before) (length b.before)) [
-      | inl less ↦ absurd (not_earlier w h deltas d e a b less)
-      | inr at_least ↦ elim (cases_lt (length b.before) (length a.before)) [
-        | inl more ↦ absurd (not_earlier w h deltas e d b a more)
-        | inr at_most ↦
-            let same = same_parts a.before (a.delta ∷ a.after) b.before (b.delta ∷ b.after) (sym a.parts ∙ b.parts) (omega arith) in
-            let join : IsJoinOf b.before a.state = subst (λ states. IsJoinOf states a.state) same.0 a.merged.join in
-            let states : a.state ≡ b.state = one_join b.before a.state b.state join b.merged.join in
-            let deltas_same : a.delta ≡ b.delta = first_of (a.delta) (b.delta) a.after b.after same.1 in
-            refused_once w h b.state b.delta d e
-            (subst (λ s. IsRefusedBy w h s b.delta d) states (subst (λ s. IsRefusedBy w h a.state s d) deltas_same a.refused)) b.refused
+  -- no delta is refused before the first one
+  not_earlier : (start : Core) (deltas : List State) (d e : CoreError) → IsSound start → (a : IsFirstRefusal start deltas d)
+      (b : IsFirstRefusal start deltas e) → length a.before < length b.before → ⊥
+  not_earlier start deltas d e sound a b less =
+      let longer = longer_front a.before a.after b.before (b.delta ∷ b.after) a.delta (sym a.parts ∙ b.parts) less in
+      not_taken start a.core b.core a.before longer.0 a.delta d sound
+      (subst (λ (states : List State). AreTaken start states b.core) longer.1 b.taken) a.taken a.refused
+
+  first_of : (x y : State) (xs ys : List State) → x ∷ xs ≡ y ∷ ys → x ≡ y
+  first_of x y xs ys e = cc
+
+  -- a sound core has one first refusal of deltas
+  pub one_first_refusal : (start : Core) (deltas : List State) (d e : CoreError) → IsSound start → IsFirstRefusal start deltas d
+      → IsFirstRefusal start deltas e → d ≡ e
+  one_first_refusal start deltas d e sound a b =
+      elim (cases_lt (length a.before) (length b.before)) [
+        | inl less ↦ absurd (not_earlier start deltas d e sound a b less)
+        | inr at_least ↦ elim (cases_lt (length b.before) (length a.before)) [
+          | inl more ↦ absurd (not_earlier start deltas e d sound b a more)
+          | inr at_most ↦
+              let same = same_parts a.before (a.delta ∷ a.after) b.before (b.delta ∷ b.after) (sym a.parts ∙ b.parts) (omega arith) in
+              let taken : AreTaken start b.before a.core = subst (λ (states : List State). AreTaken start states a.core) same.0 a.taken in
+              let cores : a.core ≡ b.core = one_taken start a.core b.core b.before sound taken b.taken in
+              let deltas_same : a.delta ≡ b.delta = first_of a.delta b.delta a.after b.after same.1 in
+              laws.one_refusal b.core b.delta d e
+              (subst (λ (c : Core). IsRefused c b.delta d) cores (subst (λ (s : State). IsRefused a.core s d) deltas_same a.refused)) b.refused
+        ]
       ]
-    ]
-  where
-    first_of : (x y : State) (xs ys : List State) → x ∷ xs ≡ y ∷ ys → x ≡ y
-    first_of x y xs ys e = cc
-
--- what is known of sides and deltas holds of equal ones
-pub moved : (P : ℕ → ℕ → List State → Type 0) (w width h height : ℕ) (deltas others : List State) → w ≡ width → h ≡ height → deltas ≡ others
-    → P w h deltas → P width height others
-moved P w width h height deltas others same_w same_h same p =
-    subst (P width height) same (subst (λ n. P width n deltas) same_h (subst (λ n. P n h deltas) same_w p))

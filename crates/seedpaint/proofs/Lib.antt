@@ -3,6 +3,8 @@ pub mod LowerLaws
 pub mod ImageLines
 pub mod Splits
 pub mod Deltas
+pub mod Settled
+pub mod Masks
 pub mod Refusals
 pub mod Shown
 pub mod Subcommands

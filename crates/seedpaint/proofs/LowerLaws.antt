@@ -6,7 +6,9 @@ use Rattle.pgm_codec.specs.Graymap.{Graymap}
 use Rattle.pgm_codec.specs.Spelling.{PgmSpells}
 use Rattle.pgm_codec.specs.FirstFault.{PgmFault}
 use Rattle.pgm_codec.specs.declared.error.PgmError.{PgmError}
-use Rattle.stroke_lattice.specs.State.{State, IsJoin, IsJoinOf}
+use Rattle.stroke_lattice.specs.State.{State, nothing, IsJoin, IsJoinOf}
+use Rattle.reset_core.specs.Laws.{OpenedIsSound, MergeKeepsSound, OneSuccessor, MergedIsAcceptable}
+use Rattle.reset_core.specs.Laws.{RefusedIsNotAcceptable, OneRefusal}
 
 -- a text is read in one way
 pub record ReadingLaws : Type 0 where
@@ -24,3 +26,16 @@ JoinLaw = (states : List State) (j k : State) → IsJoinOf states j → IsJoinOf
 -- to join a list with one more state is to join that state with the join of the list
 abbrev pub LongerJoinLaw : Type 0
 LongerJoinLaw = (states : List State) (s delta join : State) → IsJoinOf states s → IsJoinOf (states ++ delta ∷ []) join ↔ IsJoin s delta join
+
+-- no states have the state without strokes and tombstones for their join
+abbrev pub EmptyJoinLaw : Type 0
+EmptyJoinLaw = (join : State) → IsJoinOf [] join ↔ (join ≡ nothing)
+
+-- each event of a core has one answer, and each refusal one reason
+pub record CoreLaws : Type 0 where
+  pub opened_is_sound : OpenedIsSound
+  pub merge_keeps_sound : MergeKeepsSound
+  pub one_successor : OneSuccessor
+  pub merged_is_acceptable : MergedIsAcceptable
+  pub refused_is_not_acceptable : RefusedIsNotAcceptable
+  pub one_refusal : OneRefusal

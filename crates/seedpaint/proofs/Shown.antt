@@ -1,12 +1,12 @@
 -- A state shows one image on a mask, and an input has one view.
-use Rattle.std.proofs.Common.{◌≡◌, ℕ, List, sym, ap, ◌∙◌, subst, arith}
+use Rattle.std.proofs.Common.{◌≡◌, ℕ, List, [], ◌∷◌, sym, ap, ◌∙◌, subst, arith}
 use Rattle.grid_core.specs.declared.conn.Conn.{Conn}
 use Rattle.grid_core.specs.declared.pixel.Pixel.{Pixel}
-use Rattle.grid_core.specs.Raster.{Raster, IsFilled, value_at}
+use Rattle.grid_core.specs.Raster.{Raster, IsFilled, IsBelow, value_at}
 use Rattle.grid_core.specs.Path.{Domain, domain_of, Inside}
 use Rattle.grid_core.specs.Reconstruction.{IsReconstruction}
 use Rattle.edit_lang.specs.Edit.{EditSpells}
-use Rattle.pgm_codec.specs.Graymap.{Graymap}
+use Rattle.pgm_codec.specs.Graymap.{Graymap, IsGraymap}
 use Rattle.pgm_codec.specs.Spelling.{PgmSpells}
 use Rattle.pgm_codec.specs.Writing.{raw_text}
 use Rattle.stroke_lattice.specs.State.{State, IsJoinOf}
@@ -14,8 +14,12 @@ use Rattle.grid_core.specs.Laws.{AtMostOneReconstruction, ReachRisesWithMarker}
 use Rattle.grid_core.specs.RasterLaws.{EqualPixelsEqualImages}
 use Rattle.marker_tiles.specs.Marker.{IsMarker}
 use Rattle.marker_tiles.specs.Laws.{AtMostOneMarker}
+use Rattle.reset_core.specs.Work.{Core}
+use Rattle.reset_core.specs.Opening.{opened}
+use Rattle.seedpaint.specs.Merging.{AreTaken, IsGrown}
 use Rattle.seedpaint.specs.View.{InputSpells, IsShown, IsView}
 use Rattle.seedpaint.proofs.LowerLaws.{ReadingLaws, JoinLaw}
+use Rattle.seedpaint.proofs.Deltas.{taken_mask, taken_conn}
 use Rattle.seedpaint.proofs.Splits.{one_split}
 
 -- the laws of images and markers below
@@ -55,35 +59,67 @@ module _ (images : ImageLaws) (reading : ReadingLaws) (joins : JoinLaw) where
       let file : PgmSpells second.file mask = subst (λ (t : List ℕ). PgmSpells t mask) same.1 first.mask_spelled in
       (reading.one_image second.file mask other file second.mask_spelled, reading.one_list second.edits deltas others edits second.edits_spelled)
 
-  pub one_view : (conn : Conn) (input a b : List ℕ) → IsView conn input a → IsView conn input b → a ≡ b
-  one_view conn input a b (image, v, spelled) (other, w, again) =
+  pub one_state : (conn : Conn) (old s t : State) (input a b : List ℕ) → IsView conn old input s a → IsView conn old input t b → s ≡ t
+  one_state conn old s t input a b (image, v, spelled) (other, w, again) =
       let same = one_spelling input v.mask w.mask v.deltas w.deltas v.spelled w.spelled in
-      let join : IsJoinOf w.deltas v.state = subst (λ (ds : List State). IsJoinOf ds v.state) same.1 v.merged.join in
-      let state : v.state ≡ w.state = joins w.deltas v.state w.state join w.merged.join in
-      let shown : IsShown conn w.mask w.state image = subst (λ s. IsShown conn w.mask s image) state (subst (λ m. IsShown conn m v.state image) same.0 v.shown) in
-      spelled ∙ ap raw_text (one_shown images conn w.mask w.state image other shown w.shown) ∙ sym again
+      let join : IsJoinOf (old ∷ w.deltas) s = subst (λ (ds : List State). IsJoinOf (old ∷ ds) s) same.1 v.merged.join in
+      joins (old ∷ w.deltas) s t join w.merged.join
 
--- ---- an image that was grown on a mask
+  pub one_view : (conn : Conn) (old s t : State) (input a b : List ℕ) → IsView conn old input s a → IsView conn old input t b → a ≡ b
+  one_view conn old s t input a b (image, v, spelled) (other, w, again) =
+      let same = one_spelling input v.mask w.mask v.deltas w.deltas v.spelled w.spelled in
+      let state : s ≡ t = one_state conn old s t input a b (image, v, spelled) (other, w, again) in
+      let shown : IsShown conn w.mask t image = subst (λ r. IsShown conn w.mask r image) state (subst (λ m. IsShown conn m s image) same.0 v.shown) in
+      spelled ∙ ap raw_text (one_shown images conn w.mask t image other shown w.shown) ∙ sym again
 
--- an image that was grown on a mask from the marker of a state
-pub record IsGrown (conn : Conn) (grid : Raster) (state : State) (marker image : Raster) : Type 0 where
-  pub filled : IsFilled image
-  pub width : image.width ≡ grid.width
-  pub height : image.height ≡ grid.height
-  pub marks : IsMarker (domain_of grid conn) (value_at grid) state (value_at marker)
-  pub reconstruction : IsReconstruction (domain_of grid conn) (value_at grid) (value_at marker) (value_at image)
+-- ---- an image that a core grew on a mask
 
-pub grown_is_shown : (conn : Conn) (mask shown : Graymap) (state : State) (grid marker image : Raster) (maxval : ℕ) → grid ≡ mask.raster
-    → IsGrown conn grid state marker image → maxval ≡ mask.maxval → shown ≡ record { raster = image; maxval = maxval } → IsShown conn mask state shown
-grown_is_shown conn mask shown state grid marker image maxval grid-is grown maxval-is shown-is =
-    let g : IsGrown conn mask.raster state marker image = subst (λ (r : Raster). IsGrown conn r state marker image) grid-is grown in
+-- a marker of the strokes of a core that took deltas
+marker_of : (start core : Core) (delta : State) (deltas : List State) → AreTaken start (delta ∷ deltas) core
+    → (marker : Pixel → ℕ) × IsMarker (domain_of core.mask core.conn) (value_at core.mask) core.state marker
+marker_of start core delta [] (next, turnover, merged, same) = (
+  merged.marker,
+  subst (λ (c : Core). IsMarker (domain_of c.mask c.conn) (value_at c.mask) c.state merged.marker) (sym same)
+      (subst (λ (conn : Conn). IsMarker (domain_of next.mask conn) (value_at next.mask) next.state merged.marker)
+      (sym (ap (λ (c : Core). c.conn) merged.rest))
+      (subst (λ (mask : Raster). IsMarker (domain_of mask start.conn) (value_at mask) next.state merged.marker)
+      (sym (ap (λ (c : Core). c.mask) merged.rest)) merged.is_marker)),
+)
+marker_of start core delta (other ∷ deltas) (next, turnover, merged, rest) = marker_of next core other deltas rest
+
+-- what was grown from a core that was opened on a mask, and took deltas, is shown
+pub grown_is_shown : (conn : Conn) (side : ℕ) (mask shown : Graymap) (old : State) (deltas : List State) (core : Core) (image : Raster) (state : State)
+    (maxval : ℕ) → AreTaken (opened mask.raster conn side 0) (old ∷ deltas) core → IsGrown core image → state ≡ core.state → maxval ≡ mask.maxval
+    → shown ≡ record { raster = image; maxval = maxval } → IsShown conn mask state shown
+grown_is_shown conn side mask shown old deltas core image state maxval taken grown state-is maxval-is shown-is =
+    let start = opened mask.raster conn side 0 in
+    let mask-is : core.mask ≡ mask.raster = taken_mask start core (old ∷ deltas) taken in
+    let conn-is : core.conn ≡ conn = taken_conn start core (old ∷ deltas) taken in
+    let found = marker_of start core old deltas taken in
+    let marker = found.0 in
+    let recon = grown.reconstruction marker found.1 in
+    let marks : IsMarker (domain_of mask.raster conn) (value_at mask.raster) state marker =
+    subst (λ (s : State). IsMarker (domain_of mask.raster conn) (value_at mask.raster) s marker) (sym state-is)
+    (subst (λ k. IsMarker (domain_of mask.raster k) (value_at mask.raster) core.state marker) conn-is
+    (subst (λ (r : Raster). IsMarker (domain_of r core.conn) (value_at r) core.state marker) mask-is found.1)) in
     let made : IsShown conn mask state (record { raster = image; maxval = maxval }) = record {
-      width = g.width;
-      height = g.height;
-      filled = g.filled;
+      width = grown.below.width ∙ ap (λ (r : Raster). r.width) mask-is;
+      height = grown.below.height ∙ ap (λ (r : Raster). r.height) mask-is;
+      filled = grown.sized.filled;
       maxval = maxval-is;
-      marker = value_at marker;
-      is_marker = g.marks;
-      is_reconstruction = g.reconstruction;
+      marker = marker;
+      is_marker = marks;
+      is_reconstruction =
+          subst (λ k. IsReconstruction (domain_of mask.raster k) (value_at mask.raster) marker (value_at image)) conn-is
+          (subst (λ (r : Raster). IsReconstruction (domain_of r core.conn) (value_at r) marker (value_at image)) mask-is recon);
     } in
     subst (IsShown conn mask state) (sym shown-is) made
+
+-- it is an image with the mask's maxval
+pub grown_is_graymap : ((image : Graymap) (grid : Raster) → IsGraymap image → IsFilled grid → IsBelow grid image.raster
+    → IsGraymap (record { raster = grid; maxval = image.maxval })) → (conn : Conn) (side : ℕ) (mask : Graymap) (deltas : List State) (core : Core)
+    (image : Raster) (maxval : ℕ) → IsGraymap mask → AreTaken (opened mask.raster conn side 0) deltas core → IsGrown core image → maxval ≡ mask.maxval
+    → IsGraymap (record { raster = image; maxval = maxval })
+grown_is_graymap law conn side mask deltas core image maxval is_graymap taken grown same =
+    let below : IsBelow image mask.raster = subst (IsBelow image) (taken_mask (opened mask.raster conn side 0) core deltas taken) grown.below in
+    subst (λ m. IsGraymap (record { raster = image; maxval = m })) (sym same) (law mask image is_graymap grown.sized.filled below)

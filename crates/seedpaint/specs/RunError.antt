@@ -8,23 +8,11 @@ use Rattle.pgm_codec.specs.declared.error.PgmError.TheVariants as pgm
 use Rattle.pgm_codec.specs.Code.{code_of as pgm_code_of}
 use Rattle.stroke_core.specs.Code.{code_of as stroke_code_of}
 use Rattle.stroke_core.specs.Tag.{text_of}
-use Rattle.stroke_lattice.specs.declared.error.StateError.{StateError}
-use Rattle.stroke_lattice.specs.declared.error.StateError.TheVariants as state
-use Rattle.seedpaint.specs.declared.run_error.CoreError.{CoreError}
-use Rattle.seedpaint.specs.declared.run_error.CoreError.TheVariants as core
+use Rattle.reset_core.specs.Codes.{code_of as core_code_of}
+use Rattle.reset_core.specs.declared.error.CoreError.{CoreError}
+use Rattle.reset_core.specs.declared.error.CoreError.TheVariants as core
 use Rattle.seedpaint.specs.declared.run_error.RunError.{RunError}
 use Rattle.seedpaint.specs.declared.run_error.RunError.TheVariants.{Usage, NoImage, Edit, Pgm, Core, Memory}
-
--- why a state was not merged, as the fault of a delta
-abbrev pub refused_state : StateError → CoreError
-refused_state (state.Conflict tag) = core.Conflict tag
-refused_state state.Memory = core.Memory
-
--- the code of a refused delta
-abbrev pub core_code_of : CoreError → List ℕ
-core_code_of (core.OutOfImage tag) = codes "C1"
-core_code_of (core.Conflict tag) = codes "C2"
-core_code_of core.Memory = codes "C4"
 
 -- the code, the number of the line, and of a stroke its code
 abbrev pub edit_text : EditError → List ℕ
@@ -33,11 +21,13 @@ edit_text (edit.BadTag n) = edit_code_of (edit.BadTag n) ++ codes " " ++ decimal
 edit_text (edit.BadStroke n why) = edit_code_of (edit.BadStroke n why) ++ codes " " ++ decimal n ++ codes " " ++ stroke_code_of why
 edit_text edit.Memory = edit_code_of edit.Memory
 
--- the code, and the text of the tag that is named
+-- the code, and the text of the tag where one is named
 abbrev pub core_text : CoreError → List ℕ
 core_text (core.OutOfImage tag) = core_code_of (core.OutOfImage tag) ++ codes " " ++ text_of tag
 core_text (core.Conflict tag) = core_code_of (core.Conflict tag) ++ codes " " ++ text_of tag
+core_text core.GenerationsSpent = core_code_of core.GenerationsSpent
 core_text core.Memory = core_code_of core.Memory
+core_text core.BadSide = core_code_of core.BadSide
 
 -- what stands behind `seedpaint: `
 abbrev pub code_text : RunError → List ℕ
@@ -73,11 +63,13 @@ pgm_status pgm.Trailing = 1
 pgm_status pgm.Memory = 3
 pgm_status pgm.Device = 3
 
--- the status of a refused delta: 3 for memory, 1 for a stroke that is refused
+-- the status of a core that was not opened or a delta that was not taken: 3 for memory, 1 for what is refused
 abbrev pub core_status : CoreError → ℕ
 core_status (core.OutOfImage tag) = 1
 core_status (core.Conflict tag) = 1
+core_status core.GenerationsSpent = 1
 core_status core.Memory = 3
+core_status core.BadSide = 1
 
 -- 2 for words on the command line, 3 for memory and devices, 1 for an input that is refused
 abbrev pub status_of : RunError → ℕ

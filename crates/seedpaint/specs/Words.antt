@@ -1,5 +1,5 @@
 -- What the words of the command line say.
-use Rattle.std.specs.Prelude.{◌≡◌, ◌⊎◌, [], List, Option, Some, None, String, map, drop, codes, true, string_bytes}
+use Rattle.std.specs.Prelude.{◌≡◌, ◌⊎◌, ℕ, [], List, Option, Some, None, String, map, drop, codes, true, string_bytes, decimal}
 use Rattle.std.specs.Iterator.{Drains}
 use Rattle.std.specs.Vec.Iter.{into_iter_steps}
 use Rattle.std.specs.declared.vec.IntoIter.{IntoIter}
@@ -7,6 +7,7 @@ use Rattle.clap.specs.Words.{App, Row, Rule, Text, first_of, fault_of, new_app, 
 use Rattle.clap.specs.Simple.{on_top}
 use Rattle.grid_core.specs.declared.conn.Conn.{Conn}
 use Rattle.grid_core.specs.declared.conn.Conn.TheVariants.{Four, Eight}
+use Rattle.grid_core.specs.Tiles.{IsTileSide}
 use Rattle.seedpaint.specs.declared.words.Call.{Call}
 use Rattle.seedpaint.specs.declared.words.Call.TheVariants.{View}
 
@@ -14,9 +15,13 @@ use Rattle.seedpaint.specs.declared.words.Call.TheVariants.{View}
 abbrev pub conn_option : Rule
 conn_option = record (new_rule (codes "conn")) { long = Some (codes "conn") }
 
--- the subcommand `view`, with that option alone
+-- the option `--tile`, which takes one value
+abbrev pub tile_option : Rule
+tile_option = record (new_rule (codes "tile")) { long = Some (codes "tile") }
+
+-- the subcommand `view`, with these options alone
 abbrev pub view_command : App
-view_command = with_rule (new_app (codes "view")) conn_option
+view_command = with_rule (with_rule (new_app (codes "view")) conn_option) tile_option
 
 -- the program: its words begin behind its name, they have to name a subcommand, and they can ask for no help
 abbrev pub program : App
@@ -36,14 +41,25 @@ ConnIs (Some value) conn = ((value ≡ codes "4") × (conn ≡ Four)) ⊎ ((valu
 abbrev pub NamesNoConn : Option Text → Type 0
 NamesNoConn value = (conn : Conn) → ConnIs value conn → ⊥
 
+-- the value of `--tile` is this side in decimal, and tiles may have it; where there is none, it is 64
+abbrev pub SideIs : Option Text → ℕ → Type 0
+SideIs None side = side ≡ 64
+SideIs (Some value) side = (value ≡ decimal side) × IsTileSide side
+
+-- the value of `--tile` names no side
+abbrev pub NamesNoSide : Option Text → Type 0
+NamesNoSide value = (side : ℕ) → SideIs value side → ⊥
+
 -- the subcommand that the words name, with what they give its options, is this call
 abbrev pub IsCall : Option (Text × List Row) → Call → Type 0
-IsCall named (View conn) =
+IsCall named (View conn side) =
     (rows : List Row) × (named ≡ Some (codes "view", rows)) × ConnIs (first_of (codes "conn") rows) conn
+    × SideIs (first_of (codes "tile") rows) side
 
--- the words say this call: no word says `view` with four neighbours, and in others clap finds no fault and reads it
+-- the words say this call: no word says `view` with four neighbours and tiles of side 64, and in others clap finds no
+-- fault and reads it
 abbrev pub Says : List Text → Call → Type 0
-Says words call = ((words ≡ []) × (call ≡ View Four))
+Says words call = ((words ≡ []) × (call ≡ View Four 64))
     ⊎ ((fault_of program words ≡ []) × IsCall (subcommand_of program words) call)
 
 -- the words say no call

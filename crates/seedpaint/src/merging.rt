@@ -1,62 +1,74 @@
-//! Merging deltas, one after another, into the state of an image.
+//! Merging deltas into a core, one after another, and what it shows once it has settled.
 
-ghost use Rattle.std.specs.Prelude.{◌≡◌, ◌⊎◌, IfOk, IfErr, OnOk};
-ghost use Rattle.stroke_lattice.specs.State.{nothing, StateFits, AreCompatible, IsJoin};
-ghost use Rattle.marker_tiles.specs.Kept.{IsMarkerOf};
-ghost use Rattle.seedpaint.specs.Merging.{AreMerged, IsRefusedBy, IsFirstRefusal, IsHalted};
-ghost use Rattle.seedpaint.specs.declared.run_error.CoreError.TheVariants as errors;
+ghost use Rattle.std.specs.Prelude.{◌≡◌, ◌∷◌, ◌⊎◌, IfOk, IfErr, OnOk};
+ghost use Rattle.grid_core.specs.Tiles.{IsTileSide};
+ghost use Rattle.reset_core.specs.Opening.{opened};
+ghost use Rattle.seedpaint.specs.Merging.{AreTaken, IsStop, IsGrown};
+ghost use Rattle.seedpaint.specs.View.{IsSideFault};
+ghost use Rattle.seedpaint.specs.declared.run_error.RunError.TheVariants as errors;
 
-use crate::run_error::CoreError;
-use marker_tiles::Markers;
+use crate::run_error::RunError;
+use grid_core::{Conn, Grid, Memory};
+use pgm_codec::Image;
+use reset_core::{Core, CoreError};
 use std::alloc::Global;
-use stroke_lattice::{Delta, State, join_of_a_longer_list, join_of_an_empty_list};
+use stroke_lattice::{Delta, State};
 
-/// The state of deltas that are merged in order, for the image of the markers. These are those of the empty state
-/// at first, and then those of the state.
+/// A core of the image as its mask, without strokes, with tiles of this side. The mask is not copied.
 ///
-/// Errors, at the first delta that meets one: C1 where a stroke of it does not fit, live or not, else C2
-/// where another stroke of the state has one of its tags, else C4.
-pub fn merge_all(alloc: Global, deltas: &[Delta], markers: &mut Markers) -> Result<State, CoreError>
-    requires { IsMarkerOf markers.old.mask nothing markers.old.marker }
-    ensures merged { IfOk result (AreMerged markers.old.mask.width markers.old.mask.height deltas.now) }
-    ensures marks { IfOk result (λ state. IsMarkerOf markers.new.mask state markers.new.marker) }
-    ensures mask { markers.new.mask ≡ markers.old.mask }
-    ensures refused { IfErr result (λ e.
-        ((e ≡ errors.Memory) × IsHalted markers.old.mask.width markers.old.mask.height deltas.now)
-        ⊎ IsFirstRefusal markers.old.mask.width markers.old.mask.height deltas.now e) }
+/// Errors: C5 where the side is less than 8 or more than 256, else plain want of memory.
+pub fn open_on(alloc: Global, mask: Image, conn: Conn, side: u32) -> Result<Core, RunError>
+    ensures value { IfOk result (λ core. core ≡ opened mask.raster conn side 0) }
+    ensures refused { IfErr result (λ e. (e ≡ errors.Memory) ⊎ IsSideFault side e) }
 {
-    join_of_an_empty_list();
-    join_of_a_longer_list();
-    let mut state = State::empty(alloc)?;
-    for delta in deltas {
-        merge_one(alloc, &mut state, delta, markers)?;
+    match Core::over(alloc, mask.into_grid(), conn, side, 0) {
+        Ok(core) => Ok(core),
+        Err(refused) => match refused.why {
+            CoreError::BadSide => Err(RunError::Core(CoreError::BadSide)),
+            _ => Err(RunError::Memory),
+        },
     }
-    Ok(state)
 }
 
-// Merges one delta more.
-fn merge_one(
+/// Merges the old state into the core, and then the deltas in order.
+///
+/// Errors: C1, C2 or C3 at the first of them that meets it, else C4.
+pub fn merge_all(
     alloc: Global,
-    state: &mut State,
-    delta: &Delta,
-    markers: &mut Markers,
+    core: &mut Core,
+    old: &State,
+    deltas: &[Delta],
 ) -> Result<(), CoreError>
-    requires fits { StateFits markers.old.mask.width markers.old.mask.height state.old }
-    requires marks { IsMarkerOf markers.old.mask state.old markers.old.marker }
-    ensures fits { OnOk result (StateFits markers.old.mask.width markers.old.mask.height delta.now) }
-    ensures join { OnOk result (IsJoin state.old delta.now state.new) }
-    ensures marks { OnOk result (IsMarkerOf markers.new.mask state.new markers.new.marker) }
-    ensures mask { markers.new.mask ≡ markers.old.mask }
-    ensures refused { IfErr result (λ e. ((e ≡ errors.Memory)
-        × StateFits markers.old.mask.width markers.old.mask.height delta.now × AreCompatible state.old delta.now)
-        ⊎ IsRefusedBy markers.old.mask.width markers.old.mask.height state.old delta.now e) }
+    ensures taken { OnOk result (AreTaken core.old (old.now ∷ deltas.now) core.new) }
+    ensures stopped { IfErr result (IsStop core.old (old.now ∷ deltas.now)) }
 {
-    join_of_a_longer_list();
-    let mask = markers.mask();
-    if let Some(tag) = delta.outside(mask.width(), mask.height()) {
-        return Err(CoreError::OutOfImage(tag));
+    core.merge(alloc, old)?;
+    merge_each(alloc, core, deltas)
+}
+
+/// Merges the deltas into the core, in order.
+///
+/// Errors: C1, C2 or C3 at the first of them that meets it, else C4.
+pub fn merge_each(alloc: Global, core: &mut Core, deltas: &[Delta]) -> Result<(), CoreError>
+    ensures taken { OnOk result (AreTaken core.old deltas.now core.new) }
+    ensures stopped { IfErr result (IsStop core.old deltas.now) }
+{
+    for delta in deltas {
+        core.merge(alloc, delta)?;
     }
-    let change = state.merge(alloc, delta)?;
-    markers.apply(state, &change);
     Ok(())
+}
+
+/// The image that grows from the strokes of the core, and those strokes: the core settles, and is taken apart.
+///
+/// Errors: want of memory.
+pub fn settled_image(alloc: Global, core: Core) -> Result<(Grid, State), Memory>
+    ensures image { IfOk result (λ parts. IsGrown core parts.0) }
+    ensures state { IfOk result (λ parts. parts.1 ≡ core.state) }
+{
+    let mut core = core;
+    core.settle(alloc)?;
+    let _ = core.image();
+    let (_, image, state) = core.into_parts();
+    Ok((image, state))
 }

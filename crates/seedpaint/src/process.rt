@@ -5,14 +5,16 @@ ghost use Rattle.std.specs.Io.KnownBytes.{Appends, IsAtEnd};
 ghost use Rattle.std.specs.Process.{exit_status};
 ghost use Rattle.pgm_codec.specs.Device.{AppendsFront, GivesUp, HasRisen, count_after};
 ghost use Rattle.pgm_codec.specs.declared.error.PgmError.TheVariants as pgm;
-ghost use Rattle.seedpaint.specs.Run.{IsAnswer, conn_of};
+ghost use Rattle.seedpaint.specs.Run.{IsAnswer, conn_of, side_of};
+ghost use Rattle.stroke_lattice.specs.State.{nothing};
+ghost use Rattle.grid_core.specs.Tiles.{IsTileSide};
 ghost use Rattle.seedpaint.specs.RunError.{status_of};
-ghost use Rattle.seedpaint.specs.View.{IsInputOf, IsMemoryFault, InputIsRefused, UnlessCutShort};
+ghost use Rattle.seedpaint.specs.View.{IsInputOf, IsMemoryFault, InputStops, UnlessCutShort};
 ghost use Rattle.seedpaint.specs.Words.{GivesWords, Says, IsUsage};
 ghost use Rattle.seedpaint.specs.declared.words.Call.{Call};
 
 use crate::run_error::{RunError, fault_line, status};
-use crate::view::view_run;
+use crate::view::view_alone;
 use crate::words::{Call, read_process_words};
 use grid_core::Conn;
 use pgm_codec::{Sink, Source};
@@ -22,7 +24,7 @@ use std::{env, io};
 
 /// Makes the call that the words of the process say, as `env::args` gives them, from the source to the sink.
 ///
-/// Errors: usage, with source and sink as they were; else those of the call ([`view_run`]).
+/// Errors: usage, with source and sink as they were; else those of the call ([`view_alone`]).
 pub fn run<S: Source, K: Sink>(
     alloc: Global,
     args: io::Result<env::Args>,
@@ -40,8 +42,9 @@ pub fn run<S: Source, K: Sink>(
 
     // Memory and devices aside, any other refusal is the first that the input meets, and the words say a call.
     ensures refused { IfErr result (λ e. (e ≡ RunError.Usage) ⊎ IsMemoryFault e ⊎ (e ≡ RunError.Pgm pgm.Device)
-        ⊎ (IsOkAnd args (λ given. (words : List (List ℕ)) × (call : Call) × GivesWords given words × Says words call)
-        × ((input : List ℕ) × IsInputOf (S.remaining source.old) input × InputIsRefused input e))) }
+        ⊎ IsOkAnd args (λ given. (words : List (List ℕ)) × (call : Call) × (input : List ℕ) × GivesWords given words
+        × Says words call × IsInputOf (S.remaining source.old) input
+        × InputStops (conn_of call) (side_of call) nothing input e)) }
 
     // Words, memory and devices aside, the source was read to its end, within the pulls that it is given.
     ensures in_time { S.pulls source.new ≤ S.pulls source.old + 2 ^ 28 }
@@ -62,7 +65,7 @@ pub fn run<S: Source, K: Sink>(
     ensures sink_failure { K.failures sink.old < K.failures sink.new → IsErrOf result (RunError.Pgm pgm.Device) }
 {
     let call = read_process_words(alloc, args)?;
-    view_run(alloc, source, connectivity(call), sink)
+    view_alone(alloc, source, connectivity(call), tile_side(call), sink)
 }
 
 // Which pixels are neighbours, for a call.
@@ -70,7 +73,16 @@ fn connectivity(call: Call) -> Conn
     ensures { result ≡ conn_of call }
 {
     match call {
-        Call::View { conn } => conn,
+        Call::View { conn, .. } => conn,
+    }
+}
+
+// The side of the tiles, for a call.
+fn tile_side(call: Call) -> u32
+    ensures { result ≡ side_of call }
+{
+    match call {
+        Call::View { side, .. } => side,
     }
 }
 

@@ -2,54 +2,16 @@
 
 ghost use Rattle.std.specs.Prelude.{◌≡◌, ◌++◌, IfOk, OnOk, codes, decimal, string_bytes};
 ghost use Rattle.stroke_core.specs.Tag.{text_of};
-ghost use Rattle.seedpaint.specs.RunError.{fault_text, edit_text, core_text, core_code_of, refused_state, status_of, edit_status, pgm_status, core_status};
+ghost use Rattle.seedpaint.specs.RunError.{fault_text, edit_text, core_text, status_of, edit_status, pgm_status, core_status};
 ghost use Rattle.seedpaint.specs.declared.run_error.RunError.TheVariants as errors;
 
 use edit_lang::EditError;
 use grid_core::Memory;
 use pgm_codec::PgmError;
+use reset_core::CoreError;
 use std::alloc::Global;
 use stroke_core::Tag;
-use stroke_lattice::StateError;
 use thiserror::Error;
-
-/// Why deltas can not all be merged. The first delta that can not be is meant.
-#[derive(Clone, Copy, Debug, PartialEq, Eq, Error)]
-pub enum CoreError {
-    /// C1: the stroke of this tag does not fit the image. It is the least such tag of the delta.
-    #[error("C1: a stroke does not fit the image")]
-    OutOfImage(Tag),
-    /// C2: another stroke before it has this tag. It is the least such tag of the delta.
-    #[error("C2: two strokes have one tag")]
-    Conflict(Tag),
-    /// C4: out of memory.
-    #[error("C4: out of memory")]
-    Memory,
-}
-
-impl CoreError {
-    /// The code: C1, C2 or C4.
-    pub fn code(self) -> &'static str
-        ensures { result.now ≡ core_code_of self }
-    {
-        match self {
-            CoreError::OutOfImage(_) => "C1",
-            CoreError::Conflict(_) => "C2",
-            CoreError::Memory => "C4",
-        }
-    }
-}
-
-impl From<StateError> for CoreError {
-    ghost from_gives = { λ e f. f ≡ refused_state e };
-
-    fn from(e: StateError) -> CoreError {
-        match e {
-            StateError::Conflict(tag) => CoreError::Conflict(tag),
-            StateError::Memory => CoreError::Memory,
-        }
-    }
-}
 
 /// Why a run ended without its image.
 #[derive(Clone, Copy, Debug, PartialEq, Eq, Error)]
@@ -66,7 +28,7 @@ pub enum RunError {
     /// P1 to P11: the image file behind it, or a device.
     #[error("{0}")]
     Pgm(PgmError),
-    /// C1, C2 and C4: the strokes and withdrawals can not all be merged.
+    /// C1 to C4: the strokes and withdrawals can not all be merged. C5: tiles have no such side.
     #[error("{0}")]
     Core(CoreError),
     /// Out of memory, outside reading, merging and writing.
@@ -126,7 +88,7 @@ pub fn fault_line(alloc: Global, error: &RunError) -> Result<String, Memory>
     Ok(line)
 }
 
-/// The exit status of the program: 1 for an input that is refused, 2 for words on the command line, 3 for
+/// The exit status of the program: 1 for an input or a side of tiles that is refused, 2 for words on the command line, 3 for
 /// want of memory and for a device that failed. A run that writes its image has status 0.
 pub fn status(error: &RunError) -> u8
     ensures { result ≡ status_of error.now }
@@ -171,7 +133,10 @@ fn core_status(error: &CoreError) -> u8
     ensures { result ≡ core_status error.now }
 {
     match error {
-        CoreError::OutOfImage(_) | CoreError::Conflict(_) => 1,
+        CoreError::OutOfImage(_)
+        | CoreError::Conflict(_)
+        | CoreError::GenerationsSpent
+        | CoreError::BadSide => 1,
         CoreError::Memory => 3,
     }
 }
@@ -193,7 +158,7 @@ fn push_edit_fault(alloc: Global, line: &mut String, error: &EditError) -> Resul
     }
 }
 
-// Adds the code of a refused delta, with the tag that is named.
+// Adds the code of a core's refusal, with the tag that is named, if one is.
 fn push_core_fault(alloc: Global, line: &mut String, error: &CoreError) -> Result<(), Memory>
     ensures { OnOk result (string_bytes line.new ≡ string_bytes line.old ++ core_text error.now) }
 {
@@ -201,7 +166,7 @@ fn push_core_fault(alloc: Global, line: &mut String, error: &CoreError) -> Resul
     match error {
         CoreError::OutOfImage(tag) => push_tag(alloc, line, *tag),
         CoreError::Conflict(tag) => push_tag(alloc, line, *tag),
-        CoreError::Memory => Ok(()),
+        CoreError::GenerationsSpent | CoreError::Memory | CoreError::BadSide => Ok(()),
     }
 }
 

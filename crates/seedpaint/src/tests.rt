@@ -1,10 +1,12 @@
+mod tiles;
 mod words;
 
-use crate::run_error::{CoreError, RunError, fault_line, status};
+use crate::run_error::{RunError, fault_line, status};
 use crate::view::view_run;
 use edit_lang::EditError;
 use grid_core::Conn;
 use pgm_codec::{MemorySink, MemorySource, PgmError};
+use reset_core::CoreError;
 use std::alloc::Global;
 use std::process::Abort;
 use std::test::Fail;
@@ -274,7 +276,13 @@ fn other_statuses(rt: HostRuntime) -> Result<(), Fail> {
             1,
             "seedpaint: E3 3 S3",
         ),
+        (
+            RunError::Core(CoreError::GenerationsSpent),
+            1,
+            "seedpaint: C3",
+        ),
         (RunError::Core(CoreError::Memory), 3, "seedpaint: C4"),
+        (RunError::Core(CoreError::BadSide), 1, "seedpaint: C5"),
         (
             RunError::Core(CoreError::OutOfImage(Tag(255))),
             1,

@@ -19,8 +19,10 @@ fn read(alloc: Global, words: &[&str]) -> Result<Result<Call, RunError>, Fail> {
     Ok(read_words(alloc, &words))
 }
 
+// The words are read, and say tiles of side 64.
 fn reads(rt: &impl Abort, alloc: Global, words: &[&str], conn: Conn) -> Result<(), Fail> {
-    assert_eq!(rt; read(alloc, words)?, Ok(Call::View { conn }), "{words:?}");
+    let call = Call::View { conn, side: 64 };
+    assert_eq!(rt; read(alloc, words)?, Ok(call), "{words:?}");
     Ok(())
 }
 
@@ -33,6 +35,62 @@ fn words_of_a_view(rt: HostRuntime) -> Result<(), Fail> {
     reads(&rt, alloc, &["view", "--conn", "8"], Conn::Eight)?;
     reads(&rt, alloc, &["view", "--conn=8"], Conn::Eight)?;
     reads(&rt, alloc, &["view", "--conn", "8", "--"], Conn::Eight)
+}
+
+#[test]
+fn words_that_name_a_side(rt: HostRuntime) -> Result<(), Fail> {
+    let alloc = rt.alloc();
+    let cases: [(&[&str], Conn, u32); 7] = [
+        (&["view", "--tile", "8"], Conn::Four, 8),
+        (&["view", "--tile", "64"], Conn::Four, 64),
+        (&["view", "--tile", "100"], Conn::Four, 100),
+        (&["view", "--tile=256"], Conn::Four, 256),
+        (&["view", "--conn", "8", "--tile", "16"], Conn::Eight, 16),
+        (&["view", "--tile", "16", "--conn", "8"], Conn::Eight, 16),
+        (&["view", "--tile", "9", "--"], Conn::Four, 9),
+    ];
+    for (words, conn, side) in cases {
+        assert_eq!(rt;
+            read(alloc, words)?,
+            Ok(Call::View { conn, side }),
+            "{words:?}"
+        );
+    }
+    Ok(())
+}
+
+#[test]
+fn sides_that_are_usage(rt: HostRuntime) -> Result<(), Fail> {
+    let alloc = rt.alloc();
+    let values = [
+        "7",
+        "257",
+        "0",
+        "",
+        "08",
+        "+8",
+        "-8",
+        "8.0",
+        "0x8",
+        "eight",
+        " 8",
+        "8 ",
+        "4294967304",
+    ];
+    for value in values {
+        let words = ["view", "--tile", value];
+        assert_eq!(rt; read(alloc, &words)?, Err(RunError::Usage), "{value}");
+    }
+    let refused: [&[&str]; 4] = [
+        &["view", "--tile"],
+        &["view", "--tile", "8", "--tile", "8"],
+        &["--tile", "8"],
+        &["view", "--tiles", "8"],
+    ];
+    for words in refused {
+        assert_eq!(rt; read(alloc, words)?, Err(RunError::Usage), "{words:?}");
+    }
+    Ok(())
 }
 
 #[test]
@@ -72,12 +130,30 @@ fn the_first_word_of_a_process_is_its_name(rt: HostRuntime) -> Result<(), Fail> 
     let alloc = rt.alloc();
     let eight = strings(alloc, &["seedpaint", "view", "--conn", "8"])?;
     let call = read_process_words(alloc, Ok(eight.into_iter()));
-    assert_eq!(rt; call, Ok(Call::View { conn: Conn::Eight }));
+    assert_eq!(rt;
+        call,
+        Ok(Call::View {
+            conn: Conn::Eight,
+            side: 64
+        })
+    );
     let name_alone = strings(alloc, &["view"])?;
     let call = read_process_words(alloc, Ok(name_alone.into_iter()));
-    assert_eq!(rt; call, Ok(Call::View { conn: Conn::Four }));
+    assert_eq!(rt;
+        call,
+        Ok(Call::View {
+            conn: Conn::Four,
+            side: 64
+        })
+    );
     let call = read_process_words(alloc, Ok(Vec::new(alloc).into_iter()));
-    assert_eq!(rt; call, Ok(Call::View { conn: Conn::Four }));
+    assert_eq!(rt;
+        call,
+        Ok(Call::View {
+            conn: Conn::Four,
+            side: 64
+        })
+    );
     let usage = strings(alloc, &["view", "--help"])?;
     assert_eq!(rt;
         read_process_words(alloc, Ok(usage.into_iter())),

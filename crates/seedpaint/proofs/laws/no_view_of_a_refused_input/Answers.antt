@@ -2,11 +2,11 @@ use Rattle.seedpaint.proofs.Refusals.{no_view_of_a_refused_input}
 use Rattle.seedpaint.proofs.laws.no_view_of_a_refused_input.Goals as goal
 
 pub returns : goal.returns
-returns c = no_view_of_a_refused_input (record {
+returns c conn side old = no_view_of_a_refused_input (record {
   one_list = c.one_meaning.ensures.one_list;
   no_edit_fault = c.one_meaning.ensures.no_fault;
   one_edit_fault = c.one_meaning.ensures.one_fault;
   one_image = c.one_image.ensures;
   no_pgm_fault = c.one_fault.ensures.none;
   one_pgm_fault = c.one_fault.ensures.first;
-}) c.at_most_one_join_of_a_list.ensures
+}) c.join_of_an_empty_list.ensures c.join_of_a_longer_list.ensures conn side old
