@@ -249,6 +249,24 @@ def growth(results, programs):
     table(["time a pixel"] + [str(side) for side in sides], rows)
 
 
+def tile_sides(families, size, programs, runs):
+    """Measure the families at one size with tiles of each side, and print the table of ratios."""
+    *tiled, baseline = programs
+    rows = []
+    for family in families:
+        figures = measure(Input(family, size), programs, runs)
+        rows.append([family] + [f"{figures[each.name][0] / figures[baseline.name][0]:.2f}" for each in tiled])
+    table([f"{size} by {size}"] + [each.name for each in tiled], rows)
+
+
+def read_sides(text):
+    """Sides of tiles, with commas between them."""
+    sides = [int(word) for word in text.split(",")]
+    if min(sides) < 8 or max(sides) > 256:
+        raise argparse.ArgumentTypeError("tiles have sides of 8 to 256 pixels")
+    return sides
+
+
 def read_words():
     """The words of the command line."""
     parser = argparse.ArgumentParser(description="Measure Seedpaint against a plain C program.")
@@ -258,6 +276,8 @@ def read_words():
     parser.add_argument("--families", nargs="+", default=FAMILIES, choices=FAMILIES, metavar="FAMILY",
                         help=" ".join(FAMILIES))
     parser.add_argument("--conn", type=int, default=4, choices=(4, 8), help="neighbours of a pixel (4)")
+    parser.add_argument("--sides", type=read_sides, metavar="N,N..",
+                        help="compare tiles of these sides instead, as 16,32,64,128,256; nothing but time is measured")
     parser.add_argument("--callgrind", action="store_true", help="count instructions too, where valgrind is there")
     parser.add_argument("--no-others", action="store_true", help="leave scikit-image and Leptonica out")
     words = parser.parse_args()
@@ -279,13 +299,19 @@ def main():
     if baseline is None:
         stop("cc failed")
     conn = str(words.conn)
-    programs = [Filter("program", [words.program.resolve(), "view", "--conn", conn]),
-                Filter("baseline", [baseline, "--conn", conn])]
+    view = [words.program.resolve(), "view", "--conn", conn]
+    baseline = Filter("baseline", [baseline, "--conn", conn])
+    print(f"{machine()}; {conn} neighbours, the median of {words.runs} runs each.\n", flush=True)
+    sizes = sorted(set(words.sizes))
+    if words.sides:
+        programs = [Filter(f"tile {side}", [*view, "--tile", str(side)]) for side in words.sides] + [baseline]
+        for size in sizes:
+            tile_sides(words.families, size, programs, words.runs)
+        return
+    programs = [Filter("program", view), baseline]
     if not words.no_others:
         programs += others(conn)
-    print(f"{machine()}; {conn} neighbours, the median of {words.runs} runs each.\n", flush=True)
-    results = {side: ratios(words.families, side, programs, words.runs, words.callgrind)
-               for side in sorted(set(words.sizes))}
+    results = {size: ratios(words.families, size, programs, words.runs, words.callgrind) for size in sizes}
     if len(results) > 1:
         growth(results, programs)
 
