@@ -13,14 +13,14 @@ use Rattle.border_queues.specs.declared.hint.Hint.{Hint}
 use Rattle.border_queues.specs.Laws.{EdgesAreOpen}
 use Rattle.raster_sweeps.specs.Borders.{OpenPairsBeginOnBorder}
 use Rattle.raster_sweeps.proofs.Borders.{reconstruction_begins_on_border, same_part_keeps_border}
-use Rattle.reset_core.specs.Work.{Core, tiling, image_at, IsTile}
-use Rattle.reset_core.specs.Sweeps.{tile_rect, sender_of, hints_of}
-use Rattle.reset_core.specs.Invariant.{IsSound}
+use Rattle.core_rules.specs.Work.{Core, tiling, image_at, IsTile}
+use Rattle.core_rules.specs.Sweeps.{tile_rect, sender_of, hints_of}
+use Rattle.core_rules.specs.Invariant.{IsSound}
 use Rattle.reset_core.specs.Telling.{ImageAndWork, image_and_work, AreTold}
 use Rattle.reset_core.specs.Closing.{IsClosedInside, AreClosedInside}
 use Rattle.reset_core.proofs.Telling.{with_image_and_work}
 use Rattle.reset_core.proofs.TellingSweeps.{IsGrownAt, grown_core}
-use Rattle.reset_core.proofs.TileSets.{Has-before, Has-empty}
+use Rattle.tile_work.proofs.TileSets.{Has-before, Has-empty}
 use Rattle.reset_core.proofs.ClosingHints.{IsOnTileBorder, IsClosedAt, told_to_border, hints_keep_closed}
 
 -- no tile of the empty set is open inside

@@ -22,7 +22,7 @@ use Rattle.border_queues.proofs.Members.{at_head, behind_head}
 use Rattle.raster_sweeps.specs.Borders.{IsOnBorder, OpenPairsBeginOnBorder}
 use Rattle.raster_sweeps.proofs.Borders.{border_raise_keeps_border, same_part_keeps_border}
 use Rattle.reset_core.specs.Telling.{ImageAndWork, handed, all_handed}
-use Rattle.reset_core.proofs.Removals.{from_map}
+use Rattle.core_rules.proofs.Removals.{from_map}
 use Rattle.reset_core.proofs.TellingHands.{hint_rises, hint_stays}
 
 -- ---- pixels on a border

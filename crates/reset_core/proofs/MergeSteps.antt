@@ -18,24 +18,24 @@ use Rattle.stroke_lattice.proofs.Joining.{joined}
 use Rattle.marker_tiles.specs.Marker.{IsMarker, IsMarkedAt}
 use Rattle.marker_tiles.specs.Kept.{IsMarkerOf}
 use Rattle.tile_generations.specs.Generations.{max_generation}
-use Rattle.reset_core.specs.declared.error.CoreError.{CoreError}
-use Rattle.reset_core.specs.declared.error.CoreError.TheVariants.{GenerationsSpent, Memory}
-use Rattle.reset_core.specs.Codes.{refused_state}
-use Rattle.reset_core.specs.Work.{Core, TileWork, domain, tiling, mask_at, image_at, IsTile, work_at}
-use Rattle.reset_core.specs.Hits.{IsInTile, LeadTo, IsHit, TouchesHit}
-use Rattle.reset_core.specs.Merge.{HasRisen, IsReset, IsKept, IsMerged, IsRefused, IsAcceptable}
-use Rattle.reset_core.specs.Invariant.{IsSound}
-use Rattle.reset_core.specs.TileSet.{Has}
-use Rattle.reset_core.specs.Renewing.{IsPixelOf, IsTileReset, IsTileKept, TouchesMarked, HasRisenIn, IsUnder, row_at}
-use Rattle.reset_core.specs.Renewing.{AreReset, IsRaisedUnder, IsDirtyIf}
+use Rattle.core_rules.specs.declared.error.CoreError.{CoreError}
+use Rattle.core_rules.specs.declared.error.CoreError.TheVariants.{GenerationsSpent, Memory}
+use Rattle.core_rules.specs.Codes.{refused_state}
+use Rattle.core_rules.specs.Work.{Core, TileWork, domain, tiling, mask_at, image_at, IsTile, work_at}
+use Rattle.core_rules.specs.Hits.{IsInTile, LeadTo, IsHit, TouchesHit}
+use Rattle.core_rules.specs.Merge.{HasRisen, IsReset, IsKept, IsMerged, IsRefused, IsAcceptable}
+use Rattle.core_rules.specs.Invariant.{IsSound}
+use Rattle.tile_work.specs.TileSet.{Has}
+use Rattle.tile_resets.specs.Renewing.{IsPixelOf, IsTileReset, IsTileKept, TouchesMarked, HasRisenIn, IsUnder, row_at}
+use Rattle.tile_resets.specs.Renewing.{AreReset, IsRaisedUnder, IsDirtyIf}
 use Rattle.reset_core.specs.Replica.{Parts, core_of, IsStored}
 use Rattle.reset_core.specs.MergeSteps.{IsMarked, HasSpentMark, IsGrown, AreMarkedReset, IsRaisedByBirths, IsRenewed}
-use Rattle.reset_core.specs.Image.{IsOfSize}
-use Rattle.reset_core.specs.Marks.{AreHits, IsCoreOf}
+use Rattle.core_rules.specs.Image.{IsOfSize}
+use Rattle.tile_resets.specs.Marks.{AreHits, IsCoreOf}
 use Rattle.reset_core.proofs.Storing.{empty_still}
-use Rattle.reset_core.proofs.RenewingResets.{reset_stays}
-use Rattle.reset_core.proofs.Merging.{merge_keeps_sound}
-use Rattle.reset_core.proofs.Resets.{one_refusal}
+use Rattle.tile_resets.proofs.RenewingResets.{reset_stays}
+use Rattle.core_rules.proofs.Merging.{merge_keeps_sound}
+use Rattle.core_rules.proofs.Resets.{one_refusal}
 
 -- ---- tiles that are hit
 

@@ -11,22 +11,22 @@ use Rattle.stroke_lattice.specs.State.{State}
 use Rattle.stroke_lattice.specs.Change.{Turnover}
 use Rattle.tile_generations.specs.declared.ticket.Ticket.{Ticket}
 use Rattle.tile_generations.specs.Jobs.{Job, Swept, IsSwept}
-use Rattle.reset_core.specs.declared.error.CoreError.{CoreError}
-use Rattle.reset_core.specs.declared.error.CoreError.TheVariants as errors
-use Rattle.reset_core.specs.declared.answers.Back.{Back}
-use Rattle.reset_core.specs.declared.answers.Handed.{Handed}
-use Rattle.reset_core.specs.declared.step.Step.{Step}
-use Rattle.reset_core.specs.declared.step.Step.TheVariants as steps
-use Rattle.reset_core.specs.Work.{Core, TileWork, work_at, with_work, idle}
-use Rattle.reset_core.specs.Merge.{IsMerged, IsRefused, IsAcceptable}
-use Rattle.reset_core.specs.Sweeps.{IsTaken, IsGivenBack, IsAbandoned, IsReady, IsOut, taken}
-use Rattle.reset_core.specs.Hints.{IsHanded}
-use Rattle.reset_core.specs.Events.{Event, Answer, Happens, Merge, Take, GiveBack, Abandon, Hand}
-use Rattle.reset_core.specs.Events.{OfMerge, OfTake, OfGiveBack, OfAbandon, OfHand}
-use Rattle.reset_core.specs.Runs.{Entry, jobs_of, abandons_of}
-use Rattle.reset_core.specs.Schedule.{Progress, Ran, started, passed, after_event, IsStep, AreSteps, IsStopped, ran_of}
+use Rattle.core_rules.specs.declared.error.CoreError.{CoreError}
+use Rattle.core_rules.specs.declared.error.CoreError.TheVariants as errors
+use Rattle.core_rules.specs.declared.answers.Back.{Back}
+use Rattle.core_rules.specs.declared.answers.Handed.{Handed}
+use Rattle.core_rules.specs.declared.step.Step.{Step}
+use Rattle.core_rules.specs.declared.step.Step.TheVariants as steps
+use Rattle.core_rules.specs.Work.{Core, TileWork, work_at, with_work, idle}
+use Rattle.core_rules.specs.Merge.{IsMerged, IsRefused, IsAcceptable}
+use Rattle.core_rules.specs.Sweeps.{IsTaken, IsGivenBack, IsAbandoned, IsReady, IsOut, taken}
+use Rattle.core_rules.specs.Hints.{IsHanded}
+use Rattle.core_rules.specs.Events.{Event, Answer, Happens, Merge, Take, GiveBack, Abandon, Hand}
+use Rattle.core_rules.specs.Events.{OfMerge, OfTake, OfGiveBack, OfAbandon, OfHand}
+use Rattle.core_rules.specs.Runs.{Entry, jobs_of, abandons_of}
+use Rattle.core_rules.specs.Schedule.{Progress, Ran, started, passed, after_event, IsStep, AreSteps, IsStopped, ran_of}
 use Rattle.reset_core.specs.Scheduling.{Kept, Agrees, LeadsOn, HaveRun}
-use Rattle.reset_core.proofs.Cores.{work_there}
+use Rattle.core_rules.proofs.Cores.{work_there}
 use Rattle.reset_core.proofs.Settling.{jobs_append}
 
 -- ---- one more step

@@ -5,8 +5,8 @@ use Rattle.std.specs.Prelude.{◌≢◌, IsSome, Bool, false, Option, option_map
 use Rattle.std.specs.List.{All}
 use Rattle.border_queues.specs.declared.hint.Hint.{Hint}
 use Rattle.grid_core.specs.Tiles.{tile_of}
-use Rattle.reset_core.specs.Invariant.{IsSound}
-use Rattle.reset_core.proofs.Removals.{taken_was_there}
+use Rattle.core_rules.specs.Invariant.{IsSound}
+use Rattle.core_rules.proofs.Removals.{taken_was_there}
 use Rattle.std.proofs.lemmas.Nat.{mul-le}
 use Rattle.std.proofs.lemmas.List.{append-nil, append_assoc, length-append, length-set, map-append}
 use Rattle.std.proofs.lemmas.List.Edits.{length-remove}
@@ -15,22 +15,22 @@ use Rattle.grid_core.specs.Raster.{Raster, IsSized}
 use Rattle.grid_core.specs.Tiles.{Tiles, IsTiled, count_of, columns_of, rows_of}
 use Rattle.grid_core.proofs.Spans.{spans-le}
 use Rattle.tile_generations.specs.declared.ticket.Ticket.{Ticket}
-use Rattle.reset_core.specs.declared.answers.Handed.{Handed}
-use Rattle.reset_core.specs.declared.answers.Handed.TheVariants.{Raised, Same, Stale, Nothing}
-use Rattle.reset_core.specs.Work.{Core, TileWork, idle, tiling, IsTile, work_at, with_work, IsQuiet}
-use Rattle.reset_core.specs.Sweeps.{IsAbandoned}
-use Rattle.reset_core.specs.Hints.{hint_at, without_hint, raised, IsHanded}
-use Rattle.reset_core.specs.Events.{Merge, Take, GiveBack, Abandon, Hand}
-use Rattle.reset_core.specs.Events.{OfTake, OfAbandon, OfHand}
-use Rattle.reset_core.specs.Runs.{IsSettled, IsCutShort, Entry, IsRun, IsWorkedOff, IsLeast, NoneOut, HasHints, IsDirty}
-use Rattle.reset_core.specs.Runs.{jobs_of, abandons_of, abandoned, tickets_out}
-use Rattle.reset_core.specs.WorkTable.{HasJobOut}
+use Rattle.core_rules.specs.declared.answers.Handed.{Handed}
+use Rattle.core_rules.specs.declared.answers.Handed.TheVariants.{Raised, Same, Stale, Nothing}
+use Rattle.core_rules.specs.Work.{Core, TileWork, idle, tiling, IsTile, work_at, with_work, IsQuiet}
+use Rattle.core_rules.specs.Sweeps.{IsAbandoned}
+use Rattle.core_rules.specs.Hints.{hint_at, without_hint, raised, IsHanded}
+use Rattle.core_rules.specs.Events.{Merge, Take, GiveBack, Abandon, Hand}
+use Rattle.core_rules.specs.Events.{OfTake, OfAbandon, OfHand}
+use Rattle.core_rules.specs.Runs.{IsSettled, IsCutShort, Entry, IsRun, IsWorkedOff, IsLeast, NoneOut, HasHints, IsDirty}
+use Rattle.core_rules.specs.Runs.{jobs_of, abandons_of, abandoned, tickets_out}
+use Rattle.tile_work.specs.WorkTable.{HasJobOut}
 use Rattle.reset_core.specs.Telling.{burden}
 use Rattle.reset_core.specs.Settling.{waiting_count, AreAbandoned, IsFirstHandedOver, AreHanded, AreWorkedOff}
-use Rattle.reset_core.proofs.Cores.{field_kept}
+use Rattle.core_rules.proofs.Cores.{field_kept}
 use Rattle.reset_core.proofs.Sweeping.{let_go}
-use Rattle.reset_core.proofs.Running.{run_append}
-use Rattle.reset_core.proofs.InPlaceSweeps.{work_goes_on}
+use Rattle.core_rules.proofs.Running.{run_append}
+use Rattle.core_rules.proofs.InPlaceSweeps.{work_goes_on}
 
 -- ---- counts of lists of events
 

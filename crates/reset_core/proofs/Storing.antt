@@ -6,26 +6,26 @@ use Rattle.grid_core.specs.Raster.{IsFilled}
 use Rattle.grid_core.specs.Tiles.{Tiles, IsTiled, count_of}
 use Rattle.stroke_lattice.specs.State.{State, nothing}
 use Rattle.tile_generations.specs.Generations.{max_generation}
-use Rattle.reset_core.specs.Opening.{blank, fresh, opened}
-use Rattle.reset_core.proofs.Opening.{opened_is_sound}
+use Rattle.core_rules.specs.Opening.{blank, fresh, opened}
+use Rattle.core_rules.proofs.Opening.{opened_is_sound}
 use Rattle.grid_core.specs.Raster.{Raster, IsInside, IsBelow, with_value}
 use Rattle.grid_core.specs.Tiles.{tile_of}
 use Rattle.grid_core.proofs.Cells.{each_pixel_below}
 use Rattle.border_queues.specs.declared.hint.Hint.{Hint}
 use Rattle.marker_tiles.specs.Kept.{Kept, IsMarkerOf}
-use Rattle.reset_core.specs.declared.answers.Handed.{Handed}
-use Rattle.reset_core.specs.declared.answers.Handed.TheVariants.{Raised}
-use Rattle.reset_core.specs.Work.{Core, TileWork, tiling, image_at, IsTile, work_at, with_work}
-use Rattle.reset_core.specs.Hits.{IsInTile}
-use Rattle.reset_core.specs.Hints.{hint_at, IsPresent, without_hint, raised, IsHanded}
-use Rattle.reset_core.specs.Invariant.{IsSound}
+use Rattle.core_rules.specs.declared.answers.Handed.{Handed}
+use Rattle.core_rules.specs.declared.answers.Handed.TheVariants.{Raised}
+use Rattle.core_rules.specs.Work.{Core, TileWork, tiling, image_at, IsTile, work_at, with_work}
+use Rattle.core_rules.specs.Hits.{IsInTile}
+use Rattle.core_rules.specs.Hints.{hint_at, IsPresent, without_hint, raised, IsHanded}
+use Rattle.core_rules.specs.Invariant.{IsSound}
 use Rattle.reset_core.specs.Replica.{Parts, core_of, IsEmptySet, IsStored}
-use Rattle.reset_core.proofs.Cores.{inside_image}
+use Rattle.core_rules.proofs.Cores.{inside_image}
 use Rattle.tile_generations.specs.declared.ticket.Ticket.{Ticket}
-use Rattle.reset_core.specs.Sweeps.{IsAbandoned}
-use Rattle.reset_core.proofs.Handing.{hint_of_tile, hand_keeps_sound}
-use Rattle.reset_core.proofs.Taking.{abandon_keeps_sound}
-use Rattle.reset_core.proofs.Removals.{taken_was_there}
+use Rattle.core_rules.specs.Sweeps.{IsAbandoned}
+use Rattle.core_rules.proofs.Handing.{hint_of_tile, hand_keeps_sound}
+use Rattle.core_rules.proofs.Taking.{abandon_keeps_sound}
+use Rattle.core_rules.proofs.Removals.{taken_was_there}
 
 -- the image of a sound core is nowhere above its mask
 pub image_below_mask : (core : Core) → IsSound core → IsBelow core.image core.mask

@@ -21,19 +21,19 @@ use Rattle.border_queues.specs.OpenEdges.{Sender, hint_to, open_edges, from_corn
 use Rattle.border_queues.specs.Laws.{EdgesAreOpen, SameImageSameEdges}
 use Rattle.tile_generations.specs.declared.ticket.Ticket.{Ticket}
 use Rattle.tile_generations.specs.Jobs.{Job, Swept, IsSwept}
-use Rattle.reset_core.specs.declared.answers.Back.TheVariants.{Joined, Again}
-use Rattle.reset_core.specs.Image.{IsPart, IsJoinedWith}
-use Rattle.reset_core.specs.Work.{Core, TileWork, domain, tiling, image_at, idle, IsTile, work_at}
-use Rattle.reset_core.specs.Sweeps.{tile_rect, IsReady, IsNextJob, IsOut, IsKnown, IsUnchanged, HasOnlyRisen, sender_of}
-use Rattle.reset_core.specs.Sweeps.{hints_of, received, IsJoined}
-use Rattle.reset_core.specs.Invariant.{IsSound}
-use Rattle.reset_core.specs.Laws.{TakeKeepsSound, AbandonKeepsSound, GiveBackKeepsSound}
+use Rattle.core_rules.specs.declared.answers.Back.TheVariants.{Joined, Again}
+use Rattle.core_rules.specs.Image.{IsPart, IsJoinedWith}
+use Rattle.core_rules.specs.Work.{Core, TileWork, domain, tiling, image_at, idle, IsTile, work_at}
+use Rattle.core_rules.specs.Sweeps.{tile_rect, IsReady, IsNextJob, IsOut, IsKnown, IsUnchanged, HasOnlyRisen, sender_of}
+use Rattle.core_rules.specs.Sweeps.{hints_of, received, IsJoined}
+use Rattle.core_rules.specs.Invariant.{IsSound}
+use Rattle.core_rules.specs.Laws.{TakeKeepsSound, AbandonKeepsSound, GiveBackKeepsSound}
 use Rattle.reset_core.specs.Parts.{IsRaisedPart}
-use Rattle.reset_core.specs.WorkTable.{IsToTouching, AreReceived}
+use Rattle.tile_work.specs.WorkTable.{IsToTouching, AreReceived}
 use Rattle.reset_core.specs.Replica.{Parts, core_of, IsStored}
 use Rattle.reset_core.proofs.Storing.{stored_still}
-use Rattle.reset_core.proofs.Cores.{inside_image}
-use Rattle.reset_core.proofs.Removals.{passed_was_there, passed_test, from_map}
+use Rattle.core_rules.proofs.Cores.{inside_image}
+use Rattle.core_rules.proofs.Removals.{passed_was_there, passed_test, from_map}
 
 -- ---- what is stored
 

@@ -8,7 +8,7 @@ use Rattle.grid_core.specs.declared.pixel.Pixel.{Pixel}
 use Rattle.grid_core.specs.declared.rect.Rect.{Rect}
 use Rattle.grid_core.specs.Raster.{Raster, IsInside, index_of, value_at}
 use Rattle.grid_core.specs.Rects.{RectFits, in_image}
-use Rattle.reset_core.specs.Image.{IsJoinedWith}
+use Rattle.core_rules.specs.Image.{IsJoinedWith}
 use Rattle.reset_core.specs.Parts.{IsRow, AreCellsRaised}
 
 -- ---- rows compared

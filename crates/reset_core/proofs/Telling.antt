@@ -8,14 +8,14 @@ use Rattle.grid_core.specs.Raster.{with_value}
 use Rattle.grid_core.specs.Tiles.{Tiles, tile_of}
 use Rattle.border_queues.specs.declared.hint.Hint.{Hint}
 use Rattle.border_queues.proofs.Members.{at_head, behind_head, head_or_behind}
-use Rattle.reset_core.specs.declared.answers.Handed.TheVariants.{Raised, Same}
-use Rattle.reset_core.specs.Work.{Core, TileWork, tiling, image_at, idle, IsTile, work_at}
-use Rattle.reset_core.specs.Sweeps.{hints_for, received}
-use Rattle.reset_core.specs.Hints.{hint_at, IsPresent, without_hint, raised, IsHanded}
-use Rattle.reset_core.specs.Events.{Hand, OfHand}
-use Rattle.reset_core.specs.Runs.{Entry, jobs_of, NoneOut, IsNext, IsWorkedOff}
+use Rattle.core_rules.specs.declared.answers.Handed.TheVariants.{Raised, Same}
+use Rattle.core_rules.specs.Work.{Core, TileWork, tiling, image_at, idle, IsTile, work_at}
+use Rattle.core_rules.specs.Sweeps.{hints_for, received}
+use Rattle.core_rules.specs.Hints.{hint_at, IsPresent, without_hint, raised, IsHanded}
+use Rattle.core_rules.specs.Events.{Hand, OfHand}
+use Rattle.core_rules.specs.Runs.{Entry, jobs_of, NoneOut, IsNext, IsWorkedOff}
 use Rattle.reset_core.specs.Telling.{ImageAndWork, image_and_work, risen_by, all_handed, hints_in, AreInTileOrder}
-use Rattle.reset_core.proofs.Cores.{work_there, work_elsewhere, field_kept}
+use Rattle.core_rules.proofs.Cores.{work_there, work_elsewhere, field_kept}
 use Rattle.reset_core.proofs.TellingHands.{hint_rises, hint_stays}
 
 -- ---- the work at each tile once hints have come

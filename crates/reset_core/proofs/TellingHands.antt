@@ -15,7 +15,7 @@ use Rattle.grid_core.specs.Tiles.{Tiles, tile_of}
 use Rattle.border_queues.specs.declared.hint.Hint.{Hint}
 use Rattle.border_queues.specs.OpenEdges.{IsOnTiling}
 use Rattle.raster_sweeps.proofs.Headroom.{headroom_set}
-use Rattle.reset_core.specs.Work.{TileWork, idle}
+use Rattle.core_rules.specs.Work.{TileWork, idle}
 use Rattle.reset_core.specs.Telling.{ImageAndWork, dirty_count, burden_of, risen_by, handed, all_handed, hints_in}
 use Rattle.reset_core.specs.Telling.{AreHandedOver}
 

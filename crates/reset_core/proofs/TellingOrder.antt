@@ -17,7 +17,7 @@ use Rattle.border_queues.specs.OpenEdges.{Sender, hint_to, open_edges}
 use Rattle.border_queues.specs.Laws.{EdgesAreOpen}
 use Rattle.border_queues.proofs.Members.{at_head, behind_head, head_or_behind, in_flat_map, not_in_none}
 use Rattle.reset_core.specs.Telling.{hints_in, AreInTileOrder, AreByTile}
-use Rattle.reset_core.proofs.Removals.{passed_was_there, passed_test, from_map}
+use Rattle.core_rules.proofs.Removals.{passed_was_there, passed_test, from_map}
 use Rattle.reset_core.proofs.Telling.{none_for, first_for_its_tile}
 
 -- ---- where the hints of open edges come from, and where they go

@@ -17,21 +17,21 @@ use Rattle.grid_core.proofs.Tilings.{each_pixel_in_one_tile, tile_pixels, neighb
 use Rattle.border_queues.specs.declared.hint.Hint.{Hint}
 use Rattle.border_queues.specs.Laws.{EdgesAreOpen}
 use Rattle.raster_sweeps.proofs.Headroom.{headroom_falls}
-use Rattle.reset_core.specs.declared.answers.Back.TheVariants.{Joined}
-use Rattle.reset_core.specs.Image.{IsOfSize}
-use Rattle.reset_core.specs.Work.{Core, TileWork, domain, tiling, mask_at, image_at, idle, IsTile, work_at}
-use Rattle.reset_core.specs.Sweeps.{tile_rect, sender_of, hints_of, hints_for, received}
-use Rattle.reset_core.specs.InPlace.{IsSweptInPlace}
-use Rattle.reset_core.specs.Events.{Take, GiveBack, OfTake, OfGiveBack}
-use Rattle.reset_core.specs.Runs.{Entry, IsRun, IsNext, IsWorkedOff, NoneOut, HasHints, jobs_of}
-use Rattle.reset_core.specs.Invariant.{IsSound}
+use Rattle.core_rules.specs.declared.answers.Back.TheVariants.{Joined}
+use Rattle.core_rules.specs.Image.{IsOfSize}
+use Rattle.core_rules.specs.Work.{Core, TileWork, domain, tiling, mask_at, image_at, idle, IsTile, work_at}
+use Rattle.core_rules.specs.Sweeps.{tile_rect, sender_of, hints_of, hints_for, received}
+use Rattle.core_rules.specs.InPlace.{IsSweptInPlace}
+use Rattle.core_rules.specs.Events.{Take, GiveBack, OfTake, OfGiveBack}
+use Rattle.core_rules.specs.Runs.{Entry, IsRun, IsNext, IsWorkedOff, NoneOut, HasHints, jobs_of}
+use Rattle.core_rules.specs.Invariant.{IsSound}
 use Rattle.reset_core.specs.Replica.{Parts, core_of, IsStored}
 use Rattle.reset_core.specs.Telling.{ImageAndWork, image_and_work, burden, burden_of, headroom, dirty_count, AreByTile}
 use Rattle.reset_core.specs.Telling.{AreTold}
-use Rattle.reset_core.proofs.Cores.{work_there, work_elsewhere, field_kept}
-use Rattle.reset_core.proofs.Supporting.{reach_at_most}
-use Rattle.reset_core.proofs.Running.{run_keeps_sound}
-use Rattle.reset_core.proofs.InPlaceSweeps.{in_place_is_worked_off, work_goes_on}
+use Rattle.core_rules.proofs.Cores.{work_there, work_elsewhere, field_kept}
+use Rattle.core_rules.proofs.Supporting.{reach_at_most}
+use Rattle.core_rules.proofs.Running.{run_keeps_sound}
+use Rattle.core_rules.proofs.InPlaceSweeps.{in_place_is_worked_off, work_goes_on}
 use Rattle.reset_core.proofs.Telling.{telling, telling_count, telling_work, telling_same, none_for}
 use Rattle.reset_core.proofs.Telling.{with_image_and_work, AreToldAt, HandsOver, hands_over}
 use Rattle.reset_core.proofs.TellingOrder.{IsToldBy, told_by}

@@ -3,9 +3,9 @@
 use Rattle.std.specs.Prelude.{◌≡◌, ℕ, Bool, List, length}
 use Rattle.grid_core.specs.Tiles.{count_of}
 use Rattle.raster_sweeps.specs.Borders.{OpenPairsBeginOnBorder}
-use Rattle.reset_core.specs.Work.{Core, tiling}
-use Rattle.reset_core.specs.Sweeps.{tile_rect}
-use Rattle.reset_core.specs.TileSet.{Has}
+use Rattle.core_rules.specs.Work.{Core, tiling}
+use Rattle.core_rules.specs.Sweeps.{tile_rect}
+use Rattle.tile_work.specs.TileSet.{Has}
 
 -- each open pair of the tile has its first pixel on the tile's border
 abbrev pub IsClosedInside : Core → ℕ → Type 0

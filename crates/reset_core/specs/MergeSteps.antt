@@ -6,12 +6,12 @@ use Rattle.stroke_lattice.specs.State.{State, StateFits, AreCompatible, IsJoin}
 use Rattle.stroke_lattice.specs.Change.{Turnover, IsChange}
 use Rattle.marker_tiles.specs.Kept.{IsMarkerOf}
 use Rattle.tile_generations.specs.Generations.{max_generation}
-use Rattle.reset_core.specs.Image.{IsOfSize}
-use Rattle.reset_core.specs.Work.{Core, TileWork, tiling, work_at}
-use Rattle.reset_core.specs.Marks.{AreHits}
-use Rattle.reset_core.specs.TileSet.{Has}
+use Rattle.core_rules.specs.Image.{IsOfSize}
+use Rattle.core_rules.specs.Work.{Core, TileWork, tiling, work_at}
+use Rattle.tile_resets.specs.Marks.{AreHits}
+use Rattle.tile_work.specs.TileSet.{Has}
 use Rattle.reset_core.specs.Replica.{Parts, core_of}
-use Rattle.reset_core.specs.Renewing.{AreReset, IsRaisedUnder, IsDirtyIf, HasRisenIn, row_at}
+use Rattle.tile_resets.specs.Renewing.{AreReset, IsRaisedUnder, IsDirtyIf, HasRisenIn, row_at}
 
 -- the delta fits the core, and its hits are marked
 pub record IsMarked (core : Core) (delta : State) (marks : List Bool) : Type 0 where

@@ -5,8 +5,8 @@ use Rattle.grid_core.specs.declared.conn.Conn.{Conn}
 use Rattle.grid_core.specs.Raster.{Raster}
 use Rattle.stroke_lattice.specs.State.{State}
 use Rattle.marker_tiles.specs.Kept.{Kept, IsMarkerOf}
-use Rattle.reset_core.specs.Work.{Core, TileWork}
-use Rattle.reset_core.specs.Invariant.{IsSound}
+use Rattle.core_rules.specs.Work.{Core, TileWork}
+use Rattle.core_rules.specs.Invariant.{IsSound}
 
 -- the parts that a core is stored as: with the mask goes the marker, and between merges no tile is marked and none
 -- waits to be looked at

@@ -1,12 +1,12 @@
 -- What is kept while a schedule runs. Only private functions have these words in their contracts.
 use Rattle.std.specs.Prelude.{◌≡◌, ℕ, ◌+◌, ◌≤◌, List, length, take}
 use Rattle.tile_generations.specs.Jobs.{Swept}
-use Rattle.reset_core.specs.declared.error.CoreError.{CoreError}
+use Rattle.core_rules.specs.declared.error.CoreError.{CoreError}
 use Rattle.reset_core.specs.declared.replica.scheduling.Tally.{Tally}
-use Rattle.reset_core.specs.declared.step.Step.{Step}
-use Rattle.reset_core.specs.Work.{Core}
-use Rattle.reset_core.specs.Runs.{jobs_of, abandons_of}
-use Rattle.reset_core.specs.Schedule.{Progress, started, IsStep, AreSteps}
+use Rattle.core_rules.specs.declared.step.Step.{Step}
+use Rattle.core_rules.specs.Work.{Core}
+use Rattle.core_rules.specs.Runs.{jobs_of, abandons_of}
+use Rattle.core_rules.specs.Schedule.{Progress, started, IsStep, AreSteps}
 
 -- what is kept of a schedule so far, beside the core: the results, the number of jobs that were abandoned, and the
 -- numbers of the edits that were accepted and refused

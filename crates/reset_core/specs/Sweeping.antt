@@ -1,10 +1,10 @@
 -- What becomes of a swept tile that is given back, as the first line of the table that fits.
 use Rattle.std.specs.Prelude.{◌⊎◌}
 use Rattle.tile_generations.specs.Jobs.{Job}
-use Rattle.reset_core.specs.declared.answers.Back.{Back}
-use Rattle.reset_core.specs.declared.answers.Back.TheVariants.{Joined, Again, Stale, Stranger}
-use Rattle.reset_core.specs.Work.{Core}
-use Rattle.reset_core.specs.Sweeps.{IsKnown, IsOut, IsUnchanged, HasOnlyRisen}
+use Rattle.core_rules.specs.declared.answers.Back.{Back}
+use Rattle.core_rules.specs.declared.answers.Back.TheVariants.{Joined, Again, Stale, Stranger}
+use Rattle.core_rules.specs.Work.{Core}
+use Rattle.core_rules.specs.Sweeps.{IsKnown, IsOut, IsUnchanged, HasOnlyRisen}
 
 -- the line of the table that the job's swept tile falls under
 abbrev pub IsJudged : Core → Job → Back → Type 0

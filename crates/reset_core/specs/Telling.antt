@@ -5,7 +5,7 @@ use Rattle.std.specs.List.{sum_by}
 use Rattle.grid_core.specs.Raster.{Raster, value_at, with_value}
 use Rattle.grid_core.specs.Tiles.{Tiles, tile_of, count_of}
 use Rattle.border_queues.specs.declared.hint.Hint.{Hint}
-use Rattle.reset_core.specs.Work.{Core, TileWork, idle}
+use Rattle.core_rules.specs.Work.{Core, TileWork, idle}
 
 -- ---- how much work a core can still have
 

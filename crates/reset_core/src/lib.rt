@@ -14,32 +14,15 @@
 //! hints that wait ([`Core::hand`]). A withdrawal resets the tiles that the stroke's growth can have reached, and raises
 //! their generations, so that results and hints from before are known.
 //!
-//! What a core is stands in `specs/Work.antt`. What can happen to it, what each event answers and what the core is
-//! then, is one table, in `specs/Events.antt`, over `specs/Merge.antt`, `specs/Sweeps.antt` and `specs/Hints.antt`;
-//! which tiles a withdrawal resets stands in `specs/Hits.antt`. What every core keeps is `IsSound` in
-//! `specs/Invariant.antt`: the image is supported by the strokes, the waiting hints are valid, and each pair of
-//! neighbours that is still open has work. Lists of events, settling among them, stand in `specs/Runs.antt`, and
-//! schedules in `specs/Schedule.antt`.
+//! What a core is, what can happen to it and what each event answers is one table, in the crate `core_rules`, which the
+//! contracts here cite; [`laws`] are that crate's.
 //!
-//! [`laws`] says what follows: each event has one answer, and keeps a core sound; and where a sound core is quiet, its
-//! image is the reconstruction (Vincent, "Morphological Grayscale Reconstruction in Image Analysis", 1993).
-//!
-//! In the code, `replica` has the core, a module for each kind of event below it. These stand on `work_table` (the work
-//! at each tile, with `tile_set`), `parts` (pieces of an image), `hits` (which tiles a withdrawal resets) and `renewing`
-//! (what a merge does to image and work).
+//! In the code, `replica` has the core, a module for each kind of event below it, and `parts` has pieces of an image.
+//! They stand on the crates `tile_work` (the work at each tile) and `tile_resets` (which tiles a withdrawal resets, and
+//! what a merge does to image and work).
 
-mod answers;
-mod error;
-mod hits;
-pub mod laws;
 mod parts;
-mod renewing;
 mod replica;
-mod step;
-mod tile_set;
-mod work_table;
 
-pub use answers::{Back, Handed};
-pub use error::CoreError;
+pub use core_rules::{Back, CoreError, Handed, Step, laws};
 pub use replica::{Core, Count, Ran, RefusedMask, TILE_SIDE};
-pub use step::Step;

@@ -3,7 +3,7 @@
 ghost use Rattle.std.specs.Prelude.{◌≡◌, ◌+◌, ◌<◌, ◌≤◌, ◌↔◌, length, max, slice_index, IsTrue, IfOk, EachIndex};
 ghost use Rattle.grid_core.specs.Raster.{value_at};
 ghost use Rattle.grid_core.specs.Rects.{RectFits, part};
-ghost use Rattle.reset_core.specs.Image.{IsPart, IsAtMostPart, IsJoinedWith};
+ghost use Rattle.core_rules.specs.Image.{IsPart, IsAtMostPart, IsJoinedWith};
 ghost use Rattle.reset_core.specs.Parts.{IsRow, AreCellsRaised, IsRaisedPart};
 
 use grid_core::laws::cells_given_back;

@@ -5,17 +5,15 @@ ghost use Rattle.grid_core.specs.Raster.{IsFilled, IsInside, IsSized, IsBelow, v
 ghost use Rattle.grid_core.specs.Tiles.{IsTiled, IsTileSide, count_of};
 ghost use Rattle.marker_tiles.specs.Kept.{IsMarkerOf};
 ghost use Rattle.tile_generations.specs.Generations.{max_generation};
-ghost use Rattle.reset_core.specs.declared.error.CoreError.TheVariants as errors;
-ghost use Rattle.reset_core.specs.Work.{IsTile, IsQuiet, tiling, work_at};
-ghost use Rattle.reset_core.specs.Invariant.{HasLawfulImage, HasReconstruction};
-ghost use Rattle.reset_core.specs.Opening.{blank, fresh, opened};
+ghost use Rattle.core_rules.specs.declared.error.CoreError.TheVariants as errors;
+ghost use Rattle.core_rules.specs.Work.{IsTile, IsQuiet, tiling, work_at};
+ghost use Rattle.core_rules.specs.Invariant.{HasLawfulImage, HasReconstruction};
+ghost use Rattle.core_rules.specs.Opening.{blank, fresh, opened};
 ghost use Rattle.reset_core.specs.Replica.{core_of, IsStored};
 ghost use Rattle.stroke_lattice.specs.State.{nothing};
-ghost use Rattle.reset_core.specs.Runs.{ticket_out};
+ghost use Rattle.core_rules.specs.Runs.{ticket_out};
 
-use crate::error::CoreError;
-use crate::tile_set::TileSet;
-use crate::work_table::WorkTable;
+use core_rules::CoreError;
 use grid_core::{Conn, Grid, Pixel, Tiling, is_tile_side};
 use marker_tiles::Markers;
 use pgm_codec::Image;
@@ -23,6 +21,7 @@ use std::alloc::Global;
 use std::marker::Model;
 use stroke_lattice::{State, StateError};
 use tile_generations::Ticket;
+use tile_work::{TileSet, WorkTable};
 
 mod handing;
 mod in_place;
@@ -64,8 +63,8 @@ pub struct Core {
 
 impl Model for Core {
     ghost use Rattle.stroke_core.specs.contracts.stroke.Stroke as stroke;
-    ghost use Rattle.reset_core.specs.Work.{Core as Replica};
-    ghost use Rattle.reset_core.specs.Stored.{core_code};
+    ghost use Rattle.core_rules.specs.Work.{Core as Replica};
+    ghost use Rattle.core_rules.specs.Stored.{core_code};
     ghost use Rattle.reset_core.specs.Replica.{core_of, IsStored};
 
     ghost Value = { Replica };

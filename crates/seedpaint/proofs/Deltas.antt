@@ -10,13 +10,13 @@ use Rattle.grid_core.specs.Raster.{Raster}
 use Rattle.stroke_core.specs.Seed.{Seed}
 use Rattle.stroke_lattice.specs.State.{State, nothing, HasStroke, StateFits, SomeHasStroke, IsJoinOf}
 use Rattle.stroke_lattice.specs.Change.{Turnover}
-use Rattle.reset_core.specs.declared.error.CoreError.{CoreError}
-use Rattle.reset_core.specs.declared.error.CoreError.TheVariants.{OutOfImage, Conflict, GenerationsSpent, Memory, BadSide}
-use Rattle.reset_core.specs.Work.{Core}
-use Rattle.reset_core.specs.Events.{Merge, OfMerge}
-use Rattle.reset_core.specs.Invariant.{IsSound}
-use Rattle.reset_core.specs.Laws.{MergeKeepsSound}
-use Rattle.reset_core.specs.Merge.{IsMerged, IsRefused, IsAcceptable}
+use Rattle.core_rules.specs.declared.error.CoreError.{CoreError}
+use Rattle.core_rules.specs.declared.error.CoreError.TheVariants.{OutOfImage, Conflict, GenerationsSpent, Memory, BadSide}
+use Rattle.core_rules.specs.Work.{Core}
+use Rattle.core_rules.specs.Events.{Merge, OfMerge}
+use Rattle.core_rules.specs.Invariant.{IsSound}
+use Rattle.core_rules.specs.Laws.{MergeKeepsSound}
+use Rattle.core_rules.specs.Merge.{IsMerged, IsRefused, IsAcceptable}
 use Rattle.seedpaint.specs.Merging.{AreMerged, AreTaken, IsFirstRefusal, IsStop}
 use Rattle.seedpaint.proofs.LowerLaws.{LongerJoinLaw, EmptyJoinLaw, CoreLaws}
 use Rattle.seedpaint.proofs.Lists.{longer_front, same_parts, all_middle}

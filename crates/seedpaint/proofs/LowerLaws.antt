@@ -7,8 +7,8 @@ use Rattle.pgm_codec.specs.Spelling.{PgmSpells}
 use Rattle.pgm_codec.specs.FirstFault.{PgmFault}
 use Rattle.pgm_codec.specs.declared.error.PgmError.{PgmError}
 use Rattle.stroke_lattice.specs.State.{State, nothing, IsJoin, IsJoinOf}
-use Rattle.reset_core.specs.Laws.{OpenedIsSound, MergeKeepsSound, OneSuccessor, MergedIsAcceptable}
-use Rattle.reset_core.specs.Laws.{RefusedIsNotAcceptable, OneRefusal}
+use Rattle.core_rules.specs.Laws.{OpenedIsSound, MergeKeepsSound, OneSuccessor, MergedIsAcceptable}
+use Rattle.core_rules.specs.Laws.{RefusedIsNotAcceptable, OneRefusal}
 
 -- a text is read in one way
 pub record ReadingLaws : Type 0 where

@@ -8,9 +8,9 @@ use Rattle.grid_core.specs.Tiles.{IsTileSide}
 use Rattle.pgm_codec.specs.Graymap.{Graymap}
 use Rattle.pgm_codec.specs.Spelling.{PgmSpells}
 use Rattle.pgm_codec.specs.declared.error.PgmError.{PgmError}
-use Rattle.reset_core.specs.Invariant.{IsSound}
-use Rattle.reset_core.specs.Laws.{OpenedIsSound}
-use Rattle.reset_core.specs.Opening.{opened}
+use Rattle.core_rules.specs.Invariant.{IsSound}
+use Rattle.core_rules.specs.Laws.{OpenedIsSound}
+use Rattle.core_rules.specs.Opening.{opened}
 
 -- where none of two tests answers a fault, both fail
 no_fault : (a b : Bool) (x y : PgmError) → (if a then Some x else (if b then Some y else None)) ≡ None → (a ≡ false) × (b ≡ false)

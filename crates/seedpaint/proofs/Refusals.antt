@@ -13,10 +13,10 @@ use Rattle.seedpaint.specs.Input.{IsSplit, HasNoImageLine}
 use Rattle.pgm_codec.specs.declared.error.PgmError.TheVariants.{Device}
 use Rattle.seedpaint.specs.Merging.{AreMerged, IsFirstRefusal, IsStop}
 use Rattle.seedpaint.specs.View.{InputSpells, IsView, InputIsRefused, InputStops}
-use Rattle.reset_core.specs.declared.error.CoreError.{CoreError}
-use Rattle.reset_core.specs.declared.error.CoreError.TheVariants.{GenerationsSpent}
-use Rattle.reset_core.specs.Opening.{opened}
-use Rattle.reset_core.specs.Invariant.{IsSound}
+use Rattle.core_rules.specs.declared.error.CoreError.{CoreError}
+use Rattle.core_rules.specs.declared.error.CoreError.TheVariants.{GenerationsSpent}
+use Rattle.core_rules.specs.Opening.{opened}
+use Rattle.core_rules.specs.Invariant.{IsSound}
 use Rattle.grid_core.specs.Tiles.{IsTileSide}
 use Rattle.grid_core.specs.Raster.{Raster}
 use Rattle.seedpaint.specs.declared.run_error.RunError.{RunError}

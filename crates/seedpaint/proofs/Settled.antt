@@ -8,13 +8,13 @@ use Rattle.grid_core.specs.Reconstruction.{IsReconstruction}
 use Rattle.marker_tiles.specs.Marker.{IsMarker}
 use Rattle.stroke_lattice.specs.State.{State}
 use Rattle.tile_generations.specs.declared.ticket.Ticket.{Ticket}
-use Rattle.reset_core.specs.declared.answers.Back.TheVariants.{Joined, Again, Stale, Stranger}
-use Rattle.reset_core.specs.declared.answers.Handed.TheVariants.{Raised, Same, Stale as Old, Nothing}
-use Rattle.reset_core.specs.Work.{Core}
-use Rattle.reset_core.specs.Events.{Event, Answer, Happens, Merge, Take, GiveBack, Abandon, Hand}
-use Rattle.reset_core.specs.Events.{OfMerge, OfTake, OfGiveBack, OfAbandon, OfHand}
-use Rattle.reset_core.specs.Invariant.{HasReconstruction}
-use Rattle.reset_core.specs.Runs.{Entry, IsRun, IsNext, IsWorkedOff, IsSettled, abandoned}
+use Rattle.core_rules.specs.declared.answers.Back.TheVariants.{Joined, Again, Stale, Stranger}
+use Rattle.core_rules.specs.declared.answers.Handed.TheVariants.{Raised, Same, Stale as Old, Nothing}
+use Rattle.core_rules.specs.Work.{Core}
+use Rattle.core_rules.specs.Events.{Event, Answer, Happens, Merge, Take, GiveBack, Abandon, Hand}
+use Rattle.core_rules.specs.Events.{OfMerge, OfTake, OfGiveBack, OfAbandon, OfHand}
+use Rattle.core_rules.specs.Invariant.{HasReconstruction}
+use Rattle.core_rules.specs.Runs.{Entry, IsRun, IsNext, IsWorkedOff, IsSettled, abandoned}
 use Rattle.seedpaint.specs.Merging.{IsGrown}
 
 -- mask, connectivity and strokes stay

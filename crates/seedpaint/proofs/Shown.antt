@@ -14,8 +14,8 @@ use Rattle.grid_core.specs.Laws.{AtMostOneReconstruction, ReachRisesWithMarker}
 use Rattle.grid_core.specs.RasterLaws.{EqualPixelsEqualImages}
 use Rattle.marker_tiles.specs.Marker.{IsMarker}
 use Rattle.marker_tiles.specs.Laws.{AtMostOneMarker}
-use Rattle.reset_core.specs.Work.{Core}
-use Rattle.reset_core.specs.Opening.{opened}
+use Rattle.core_rules.specs.Work.{Core}
+use Rattle.core_rules.specs.Opening.{opened}
 use Rattle.seedpaint.specs.Merging.{AreTaken, IsGrown}
 use Rattle.seedpaint.specs.View.{InputSpells, IsShown, IsView}
 use Rattle.seedpaint.proofs.LowerLaws.{ReadingLaws, JoinLaw}

@@ -5,8 +5,8 @@ pub use Rattle.pgm_codec.specs.Writing
 pub use Rattle.edit_lang.specs.Edit
 pub use Rattle.stroke_lattice.specs.State
 pub use Rattle.marker_tiles.specs.Marker
-pub use Rattle.reset_core.specs.Merge
-pub use Rattle.reset_core.specs.Opening
+pub use Rattle.core_rules.specs.Merge
+pub use Rattle.core_rules.specs.Opening
 pub mod Input
 pub mod Merging
 pub mod RunError

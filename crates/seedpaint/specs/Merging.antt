@@ -7,10 +7,10 @@ use Rattle.grid_core.specs.Reconstruction.{IsReconstruction}
 use Rattle.stroke_lattice.specs.State.{State, StateFits, IsJoinOf}
 use Rattle.stroke_lattice.specs.Change.{Turnover}
 use Rattle.marker_tiles.specs.Marker.{IsMarker}
-use Rattle.reset_core.specs.declared.error.CoreError.{CoreError}
-use Rattle.reset_core.specs.declared.error.CoreError.TheVariants.{Memory}
-use Rattle.reset_core.specs.Work.{Core, domain, mask_at}
-use Rattle.reset_core.specs.Merge.{IsMerged, IsRefused, IsAcceptable}
+use Rattle.core_rules.specs.declared.error.CoreError.{CoreError}
+use Rattle.core_rules.specs.declared.error.CoreError.TheVariants.{Memory}
+use Rattle.core_rules.specs.Work.{Core, domain, mask_at}
+use Rattle.core_rules.specs.Merge.{IsMerged, IsRefused, IsAcceptable}
 
 -- all deltas are merged into the state: each fits an image of this width and height, and it is their join
 pub record AreMerged (width height : ℕ) (deltas : List State) (state : State) : Type 0 where

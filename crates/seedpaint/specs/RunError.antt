@@ -8,9 +8,9 @@ use Rattle.pgm_codec.specs.declared.error.PgmError.TheVariants as pgm
 use Rattle.pgm_codec.specs.Code.{code_of as pgm_code_of}
 use Rattle.stroke_core.specs.Code.{code_of as stroke_code_of}
 use Rattle.stroke_core.specs.Tag.{text_of}
-use Rattle.reset_core.specs.Codes.{code_of as core_code_of}
-use Rattle.reset_core.specs.declared.error.CoreError.{CoreError}
-use Rattle.reset_core.specs.declared.error.CoreError.TheVariants as core
+use Rattle.core_rules.specs.Codes.{code_of as core_code_of}
+use Rattle.core_rules.specs.declared.error.CoreError.{CoreError}
+use Rattle.core_rules.specs.declared.error.CoreError.TheVariants as core
 use Rattle.seedpaint.specs.declared.run_error.RunError.{RunError}
 use Rattle.seedpaint.specs.declared.run_error.RunError.TheVariants.{Usage, NoImage, Edit, Pgm, Core, Memory}
 

@@ -16,8 +16,8 @@ use Rattle.edit_lang.specs.declared.error.EditError.TheVariants as edit
 use Rattle.stroke_lattice.specs.State.{State}
 use Rattle.marker_tiles.specs.Marker.{IsMarker}
 use Rattle.seedpaint.specs.Input.{IsSplit, HasNoImageLine}
-use Rattle.reset_core.specs.Opening.{opened}
-use Rattle.reset_core.specs.declared.error.CoreError.TheVariants as core
+use Rattle.core_rules.specs.Opening.{opened}
+use Rattle.core_rules.specs.declared.error.CoreError.TheVariants as core
 use Rattle.seedpaint.specs.Merging.{AreMerged, IsFirstRefusal, IsHalted}
 use Rattle.seedpaint.specs.declared.run_error.RunError.{RunError}
 use Rattle.seedpaint.specs.declared.run_error.RunError.TheVariants.{Usage, NoImage, Edit, Pgm, Core, Memory}

@@ -4,8 +4,8 @@
 ghost use Rattle.std.specs.Prelude.{◌≡◌, ◌≢◌, ◌∷◌, ℕ, List};
 ghost use Rattle.grid_core.specs.declared.conn.Conn.{Conn};
 ghost use Rattle.grid_core.specs.Tiles.{IsTileSide};
-ghost use Rattle.reset_core.specs.Work.{Core};
-ghost use Rattle.reset_core.specs.declared.error.CoreError.TheVariants.{GenerationsSpent};
+ghost use Rattle.core_rules.specs.Work.{Core};
+ghost use Rattle.core_rules.specs.declared.error.CoreError.TheVariants.{GenerationsSpent};
 ghost use Rattle.stroke_lattice.specs.State.{State, IsJoinOf};
 ghost use Rattle.seedpaint.specs.Merging.{AreTaken};
 ghost use Rattle.seedpaint.specs.View.{IsView, InputIsRefused};

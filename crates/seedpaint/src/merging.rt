@@ -2,7 +2,7 @@
 
 ghost use Rattle.std.specs.Prelude.{◌≡◌, ◌∷◌, ◌⊎◌, IfOk, IfErr, OnOk};
 ghost use Rattle.grid_core.specs.Tiles.{IsTileSide};
-ghost use Rattle.reset_core.specs.Opening.{opened};
+ghost use Rattle.core_rules.specs.Opening.{opened};
 ghost use Rattle.seedpaint.specs.Merging.{AreTaken, IsStop, IsGrown};
 ghost use Rattle.seedpaint.specs.View.{IsSideFault};
 ghost use Rattle.seedpaint.specs.declared.run_error.RunError.TheVariants as errors;

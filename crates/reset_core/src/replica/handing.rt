@@ -1,11 +1,11 @@
 //! Hints that are handed to their pixels.
 
 ghost use Rattle.std.specs.Prelude.{IsTrue, ◌↔◌};
-ghost use Rattle.reset_core.specs.Hints.{IsHanded, IsPresent};
+ghost use Rattle.core_rules.specs.Hints.{IsHanded, IsPresent};
 
 use super::Core;
-use crate::answers::Handed;
 use border_queues::Hint;
+use core_rules::Handed;
 
 impl Core {
     /// Hands over the hint at place `i` of a tile's inbox: it leaves the inbox, and raises its pixel where the tile that

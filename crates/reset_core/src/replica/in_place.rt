@@ -10,20 +10,19 @@ ghost use Rattle.grid_core.specs.Tiles.{IsTiled, count_of};
 ghost use Rattle.border_queues.specs.OpenEdges.{IsOnTiling, room_for_edges, open_edges};
 ghost use Rattle.border_queues.specs.Waiting.{places};
 ghost use Rattle.raster_sweeps.specs.Borders.{OpenPairsBeginOnBorder};
-ghost use Rattle.reset_core.specs.Work.{tiling, idle};
-ghost use Rattle.reset_core.specs.Events.{Take};
-ghost use Rattle.reset_core.specs.Runs.{Entry, IsNext, IsWorkedOff, NoneOut, HasHints, jobs_of};
+ghost use Rattle.core_rules.specs.Work.{tiling, idle};
+ghost use Rattle.core_rules.specs.Events.{Take};
+ghost use Rattle.core_rules.specs.Runs.{Entry, IsNext, IsWorkedOff, NoneOut, HasHints, jobs_of};
 ghost use Rattle.reset_core.specs.Closing.{AreClosedInside};
 ghost use Rattle.reset_core.specs.Telling.{burden, hints_in, AreHandedOver, AreTold};
 
 use crate::replica::Core;
-use crate::tile_set::TileSet;
-use crate::work_table::WorkTable;
 use border_queues::laws::edges_are_open;
 use border_queues::{Hint, Inbox, open_edges_in};
 use grid_core::laws::{each_pixel_in_one_tile, neighbours_lie_in_touching_tiles};
 use grid_core::{Conn, Grid, Rect, Tiling};
 use raster_sweeps::{Room, grow_from_border, grow_within};
+use tile_work::{TileSet, WorkTable};
 
 impl Core {
     /// Sweeps the next tile in place, and hands over the hints that this makes. It takes no memory.

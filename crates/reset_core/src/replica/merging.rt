@@ -5,24 +5,22 @@ ghost use Rattle.grid_core.specs.Tiles.{count_of};
 ghost use Rattle.marker_tiles.specs.Kept.{IsMarkerOf, HasGrown};
 ghost use Rattle.border_queues.specs.OpenEdges.{IsOnTiling};
 ghost use Rattle.tile_generations.specs.Generations.{max_generation};
-ghost use Rattle.reset_core.specs.TileSet.{Has};
-ghost use Rattle.reset_core.specs.Renewing.{row_at};
+ghost use Rattle.tile_work.specs.TileSet.{Has};
+ghost use Rattle.tile_resets.specs.Renewing.{row_at};
 ghost use Rattle.reset_core.specs.MergeSteps.{IsImageRenewed};
-ghost use Rattle.reset_core.specs.declared.error.CoreError.{CoreError};
-ghost use Rattle.reset_core.specs.declared.error.CoreError.TheVariants as errors;
+ghost use Rattle.core_rules.specs.declared.error.CoreError.{CoreError};
+ghost use Rattle.core_rules.specs.declared.error.CoreError.TheVariants as errors;
 ghost use Rattle.stroke_lattice.specs.State.{StateFits, AreCompatible};
-ghost use Rattle.reset_core.specs.Merge.{IsMerged, IsRefused, IsAcceptable};
+ghost use Rattle.core_rules.specs.Merge.{IsMerged, IsRefused, IsAcceptable};
 
 use super::Core;
-use crate::error::CoreError;
-use crate::hits::{is_one_spent, mark_hits};
-use crate::renewing::{raise_to_marker, reset_marked};
-use crate::tile_set::TileSet;
-use crate::work_table::WorkTable;
+use core_rules::CoreError;
 use grid_core::Grid;
 use marker_tiles::Markers;
 use std::alloc::Global;
 use stroke_lattice::{Change, Delta, State};
+use tile_resets::{is_one_spent, mark_hits, raise_to_marker, reset_marked};
+use tile_work::{TileSet, WorkTable};
 
 impl Core {
     /// Merges a delta: the strokes become the join, the tiles that a withdrawal hits are reset, and the image is raised

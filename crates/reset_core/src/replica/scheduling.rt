@@ -2,14 +2,13 @@
 
 ghost use Rattle.std.specs.Prelude.{◌≡◌, ◌≢◌, ℕ, ◌+◌, ◌<◌, ◌≤◌, [], ◌∷◌, ◌++◌, length, IfOk, OnOk, OnErr};
 ghost use Rattle.tile_generations.specs.Jobs.{Swept as Result, IsSwept};
-ghost use Rattle.reset_core.specs.declared.error.CoreError.TheVariants as errors;
-ghost use Rattle.reset_core.specs.declared.step.Step.TheVariants as steps;
-ghost use Rattle.reset_core.specs.Schedule.{Progress, started, AreSteps, IsStopped, ran_of};
+ghost use Rattle.core_rules.specs.declared.error.CoreError.TheVariants as errors;
+ghost use Rattle.core_rules.specs.declared.step.Step.TheVariants as steps;
+ghost use Rattle.core_rules.specs.Schedule.{Progress, started, AreSteps, IsStopped, ran_of};
 ghost use Rattle.reset_core.specs.Scheduling.{kept_of, LeadsOn};
 
 use super::Core;
-use crate::error::CoreError;
-use crate::step::Step;
+use core_rules::{CoreError, Step};
 use grid_core::Memory;
 use std::alloc::Global;
 use std::marker::Model;
@@ -26,7 +25,7 @@ pub struct Ran {
 }
 
 impl Model for Ran {
-    ghost use Rattle.reset_core.specs.Schedule.{Ran as Account};
+    ghost use Rattle.core_rules.specs.Schedule.{Ran as Account};
 
     ghost Value = { Account };
 

@@ -4,20 +4,20 @@ ghost use Rattle.std.specs.Prelude.{◌≡◌, ◌⊎◌, ◌<◌, ◌≤◌, �
 ghost use Rattle.border_queues.specs.OpenEdges.{room_for_edges};
 ghost use Rattle.border_queues.specs.Waiting.{places};
 ghost use Rattle.tile_generations.specs.declared.ticket.Ticket.{Ticket};
-ghost use Rattle.reset_core.specs.Work.{IsQuiet, tiling};
-ghost use Rattle.reset_core.specs.Sweeps.{IsAbandoned};
-ghost use Rattle.reset_core.specs.Runs.{Entry, IsRun, IsWorkedOff, IsSettled, IsCutShort, NoneOut, HasHints};
-ghost use Rattle.reset_core.specs.Runs.{jobs_of, abandons_of, abandoned, tickets_out};
+ghost use Rattle.core_rules.specs.Work.{IsQuiet, tiling};
+ghost use Rattle.core_rules.specs.Sweeps.{IsAbandoned};
+ghost use Rattle.core_rules.specs.Runs.{Entry, IsRun, IsWorkedOff, IsSettled, IsCutShort, NoneOut, HasHints};
+ghost use Rattle.core_rules.specs.Runs.{jobs_of, abandons_of, abandoned, tickets_out};
 ghost use Rattle.reset_core.specs.Closing.{AreClosedInside};
 ghost use Rattle.reset_core.specs.Telling.{burden};
 ghost use Rattle.reset_core.specs.Settling.{waiting_count, IsFirstHandedOver};
 
 use super::Core;
-use crate::tile_set::TileSet;
 use border_queues::{Inbox, room_for_edges};
 use grid_core::Memory;
 use raster_sweeps::Room;
 use std::alloc::Global;
+use tile_work::TileSet;
 
 /// What settling took.
 #[derive(Clone, Copy, Debug, PartialEq, Eq)]

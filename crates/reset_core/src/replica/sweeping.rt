@@ -1,20 +1,20 @@
 //! Jobs that are taken, given back and abandoned.
 
 ghost use Rattle.std.specs.Prelude.{◌≡◌, ◌⊎◌, ◌↔◌, All, IfOk, IfErr, OnOk, OnErr, IsTrue};
-ghost use Rattle.reset_core.specs.Image.{IsJoinedWith};
-ghost use Rattle.reset_core.specs.Work.{Core as Replica, IsTile, tiling};
-ghost use Rattle.reset_core.specs.Sweeps.{IsReady, IsNextJob, IsTaken, IsKnown, IsOut, IsUnchanged, HasOnlyRisen};
-ghost use Rattle.reset_core.specs.Sweeps.{IsJoined, IsGivenBack, IsAbandoned, hints_of, tile_rect};
+ghost use Rattle.core_rules.specs.Image.{IsJoinedWith};
+ghost use Rattle.core_rules.specs.Work.{Core as Replica, IsTile, tiling};
+ghost use Rattle.core_rules.specs.Sweeps.{IsReady, IsNextJob, IsTaken, IsKnown, IsOut, IsUnchanged, HasOnlyRisen};
+ghost use Rattle.core_rules.specs.Sweeps.{IsJoined, IsGivenBack, IsAbandoned, hints_of, tile_rect};
 ghost use Rattle.reset_core.specs.Sweeping.{IsJudged};
-ghost use Rattle.reset_core.specs.WorkTable.{IsToTouching};
+ghost use Rattle.tile_work.specs.WorkTable.{IsToTouching};
 ghost use Rattle.grid_core.specs.Rects.{RectFits};
 
 use super::Core;
-use crate::answers::Back;
-use crate::laws::{abandon_keeps_sound, give_back_keeps_sound, take_keeps_sound};
 use crate::parts::{cut, is_at_most_part, is_part, raise_part, raised_part};
 use border_queues::laws::{edges_are_open, same_image_same_edges};
 use border_queues::{Inbox, open_edges};
+use core_rules::Back;
+use core_rules::laws::{abandon_keeps_sound, give_back_keeps_sound, take_keeps_sound};
 use grid_core::{Memory, Rect};
 use std::alloc::Global;
 use tile_generations::{Job, Swept, Ticket};

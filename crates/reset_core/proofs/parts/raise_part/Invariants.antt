@@ -1,4 +1,4 @@
-use Rattle.reset_core.specs.Image.{IsJoinedWith}
+use Rattle.core_rules.specs.Image.{IsJoinedWith}
 use Rattle.reset_core.proofs.parts.raise_part.Given as goal
 
 -- the rows so far are raised

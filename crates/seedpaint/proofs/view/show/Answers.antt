@@ -1,7 +1,7 @@
 use Rattle.std.proofs.Common.{◌∷◌, refl, sym, subst, inr}
 use Rattle.std.proofs.lemmas.Result.{err_from_is_err_and}
-use Rattle.reset_core.specs.Work.{Core}
-use Rattle.reset_core.specs.Opening.{opened}
+use Rattle.core_rules.specs.Work.{Core}
+use Rattle.core_rules.specs.Opening.{opened}
 use Rattle.seedpaint.specs.Merging.{AreMerged, AreTaken, IsStop}
 use Rattle.seedpaint.proofs.Deltas.{taken_merged}
 use Rattle.seedpaint.proofs.Shown.{grown_is_shown, grown_is_graymap}

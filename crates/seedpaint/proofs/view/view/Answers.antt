@@ -2,7 +2,7 @@ use Rattle.std.proofs.Common.{◌⊎◌, List, ◌∷◌, inl, inr, ap, subst}
 use Rattle.std.proofs.lemmas.Result.{err_from_is_err_and, IfErr-weaker}
 use Rattle.seedpaint.specs.declared.run_error.RunError.TheVariants.{Pgm}
 use Rattle.stroke_lattice.specs.State.{State}
-use Rattle.reset_core.specs.Opening.{opened}
+use Rattle.core_rules.specs.Opening.{opened}
 use Rattle.seedpaint.specs.Merging.{AreMerged, IsStop}
 use Rattle.seedpaint.specs.View.{InputSpells, InputStops, IsImageOfView, IsMemoryFault, IsShown, IsSideFault}
 use Rattle.seedpaint.proofs.Calls.{ok_both}

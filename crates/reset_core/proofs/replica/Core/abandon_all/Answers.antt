@@ -1,6 +1,6 @@
 use Rattle.std.proofs.Common.{◌≡◌, arith, [], refl, sym, ap, ◌∙◌, subst, length, inl, inr, true, false}
 use Rattle.std.proofs.lemmas.List.{length-append}
-use Rattle.reset_core.specs.Runs.{IsRun, NoneOut, abandoned, tickets_out}
+use Rattle.core_rules.specs.Runs.{IsRun, NoneOut, abandoned, tickets_out}
 use Rattle.reset_core.proofs.Settling.{one_more_abandoned, few_tickets, all_abandoned}
 use Rattle.reset_core.proofs.replica.Core.abandon_all.Goals as goal
 

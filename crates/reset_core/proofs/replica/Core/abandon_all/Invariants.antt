@@ -1,5 +1,5 @@
 use Rattle.std.proofs.Common.{length}
-use Rattle.reset_core.specs.Runs.{tickets_out}
+use Rattle.core_rules.specs.Runs.{tickets_out}
 use Rattle.reset_core.specs.Settling.{AreAbandoned}
 use Rattle.reset_core.proofs.replica.Core.abandon_all.Given as goal
 

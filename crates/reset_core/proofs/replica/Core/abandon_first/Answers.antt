@@ -1,8 +1,8 @@
 use Rattle.std.proofs.Common.{List, ◌∷◌, refl, sym, ap, ◌∙◌, subst, inl, inr, true}
 use Rattle.std.specs.Prelude.{slice_set}
-use Rattle.reset_core.specs.Work.{Core, TileWork, work_at}
-use Rattle.reset_core.specs.Sweeps.{IsAbandoned}
-use Rattle.reset_core.specs.Runs.{NoneOut, tickets_out}
+use Rattle.core_rules.specs.Work.{Core, TileWork, work_at}
+use Rattle.core_rules.specs.Sweeps.{IsAbandoned}
+use Rattle.core_rules.specs.Runs.{NoneOut, tickets_out}
 use Rattle.reset_core.specs.Replica.{Parts, core_of, IsStored}
 use Rattle.reset_core.proofs.Settling.{first_abandoned, few_tickets, no_tickets, none_is_out}
 use Rattle.reset_core.proofs.Storing.{let_go_is_stored}

@@ -2,7 +2,7 @@ use Rattle.std.proofs.Common.{◌≡◌, List, subst, true, false}
 use Rattle.std.specs.Prelude.{Some, None, slice_get}
 use Rattle.tile_generations.specs.declared.ticket.Ticket.{Ticket}
 use Rattle.tile_generations.specs.Jobs.{Swept}
-use Rattle.reset_core.specs.Sweeps.{IsAbandoned}
+use Rattle.core_rules.specs.Sweeps.{IsAbandoned}
 use Rattle.reset_core.specs.Scheduling.{kept_of}
 use Rattle.reset_core.proofs.Scheduling.{no_item, item_there, no_result_to_abandon, job_abandoned, job_not_out}
 use Rattle.reset_core.proofs.replica.Core.abandon_job_of.Goals as goal

@@ -1,7 +1,7 @@
 use Rattle.std.proofs.Common.{◌≡◌, ◌∙◌, ap, subst}
 use Rattle.grid_core.specs.Tiles.{Tiles}
 use Rattle.stroke_lattice.specs.State.{StateFits, AreCompatible, IsLeastOutside, IsLeastClash}
-use Rattle.reset_core.specs.Work.{Core}
+use Rattle.core_rules.specs.Work.{Core}
 use Rattle.reset_core.proofs.replica.Core.check.Goals as goal
 
 pub returns-in-Some-clause-refused : goal.returns-in-Some-clause-refused

@@ -1,5 +1,5 @@
 use Rattle.std.proofs.Common.{◌∷◌, ◌++◌, [], List, ℕ, sym, ap, ◌∙◌, subst}
-use Rattle.reset_core.specs.declared.step.Step.TheVariants as steps
+use Rattle.core_rules.specs.declared.step.Step.TheVariants as steps
 use Rattle.reset_core.specs.Scheduling.{Kept, kept_of, LeadsOn}
 use Rattle.reset_core.proofs.Scheduling.{edit_accepted, edit_turned_down}
 use Rattle.reset_core.proofs.replica.Core.edit.Goals as goal

@@ -1,7 +1,7 @@
 use Rattle.std.proofs.Common.{◌≡◌, List, subst}
 use Rattle.std.specs.Prelude.{Some, None, slice_get}
 use Rattle.tile_generations.specs.Jobs.{Swept}
-use Rattle.reset_core.specs.Sweeps.{IsGivenBack}
+use Rattle.core_rules.specs.Sweeps.{IsGivenBack}
 use Rattle.reset_core.specs.Scheduling.{kept_of}
 use Rattle.reset_core.proofs.Scheduling.{on_ok, on_ok_at_err, no_item, item_there, no_result_to_return, result_returned}
 use Rattle.reset_core.proofs.replica.Core.give_back_copy.Goals as goal

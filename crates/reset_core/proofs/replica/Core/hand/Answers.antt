@@ -1,8 +1,8 @@
 use Rattle.std.proofs.Common.{◌≡◌, ◌<◌, ◌≤◌, true, false, List, refl, sym, ◌∙◌, ap, subst, IsTrue, slice_index_or, slice_set}
 use Rattle.grid_core.specs.Raster.{Raster, with_value}
-use Rattle.reset_core.specs.declared.answers.Handed.TheVariants.{Raised, Same, Stale}
-use Rattle.reset_core.specs.Work.{TileWork, idle, image_at, work_at, with_work}
-use Rattle.reset_core.specs.Hints.{IsPresent, IsHanded, without_hint, raised}
+use Rattle.core_rules.specs.declared.answers.Handed.TheVariants.{Raised, Same, Stale}
+use Rattle.core_rules.specs.Work.{TileWork, idle, image_at, work_at, with_work}
+use Rattle.core_rules.specs.Hints.{IsPresent, IsHanded, without_hint, raised}
 use Rattle.reset_core.specs.Replica.{Parts, core_of, IsStored}
 use Rattle.reset_core.proofs.Storing.{goes_inside, goes_to_tile, lost_is_stored, raised_is_stored}
 use Rattle.reset_core.proofs.replica.Core.hand.Goals as goal

@@ -1,6 +1,6 @@
 use Rattle.std.proofs.Common.{◌≡◌, [], refl, sym, ap, ◌∙◌, subst, inl, inr, true, false}
-use Rattle.reset_core.specs.Work.{tiling}
-use Rattle.reset_core.specs.Runs.{IsWorkedOff, NoneOut, HasHints}
+use Rattle.core_rules.specs.Work.{tiling}
+use Rattle.core_rules.specs.Runs.{IsWorkedOff, NoneOut, HasHints}
 use Rattle.reset_core.proofs.Settling.{one_more_handed}
 use Rattle.reset_core.proofs.replica.Core.hand_all.Goals as goal
 

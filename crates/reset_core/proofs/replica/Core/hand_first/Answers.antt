@@ -1,7 +1,7 @@
 use Rattle.std.proofs.Common.{refl, subst, inl}
-use Rattle.reset_core.specs.Work.{Core}
-use Rattle.reset_core.specs.Runs.{HasHints, IsLeast}
-use Rattle.reset_core.specs.Invariant.{IsSound}
+use Rattle.core_rules.specs.Work.{Core}
+use Rattle.core_rules.specs.Runs.{HasHints, IsLeast}
+use Rattle.core_rules.specs.Invariant.{IsSound}
 use Rattle.reset_core.proofs.Settling.{first_handed}
 use Rattle.reset_core.proofs.replica.Core.hand_first.Goals as goal
 

@@ -4,11 +4,11 @@ use Rattle.grid_core.specs.Tiles.{count_of}
 use Rattle.border_queues.specs.OpenEdges.{with_tile}
 use Rattle.grid_core.specs.Raster.{value_at}
 use Rattle.tile_generations.specs.declared.ticket.Ticket.{Ticket}
-use Rattle.reset_core.specs.Invariant.{IsSound}
+use Rattle.core_rules.specs.Invariant.{IsSound}
 use Rattle.reset_core.specs.Replica.{Parts}
-use Rattle.reset_core.specs.Sweeps.{sender_of}
-use Rattle.reset_core.specs.Work as work
-use Rattle.reset_core.specs.WorkTable.{IsToTouching}
+use Rattle.core_rules.specs.Sweeps.{sender_of}
+use Rattle.core_rules.specs.Work as work
+use Rattle.tile_work.specs.WorkTable.{IsToTouching}
 use Rattle.reset_core.proofs.Sweeping.{told_are_edges, hints_once_joined, edges_touch, stored_raised}
 use Rattle.reset_core.proofs.replica.Core.hints_once_joined.Goals as goal
 

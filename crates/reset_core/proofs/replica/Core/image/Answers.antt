@@ -1,7 +1,7 @@
 use Rattle.std.proofs.Common.{subst}
-use Rattle.reset_core.specs.Invariant.{IsSound}
+use Rattle.core_rules.specs.Invariant.{IsSound}
 use Rattle.reset_core.proofs.Storing.{image_below_mask}
-use Rattle.reset_core.proofs.Quiet.{sound_is_lawful, quiet_is_reconstruction}
+use Rattle.core_rules.proofs.Quiet.{sound_is_lawful, quiet_is_reconstruction}
 use Rattle.reset_core.proofs.replica.Core.image.Goals as goal
 
 -- src/replica.rt:226:5

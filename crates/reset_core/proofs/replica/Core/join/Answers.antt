@@ -3,7 +3,7 @@ use Rattle.std.proofs.Common.{ap, subst, sym}
 use Rattle.grid_core.specs.Tiles.{Tiles}
 use Rattle.tile_generations.specs.declared.ticket.Ticket.{Ticket}
 use Rattle.reset_core.specs.Replica.{Parts}
-use Rattle.reset_core.specs.WorkTable.{IsToTouching}
+use Rattle.tile_work.specs.WorkTable.{IsToTouching}
 use Rattle.reset_core.proofs.Sweeping.{tiling_is, parts_joined, joined_is_stored}
 use Rattle.reset_core.proofs.replica.Core.join.Goals as goal
 

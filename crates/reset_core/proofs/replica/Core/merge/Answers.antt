@@ -2,15 +2,15 @@ use Rattle.std.proofs.Common.{◌≡◌, true, false, refl, sym, ap, ◌∙◌, 
 use Rattle.std.specs.Prelude.{Err}
 use Rattle.std.proofs.lemmas.Result.{err_from_is_err_and}
 use Rattle.marker_tiles.specs.Kept.{IsMarkerOf}
-use Rattle.reset_core.specs.declared.error.CoreError.TheVariants as errors
-use Rattle.reset_core.specs.Work.{Core, tiling}
-use Rattle.reset_core.specs.Merge.{IsMerged, IsRefused, IsAcceptable}
+use Rattle.core_rules.specs.declared.error.CoreError.TheVariants as errors
+use Rattle.core_rules.specs.Work.{Core, tiling}
+use Rattle.core_rules.specs.Merge.{IsMerged, IsRefused, IsAcceptable}
 use Rattle.reset_core.specs.Replica.{Parts, core_of}
 use Rattle.reset_core.specs.MergeSteps.{IsMarked, IsImageRenewed, IsRenewed}
 use Rattle.reset_core.proofs.MergeSteps.{hits_are_marked, join_fits, exactly_this}
 use Rattle.reset_core.proofs.MergeSteps.{spent_is_refused, unspent_is_acceptable, only_memory}
 use Rattle.reset_core.proofs.MergeSteps.{renewed_is_merged, renewed_is_stored}
-use Rattle.reset_core.proofs.Resets.{refused_is_not_acceptable}
+use Rattle.core_rules.proofs.Resets.{refused_is_not_acceptable}
 use Rattle.reset_core.proofs.Sweeping.{tiling_is}
 use Rattle.reset_core.proofs.replica.Core.merge.Goals as goal
 use Rattle.reset_core.proofs.replica.Core.merge.Goals.{After-mark_hits, After-clear, After-merge}

@@ -1,8 +1,8 @@
 use Rattle.std.proofs.Common.{◌∙◌, ap, subst}
 use Rattle.grid_core.specs.Raster.{Raster}
-use Rattle.reset_core.specs.Image.{IsPart}
-use Rattle.reset_core.specs.Invariant.{IsSound}
-use Rattle.reset_core.specs.Work.{Core}
+use Rattle.core_rules.specs.Image.{IsPart}
+use Rattle.core_rules.specs.Invariant.{IsSound}
+use Rattle.core_rules.specs.Work.{Core}
 use Rattle.reset_core.proofs.Sweeping.{base_is_below}
 use Rattle.reset_core.proofs.replica.Core.next_job.Goals as goal
 

@@ -1,6 +1,6 @@
 use Rattle.std.proofs.Common.{refl, ◌∙◌, ap, subst, replicate, false}
 use Rattle.grid_core.specs.Tiles.{Tiles, IsTiled, count_of}
-use Rattle.reset_core.specs.Opening.{fresh}
+use Rattle.core_rules.specs.Opening.{fresh}
 use Rattle.reset_core.specs.Replica.{Parts}
 use Rattle.reset_core.proofs.Storing.{is_opened, opened_is_stored}
 use Rattle.reset_core.proofs.replica.Core.over.Goals as goal

@@ -1,5 +1,5 @@
 use Rattle.std.proofs.Common.{sym, subst}
-use Rattle.reset_core.specs.declared.step.Step.{Step}
+use Rattle.core_rules.specs.declared.step.Step.{Step}
 use Rattle.reset_core.specs.Scheduling.{kept_of, LeadsOn}
 use Rattle.reset_core.proofs.Scheduling.{hint_handed}
 use Rattle.reset_core.proofs.replica.Core.run_step.Goals as goal

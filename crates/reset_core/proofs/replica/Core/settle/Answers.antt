@@ -1,7 +1,7 @@
 use Rattle.std.proofs.Common.{sym, ap, ◌∙◌, subst}
 use Rattle.grid_core.specs.Tiles.{count_of}
 use Rattle.reset_core.specs.Closing.{AreClosedInside}
-use Rattle.reset_core.specs.Runs.{IsCutShort}
+use Rattle.core_rules.specs.Runs.{IsCutShort}
 use Rattle.pgm_codec.proofs.Pieces.{OnErr-always}
 use Rattle.reset_core.proofs.Closing.{none_swept}
 use Rattle.reset_core.proofs.Settling.{cut_before_work, settled_by}

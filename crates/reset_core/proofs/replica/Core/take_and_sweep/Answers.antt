@@ -1,8 +1,8 @@
 use Rattle.std.proofs.Common.{sym, subst}
 use Rattle.std.specs.Prelude.{Option}
 use Rattle.tile_generations.specs.Jobs.{Job}
-use Rattle.reset_core.specs.declared.step.Step.TheVariants as steps
-use Rattle.reset_core.specs.Sweeps.{IsTaken}
+use Rattle.core_rules.specs.declared.step.Step.TheVariants as steps
+use Rattle.core_rules.specs.Sweeps.{IsTaken}
 use Rattle.reset_core.specs.Scheduling.{Kept, kept_of, LeadsOn}
 use Rattle.reset_core.proofs.Scheduling.{none_there, take_gives_none, take_gives_job, taken_and_abandoned}
 use Rattle.reset_core.proofs.replica.Core.take_and_sweep.Goals as goal

@@ -1,6 +1,6 @@
 use Rattle.std.proofs.Common.{arith, [], refl, subst}
-use Rattle.reset_core.specs.Work.{Core}
-use Rattle.reset_core.specs.Runs.{IsDirty, IsLeast}
+use Rattle.core_rules.specs.Work.{Core}
+use Rattle.core_rules.specs.Runs.{IsDirty, IsLeast}
 use Rattle.reset_core.proofs.Settling.{one_more_swept, bounded_burden, quiet_from, same_tiles}
 use Rattle.reset_core.proofs.replica.Core.work_all_off.Goals as goal
 

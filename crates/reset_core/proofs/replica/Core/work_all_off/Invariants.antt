@@ -1,7 +1,7 @@
 use Rattle.std.proofs.Common.{◌≤◌}
 use Rattle.border_queues.specs.OpenEdges.{room_for_edges}
 use Rattle.border_queues.specs.Waiting.{places}
-use Rattle.reset_core.specs.Work.{tiling}
+use Rattle.core_rules.specs.Work.{tiling}
 use Rattle.reset_core.specs.Closing.{AreClosedInside}
 use Rattle.reset_core.specs.Settling.{AreWorkedOff}
 use Rattle.reset_core.specs.Telling.{burden}

@@ -7,14 +7,14 @@ use Rattle.grid_core.specs.Reconstruction.{IsReconstruction}
 use Rattle.grid_core.specs.Rects.{IsInRect, domain_in, part}
 use Rattle.grid_core.specs.Tiles.{Tiles, rect_of}
 use Rattle.border_queues.specs.OpenEdges.{open_edges}
-use Rattle.reset_core.specs.Work.{Core, TileWork, tiling, idle, IsTile, work_at}
-use Rattle.reset_core.specs.Sweeps.{tile_rect, hints_of}
-use Rattle.reset_core.specs.Events.{Take}
-use Rattle.reset_core.specs.Runs.{Entry, IsNext, IsWorkedOff, jobs_of}
+use Rattle.core_rules.specs.Work.{Core, TileWork, tiling, idle, IsTile, work_at}
+use Rattle.core_rules.specs.Sweeps.{tile_rect, hints_of}
+use Rattle.core_rules.specs.Events.{Take}
+use Rattle.core_rules.specs.Runs.{Entry, IsNext, IsWorkedOff, jobs_of}
 use Rattle.reset_core.specs.Replica.{Parts, core_of}
 use Rattle.reset_core.specs.Telling.{ImageAndWork, image_and_work, burden, AreTold}
 use Rattle.reset_core.specs.Closing.{AreClosedInside}
-use Rattle.reset_core.proofs.Cores.{work_there}
+use Rattle.core_rules.proofs.Cores.{work_there}
 use Rattle.reset_core.proofs.Closing.{closed_in_rect, swept_are_closed}
 use Rattle.reset_core.proofs.TellingSweeps.{IsGrownAt, clean, grown_core, image_below_mask, IsOneStep, one_step}
 use Rattle.reset_core.proofs.TellingSweeps.{worked_parts, stored_still}

@@ -1,0 +1,16 @@
+pub mod Supporting
+pub mod Cores
+pub mod Removals
+pub mod Handing
+pub mod Taking
+pub mod Joining
+pub mod Merging
+pub mod Quiet
+pub mod Running
+pub mod Opening
+pub mod Resets
+pub mod Schedules
+pub mod Ordered
+pub mod Successors
+pub mod Pieces
+pub mod InPlaceSweeps

@@ -1,0 +1,5 @@
+use Rattle.core_rules.proofs.Resets.{merged_is_acceptable}
+use Rattle.core_rules.proofs.laws.merged_is_acceptable.Goals as goal
+
+pub returns : goal.returns
+returns c = merged_is_acceptable

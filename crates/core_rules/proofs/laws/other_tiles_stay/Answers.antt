@@ -1,0 +1,5 @@
+use Rattle.core_rules.proofs.Resets.{others_stay}
+use Rattle.core_rules.proofs.laws.other_tiles_stay.Goals as goal
+
+pub returns : goal.returns
+returns c = others_stay

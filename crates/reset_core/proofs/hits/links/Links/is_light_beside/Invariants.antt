@@ -1,7 +1,0 @@
-use Rattle.reset_core.specs.Marks.{SomeIn, IsLightBeside}
-use Rattle.reset_core.proofs.HittingRects.{rows_upto}
-use Rattle.reset_core.proofs.hits.links.Links.is_light_beside.Given as goal
-
--- none in the rows so far
-abbrev pub invariant-loop-i : goal.invariant-loop-i
-invariant-loop-i l = SomeIn (rows_upto l.near l.i) (IsLightBeside l.self.image.now l.self.conn l.p) → ⊥

@@ -1,7 +1,0 @@
-use Rattle.reset_core.specs.Marks.{SomeIn, IsLight}
-use Rattle.reset_core.proofs.HittingRects.{pixels_upto}
-use Rattle.reset_core.proofs.hits.links.Links.is_row_light.Given as goal
-
--- none of the pixels so far
-abbrev pub invariant-loop-value : goal.invariant-loop-value
-invariant-loop-value l = SomeIn (pixels_upto l.x l.y l.value-index) (IsLight l.self.image.now) → ⊥

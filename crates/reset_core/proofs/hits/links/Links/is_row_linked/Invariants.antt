@@ -1,7 +1,0 @@
-use Rattle.reset_core.specs.Marks.{SomeIn, IsLinkedInto}
-use Rattle.reset_core.proofs.HittingRects.{pixels_upto}
-use Rattle.reset_core.proofs.hits.links.Links.is_row_linked.Given as goal
-
--- none of the pixels so far
-abbrev pub invariant-loop-i : goal.invariant-loop-i
-invariant-loop-i l = SomeIn (pixels_upto l.x l.y l.i) (IsLinkedInto l.self.image.now l.self.conn l.other) → ⊥

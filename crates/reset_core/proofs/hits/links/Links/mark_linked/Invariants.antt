@@ -1,9 +1,0 @@
-use Rattle.reset_core.specs.Marks.{Adds, AreLinkedIn}
-use Rattle.reset_core.proofs.HittingTouching.{AreAmong}
-use Rattle.reset_core.proofs.hits.links.Links.mark_linked.Given as goal
-
--- those of the tiles so far are marked that are linked
-abbrev pub invariant-loop-other : goal.invariant-loop-other
-invariant-loop-other l =
-    Adds (AreAmong l.other-items l.other-index (AreLinkedIn l.self.tiling l.self.image.now l.self.conn l.tile))
-    l.fn.marks l.fn.queue l.marks l.queue

@@ -1,7 +1,0 @@
-use Rattle.reset_core.specs.Marks.{Adds}
-use Rattle.reset_core.proofs.HittingSpans.{HoldsSpans}
-use Rattle.reset_core.proofs.hits.losses.mark_stroke.Given as goal
-
--- the tiles of the spans so far are marked
-abbrev pub invariant-loop-i : goal.invariant-loop-i
-invariant-loop-i l = Adds (HoldsSpans l.tiling l.stroke l.i) l.fn.marks l.fn.queue l.marks l.queue

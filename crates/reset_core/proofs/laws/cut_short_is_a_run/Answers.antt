@@ -1,5 +1,0 @@
-use Rattle.reset_core.proofs.Running.{cut_short_is_run}
-use Rattle.reset_core.proofs.laws.cut_short_is_a_run.Goals as goal
-
-pub returns : goal.returns
-returns c = cut_short_is_run

@@ -1,5 +1,0 @@
-use Rattle.reset_core.proofs.Running.{event_keeps_sound}
-use Rattle.reset_core.proofs.laws.event_keeps_sound.Goals as goal
-
-pub returns : goal.returns
-returns c = event_keeps_sound c.edges_are_open.ensures

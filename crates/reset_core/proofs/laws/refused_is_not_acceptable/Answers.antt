@@ -1,5 +1,0 @@
-use Rattle.reset_core.proofs.Resets.{refused_is_not_acceptable}
-use Rattle.reset_core.proofs.laws.refused_is_not_acceptable.Goals as goal
-
-pub returns : goal.returns
-returns c = refused_is_not_acceptable

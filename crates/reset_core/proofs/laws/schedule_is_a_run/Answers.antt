@@ -1,5 +1,0 @@
-use Rattle.reset_core.proofs.Schedules.{schedule_is_run}
-use Rattle.reset_core.proofs.laws.schedule_is_a_run.Goals as goal
-
-pub returns : goal.returns
-returns c = schedule_is_run

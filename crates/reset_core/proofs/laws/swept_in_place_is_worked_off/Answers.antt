@@ -1,5 +1,0 @@
-use Rattle.reset_core.proofs.InPlaceSweeps.{in_place_is_worked_off}
-use Rattle.reset_core.proofs.laws.swept_in_place_is_worked_off.Goals as goal
-
-pub returns : goal.returns
-returns c = in_place_is_worked_off

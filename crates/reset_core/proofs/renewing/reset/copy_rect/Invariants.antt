@@ -1,7 +1,0 @@
-use Rattle.reset_core.specs.Renewing.{IsMadeWhere, marker_value}
-use Rattle.reset_core.proofs.RenewingRects.{rect_above}
-use Rattle.reset_core.proofs.renewing.reset.copy_rect.Given as goal
-
--- the rows above this one are copied
-abbrev pub invariant-loop-y : goal.invariant-loop-y
-invariant-loop-y l = IsMadeWhere (rect_above l.fn.rect l.y) marker_value l.marker l.fn.image l.image

@@ -1,8 +1,0 @@
-use Rattle.std.proofs.Common.{take}
-use Rattle.std.specs.List.{Contains}
-use Rattle.reset_core.specs.Renewing.{AreDirtyWhere}
-use Rattle.reset_core.proofs.renewing.reset.mark_all_dirty.Given as goal
-
--- the tiles so far are dirty
-abbrev pub invariant-loop-tile : goal.invariant-loop-tile
-invariant-loop-tile l = AreDirtyWhere (Contains (take l.tile-index l.tiles)) l.fn.work l.work

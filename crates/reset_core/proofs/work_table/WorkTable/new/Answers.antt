@@ -1,7 +1,0 @@
-use Rattle.reset_core.proofs.WorkTables.{fresh_in_step}
-use Rattle.reset_core.proofs.work_table.WorkTable.new.Goals as goal
-
-pub invariant_of-result : goal.invariant_of-result
-invariant_of-result c =
-    fresh_in_step _ c.args.count c.args.first c.in_ok-rows_from.ensures c.requires _ _ _ c.in_ok-empty.ensures
-    c.in_ok-empty-2.ensures c.in_ok-empty-3.ensures

@@ -1,5 +1,0 @@
-use Rattle.reset_core.proofs.WorkTableHints.{IsDelivery}
-use Rattle.reset_core.proofs.work_table.delivery.deliver.Given as goal
-
-abbrev pub invariant-loop-hint : goal.invariant-loop-hint
-invariant-loop-hint l = IsDelivery l.tiling l.hints l.hint-index l.fn.rows l.rows l.waiting

@@ -1,0 +1,251 @@
+-- How values that are taken over from the marker add up.
+use Rattle.std.proofs.Common.{◌≡◌, ℕ, ◌+◌, ◌-◌, ◌*◌, ◌<◌, ◌≤◌, Bool, true, false, max, length, sym, ap}
+use Rattle.std.proofs.Common.{◌∙◌, refl, subst, arith, inl, inr, List, drop, get_or, length-drop}
+use Rattle.std.specs.Prelude.{◌||◌, ◌↔◌, IsTrue, slice_index, slice_range}
+use Rattle.std.proofs.Math.Nat.{mul-le-mul_right}
+use Rattle.std.proofs.lemmas.Bool.{cases_lt}
+use Rattle.std.proofs.lemmas.Bool.Decides.{nat_tests}
+use Rattle.std.proofs.lemmas.List.{get_or-take, get_or-drop, length-take}
+use Rattle.std.proofs.lemmas.Nat.{mul-add-lt}
+use Rattle.grid_core.specs.declared.pixel.Pixel.{Pixel}
+use Rattle.grid_core.specs.Raster.{Raster, IsInside, IsFilled, index_of, value_at}
+use Rattle.stroke_core.specs.declared.span.Span.{Span}
+use Rattle.stroke_core.specs.Spans.{span_has}
+use Rattle.core_rules.specs.Image.{IsOfSize}
+use Rattle.tile_resets.specs.Renewing.{marker_value, greater_value, made_if, IsMadeWhere, AreCellsMade, RisesWhere}
+use Rattle.tile_resets.specs.Renewing.{SomeIsLess}
+
+-- a change that leaves what it left at first where it comes again
+pub record IsSteady (make : ℕ → ℕ → ℕ) : Type 0 where
+  pub again : (old marker : ℕ) → make (make old marker) marker ≡ make old marker
+
+pub copy_is_steady : IsSteady marker_value
+copy_is_steady = record { again = λ old marker. refl }
+
+pub raise_is_steady : IsSteady greater_value
+raise_is_steady = record {
+  again = λ old marker. let e : max (max old marker) marker ≡ max old marker = omega arith in e;
+}
+
+-- to change where one test holds and then where another does is to change where either does
+made_twice : (make : ℕ → ℕ → ℕ) → IsSteady make → (a b : Bool) (old marker : ℕ)
+    → made_if b make (made_if a make old marker) marker ≡ made_if (a || b) make old marker
+made_twice make steady true true old marker = steady.again old marker
+made_twice make steady true false old marker = refl
+made_twice make steady false b old marker = refl
+
+pub sizes_join : (old middle new : Raster) → IsOfSize old middle → IsOfSize middle new → IsOfSize old new
+sizes_join old middle new first second = record {
+  width = second.width ∙ first.width;
+  height = second.height ∙ first.height;
+  filled = second.filled;
+}
+
+pub inside_same : (old new : Raster) → IsOfSize old new → (p : Pixel) → IsInside old.width old.height p
+    → IsInside new.width new.height p
+inside_same old new size p inside = (omega (arith, inside.0, size.width), omega (arith, inside.1, size.height))
+
+-- two changes are one where either test holds
+pub made_also : (make : ℕ → ℕ → ℕ) → IsSteady make → (a b both : Pixel → Bool) (marker old middle new : Raster)
+    → IsMadeWhere a make marker old middle → IsMadeWhere b make marker middle new
+    → ((p : Pixel) → IsInside old.width old.height p → both p ≡ (a p || b p)) → IsMadeWhere both make marker old new
+made_also make steady a b both marker old middle new first second same = record {
+  size = sizes_join old middle new first.size second.size;
+  values = λ p inside.
+      let there = value_at marker p in
+      second.values p (inside_same old middle first.size p inside)
+      ∙ ap (λ v. made_if (b p) make v there) (first.values p inside)
+      ∙ made_twice make steady (a p) (b p) (value_at old p) there
+      ∙ ap (λ t. made_if t make (value_at old p) there) (sym (same p inside));
+}
+
+-- nothing is changed by a test that no pixel passes
+pub made_nothing : (test : Pixel → Bool) (make : ℕ → ℕ → ℕ) (marker old : Raster) → IsFilled old
+    → ((p : Pixel) → IsInside old.width old.height p → test p ≡ false) → IsMadeWhere test make marker old old
+made_nothing test make marker old filled none = record {
+  size = record { width = refl; height = refl; filled = filled };
+  values = λ p inside. ap (λ t. made_if t make (value_at old p) (value_at marker p)) (sym (none p inside));
+}
+
+-- tests that agree on the pixels of the image change alike
+pub made_alike : (a b : Pixel → Bool) (make : ℕ → ℕ → ℕ) (marker old new : Raster) → IsMadeWhere a make marker old new
+    → ((p : Pixel) → IsInside old.width old.height p → b p ≡ a p) → IsMadeWhere b make marker old new
+made_alike a b make marker old new made same = record {
+  size = made.size;
+  values = λ p inside.
+      made.values p inside ∙ ap (λ t. made_if t make (value_at old p) (value_at marker p)) (sym (same p inside));
+}
+
+-- ---- a span as cells
+
+-- a place on an earlier row is before the start of a row
+row_before : (width x y row : ℕ) → x < width → y < row → y * width + x < row * width
+row_before width x y row inside before =
+    let next : y + 1 ≤ row = omega arith in
+    let rows : (y + 1) * width ≤ row * width = mul-le-mul_right width next in
+    omega (arith, rows)
+
+-- cells that are changed between two places of one row
+module _ (s : Span) (from to : ℕ) (make : ℕ → ℕ → ℕ) (marker old new : Raster) (size : IsOfSize marker old)
+    (columns : s.end ≤ marker.width) (from_is : from ≡ s.y * marker.width + s.first)
+    (to_is : to ≡ s.y * marker.width + s.end) (cells : AreCellsMade from to make marker old new) (p : Pixel)
+    (inside : IsInside old.width old.height p) where
+  old_at : value_at old p ≡ slice_index old.cells (index_of marker.width p)
+  old_at = ap (λ w. slice_index old.cells (index_of w p)) size.width
+
+  new_at : value_at new p ≡ slice_index new.cells (index_of marker.width p)
+  new_at = ap (λ w. slice_index new.cells (index_of w p)) (cells.width ∙ size.width)
+
+  across : p.x < marker.width
+  across = omega (arith, inside.0, size.width)
+
+  within_old : index_of marker.width p < length old.cells
+  within_old =
+      let place : p.y * old.width + p.x < old.width * old.height =
+      mul-add-lt p.y old.width p.x old.height inside.1 inside.0 in
+      let same : p.y * marker.width ≡ p.y * old.width = ap (λ w. p.y * w) (sym size.width) in
+      omega (arith, place, same, size.filled)
+
+  -- a pixel of the span
+  cell_in_span : span_has s p ≡ true
+      → value_at new p ≡ made_if (span_has s p) make (value_at old p) (value_at marker p)
+  cell_in_span between =
+      let row : p.y ≡ s.y = grind (arith, nat_tests) in
+      let above : s.first ≤ p.x = grind (arith, nat_tests) in
+      let below : p.x < s.end = grind (arith, nat_tests) in
+      let start : p.y * marker.width ≡ s.y * marker.width = ap (λ k. k * marker.width) row in
+      let led = cells.inside (index_of marker.width p) (omega arith) (omega arith) in
+      new_at ∙ led ∙ ap (λ v. make v (value_at marker p)) (sym old_at)
+      ∙ ap (λ t. made_if t make (value_at old p) (value_at marker p)) (sym between)
+
+  -- a pixel beside it
+  cell_beside : span_has s p ≡ false
+      → slice_index new.cells (index_of marker.width p) ≡ slice_index old.cells (index_of marker.width p)
+      → value_at new p ≡ made_if (span_has s p) make (value_at old p) (value_at marker p)
+  cell_beside beside same =
+      new_at ∙ same ∙ sym old_at
+      ∙ ap (λ t. made_if t make (value_at old p) (value_at marker p)) (sym beside)
+
+  pub cell_of_span : value_at new p ≡ made_if (span_has s p) make (value_at old p) (value_at marker p)
+  cell_of_span = elim (cases_lt p.y s.y) [
+    | inl earlier ↦
+        let before : p.y * marker.width + p.x < s.y * marker.width =
+        row_before marker.width p.x p.y s.y across earlier in
+        cell_beside (grind (arith, nat_tests)) (cells.before (index_of marker.width p) (omega arith))
+    | inr not_earlier ↦ elim (cases_lt s.y p.y) [
+      | inl later ↦
+          let next : s.y + 1 ≤ p.y = omega arith in
+          let rows : (s.y + 1) * marker.width ≤ p.y * marker.width = mul-le-mul_right marker.width next in
+          cell_beside (grind (arith, nat_tests))
+          (cells.after (index_of marker.width p) (omega (arith, rows)) within_old)
+      | inr not_later ↦
+          let row : p.y ≡ s.y = omega arith in
+          let start : p.y * marker.width ≡ s.y * marker.width = ap (λ k. k * marker.width) row in
+          elim (cases_lt p.x s.first) [
+            | inl left ↦ cell_beside (grind (arith, nat_tests)) (cells.before (index_of marker.width p) (omega arith))
+            | inr not_left ↦ elim (cases_lt p.x s.end) [
+              | inl here ↦ cell_in_span (grind (arith, nat_tests))
+              | inr right ↦
+                  cell_beside (grind (arith, nat_tests))
+                  (cells.after (index_of marker.width p) (omega arith) within_old)
+            ]
+          ]
+    ]
+  ]
+
+-- cells that are changed between two places of one row are a changed span
+pub cells_are_span : (s : Span) (from to : ℕ) (make : ℕ → ℕ → ℕ) (marker old new : Raster) → IsOfSize marker old
+    → s.end ≤ marker.width → from ≡ s.y * marker.width + s.first → to ≡ s.y * marker.width + s.end
+    → AreCellsMade from to make marker old new → IsMadeWhere (span_has s) make marker old new
+cells_are_span s from to make marker old new size columns from_is to_is cells = record {
+  size = record {
+    width = cells.width;
+    height = cells.height;
+    filled = rw (cells.width, cells.height) (cells.count ∙ size.filled);
+  };
+  values = λ p inside. cell_of_span s from to make marker old new size columns from_is to_is cells p inside;
+}
+
+-- a cell of the span that is less than the marker's is a pixel that rises
+module _ (s : Span) (from to : ℕ) (marker old new : Raster) (size : IsOfSize marker old) (row : s.y < marker.height)
+    (columns : s.end ≤ marker.width) (from_is : from ≡ s.y * marker.width + s.first)
+    (to_is : to ≡ s.y * marker.width + s.end) (made : IsMadeWhere (span_has s) greater_value marker old new) where
+  pub cell_rises : SomeIsLess from to old.cells marker.cells → RisesWhere (span_has s) old new
+  cell_rises (k, above, below, less) =
+      let p : Pixel = record { x = k - s.y * marker.width; y = s.y } in
+      let place : index_of marker.width p ≡ k = omega arith in
+      let inside : IsInside old.width old.height p =
+      (omega (arith, size.width), omega (arith, size.height)) in
+      let has : span_has s p ≡ true = grind (arith, nat_tests) in
+      let at_marker : value_at marker p ≡ slice_index marker.cells k = ap (λ i. slice_index marker.cells i) place in
+      let at_old : value_at old p ≡ slice_index old.cells k =
+      ap (λ w. slice_index old.cells (index_of w p)) size.width ∙ ap (λ i. slice_index old.cells i) place in
+      let at_new : value_at new p ≡ max (value_at old p) (value_at marker p) =
+      made.values p inside ∙ ap (λ t. made_if t greater_value (value_at old p) (value_at marker p)) has in
+      record { p = p; inside = inside; tested = has; rose = omega (arith, at_marker, at_old, at_new, less) }
+
+  pub rise_is_cell : RisesWhere (span_has s) old new → SomeIsLess from to old.cells marker.cells
+  rise_is_cell r =
+      let p = r.p in
+      let has : span_has s p ≡ true = r.tested in
+      let on_row : p.y ≡ s.y = grind (arith, nat_tests) in
+      let above : s.first ≤ p.x = grind (arith, nat_tests) in
+      let below : p.x < s.end = grind (arith, nat_tests) in
+      let start : p.y * marker.width ≡ s.y * marker.width = ap (λ k. k * marker.width) on_row in
+      let at_old : value_at old p ≡ slice_index old.cells (index_of marker.width p) =
+      ap (λ w. slice_index old.cells (index_of w p)) size.width in
+      let at_new : value_at new p ≡ max (value_at old p) (value_at marker p) =
+      made.values p r.inside ∙ ap (λ t. made_if t greater_value (value_at old p) (value_at marker p)) has in
+      (index_of marker.width p, omega arith, omega arith, omega (arith, at_old, at_new, r.rose))
+
+pub rises_by_cells : (s : Span) (from to : ℕ) (marker old new : Raster) → IsOfSize marker old → s.y < marker.height
+    → s.end ≤ marker.width → from ≡ s.y * marker.width + s.first → to ≡ s.y * marker.width + s.end
+    → IsMadeWhere (span_has s) greater_value marker old new
+    → SomeIsLess from to old.cells marker.cells ↔ RisesWhere (span_has s) old new
+rises_by_cells s from to marker old new size row columns from_is to_is made = (
+  cell_rises s from to marker old new size row columns from_is to_is made,
+  rise_is_cell s from to marker old new size row columns from_is to_is made,
+)
+
+-- ---- a part of the cells
+
+-- a cell of a part is one of the cells
+get_or-part : (xs : List ℕ) (from to k : ℕ) → from ≤ k → k < to
+    → slice_index (slice_range xs from to) (k - from) ≡ slice_index xs k
+get_or-part xs from to k above below =
+    let place : from + (k - from) ≡ k = omega arith in
+    get_or-take (to - from) (drop from xs) (k - from) 0 (omega arith)
+    ∙ get_or-drop from xs (k - from) 0 ∙ ap (λ i. get_or xs i 0) place
+
+pub some_is_less_in_part : (xs ys : List ℕ) (from to : ℕ) → from ≤ to → to ≤ length xs
+    → SomeIsLess 0 (length (slice_range xs from to)) (slice_range xs from to) (slice_range ys from to)
+    ↔ SomeIsLess from to xs ys
+some_is_less_in_part xs ys from to order within =
+    let long : length (slice_range xs from to) ≡ to - from = simp (length-take, length-drop) (omega arith) in (
+      λ (k, above, below, less).
+          let back : (from + k) - from ≡ k = omega arith in
+          let at_x : slice_index (slice_range xs from to) k ≡ slice_index xs (from + k) =
+          sym (ap (λ i. slice_index (slice_range xs from to) i) back)
+          ∙ get_or-part xs from to (from + k) (omega arith) (omega (arith, below, long)) in
+          let at_y : slice_index (slice_range ys from to) k ≡ slice_index ys (from + k) =
+          sym (ap (λ i. slice_index (slice_range ys from to) i) back)
+          ∙ get_or-part ys from to (from + k) (omega arith) (omega (arith, below, long)) in
+          (from + k, omega arith, omega (arith, below, long), omega (arith, at_x, at_y, less)),
+      λ (k, above, below, less). (
+        k - from,
+        omega arith,
+        omega (arith, below, above, long),
+        omega (arith, get_or-part xs from to k above below, get_or-part ys from to k above below, less),
+      ),
+    )
+
+-- the answer of a walk over parts of the cells
+pub rose_in_part : (b : Bool) (row values xs ys : List ℕ) (from to : ℕ) → row ≡ xs → values ≡ ys → from ≤ to
+    → to ≤ length xs
+    → IsTrue b ↔ SomeIsLess 0 (length (slice_range row from to)) (slice_range row from to) (slice_range values from to)
+    → IsTrue b ↔ SomeIsLess from to xs ys
+rose_in_part b row values xs ys from to is_row is_values order within told =
+    let part = some_is_less_in_part row values from to order (subst (λ l. to ≤ length l) (sym is_row) within) in
+    subst (λ l. IsTrue b ↔ SomeIsLess from to l ys) is_row
+    (subst (λ l. IsTrue b ↔ SomeIsLess from to row l) is_values
+    (λ yes. part.0 (told.0 yes), λ less. told.1 (part.1 less)))

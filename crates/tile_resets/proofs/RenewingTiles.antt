@@ -1,0 +1,96 @@
+-- One tile that is reset, and the tiles that touch it.
+use Rattle.std.proofs.Common.{◌≡◌, ℕ, ◌<◌, List, length, get_or, sym, ap, subst, ◌∙◌, arith}
+use Rattle.std.specs.Prelude.{◌↔◌, slice_index, slice_set}
+use Rattle.std.specs.List.{Contains}
+use Rattle.std.proofs.Math.ListN.{length-set}
+use Rattle.std.proofs.lemmas.List.{get_or-set_same, get_or-set_other}
+use Rattle.std.proofs.lemmas.List.Elements.{Contains-get_or}
+use Rattle.grid_core.specs.declared.pixel.Pixel.{Pixel}
+use Rattle.grid_core.specs.declared.rect.Rect.{Rect}
+use Rattle.grid_core.specs.Raster.{Raster, IsInside}
+use Rattle.grid_core.specs.Rects.{IsInRect}
+use Rattle.grid_core.specs.Tiles.{Tiles, IsTiled, AreTouching, count_of, tile_of, rect_of}
+use Rattle.grid_core.specs.TileLaws.{EachPixelInOneTile}
+use Rattle.border_queues.specs.OpenEdges.{IsOnTiling}
+use Rattle.core_rules.specs.Image.{IsOfSize}
+use Rattle.core_rules.specs.Work.{TileWork, idle}
+use Rattle.core_rules.specs.Merge.{reset_work}
+use Rattle.tile_resets.specs.Renewing.{IsDirtyIf, AreDirtyWhere, IsCopiedIn, IsOneReset, row_at}
+use Rattle.tile_resets.proofs.RenewingResets.{reset_stays}
+use Rattle.tile_resets.proofs.RenewingWork.{dirty_alike}
+
+-- touching is mutual
+touching_back : (tiling : Tiles) (a b : ℕ) → AreTouching tiling a b → AreTouching tiling b a
+touching_back tiling a b touching = record {
+  other = λ e. touching.other (sym e);
+  columns = omega (arith, touching.columns);
+  rows = omega (arith, touching.rows);
+}
+
+-- the tiles around a tile have rows in the table
+pub touching_are_tiles : (tiling : Tiles) (tile : ℕ) (before middle : List TileWork) (around listed : List ℕ)
+    → listed ≡ around → length before ≡ count_of tiling
+    → middle ≡ slice_set before tile (reset_work (row_at before tile))
+    → ((other : ℕ) → Contains around other ↔ (AreTouching tiling tile other × (other < count_of tiling)))
+    → (k : ℕ) → k < length listed → slice_index listed k < length middle
+touching_are_tiles tiling tile before middle around listed is_listed count is_reset members k within =
+    let same : length middle ≡ length before =
+    ap length is_reset ∙ length-set before tile (reset_work (row_at before tile)) in
+    let there : Contains around (get_or listed k 0) =
+    subst (λ (l : List ℕ). Contains l (get_or listed k 0)) is_listed (Contains-get_or listed k 0 within) in
+    omega (arith, ((members (get_or listed k 0)).0 there).1, same, count)
+
+-- the pixels of a tile are copied, its work is reset, and the tiles around it are made dirty
+module _ (tiling : Tiles) (tile : ℕ) (rect : Rect) (marker old new : Raster) (before middle after : List TileWork)
+    (around listed : List ℕ) (tiled : IsTiled tiling) (on_tiling : IsOnTiling tiling marker)
+    (size : IsOfSize marker old) (is_tile : tile < count_of tiling) (in_one : EachPixelInOneTile)
+    (is_rect : rect ≡ rect_of tiling tile) (copied : IsCopiedIn rect marker old new)
+    (count : length before ≡ count_of tiling)
+    (is_reset : middle ≡ slice_set before tile (reset_work (row_at before tile))) (is_listed : listed ≡ around)
+    (members : (other : ℕ) → Contains around other ↔ (AreTouching tiling tile other × (other < count_of tiling)))
+    (dirty : AreDirtyWhere (Contains listed) middle after) where
+  in_old : (p : Pixel) → IsInside tiling.width tiling.height p → IsInside old.width old.height p
+  in_old p inside =
+      (omega (arith, inside.0, size.width, on_tiling.width), omega (arith, inside.1, size.height, on_tiling.height))
+
+  in_rect : (p : Pixel) → IsInside tiling.width tiling.height p → IsInRect rect p ↔ (tile_of tiling p ≡ tile)
+  in_rect p inside =
+      subst (λ (r : Rect). IsInRect r p ↔ (tile_of tiling p ≡ tile)) (sym is_rect)
+      ((in_one tiling p tiled inside).1 tile is_tile)
+
+  same_count : length middle ≡ length before
+  same_count = ap length is_reset ∙ length-set before tile (reset_work (row_at before tile))
+
+  own_row : row_at middle tile ≡ reset_work (row_at before tile)
+  own_row =
+      ap (λ rows. row_at rows tile) is_reset
+      ∙ get_or-set_same before tile (reset_work (row_at before tile)) idle (omega (arith, is_tile, count))
+
+  other_row : (t : ℕ) → (t ≡ tile → ⊥) → row_at middle t ≡ row_at before t
+  other_row t other =
+      ap (λ rows. row_at rows t) is_reset
+      ∙ get_or-set_other before tile t (reset_work (row_at before tile)) idle other
+
+  touched : (t : ℕ) → t < length before → Contains listed t ↔ AreTouching tiling t tile
+  touched t within =
+      subst (λ (l : List ℕ). Contains l t ↔ AreTouching tiling t tile) (sym is_listed) (
+        λ there. touching_back tiling tile t ((members t).0 there).0,
+        λ touching. (members t).1 (touching_back tiling t tile touching, omega (arith, within, count)),
+      )
+
+  pub one_reset : IsOneReset tiling marker old new before after tile
+  one_reset = record {
+    size = copied.size;
+    count = dirty.count ∙ same_count;
+    own =
+        reset_stays (Contains listed tile) (row_at before tile) (row_at middle tile) (row_at after tile) own_row
+        (dirty.each tile (omega (arith, is_tile, count, same_count)));
+    others = λ t within other.
+        dirty_alike (Contains listed t) (AreTouching tiling t tile) (row_at before t) (row_at after t)
+        (touched t within)
+        (subst (λ (w : TileWork). IsDirtyIf (Contains listed t) w (row_at after t)) (other_row t other)
+        (dirty.each t (omega (arith, within, same_count))));
+    within = λ p of_tile.
+        copied.within p (in_old p of_tile.inside) ((in_rect p of_tile.inside).1 of_tile.tile);
+    beyond = λ p inside out. copied.beyond p (in_old p inside) (λ has. out ((in_rect p inside).0 has));
+  }

@@ -1,0 +1,9 @@
+use Rattle.std.proofs.Common.{◌≡◌, false, true, sym}
+use Rattle.tile_resets.proofs.HittingSpans.{stroke_is_lost}
+use Rattle.tile_resets.proofs.hits.losses.mark_lost.Goals as goal
+
+pub returns-in-Some : goal.returns-in-Some
+returns-in-Some c =
+    stroke_is_lost c.args.tiling.now c.args.state.now c.args.tag c.in-Some.stroke.now c.args.marks.now
+    c.args.queue.now c.mark_stroke.new.marks c.mark_stroke.new.queue (sym c.in-Some.ensures)
+    (λ buried. let gone : false ≡ true = c.if-has_tombstone.ensures.1 buried in cc) c.mark_stroke.ensures

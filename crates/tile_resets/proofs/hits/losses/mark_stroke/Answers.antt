@@ -1,0 +1,20 @@
+use Rattle.std.proofs.Common.{◌≡◌, ◌<◌, length, arith}
+use Rattle.stroke_core.specs.Spans.{spans_of}
+use Rattle.tile_resets.proofs.HittingSpans.{next_span, all_spans}
+use Rattle.tile_resets.proofs.hits.losses.mark_stroke.Goals as goal
+
+pub loop-i-preserved : goal.loop-i-preserved
+loop-i-preserved c =
+    let seed = c.args.stroke.now in
+    let within : c.loop-i.i < length (spans_of seed) = omega (arith, c.loop-i-test.true, c.span_count-i-end.ensures) in
+    next_span c.args.tiling.now seed c.loop-i.i c.span.result c.args.marks.now c.args.queue.now c.loop-i.marks
+    c.loop-i.queue c.mark_span.new.marks c.mark_span.new.queue within c.span.ensures.value c.loop-i.invariant
+    c.mark_span.ensures
+
+pub returns : goal.returns
+returns c =
+    let seed = c.args.stroke.now in
+    let all : c.loop-i.i ≡ length (spans_of seed) =
+    omega (arith, c.loop-i-test.false, c.loop-i.auto.i-end, c.span_count-i-end.ensures) in
+    all_spans c.args.tiling.now seed c.loop-i.i c.args.marks.now c.args.queue.now c.loop-i.marks c.loop-i.queue all
+    c.spans_cover.ensures c.loop-i.invariant

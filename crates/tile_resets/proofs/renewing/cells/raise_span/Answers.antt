@@ -1,0 +1,30 @@
+use Rattle.std.proofs.Common.{◌≡◌, ◌+◌, ◌*◌, ap}
+use Rattle.stroke_core.specs.Spans.{span_has}
+use Rattle.tile_resets.specs.Renewing.{greater_value, IsMadeWhere}
+use Rattle.tile_resets.proofs.RenewingSpans.{cells_are_span, rises_by_cells}
+use Rattle.tile_resets.proofs.renewing.cells.raise_span.Goals as goal
+
+from_is : (c : goal.After-raise_cells) → c.args.span.y * c.width.result + c.args.span.first
+    ≡ c.args.span.y * c.args.marker.now.width + c.args.span.first
+from_is c = ap (λ w. c.args.span.y * w + c.args.span.first) c.width.ensures.value
+
+to_is : (c : goal.After-raise_cells) → c.args.span.y * c.width.result + c.args.span.end
+    ≡ c.args.span.y * c.args.marker.now.width + c.args.span.end
+to_is c = ap (λ w. c.args.span.y * w + c.args.span.end) c.width.ensures.value
+
+made : (c : goal.After-raise_cells)
+    → IsMadeWhere (span_has c.args.span) greater_value c.args.marker.now c.args.image.now c.raise_cells.new.image
+made c =
+    cells_are_span c.args.span (c.args.span.y * c.width.result + c.args.span.first)
+    (c.args.span.y * c.width.result + c.args.span.end) greater_value c.args.marker.now c.args.image.now
+    c.raise_cells.new.image c.requires.size c.requires.columns (from_is c) (to_is c) c.raise_cells.ensures.values
+
+pub returns-clause-values : goal.returns-clause-values
+returns-clause-values c = made c
+
+pub returns-clause-rose : goal.returns-clause-rose
+returns-clause-rose c =
+    let cells = rises_by_cells c.args.span (c.args.span.y * c.width.result + c.args.span.first)
+    (c.args.span.y * c.width.result + c.args.span.end) c.args.marker.now c.args.image.now
+    c.raise_cells.new.image c.requires.size c.requires.row c.requires.columns (from_is c) (to_is c) (made c) in
+    (λ yes. cells.0 (c.raise_cells.ensures.rose.0 yes), λ r. c.raise_cells.ensures.rose.1 (cells.1 r))

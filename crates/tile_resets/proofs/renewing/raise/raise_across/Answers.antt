@@ -1,0 +1,40 @@
+use Rattle.std.proofs.Common.{◌<◌, ◌≤◌, arith, inl, inr, refl}
+use Rattle.stroke_core.specs.Spans.{span_has}
+use Rattle.tile_resets.proofs.RenewingRises.{on_marker, raised_also, raised_nothing, raised_alike, next_tile}
+use Rattle.tile_resets.proofs.RenewingStrokes.{part_of, empty_part, part_more, whole_part}
+use Rattle.tile_resets.proofs.renewing.raise.raise_across.Goals as goal
+
+pub loop-first-init : goal.loop-first-init
+loop-first-init c = (
+  omega arith,
+  inr refl,
+  raised_nothing c.args.tiling.now (span_has (part_of c.args.span c.args.span.first c.args.span.first))
+      c.args.marker.now c.args.image.now c.args.work.now c.requires.size.filled (λ p _. empty_part c.args.span p),
+)
+
+pub loop-first-preserved : goal.loop-first-preserved
+loop-first-preserved c =
+    let s = c.args.span in
+    let at = c.loop-first.first in
+    let next = c.min-end.result in
+    let further : at < next =
+    next_tile c.args.tiling.now at s.end c.side-side.result next c.side-side.ensures.tiled c.side-side.ensures.value
+    c.loop-first-test.true c.min-end.ensures in
+    let within : next ≤ s.end = omega (arith, c.min-end.ensures) in (
+      omega (arith, c.loop-first.invariant.0),
+      inl within,
+      raised_also c.args.tiling.now (span_has (part_of s s.first at)) (span_has (part_of s at next))
+          (span_has (part_of s s.first next)) c.args.marker.now c.args.image.now c.loop-first.image
+          c.raise_piece.new.image c.args.work.now c.loop-first.work c.raise_piece.new.work
+          (on_marker c.args.tiling.now c.args.marker.now c.args.image.now c.requires.marker c.requires.size)
+          c.loop-first.invariant.2 c.raise_piece.ensures
+          (λ p _. part_more s at next p c.loop-first.invariant.0 (omega arith)),
+    )
+
+pub returns : goal.returns
+returns c =
+    let s = c.args.span in
+    let at = c.loop-first.first in
+    raised_alike c.args.tiling.now (span_has (part_of s s.first at)) (span_has s) c.args.marker.now
+    c.args.image.now c.loop-first.image c.args.work.now c.loop-first.work c.loop-first.invariant.2
+    (λ p _. whole_part s at p c.loop-first.invariant.0 c.loop-first-test.false c.loop-first.invariant.1)

@@ -1,0 +1,62 @@
+use Rattle.std.proofs.Common.{◌≡◌, ◌+◌, ◌<◌, List, length, take, refl, sym, ap, subst, ◌∙◌, arith}
+use Rattle.std.proofs.Math.Seq.{take-length}
+use Rattle.grid_core.specs.Raster.{Raster}
+use Rattle.stroke_core.specs.Seed.{covers}
+use Rattle.marker_tiles.specs.UnderTags.{some_covers}
+use Rattle.marker_tiles.proofs.Raising.{nothing_there}
+use Rattle.core_rules.specs.Work.{TileWork}
+use Rattle.tile_resets.specs.Renewing.{IsRaisedWhere, greater_value}
+use Rattle.tile_resets.proofs.RenewingSpans.{made_alike}
+use Rattle.tile_resets.proofs.RenewingRises.{raised_also, raised_nothing, raised_alike}
+use Rattle.tile_resets.proofs.RenewingStrokes.{tag_with_stroke, tag_without_stroke, raised_under}
+use Rattle.tile_resets.proofs.renewing.raise.raise_to_marker.Goals as goal
+use Rattle.tile_resets.proofs.renewing.raise.raise_to_marker.Goals.{in-Some, in_default}
+
+pub loop-tag-init : goal.loop-tag-init
+loop-tag-init c =
+    raised_nothing c.args.tiling.now (some_covers c.args.state.now (take 0 c.args.tags.now)) c.args.marker.now
+    c.args.image.now c.args.work.now c.width.ensures.sized.filled (λ p _. refl)
+
+pub loop-tag-preserved : goal.loop-tag-preserved
+loop-tag-preserved c =
+    let tiling = c.args.tiling.now in
+    let state = c.args.state.now in
+    let tags = c.args.tags.now in
+    let marker = c.args.marker.now in
+    let old = c.args.image.now in
+    let before = c.args.work.now in
+    let i = c.loop-tag.tag-index in
+    let tag = c.tag-item.result in
+    let within : i < length tags = omega (arith, c.loop-tag-test.true) in
+    let so_far = some_covers state (take i tags) in
+    let next = some_covers state (take (i + 1) tags) in
+    elim c.match-stroke.branch [
+      | in-Some w ↦
+          let seed = w.in-Some.stroke.now in
+          subst (λ (image : Raster). IsRaisedWhere tiling next marker old image before c.match-stroke.work)
+          (sym w.image-is)
+          (subst (λ (work : List TileWork). IsRaisedWhere tiling next marker old w.raise_stroke.new.image before work)
+          (sym w.work-is)
+          (raised_also tiling so_far (covers seed) next marker old c.loop-tag.image w.raise_stroke.new.image before
+          c.loop-tag.work w.raise_stroke.new.work c.requires.image c.loop-tag.invariant w.raise_stroke.ensures
+          (λ p _. tag_with_stroke state tags i tag seed p within c.tag-item.is (sym w.in-Some.ensures))))
+      | in_default w ↦
+          subst (λ (image : Raster). IsRaisedWhere tiling next marker old image before c.match-stroke.work)
+          (sym w.image-is)
+          (subst (λ (work : List TileWork). IsRaisedWhere tiling next marker old c.loop-tag.image before work)
+          (sym w.work-is)
+          (raised_alike tiling so_far next marker old c.loop-tag.image before c.loop-tag.work c.loop-tag.invariant
+          (λ p _. tag_without_stroke state tags i tag p within c.tag-item.is
+          (sym c.stroke.ensures ∙ nothing_there c.stroke.result w.in_default.not-Some))))
+    ]
+
+pub returns-clause-values : goal.returns-clause-values
+returns-clause-values c =
+    let tags = c.args.tags.now in
+    let i = c.loop-tag.tag-index in
+    let all : i ≡ length tags = omega (arith, c.loop-tag-test.false, c.loop-tag.auto.tag-index-end) in
+    let is_all : take i tags ≡ tags = ap (λ n. take n tags) all ∙ take-length tags in
+    raised_under c.args.state.now tags c.args.marker.now c.args.image.now c.loop-tag.image
+    (made_alike (some_covers c.args.state.now (take i tags)) (some_covers c.args.state.now tags) greater_value
+    c.args.marker.now c.args.image.now c.loop-tag.image c.loop-tag.invariant.values
+    (λ p _. ap (λ l. some_covers c.args.state.now l p) (sym is_all)))

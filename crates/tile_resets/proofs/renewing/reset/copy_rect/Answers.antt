@@ -1,0 +1,24 @@
+use Rattle.std.proofs.Common.{◌≡◌, ◌+◌, ◌*◌, ap, arith}
+use Rattle.stroke_core.specs.Spans.{span_has}
+use Rattle.tile_resets.specs.Renewing.{marker_value}
+use Rattle.tile_resets.proofs.RenewingSpans.{copy_is_steady, sizes_join, made_also, cells_are_span}
+use Rattle.tile_resets.proofs.RenewingRects.{rect_above, rect_row, rect_row_more}
+use Rattle.tile_resets.proofs.renewing.reset.copy_rect.Goals as goal
+
+pub loop-y-preserved : goal.loop-y-preserved
+loop-y-preserved c =
+    let rect = c.args.rect in
+    let row = c.loop-y.y in
+    let marker = c.args.marker.now in
+    let old = c.args.image.now in
+    let middle = c.loop-y.image in
+    let new = c.copy_cells.new.image in
+    let from = row * c.width-width.result + rect.x in
+    let from_is : from ≡ row * marker.width + rect.x = ap (λ w. row * w + rect.x) c.width-width.ensures.value in
+    let to_is : from + rect.w ≡ row * marker.width + (rect.x + rect.w) = omega (arith, from_is) in
+    made_also marker_value copy_is_steady (rect_above rect row) (span_has (rect_row rect row))
+    (rect_above rect (row + 1)) marker old middle new c.loop-y.invariant
+    (cells_are_span (rect_row rect row) from (from + rect.w) marker_value marker middle new
+    (sizes_join marker old middle c.requires.size c.loop-y.invariant.size) c.requires.fits.columns from_is to_is
+    c.copy_cells.ensures)
+    (λ p _. rect_row_more rect row p c.loop-y.auto.y)

@@ -1,0 +1,61 @@
+use Rattle.std.proofs.Common.{◌≡◌, refl, ◌∙◌, arith, inl, inr}
+use Rattle.std.proofs.lemmas.Bool.{cases_lt}
+use Rattle.tile_work.specs.TileSet.{Has}
+use Rattle.tile_resets.specs.Renewing.{row_at}
+use Rattle.tile_resets.proofs.RenewingSpans.{sizes_join}
+use Rattle.tile_resets.proofs.RenewingResets.{IsMarkedBefore, reset_none, reset_alike, reset_more, same_generation}
+use Rattle.tile_resets.proofs.renewing.reset.reset_marked.Goals as goal
+
+pub loop-tile-init : goal.loop-tile-init
+loop-tile-init c = (
+  record { width = refl; height = refl; filled = c.width.ensures.sized.filled },
+  refl,
+  reset_none c.args.tiling.now (IsMarkedBefore c.args.marks.now 0) c.args.marker.now c.args.image.now
+      c.args.work.now (λ t marked. omega (arith, marked.1)),
+)
+
+pub reset_tile-requires-clause-size : goal.reset_tile-requires-clause-size
+reset_tile-requires-clause-size c = record {
+  width = omega (arith, c.loop-tile.invariant.0.width, c.requires.image.width, c.requires.marker.width);
+  height = omega (arith, c.loop-tile.invariant.0.height, c.requires.image.height, c.requires.marker.height);
+  filled = c.loop-tile.invariant.0.filled;
+}
+
+pub reset_tile-requires-clause-unspent : goal.reset_tile-requires-clause-unspent
+reset_tile-requires-clause-unspent c =
+    let tile = c.in-Some.tile in
+    let marks = c.args.marks.now in
+    let first = c.in-Some.ensures in
+    let same : (row_at c.loop-tile.work tile).generation ≡ (row_at c.args.work.now tile).generation =
+    same_generation c.args.tiling.now (IsMarkedBefore marks c.loop-tile.from) c.args.marker.now c.args.image.now
+    c.loop-tile.image c.args.work.now c.loop-tile.work tile c.loop-tile.invariant.2
+    (omega (arith, first.has.0, c.requires.count, c.requires.marks))
+    (λ marked. omega (arith, marked.1, first.from)) in
+    omega (arith, same, c.requires.unspent tile first.has)
+
+pub loop-tile-preserved : goal.loop-tile-preserved
+loop-tile-preserved c = (
+  sizes_join c.args.image.now c.loop-tile.image c.reset_tile.new.image c.loop-tile.invariant.0
+      c.reset_tile.ensures.size,
+  c.reset_tile.ensures.count ∙ c.loop-tile.invariant.1,
+  reset_more c.args.tiling.now c.args.marks.now c.loop-tile.from c.in-Some.tile c.args.marker.now
+      c.args.image.now c.loop-tile.image c.reset_tile.new.image c.args.work.now c.loop-tile.work
+      c.reset_tile.new.work c.loop-tile.invariant.1 c.in-Some.ensures c.loop-tile.invariant.2 c.reset_tile.ensures,
+)
+
+pub returns-clause-each : goal.returns-clause-each
+returns-clause-each c =
+    let marks = c.args.marks.now in
+    let from = c.loop-tile.from in
+    reset_alike c.args.tiling.now (IsMarkedBefore marks from) (Has marks) c.args.marker.now c.args.image.now
+    c.loop-tile.image c.args.work.now c.loop-tile.work
+    (λ t. (
+      λ marked. marked.0,
+      λ has. (
+        has,
+        elim (cases_lt t from) [
+          | inl below ↦ below
+          | inr above ↦ absurd (c.in_default.ensures t above has)
+        ],
+      ),
+    )) c.loop-tile.invariant.2

@@ -1,0 +1,15 @@
+use Rattle.std.proofs.Common.{◌≡◌, ◌-◌, length}
+use Rattle.core_rules.specs.Image.{IsOfSize}
+use Rattle.tile_resets.specs.Renewing.{AreReset}
+use Rattle.tile_resets.proofs.RenewingResets.{IsMarkedBefore}
+use Rattle.tile_resets.proofs.renewing.reset.reset_marked.Given as goal
+
+-- the marked tiles before this one are reset
+abbrev pub invariant-loop-tile : goal.invariant-loop-tile
+invariant-loop-tile l =
+    IsOfSize l.fn.image l.image × (length l.work ≡ length l.fn.work)
+    × AreReset l.tiling (IsMarkedBefore l.marks l.from) l.marker l.fn.image l.image l.fn.work l.work
+
+-- the tiles that are left to look at
+abbrev pub decreases-loop-tile : goal.decreases-loop-tile
+decreases-loop-tile l = length l.marks - l.from

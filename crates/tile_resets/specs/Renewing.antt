@@ -1,0 +1,148 @@
+-- What a merge does to the image and to the work at the tiles, once strokes and marker are the new ones.
+use Rattle.std.specs.Prelude.{◌≡◌, ℕ, ◌<◌, ◌≤◌, ◌⊎◌, ◌↔◌, Bool, max, if◌then◌else◌, IsTrue}
+use Rattle.std.specs.Prelude.{List, length, slice_index, slice_index_or}
+use Rattle.std.specs.List.{Contains}
+use Rattle.grid_core.specs.declared.pixel.Pixel.{Pixel}
+use Rattle.grid_core.specs.declared.rect.Rect.{Rect}
+use Rattle.grid_core.specs.Raster.{Raster, IsInside, value_at}
+use Rattle.grid_core.specs.Rects.{IsInRect}
+use Rattle.grid_core.specs.Tiles.{Tiles, tile_of, AreTouching}
+use Rattle.stroke_core.specs.Seed.{Seed, covers}
+use Rattle.stroke_lattice.specs.State.{State, HasStroke}
+use Rattle.core_rules.specs.Image.{IsOfSize}
+use Rattle.core_rules.specs.Work.{TileWork, idle}
+use Rattle.core_rules.specs.Merge.{reset_work}
+
+-- the pixel lies in the image and in this tile
+pub record IsPixelOf (tiling : Tiles) (t : ℕ) (p : Pixel) : Type 0 where
+  pub inside : IsInside tiling.width tiling.height p
+  pub tile : tile_of tiling p ≡ t
+
+-- the work at a tile, of the work at all of them
+abbrev pub row_at : List TileWork → ℕ → TileWork
+row_at rows t = slice_index_or rows t idle
+
+-- the work is dirty if it was or if the tile is hit, and nothing else of it changes
+pub record IsDirtyIf (is_hit : Type 0) (before after : TileWork) : Type 0 where
+  pub rest : after ≡ record before { dirty = after.dirty }
+  pub dirty : IsTrue after.dirty ↔ (IsTrue before.dirty ⊎ is_hit)
+
+-- so is that of each tile
+pub record AreDirtyWhere (is_hit : ℕ → Type 0) (before after : List TileWork) : Type 0 where
+  pub count : length after ≡ length before
+  pub each : (t : ℕ) → t < length before → IsDirtyIf (is_hit t) (row_at before t) (row_at after t)
+
+-- ---- tiles that are reset
+
+-- a marked tile touches this one
+pub record TouchesMarked (tiling : Tiles) (is_marked : ℕ → Type 0) (t : ℕ) : Type 0 where
+  pub u : ℕ
+  pub marked : is_marked u
+  pub touching : AreTouching tiling t u
+
+-- the tile is reset: its work is that of a reset tile, and its pixels have the marker's values
+pub record IsTileReset (tiling : Tiles) (marker new : Raster) (before after : TileWork) (t : ℕ) : Type 0 where
+  pub work : after ≡ reset_work before
+  pub values : (p : Pixel) → IsPixelOf tiling t p → value_at new p ≡ value_at marker p
+
+-- the tile is kept: it is dirty if it was or if a marked tile touches it, and its pixels have their old values
+pub record IsTileKept (tiling : Tiles) (is_marked : ℕ → Type 0) (old new : Raster) (before after : TileWork) (t : ℕ)
+    : Type 0 where
+  pub work : IsDirtyIf (TouchesMarked tiling is_marked t) before after
+  pub values : (p : Pixel) → IsPixelOf tiling t p → value_at new p ≡ value_at old p
+
+-- each marked tile is reset, and each other one is kept
+abbrev pub AreReset : Tiles → (ℕ → Type 0) → Raster → Raster → Raster → List TileWork → List TileWork → Type 0
+AreReset tiling is_marked marker old new before after =
+    (t : ℕ) → t < length before
+    → (is_marked t × IsTileReset tiling marker new (row_at before t) (row_at after t) t)
+    ⊎ ((is_marked t → ⊥) × IsTileKept tiling is_marked old new (row_at before t) (row_at after t) t)
+
+-- this tile is reset, each tile that touches it is dirty, and nothing else changes
+pub record IsOneReset (tiling : Tiles) (marker old new : Raster) (before after : List TileWork) (tile : ℕ)
+    : Type 0 where
+  pub size : IsOfSize old new
+  pub count : length after ≡ length before
+  pub own : row_at after tile ≡ reset_work (row_at before tile)
+  pub others : (t : ℕ) → t < length before → (t ≡ tile → ⊥)
+      → IsDirtyIf (AreTouching tiling t tile) (row_at before t) (row_at after t)
+  pub within : (p : Pixel) → IsPixelOf tiling tile p → value_at new p ≡ value_at marker p
+  pub beyond : (p : Pixel) → IsInside tiling.width tiling.height p → (tile_of tiling p ≡ tile → ⊥)
+      → value_at new p ≡ value_at old p
+
+-- ---- values that are taken over from the marker
+
+-- the marker's value
+abbrev pub marker_value : ℕ → ℕ → ℕ
+marker_value old marker = marker
+
+-- the greater of the old value and the marker's
+abbrev pub greater_value : ℕ → ℕ → ℕ
+greater_value old marker = max old marker
+
+-- the value that is made of the old one and the marker's where the test holds, else the old one
+abbrev pub made_if : Bool → (ℕ → ℕ → ℕ) → ℕ → ℕ → ℕ
+made_if b make old marker = if b then make old marker else old
+
+-- the new image has values made of the old ones and the marker's where the test holds, and the old ones elsewhere
+pub record IsMadeWhere (test : Pixel → Bool) (make : ℕ → ℕ → ℕ) (marker old new : Raster) : Type 0 where
+  pub size : IsOfSize old new
+  pub values : (p : Pixel) → IsInside old.width old.height p
+      → value_at new p ≡ made_if (test p) make (value_at old p) (value_at marker p)
+
+-- the new image has the marker's values in the rectangle, and the old ones elsewhere
+pub record IsCopiedIn (rect : Rect) (marker old new : Raster) : Type 0 where
+  pub size : IsOfSize old new
+  pub within : (p : Pixel) → IsInside old.width old.height p → IsInRect rect p → value_at new p ≡ value_at marker p
+  pub beyond : (p : Pixel) → IsInside old.width old.height p → (IsInRect rect p → ⊥) → value_at new p ≡ value_at old p
+
+-- the cells of the new image from the first place up to the second are made of the old ones and the marker's, and the
+-- others are the old ones
+pub record AreCellsMade (from to : ℕ) (make : ℕ → ℕ → ℕ) (marker old new : Raster) : Type 0 where
+  pub width : new.width ≡ old.width
+  pub height : new.height ≡ old.height
+  pub count : length new.cells ≡ length old.cells
+  pub inside : (k : ℕ) → from ≤ k → k < to
+      → slice_index new.cells k ≡ make (slice_index old.cells k) (slice_index marker.cells k)
+  pub before : (k : ℕ) → k < from → slice_index new.cells k ≡ slice_index old.cells k
+  pub after : (k : ℕ) → to ≤ k → k < length old.cells → slice_index new.cells k ≡ slice_index old.cells k
+
+-- one of the values from the first place up to the second is less than the marker's
+abbrev pub SomeIsLess : ℕ → ℕ → List ℕ → List ℕ → Type 0
+SomeIsLess from to values marker =
+    (k : ℕ) × (from ≤ k) × (k < to) × (slice_index values k < slice_index marker k)
+
+-- a pixel at which the test holds has risen
+pub record RisesWhere (test : Pixel → Bool) (old new : Raster) : Type 0 where
+  pub p : Pixel
+  pub inside : IsInside old.width old.height p
+  pub tested : IsTrue (test p)
+  pub rose : value_at old p < value_at new p
+
+-- ---- tiles that are raised
+
+-- a pixel of the tile has risen
+pub record HasRisenIn (tiling : Tiles) (t : ℕ) (old new : Raster) : Type 0 where
+  pub p : Pixel
+  pub of_tile : IsPixelOf tiling t p
+  pub rose : value_at old p < value_at new p
+
+-- the image is raised to the marker where the test holds, and each tile in which a pixel rises is dirty
+pub record IsRaisedWhere (tiling : Tiles) (test : Pixel → Bool) (marker old new : Raster)
+    (before after : List TileWork) : Type 0 where
+  pub values : IsMadeWhere test greater_value marker old new
+  pub work : AreDirtyWhere (λ t. HasRisenIn tiling t old new) before after
+
+-- one of the strokes that stand under these tags, live or not, covers the pixel
+pub record IsUnder (s : State) (tags : List ℕ) (p : Pixel) : Type 0 where
+  pub tag : ℕ
+  pub seed : Seed
+  pub listed : Contains tags tag
+  pub has : HasStroke s tag seed
+  pub covered : IsTrue (covers seed p)
+
+-- the image is raised to the marker where one of the strokes under these tags covers the pixel, and only there
+pub record IsRaisedUnder (s : State) (tags : List ℕ) (marker old new : Raster) : Type 0 where
+  pub under : (p : Pixel) → IsInside old.width old.height p → IsUnder s tags p
+      → value_at new p ≡ max (value_at old p) (value_at marker p)
+  pub beyond : (p : Pixel) → IsInside old.width old.height p → (IsUnder s tags p → ⊥) → value_at new p ≡ value_at old p

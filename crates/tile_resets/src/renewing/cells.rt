@@ -1,0 +1,71 @@
+//! Values of an image that are taken over from the marker.
+
+ghost use Rattle.std.specs.Prelude.{◌≡◌, ◌<◌, ◌≤◌, ◌↔◌, IsTrue, length, slice_index, EachIndex};
+ghost use Rattle.stroke_core.specs.Spans.{span_has};
+ghost use Rattle.core_rules.specs.Image.{IsOfSize};
+ghost use Rattle.tile_resets.specs.Renewing.{marker_value, greater_value, IsMadeWhere, AreCellsMade};
+ghost use Rattle.tile_resets.specs.Renewing.{RisesWhere, SomeIsLess};
+
+use grid_core::Grid;
+use grid_core::laws::cells_given_back;
+use stroke_core::Span;
+
+/// Raises the image's values of a span to the marker's. Says whether one rose.
+pub(crate) fn raise_span(image: &mut Grid, marker: &Grid, span: Span) -> bool
+    requires size { IsOfSize marker.now image.old }
+    requires row { span.y < marker.now.height }
+    requires order { span.first ≤ span.end }
+    requires columns { span.end ≤ marker.now.width }
+    ensures values { IsMadeWhere (span_has span) greater_value marker.now image.old image.new }
+    ensures rose { IsTrue result ↔ RisesWhere (span_has span) image.old image.new }
+{
+    let start = span.y as usize * marker.width() as usize;
+    raise_cells(
+        image,
+        marker,
+        start + span.first as usize,
+        start + span.end as usize,
+    )
+}
+
+/// Copies the marker's cells from `from` up to `to`, which is left out, over the image's.
+pub(crate) fn copy_cells(image: &mut Grid, marker: &Grid, from: usize, to: usize)
+    requires size { IsOfSize marker.now image.old }
+    requires order { from ≤ to }
+    requires within { to ≤ length image.old.cells }
+    ensures { AreCellsMade from to marker_value marker.now image.old image.new }
+{
+    cells_given_back();
+    let values = &marker.cells()[from..to];
+    let cells = image.cells_mut();
+    cells[from..to].copy_from_slice(values);
+}
+
+// Raises the image's cells from `from` up to `to`, which is left out, to the marker's. Says whether one rose.
+fn raise_cells(image: &mut Grid, marker: &Grid, from: usize, to: usize) -> bool
+    requires size { IsOfSize marker.now image.old }
+    requires order { from ≤ to }
+    requires within { to ≤ length image.old.cells }
+    ensures values { AreCellsMade from to greater_value marker.now image.old image.new }
+    ensures rose { IsTrue result ↔ SomeIsLess from to image.old.cells marker.now.cells }
+{
+    cells_given_back();
+    let values = &marker.cells()[from..to];
+    let cells = image.cells_mut();
+    raise_row(&mut cells[from..to], values)
+}
+
+// Raises each value of a row to the marker's. Says whether one rose.
+fn raise_row(row: &mut [u32], marker: &[u32]) -> bool
+    requires { length marker.now ≡ length row.old }
+    ensures values { EachIndex row.new (λ k. slice_index row.new k
+        ≡ greater_value (slice_index row.old k) (slice_index marker.now k)) }
+    ensures rose { IsTrue result ↔ SomeIsLess 0 (length row.old) row.old marker.now }
+{
+    let mut rose = false;
+    for i in 0..row.len() {
+        rose |= row[i] < marker[i];
+        row[i] = row[i].max(marker[i]);
+    }
+    rose
+}

@@ -1,0 +1,86 @@
+//! Tiles that are reset to the marker.
+
+ghost use Rattle.std.specs.Prelude.{◌≡◌, ◌<◌, ℕ, false, length, replicate, slice_index, Contains};
+ghost use Rattle.grid_core.specs.Rects.{RectFits};
+ghost use Rattle.grid_core.specs.Tiles.{IsTiled, count_of};
+ghost use Rattle.border_queues.specs.OpenEdges.{IsOnTiling};
+ghost use Rattle.tile_generations.specs.Generations.{max_generation};
+ghost use Rattle.core_rules.specs.Image.{IsOfSize};
+ghost use Rattle.tile_work.specs.TileSet.{Has};
+ghost use Rattle.tile_resets.specs.Renewing.{AreReset, IsOneReset, AreDirtyWhere, IsCopiedIn, row_at};
+
+use crate::renewing::cells::copy_cells;
+use grid_core::laws::each_pixel_in_one_tile;
+use grid_core::{Grid, Rect, Tiling};
+use tile_work::{TileSet, WorkTable};
+
+/// Resets each marked tile: its image becomes the marker, its work that of a reset tile, and each tile that touches
+/// it is dirty. No mark is left.
+///
+/// It costs about the pixels of the marked tiles.
+pub fn reset_marked(
+    marks: &mut TileSet,
+    image: &mut Grid,
+    marker: &Grid,
+    tiling: &Tiling,
+    work: &mut WorkTable,
+)
+    requires image { IsOnTiling tiling.now image.old }
+    requires marker { IsOnTiling tiling.now marker.now }
+    requires count { length work.old ≡ count_of tiling.now }
+    requires marks { length marks.old ≡ count_of tiling.now }
+    requires unspent { (t : ℕ) → Has marks.old t → (row_at work.old t).generation < max_generation }
+    ensures marks { marks.new ≡ replicate (length marks.old) false }
+    ensures size { IsOfSize image.old image.new }
+    ensures count { length work.new ≡ length work.old }
+    ensures each { AreReset tiling.now (Has marks.old) marker.now image.old image.new work.old work.new }
+{
+    prove!(marks.len() == tiling.count());
+    prove!(image.width() == marker.width());
+    let mut from = 0;
+    while let Some(tile) = marks.first_from(from) {
+        reset_tile(image, marker, tiling, work, tile);
+        from = tile + 1;
+    }
+    marks.clear();
+}
+
+// Resets one tile. Each tile that touches it is dirty.
+fn reset_tile(image: &mut Grid, marker: &Grid, tiling: &Tiling, work: &mut WorkTable, tile: usize)
+    requires size { IsOfSize marker.now image.old }
+    requires marker { IsOnTiling tiling.now marker.now }
+    requires tiled { IsTiled tiling.now }
+    requires count { length work.old ≡ count_of tiling.now }
+    requires tile { tile < count_of tiling.now }
+    requires unspent { (row_at work.old tile).generation < max_generation }
+    ensures { IsOneReset tiling.now marker.now image.old image.new work.old work.new tile }
+{
+    each_pixel_in_one_tile();
+    copy_rect(image, marker, tiling.rect(tile));
+    work.reset(tile);
+    let around = tiling.touching(tile);
+    mark_all_dirty(work, around.as_slice());
+}
+
+// Makes these tiles dirty.
+fn mark_all_dirty(work: &mut WorkTable, tiles: &[usize])
+    requires { (k : ℕ) → k < length tiles.now → slice_index tiles.now k < length work.old }
+    ensures { AreDirtyWhere (Contains tiles.now) work.old work.new }
+{
+    for tile in tiles {
+        work.mark_dirty(*tile);
+    }
+}
+
+// Copies the marker's values in a rectangle over the image's.
+fn copy_rect(image: &mut Grid, marker: &Grid, rect: Rect)
+    requires size { IsOfSize marker.now image.old }
+    requires fits { RectFits marker.now.width marker.now.height rect }
+    ensures { IsCopiedIn rect marker.now image.old image.new }
+{
+    let width = marker.width() as usize;
+    for y in rect.y..rect.y + rect.h {
+        let start = y as usize * width + rect.x as usize;
+        copy_cells(image, marker, start, start + rect.w as usize);
+    }
+}

@@ -1,0 +1,5 @@
+pub mod TileSetWords
+pub mod TileSets
+pub mod WorkTables
+pub mod WorkTableHints
+pub mod WorkTableSenders

@@ -1,0 +1,331 @@
+-- The rows of a table and its sets stay in step where one row changes, and the sets say what is left.
+use Rattle.std.proofs.Common.{◌≡◌, ◌≢◌, ℕ, zero, suc, ◌+◌, ◌<◌, ◌≤◌, Bool, true, false, List, [], ◌∷◌}
+use Rattle.std.proofs.Common.{map, length, get_or, set}
+use Rattle.std.proofs.Common.{cond, replicate, refl, sym, ◌∙◌, ap, subst, arith, inl, inr}
+use Rattle.std.specs.Prelude.{◌↔◌, Option, Some, None, MatchOption, is_some, IsTrue, not}
+use Rattle.std.proofs.lemmas.Bool.{cases_eq}
+use Rattle.std.proofs.lemmas.List.{length-set, length-map, get_or-map, get_or-set_same, get_or-set_other, map-set}
+use Rattle.std.proofs.lemmas.List.{set-get_or, length-replicate, get_or-replicate}
+use Rattle.std.proofs.lemmas.List.Sums.{sum_by-set, sum_by-cons}
+use Rattle.border_queues.specs.declared.hint.Hint.{Hint}
+use Rattle.tile_generations.specs.Generations.{max_generation}
+use Rattle.tile_work.specs.declared.work_table.row.TileRow.{TileRow}
+use Rattle.tile_work.specs.declared.work_table.WorkTable.TheInside.{Inside}
+use Rattle.tile_work.specs.TileSet.{Has, HasNoneFrom, IsFirstFrom}
+use Rattle.core_rules.specs.Work.{TileWork, idle, IsIdle}
+use Rattle.core_rules.specs.Opening.{fresh}
+use Rattle.core_rules.specs.Runs.{IsLeast}
+use Rattle.tile_work.specs.WorkTable.{work_of, IsDirtyTile, HasJobOut, HasHintsAt, dirty_count, as_work, works_of}
+use Rattle.tile_work.specs.WorkTable.{is_some_hint, dirty_bits, out_bits, waiting_bits, AreInStep}
+
+-- ---- one row changes
+
+-- what the rows say of a tile, as a bit for each, at a tile whose row is known
+bit_stays : (says : TileWork → Bool) (bits : List Bool) (works : List TileWork) → bits ≡ map says works → (t : ℕ)
+    → t < length works → bits ≡ set bits t (says (work_of works t))
+bit_stays says bits works same t within =
+    let bit : get_or bits t false ≡ says (work_of works t) =
+    ap (λ (b : List Bool). get_or b t false) same ∙ get_or-map says works t idle false within in
+    sym (ap (set bits t) (sym bit) ∙ set-get_or bits t false)
+
+bit_changes : (says : TileWork → Bool) (bits : List Bool) (works : List TileWork) → bits ≡ map says works → (t : ℕ)
+    → (new : TileWork) → set bits t (says new) ≡ map says (set works t new)
+bit_changes says bits works same t new =
+    ap (λ (b : List Bool). set b t (says new)) same ∙ sym (map-set says works t new)
+
+-- the row of a tile, in a table that is seen as `now`
+pub record IsRowAt (table : Inside) (now : List TileWork) (t : ℕ) (row : TileRow) : Type 0 where
+  pub view_is : works_of table.rows.items ≡ now
+  pub in_table : t < length now
+  pub row_is : row ≡ get_or table.rows.items t row
+  pub in_step : AreInStep (works_of table.rows.items) table.dirty table.out table.waiting
+
+module _ {table : Inside} {now : List TileWork} {t : ℕ} {row : TileRow} (at : IsRowAt table now t row) where
+  in_works : t < length (works_of table.rows.items)
+  in_works =
+      let same = ap length at.view_is in
+      let there = at.in_table in
+      omega (arith, same, there)
+
+  read : work_of (works_of table.rows.items) t ≡ as_work row
+  read =
+      let mapped = length-map table.rows.items as_work in
+      let works = in_works in
+      let there : t < length table.rows.items = omega (arith, mapped, works) in
+      get_or-map as_work table.rows.items t row idle there ∙ ap as_work (sym at.row_is)
+
+  pub work_is : as_work row ≡ work_of now t
+  work_is = sym read ∙ ap (λ (works : List TileWork). work_of works t) at.view_is
+
+  -- the work at the tile changes, and no other
+  pub row_changed : (change : TileWork → TileWork) (new : TileRow) → as_work new ≡ change (as_work row)
+      → works_of (set table.rows.items t new) ≡ set now t (change (work_of now t))
+  row_changed change new same =
+      map-set as_work table.rows.items t new
+      ∙ ap (λ (works : List TileWork). set works t (as_work new)) at.view_is
+      ∙ ap (set now t) (same ∙ ap change work_is)
+
+  pub dirty_stays : table.dirty ≡ set table.dirty t row.dirty
+  dirty_stays =
+      bit_stays (λ work. work.dirty) table.dirty (works_of table.rows.items) at.in_step.dirty_in_step t in_works
+      ∙ ap (λ (w : TileWork). set table.dirty t w.dirty) read
+
+  pub out_stays : table.out ≡ set table.out t (is_some row.out)
+  out_stays =
+      bit_stays (λ work. is_some work.out) table.out (works_of table.rows.items) at.in_step.out_in_step t in_works
+      ∙ ap (λ (w : TileWork). set table.out t (is_some w.out)) read
+
+  pub waiting_stays : table.waiting ≡ set table.waiting t (is_some_hint row.inbox.hints)
+  waiting_stays =
+      bit_stays (λ work. is_some_hint work.inbox) table.waiting (works_of table.rows.items)
+      at.in_step.waiting_in_step t in_works
+      ∙ ap (λ (w : TileWork). set table.waiting t (is_some_hint w.inbox)) read
+
+  pub row_bounded : row.generation ≤ max_generation
+  row_bounded = subst (λ (w : TileWork). w.generation ≤ max_generation) read (at.in_step.bounded t in_works)
+
+  changed_bounded : (new : TileWork) → new.generation ≤ max_generation → (u : ℕ)
+      → u < length (set (works_of table.rows.items) t new)
+      → (work_of (set (works_of table.rows.items) t new) u).generation ≤ max_generation
+  changed_bounded new most u within =
+      let works = works_of table.rows.items in
+      let same = length-set works t new in
+      let there : u < length works = omega (arith, same, within) in
+      elim (cases_eq u t) [
+        | inl here ↦
+            subst (λ (w : TileWork). w.generation ≤ max_generation)
+            (sym (ap (λ i. get_or (set works t new) i idle) here ∙ get_or-set_same works t new idle in_works)) most
+        | inr other ↦
+            subst (λ (w : TileWork). w.generation ≤ max_generation)
+            (sym (get_or-set_other works t u new idle other)) (at.in_step.bounded u there)
+      ]
+
+  -- the sets that say what the new row says are in step with the rows
+  pub stays_in_step : (new : TileRow) → new.generation ≤ max_generation → (dirty out waiting : List Bool)
+      → dirty ≡ set table.dirty t new.dirty → out ≡ set table.out t (is_some new.out)
+      → waiting ≡ set table.waiting t (is_some_hint new.inbox.hints)
+      → AreInStep (works_of (set table.rows.items t new)) dirty out waiting
+  stays_in_step new most dirty out waiting dirty_is out_is waiting_is =
+      let work = as_work new in
+      let works = works_of table.rows.items in
+      let step = at.in_step in
+      let changed : AreInStep (set works t work) dirty out waiting = record {
+        dirty_in_step = dirty_is ∙ bit_changes (λ work. work.dirty) table.dirty works step.dirty_in_step t work;
+        out_in_step = out_is ∙ bit_changes (λ work. is_some work.out) table.out works step.out_in_step t work;
+        waiting_in_step =
+            waiting_is ∙ bit_changes (λ work. is_some_hint work.inbox) table.waiting works step.waiting_in_step t work;
+        bounded = changed_bounded work most;
+      } in
+      subst (λ (works : List TileWork). AreInStep works dirty out waiting)
+      (sym (map-set as_work table.rows.items t new)) changed
+
+-- a row of which only the inbox changes
+pub row_with_inbox : (row new : TileRow) (hints : List Hint) → new ≡ record row { inbox = new.inbox }
+    → new.inbox.hints ≡ hints → as_work new ≡ record (as_work row) { inbox = hints }
+row_with_inbox row new hints same hints_are = ap as_work same ∙ ap (λ hs. record (as_work row) { inbox = hs }) hints_are
+
+pub is_some_hint_at : (hints : List Hint) (place : ℕ) → place < length hints → is_some_hint hints ≡ true
+is_some_hint_at [] place within = absurd (omega arith)
+is_some_hint_at (hint ∷ hints) place within = refl
+
+-- ---- tables without work
+
+map-replicate : {X Y : Type 0} (f : X → Y) (n : ℕ) (x : X) → map f (replicate n x) ≡ replicate n (f x)
+map-replicate f zero x = refl
+map-replicate f (suc n) x = ap (λ ys. f x ∷ ys) (map-replicate f n x)
+
+pub fresh_in_step : (works : List TileWork) (n first : ℕ) → works ≡ replicate n (fresh first) → first ≤ max_generation
+    → (d o w : List Bool) → d ≡ replicate n false → o ≡ replicate n false → w ≡ replicate n false
+    → AreInStep works d o w
+fresh_in_step works n first same most d o w d_is o_is w_is = record {
+  dirty_in_step = d_is ∙ sym (ap dirty_bits same ∙ map-replicate (λ work. work.dirty) n (fresh first));
+  out_in_step = o_is ∙ sym (ap out_bits same ∙ map-replicate (λ work. is_some work.out) n (fresh first));
+  waiting_in_step =
+      w_is ∙ sym (ap waiting_bits same ∙ map-replicate (λ work. is_some_hint work.inbox) n (fresh first));
+  bounded = λ t within.
+      let count = ap length same in
+      let filled = length-replicate n (fresh first) in
+      let there : t < n = omega arith in
+      subst (λ (w : TileWork). w.generation ≤ max_generation)
+      (sym (ap (λ (works : List TileWork). work_of works t) same ∙ get_or-replicate n t (fresh first) idle there)) most;
+}
+
+-- ---- what the sets say
+
+-- a set has a tile exactly where its row says so
+has_bit : (says : TileWork → Bool) (bits : List Bool) (works : List TileWork) → bits ≡ map says works → (t : ℕ)
+    → Has bits t ↔ ((t < length works) × IsTrue (says (work_of works t)))
+has_bit says bits works same t =
+    let count : length bits ≡ length works = ap length same ∙ length-map works says in
+    let bit : t < length works → get_or bits t false ≡ says (work_of works t) =
+    λ within. ap (λ (b : List Bool). get_or b t false) same ∙ get_or-map says works t idle false within in (
+      λ has. let there : t < length works = (let h = has.0 in omega arith) in (there, sym (bit there) ∙ has.1),
+      λ says_so. ((let h = says_so.0 in omega arith), bit says_so.0 ∙ says_so.1),
+    )
+
+pub dirty_says : (works : List TileWork) (dirty : List Bool) → dirty ≡ dirty_bits works → (t : ℕ)
+    → Has dirty t ↔ IsDirtyTile works t
+dirty_says works dirty same = has_bit (λ work. work.dirty) dirty works same
+
+pub out_says : (works : List TileWork) (out : List Bool) → out ≡ out_bits works → (t : ℕ)
+    → Has out t ↔ HasJobOut works t
+out_says works out same = has_bit (λ work. is_some work.out) out works same
+
+pub some_hint_there : (hints : List Hint) → is_some_hint hints ≡ true → hints ≢ []
+some_hint_there [] there none = absurd cc
+some_hint_there (hint ∷ hints) there none = absurd cc
+
+pub there_is_some_hint : (hints : List Hint) → (hints ≢ []) → is_some_hint hints ≡ true
+there_is_some_hint [] some = absurd (some refl)
+there_is_some_hint (hint ∷ hints) some = refl
+
+pub waiting_says : (works : List TileWork) (waiting : List Bool) → waiting ≡ waiting_bits works → (t : ℕ)
+    → Has waiting t ↔ HasHintsAt works t
+waiting_says works waiting same t =
+    let bit = has_bit (λ work. is_some_hint work.inbox) waiting works same t in (
+      λ has. let there = bit.0 has in (there.0, some_hint_there (work_of works t).inbox there.1),
+      λ some. bit.1 (some.0, there_is_some_hint (work_of works t).inbox some.1),
+    )
+
+-- the first of a set is the least of what the set says
+pub least_of_first : (bits : List Bool) (P : ℕ → Type 0) → ((t : ℕ) → Has bits t ↔ P t) → (first : Option ℕ)
+    → MatchOption first (HasNoneFrom bits 0) (IsFirstFrom bits 0)
+    → MatchOption first ((t : ℕ) → P t → ⊥) (IsLeast P)
+least_of_first bits P says None none = λ t p. none t (omega arith) ((says t).1 p)
+least_of_first bits P says (Some t) first =
+    ((says t).0 first.has, λ u p. first.first u (omega arith) ((says u).1 p))
+
+module _ (table : Inside) (now : List TileWork) (view_is : works_of table.rows.items ≡ now)
+    (in_step : AreInStep (works_of table.rows.items) table.dirty table.out table.waiting) (first : Option ℕ) where
+  pub first_dirty_of_table : MatchOption first (HasNoneFrom table.dirty 0) (IsFirstFrom table.dirty 0)
+      → MatchOption first ((t : ℕ) → IsDirtyTile now t → ⊥) (IsLeast (IsDirtyTile now))
+  first_dirty_of_table =
+      least_of_first table.dirty (IsDirtyTile now)
+      (dirty_says now table.dirty (in_step.dirty_in_step ∙ ap dirty_bits view_is)) first
+
+  pub first_out_of_table : MatchOption first (HasNoneFrom table.out 0) (IsFirstFrom table.out 0)
+      → MatchOption first ((t : ℕ) → HasJobOut now t → ⊥) (IsLeast (HasJobOut now))
+  first_out_of_table =
+      least_of_first table.out (HasJobOut now)
+      (out_says now table.out (in_step.out_in_step ∙ ap out_bits view_is)) first
+
+  pub first_waiting_of_table : MatchOption first (HasNoneFrom table.waiting 0) (IsFirstFrom table.waiting 0)
+      → MatchOption first ((t : ℕ) → HasHintsAt now t → ⊥) (IsLeast (HasHintsAt now))
+  first_waiting_of_table =
+      least_of_first table.waiting (HasHintsAt now)
+      (waiting_says now table.waiting (in_step.waiting_in_step ∙ ap waiting_bits view_is)) first
+
+-- ---- idle tiles
+
+clean_when : (dirty : Bool) → (IsTrue dirty → ⊥) → dirty ≡ false
+clean_when true never = absurd (never refl)
+clean_when false never = refl
+
+none_when : (out : Option ℕ) → (is_some out ≡ true → ⊥) → out ≡ None
+none_when None never = refl
+none_when (Some serial) never = absurd (never refl)
+
+empty_when : (hints : List Hint) → (hints ≢ [] → ⊥) → hints ≡ []
+empty_when [] never = refl
+empty_when (hint ∷ hints) never = absurd (never (λ none. absurd cc))
+
+-- no tile has a job out
+pub no_job_out : (works : List TileWork) → ((t : ℕ) → HasJobOut works t → ⊥) → (t : ℕ) → t < length works
+    → (work_of works t).out ≡ None
+no_job_out works none t within = none_when (work_of works t).out (λ some. none t (within, some))
+
+pub idle_when : (works : List TileWork) → ((t : ℕ) → IsDirtyTile works t → ⊥) → ((t : ℕ) → HasJobOut works t → ⊥)
+    → ((t : ℕ) → HasHintsAt works t → ⊥) → (t : ℕ) → t < length works → IsIdle (work_of works t)
+idle_when works clean none_out empty t within = record {
+  clean = clean_when (work_of works t).dirty (λ yes. clean t (within, yes));
+  none_out = no_job_out works none_out t within;
+  empty = empty_when (work_of works t).inbox (λ some. empty t (within, some));
+}
+
+module _ (works : List TileWork) (quiet : (t : ℕ) → t < length works → IsIdle (work_of works t)) where
+  pub none_dirty : (t : ℕ) → IsDirtyTile works t → ⊥
+  none_dirty t dirty = let no = (quiet t dirty.0).clean in let yes = dirty.1 in absurd cc
+
+  pub none_out : (t : ℕ) → HasJobOut works t → ⊥
+  none_out t out =
+      let no : is_some (work_of works t).out ≡ false = ap is_some (quiet t out.0).none_out in
+      let yes = out.1 in
+      absurd cc
+
+  pub none_waiting : (t : ℕ) → HasHintsAt works t → ⊥
+  none_waiting t some = some.1 (quiet t some.0).empty
+
+none_of : (first : Option ℕ) (P : Type 0) (Q : ℕ → Type 0) → MatchOption first P Q → is_some first ≡ false → P
+none_of None P Q holds none = holds
+none_of (Some t) P Q holds none = absurd cc
+
+answer_when_none : (first : Option ℕ) (P : ℕ → Type 0) → MatchOption first ((t : ℕ) → P t → ⊥) (IsLeast P)
+    → ((t : ℕ) → P t → ⊥) → (answer : Bool) → is_some first ≡ not answer → answer ≡ true
+answer_when_none None P holds none true says = refl
+answer_when_none None P holds none false says = absurd cc
+answer_when_none (Some t) P holds none answer says = absurd (none t holds.0)
+
+-- where no tile is dirty and none has a job out, a table is quiet exactly where no hint waits
+pub quiet_without_hints : (works : List TileWork) (first_dirty first_out first_waiting : Option ℕ)
+    → MatchOption first_dirty ((t : ℕ) → IsDirtyTile works t → ⊥) (IsLeast (IsDirtyTile works))
+    → MatchOption first_out ((t : ℕ) → HasJobOut works t → ⊥) (IsLeast (HasJobOut works))
+    → MatchOption first_waiting ((t : ℕ) → HasHintsAt works t → ⊥) (IsLeast (HasHintsAt works))
+    → is_some first_dirty ≡ false → is_some first_out ≡ false → (answer : Bool) → is_some first_waiting ≡ not answer
+    → IsTrue answer ↔ ((t : ℕ) → t < length works → IsIdle (work_of works t))
+quiet_without_hints works first_dirty first_out first_waiting dirty out waiting clean ended answer says = (
+  λ yes.
+      idle_when works (none_of first_dirty _ _ dirty clean) (none_of first_out _ _ out ended)
+      (none_of first_waiting _ _ waiting (says ∙ ap not yes)),
+  λ idle. answer_when_none first_waiting (HasHintsAt works) waiting (none_waiting works idle) answer says,
+)
+
+-- ---- how many tiles are dirty
+
+abbrev one_if : Bool → ℕ
+one_if dirty = cond dirty 1 0
+
+at_most_one : (dirty : Bool) → one_if dirty ≤ 1
+at_most_one true = omega arith
+at_most_one false = omega arith
+
+module _ (works : List TileWork) (t : ℕ) (new : TileWork) (within : t < length works) where
+  count_moves : dirty_count (set works t new) + one_if (work_of works t).dirty
+      ≡ dirty_count works + one_if new.dirty
+  count_moves = sum_by-set (λ (work : TileWork). one_if work.dirty) works t new idle within
+
+  -- a tile that stays dirty or clean keeps the number
+  pub as_many_dirty : new.dirty ≡ (work_of works t).dirty → dirty_count (set works t new) ≡ dirty_count works
+  as_many_dirty same =
+      let moves = count_moves in
+      let bit : one_if new.dirty ≡ one_if (work_of works t).dirty = ap one_if same in
+      omega (arith, moves, bit)
+
+  -- a tile that becomes clean lowers it by 1
+  pub one_fewer_dirty : IsTrue (work_of works t).dirty → new.dirty ≡ false
+      → dirty_count (set works t new) + 1 ≡ dirty_count works
+  one_fewer_dirty dirty clean =
+      let moves = count_moves in
+      let was : one_if (work_of works t).dirty ≡ 1 = ap one_if dirty in
+      let is : one_if new.dirty ≡ 0 = ap one_if clean in
+      omega (arith, moves, was, is)
+
+  -- whatever happens at a tile raises it by at most 1
+  pub at_most_one_more_dirty : dirty_count (set works t new) ≤ dirty_count works + 1
+  at_most_one_more_dirty =
+      let moves = count_moves in
+      let few = at_most_one new.dirty in
+      omega (arith, moves, few)
+
+-- lists with the same dirty tiles have as many
+pub same_dirty_count : (old new : List TileWork) → dirty_bits new ≡ dirty_bits old → dirty_count new ≡ dirty_count old
+same_dirty_count [] [] same = refl
+same_dirty_count [] (work ∷ works) same = absurd cc
+same_dirty_count (work ∷ works) [] same = absurd cc
+same_dirty_count (old ∷ olds) (new ∷ news) same =
+    let head : new.dirty ≡ old.dirty = cc in
+    let tail : dirty_bits news ≡ dirty_bits olds = cc in
+    let rest = same_dirty_count olds news tail in
+    let bit : one_if new.dirty ≡ one_if old.dirty = ap one_if head in
+    let new_is = sum_by-cons (λ (work : TileWork). one_if work.dirty) new news in
+    let old_is = sum_by-cons (λ (work : TileWork). one_if work.dirty) old olds in
+    omega (arith, rest, bit, new_is, old_is)

@@ -1,0 +1,5 @@
+use Rattle.tile_work.proofs.TileSetWords.{IsWritten-set}
+use Rattle.tile_work.proofs.tile_set.set_place.Goals as goal
+
+pub returns : goal.returns
+returns c = IsWritten-set c.args.words.now c.args.place c.requires

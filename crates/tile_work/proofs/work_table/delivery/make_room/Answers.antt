@@ -1,0 +1,32 @@
+use Rattle.std.proofs.Common.{◌≡◌, ◌<◌, get_or, length, sym, ap, ◌∙◌, below_more, arith}
+use Rattle.std.specs.Prelude.{slice_index}
+use Rattle.tile_work.specs.declared.work_table.row.TileRow.{TileRow}
+use Rattle.tile_work.specs.WorkTable.{as_work}
+use Rattle.tile_work.proofs.WorkTableHints.{read_again, works_stay, room_there, room_kept, ok_part}
+use Rattle.tile_work.proofs.work_table.delivery.make_room.Goals as goal
+
+pub loop-place-preserved : goal.loop-place-preserved
+loop-place-preserved c =
+    let rows = c.loop-place.rows in
+    let t = slice_index c.args.tiles.now c.loop-place.place in
+    let row = get_or rows t c.index-rows-tile.result in
+    let new : TileRow = record row { inbox = c.reserve.new.self } in
+    let in_tiles = c.loop-place-test.true in
+    let at = c.requires.tiles c.loop-place.place 0 in_tiles in
+    let count = c.loop-place.auto.rows in
+    let within : t < length rows = omega (arith, at, count) in
+    let is = read_again rows t c.index-rows-tile.result within in
+    let same : as_work new ≡ as_work row = ap (λ hs. record (as_work row) { inbox = hs }) c.reserve.ensures.hints in
+    record {
+      works = works_stay rows t row new within is same ∙ c.loop-place.invariant.works;
+      room =
+          below_more _ _
+          (λ k h.
+          let before = c.loop-place.invariant.room k h in
+          let kept = room_kept rows t row new within is c.reserve.ensures.grown (slice_index c.args.tiles.now k) in
+          omega (arith, before, kept))
+          (let there = room_there rows t row new within is in
+          let no_error = sym c.is_err.ensures.value ∙ c.if-is_err.false in
+          let enough = ok_part c.reserve.result _ no_error c.reserve.ensures.room in
+          omega (arith, there, enough));
+    }

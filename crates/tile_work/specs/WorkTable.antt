@@ -1,0 +1,93 @@
+-- The work that is left at each tile as the table of a core stores it, and what the table answers.
+use Rattle.std.specs.Prelude.{◌≡◌, ◌≢◌, ℕ, ◌<◌, ◌≤◌, ◌==◌, Bool, true, false, List, [], ◌∷◌, map, length, filter}
+use Rattle.std.specs.Prelude.{count_by, is_some, IsTrue, IsSome, slice_index_or}
+use Rattle.grid_core.specs.Raster.{IsInside}
+use Rattle.grid_core.specs.Tiles.{Tiles, AreTouching, tile_of}
+use Rattle.border_queues.specs.declared.hint.Hint.{Hint}
+use Rattle.tile_generations.specs.Generations.{max_generation}
+use Rattle.tile_work.specs.declared.work_table.row.TileRow.{TileRow}
+use Rattle.core_rules.specs.Work.{TileWork, idle}
+use Rattle.core_rules.specs.Sweeps.{received}
+
+-- the work that is left at a tile
+abbrev pub work_of : List TileWork → ℕ → TileWork
+work_of works t = slice_index_or works t idle
+
+-- the tile is dirty
+abbrev pub IsDirtyTile : List TileWork → ℕ → Type 0
+IsDirtyTile works t = (t < length works) × IsTrue (work_of works t).dirty
+
+-- a job of the tile is out
+abbrev pub HasJobOut : List TileWork → ℕ → Type 0
+HasJobOut works t = (t < length works) × IsSome (work_of works t).out
+
+-- a hint waits at the tile
+abbrev pub HasHintsAt : List TileWork → ℕ → Type 0
+HasHintsAt works t = (t < length works) × ((work_of works t).inbox ≢ [])
+
+-- how many tiles are dirty
+abbrev pub dirty_count : List TileWork → ℕ
+dirty_count works = count_by (λ work. work.dirty) works
+
+-- ---- hints that come
+
+-- the hints whose pixel lies in the tile, in their order
+abbrev pub hints_at : Tiles → ℕ → List Hint → List Hint
+hints_at tiles t hints = filter (λ hint. tile_of tiles hint.to_pixel == t) hints
+
+-- the hint's pixel is inside the image
+abbrev pub IsToInside : Tiles → Hint → Type 0
+IsToInside tiles hint = IsInside tiles.width tiles.height hint.to_pixel
+
+-- the hint goes to a tile that touches this one
+pub record IsToTouching (tiles : Tiles) (from : ℕ) (hint : Hint) : Type 0 where
+  pub inside : IsToInside tiles hint
+  pub touching : AreTouching tiles from (tile_of tiles hint.to_pixel)
+
+-- each tile received those of the hints that go to it
+pub record AreReceived (tiles : Tiles) (hints : List Hint) (old new : List TileWork) : Type 0 where
+  pub count : length new ≡ length old
+  pub each : (t : ℕ) → t < length old → work_of new t ≡ received (work_of old t) (hints_at tiles t hints)
+
+-- ---- the stored form
+
+-- the work that a row stores
+abbrev pub as_work : TileRow → TileWork
+as_work row = record {
+  generation = row.generation;
+  dirty = row.dirty;
+  out = row.out;
+  inbox = row.inbox.hints;
+}
+
+-- the work that the rows store
+abbrev pub works_of : List TileRow → List TileWork
+works_of rows = map as_work rows
+
+-- how many more hints there is room for at each row
+abbrev pub rooms_of : List TileRow → List ℕ
+rooms_of rows = map (λ row. row.inbox.room) rows
+
+-- whether a hint is in the list
+abbrev pub is_some_hint : List Hint → Bool
+is_some_hint [] = false
+is_some_hint (hint ∷ hints) = true
+
+-- which tiles are dirty
+abbrev pub dirty_bits : List TileWork → List Bool
+dirty_bits works = map (λ work. work.dirty) works
+
+-- which tiles have a job out
+abbrev pub out_bits : List TileWork → List Bool
+out_bits works = map (λ work. is_some work.out) works
+
+-- at which tiles hints wait
+abbrev pub waiting_bits : List TileWork → List Bool
+waiting_bits works = map (λ work. is_some_hint work.inbox) works
+
+-- the three sets say what the rows say, and no generation is above the greatest
+pub record AreInStep (works : List TileWork) (dirty out waiting : List Bool) : Type 0 where
+  pub dirty_in_step : dirty ≡ dirty_bits works
+  pub out_in_step : out ≡ out_bits works
+  pub waiting_in_step : waiting ≡ waiting_bits works
+  pub bounded : (t : ℕ) → t < length works → (work_of works t).generation ≤ max_generation

@@ -1,0 +1,171 @@
+//! Sets of tiles, as words of bits.
+
+ghost use Rattle.std.specs.Prelude.{◌≡◌, ℕ, ◌+◌, ◌*◌, ◌/◌, ◌^◌, ◌<◌, ◌≤◌, length, replicate, true, false, IfOk, IfSome};
+ghost use Rattle.std.specs.Prelude.{MatchOption, slice_index_or, slice_set};
+ghost use Rattle.std.specs.Int.{bit_at};
+ghost use Rattle.tile_work.specs.TileSet.{HasNoneFrom, IsFirstFrom, bit_of, IsLowestFrom, IsWritten};
+
+use grid_core::Memory;
+use std::alloc::Global;
+use std::marker::Model;
+
+/// A set of the tiles of an image, as words of bits.
+#[derive(Debug, Drop)]
+pub struct TileSet {
+    count: usize,
+    // Bit t % 64 of word t / 64 says whether tile t is in the set.
+    words: Vec<u64>,
+    // Bit w % 64 of word w / 64 says whether `words[w]` is not 0.
+    summary: Vec<u64>,
+}
+
+impl Model for TileSet {
+    ghost use Rattle.std.specs.Prelude.{Bool, List};
+    ghost use Rattle.tile_work.specs.TileSet.{tiles_of, IsSummed};
+
+    ghost Value = { List Bool };
+
+    ghost view = { λ s. tiles_of s.count s.words.items };
+
+    ghost invariant = { λ s. IsSummed s.count s.words.items s.summary.items };
+}
+
+impl TileSet {
+    /// The empty set, over so many tiles.
+    ///
+    /// Errors: out of memory.
+    pub fn empty(alloc: Global, count: usize) -> Result<TileSet, Memory>
+        ensures { IfOk result (λ set. set ≡ replicate count false) }
+    {
+        let words = vec![in alloc; 0; count / 64 + 1]?;
+        let summary = vec![in alloc; 0; words.len() / 64 + 1]?;
+        Ok(TileSet {
+            count,
+            words,
+            summary,
+        })
+    }
+
+    /// How many tiles there are, in the set or not.
+    pub fn len(&self) -> usize
+        ensures { result ≡ length self.now }
+    {
+        self.count
+    }
+
+    /// Whether the tile is in the set.
+    pub fn contains(&self, tile: usize) -> bool
+        requires { tile < length self.now }
+        ensures { result ≡ slice_index_or self.now tile false }
+    {
+        self.words[tile / 64] >> (tile % 64) & 1 == 1
+    }
+
+    /// Puts the tile into the set. It takes no memory.
+    pub fn insert(&mut self, tile: usize)
+        requires { tile < length self.old }
+        ensures { self.new ≡ slice_set self.old tile true }
+    {
+        set_place(&mut self.words, tile);
+        set_place(&mut self.summary, tile / 64);
+    }
+
+    /// Takes the tile out of the set.
+    pub fn remove(&mut self, tile: usize)
+        requires { tile < length self.old }
+        ensures { self.new ≡ slice_set self.old tile false }
+    {
+        clear_place(&mut self.words, tile);
+        if self.words[tile / 64] == 0 {
+            clear_place(&mut self.summary, tile / 64);
+        }
+    }
+
+    /// The first tile of the set from `start` on, if there is one.
+    pub fn first_from(&self, start: usize) -> Option<usize>
+        ensures { MatchOption result (HasNoneFrom self.now start) (IsFirstFrom self.now start) }
+    {
+        if start >= self.count {
+            return None;
+        }
+        let word = start / 64;
+        if let Some(bit) = lowest_bit(self.words[word], start % 64) {
+            return Some(word * 64 + bit);
+        }
+        let next = lowest_place(&self.summary, word + 1)?;
+        Some(next * 64 + self.words[next].trailing_zeros() as usize)
+    }
+
+    /// Takes all tiles out of the set. It costs about the tiles that are in it.
+    pub fn clear(&mut self)
+        ensures { self.new ≡ replicate (length self.old) false }
+    {
+        clear_words(&mut self.words, &self.summary);
+        self.summary.fill(0);
+    }
+}
+
+// Sets the bit at the place.
+fn set_place(words: &mut [u64], place: usize)
+    requires { place < 64 * length words.old }
+    ensures { IsWritten words.old words.new place 1 }
+{
+    words[place / 64] |= 1 << (place % 64);
+}
+
+// Clears the bit at the place.
+fn clear_place(words: &mut [u64], place: usize)
+    requires { place < 64 * length words.old }
+    ensures { IsWritten words.old words.new place 0 }
+{
+    words[place / 64] &= !(1 << (place % 64));
+}
+
+// The lowest bit that is set in the word, of those from `from` on.
+fn lowest_bit(word: u64, from: usize) -> Option<usize>
+    requires { from < 64 }
+    ensures set { MatchOption result ((bit : ℕ) → from ≤ bit → bit_at word bit ≡ 0) (IsLowestFrom (bit_at word) from) }
+    ensures within { IfSome result (λ bit. bit < 64) }
+{
+    let rest = word >> from;
+    if rest == 0 {
+        None
+    } else {
+        Some(from + rest.trailing_zeros() as usize)
+    }
+}
+
+// The lowest place whose bit is set, of those from `start` on.
+fn lowest_place(words: &[u64], start: usize) -> Option<usize>
+    requires { 64 * length words.now < 2 ^ 64 }
+    ensures { MatchOption result ((place : ℕ) → start ≤ place → bit_of words.now place ≡ 0)
+        (IsLowestFrom (bit_of words.now) start) }
+{
+    let word = start / 64;
+    if word >= words.len() {
+        return None;
+    }
+    if let Some(bit) = lowest_bit(words[word], start % 64) {
+        return Some(word * 64 + bit);
+    }
+    for next in word + 1..words.len() {
+        if words[next] != 0 {
+            return Some(next * 64 + words[next].trailing_zeros() as usize);
+        }
+    }
+    None
+}
+
+// Makes each word 0. The words that are not 0 have their bits set in the summary.
+fn clear_words(words: &mut [u64], summary: &[u64])
+    requires count { 64 * length summary.now < 2 ^ 64 }
+    requires within { (word : ℕ) → bit_of summary.now word ≡ 1 → word < length words.old }
+    requires summed { (place : ℕ) → bit_of words.old place ≡ 1 → bit_of summary.now (place / 64) ≡ 1 }
+    ensures { (place : ℕ) → bit_of words.new place ≡ 0 }
+{
+    let mut from = 0;
+    while let Some(word) = lowest_place(summary, from) {
+        words[word] = 0;
+        from = word + 1;
+    }
+}

@@ -1,0 +1,68 @@
+//! The rows of the table of the work that is left at each tile.
+
+ghost use Rattle.std.specs.Prelude.{◌≡◌, ◌+◌, ◌<◌, ◌≤◌, ◌↔◌, ℕ, [], ◌∷◌, ◌++◌, length, remove, replicate, slice_get};
+ghost use Rattle.std.specs.Prelude.{IfOk, OnOk, OnErr, IsTrue, IsOk};
+ghost use Rattle.core_rules.specs.Opening.{fresh};
+ghost use Rattle.tile_work.specs.WorkTable.{as_work, works_of};
+
+use border_queues::{Hint, Inbox};
+use grid_core::Memory;
+use std::alloc::Global;
+
+/// The work that is left at one tile.
+#[derive(Debug, Drop)]
+pub(crate) struct TileRow {
+    pub(crate) generation: u64,
+    pub(crate) dirty: bool,
+    pub(crate) out: Option<u64>,
+    pub(crate) inbox: Inbox,
+}
+
+impl TileRow {
+    /// The hint at this place of the inbox, if there is one.
+    pub(crate) fn hint(&self, place: usize) -> Option<Hint>
+        ensures { result ≡ slice_get self.now.inbox.hints place }
+    {
+        self.inbox.as_slice().get(place).copied()
+    }
+
+    /// Takes the hint at this place out of the inbox, and says whether that was the last one there.
+    pub(crate) fn remove_hint(&mut self, place: usize) -> bool
+        requires { place < length self.old.inbox.hints }
+        ensures row { self.new ≡ record self.old { inbox = self.new.inbox } }
+        ensures hints { self.new.inbox.hints ≡ remove self.old.inbox.hints place }
+        ensures empty { IsTrue result ↔ (self.new.inbox.hints ≡ []) }
+    {
+        self.inbox.take_at(place);
+        self.inbox.is_empty()
+    }
+
+    /// Puts a hint behind those that wait, where there is room for it.
+    pub(crate) fn push_hint(&mut self, hint: Hint)
+        requires { 0 < self.old.inbox.room }
+        ensures row { self.new ≡ record self.old { inbox = self.new.inbox } }
+        ensures hints { self.new.inbox.hints ≡ self.old.inbox.hints ++ hint ∷ [] }
+        ensures room { self.old.inbox.room ≤ self.new.inbox.room + 1 }
+    {
+        let pushed = self.inbox.push(hint);
+        prove!(pushed.is_ok());
+    }
+}
+
+/// So many rows of the generation `first`, with no work.
+///
+/// Errors: out of memory.
+pub(crate) fn rows_from(alloc: Global, count: usize, first: u64) -> Result<Vec<TileRow>, Memory>
+    ensures { IfOk result (λ rows. works_of rows.items ≡ replicate count (fresh first)) }
+{
+    let mut rows = Vec::with_capacity(alloc, count)?;
+    for _tile in 0..count {
+        rows.push(TileRow {
+            generation: first,
+            dirty: false,
+            out: None,
+            inbox: Inbox::new(alloc),
+        })?;
+    }
+    Ok(rows)
+}
