@@ -19,9 +19,15 @@ fn read(alloc: Global, words: &[&str]) -> Result<Result<Call, RunError>, Fail> {
     Ok(read_words(alloc, &words))
 }
 
-// The words are read, and say tiles of side 64.
-fn reads(rt: &impl Abort, alloc: Global, words: &[&str], conn: Conn) -> Result<(), Fail> {
-    let call = Call::View { conn, side: 64 };
+// The words are read, and say such a view.
+fn reads(
+    rt: &impl Abort,
+    alloc: Global,
+    words: &[&str],
+    conn: Conn,
+    side: u32,
+) -> Result<(), Fail> {
+    let call = Call::View { conn, side };
     assert_eq!(rt; read(alloc, words)?, Ok(call), "{words:?}");
     Ok(())
 }
@@ -29,12 +35,12 @@ fn reads(rt: &impl Abort, alloc: Global, words: &[&str], conn: Conn) -> Result<(
 #[test]
 fn words_of_a_view(rt: HostRuntime) -> Result<(), Fail> {
     let alloc = rt.alloc();
-    reads(&rt, alloc, &[], Conn::Four)?;
-    reads(&rt, alloc, &["view"], Conn::Four)?;
-    reads(&rt, alloc, &["view", "--conn", "4"], Conn::Four)?;
-    reads(&rt, alloc, &["view", "--conn", "8"], Conn::Eight)?;
-    reads(&rt, alloc, &["view", "--conn=8"], Conn::Eight)?;
-    reads(&rt, alloc, &["view", "--conn", "8", "--"], Conn::Eight)
+    reads(&rt, alloc, &[], Conn::Four, 64)?;
+    reads(&rt, alloc, &["view"], Conn::Four, 64)?;
+    reads(&rt, alloc, &["view", "--conn", "4"], Conn::Four, 64)?;
+    reads(&rt, alloc, &["view", "--conn", "8"], Conn::Eight, 64)?;
+    reads(&rt, alloc, &["view", "--conn=8"], Conn::Eight, 64)?;
+    reads(&rt, alloc, &["view", "--conn", "8", "--"], Conn::Eight, 64)
 }
 
 #[test]
@@ -50,11 +56,7 @@ fn words_that_name_a_side(rt: HostRuntime) -> Result<(), Fail> {
         (&["view", "--tile", "9", "--"], Conn::Four, 9),
     ];
     for (words, conn, side) in cases {
-        assert_eq!(rt;
-            read(alloc, words)?,
-            Ok(Call::View { conn, side }),
-            "{words:?}"
-        );
+        reads(&rt, alloc, words, conn, side)?;
     }
     Ok(())
 }
