@@ -13,6 +13,13 @@ spiral  a corridor one pixel wide that winds inwards, one seed at its outer end
 maze    a perfect maze of corridors one pixel wide, one seed
 noise   16-bit white noise, a few seeds
 
+Families for one edit on a settled image. At a side of 4096 they have 5,000 cells, and behind the other edits 200 that
+are measured: a stroke is placed on a cell and withdrawn again, on 100 cells.
+
+few-lit     cells on black ground, a stroke on every fifth
+all-lit     the same, a stroke on each
+lit-ground  as few-lit, on a noisy ground that is nowhere 0
+
 The same bytes come out each time, and on every machine: random numbers are of
 numpy's frozen RandomState with a fixed seed, and of them only sums, products,
 quotients and square roots are taken.
@@ -57,20 +64,26 @@ class Strokes:
         self.lines.append(f"withdraw {self.lines[-1].split()[1]}")
 
 
+def draw_cell(mask, generator):
+    """Draw a round cell with a noisy dome of light at a random place; give its middle and its light."""
+    row, column = generator.randint(mask.shape[0]), generator.randint(mask.shape[1])
+    radius, light = generator.randint(9, 23), generator.randint(130, 230)
+    top, left = max(0, row - radius), max(0, column - radius)
+    window = mask[top:row + radius + 1, left:column + radius + 1]
+    rows, columns = numpy.ogrid[:window.shape[0], :window.shape[1]]
+    distance = ((rows + (top - row)) ** 2 + (columns + (left - column)) ** 2) / radius ** 2
+    body = light * (1 - 0.5 * distance) + generator.randint(-20, 21, window.shape)
+    body = numpy.where(distance <= 1, body, 0)
+    window[:] = numpy.maximum(window, body.astype(numpy.uint8))
+    return row, column, light
+
+
 def cells(width, height, generator):
     """Round cells with a noisy dome of light; they cover a quarter of the image."""
     mask = numpy.zeros((height, width), numpy.uint8)
     strokes = Strokes(width, height)
     for number in range(max(1, width * height // 2900)):
-        row, column = generator.randint(height), generator.randint(width)
-        radius, light = generator.randint(9, 23), generator.randint(130, 230)
-        top, left = max(0, row - radius), max(0, column - radius)
-        window = mask[top:row + radius + 1, left:column + radius + 1]
-        rows, columns = numpy.ogrid[:window.shape[0], :window.shape[1]]
-        distance = ((rows + (top - row)) ** 2 + (columns + (left - column)) ** 2) / radius ** 2
-        body = light * (1 - 0.5 * distance) + generator.randint(-20, 21, window.shape)
-        body = numpy.where(distance <= 1, body, 0)
-        window[:] = numpy.maximum(window, body.astype(numpy.uint8))
+        row, column, light = draw_cell(mask, generator)
         if number % 3 == 0:
             strokes.disc(row, column, 3, 255)
         elif number % 3 == 1:
@@ -236,8 +249,40 @@ def noise(width, height, generator):
     return mask, 65535, strokes
 
 
+def edited_cells(mask, every, generator):
+    """Round cells, a stroke on one in `every`; then 100 strokes that are placed and withdrawn again, one by one."""
+    height, width = mask.shape
+    strokes = Strokes(width, height)
+    middles = []
+    for number in range(max(100, width * height // 3355)):
+        row, column, light = draw_cell(mask, generator)
+        middles.append((row, column))
+        if number % every == 0:
+            strokes.dash(row, column, 2, light // 2)
+    for row, column in middles[::-(len(middles) // 100)][:100]:
+        strokes.disc(row, column, 3, 255)
+        strokes.withdraw_last()
+    return mask, 255, strokes
+
+
+def few_lit(width, height, generator):
+    """Cells on black ground, of which few are lit."""
+    return edited_cells(numpy.zeros((height, width), numpy.uint8), 5, generator)
+
+
+def all_lit(width, height, generator):
+    """Cells on black ground, each of them lit."""
+    return edited_cells(numpy.zeros((height, width), numpy.uint8), 1, generator)
+
+
+def lit_ground(width, height, generator):
+    """Cells on a noisy ground over which light spreads everywhere."""
+    return edited_cells(generator.randint(10, 41, (height, width), numpy.uint8), 5, generator)
+
+
 FAMILIES = {"cells": cells, "plates": plates, "map": height_lines,
-            "spiral": spiral, "maze": maze, "noise": noise}
+            "spiral": spiral, "maze": maze, "noise": noise,
+            "few-lit": few_lit, "all-lit": all_lit, "lit-ground": lit_ground}
 
 
 def make(family, width, height):
