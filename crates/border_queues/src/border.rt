@@ -34,6 +34,7 @@ pub struct Border<'a> {
 
 impl Border<'_> {
     // The value of a pixel of the tile.
+    #[inline(always)]
     fn value(&self, p: Pixel) -> u32
         requires border { IsBorder self.now }
         requires own { IsInRect self.now.rect p }
@@ -46,6 +47,7 @@ impl Border<'_> {
     }
 
     // Tells a neighbour of a pixel of this value, if it lies in another tile and can rise.
+    #[inline(always)]
     fn push_open(&self, value: u32, q: Pixel, out: &mut Inbox)
         requires border { IsBorder self.now }
         requires inside { IsInside self.now.tiling.width self.now.tiling.height q }
@@ -69,6 +71,7 @@ impl Border<'_> {
     }
 
     // Tells the pixel at `x` and `y`, where it is wanted.
+    #[inline(always)]
     fn push_if(&self, wanted: bool, value: u32, x: u32, y: u32, out: &mut Inbox)
         requires border { IsBorder self.now }
         requires column { IsTrue wanted → x < self.now.tiling.width }
@@ -84,6 +87,7 @@ impl Border<'_> {
     }
 
     // Tells the pixel at `x` of row `y`, where the row is wanted, and those at its sides, if `sides`.
+    #[inline(always)]
     fn push_row(&self, wanted: bool, value: u32, x: u32, y: u32, sides: bool, out: &mut Inbox)
         requires border { IsBorder self.now }
         requires column { x < self.now.tiling.width }
@@ -103,6 +107,7 @@ impl Border<'_> {
     }
 
     // Tells the neighbours of the pixel of the tile at `x` and `y`.
+    #[inline(always)]
     fn push_from(&self, x: u32, y: u32, out: &mut Inbox)
         requires border { IsBorder self.now }
         requires own { IsInRect self.now.rect (record { x = x; y = y }) }

@@ -49,6 +49,7 @@ impl Inbox {
     /// Puts a hint behind the others. It succeeds where there is room.
     ///
     /// Errors: the hint and Q1, where nothing changes.
+    #[inline(always)]
     pub fn push(&mut self, hint: Hint) -> Result<(), (Hint, QueueError)>
         ensures ok { OnOk result (Adds self.old self.new (hint ∷ [])) }
         ensures enough { 0 < self.old.room → IsOk result }

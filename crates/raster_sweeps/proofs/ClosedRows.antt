@@ -1,5 +1,5 @@
 -- A row where no pixel raises the next one is raised from that side as it is.
-use Rattle.std.proofs.Common.{◌≡◌, ℕ, ◌+◌, ◌-◌, ◌<◌, ◌≤◌, List, length, take, refl, sym, arith, zero-add}
+use Rattle.std.proofs.Common.{◌≡◌, ℕ, ◌+◌, ◌-◌, ◌<◌, List, length, take, refl, sym, arith, zero-add}
 use Rattle.std.specs.List.{between}
 use Rattle.std.proofs.Math.Nat.{max-eq_left}
 use Rattle.raster_sweeps.specs.RowPairs.{IsClosedStraight}

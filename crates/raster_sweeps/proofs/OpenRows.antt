@@ -133,7 +133,7 @@ module _ (conn : Conn) (rect : Rect) (mask image : Raster) (y : ℕ) where
   up_row cell o =
       in_other_rows conn rect mask image (IsFromTo (y + 1) y) (IsUpper y) cell o (omega (arith, o.rows.0, o.rows.1))
 
-  row_cases : (cell : ℕ) → Opens (IsUpper y) cell
+  pub row_cases : (cell : ℕ) → Opens (IsUpper y) cell
       → Opens (IsFromTo y y) cell ⊎ (Opens (IsFromTo y (y + 1)) cell ⊎ Opens (IsFromTo (y + 1) y) cell)
   row_cases cell o =
       let near = rows_near conn o.pixel o.other o.raises.beside in

@@ -1,8 +1,8 @@
 -- Pairs of pixels in one row or in two rows that touch.
 use Rattle.std.proofs.Common.{◌≡◌, ℕ, ◌+◌, ◌-◌, ◌<◌, ◌≤◌, ◌↔◌, Bool, true, false, List, length, get_or, take, min, refl}
-use Rattle.std.proofs.Common.{sym, ap, ◌∙◌, zero-add}
+use Rattle.std.proofs.Common.{sym, ap, subst, ◌∙◌, zero-add}
 use Rattle.std.proofs.Common.{inl, inr, below_more, arith}
-use Rattle.std.specs.Prelude.{◌||◌}
+use Rattle.std.specs.Prelude.{◌||◌, not}
 use Rattle.std.specs.List.{between}
 use Rattle.std.proofs.lemmas.Bool.{cases_lt}
 use Rattle.std.proofs.lemmas.List.{get_or-take, length-take-le}
@@ -21,6 +21,76 @@ flag_more P i false test before here = (
   λ e. below_more P i (before.0 refl) (here.0 e),
   λ all. here.1 (all i (omega arith)),
 )
+
+-- flags that are all down
+pub two_down : (a b : Bool) → a || b ≡ false → (a ≡ false) × (b ≡ false)
+two_down false false e = (refl, refl)
+two_down false true e = absurd (let no : true ≡ false = e in cc)
+two_down true b e = absurd (let no : true ≡ false = e in cc)
+
+pub four_down : (a b c d : Bool) → ((a || b) || c) || d ≡ false
+    → (a ≡ false) × (b ≡ false) × (c ≡ false) × (d ≡ false)
+four_down a b c d e =
+    let last = two_down ((a || b) || c) d e in
+    let third = two_down (a || b) c last.0 in
+    let first = two_down a b third.0 in
+    (first.0, first.1, third.1, last.1)
+
+pub not_down : (a : Bool) → not a ≡ true → a ≡ false
+not_down false e = refl
+not_down true e = absurd (let no : false ≡ true = e in cc)
+
+-- in the columns up to i no pixel raises the one to its right or left in the first row, and none the one below or
+-- above it
+pub record AreClosedUpTo (row limits below limits_below : List ℕ) (i : ℕ) : Type 0 where
+  pub right : (k : ℕ) → k < i → min (get_or row k 0) (get_or limits (k + 1) 0) ≤ get_or row (k + 1) 0
+  pub left : (k : ℕ) → k < i → min (get_or row (k + 1) 0) (get_or limits k 0) ≤ get_or row k 0
+  pub down : (k : ℕ) → k < i → min (get_or row k 0) (get_or limits_below k 0) ≤ get_or below k 0
+  pub up : (k : ℕ) → k < i → min (get_or below k 0) (get_or limits k 0) ≤ get_or row k 0
+
+pub none_closed : (row limits below limits_below : List ℕ) → AreClosedUpTo row limits below limits_below 0
+none_closed row limits below limits_below = record {
+  right = λ k less. omega (arith, less);
+  left = λ k less. omega (arith, less);
+  down = λ k less. omega (arith, less);
+  up = λ k less. omega (arith, less);
+}
+
+module _ (row limits below limits_below : List ℕ) (i : ℕ) where
+  pub closed_more : AreClosedUpTo row limits below limits_below i
+      → min (get_or row i 0) (get_or limits (i + 1) 0) ≤ get_or row (i + 1) 0
+      → min (get_or row (i + 1) 0) (get_or limits i 0) ≤ get_or row i 0
+      → min (get_or row i 0) (get_or limits_below i 0) ≤ get_or below i 0
+      → min (get_or below i 0) (get_or limits i 0) ≤ get_or row i 0
+      → AreClosedUpTo row limits below limits_below (i + 1)
+  closed_more closed right left down up = record {
+    right = below_more (λ k. min (get_or row k 0) (get_or limits (k + 1) 0) ≤ get_or row (k + 1) 0) i closed.right right;
+    left = below_more (λ k. min (get_or row (k + 1) 0) (get_or limits k 0) ≤ get_or row k 0) i closed.left left;
+    down = below_more (λ k. min (get_or row k 0) (get_or limits_below k 0) ≤ get_or below k 0) i closed.down down;
+    up = below_more (λ k. min (get_or below k 0) (get_or limits k 0) ≤ get_or row k 0) i closed.up up;
+  }
+
+  -- the first row, as the check of both directions says it
+  pub closed_along : ((k : ℕ) → k < i → min (get_or row k 0) (get_or limits (k + 1) 0) ≤ get_or row (k + 1) 0)
+      → ((k : ℕ) → k < i → min (get_or row (k + 1) 0) (get_or limits k 0) ≤ get_or row k 0) → length row ≡ i + 1
+      → IsClosedTo AreAside row limits row
+  closed_along right left long a b within other aside =
+      elim (cases_lt a b) [
+        | inl less ↦ let next : a + 1 ≡ b = omega (arith, aside, less) in
+            subst (λ n. min (get_or row a 0) (get_or limits n 0) ≤ get_or row n 0) next
+            (right a (omega (arith, other, long, less)))
+        | inr more ↦ let next : b + 1 ≡ a = omega (arith, aside, more) in
+            subst (λ n. min (get_or row n 0) (get_or limits b 0) ≤ get_or row b 0) next
+            (left b (omega (arith, within, long, aside, more)))
+      ]
+
+  -- a check of one direction that the last column closes
+  pub closed_straight : (from mask to : List ℕ)
+      → ((k : ℕ) → k < i → min (get_or from k 0) (get_or mask k 0) ≤ get_or to k 0)
+      → min (get_or from i 0) (get_or mask i 0) ≤ get_or to i 0 → length to ≡ i + 1
+      → IsClosedStraight from mask to
+  closed_straight from mask to before last long k less =
+      below_more (λ n. min (get_or from n 0) (get_or mask n 0) ≤ get_or to n 0) i before last k (omega (arith, long))
 
 -- the list stands in the other, from a place on
 pub record IsPart (part whole : List ℕ) (start size : ℕ) : Type 0 where

@@ -33,8 +33,6 @@ pub struct Room {
 // How a growth begins, where cells are to be found whose neighbours can be raised.
 #[derive(Clone, Copy)]
 enum Start {
-    // By the check of each row.
-    Check,
     // By the check of the pixels on the rectangle's border.
     Border,
     // By the raster and the anti-raster scan.
@@ -54,8 +52,7 @@ impl Room {
 /// Raises an image inside a rectangle until it is the reconstruction there: of the part of the mask in the rectangle,
 /// as an image by itself, from what the image was. The image must be at most the mask, and the rectangle lie in it.
 ///
-/// Each row is checked for pairs of neighbours where the first can still raise the second; then a queue spreads from
-/// these, and where many pixels rise, a raster and an anti-raster scan come between (Vincent 1993). It takes no memory.
+/// A raster scan, an anti-raster scan that fills a queue, and then the queue (Vincent 1993). It takes no memory.
 pub fn grow_within(room: &mut Room, mask: &Grid, image: &mut Grid, rect: Rect, conn: Conn)
     requires below { IsBelow image.old mask.now }
     requires fits { RectFits mask.now.width mask.now.height rect }
@@ -69,15 +66,15 @@ pub fn grow_within(room: &mut Room, mask: &Grid, image: &mut Grid, rect: Rect, c
         (part rect (value_at image.old)) (part rect (value_at image.new)) }
 {
     prove!(image.width() == mask.width());
-    close(mask, image, rect, conn, &mut room.waiting, Start::Check);
+    close(mask, image, rect, conn, &mut room.waiting, Start::Scans);
 }
 
 /// Raises an image inside a rectangle as [`grow_within`] does, where only pixels on the rectangle's border can still
 /// raise a neighbour in it: where the image was grown there before, and since then pixels of the border have risen. The
 /// image must be at most the mask, and the rectangle lie in it.
 ///
-/// The pixels on the border are checked, and no others; then the queue spreads, as in [`grow_within`]. It takes no
-/// memory.
+/// The pixels on the border are checked, and no others; then a queue spreads from these, and where many pixels rise, a
+/// raster and an anti-raster scan come between. It takes no memory.
 pub fn grow_from_border(room: &mut Room, mask: &Grid, image: &mut Grid, rect: Rect, conn: Conn)
     requires below { IsBelow image.old mask.now }
     requires fits { RectFits mask.now.width mask.now.height rect }
@@ -146,10 +143,10 @@ fn close(mask: &Grid, image: &mut Grid, rect: Rect, conn: Conn, waiting: &mut Wa
     ensures grown { IsGrown conn rect mask.now image.old image.new }
     ensures closed { IsClosed (domain_in rect conn) (part rect (value_at mask.now)) (part rect (value_at image.new)) }
 {
-    let budget = budget(rect, start);
     let mut next = start;
     'rounds: loop {
         let all = fill(mask, image, rect, conn, waiting, next);
+        let budget = budget(rect, next);
         if all && drain(mask, image, rect, conn, waiting, budget) {
             return;
         }
@@ -157,14 +154,14 @@ fn close(mask: &Grid, image: &mut Grid, rect: Rect, conn: Conn, waiting: &mut Wa
     }
 }
 
-// How many cells may rise by the queue before the next scans: as many as the rectangle has where it was scanned first,
-// else an eighth of them.
+// How many cells may rise by the queue before the next scans: as many as the rectangle has where it was just scanned,
+// else a sixteenth of them.
 fn budget(rect: Rect, start: Start) -> usize
     ensures { 0 < result }
 {
     let pixels = rect.w as usize * rect.h as usize;
     match start {
-        Start::Check | Start::Border => (pixels / 8).max(1),
+        Start::Border => (pixels / 16).max(1),
         Start::Scans => pixels.max(1),
     }
 }
@@ -190,7 +187,6 @@ fn fill(
 {
     waiting.clear();
     match start {
-        Start::Check => check(mask, image, rect, conn, waiting),
         Start::Border => check_border(mask, image, rect, conn, waiting),
         Start::Scans => scan(mask, image, rect, conn, waiting),
     }

@@ -18,7 +18,7 @@
 //!
 //! [`grow_in_place`] does the same to an image that is there already, and [`grow_within`] inside a rectangle of one,
 //! where it leaves every pixel outside as it was. That takes no memory: the caller lends it a [`Room`], and may use
-//! that again. There each row is checked first, so that a rectangle in which little can rise is not scanned.
+//! that again. [`grow_from_border`] checks the rectangle's border instead of scanning it, where that is enough.
 //!
 //! [`slow`] floods one threshold after another, as the definition says it, and so takes time for each level. It is
 //! there to compare with.

@@ -1,14 +1,15 @@
 //! The check of rows for open pairs: neighbours of which the first can still raise the second, as far as the mask lets
 //! it. The first pixels of such pairs are put into the queue.
 
-ghost use Rattle.std.specs.Prelude.{◌≡◌, ◌+◌, ◌<◌, ◌≤◌, ◌⊎◌, [], length, min, IsTrue};
+ghost use Rattle.std.specs.Prelude.{◌≡◌, ℕ, ◌+◌, ◌<◌, ◌≤◌, ◌⊎◌, [], length, min, IsTrue};
+ghost use Rattle.grid_core.specs.declared.conn.Conn.TheVariants as conns;
 ghost use Rattle.grid_core.specs.Neighbours.{apart};
 ghost use Rattle.grid_core.specs.Raster.{IsBelow, max_pixels};
 ghost use Rattle.grid_core.specs.Rects.{RectFits};
 ghost use Rattle.raster_sweeps.specs.Growth.{AllWait, AreOpen, cell_of};
 ghost use Rattle.raster_sweeps.specs.RowPairs.{AreAside, AreBeside, RaisesStraight, RaisesTo, IsOpenCell, HaveJoined};
 
-use crate::rows::{is_closed_straight, row_in};
+use crate::rows::{are_closed_crosswise, is_closed_straight, row_in};
 use crate::waiting::Waiting;
 use grid_core::{Conn, Grid, Rect};
 
@@ -57,6 +58,9 @@ pub fn queue_row(
     ensures { HaveJoined (IsOpenCell conn rect mask.now image.now (λ a b. min a b ≡ y)) result
         waiting.old waiting.new }
 {
+    if is_row_closed(mask, image, rect, y, conn) {
+        return true;
+    }
     if !queue_within(mask, image, rect, y, waiting) {
         return false;
     }
@@ -65,6 +69,39 @@ pub fn queue_row(
     }
     queue_between(mask, image, rect, y, y + 1, conn, waiting)
         && queue_between(mask, image, rect, y + 1, y, conn, waiting)
+}
+
+// Whether it is seen at once that no pixel of the rectangle's row `y` raises a neighbour in it or below it, and none of
+// the row below one in it. With eight neighbours, and in the last row, it is not.
+fn is_row_closed(mask: &Grid, image: &Grid, rect: Rect, y: u32, conn: Conn) -> bool
+    requires below { IsBelow image.now mask.now }
+    requires fits { RectFits mask.now.width mask.now.height rect }
+    requires row { y < rect.h }
+    ensures { IsTrue result → (cell : ℕ) → IsOpenCell conn rect mask.now image.now (λ a b. min a b ≡ y) cell → ⊥ }
+{
+    match conn {
+        Conn::Four => is_row_closed_crosswise(mask, image, rect, y),
+        Conn::Eight => false,
+    }
+}
+
+// Whether no pixel of the rectangle's row `y` raises one beside or below it, and none of the row below the one above it.
+// Of the last row it answers that it is not so.
+fn is_row_closed_crosswise(mask: &Grid, image: &Grid, rect: Rect, y: u32) -> bool
+    requires below { IsBelow image.now mask.now }
+    requires fits { RectFits mask.now.width mask.now.height rect }
+    requires row { y < rect.h }
+    ensures { IsTrue result → (cell : ℕ)
+        → IsOpenCell conns.Four rect mask.now image.now (λ a b. min a b ≡ y) cell → ⊥ }
+{
+    if y + 1 == rect.h {
+        return false;
+    }
+    let row = row_in(image, rect, y);
+    let limits = row_in(mask, rect, y);
+    let below = row_in(image, rect, y + 1);
+    let limits_below = row_in(mask, rect, y + 1);
+    are_closed_crosswise(row, limits, below, limits_below)
 }
 
 /// Puts the first pixels of the open pairs within a row into the queue. It answers whether there was room for all of

@@ -52,3 +52,39 @@ pub fn is_closed_to(from: &[u32], mask: &[u32], to: &[u32], conn: Conn) -> bool
 {
     is_closed_straight(from, mask, to) && (conn == Conn::Four || is_closed_aslant(from, mask, to))
 }
+
+// Whether, in a row and the one below it, no pixel raises the one to its right or left in the first row, and none the
+// one below or above it.
+//
+// One pass over both rows makes shorter vector code than a pass for each direction.
+#[inline(never)]
+pub fn are_closed_crosswise(
+    row: &[u32],
+    limits: &[u32],
+    below: &[u32],
+    limits_below: &[u32],
+) -> bool
+    requires some { 0 < length row.now }
+    requires limits { length limits.now ≡ length row.now }
+    requires below { length below.now ≡ length row.now }
+    requires limits_below { length limits_below.now ≡ length row.now }
+    ensures along { IsTrue result → IsClosedTo AreAside row.now limits.now row.now }
+    ensures down { IsTrue result → IsClosedStraight row.now limits_below.now below.now }
+    ensures up { IsTrue result → IsClosedStraight below.now limits.now row.now }
+{
+    let last = row.len() - 1;
+    let last_up = below[last].min(limits[last]);
+    let last_down = row[last].min(limits_below[last]);
+    let mut open = row[last] < last_up;
+    open |= below[last] < last_down;
+    for i in 0..last {
+        let around = below[i].max(row[i + 1]);
+        let least = around.min(limits[i]);
+        let right = row[i].min(limits[i + 1]);
+        let down = row[i].min(limits_below[i]);
+        open |= row[i] < least;
+        open |= row[i + 1] < right;
+        open |= below[i] < down;
+    }
+    !open
+}

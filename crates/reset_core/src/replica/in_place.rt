@@ -6,7 +6,7 @@ ghost use Rattle.std.specs.List.{flat_map};
 ghost use Rattle.grid_core.specs.Raster.{IsBelow, IsInside, IsFilled, value_at};
 ghost use Rattle.grid_core.specs.Reconstruction.{IsReconstruction};
 ghost use Rattle.grid_core.specs.Rects.{IsInRect, RectFits, domain_in, part};
-ghost use Rattle.grid_core.specs.Tiles.{IsTiled, count_of};
+ghost use Rattle.grid_core.specs.Tiles.{IsTiled, count_of, tile_of};
 ghost use Rattle.border_queues.specs.OpenEdges.{IsOnTiling, room_for_edges, open_edges};
 ghost use Rattle.border_queues.specs.Waiting.{places};
 ghost use Rattle.raster_sweeps.specs.Borders.{OpenPairsBeginOnBorder};
@@ -137,16 +137,25 @@ fn tell(
     hand_over_all(image, work, tiling, touching.as_slice(), told.as_slice());
 }
 
-// Hands over a hint, if its pixel lies in the tile.
-fn hand_over(image: &mut Grid, work: &mut WorkTable, tiling: &Tiling, tile: usize, hint: Hint)
+// Hands over a hint, if its pixel lies in the tile, whose rectangle is `rect`.
+fn hand_over(
+    image: &mut Grid,
+    work: &mut WorkTable,
+    tiling: &Tiling,
+    tile: usize,
+    rect: Rect,
+    hint: Hint,
+)
     requires image { IsOnTiling tiling.now image.old }
     requires filled { IsFilled image.old }
     requires tile { tile < length work.old }
+    requires rect { IsInRect rect hint.to_pixel → tile_of tiling.now hint.to_pixel ≡ tile }
+    requires others { tile_of tiling.now hint.to_pixel ≡ tile → IsInRect rect hint.to_pixel }
     requires inside { IsInside tiling.now.width tiling.now.height hint.to_pixel }
     ensures { AreHandedOver tiling.now (hints_in tiling.now (hint ∷ []) tile)
         (record { image = image.old; rows = work.old }) (record { image = image.new; rows = work.new }) }
 {
-    if tiling.tile_of(hint.to_pixel) == tile && image.get(hint.to_pixel) < hint.value {
+    if rect.contains(hint.to_pixel) && image.get(hint.to_pixel) < hint.value {
         image.set(hint.to_pixel, hint.value);
         work.mark_dirty(tile);
     }
@@ -162,14 +171,18 @@ fn hand_over_in(
 )
     requires image { IsOnTiling tiling.now image.old }
     requires filled { IsFilled image.old }
+    requires tiled { IsTiled tiling.now }
+    requires count { count_of tiling.now ≡ length work.old }
     requires tile { tile < length work.old }
     requires inside { (hint : _) → Contains hints.now hint
         → IsInside tiling.now.width tiling.now.height hint.to_pixel }
     ensures { AreHandedOver tiling.now (hints_in tiling.now hints.now tile)
         (record { image = image.old; rows = work.old }) (record { image = image.new; rows = work.new }) }
 {
+    each_pixel_in_one_tile();
+    let rect = tiling.rect(tile);
     for hint in hints {
-        hand_over(image, work, tiling, tile, *hint);
+        hand_over(image, work, tiling, tile, rect, *hint);
     }
 }
 
@@ -183,6 +196,8 @@ fn hand_over_all(
 )
     requires image { IsOnTiling tiling.now image.old }
     requires filled { IsFilled image.old }
+    requires tiled { IsTiled tiling.now }
+    requires count { count_of tiling.now ≡ length work.old }
     requires tiles { (tile : _) → Contains tiles.now tile → tile < length work.old }
     requires inside { (hint : _) → Contains hints.now hint
         → IsInside tiling.now.width tiling.now.height hint.to_pixel }

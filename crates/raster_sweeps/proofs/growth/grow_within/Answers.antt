@@ -2,7 +2,7 @@ use Rattle.std.proofs.Common.{◌≡◌}
 use Rattle.grid_core.specs.Raster.{value_at}
 use Rattle.grid_core.specs.Rects.{domain_in, part}
 use Rattle.grid_core.proofs.Images.{closed_is_reconstruction}
-use Rattle.raster_sweeps.specs.declared.growth.Start.TheVariants.{Border, Check}
+use Rattle.raster_sweeps.specs.declared.growth.Start.TheVariants.{Border, Scans}
 use Rattle.raster_sweeps.proofs.growth.grow_within.Goals as goal
 
 pub returns-clause-reconstruction : goal.returns-clause-reconstruction
@@ -12,4 +12,4 @@ returns-clause-reconstruction c =
     c.close.ensures.grown.lawful c.close.ensures.closed
 
 pub close-requires-clause-border : goal.close-requires-clause-border
-close-requires-clause-border c = λ same. absurd (let no : Check ≡ Border = same in cc)
+close-requires-clause-border c = λ same. absurd (let no : Scans ≡ Border = same in cc)

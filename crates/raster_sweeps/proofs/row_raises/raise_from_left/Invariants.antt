@@ -1,4 +1,4 @@
-use Rattle.std.proofs.Common.{◌-◌, ◌<◌, ◌≤◌, length}
+use Rattle.std.proofs.Common.{◌-◌, ◌<◌, length}
 use Rattle.raster_sweeps.proofs.Strips.{IsDoneFromLeft}
 use Rattle.raster_sweeps.proofs.row_raises.raise_from_left.Given as goal
 

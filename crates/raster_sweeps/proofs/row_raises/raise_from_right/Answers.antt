@@ -1,4 +1,4 @@
-use Rattle.std.proofs.Common.{◌≡◌, ◌+◌, ◌-◌, ◌<◌, ◌≤◌, length, arith}
+use Rattle.std.proofs.Common.{◌≡◌, ◌-◌, ◌<◌, ◌≤◌, length, arith}
 use borrow.Rule.Slice.PartMut.{put_mid}
 use Rattle.raster_sweeps.proofs.Replacing.{replaced_mid}
 use Rattle.raster_sweeps.proofs.RowPairs.{part_between}

@@ -1,4 +1,4 @@
-use Rattle.std.proofs.Common.{◌≡◌, ◌<◌, ◌≤◌, [], ◌∷◌, ◌∙◌, sym, subst, arith}
+use Rattle.std.proofs.Common.{◌≡◌, ◌<◌, ◌≤◌, [], ◌∷◌, sym, subst, arith}
 use Rattle.grid_core.specs.Raster.{value_at}
 use Rattle.grid_core.specs.Tiles.{tile_of}
 use Rattle.reset_core.specs.Telling.{ImageAndWork, hints_in, AreHandedOver}
@@ -10,7 +10,7 @@ returns-then-get-hint c =
     let a = c.args in
     let tiles = a.tiling.now in
     let before : ImageAndWork = record { image = a.image.now; rows = a.work.now } in
-    let here : tile_of tiles a.hint.to_pixel ≡ a.tile = sym c.tile_of.ensures.value ∙ c.if-tile_of-tile.true in
+    let here : tile_of tiles a.hint.to_pixel ≡ a.tile = c.requires.rect (c.contains.ensures.0 c.if-contains.true) in
     let above : value_at a.image.now a.hint.to_pixel < a.hint.value = omega arith in
     let top : a.hint.value ≤ 4294967295 = omega arith in
     let over =

@@ -1,5 +1,7 @@
-use Rattle.std.proofs.Common.{get_or}
+use Rattle.std.proofs.Common.{◌<◌, get_or, sym, subst, arith}
 use Rattle.std.proofs.lemmas.List.Elements.{Contains-get_or}
+use Rattle.grid_core.specs.Rects.{IsInRect}
+use Rattle.grid_core.specs.Tiles.{count_of}
 use Rattle.border_queues.specs.declared.hint.Hint.{Hint}
 use Rattle.reset_core.proofs.TellingHands.{handed_next}
 use Rattle.reset_core.proofs.replica.in_place.hand_over_in.Goals as goal
@@ -19,3 +21,14 @@ loop-hint-preserved c =
     (record { image = c.loop-hint.image; rows = c.loop-hint.work })
     (record { image = c.hand_over.new.image; rows = c.hand_over.new.work }) c.loop-hint-test.true
     c.loop-hint.invariant c.hand_over.ensures
+
+pub hand_over-requires-clause-others : goal.hand_over-requires-clause-others
+hand_over-requires-clause-others c = λ here.
+    let i = c.loop-hint.hint-index in
+    let hint = get_or c.args.hints.now i none in
+    let inside = c.requires.inside hint (Contains-get_or c.args.hints.now i none c.loop-hint-test.true) in
+    let count = c.requires.count in
+    let tile = c.requires.tile in
+    let within : c.args.tile < count_of c.args.tiling.now = omega (arith, count, tile) in
+    let law = c.each_pixel_in_one_tile.ensures c.args.tiling.now hint.to_pixel c.requires.tiled inside in
+    subst (λ rect. IsInRect rect hint.to_pixel) (sym c.rect-rect.ensures.value) ((law.1 c.args.tile within).1 here)
