@@ -119,7 +119,7 @@ module _ (before : Core) (sound : IsSound before) (t i : ℕ) (hint : Hint) (the
 
   -- ---- a hint that raises its pixel
 
-  home_is_tile : (valid : IsValid before t hint)
+  pub home_is_tile : (valid : IsValid before t hint)
       → IsTile (without_hint before t i) (tile_of (tiling before) hint.to_pixel)
   home_is_tile valid =
       let home : tile_of (tiling before) hint.to_pixel ≡ t = valid.to.tile in
@@ -158,7 +158,7 @@ module _ (before : Core) (sound : IsSound before) (t i : ℕ) (hint : Hint) (the
               (subst IsTrue (sym (stays (λ (w : TileWork). w.dirty) refl u)) dirty)
         ]
 
-    at_home : value_at (with_value before.image hint.to_pixel hint.value) hint.to_pixel ≡ hint.value
+    pub at_home : value_at (with_value before.image hint.to_pixel hint.value) hint.to_pixel ≡ hint.value
     at_home =
         set_is_read before.image hint.to_pixel hint.value sound.shape.image.filled
         (inside_image before hint.to_pixel sound.shape valid.to.inside)
@@ -169,7 +169,7 @@ module _ (before : Core) (sound : IsSound before) (t i : ℕ) (hint : Hint) (the
         set_keeps_others before.image hint.to_pixel p hint.value
         (inside_image before hint.to_pixel sound.shape valid.to.inside) (inside_image before p sound.shape inside) other
 
-    raised_rise : IsRise before (with_value before.image hint.to_pixel hint.value)
+    pub raised_rise : IsRise before (with_value before.image hint.to_pixel hint.value)
         (raised (without_hint before t i) hint).tiles
     raised_rise = record {
       rises = λ p inside. elim (same_pixel_or_not p hint.to_pixel) [

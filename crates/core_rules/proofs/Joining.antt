@@ -32,7 +32,7 @@ use Rattle.core_rules.proofs.Supporting.{reaches_above, reach_at_most, reconstru
 use Rattle.core_rules.proofs.Supporting.{part_reaches}
 
 -- where the images of a swept tile are defined
-abbrev local : Swept → Domain
+abbrev pub local : Swept → Domain
 local swept = domain_of swept.job.mask swept.job.conn
 
 -- the tile of a job
@@ -40,7 +40,7 @@ abbrev tile_of_job : Job → ℕ
 tile_of_job job = job.ticket.tile
 
 -- the pixel of the image that a pixel of the swept tile is
-abbrev placed : Core → Swept → Pixel → Pixel
+abbrev pub placed : Core → Swept → Pixel → Pixel
 placed core swept p = in_image (tile_rect core swept.job.ticket.tile) p
 
 -- ---- the pixels of the tile
@@ -90,7 +90,7 @@ module _ (before after : Core) (swept : Swept) (sound : IsSound before) (is_swep
       joined.image.beyond q (inside_image before q sound.shape inside)
       (λ found. other ((in_one.1 swept.job.ticket.tile (tile_within before swept sound known)).0 found))
 
-  rises : (q : Pixel) → Inside (domain before) q → image_at before q ≤ image_at after q
+  pub rises : (q : Pixel) → Inside (domain before) q → image_at before q ≤ image_at after q
   rises q inside = elim (cases_eq (tile_of (tiling before) q) swept.job.ticket.tile) [
     | inl here ↦
         let (p, inside_p, is) = from_image before swept sound known q inside here in
@@ -122,7 +122,7 @@ module _ (before after : Core) (swept : Swept) (sound : IsSound before) (is_swep
   same_generation : (u : ℕ) → (work_at after u).generation ≡ (work_at before u).generation
   same_generation u = field_stays (λ (w : TileWork). w.generation) (λ w. refl) (λ w hints. refl) u
 
-  same_dirty : (u : ℕ) → (work_at after u).dirty ≡ (work_at before u).dirty
+  pub same_dirty : (u : ℕ) → (work_at after u).dirty ≡ (work_at before u).dirty
   same_dirty u = field_stays (λ (w : TileWork). w.dirty) (λ w. refl) (λ w hints. refl) u
 
   rise : IsRise before after.image after.tiles

@@ -14,3 +14,4 @@ pub mod Ordered
 pub mod Successors
 pub mod Pieces
 pub mod InPlaceSweeps
+pub mod Counting

@@ -1,5 +1,5 @@
 -- The laws of one replica's core, as statements. Public functions have them as their contracts.
-use Rattle.std.specs.Prelude.{◌≡◌, ℕ, ◌+◌, ◌≤◌, Bool, max, List, [], ◌∷◌, ◌++◌, Option, Some}
+use Rattle.std.specs.Prelude.{◌≡◌, ℕ, ◌+◌, ◌≤◌, Bool, max, List, [], ◌∷◌, ◌++◌, length, Option, Some}
 use Rattle.grid_core.specs.declared.pixel.Pixel.{Pixel}
 use Rattle.grid_core.specs.declared.conn.Conn.{Conn}
 use Rattle.grid_core.specs.Raster.{Raster, IsFilled}
@@ -26,8 +26,10 @@ use Rattle.core_rules.specs.Hints.{IsHanded}
 use Rattle.core_rules.specs.Events.{Event, Answer, Happens, Take, GiveBack, OfTake, OfGiveBack}
 use Rattle.core_rules.specs.declared.answers.Back.TheVariants.{Joined}
 use Rattle.core_rules.specs.InPlace.{IsSweptInPlace}
-use Rattle.core_rules.specs.Runs.{Entry, IsRun, IsNext, IsWorkedOff, IsSettled, IsCutShort}
+use Rattle.core_rules.specs.Runs.{Entry, IsRun, IsNext, IsWorkedOff, IsSettled, IsCutShort, jobs_of, abandons_of}
+use Rattle.core_rules.specs.Runs.{tickets_out}
 use Rattle.core_rules.specs.Schedule.{Progress, started, AreSteps, AreEditsAt}
+use Rattle.core_rules.specs.Counting.{Owes, merges_of, IsWithinWork, tiles_out}
 use Rattle.core_rules.specs.Invariant.{IsSound, HasLawfulImage, HasReconstruction}
 
 -- a supported image is lawful
@@ -186,3 +188,34 @@ abbrev pub WorkGoesOn : Type 0
 WorkGoesOn =
     (a b c : Core) (first second : List Entry) → IsWorkedOff a first b → IsWorkedOff b second c
     → IsWorkedOff a (first ++ second) c
+
+-- a core owes one number
+abbrev pub OneDebt : Type 0
+OneDebt = (core : Core) (n m : ℕ) → Owes core n → Owes core m → n ≡ m
+
+-- where a sound core is quiet, it owes nothing
+abbrev pub QuietOwesNothing : Type 0
+QuietOwesNothing = (core : Core) → IsSound core → IsQuiet core → Owes core 0
+
+-- a list of events without a merge takes no more jobs than there is work
+abbrev pub RunIsWithinWork : Type 0
+RunIsWithinWork =
+    (before after : Core) (log : List Entry) → IsSound before → IsRun before log after → merges_of log ≡ 0
+    → IsWithinWork before after (jobs_of log) (abandons_of log)
+
+-- a schedule of which no edit is accepted takes no more jobs than there is work
+abbrev pub ScheduleIsWithinWork : Type 0
+ScheduleIsWithinWork =
+    (start : Core) (steps : List Step) (end : Progress) → IsSound start → AreSteps steps (started start) end
+    → end.accepted ≡ []
+    → IsWithinWork start end.core (jobs_of end.log) (abandons_of end.log)
+
+-- settling takes no more jobs than there is work, and leaves nothing owed
+abbrev pub SettlingIsWithinWork : Type 0
+SettlingIsWithinWork =
+    (before after : Core) (log : List Entry) → IsSound before → IsSettled before log after
+    → IsWithinWork before after (jobs_of log) (abandons_of log) × Owes after 0
+
+-- as many jobs are out as tiles have one out
+abbrev pub OneJobOutATile : Type 0
+OneJobOutATile = (core : Core) → length (tickets_out 0 core.tiles) ≡ tiles_out core

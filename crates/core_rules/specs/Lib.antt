@@ -2,6 +2,7 @@ pub use Rattle.grid_core.specs.Neighbours
 pub use Rattle.grid_core.specs.Rects
 pub use Rattle.grid_core.specs.Tiles
 pub use Rattle.grid_core.specs.Reconstruction
+pub use Rattle.grid_core.specs.Owed
 pub use Rattle.grid_core.specs.Raster
 pub use Rattle.grid_core.specs.Path
 pub use Rattle.stroke_lattice.specs.State
@@ -20,6 +21,7 @@ pub mod Events
 pub mod Invariant
 pub mod Runs
 pub mod Schedule
+pub mod Counting
 pub mod Laws
 pub mod Stored
 pub mod Codes

@@ -7,6 +7,8 @@ ghost use Rattle.core_rules.specs.Laws.{ScheduleIsARun, OpenedIsSound, OpenedIsQ
 ghost use Rattle.core_rules.specs.Laws.{OtherTilesStay, OtherTilesRise, NoDeathHitsNone, ScheduleJoins};
 ghost use Rattle.core_rules.specs.Laws.{AcceptedAreEdits, MergedIsAcceptable, RefusedIsNotAcceptable, OneRefusal};
 ghost use Rattle.core_rules.specs.Laws.{OneSuccessor, SweptInPlaceIsWorkedOff, WorkGoesOn};
+ghost use Rattle.core_rules.specs.Laws.{OneDebt, QuietOwesNothing, RunIsWithinWork, ScheduleIsWithinWork};
+ghost use Rattle.core_rules.specs.Laws.{SettlingIsWithinWork, OneJobOutATile};
 
 use border_queues::laws::edges_are_open;
 
@@ -149,4 +151,40 @@ pub fn swept_in_place_is_worked_off()
 /// Work that is done after other work is one list of events.
 pub fn work_goes_on()
     ensures { WorkGoesOn }
+{}
+
+/// What a core owes is one number.
+pub fn one_debt()
+    ensures { OneDebt }
+{}
+
+/// Where a sound core is quiet, it owes nothing.
+pub fn quiet_owes_nothing()
+    ensures { QuietOwesNothing }
+{}
+
+/// A list of events without a merge takes no more jobs than there is work.
+pub fn run_is_within_work()
+    ensures { RunIsWithinWork }
+{
+    edges_are_open();
+}
+
+/// A schedule of which no edit is accepted takes no more jobs than there is work.
+pub fn schedule_is_within_work()
+    ensures { ScheduleIsWithinWork }
+{
+    edges_are_open();
+}
+
+/// Settling takes no more jobs than there is work, and leaves nothing owed.
+pub fn settling_is_within_work()
+    ensures { SettlingIsWithinWork }
+{
+    edges_are_open();
+}
+
+/// As many jobs are out as tiles have one out.
+pub fn one_job_out_a_tile()
+    ensures { OneJobOutATile }
 {}

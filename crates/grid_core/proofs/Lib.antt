@@ -8,3 +8,6 @@ pub mod Rectangles
 pub mod Spans
 pub mod Tilings
 pub mod TilesBeside
+pub mod Sums
+pub mod Growing
+pub mod Owed

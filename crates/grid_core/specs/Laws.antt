@@ -1,8 +1,9 @@
 -- The laws of reconstruction, as statements. Public functions have them as their contracts.
-use Rattle.std.specs.Prelude.{◌≡◌, ℕ, ◌≤◌}
+use Rattle.std.specs.Prelude.{◌≡◌, ℕ, ◌≤◌, ◌↔◌}
 use Rattle.grid_core.specs.declared.pixel.Pixel.{Pixel}
 use Rattle.grid_core.specs.Path.{Domain, Inside, Reaches}
 use Rattle.grid_core.specs.Reconstruction.{IsReconstruction, IsLawful, IsClosed, IsRaise}
+use Rattle.grid_core.specs.Owed.{IsOwed}
 
 -- a mask and a marker have at most one reconstruction
 abbrev pub AtMostOneReconstruction : Type 0
@@ -48,3 +49,19 @@ abbrev pub LawfulLiesBetween : Type 0
 LawfulLiesBetween =
     (d : Domain) (mask marker j r : Pixel → ℕ) → IsLawful d mask marker j → IsReconstruction d mask marker r
     → (p : Pixel) → Inside d p → (marker p ≤ j p) × (j p ≤ r p)
+
+-- what is owed to an image is at most one number
+abbrev pub AtMostOneOwed : Type 0
+AtMostOneOwed =
+    (d : Domain) (mask marker j : Pixel → ℕ) (n m : ℕ) → IsOwed d mask marker j n → IsOwed d mask marker j m → n ≡ m
+
+-- to each lawful image some number is owed
+abbrev pub LawfulIsOwed : Type 0
+LawfulIsOwed =
+    (d : Domain) (mask marker j : Pixel → ℕ) → IsLawful d mask marker j → (n : ℕ) × IsOwed d mask marker j n
+
+-- to a lawful image nothing is owed just where it is the reconstruction
+abbrev pub OwedNothing : Type 0
+OwedNothing =
+    (d : Domain) (mask marker j : Pixel → ℕ) → IsLawful d mask marker j
+    → IsOwed d mask marker j 0 ↔ IsReconstruction d mask marker j

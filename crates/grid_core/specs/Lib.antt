@@ -3,6 +3,7 @@ pub mod Neighbours
 pub mod Rows
 pub mod Path
 pub mod Reconstruction
+pub mod Owed
 pub mod Rects
 pub mod Tiles
 pub mod TileLaws

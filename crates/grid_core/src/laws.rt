@@ -3,6 +3,7 @@
 ghost use Rattle.grid_core.specs.Laws.{AtMostOneReconstruction, ReachesLowerLevels, ReachesLevelZero};
 ghost use Rattle.grid_core.specs.Laws.{ReachIsWithinMask, ReachRisesWithMarker, RaiseKeepsLawful};
 ghost use Rattle.grid_core.specs.Laws.{ClosedLawfulIsReconstruction, LawfulLiesBetween};
+ghost use Rattle.grid_core.specs.Laws.{AtMostOneOwed, LawfulIsOwed, OwedNothing};
 ghost use Rattle.grid_core.specs.Lending.{CellsGivenBack};
 ghost use Rattle.grid_core.specs.TileLaws.{EachPixelInOneTile, TilesLieInside, NeighboursLieInTouchingTiles};
 ghost use Rattle.grid_core.specs.TileLaws.{RectPixelsLieInRect, RectPixelsLieInside, TilePixels, NeighboursInRect};
@@ -77,6 +78,21 @@ pub fn closed_lawful_is_reconstruction()
 /// A lawful image lies between the marker and the reconstruction.
 pub fn lawful_lies_between()
     ensures { LawfulLiesBetween }
+{}
+
+/// What is owed to an image is at most one number.
+pub fn at_most_one_owed()
+    ensures { AtMostOneOwed }
+{}
+
+/// To each lawful image some number is owed.
+pub fn lawful_is_owed()
+    ensures { LawfulIsOwed }
+{}
+
+/// To a lawful image nothing is owed just where it is the reconstruction.
+pub fn owed_nothing()
+    ensures { OwedNothing }
 {}
 
 /// Each pixel of the image lies in the rectangle of its tile and of no other.

@@ -24,6 +24,9 @@ use Rattle.core_rules.specs.Hints.{IsHanded}
 use Rattle.core_rules.specs.Events.{Event, Answer, Happens, Merge, Take, GiveBack, Abandon, Hand}
 use Rattle.core_rules.specs.Events.{OfMerge, OfTake, OfGiveBack, OfAbandon, OfHand}
 use Rattle.core_rules.specs.Runs.{Entry, jobs_of, abandons_of}
+use Rattle.core_rules.specs.Counting.{IsWithinWork}
+use Rattle.core_rules.specs.Laws.{ScheduleIsWithinWork}
+use Rattle.core_rules.specs.Invariant.{IsSound}
 use Rattle.core_rules.specs.Schedule.{Progress, Ran, started, passed, after_event, IsStep, AreSteps, IsStopped, ran_of}
 use Rattle.reset_core.specs.Scheduling.{Kept, Agrees, LeadsOn, HaveRun}
 use Rattle.core_rules.proofs.Cores.{work_there}
@@ -448,3 +451,14 @@ run_stops start all n now after kept so_far same = record {
   are_steps = so_far.are_steps;
   core_is = subst (λ (core : Core). after ≡ record core { serial = after.serial }) (sym so_far.agrees.core_is) same;
 }
+
+-- ---- the bound on the work
+
+pub run_within_work : ScheduleIsWithinWork → (start now : Core) (all : List Step) (ran : Ran) → IsSound start
+    → ((end : Progress) × AreSteps all (started start) end × (ran ≡ ran_of end) × (now ≡ end.core))
+    → ran.accepted ≡ [] → IsWithinWork start now ran.jobs ran.abandons
+run_within_work law start now all ran sound (end, are_steps, same, core_is) none =
+    let none_accepted : end.accepted ≡ [] = sym (ap (λ (r : Ran). r.accepted) same) ∙ none in
+    let within = law start all end sound are_steps none_accepted in
+    subst (λ (r : Ran). IsWithinWork start now r.jobs r.abandons) (sym same)
+    (subst (λ c. IsWithinWork start c (ran_of end).jobs (ran_of end).abandons) (sym core_is) within)

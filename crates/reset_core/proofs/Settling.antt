@@ -24,6 +24,8 @@ use Rattle.core_rules.specs.Events.{Merge, Take, GiveBack, Abandon, Hand}
 use Rattle.core_rules.specs.Events.{OfTake, OfAbandon, OfHand}
 use Rattle.core_rules.specs.Runs.{IsSettled, IsCutShort, Entry, IsRun, IsWorkedOff, IsLeast, NoneOut, HasHints, IsDirty}
 use Rattle.core_rules.specs.Runs.{jobs_of, abandons_of, abandoned, tickets_out}
+use Rattle.core_rules.specs.Counting.{IsWithinWork, Owes}
+use Rattle.core_rules.specs.Laws.{SettlingIsWithinWork}
 use Rattle.tile_work.specs.WorkTable.{HasJobOut}
 use Rattle.reset_core.specs.Telling.{burden}
 use Rattle.reset_core.specs.Settling.{waiting_count, AreAbandoned, IsFirstHandedOver, AreHanded, AreWorkedOff}
@@ -385,4 +387,16 @@ settled_by before cleared handed after jobs abandons clears count (hints, hands,
       },
       omega (arith, worked, all, no_sweeps, no_jobs, swept),
       omega (arith, dropped, no_more, count),
+    )
+
+-- ---- the bound on the work
+
+pub settled_within_work : SettlingIsWithinWork → (before after : Core) (jobs abandons : ℕ) → IsSound before
+    → ((log : List Entry) × IsSettled before log after × (jobs ≡ jobs_of log) × (abandons ≡ abandons_of log))
+    → IsWithinWork before after jobs abandons × Owes after 0
+settled_within_work law before after jobs abandons sound (log, settled, same_jobs, same_abandons) =
+    let (within, nothing_owed) = law before after log sound settled in (
+      subst (λ n. IsWithinWork before after n abandons) (sym same_jobs)
+          (subst (λ n. IsWithinWork before after (jobs_of log) n) (sym same_abandons) within),
+      nothing_owed,
     )

@@ -2,6 +2,7 @@ pub use Rattle.grid_core.specs.Neighbours
 pub use Rattle.grid_core.specs.Rects
 pub use Rattle.grid_core.specs.Tiles
 pub use Rattle.grid_core.specs.Reconstruction
+pub use Rattle.grid_core.specs.Owed
 pub use Rattle.grid_core.specs.Raster
 pub use Rattle.grid_core.specs.Path
 pub use Rattle.stroke_lattice.specs.State
@@ -18,6 +19,7 @@ pub use Rattle.core_rules.specs.Events
 pub use Rattle.core_rules.specs.Invariant
 pub use Rattle.core_rules.specs.Runs
 pub use Rattle.core_rules.specs.Schedule
+pub use Rattle.core_rules.specs.Counting
 pub mod Replica
 pub mod Telling
 pub mod Settling

@@ -7,7 +7,7 @@ ghost use Rattle.marker_tiles.specs.Kept.{IsMarkerOf};
 ghost use Rattle.tile_generations.specs.Generations.{max_generation};
 ghost use Rattle.core_rules.specs.declared.error.CoreError.TheVariants as errors;
 ghost use Rattle.core_rules.specs.Work.{IsTile, IsQuiet, tiling, work_at};
-ghost use Rattle.core_rules.specs.Invariant.{HasLawfulImage, HasReconstruction};
+ghost use Rattle.core_rules.specs.Invariant.{IsSound, HasLawfulImage, HasReconstruction};
 ghost use Rattle.core_rules.specs.Opening.{blank, fresh, opened};
 ghost use Rattle.reset_core.specs.Replica.{core_of, IsStored};
 ghost use Rattle.stroke_lattice.specs.State.{nothing};
@@ -303,6 +303,13 @@ impl Core {
         ensures count { length self.now.tiles ≡ count_of (tiling self.now) }
     {
         self.markers.tiling()
+    }
+
+    // Each core is sound. It does nothing.
+    fn soundness(&self)
+        ensures { IsSound self.now }
+    {
+        let _conn = self.conn;
     }
 
     /// The mask, the image and the strokes, without the rest. It takes no memory.

@@ -5,9 +5,11 @@ ghost use Rattle.tile_generations.specs.Jobs.{Swept as Result, IsSwept};
 ghost use Rattle.core_rules.specs.declared.error.CoreError.TheVariants as errors;
 ghost use Rattle.core_rules.specs.declared.step.Step.TheVariants as steps;
 ghost use Rattle.core_rules.specs.Schedule.{Progress, started, AreSteps, IsStopped, ran_of};
+ghost use Rattle.core_rules.specs.Counting.{IsWithinWork};
 ghost use Rattle.reset_core.specs.Scheduling.{kept_of, LeadsOn};
 
 use super::Core;
+use core_rules::laws::schedule_is_within_work;
 use core_rules::{CoreError, Step};
 use grid_core::Memory;
 use std::alloc::Global;
@@ -72,12 +74,20 @@ impl Core {
     /// kept as the next one, counted from 0. A return gives back a copy of a result, so that it may be returned late
     /// or twice. A step that names nothing is passed over. An edit that is refused is listed.
     ///
+    /// Where no edit is accepted, no more jobs are taken than there is work: one for each tile that was dirty at the
+    /// start, one for each unit that the image lacked of the reconstruction in all at the start and does not lack at
+    /// the end, and one for each job that was abandoned.
+    ///
     /// Errors: out of memory. The core is then as after the steps before, but serials may have been spent.
     pub fn run_schedule(&mut self, alloc: Global, steps: &[Step]) -> Result<Ran, Memory>
         ensures ran { IfOk result (λ ran. (end : Progress) × AreSteps steps.now (started self.old) end
             × (ran ≡ ran_of end) × (self.new ≡ end.core)) }
+        ensures bound { IfOk result (λ ran. ran.accepted ≡ []
+            → IsWithinWork self.old self.new ran.jobs ran.abandons) }
         ensures stopped { OnErr result (IsStopped self.old steps.now self.new) }
     {
+        self.soundness();
+        schedule_is_within_work();
         let mut tally = Tally::new(alloc);
         for i in 0..steps.len() {
             self.run_step(alloc, &mut tally, i, &steps[i])?;

@@ -8,12 +8,14 @@ ghost use Rattle.core_rules.specs.Work.{IsQuiet, tiling};
 ghost use Rattle.core_rules.specs.Sweeps.{IsAbandoned};
 ghost use Rattle.core_rules.specs.Runs.{Entry, IsRun, IsWorkedOff, IsSettled, IsCutShort, NoneOut, HasHints};
 ghost use Rattle.core_rules.specs.Runs.{jobs_of, abandons_of, abandoned, tickets_out};
+ghost use Rattle.core_rules.specs.Counting.{IsWithinWork, Owes, tiles_out};
 ghost use Rattle.reset_core.specs.Closing.{AreClosedInside};
 ghost use Rattle.reset_core.specs.Telling.{burden};
 ghost use Rattle.reset_core.specs.Settling.{waiting_count, IsFirstHandedOver};
 
 use super::Core;
 use border_queues::{Inbox, room_for_edges};
+use core_rules::laws::{one_job_out_a_tile, settling_is_within_work};
 use grid_core::Memory;
 use raster_sweeps::Room;
 use std::alloc::Global;
@@ -34,12 +36,21 @@ impl Core {
     /// Each job that is out is abandoned. Then, again and again, each waiting hint is handed over, tile by tile, and the
     /// first dirty tile is swept. A tile that was swept before is checked on its border alone.
     ///
+    /// No more tiles are swept than there is work: one for each tile that was dirty, one for each unit that the image
+    /// lacked of the reconstruction in all, and one for each job that was abandoned.
+    ///
     /// Errors: out of memory, where only the jobs that were out have been abandoned.
     pub fn settle(&mut self, alloc: Global) -> Result<Count, Memory>
         ensures settled { IfOk result (λ count. (log : List Entry) × IsSettled self.old log self.new
             × (count.jobs ≡ jobs_of log) × (count.abandons ≡ abandons_of log)) }
+        ensures bound { IfOk result (λ count. IsWithinWork self.old self.new count.jobs count.abandons) }
+        ensures owes_nothing { IfOk result (λ count. Owes self.new 0) }
+        ensures abandons { IfOk result (λ count. count.abandons ≡ tiles_out self.old) }
         ensures cut_short { OnErr result ((log : List Entry) × IsCutShort self.old log self.new) }
     {
+        self.soundness();
+        settling_is_within_work();
+        one_job_out_a_tile();
         let abandons = self.abandon_all();
         let tiling = self.tiling();
         let mut room = Room::new(alloc, tiling.side() * tiling.side())?;

@@ -1,7 +1,7 @@
 use Rattle.std.proofs.Common.{arith}
 use Rattle.std.proofs.lemmas.List.{take_all}
 use Rattle.reset_core.specs.Scheduling.{kept_of}
-use Rattle.reset_core.proofs.Scheduling.{on_err, none_run, one_more_run, all_run, run_stops}
+use Rattle.reset_core.proofs.Scheduling.{on_err, none_run, one_more_run, all_run, run_stops, run_within_work}
 use Rattle.reset_core.proofs.replica.Core.run_schedule.Goals as goal
 
 pub loop-i-init : goal.loop-i-init
@@ -28,3 +28,10 @@ pub returns-clause-ran : goal.returns-clause-ran
 returns-clause-ran c =
     all_run c.args.self.now c.args.steps.now c.loop-i.i c.loop-i.self (kept_of c.loop-i.tally) c.into_ran.result
     c.loop-i.invariant (take_all c.loop-i.i c.args.steps.now (omega arith)) c.into_ran.ensures
+
+pub returns-clause-bound : goal.returns-clause-bound
+returns-clause-bound c =
+    run_within_work c.schedule_is_within_work.ensures c.args.self.now c.loop-i.self c.args.steps.now c.into_ran.result
+    c.soundness.ensures
+    (all_run c.args.self.now c.args.steps.now c.loop-i.i c.loop-i.self (kept_of c.loop-i.tally) c.into_ran.result
+    c.loop-i.invariant (take_all c.loop-i.i c.args.steps.now (omega arith)) c.into_ran.ensures)

@@ -4,7 +4,7 @@ use Rattle.reset_core.specs.Closing.{AreClosedInside}
 use Rattle.core_rules.specs.Runs.{IsCutShort}
 use Rattle.pgm_codec.proofs.Pieces.{OnErr-always}
 use Rattle.reset_core.proofs.Closing.{none_swept}
-use Rattle.reset_core.proofs.Settling.{cut_before_work, settled_by}
+use Rattle.reset_core.proofs.Settling.{cut_before_work, settled_by, settled_within_work}
 use Rattle.reset_core.proofs.replica.Core.settle.Goals as goal
 
 pub returns-in_err-room-clause-cut_short : goal.returns-in_err-room-clause-cut_short
@@ -38,3 +38,24 @@ returns-clause-settled c =
     let worked = c.work_all_off-jobs in
     settled_by c.args.self.now cleared.new.self c.hand_all.new.self worked.new.self worked.result cleared.result
     cleared.ensures.clears cleared.ensures.count c.hand_all.ensures.works worked.ensures.works worked.ensures.quiet
+
+pub returns-clause-bound : goal.returns-clause-bound
+returns-clause-bound c =
+    let cleared = c.abandon_all-abandons in
+    let worked = c.work_all_off-jobs in
+    (settled_within_work c.settling_is_within_work.ensures c.args.self.now worked.new.self worked.result cleared.result
+    c.soundness.ensures
+    (settled_by c.args.self.now cleared.new.self c.hand_all.new.self worked.new.self worked.result cleared.result
+    cleared.ensures.clears cleared.ensures.count c.hand_all.ensures.works worked.ensures.works worked.ensures.quiet)).0
+
+pub returns-clause-owes_nothing : goal.returns-clause-owes_nothing
+returns-clause-owes_nothing c =
+    let cleared = c.abandon_all-abandons in
+    let worked = c.work_all_off-jobs in
+    (settled_within_work c.settling_is_within_work.ensures c.args.self.now worked.new.self worked.result cleared.result
+    c.soundness.ensures
+    (settled_by c.args.self.now cleared.new.self c.hand_all.new.self worked.new.self worked.result cleared.result
+    cleared.ensures.clears cleared.ensures.count c.hand_all.ensures.works worked.ensures.works worked.ensures.quiet)).1
+
+pub returns-clause-abandons : goal.returns-clause-abandons
+returns-clause-abandons c = c.abandon_all-abandons.ensures.count ∙ c.one_job_out_a_tile.ensures c.args.self.now

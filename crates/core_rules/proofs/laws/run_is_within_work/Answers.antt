@@ -1,0 +1,5 @@
+use Rattle.core_rules.proofs.Counting.{run_is_within_work}
+use Rattle.core_rules.proofs.laws.run_is_within_work.Goals as goal
+
+pub returns : goal.returns
+returns c = run_is_within_work c.edges_are_open.ensures
