@@ -6,6 +6,10 @@ pub mod FaultKinds
 pub mod SampleLoop
 pub mod WriteLoop
 pub mod RawSamples
+pub mod Headers
 pub mod RawTexts
+pub mod SampleDigits
+pub mod PlainLoop
+pub mod PlainTexts
 pub mod Maxval
 pub mod Pieces

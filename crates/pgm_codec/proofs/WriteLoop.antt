@@ -13,7 +13,7 @@ flat_map_push f (y ∷ xs) x = ap (λ (t : List ℕ). f y ++ t) (flat_map_push f
     ∙ sym (append_assoc (f y) (flat_map f xs) (f x))
 
 -- the bytes of one more sample
-one_more : (f : ℕ → List ℕ) (i : ℕ) (samples : List ℕ) → i < length samples
+pub one_more : (f : ℕ → List ℕ) (i : ℕ) (samples : List ℕ) → i < length samples
     → flat_map f (take i samples) ++ f (slice_index samples i) ≡ flat_map f (take (i + 1) samples)
 one_more f i samples lt =
     sym (flat_map_push f (take i samples) (slice_index samples i)) ∙ ap (flat_map f) (sym (take_more samples i 0 lt))

@@ -4,6 +4,7 @@ pub mod Device
 pub mod FirstFault
 pub mod Graymap
 pub mod MemoryDevice
+pub mod PlainWriting
 pub mod Reading
 pub mod Spelling
 pub mod Writing

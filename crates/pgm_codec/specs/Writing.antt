@@ -1,6 +1,7 @@
 -- The raw file of an image (Netpbm pgm(5)).
 use Rattle.std.specs.Prelude.{ℕ, ◌/◌, ◌%◌, nat_lt, List, [], ◌∷◌, ◌++◌, decimal, if◌then◌else◌}
 use Rattle.std.specs.List.{flat_map}
+use Rattle.pgm_codec.specs.declared.grammar.Encoding.{Encoding}
 use Rattle.pgm_codec.specs.declared.grammar.Encoding.TheVariants.{Raw}
 use Rattle.pgm_codec.specs.Graymap.{Graymap}
 use Rattle.pgm_codec.specs.Spelling.{line_feed, blank, magic}
@@ -9,12 +10,16 @@ use Rattle.pgm_codec.specs.Spelling.{line_feed, blank, magic}
 abbrev pub sample_bytes : ℕ → ℕ → List ℕ
 sample_bytes maxval s = if nat_lt maxval 256 then s ∷ [] else s / 256 ∷ s % 256 ∷ []
 
--- `P5`, LF, width, blank, height, LF, maxval, LF, in decimal without leading zeros
-abbrev pub raw_header : Graymap → List ℕ
-raw_header g =
-    magic Raw ++ line_feed
+-- the magic, LF, width, blank, height, LF, maxval, LF, in decimal without leading zeros
+abbrev pub file_header : Encoding → Graymap → List ℕ
+file_header encoding g =
+    magic encoding ++ line_feed
     ∷ (decimal g.raster.width ++ blank
     ∷ (decimal g.raster.height ++ line_feed ∷ (decimal g.maxval ++ line_feed ∷ [])))
+
+-- the header of a raw file: its magic is `P5`
+abbrev pub raw_header : Graymap → List ℕ
+raw_header g = file_header Raw g
 
 -- the header, and then the samples row by row from the top
 unfoldable pub raw_text : Graymap → List ℕ

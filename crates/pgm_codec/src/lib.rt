@@ -4,8 +4,9 @@
 //!
 //! An [`Image`] is `w * h` samples, row by row from the top, none above its maxval. [`read`] makes one of a
 //! file's text, plain (magic `P2`) or raw (magic `P5`), or answers the first fault of the text, a
-//! [`PgmError`]; [`write_raw`] gives the raw file of an image, which spells that image and no other
-//! ([`raw_text_is_read`]). A file is one image; comments stand before the numbers of the header alone.
+//! [`PgmError`]; [`write_raw`] gives the raw file of an image and [`write_plain`] its plain one, which spell
+//! that image and no other ([`raw_text_is_read`], [`plain_text_is_read`]). A file is one image; comments stand
+//! before the numbers of the header alone.
 //!
 //! ```
 //! let image = read(alloc, b"P2\n2 1\n255\n10 35\n")?;
@@ -17,8 +18,9 @@
 //! join them to the format.
 //!
 //! Read on: `specs/Spelling.antt` says which text spells which image, `specs/FirstFault.antt` which fault a
-//! text has, and `specs/Writing.antt` what is written; the laws [`one_image`], [`one_fault`] and [`every_text`]
-//! say that each text has exactly one of the two. `specs/Device.antt` has the words on sources and sinks.
+//! text has, and `specs/Writing.antt` and `specs/PlainWriting.antt` what is written; the laws [`one_image`],
+//! [`one_fault`] and [`every_text`] say that each text has exactly one of the two. `specs/Device.antt` has the
+//! words on sources and sinks.
 
 mod count;
 mod error;
@@ -29,6 +31,7 @@ mod image;
 mod memory_sink;
 mod memory_source;
 mod numbers;
+mod plain_writing;
 mod raster;
 mod reading;
 mod samples;
@@ -44,7 +47,8 @@ pub use fault::Fault;
 pub use image::{Image, below_keeps_maxval};
 pub use memory_sink::MemorySink;
 pub use memory_source::MemorySource;
-pub use reading::{every_text, one_fault, one_image, raw_text_is_read, read};
+pub use plain_writing::write_plain;
+pub use reading::{every_text, one_fault, one_image, plain_text_is_read, raw_text_is_read, read};
 pub use sink::Sink;
 pub use source::Source;
 pub use std_sink::StdSink;
@@ -54,5 +58,7 @@ pub use writing::write_raw;
 
 #[cfg(test)]
 mod device_tests;
+#[cfg(test)]
+mod plain_tests;
 #[cfg(test)]
 mod tests;

@@ -7,6 +7,7 @@ ghost use Rattle.pgm_codec.specs.Spelling.{PgmSpells};
 ghost use Rattle.pgm_codec.specs.FirstFault.{PgmFault};
 ghost use Rattle.pgm_codec.specs.Reading.{GivesOrMemory, image_at};
 ghost use Rattle.pgm_codec.specs.Writing.{raw_text};
+ghost use Rattle.pgm_codec.specs.PlainWriting.{plain_text};
 
 use crate::error::PgmError;
 use crate::header::{height, magic, maxval, width};
@@ -80,4 +81,11 @@ pub fn every_text()
 pub fn raw_text_is_read()
     ensures spelled { (image : Graymap) → IsGraymap image → PgmSpells (raw_text image) image }
     ensures only { (image other : Graymap) → IsGraymap image → PgmSpells (raw_text image) other → other ≡ image }
+{}
+
+/// The plain file of each image, as [`write_plain`](crate::write_plain) gives it, spells that image and no
+/// other. So reading gives back what was written.
+pub fn plain_text_is_read()
+    ensures spelled { (image : Graymap) → IsGraymap image → PgmSpells (plain_text image) image }
+    ensures only { (image other : Graymap) → IsGraymap image → PgmSpells (plain_text image) other → other ≡ image }
 {}
