@@ -1,0 +1,195 @@
+-- The views of images of values, by growing.
+use Rattle.std.proofs.Common.{◌≡◌, ℕ, ◌+◌, ◌-◌, ◌*◌, ◌<◌, ◌≤◌, List, get_or, length, map, min}
+use Rattle.std.proofs.Common.{sym, ap, subst, ◌∙◌, arith, inl, inr}
+use Rattle.std.specs.Prelude.{slice_index, EachIndex}
+use Rattle.std.proofs.Math.Nat.{zero-sub}
+use Rattle.std.proofs.Math.ListN as lists
+use Rattle.std.proofs.lemmas.List.{ext_get_or, get_or-map, length-map}
+use Rattle.grid_core.specs.declared.conn.Conn.{Conn}
+use Rattle.grid_core.specs.declared.pixel.Pixel.{Pixel}
+use Rattle.grid_core.specs.Path.{domain_of}
+use Rattle.grid_core.specs.Raster.{Raster, IsInside, IsFilled, IsImageSize, index_of, value_at}
+use Rattle.grid_core.specs.Reconstruction.{IsReconstruction}
+use Rattle.grid_core.proofs.Cells.{index_of-within, pixel_of, index_of-pixel_of, pixel_of-inside}
+use Rattle.pgm_codec.specs.Graymap.{Graymap, IsGraymap, max_maxval}
+use Rattle.derived_views.specs.Domes.{IsHMaxima, less}
+use Rattle.derived_views.specs.Holes.{IsFill, IsOnBorder}
+use Rattle.derived_views.specs.Plateaus.{IsRegionalMaxima}
+use Rattle.derived_views.specs.Rasters.{mapped, complement_of, AgreeAt, IsPartOfBorder}
+use Rattle.derived_views.proofs.Filling.{fill_by_growing}
+use Rattle.derived_views.proofs.Climbing.{maxima_by_growing}
+use Rattle.derived_views.proofs.Rasters.{mapped_value, value_within}
+
+-- the same cells at an equal width
+at_width : (cells : List ℕ) (v w : ℕ) (p : Pixel) → v ≡ w
+    → get_or cells (index_of v p) 0 ≡ get_or cells (index_of w p) 0
+at_width cells v w p same = ap (λ n. get_or cells (p.y * n + p.x) 0) same
+
+-- the image less h, as a function from pixels
+less_value : (h : ℕ) (r : Raster) (p : Pixel) → value_at (mapped (λ v. v - h) r) p ≡ less h (value_at r) p
+less_value h r p =
+    subst (λ z. get_or (map (λ v. v - h) r.cells) (index_of r.width p) z ≡ get_or r.cells (index_of r.width p) 0 - h)
+    (zero-sub h) (lists.get_or-map (λ v. v - h) r.cells (index_of r.width p) 0)
+
+pub h_maxima_of : (conn : Conn) (h : ℕ) (image lowered grown : Raster) → lowered ≡ mapped (λ v. v - h) image
+    → IsReconstruction (domain_of image conn) (value_at image) (value_at lowered) (value_at grown)
+    → IsHMaxima (domain_of image conn) h (value_at image) (value_at grown)
+h_maxima_of conn h image lowered grown low recon =
+    let same : (p : Pixel) → value_at lowered p ≡ less h (value_at image) p =
+    λ p. ap (λ (r : Raster). value_at r p) low ∙ less_value h image p
+    in
+    subst (λ (marker : Pixel → ℕ). IsReconstruction (domain_of image conn) (value_at image) marker (value_at grown))
+    (λ i p. same p i) recon
+
+-- an image raised by 1 has room for it
+pub raised_cells : (xs : List ℕ) (top : ℕ) → top < 4294967295 → EachIndex xs (λ k. slice_index xs k ≤ top)
+    → map (λ v. min (v + 1) 4294967295) xs ≡ map (λ v. v + 1) xs
+raised_cells xs top room bound =
+    let long = length-map xs (λ v. min (v + 1) 4294967295) ∙ sym (length-map xs (λ v. v + 1)) in
+    ext_get_or 0 (map (λ v. min (v + 1) 4294967295) xs) (map (λ v. v + 1) xs) long (λ i within.
+    let here : i < length xs = omega (arith, within, length-map xs (λ v. min (v + 1) 4294967295)) in
+    omega (
+      arith,
+      get_or-map (λ v. min (v + 1) 4294967295) xs i 0 0 here,
+      get_or-map (λ v. v + 1) xs i 0 0 here,
+      bound i here,
+      room,
+    ))
+
+-- the fill of an image, by its complement, the border of that, what grows from it, and the complement of this
+pub fill_of : (conn : Conn) (top : ℕ) (image border grown turned : Raster) → IsFilled image → IsFilled turned
+    → EachIndex image.cells (λ k. slice_index image.cells k ≤ top)
+    → IsPartOfBorder (complement_of top image) border
+    → ((p : Pixel) → IsInside image.width image.height p → IsOnBorder image.width image.height p
+    → AgreeAt (complement_of top image) border p)
+    → grown.width ≡ image.width → turned.width ≡ image.width → turned.height ≡ image.height
+    → EachIndex turned.cells (λ k. slice_index turned.cells k ≡ top - slice_index grown.cells k)
+    → IsReconstruction (domain_of image conn) (value_at (complement_of top image)) (value_at border) (value_at grown)
+    → IsFill (domain_of image conn) (value_at image) (value_at turned)
+fill_of conn top image border grown turned filled turned_filled bound part whole grown_width width height back recon =
+    fill_by_growing (domain_of image conn) (value_at image) (value_at (complement_of top image)) (value_at border) top
+    (λ q inside. value_within image top bound filled q inside)
+    (λ q inside. mapped_value (λ v. top - v) image q filled inside) part.values whole (value_at grown)
+    (value_at turned) recon
+    (λ q inside.
+    let inside_turned : IsInside turned.width turned.height q =
+    (omega (arith, inside.0, width), omega (arith, inside.1, height))
+    in
+    let within : index_of turned.width q < length turned.cells = index_of-within turned q turned_filled inside_turned in
+    let here = back (index_of turned.width q) within in
+    let lower = at_width grown.cells turned.width grown.width q (width ∙ sym grown_width) in
+    omega (arith, here, lower))
+
+-- the regional maxima of an image, by the image raised by 1 and what grows in it
+pub maxima_of : (conn : Conn) (image grown maxima : Raster) → IsFilled image → IsFilled maxima
+    → grown.width ≡ image.width → maxima.width ≡ image.width → maxima.height ≡ image.height
+    → EachIndex maxima.cells (λ k. slice_index maxima.cells k
+    ≡ slice_index (mapped (λ v. v + 1) image).cells k - slice_index grown.cells k)
+    → IsReconstruction (domain_of image conn) (value_at (mapped (λ v. v + 1) image)) (value_at image) (value_at grown)
+    → IsRegionalMaxima (domain_of image conn) (value_at image) (value_at maxima)
+maxima_of conn image grown maxima filled maxima_filled grown_width width height left recon =
+    maxima_by_growing (domain_of image conn) (value_at image) (value_at (mapped (λ v. v + 1) image))
+    (λ q inside. mapped_value (λ v. v + 1) image q filled inside) (value_at grown) (value_at maxima) recon
+    (λ q inside.
+    let inside_maxima : IsInside maxima.width maxima.height q =
+    (omega (arith, inside.0, width), omega (arith, inside.1, height))
+    in
+    let within : index_of maxima.width q < length maxima.cells = index_of-within maxima q maxima_filled inside_maxima in
+    let here = left (index_of maxima.width q) within in
+    let upper = at_width (mapped (λ v. v + 1) image).cells maxima.width image.width q width in
+    let lower = at_width grown.cells maxima.width grown.width q (width ∙ sym grown_width) in
+    omega (arith, here, upper, lower))
+
+-- regional maxima are nowhere above 1
+pub maxima_within : (conn : Conn) (image maxima : Raster) → IsFilled maxima → maxima.width ≡ image.width
+    → maxima.height ≡ image.height
+    → IsRegionalMaxima (domain_of image conn) (value_at image) (value_at maxima)
+    → EachIndex maxima.cells (λ k. slice_index maxima.cells k ≤ 1)
+maxima_within conn image maxima filled width height are k within =
+    let p : Pixel = pixel_of maxima.width k in
+    let inside = pixel_of-inside maxima k filled within in
+    let inside_image : IsInside image.width image.height p =
+    (omega (arith, inside.0, width), omega (arith, inside.1, height))
+    in
+    let place : value_at maxima p ≡ slice_index maxima.cells k =
+    ap (λ i. slice_index maxima.cells i) (index_of-pixel_of maxima.width k)
+    in
+    elim (are p inside_image) [
+      | inl one ↦ omega (arith, one.1, place)
+      | inr none ↦ omega (arith, none.1, place)
+    ]
+
+-- the same, of images that are equal to these
+pub fill_from : (conn : Conn) (top : ℕ) (image mask border grown turned : Raster) → mask ≡ complement_of top image
+    → IsFilled image → IsFilled turned
+    → EachIndex image.cells (λ k. slice_index image.cells k ≤ top)
+    → IsPartOfBorder mask border
+    → ((p : Pixel) → IsInside mask.width mask.height p → IsOnBorder mask.width mask.height p → AgreeAt mask border p)
+    → grown.width ≡ border.width → turned.width ≡ grown.width → grown.height ≡ border.height
+    → turned.height ≡ grown.height
+    → EachIndex turned.cells (λ k. slice_index turned.cells k ≡ top - slice_index grown.cells k)
+    → IsReconstruction (domain_of mask conn) (value_at mask) (value_at border) (value_at grown)
+    → IsFill (domain_of image conn) (value_at image) (value_at turned)
+fill_from conn top image mask border grown turned is_mask filled turned_filled bound part whole wide width high height
+    back recon =
+    let its_part = subst (λ (m : Raster). IsPartOfBorder m border) is_mask part in
+    let its_whole = subst (λ (m : Raster). (p : Pixel) → IsInside m.width m.height p
+    → IsOnBorder m.width m.height p → AgreeAt m border p) is_mask whole
+    in
+    let its_recon =
+    subst (λ (m : Raster). IsReconstruction (domain_of m conn) (value_at m) (value_at border) (value_at grown)) is_mask
+    recon
+    in
+    let grown_width = wide ∙ its_part.width in
+    let grown_height = high ∙ its_part.height in
+    fill_of conn top image border grown turned filled turned_filled bound its_part its_whole grown_width
+    (width ∙ grown_width) (height ∙ grown_height) back its_recon
+
+-- an image of the size of another, with values up to a maxval
+pub graymap_from : (image : Graymap) (made : Raster) (maxval : ℕ) → IsGraymap image → 0 < maxval → maxval ≤ max_maxval
+    → made.width ≡ image.raster.width → made.height ≡ image.raster.height → IsFilled made
+    → EachIndex made.cells (λ k. slice_index made.cells k ≤ maxval)
+    → IsGraymap (record { raster = made; maxval = maxval })
+graymap_from image made maxval is some within width height filled bound = record {
+  sized = record {
+    size =
+        subst (λ w. IsImageSize w made.height) (sym width)
+        (subst (λ h. IsImageSize image.raster.width h) (sym height) is.sized.size);
+    filled = filled;
+  };
+  some_maxval = some;
+  maxval_within = within;
+  samples_within = bound;
+}
+
+pub maxima_from : (conn : Conn) (image mask start grown maxima : Raster) → mask ≡ mapped (λ v. v + 1) image
+    → start ≡ image
+    → IsFilled image → IsFilled maxima
+    → grown.width ≡ start.width → maxima.width ≡ start.width → maxima.height ≡ start.height
+    → EachIndex maxima.cells (λ k. slice_index maxima.cells k ≡ slice_index mask.cells k - slice_index grown.cells k)
+    → IsReconstruction (domain_of mask conn) (value_at mask) (value_at start) (value_at grown)
+    → IsRegionalMaxima (domain_of image conn) (value_at image) (value_at maxima)
+maxima_from conn image mask start grown maxima is_mask is_start filled maxima_filled grown_width width height left
+    recon =
+    let its_left = subst (λ (m : Raster). EachIndex maxima.cells (λ k. slice_index maxima.cells k
+    ≡ slice_index m.cells k - slice_index grown.cells k)) is_mask left
+    in
+    let its_recon =
+    subst (λ (s : Raster). IsReconstruction (domain_of (mapped (λ v. v + 1) image) conn)
+    (value_at (mapped (λ v. v + 1) image)) (value_at s) (value_at grown)) is_start
+    (subst (λ (m : Raster). IsReconstruction (domain_of m conn) (value_at m) (value_at start) (value_at grown)) is_mask
+    recon)
+    in
+    let wide = ap (λ (s : Raster). s.width) is_start in
+    let high = ap (λ (s : Raster). s.height) is_start in
+    maxima_of conn image grown maxima filled maxima_filled (grown_width ∙ wide) (width ∙ wide) (height ∙ high) its_left
+    its_recon
+
+pub h_maxima_from : (conn : Conn) (h : ℕ) (image from mask lowered grown : Raster) → from ≡ image → mask ≡ image
+    → lowered ≡ mapped (λ v. v - h) from
+    → IsReconstruction (domain_of mask conn) (value_at mask) (value_at lowered) (value_at grown)
+    → IsHMaxima (domain_of image conn) h (value_at image) (value_at grown)
+h_maxima_from conn h image from mask lowered grown is_from is_mask low recon =
+    h_maxima_of conn h image lowered grown (low ∙ ap (λ (r : Raster). mapped (λ v. v - h) r) is_from)
+    (subst (λ (m : Raster). IsReconstruction (domain_of m conn) (value_at m) (value_at lowered) (value_at grown))
+    is_mask recon)

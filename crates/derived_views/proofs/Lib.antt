@@ -1,0 +1,7 @@
+pub mod Paths
+pub mod Filling
+pub mod Climbing
+pub mod Rasters
+pub mod Borders
+pub mod Growing
+pub mod Views

@@ -1,0 +1,19 @@
+use Rattle.std.proofs.Common.{◌≡◌, ◌*◌, replicate, subst, sym, rules}
+use Rattle.derived_views.specs.Rasters.{IsPartOfBorder}
+use Rattle.derived_views.proofs.Borders.{whole_border, zeros_part}
+use Rattle.derived_views.proofs.holes.border_of.Goals as goal
+
+pub copy_columns-requires : goal.copy_columns-requires
+copy_columns-requires c =
+    let zeros : c.in_ok-cells.cells.items ≡ replicate (c.width-w.result * c.height-h.result) 0 =
+    c.in_ok-cells.ensures.items_if_clones_equal (λ y. search rules)
+    in
+    subst (λ r. IsPartOfBorder c.args.grid.now r) (sym c.from_cells-border.ensures)
+    (zeros_part c.args.grid.now
+    (record { width = c.width-w.result; height = c.height-h.result; cells = c.in_ok-cells.cells.items })
+    c.width-w.ensures.value c.height-h.ensures.value zeros)
+
+pub returns-clause-border : goal.returns-clause-border
+returns-clause-border c =
+    whole_border c.args.grid.now c.copy_columns.new.border c.copy_rows.new.border c.copy_columns.ensures.columns
+    c.copy_rows.ensures.kept c.copy_rows.ensures.rows

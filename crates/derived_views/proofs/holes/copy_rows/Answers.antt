@@ -1,0 +1,28 @@
+use Rattle.std.proofs.Common.{◌≡◌, ◌+◌, ◌-◌, ◌<◌, arith}
+use Rattle.derived_views.proofs.Borders.{rows_more}
+use Rattle.derived_views.proofs.holes.copy_rows.Goals as goal
+
+pub loop-x-preserved : goal.loop-x-preserved
+loop-x-preserved c =
+    let image = c.args.grid.now in
+    let last = c.height-last.result - 1 in
+    let height : last + 1 ≡ image.height =
+    omega (arith, c.height-last.ensures.value, c.height-last.ensures.sized.size)
+    in
+    let first = c.copy_pixel.ensures in
+    let second = c.copy_pixel-in-loop-x.ensures in
+    record {
+      part = second.part;
+      kept = λ p inside agrees.
+          second.kept p inside (first.kept p inside (c.loop-x.invariant.kept p inside agrees));
+      rows =
+          rows_more image c.loop-x.border c.copy_pixel.new.border c.copy_pixel-in-loop-x.new.border last c.loop-x.x
+          height first.kept second.kept first.copied second.copied c.loop-x.invariant.rows;
+    }
+
+pub returns-clause-rows : goal.returns-clause-rows
+returns-clause-rows c = λ p inside side.
+    let column : p.x < c.loop-x.x =
+    omega (arith, inside.0, c.loop-x-test.false, c.loop-x.auto.x-end, c.width-x-end.ensures.value)
+    in
+    c.loop-x.invariant.rows p inside column side

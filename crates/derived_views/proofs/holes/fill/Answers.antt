@@ -1,0 +1,53 @@
+use Rattle.std.proofs.Common.{◌≡◌, ◌≤◌, ◌∙◌, ap, sym, subst, arith}
+use Rattle.std.specs.Prelude.{slice_index, EachIndex}
+use Rattle.grid_core.specs.Path.{domain_of}
+use Rattle.grid_core.specs.Raster.{value_at}
+use Rattle.pgm_codec.specs.Graymap.{Graymap}
+use Rattle.derived_views.specs.Holes.{IsFill}
+use Rattle.derived_views.specs.Rasters.{complement_of}
+use Rattle.derived_views.proofs.Borders.{border_below}
+use Rattle.derived_views.proofs.Growing.{fill_from, graymap_from}
+use Rattle.derived_views.proofs.holes.fill.Goals as goal
+
+pub grow_in_place-requires : goal.grow_in_place-requires
+grow_in_place-requires c = border_below c.in_ok-mask.mask c.in_ok-grown.grown c.in_ok-grown.ensures.part
+
+pub over-requires : goal.over-requires
+over-requires c =
+    let image = c.args.image.now in
+    let is = c.maxval-maxval.ensures.is_graymap in
+    let maxval : c.maxval-maxval.result ≡ image.maxval = c.maxval-maxval.ensures.value in
+    let top : c.from-top.result ≡ c.maxval-maxval.result = c.from-top.ensures in
+    let mask : c.in_ok-mask.mask ≡ complement_of c.from-top.result image.raster =
+    c.in_ok-mask.ensures ∙ ap (λ r. complement_of c.from-top.result r) c.grid.ensures.value
+    in
+    let turned = c.complemented-filled.ensures in
+    let grown = c.in_ok-grow_in_place.ensures in
+    let part = c.in_ok-grown.ensures.part in
+    graymap_from image c.complemented-filled.result c.maxval-maxval.result is
+    (omega (arith, maxval, is.some_maxval))
+    (omega (arith, maxval, is.maxval_within))
+    (turned.width ∙ grown.width ∙ part.width ∙ ap (λ r. r.width) mask)
+    (turned.height ∙ grown.height ∙ part.height ∙ ap (λ r. r.height) mask)
+    turned.filled
+    (λ k within. omega (arith, turned.values k within, top))
+
+pub returns-clause-fill : goal.returns-clause-fill
+returns-clause-fill c =
+    let image = c.args.image.now in
+    let is = c.maxval-maxval.ensures.is_graymap in
+    let d = domain_of image.raster c.args.conn in
+    let top : c.from-top.result ≡ image.maxval = c.from-top.ensures ∙ c.maxval-maxval.ensures.value in
+    let mask : c.in_ok-mask.mask ≡ complement_of c.from-top.result image.raster =
+    c.in_ok-mask.ensures ∙ ap (λ r. complement_of c.from-top.result r) c.grid.ensures.value
+    in
+    let bound : EachIndex image.raster.cells (λ k. slice_index image.raster.cells k ≤ c.from-top.result) =
+    λ k within. omega (arith, is.samples_within k within, top)
+    in
+    let turned = c.complemented-filled.ensures in
+    let grown = c.in_ok-grow_in_place.ensures in
+    subst (λ (g : Graymap). IsFill d (value_at image.raster) (value_at g.raster)) (sym c.over.ensures)
+    (fill_from c.args.conn c.from-top.result image.raster c.in_ok-mask.mask c.in_ok-grown.grown
+    c.grow_in_place.new.image c.complemented-filled.result mask is.sized.filled turned.filled bound
+    c.in_ok-grown.ensures.part c.in_ok-grown.ensures.border grown.width turned.width grown.height turned.height
+    turned.values grown.reconstruction)

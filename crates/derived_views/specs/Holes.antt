@@ -1,0 +1,21 @@
+-- An image whose holes are filled (Soille, "Morphological Image Analysis"): each pixel is raised to the least level at
+-- which it escapes to the border of the image.
+use Rattle.std.specs.Prelude.{◌≡◌, ℕ, ◌+◌, ◌<◌, ◌≤◌, ◌⊎◌, List, ◌∷◌}
+use Rattle.std.specs.List.{AllByRecursion}
+use Rattle.grid_core.specs.declared.pixel.Pixel.{Pixel}
+use Rattle.grid_core.specs.Path.{Domain, Inside, IsPath, end_of}
+
+-- the pixel lies in the first or the last column, or in the first or the last row, of an image of this width and height
+abbrev pub IsOnBorder : ℕ → ℕ → Pixel → Type 0
+IsOnBorder width height p = (p.x ≡ 0) ⊎ ((p.x + 1 ≡ width) ⊎ ((p.y ≡ 0) ⊎ (p.y + 1 ≡ height)))
+
+-- the pixel escapes at level k: a path leads from it to a pixel on the border, and every value on it is at most k
+abbrev pub Escapes : Domain → (Pixel → ℕ) → Pixel → ℕ → Type 0
+Escapes d image p k =
+    (rest : List Pixel) × IsPath d p rest × AllByRecursion (λ q. image q ≤ k) (p ∷ rest)
+    × IsOnBorder d.width d.height (end_of p rest)
+
+-- at each pixel the value is the least level at which the pixel escapes
+abbrev pub IsFill : Domain → (Pixel → ℕ) → (Pixel → ℕ) → Type 0
+IsFill d image fill =
+    (p : Pixel) → Inside d p → Escapes d image p (fill p) × ((k : ℕ) → k < fill p → Escapes d image p k → ⊥)

@@ -1,0 +1,30 @@
+-- Images made on the way to a view. Only private functions have these words in their contracts.
+use Rattle.std.specs.Prelude.{◌≡◌, ℕ, ◌-◌, ◌⊎◌, map}
+use Rattle.grid_core.specs.declared.pixel.Pixel.{Pixel}
+use Rattle.grid_core.specs.Raster.{Raster, IsInside, IsFilled, value_at}
+use Rattle.derived_views.specs.Holes.{IsOnBorder}
+
+-- the image with a function of each of its values
+abbrev pub mapped : (ℕ → ℕ) → Raster → Raster
+mapped f r = record { width = r.width; height = r.height; cells = map f r.cells }
+
+-- how far each value lies below the top, and 0 where it does not lie below
+abbrev pub complement_of : ℕ → Raster → Raster
+complement_of top r = mapped (λ v. top - v) r
+
+-- the second image has at the pixel the value of the first
+abbrev pub AgreeAt : Raster → Raster → Pixel → Type 0
+AgreeAt image other p = value_at other p ≡ value_at image p
+
+-- an image of the same size whose values are 0, or on the border those of the first
+pub record IsPartOfBorder (image border : Raster) : Type 0 where
+  pub width : border.width ≡ image.width
+  pub height : border.height ≡ image.height
+  pub filled : IsFilled border
+  pub values : (p : Pixel) → IsInside image.width image.height p
+      → (value_at border p ≡ 0) ⊎ (IsOnBorder image.width image.height p × AgreeAt image border p)
+
+-- where an old image agreed with the first, the new one does too
+abbrev pub KeepsAgreed : Raster → Raster → Raster → Type 0
+KeepsAgreed image old new =
+    (p : Pixel) → IsInside image.width image.height p → AgreeAt image old p → AgreeAt image new p

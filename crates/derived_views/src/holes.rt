@@ -1,0 +1,130 @@
+//! Holes filled (Soille, "Morphological Image Analysis").
+//!
+//! Upside down, a hole is a dome that no path of high values joins to the border. So the image is turned upside down,
+//! its border grows inwards, and what has grown is turned back.
+
+ghost use Rattle.std.specs.Prelude.{◌≡◌, ◌+◌, ◌-◌, ◌⊎◌, length, slice_index, EachIndex, IfOk};
+ghost use Rattle.grid_core.specs.Path.{domain_of};
+ghost use Rattle.grid_core.specs.Raster.{IsFilled, IsInside, value_at};
+ghost use Rattle.pgm_codec.specs.Graymap.{IsGraymap};
+ghost use Rattle.derived_views.specs.Holes.{IsFill, IsOnBorder};
+ghost use Rattle.derived_views.specs.Rasters.{complement_of, AgreeAt, IsPartOfBorder, KeepsAgreed};
+
+use grid_core::{Conn, Grid, Memory, Pixel};
+use pgm_codec::Image;
+use raster_sweeps::grow_in_place;
+use std::alloc::Global;
+
+/// The image with its holes filled, under this connectivity: at each pixel the least level at which a path leads from
+/// it to the border, with no value on the path above that level (Soille). Width, height and maxval are the image's.
+///
+/// Errors: out of memory.
+pub fn fill(alloc: Global, image: &Image, conn: Conn) -> Result<Image, Memory>
+    ensures graymap { IfOk result IsGraymap }
+    ensures width { IfOk result (λ filled. filled.raster.width ≡ image.now.raster.width) }
+    ensures height { IfOk result (λ filled. filled.raster.height ≡ image.now.raster.height) }
+    ensures maxval { IfOk result (λ filled. filled.maxval ≡ image.now.maxval) }
+    ensures fill { IfOk result (λ filled.
+        IsFill (domain_of image.now.raster conn) (value_at image.now.raster) (value_at filled.raster)) }
+{
+    let maxval = image.maxval();
+    let top = u32::from(maxval);
+    let mask = complement(alloc, image.grid(), top)?;
+    let mut grown = border_of(alloc, &mask)?;
+    grow_in_place(alloc, &mask, &mut grown, conn)?;
+    let filled = complemented(grown, top);
+    Ok(Image::over(filled, maxval))
+}
+
+// How far each value lies below the top, as another grid.
+fn complement(alloc: Global, grid: &Grid, top: u32) -> Result<Grid, Memory>
+    ensures { IfOk result (λ g. g ≡ complement_of top grid.now) }
+{
+    let cells = grid
+        .cells()
+        .iter()
+        .map(|v| top.saturating_sub(*v))
+        .collect(alloc)?;
+    Ok(Grid::from_cells(grid.width(), grid.height(), cells))
+}
+
+// How far each value lies below the top, in the same memory.
+fn complemented(grid: Grid, top: u32) -> Grid
+    ensures width { result.width ≡ grid.width }
+    ensures height { result.height ≡ grid.height }
+    ensures filled { IsFilled result }
+    ensures values { EachIndex result.cells (λ k. slice_index result.cells k ≡ top - slice_index grid.cells k) }
+{
+    let w = grid.width();
+    let h = grid.height();
+    let mut cells = grid.into_cells();
+    subtract_from_top(&mut cells, top);
+    Grid::from_cells(w, h, cells)
+}
+
+// Makes each value that by which the top is greater.
+fn subtract_from_top(values: &mut [u32], top: u32)
+    ensures len { length values.new ≡ length values.old }
+    ensures differences { EachIndex values.new (λ k. slice_index values.new k ≡ top - slice_index values.old k) }
+{
+    for i in 0..values.len() {
+        values[i] = top.saturating_sub(values[i]);
+    }
+}
+
+// The values of the grid on its border, and 0 within.
+fn border_of(alloc: Global, grid: &Grid) -> Result<Grid, Memory>
+    ensures part { IfOk result (λ g. IsPartOfBorder grid.now g) }
+    ensures border { IfOk result (λ g. (p : _) → IsInside grid.now.width grid.now.height p
+        → IsOnBorder grid.now.width grid.now.height p → AgreeAt grid.now g p) }
+{
+    let w = grid.width();
+    let h = grid.height();
+    let cells = vec![in alloc; 0; w as usize * h as usize]?;
+    let mut border = Grid::from_cells(w, h, cells);
+    copy_columns(grid, &mut border);
+    copy_rows(grid, &mut border);
+    Ok(border)
+}
+
+// Copies the first and the last column of the grid.
+fn copy_columns(grid: &Grid, border: &mut Grid)
+    requires { IsPartOfBorder grid.now border.old }
+    ensures part { IsPartOfBorder grid.now border.new }
+    ensures kept { KeepsAgreed grid.now border.old border.new }
+    ensures columns { (p : _) → IsInside grid.now.width grid.now.height p
+        → (p.x ≡ 0) ⊎ (p.x + 1 ≡ grid.now.width) → AgreeAt grid.now border.new p }
+{
+    let last = grid.width() - 1;
+    for y in 0..grid.height() {
+        copy_pixel(grid, border, Pixel { x: 0, y });
+        copy_pixel(grid, border, Pixel { x: last, y });
+    }
+}
+
+// Copies the first and the last row of the grid.
+fn copy_rows(grid: &Grid, border: &mut Grid)
+    requires { IsPartOfBorder grid.now border.old }
+    ensures part { IsPartOfBorder grid.now border.new }
+    ensures kept { KeepsAgreed grid.now border.old border.new }
+    ensures rows { (p : _) → IsInside grid.now.width grid.now.height p
+        → (p.y ≡ 0) ⊎ (p.y + 1 ≡ grid.now.height) → AgreeAt grid.now border.new p }
+{
+    let last = grid.height() - 1;
+    for x in 0..grid.width() {
+        copy_pixel(grid, border, Pixel { x, y: 0 });
+        copy_pixel(grid, border, Pixel { x, y: last });
+    }
+}
+
+// Copies the value of a pixel on the border.
+fn copy_pixel(grid: &Grid, border: &mut Grid, p: Pixel)
+    requires part { IsPartOfBorder grid.now border.old }
+    requires inside { IsInside grid.now.width grid.now.height p }
+    requires on_border { IsOnBorder grid.now.width grid.now.height p }
+    ensures part { IsPartOfBorder grid.now border.new }
+    ensures kept { KeepsAgreed grid.now border.old border.new }
+    ensures copied { AgreeAt grid.now border.new p }
+{
+    border.set(p, grid.get(p));
+}

@@ -1,0 +1,33 @@
+#![tactic(auto)]
+//! Views of one greyscale image: its holes filled, its domes cut down, its regional maxima.
+//!
+//! - [`fill`] raises each pixel to the least level at which it escapes to the border of the image: a dark spot that
+//!   brighter pixels enclose is filled up to the lowest of the ways out (Soille, "Morphological Image Analysis").
+//! - [`h_maxima`] is the reconstruction of the image from the image less `h`: each dome loses up to `h` at its top
+//!   (Vincent, "Morphological Grayscale Reconstruction in Image Analysis", 1993).
+//! - [`regional_maxima`] is 1 on each plateau that strictly lower pixels surround, and 0 elsewhere (Vincent 1993).
+//!
+//! ```text
+//! // 1 4 3 5 1, maxval 9
+//! h_maxima(alloc, &image, 2, Conn::Four)?;        // 1 3 3 3 1, maxval 9
+//! regional_maxima(alloc, &image, Conn::Four)?;    // 0 1 0 1 0, maxval 1
+//! fill(alloc, &image, Conn::Four)?;               // 1 4 3 5 1: in one row each pixel lies on the border
+//! ```
+//!
+//! Each takes the memory of at most one grid beside the image that it gives back, and the room of growing
+//! ([`raster_sweeps::Room`]). Want of memory is its one error.
+//!
+//! Read on: `specs/Holes.antt`, `specs/Domes.antt` and `specs/Plateaus.antt` say what the three views are. They are
+//! computed by growing (`raster_sweeps`), each in a way of its own that its module tells.
+
+mod domes;
+mod holes;
+pub mod laws;
+mod plateaus;
+
+pub use domes::h_maxima;
+pub use holes::fill;
+pub use plateaus::regional_maxima;
+
+#[cfg(test)]
+mod tests;
