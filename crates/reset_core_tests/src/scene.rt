@@ -1,0 +1,556 @@
+//! A core, and the calls that the tests make of it. Clauses see nothing of the values here, and no function here promises
+//! anything, which keeps the proofs of the tests small.
+
+ghost use Rattle.std.specs.Prelude.{⊤};
+
+use grid_core::{Conn, Grid, Pixel};
+use marker_tiles::marker;
+use pgm_codec::Image;
+use raster_sweeps::slow;
+use reset_core::{Back, Core, CoreError, Count, Handed, Ran, RefusedMask, Step};
+use std::alloc::Global;
+use std::marker::Model;
+use std::test::Fail;
+use stroke_core::{Run, Stroke, Tag};
+use stroke_lattice::{Change, Delta, State};
+use tile_generations::{Job, MAX_GENERATION, Swept, Ticket};
+
+/// The grid of these cells.
+pub fn grid_of(alloc: Global, width: u32, height: u32, cells: &[u32]) -> Result<Grid, Fail> {
+    let mut grid = Grid::new(alloc, width, height, 0)?;
+    for (cell, value) in grid.cells_mut().iter_mut().zip(cells) {
+        *cell = *value;
+    }
+    Ok(grid)
+}
+
+// The image of one row of these samples, of maxval 9.
+fn row_of(alloc: Global, samples: &[u32]) -> Result<Image, Fail> {
+    let grid = grid_of(alloc, u32::try_from(samples.len())?, 1, samples)?;
+    Ok(Image::from_grid(alloc, &grid, 9)?)
+}
+
+/// A delta.
+#[derive(Drop)]
+pub struct Edit {
+    delta: Delta,
+}
+
+impl Model for Edit {
+    ghost Value = { ⊤ };
+
+    ghost view = { λ _. tt };
+}
+
+impl Edit {
+    /// A delta.
+    pub fn of(delta: Delta) -> Edit {
+        Edit { delta }
+    }
+
+    /// A stroke of one run on the top row.
+    pub fn place(alloc: Global, tag: u128, level: u32, x0: u16, x1: u16) -> Result<Edit, Fail> {
+        let runs = vec![in alloc; Run { y: 0, x0, x1 }]?;
+        let stroke = Stroke::new(level, runs)?;
+        Ok(Edit {
+            delta: State::placed(alloc, Tag(tag), stroke)?,
+        })
+    }
+
+    /// A tombstone.
+    pub fn withdraw(alloc: Global, tag: u128) -> Result<Edit, Fail> {
+        Ok(Edit {
+            delta: State::withdrawn(alloc, Tag(tag))?,
+        })
+    }
+
+    /// The join of both.
+    pub fn and(self, alloc: Global, other: Edit) -> Result<Edit, Fail> {
+        let Edit { mut delta } = self;
+        delta.merge(alloc, &other.delta)?;
+        Ok(Edit { delta })
+    }
+
+    /// Whether both have the same strokes and tombstones.
+    pub fn is_same(&self, other: &Edit) -> bool {
+        self.delta.is_same(&other.delta)
+    }
+
+    /// The delta by itself.
+    pub fn delta(&self) -> &Delta {
+        &self.delta
+    }
+
+    /// The step of a schedule that merges it.
+    pub fn into_step(self) -> Step {
+        let Edit { delta } = self;
+        Step::Edit(delta)
+    }
+}
+
+/// What a merge changed.
+#[derive(Drop)]
+pub struct News {
+    change: Change,
+}
+
+impl Model for News {
+    ghost Value = { ⊤ };
+
+    ghost view = { λ _. tt };
+}
+
+impl News {
+    /// Whether exactly these tags became live, and these ceased to be.
+    pub fn is(&self, born: &[Tag], dead: &[Tag]) -> bool {
+        self.change.born() == born && self.change.dead() == dead
+    }
+}
+
+/// A job.
+#[derive(Drop)]
+pub struct Task {
+    job: Job,
+}
+
+impl Model for Task {
+    ghost Value = { ⊤ };
+
+    ghost view = { λ _. tt };
+}
+
+impl Task {
+    /// Which job it is.
+    pub fn ticket(&self) -> Ticket {
+        self.job.ticket()
+    }
+
+    /// Which pixels are neighbours.
+    pub fn conn(&self) -> Conn {
+        self.job.conn()
+    }
+
+    /// Whether it has this base and this mask.
+    pub fn has(&self, base: &[u32], mask: &[u32]) -> bool {
+        self.job.base().cells() == base && self.job.mask().cells() == mask
+    }
+
+    /// Sweeps it.
+    pub fn sweep(self, alloc: Global) -> Result<Outcome, Fail> {
+        let Task { job } = self;
+        match job.sweep(alloc) {
+            Ok(swept) => Ok(Outcome { swept }),
+            Err((_, why)) => Err(Fail::new(why)),
+        }
+    }
+}
+
+/// A job that was done.
+#[derive(Drop)]
+pub struct Outcome {
+    swept: Swept,
+}
+
+impl Model for Outcome {
+    ghost Value = { ⊤ };
+
+    ghost view = { λ _. tt };
+}
+
+impl Outcome {
+    /// Which job it was.
+    pub fn ticket(&self) -> Ticket {
+        self.swept.ticket()
+    }
+
+    /// Whether the sweep gave these pixels.
+    pub fn shows(&self, pixels: &[u32]) -> bool {
+        self.swept.pixels().cells() == pixels
+    }
+
+    /// A copy.
+    pub fn copy(&self, alloc: Global) -> Result<Outcome, Fail> {
+        Ok(Outcome {
+            swept: self.swept.copy(alloc)?,
+        })
+    }
+}
+
+/// Why no core with tiles of this side is opened on a mask of one row, and the cells of the mask handed back.
+pub fn refused_row(alloc: Global, mask: &[u32], side: u32) -> Result<(CoreError, Vec<u32>), Fail> {
+    let mask = grid_of(alloc, u32::try_from(mask.len())?, 1, mask)?;
+    match Core::over(alloc, mask, Conn::Four, side, 0) {
+        Ok(_) => Err(Fail::new("the side is accepted")),
+        Err(refused) => {
+            let RefusedMask { why, mask } = refused;
+            Ok((why, mask.into_cells()))
+        }
+    }
+}
+
+/// Why no core with tiles of this side is opened on an image of one row.
+pub fn refused_side(alloc: Global, row: &[u32], side: u32) -> Result<CoreError, Fail> {
+    let mask = row_of(alloc, row)?;
+    match Core::open_tiled(alloc, &mask, Conn::Four, side, 0) {
+        Ok(_) => Err(Fail::new("the side is accepted")),
+        Err(why) => Ok(why),
+    }
+}
+
+/// A core.
+#[derive(Drop)]
+pub struct Scene {
+    alloc: Global,
+    core: Core,
+}
+
+impl Model for Scene {
+    ghost Value = { ⊤ };
+
+    ghost view = { λ _. tt };
+}
+
+impl Scene {
+    /// A core on a mask, with tiles of this side.
+    pub fn on(alloc: Global, mask: Grid, conn: Conn, side: u32) -> Result<Scene, Fail> {
+        let core = Core::over(alloc, mask, conn, side, 0)?;
+        Ok(Scene { alloc, core })
+    }
+
+    /// A core on a mask of one row under four neighbours, with tiles of side 64.
+    pub fn on_row(alloc: Global, mask: &[u32]) -> Result<Scene, Fail> {
+        Scene::on_tiled_row(alloc, mask, 64)
+    }
+
+    /// A core on a mask of one row under four neighbours, with tiles of this side.
+    pub fn on_tiled_row(alloc: Global, mask: &[u32], side: u32) -> Result<Scene, Fail> {
+        let mask = grid_of(alloc, u32::try_from(mask.len())?, 1, mask)?;
+        Scene::on(alloc, mask, Conn::Four, side)
+    }
+
+    /// A core on an image of one row, with tiles of the side that stands where none is named.
+    pub fn open(alloc: Global, row: &[u32], conn: Conn) -> Result<Scene, Fail> {
+        let mask = row_of(alloc, row)?;
+        let core = Core::open(alloc, &mask, conn)?;
+        Ok(Scene { alloc, core })
+    }
+
+    /// A core on an image of one row under four neighbours, whose generations begin at `first`.
+    pub fn open_at(alloc: Global, row: &[u32], first: u64) -> Result<Scene, Fail> {
+        if first > MAX_GENERATION {
+            return Err(Fail::new("there is no such generation"));
+        }
+        let mask = row_of(alloc, row)?;
+        let core = Core::open_at(alloc, &mask, Conn::Four, first)?;
+        Ok(Scene { alloc, core })
+    }
+
+    /// A core on an image of one row under four neighbours, with tiles of this side.
+    pub fn open_tiled(alloc: Global, row: &[u32], side: u32) -> Result<Scene, Fail> {
+        let mask = row_of(alloc, row)?;
+        let core = Core::open_tiled(alloc, &mask, Conn::Four, side, 5)?;
+        Ok(Scene { alloc, core })
+    }
+
+    /// Merges a delta.
+    pub fn merge(&mut self, edit: &Edit) -> Result<News, CoreError> {
+        let change = self.core.merge(self.alloc, &edit.delta)?;
+        Ok(News { change })
+    }
+
+    /// Why the core refuses a delta, if it does.
+    pub fn refusal(&mut self, edit: &Edit) -> Option<CoreError> {
+        match self.merge(edit) {
+            Ok(_) => None,
+            Err(why) => Some(why),
+        }
+    }
+
+    /// Places a stroke of one run on the top row.
+    pub fn place(&mut self, tag: u128, level: u32, x0: u16, x1: u16) -> Result<(), Fail> {
+        let edit = Edit::place(self.alloc, tag, level, x0, x1)?;
+        self.merge(&edit)?;
+        Ok(())
+    }
+
+    /// Withdraws a stroke.
+    pub fn withdraw(&mut self, tag: u128) -> Result<(), Fail> {
+        let edit = Edit::withdraw(self.alloc, tag)?;
+        self.merge(&edit)?;
+        Ok(())
+    }
+
+    /// Takes a tile.
+    pub fn try_take(&mut self, tile: usize) -> Result<Option<Task>, Fail> {
+        match self.core.take(self.alloc, tile)? {
+            Some(job) => Ok(Some(Task { job })),
+            None => Ok(None),
+        }
+    }
+
+    /// Whether a tile gives a job. The job is lost.
+    pub fn gives_job(&mut self, tile: usize) -> Result<bool, Fail> {
+        let task = self.try_take(tile)?;
+        Ok(task.is_some())
+    }
+
+    /// Takes a tile that can be taken.
+    pub fn take(&mut self, tile: usize) -> Result<Task, Fail> {
+        match self.try_take(tile)? {
+            Some(task) => Ok(task),
+            None => Err(Fail::new("the tile gives no job")),
+        }
+    }
+
+    /// Takes a tile, and sweeps its job, if it gives one.
+    pub fn try_sweep(&mut self, tile: usize) -> Result<Option<Outcome>, Fail> {
+        match self.try_take(tile)? {
+            Some(task) => Ok(Some(task.sweep(self.alloc)?)),
+            None => Ok(None),
+        }
+    }
+
+    /// Takes a tile that can be taken, and sweeps its job.
+    pub fn take_and_sweep(&mut self, tile: usize) -> Result<Outcome, Fail> {
+        let task = self.take(tile)?;
+        task.sweep(self.alloc)
+    }
+
+    /// Gives back a swept tile.
+    pub fn give_back(&mut self, outcome: Outcome) -> Result<Back, Fail> {
+        let Outcome { swept } = outcome;
+        match self.core.give_back(self.alloc, swept) {
+            Ok(back) => Ok(back),
+            Err((_, why)) => Err(Fail::new(why)),
+        }
+    }
+
+    /// Gives back a copy of a swept tile.
+    pub fn give_back_copy(&mut self, outcome: &Outcome) -> Result<Back, Fail> {
+        let copy = outcome.copy(self.alloc)?;
+        self.give_back(copy)
+    }
+
+    /// Takes a tile, sweeps its job and gives it back.
+    pub fn work(&mut self, tile: usize) -> Result<Back, Fail> {
+        let outcome = self.take_and_sweep(tile)?;
+        self.give_back(outcome)
+    }
+
+    /// Abandons a job.
+    pub fn abandon(&mut self, ticket: Ticket) -> bool {
+        self.core.abandon(ticket)
+    }
+
+    /// Hands over a hint.
+    pub fn hand(&mut self, tile: usize, i: usize) -> Handed {
+        self.core.hand(tile, i)
+    }
+
+    /// Settles.
+    pub fn settle(&mut self) -> Result<Count, Fail> {
+        Ok(self.core.settle(self.alloc)?)
+    }
+
+    /// Runs a schedule.
+    pub fn run(&mut self, steps: &[Step]) -> Result<Ran, Fail> {
+        Ok(self.core.run_schedule(self.alloc, steps)?)
+    }
+}
+
+impl Scene {
+    /// Whether the image has these cells, row by row.
+    pub fn shows(&self, cells: &[u32]) -> bool {
+        self.core.image().cells() == cells
+    }
+
+    /// Whether the image has these cells from some place on.
+    pub fn shows_from(&self, start: usize, cells: &[u32]) -> bool {
+        match self.core.image().cells().get(start..) {
+            Some(rest) => rest.starts_with(cells),
+            None => false,
+        }
+    }
+
+    /// Whether the marker that the core keeps has these cells, row by row.
+    pub fn has_marker(&self, cells: &[u32]) -> bool {
+        self.core.marker().marker().cells() == cells
+    }
+
+    /// Whether the mask has these cells, row by row.
+    pub fn has_mask(&self, cells: &[u32]) -> bool {
+        self.core.mask().cells() == cells
+    }
+
+    /// Whether the stroke of a tag is live.
+    pub fn is_live(&self, tag: u128) -> bool {
+        self.core.state().is_live(Tag(tag))
+    }
+
+    /// Whether the strokes are those of a delta.
+    pub fn has_strokes_of(&self, edit: &Edit) -> bool {
+        self.core.state().is_same(&edit.delta)
+    }
+
+    /// Whether the strokes are those of another core.
+    pub fn has_strokes_as(&self, other: &Scene) -> bool {
+        self.core.state().is_same(other.core.state())
+    }
+
+    /// Whether the image lies between the marker of these strokes and what grows from them.
+    pub fn is_between(&self, strokes: &State) -> Result<bool, Fail> {
+        let marker = marker_of(self.alloc, self.core.mask(), strokes)?;
+        let grown = grown(self.alloc, self.core.mask(), strokes, self.core.conn())?;
+        Ok(marker.is_below(self.core.image()) && self.core.image().is_below(&grown))
+    }
+
+    /// Whether the strokes are these, and the image is what grows from them.
+    pub fn is_grown_from(&self, strokes: &State) -> Result<bool, Fail> {
+        let grown = grown(self.alloc, self.core.mask(), strokes, self.core.conn())?;
+        let is_grown = self.core.image().cells() == grown.cells();
+        Ok(is_grown && self.core.state().is_same(strokes))
+    }
+
+    /// The image at a pixel, if there is one.
+    pub fn at(&self, x: u32, y: u32) -> Option<u32> {
+        let mask = self.core.mask();
+        if x < mask.width() && y < mask.height() {
+            Some(self.core.pixel(Pixel { x, y }))
+        } else {
+            None
+        }
+    }
+
+    /// Which pixels are neighbours.
+    pub fn conn(&self) -> Conn {
+        self.core.conn()
+    }
+
+    /// The side of the tiles.
+    pub fn side(&self) -> u32 {
+        self.core.tiling().side()
+    }
+
+    /// The number of tiles.
+    pub fn tiles(&self) -> usize {
+        self.core.tiles()
+    }
+
+    /// Whether no work is left.
+    pub fn is_quiet(&self) -> bool {
+        self.core.is_quiet()
+    }
+
+    /// The generation of a tile, if there is one.
+    pub fn generation(&self, tile: usize) -> Option<u64> {
+        if tile < self.core.tiles() {
+            Some(self.core.generation(tile))
+        } else {
+            None
+        }
+    }
+
+    /// Whether a tile is to be swept.
+    pub fn is_dirty(&self, tile: usize) -> bool {
+        tile < self.core.tiles() && self.core.is_dirty(tile)
+    }
+
+    /// Whether a job of the tile is out.
+    pub fn is_out(&self, tile: usize) -> bool {
+        tile < self.core.tiles() && self.core.is_out(tile)
+    }
+
+    /// The ticket of the job of the tile that is out, if one is.
+    pub fn ticket_out(&self, tile: usize) -> Option<Ticket> {
+        if tile < self.core.tiles() {
+            self.core.ticket_out(tile)
+        } else {
+            None
+        }
+    }
+
+    /// What the image lacks, in all, of what grows from the strokes.
+    pub fn owed(&self) -> Result<u64, Fail> {
+        let core = &self.core;
+        let grown = grown(self.alloc, core.mask(), core.state(), core.conn())?;
+        let mut owed: u64 = 0;
+        for (cell, so_far) in grown.cells().iter().zip(core.image().cells()) {
+            owed = owed.saturating_add(u64::from(cell.saturating_sub(*so_far)));
+        }
+        Ok(owed)
+    }
+
+    /// How many tiles are to be swept, those of which a job is out among them.
+    pub fn dirty_tiles(&self) -> u64 {
+        let mut count: u64 = 0;
+        for tile in 0..self.tiles() {
+            if self.is_dirty(tile) {
+                count = count.saturating_add(1);
+            }
+        }
+        count
+    }
+
+    /// How many hints wait for a tile.
+    pub fn waiting(&self, tile: usize) -> usize {
+        if tile < self.core.tiles() {
+            self.core.waiting(tile)
+        } else {
+            0
+        }
+    }
+
+    /// Whether the tiles have these generations.
+    pub fn has_generations(&self, generations: &[u64]) -> bool {
+        for (tile, generation) in generations.iter().enumerate() {
+            if self.generation(tile) != Some(*generation) {
+                return false;
+            }
+        }
+        self.tiles() == generations.len()
+    }
+
+    /// Whether exactly these tiles are to be swept.
+    pub fn has_dirty(&self, tiles: &[usize]) -> bool {
+        for tile in 0..self.tiles() {
+            if self.is_dirty(tile) != tiles.contains(&tile) {
+                return false;
+            }
+        }
+        true
+    }
+
+    /// Whether jobs of exactly these tiles are out.
+    pub fn has_out(&self, tiles: &[usize]) -> bool {
+        for tile in 0..self.tiles() {
+            if self.is_out(tile) != tiles.contains(&tile) {
+                return false;
+            }
+        }
+        true
+    }
+
+    /// The cells of the mask, the cells of the image, and the strokes.
+    pub fn into_parts(self) -> (Vec<u32>, Vec<u32>, Edit) {
+        let Scene { core, .. } = self;
+        let (mask, image, state) = core.into_parts();
+        (mask.into_cells(), image.into_cells(), Edit { delta: state })
+    }
+}
+
+// The marker of a state on a mask, made from nothing.
+fn marker_of(alloc: Global, mask: &Grid, state: &State) -> Result<Grid, Fail> {
+    if state.outside(mask.width(), mask.height()).is_some() {
+        return Err(Fail::new("a stroke does not fit the mask"));
+    }
+    Ok(marker(alloc, mask, state)?)
+}
+
+// The reconstruction of a mask from the marker of a state, threshold by threshold.
+fn grown(alloc: Global, mask: &Grid, state: &State, conn: Conn) -> Result<Grid, Fail> {
+    let marker = marker_of(alloc, mask, state)?;
+    if !marker.is_below(mask) {
+        return Err(Fail::new("the marker is above the mask"));
+    }
+    Ok(slow(alloc, mask, &marker, conn)?)
+}
