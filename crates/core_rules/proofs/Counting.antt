@@ -33,7 +33,7 @@ use Rattle.core_rules.specs.Work.{Core, TileWork, idle, domain, tiling, mask_at,
 use Rattle.core_rules.specs.Work.{IsQuiet}
 use Rattle.core_rules.specs.Sweeps.{taken, IsKnown, IsTaken, IsGivenBack, IsAbandoned, IsJoined}
 use Rattle.core_rules.specs.Hints.{without_hint, raised, IsHanded}
-use Rattle.core_rules.specs.Events.{Event, Answer, Merge, Take, GiveBack, Abandon, Hand}
+use Rattle.core_rules.specs.Events.{Event, Answer, Happens, Merge, Take, GiveBack, Abandon, Hand}
 use Rattle.core_rules.specs.Events.{OfMerge, OfTake, OfGiveBack, OfAbandon, OfHand}
 use Rattle.core_rules.specs.Runs.{Entry, IsRun, jobs_of, abandons_of, abandoned, tickets_out, IsWorkedOff, IsSettled}
 use Rattle.core_rules.specs.Schedule.{Progress, started, IsStep, AreSteps}
@@ -101,12 +101,11 @@ free : (core : Core) (r : Pixel → ℕ) → IsPaid core core r 0 0
 free core r = record { same = refl; count = omega arith }
 
 -- one after another
-both_paid : (a b c : Core) (r : Pixel → ℕ) (jobs more_jobs all_jobs abandons more_abandons all_abandons : ℕ)
-    → IsPaid a b r jobs abandons → IsPaid b c r more_jobs more_abandons → all_jobs ≡ jobs + more_jobs
-    → all_abandons ≡ abandons + more_abandons → IsPaid a c r all_jobs all_abandons
-both_paid a b c r jobs more_jobs all_jobs abandons more_abandons all_abandons first second sum_jobs sum_abandons = record {
+both_paid : (a b c : Core) (r : Pixel → ℕ) (jobs more_jobs abandons more_abandons : ℕ) → IsPaid a b r jobs abandons
+    → IsPaid b c r more_jobs more_abandons → IsPaid a c r (jobs + more_jobs) (abandons + more_abandons)
+both_paid a b c r jobs more_jobs abandons more_abandons first second = record {
   same = second.same ∙ first.same;
-  count = let one = first.count in let other = second.count in omega (arith, one, other, sum_jobs, sum_abandons);
+  count = let one = first.count in let other = second.count in omega (arith, one, other);
 }
 
 take_is_paid : (before after : Core) (t : ℕ) (job : Job) (r : Pixel → ℕ) → IsTaken before t (Some job) after
@@ -219,55 +218,58 @@ give_back_is_paid edges_open before after swept Stranger r sound is_swept (why, 
 
 -- ---- lists of events
 
+jobs_first : (entry : Entry) (log : List Entry) → jobs_of (entry ∷ log) ≡ jobs_of (entry ∷ []) + jobs_of log
+jobs_first (Take t, OfTake (Some job)) log = omega arith
+jobs_first entry log = omega arith
+
+abandons_first : (entry : Entry) (log : List Entry)
+    → abandons_of (entry ∷ log) ≡ abandons_of (entry ∷ []) + abandons_of log
+abandons_first (Abandon ticket, OfAbandon true) log = omega arith
+abandons_first entry log = omega arith
+
+merges_append : (first second : List Entry) → merges_of (first ++ second) ≡ merges_of first + merges_of second
+merges_append [] second = omega arith
+merges_append ((Merge delta, answer) ∷ log) second =
+    let rest = merges_append log second in
+    omega (arith, rest)
+merges_append (entry ∷ log) second = merges_append log second
+
+event_is_paid : EdgesAreOpen → (before after : Core) (event : Event) (answer : Answer) (r : Pixel → ℕ)
+    → IsSound before → IsGoal (scene before) r → merges_of ((event, answer) ∷ []) ≡ 0
+    → Happens before event answer after
+    → IsPaid before after r (jobs_of ((event, answer) ∷ [])) (abandons_of ((event, answer) ∷ []))
+event_is_paid edges_open before after (Take t) (OfTake (Some job)) r sound goal none happens =
+    take_is_paid before after t job r happens
+event_is_paid edges_open before after (Take t) (OfTake None) r sound goal none (unready, same) =
+    subst (λ c. IsPaid before c r 0 0) (sym same) (free before r)
+event_is_paid edges_open before after (GiveBack swept) (OfGiveBack back) r sound goal none (is_swept, given) =
+    give_back_is_paid edges_open before after swept back r sound is_swept given
+event_is_paid edges_open before after (Abandon ticket) (OfAbandon true) r sound goal none happens =
+    abandon_is_paid before after ticket r happens
+event_is_paid edges_open before after (Abandon ticket) (OfAbandon false) r sound goal none (not_out, same) =
+    subst (λ c. IsPaid before c r 0 0) (sym same) (free before r)
+event_is_paid edges_open before after (Hand t place) (OfHand handed) r sound goal none happens =
+    let sound_after = event_keeps_sound edges_open before after (Hand t place) (OfHand handed) sound happens in
+    hand_is_paid before after t place handed r sound sound_after goal happens
+event_is_paid edges_open before after (Merge delta) answer r sound goal none happens = absurd (omega (arith, none))
+event_is_paid edges_open before after _ _ r sound goal none happens = absurd happens
+
 run_is_paid : EdgesAreOpen → (before after : Core) (log : List Entry) (r : Pixel → ℕ) → IsSound before
     → IsGoal (scene before) r → merges_of log ≡ 0 → IsRun before log after
     → IsPaid before after r (jobs_of log) (abandons_of log)
 run_is_paid edges_open before after [] r sound goal none same =
     subst (λ c. IsPaid before c r 0 0) (sym same) (free before r)
-run_is_paid edges_open before after ((Take t, OfTake (Some job)) ∷ log) r sound goal none (next, happens, run) =
-    let sound_next = event_keeps_sound edges_open before next (Take t) (OfTake (Some job)) sound happens in
-    let paid = take_is_paid before next t job r happens in
-    let more =
-    run_is_paid edges_open next after log r sound_next (subst (λ s. IsGoal s r) (sym paid.same) goal) none run in
-    both_paid before next after r 1 (jobs_of log) (1 + jobs_of log) 0 (abandons_of log) (abandons_of log) paid more (omega arith)
-    (omega arith)
-run_is_paid edges_open before after ((Take t, OfTake None) ∷ log) r sound goal none (next, happens, run) =
-    let sound_next = event_keeps_sound edges_open before next (Take t) (OfTake None) sound happens in
-    let paid = subst (λ c. IsPaid before c r 0 0) (sym happens.1) (free before r) in
-    let more =
-    run_is_paid edges_open next after log r sound_next (subst (λ s. IsGoal s r) (sym paid.same) goal) none run in
-    both_paid before next after r 0 (jobs_of log) (jobs_of log) 0 (abandons_of log) (abandons_of log) paid more (omega arith)
-    (omega arith)
-run_is_paid edges_open before after ((GiveBack swept, OfGiveBack back) ∷ log) r sound goal none (next, happens, run) =
-    let sound_next = event_keeps_sound edges_open before next (GiveBack swept) (OfGiveBack back) sound happens in
-    let paid = give_back_is_paid edges_open before next swept back r sound happens.0 happens.1 in
-    let more =
-    run_is_paid edges_open next after log r sound_next (subst (λ s. IsGoal s r) (sym paid.same) goal) none run in
-    both_paid before next after r 0 (jobs_of log) (jobs_of log) 0 (abandons_of log) (abandons_of log) paid more (omega arith)
-    (omega arith)
-run_is_paid edges_open before after ((Abandon ticket, OfAbandon true) ∷ log) r sound goal none (next, happens, run) =
-    let sound_next = event_keeps_sound edges_open before next (Abandon ticket) (OfAbandon true) sound happens in
-    let paid = abandon_is_paid before next ticket r happens in
-    let more =
-    run_is_paid edges_open next after log r sound_next (subst (λ s. IsGoal s r) (sym paid.same) goal) none run in
-    both_paid before next after r 0 (jobs_of log) (jobs_of log) 1 (abandons_of log) (1 + abandons_of log) paid more (omega arith)
-    (omega arith)
-run_is_paid edges_open before after ((Abandon ticket, OfAbandon false) ∷ log) r sound goal none (next, happens, run) =
-    let sound_next = event_keeps_sound edges_open before next (Abandon ticket) (OfAbandon false) sound happens in
-    let paid = subst (λ c. IsPaid before c r 0 0) (sym happens.1) (free before r) in
-    let more =
-    run_is_paid edges_open next after log r sound_next (subst (λ s. IsGoal s r) (sym paid.same) goal) none run in
-    both_paid before next after r 0 (jobs_of log) (jobs_of log) 0 (abandons_of log) (abandons_of log) paid more (omega arith)
-    (omega arith)
-run_is_paid edges_open before after ((Hand t place, OfHand handed) ∷ log) r sound goal none (next, happens, run) =
-    let sound_next = event_keeps_sound edges_open before next (Hand t place) (OfHand handed) sound happens in
-    let paid = hand_is_paid before next t place handed r sound sound_next goal happens in
-    let more =
-    run_is_paid edges_open next after log r sound_next (subst (λ s. IsGoal s r) (sym paid.same) goal) none run in
-    both_paid before next after r 0 (jobs_of log) (jobs_of log) 0 (abandons_of log) (abandons_of log) paid more (omega arith)
-    (omega arith)
-run_is_paid edges_open before after ((Merge delta, answer) ∷ log) r sound goal none run = absurd (omega (arith, none))
-run_is_paid edges_open before after ((_, _) ∷ log) r sound goal none (next, happens, run) = absurd happens
+run_is_paid edges_open before after ((event, answer) ∷ log) r sound goal none (next, happens, run) =
+    let one : List Entry = (event, answer) ∷ [] in
+    let merges : merges_of ((event, answer) ∷ log) ≡ merges_of one + merges_of log = merges_append one log in
+    let first =
+    event_is_paid edges_open before next event answer r sound goal (omega (arith, merges, none)) happens in
+    let others =
+    run_is_paid edges_open next after log r (event_keeps_sound edges_open before next event answer sound happens)
+    (subst (λ s. IsGoal s r) (sym first.same) goal) (omega (arith, merges, none)) run in
+    subst (λ n. IsPaid before after r n (abandons_of ((event, answer) ∷ log))) (sym (jobs_first (event, answer) log))
+    (subst (IsPaid before after r (jobs_of one + jobs_of log)) (sym (abandons_first (event, answer) log))
+    (both_paid before next after r (jobs_of one) (jobs_of log) (abandons_of one) (abandons_of log) first others))
 
 -- the core owes what it lacks of the reconstruction
 lack_is_owed : (core : Core) (r : Pixel → ℕ) → IsGoal (scene core) r → Owes core (lack core r)
@@ -317,13 +319,6 @@ quiet_owes_nothing core sound quiet = record {
 }
 
 -- ---- schedules
-
-merges_append : (first second : List Entry) → merges_of (first ++ second) ≡ merges_of first + merges_of second
-merges_append [] second = omega arith
-merges_append ((Merge delta, answer) ∷ log) second =
-    let rest = merges_append log second in
-    omega (arith, rest)
-merges_append (entry ∷ log) second = merges_append log second
 
 -- as many deltas were merged as edits accepted
 abbrev IsMatched : Progress → Type 0

@@ -23,8 +23,8 @@
 //!
 //! Read on in `specs/Raster.antt`, which says what an image is and which sides it may have; in
 //! `specs/Neighbours.antt`, `specs/Path.antt` and `specs/Reconstruction.antt`, in this order, for what a
-//! reconstruction is, and in `specs/Owed.antt` for how much an image still lacks of it; in `specs/Rects.antt` and `specs/Tiles.antt` for rectangles and tiles; and in [`laws`] for
-//! what growing methods rest on.
+//! reconstruction is, and in `specs/Owed.antt` for how much an image still lacks of it; in `specs/Rects.antt` and
+//! `specs/Tiles.antt` for rectangles and tiles; and in [`laws`] for what growing methods rest on.
 
 mod conn;
 mod grid;
