@@ -4,9 +4,9 @@ ghost use Rattle.std.specs.Prelude.{⊤};
 
 use crate::chance::{draw, some_delta, some_mask, some_step};
 use crate::replica::Replica;
-use crate::scene::Outcome;
+use crate::scene::{Account, Outcome};
 use grid_core::Conn;
-use reset_core::{Back, Handed, Ran, Step};
+use reset_core::{Back, Handed, Step};
 use std::alloc::Global;
 use std::marker::Model;
 use std::test::Fail;
@@ -223,7 +223,12 @@ fn each_core_settles_on_what_grows_from_its_strokes(rt: HostRuntime) -> Result<(
 }
 
 // Joins the edits of the schedule, and says whether it ran so.
-fn ran_so(alloc: Global, replica: &mut Replica, steps: &[Step], ran: &Ran) -> Result<bool, Fail> {
+fn ran_so(
+    alloc: Global,
+    replica: &mut Replica,
+    steps: &[Step],
+    account: &Account,
+) -> Result<bool, Fail> {
     let mut accepted = Vec::new(alloc);
     let mut refused = Vec::new(alloc);
     for (number, step) in steps.iter().enumerate() {
@@ -234,7 +239,7 @@ fn ran_so(alloc: Global, replica: &mut Replica, steps: &[Step], ran: &Ran) -> Re
             }
         }
     }
-    Ok(ran.accepted() == accepted.as_slice() && ran.refused() == refused.as_slice())
+    Ok(account.lists(&accepted, &refused))
 }
 
 // Whether a core that ran a schedule settles on what grows from its strokes.
@@ -246,8 +251,8 @@ fn settles_after_schedule(alloc: Global, first: u64, conn: Conn) -> Result<bool,
         steps.push(some_step(alloc, &mut seed, WIDTH, HEIGHT)?)?;
     }
     let mut replica = Replica::on(alloc, &mask, conn, 8)?;
-    let ran = replica.scene().run(&steps)?;
-    let is_so = ran_so(alloc, &mut replica, &steps, &ran)?;
+    let account = replica.scene().run(&steps)?;
+    let is_so = ran_so(alloc, &mut replica, &steps, &account)?;
     Ok(is_so && replica.is_between()? && replica.settles()?)
 }
 

@@ -38,8 +38,8 @@ impl Ledger {
 
     // Whether the schedule is within the work.
     fn allows_schedule(&mut self, steps: &[Step]) -> Result<bool, Fail> {
-        let ran = self.scene.run(steps)?;
-        self.allows(ran.jobs(), ran.abandons())
+        let account = self.scene.run(steps)?;
+        self.allows(account.jobs(), account.abandons())
     }
 
     // Whether settling is within the work, and leaves nothing owed.
@@ -50,16 +50,18 @@ impl Ledger {
     }
 }
 
-// A lit core of a random mask, and a schedule of random steps without an edit.
+// A core of a random mask, with some strokes.
 fn some_scene(alloc: Global, seed: &mut u64, conn: Conn) -> Result<Scene, Fail> {
     let mask = some_mask(alloc, seed, 21, 18)?;
     let mut scene = Scene::on(alloc, mask, conn, 8)?;
     for _ in 0..8 {
-        scene.refusal(&some_delta(alloc, seed, 21, 18)?);
+        let edit = some_delta(alloc, seed, 21, 18)?;
+        let _refusal = scene.refusal(&edit);
     }
     Ok(scene)
 }
 
+// A schedule of random steps without an edit.
 fn some_steps(alloc: Global, seed: &mut u64) -> Result<Vec<Step>, Fail> {
     let mut steps = Vec::new(alloc);
     for _ in 0..80 {
@@ -83,9 +85,9 @@ fn is_within_work(alloc: Global, first: u64, conn: Conn) -> Result<bool, Fail> {
 fn an_abandoned_job_is_work_once_more(rt: HostRuntime) -> Result<(), Fail> {
     let mut scene = Scene::on_row(rt.alloc(), &[4; 128])?;
     scene.place(1, 4, 0, 0)?;
-    assert_eq!(rt; scene.owed()?, 508);
-    assert_eq!(rt; scene.dirty_tiles(), 1);
-    let ran = scene.run(&[
+    assert!(rt; scene.owed()? == 508);
+    assert!(rt; scene.dirty_tiles() == 1);
+    let account = scene.run(&[
         Step::Take(0),
         Step::Abandon(0),
         Step::Take(0),
@@ -93,8 +95,8 @@ fn an_abandoned_job_is_work_once_more(rt: HostRuntime) -> Result<(), Fail> {
         Step::Return(0),
         Step::Hand(1, 0),
     ])?;
-    assert_eq!(rt; (ran.jobs(), ran.abandons()), (2, 1));
-    assert_eq!(rt; scene.owed()?, 252);
+    assert!(rt; account.counts(2, 1));
+    assert!(rt; scene.owed()? == 252);
     Ok(())
 }
 

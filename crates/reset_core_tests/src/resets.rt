@@ -35,7 +35,7 @@ fn a_tile_that_no_growth_reached_keeps_its_pixels(rt: HostRuntime) -> Result<(),
     assert!(rt; scene.has_dirty(&[0, 1]));
     assert!(rt; scene.shows_from(0, &[0; 182]));
     assert!(rt; scene.shows_from(182, &[3; 10]));
-    assert_eq!(rt; scene.settle()?.jobs, 2);
+    assert!(rt; scene.settle()?.jobs == 2);
     assert!(rt; scene.shows_from(0, &[0; 182]));
     assert!(rt; scene.shows_from(182, &[3; 10]));
     Ok(())
@@ -48,11 +48,11 @@ fn small_tiles_that_no_growth_reached_keep_their_pixels(rt: HostRuntime) -> Resu
     scene.withdraw(1)?;
     for tile in 0..24_usize {
         let generation = if tile < 2 { 1 } else { 0 };
-        assert_eq!(rt; scene.generation(tile), Some(generation), "{tile}");
+        assert!(rt; scene.has_generation(tile, generation));
     }
-    assert_eq!(rt; scene.generation(24), None);
+    assert!(rt; scene.tiles() == 24);
     assert!(rt; scene.has_dirty(&[0, 1, 2]));
-    assert_eq!(rt; scene.settle()?.jobs, 3);
+    assert!(rt; scene.settle()?.jobs == 3);
     assert!(rt; scene.shows_from(0, &[0; 182]));
     assert!(rt; scene.shows_from(182, &[3; 10]));
     Ok(())
@@ -64,7 +64,7 @@ fn each_tile_to_which_links_lead_is_reset(rt: HostRuntime) -> Result<(), Fail> {
     assert!(rt; scene.shows(&[4; 192]));
     scene.withdraw(1)?;
     assert!(rt; scene.has_generations(&[1, 1, 1]));
-    assert_eq!(rt; scene.settle()?.jobs, 5);
+    assert!(rt; scene.settle()?.jobs == 5);
     assert!(rt; scene.shows(&[3; 192]));
     Ok(())
 }

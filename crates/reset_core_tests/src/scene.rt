@@ -7,7 +7,7 @@ use grid_core::{Conn, Grid, Pixel};
 use marker_tiles::marker;
 use pgm_codec::Image;
 use raster_sweeps::slow;
-use reset_core::{Back, Core, CoreError, Count, Handed, Ran, RefusedMask, Step};
+use reset_core::{Back, Core, CoreError, Count, Handed, Ran, Step};
 use std::alloc::Global;
 use std::marker::Model;
 use std::test::Fail;
@@ -71,11 +71,6 @@ impl Edit {
         Ok(Edit { delta })
     }
 
-    /// Whether both have the same strokes and tombstones.
-    pub fn is_same(&self, other: &Edit) -> bool {
-        self.delta.is_same(&other.delta)
-    }
-
     /// The delta by itself.
     pub fn delta(&self) -> &Delta {
         &self.delta
@@ -107,6 +102,45 @@ impl News {
     }
 }
 
+// Whether the ticket has these numbers.
+fn is_ticket(ticket: Ticket, tile: usize, generation: u64, serial: u64) -> bool {
+    ticket.tile == tile && ticket.generation == generation && ticket.serial == serial
+}
+
+/// What a schedule did.
+#[derive(Drop)]
+pub struct Account {
+    ran: Ran,
+}
+
+impl Model for Account {
+    ghost Value = { ⊤ };
+
+    ghost view = { λ _. tt };
+}
+
+impl Account {
+    /// Whether so many takes gave a job, and so many jobs were abandoned.
+    pub fn counts(&self, jobs: u64, abandons: u64) -> bool {
+        self.ran.jobs() == jobs && self.ran.abandons() == abandons
+    }
+
+    /// How many takes gave a job.
+    pub fn jobs(&self) -> u64 {
+        self.ran.jobs()
+    }
+
+    /// How many jobs were abandoned.
+    pub fn abandons(&self) -> u64 {
+        self.ran.abandons()
+    }
+
+    /// Whether exactly the edits of these numbers were accepted, and these refused.
+    pub fn lists(&self, accepted: &[usize], refused: &[(usize, CoreError)]) -> bool {
+        self.ran.accepted() == accepted && self.ran.refused() == refused
+    }
+}
+
 /// A job.
 #[derive(Drop)]
 pub struct Task {
@@ -125,9 +159,14 @@ impl Task {
         self.job.ticket()
     }
 
-    /// Which pixels are neighbours.
-    pub fn conn(&self) -> Conn {
-        self.job.conn()
+    /// Whether its ticket has these numbers.
+    pub fn is_of(&self, tile: usize, generation: u64, serial: u64) -> bool {
+        is_ticket(self.job.ticket(), tile, generation, serial)
+    }
+
+    /// Whether these pixels are neighbours in it.
+    pub fn is_under(&self, conn: Conn) -> bool {
+        self.job.conn() == conn
     }
 
     /// Whether it has this base and this mask.
@@ -163,6 +202,11 @@ impl Outcome {
         self.swept.ticket()
     }
 
+    /// Whether it was of the same job as another, by their tickets.
+    pub fn has_ticket_of(&self, other: &Outcome) -> bool {
+        self.swept.ticket() == other.swept.ticket()
+    }
+
     /// Whether the sweep gave these pixels.
     pub fn shows(&self, pixels: &[u32]) -> bool {
         self.swept.pixels().cells() == pixels
@@ -176,24 +220,21 @@ impl Outcome {
     }
 }
 
-/// Why no core with tiles of this side is opened on a mask of one row, and the cells of the mask handed back.
-pub fn refused_row(alloc: Global, mask: &[u32], side: u32) -> Result<(CoreError, Vec<u32>), Fail> {
-    let mask = grid_of(alloc, u32::try_from(mask.len())?, 1, mask)?;
+/// Whether no core with tiles of this side is opened on a mask of one row, for its side, and the mask is handed back.
+pub fn is_row_handed_back(alloc: Global, row: &[u32], side: u32) -> Result<bool, Fail> {
+    let mask = grid_of(alloc, u32::try_from(row.len())?, 1, row)?;
     match Core::over(alloc, mask, Conn::Four, side, 0) {
-        Ok(_) => Err(Fail::new("the side is accepted")),
-        Err(refused) => {
-            let RefusedMask { why, mask } = refused;
-            Ok((why, mask.into_cells()))
-        }
+        Ok(_) => Ok(false),
+        Err(refused) => Ok(refused.why == CoreError::BadSide && refused.mask.cells() == row),
     }
 }
 
-/// Why no core with tiles of this side is opened on an image of one row.
-pub fn refused_side(alloc: Global, row: &[u32], side: u32) -> Result<CoreError, Fail> {
+/// Whether no core with tiles of this side is opened on an image of one row, for its side.
+pub fn is_side_refused(alloc: Global, row: &[u32], side: u32) -> Result<bool, Fail> {
     let mask = row_of(alloc, row)?;
     match Core::open_tiled(alloc, &mask, Conn::Four, side, 0) {
-        Ok(_) => Err(Fail::new("the side is accepted")),
-        Err(why) => Ok(why),
+        Ok(_) => Ok(false),
+        Err(why) => Ok(why == CoreError::BadSide),
     }
 }
 
@@ -201,7 +242,7 @@ pub fn refused_side(alloc: Global, row: &[u32], side: u32) -> Result<CoreError, 
 #[derive(Drop)]
 pub struct Scene {
     alloc: Global,
-    core: Core,
+    core: Box<Core>,
 }
 
 impl Model for Scene {
@@ -211,10 +252,18 @@ impl Model for Scene {
 }
 
 impl Scene {
+    // The core. A test drops it as one thing.
+    fn of(alloc: Global, core: Core) -> Result<Scene, Fail> {
+        match Box::new(alloc, core) {
+            Ok(core) => Ok(Scene { alloc, core }),
+            Err(_) => Err(Fail::new("out of memory")),
+        }
+    }
+
     /// A core on a mask, with tiles of this side.
     pub fn on(alloc: Global, mask: Grid, conn: Conn, side: u32) -> Result<Scene, Fail> {
         let core = Core::over(alloc, mask, conn, side, 0)?;
-        Ok(Scene { alloc, core })
+        Scene::of(alloc, core)
     }
 
     /// A core on a mask of one row under four neighbours, with tiles of side 64.
@@ -232,7 +281,7 @@ impl Scene {
     pub fn open(alloc: Global, row: &[u32], conn: Conn) -> Result<Scene, Fail> {
         let mask = row_of(alloc, row)?;
         let core = Core::open(alloc, &mask, conn)?;
-        Ok(Scene { alloc, core })
+        Scene::of(alloc, core)
     }
 
     /// A core on an image of one row under four neighbours, whose generations begin at `first`.
@@ -242,14 +291,14 @@ impl Scene {
         }
         let mask = row_of(alloc, row)?;
         let core = Core::open_at(alloc, &mask, Conn::Four, first)?;
-        Ok(Scene { alloc, core })
+        Scene::of(alloc, core)
     }
 
     /// A core on an image of one row under four neighbours, with tiles of this side.
     pub fn open_tiled(alloc: Global, row: &[u32], side: u32) -> Result<Scene, Fail> {
         let mask = row_of(alloc, row)?;
         let core = Core::open_tiled(alloc, &mask, Conn::Four, side, 5)?;
-        Ok(Scene { alloc, core })
+        Scene::of(alloc, core)
     }
 
     /// Merges a delta.
@@ -260,10 +309,12 @@ impl Scene {
 
     /// Why the core refuses a delta, if it does.
     pub fn refusal(&mut self, edit: &Edit) -> Option<CoreError> {
-        match self.merge(edit) {
-            Ok(_) => None,
-            Err(why) => Some(why),
-        }
+        self.merge(edit).err()
+    }
+
+    /// Whether the core refuses a delta, and for this reason.
+    pub fn refuses(&mut self, edit: &Edit, why: CoreError) -> bool {
+        self.refusal(edit) == Some(why)
     }
 
     /// Places a stroke of one run on the top row.
@@ -353,8 +404,9 @@ impl Scene {
     }
 
     /// Runs a schedule.
-    pub fn run(&mut self, steps: &[Step]) -> Result<Ran, Fail> {
-        Ok(self.core.run_schedule(self.alloc, steps)?)
+    pub fn run(&mut self, steps: &[Step]) -> Result<Account, Fail> {
+        let ran = self.core.run_schedule(self.alloc, steps)?;
+        Ok(Account { ran })
     }
 }
 
@@ -411,19 +463,15 @@ impl Scene {
         Ok(is_grown && self.core.state().is_same(strokes))
     }
 
-    /// The image at a pixel, if there is one.
-    pub fn at(&self, x: u32, y: u32) -> Option<u32> {
+    /// Whether the image has this value at a pixel.
+    pub fn has_pixel(&self, x: u32, y: u32, value: u32) -> bool {
         let mask = self.core.mask();
-        if x < mask.width() && y < mask.height() {
-            Some(self.core.pixel(Pixel { x, y }))
-        } else {
-            None
-        }
+        x < mask.width() && y < mask.height() && self.core.pixel(Pixel { x, y }) == value
     }
 
-    /// Which pixels are neighbours.
-    pub fn conn(&self) -> Conn {
-        self.core.conn()
+    /// Whether pixels are neighbours so.
+    pub fn is_under(&self, conn: Conn) -> bool {
+        self.core.conn() == conn
     }
 
     /// The side of the tiles.
@@ -441,13 +489,9 @@ impl Scene {
         self.core.is_quiet()
     }
 
-    /// The generation of a tile, if there is one.
-    pub fn generation(&self, tile: usize) -> Option<u64> {
-        if tile < self.core.tiles() {
-            Some(self.core.generation(tile))
-        } else {
-            None
-        }
+    /// Whether there is such a tile, and it has this generation.
+    pub fn has_generation(&self, tile: usize, generation: u64) -> bool {
+        tile < self.core.tiles() && self.core.generation(tile) == generation
     }
 
     /// Whether a tile is to be swept.
@@ -460,12 +504,14 @@ impl Scene {
         tile < self.core.tiles() && self.core.is_out(tile)
     }
 
-    /// The ticket of the job of the tile that is out, if one is.
-    pub fn ticket_out(&self, tile: usize) -> Option<Ticket> {
-        if tile < self.core.tiles() {
-            self.core.ticket_out(tile)
-        } else {
-            None
+    /// Whether a job of the tile is out, whose ticket has these numbers.
+    pub fn has_ticket_out(&self, tile: usize, generation: u64, serial: u64) -> bool {
+        if tile >= self.core.tiles() {
+            return false;
+        }
+        match self.core.ticket_out(tile) {
+            Some(ticket) => is_ticket(ticket, tile, generation, serial),
+            None => false,
         }
     }
 
@@ -503,7 +549,7 @@ impl Scene {
     /// Whether the tiles have these generations.
     pub fn has_generations(&self, generations: &[u64]) -> bool {
         for (tile, generation) in generations.iter().enumerate() {
-            if self.generation(tile) != Some(*generation) {
+            if !self.has_generation(tile, *generation) {
                 return false;
             }
         }
@@ -530,11 +576,11 @@ impl Scene {
         true
     }
 
-    /// The cells of the mask, the cells of the image, and the strokes.
-    pub fn into_parts(self) -> (Vec<u32>, Vec<u32>, Edit) {
+    /// Whether the core is taken apart into this mask, this image and these strokes.
+    pub fn falls_into(self, mask: &[u32], image: &[u32], strokes: &Edit) -> bool {
         let Scene { core, .. } = self;
-        let (mask, image, state) = core.into_parts();
-        (mask.into_cells(), image.into_cells(), Edit { delta: state })
+        let parts = Box::into_inner(core).into_parts();
+        parts.0.cells() == mask && parts.1.cells() == image && parts.2.is_same(&strokes.delta)
     }
 }
 

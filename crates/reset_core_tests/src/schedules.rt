@@ -17,9 +17,8 @@ fn a_result_that_was_abandoned_comes_late(rt: HostRuntime) -> Result<(), Fail> {
         Step::Return(0),
         Step::Hand(1, 0),
     ])?;
-    assert_eq!(rt; (ran.jobs(), ran.abandons()), (2, 1));
-    assert!(rt; ran.accepted().is_empty());
-    assert!(rt; ran.refused().is_empty());
+    assert!(rt; ran.counts(2, 1));
+    assert!(rt; ran.lists(&[], &[]));
     assert!(rt; scene.shows_from(0, &[4; 65]));
     assert!(rt; scene.shows_from(65, &[0; 63]));
     assert!(rt; scene.has_dirty(&[1]));
@@ -38,13 +37,12 @@ fn edits_are_listed_by_their_number(rt: HostRuntime) -> Result<(), Fail> {
         Edit::place(alloc, 2, 3, 5, 5)?.into_step(),
         Edit::withdraw(alloc, 1)?.into_step(),
     ])?;
-    assert_eq!(rt; ran.jobs(), 1);
-    assert_eq!(rt; ran.accepted(), [0, 4].as_slice());
+    assert!(rt; ran.counts(1, 0));
     let refused = [
         (2, CoreError::Conflict(Tag(1))),
         (3, CoreError::OutOfImage(Tag(2))),
     ];
-    assert_eq!(rt; ran.refused(), refused.as_slice());
+    assert!(rt; ran.lists(&[0, 4], &refused));
     assert!(rt; !scene.is_live(1));
     Ok(())
 }
@@ -61,9 +59,10 @@ fn a_step_that_names_nothing_is_passed_over(rt: HostRuntime) -> Result<(), Fail>
         Step::Hand(1, 0),
         Step::Hand(7, 7),
     ])?;
-    assert_eq!(rt; (ran.jobs(), ran.abandons()), (0, 0));
+    assert!(rt; ran.counts(0, 0));
     assert!(rt; scene.has_dirty(&[0]));
     assert!(rt; scene.has_out(&[]));
-    assert_eq!(rt; scene.run(&[])?.jobs(), 0);
+    let ran = scene.run(&[])?;
+    assert!(rt; ran.counts(0, 0));
     Ok(())
 }
