@@ -1,5 +1,5 @@
-//! A core, and the calls that the tests make of it. Clauses see nothing of the values here, and no function here promises
-//! anything, which keeps the proofs of the tests small.
+//! A core, and the calls that the tests make of it. Clauses see nothing of the values here, and no function here
+//! promises anything, which keeps the proofs of the tests small.
 
 ghost use Rattle.std.specs.Prelude.{⊤};
 
@@ -252,7 +252,7 @@ impl Model for Scene {
 }
 
 impl Scene {
-    // The core. A test drops it as one thing.
+    // The core. It lies in a box, so that a test drops it by one call, which keeps proofs small as well.
     fn of(alloc: Global, core: Core) -> Result<Scene, Fail> {
         match Box::new(alloc, core) {
             Ok(core) => Ok(Scene { alloc, core }),
