@@ -39,7 +39,7 @@ impl Core {
     /// No more tiles are swept than there is work: one for each tile that was dirty, one for each unit that the image
     /// lacked of the reconstruction in all, and one for each job that was abandoned.
     ///
-    /// Errors: out of memory, where only the jobs that were out have been abandoned.
+    /// Errors: out of memory. The core is then as the first of these steps have left it, and no job is out.
     pub fn settle(&mut self, alloc: Global) -> Result<Count, Memory>
         ensures settled { IfOk result (λ count. (log : List Entry) × IsSettled self.old log self.new
             × (count.jobs ≡ jobs_of log) × (count.abandons ≡ abandons_of log)) }
