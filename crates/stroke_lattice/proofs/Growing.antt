@@ -87,7 +87,7 @@ pub more_tombstones : (s : State) (tag t : ℕ) → HasTombstone s t → HasTomb
 more_tombstones s tag t has = set.contains-insert nat_cmp_total s.tombstones tag t
     ∙ second_bit (eq_by_cmp nat_cmp t tag) (set.contains s.tombstones t) has
 
-only_one_more : (s : State) (tag t : ℕ) → HasTombstone (with_tombstone s tag) t → (t ≡ tag) ⊎ HasTombstone s t
+pub only_one_more : (s : State) (tag t : ℕ) → HasTombstone (with_tombstone s tag) t → (t ≡ tag) ⊎ HasTombstone s t
 only_one_more s tag t has = elim
     (either_bit (eq_by_cmp nat_cmp t tag) (set.contains s.tombstones t)
     (sym (set.contains-insert nat_cmp_total s.tombstones tag t) ∙ has)) [

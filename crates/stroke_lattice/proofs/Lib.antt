@@ -8,3 +8,6 @@ pub mod Picking
 pub mod Comparing
 pub mod Growing
 pub mod Refusing
+pub mod Items
+pub mod Adding
+pub mod Cutting

@@ -4,4 +4,6 @@ pub mod Stored
 pub mod Change
 pub mod Walks
 pub mod Growth
+pub mod Pieces
+pub mod Filling
 pub mod Code

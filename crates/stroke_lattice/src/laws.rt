@@ -1,9 +1,12 @@
 //! Laws of states. Each is the contract of a function that does nothing.
 
 ghost use Rattle.std.specs.Prelude.{◌≡◌, ℕ, List, [], ◌∷◌, ◌++◌, ◌↔◌};
+ghost use Rattle.std.specs.List.{AllByRecursion, flat_map};
 ghost use Rattle.stroke_core.specs.Seed.{Seed};
 ghost use Rattle.stroke_lattice.specs.State.{State, HasStroke, HasTombstone, nothing, placed, withdrawn};
 ghost use Rattle.stroke_lattice.specs.State.{IsBelow, IsJoin, AreCompatible, IsJoinOf, IsLeastAbove};
+ghost use Rattle.stroke_lattice.specs.Walks.{AreStrokes, AreTombstones};
+ghost use Rattle.stroke_lattice.specs.Pieces.{strokes_of, tombstones_of, items_of, pieces_of, AreFull};
 
 /// States with the same strokes and the same tombstones are equal.
 pub fn contents_decide_a_state()
@@ -85,4 +88,35 @@ pub fn join_of_a_longer_list()
 pub fn compatible_lists_have_a_join()
     ensures { (states : List State) (s delta : State) → IsJoinOf states s → AreCompatible s delta
         → (join : State) × IsJoinOf (states ++ delta ∷ []) join }
+{}
+
+/// A walk over the strokes of a state gives one list, and so does one over its tombstones.
+pub fn walks_give_one_list()
+    ensures strokes { (s : State) (entries : List (ℕ × Seed)) → AreStrokes s entries → entries ≡ strokes_of s }
+    ensures tombstones { (s : State) (tags : List ℕ) → AreTombstones s tags → tags ≡ tombstones_of s }
+{}
+
+/// The join of the pieces of a state is the state.
+pub fn pieces_join()
+    ensures { (max : ℕ) (s : State) → IsJoinOf (pieces_of max s) s }
+{}
+
+/// The pieces of a state have its strokes and then its tombstones, each once and in their order.
+pub fn pieces_keep_the_order()
+    ensures { (max : ℕ) (s : State) → flat_map items_of (pieces_of max s) ≡ items_of s }
+{}
+
+/// The state without strokes and tombstones has no piece.
+pub fn pieces_of_nothing()
+    ensures { (max : ℕ) → pieces_of max nothing ≡ [] }
+{}
+
+/// Each piece has a stroke or a tombstone.
+pub fn no_piece_is_empty()
+    ensures { (max : ℕ) (s : State) → AllByRecursion (λ piece. piece ≡ nothing → ⊥) (pieces_of max s) }
+{}
+
+/// Each piece but the last is full: with the next stroke or tombstone its frame would be too long.
+pub fn pieces_are_full()
+    ensures { (max : ℕ) (s : State) → AreFull max (pieces_of max s) }
 {}

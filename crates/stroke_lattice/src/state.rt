@@ -138,7 +138,10 @@ impl State {
         Live::new(self.strokes.iter(), &self.tombstones)
     }
 
-    pub(crate) fn insert(&mut self, tag: Tag, stroke: Stroke) -> Result<(), AllocFailed<Stroke>>
+    /// Puts a stroke under a tag, in place of the tag's own if it has one.
+    ///
+    /// Errors: want of memory, with the stroke handed back. The state is then unchanged.
+    pub fn insert(&mut self, tag: Tag, stroke: Stroke) -> Result<(), AllocFailed<Stroke>>
         ensures ok { OnOk result (self.new ≡ record self.old { strokes = map.insert self.old.strokes tag stroke }) }
         ensures err { OnErr result (self.new ≡ self.old) }
         ensures returned { IfErr result (λ e. e.value ≡ stroke) }
@@ -158,7 +161,10 @@ impl State {
         self.strokes.remove(&tag);
     }
 
-    pub(crate) fn bury(&mut self, tag: Tag) -> Result<(), Memory>
+    /// Puts a tombstone under a tag.
+    ///
+    /// Errors: want of memory. The state is then unchanged.
+    pub fn bury(&mut self, tag: Tag) -> Result<(), Memory>
         ensures ok { OnOk result (self.new ≡ record self.old { tombstones = set.insert self.old.tombstones tag }) }
         ensures err { OnErr result (self.new ≡ self.old) }
     {

@@ -1,3 +1,5 @@
+mod pieces;
+
 use crate::*;
 use std::alloc::Global;
 use std::process::Abort;
