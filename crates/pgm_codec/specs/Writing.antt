@@ -10,6 +10,10 @@ use Rattle.pgm_codec.specs.Spelling.{line_feed, blank, magic}
 abbrev pub sample_bytes : ℕ → ℕ → List ℕ
 sample_bytes maxval s = if nat_lt maxval 256 then s ∷ [] else s / 256 ∷ s % 256 ∷ []
 
+-- how many bytes that is
+abbrev pub sample_len : ℕ → ℕ
+sample_len maxval = if nat_lt maxval 256 then 1 else 2
+
 -- the magic, LF, width, blank, height, LF, maxval, LF, in decimal without leading zeros
 abbrev pub file_header : Encoding → Graymap → List ℕ
 file_header encoding g =

@@ -54,7 +54,7 @@ pub use source::Source;
 pub use std_sink::StdSink;
 pub use std_source::StdSource;
 pub use transfer::{MOST_PULLS, read_all, read_from, write_to};
-pub use writing::write_raw;
+pub use writing::{put_samples, sample_len, write_raw};
 
 #[cfg(test)]
 mod device_tests;

@@ -2,7 +2,7 @@
 ghost use Rattle.std.specs.Prelude.{◌≡◌, ◌+◌, ◌*◌, ◌<◌, ◌≤◌, ◌++◌, length, take, string_bytes, All, IfOk, IsOkUnless};
 ghost use Rattle.std.specs.List.{flat_map};
 ghost use Rattle.pgm_codec.specs.declared.error.PgmError.TheVariants as errors;
-ghost use Rattle.pgm_codec.specs.Writing.{sample_bytes, raw_header, raw_text};
+ghost use Rattle.pgm_codec.specs.Writing.{sample_bytes, sample_len, raw_header, raw_text};
 
 use crate::error::PgmError;
 use crate::image::Image;
@@ -33,6 +33,27 @@ fn put_wide(out: &mut [u8], at: usize, maxval: u16, samples: &[u32])
     }
 }
 
+/// How many bytes a sample takes in a raw file: 1 where maxval is below 256, else 2.
+pub fn sample_len(maxval: u16) -> usize
+    ensures { result ≡ sample_len maxval }
+{
+    if maxval < 256 { 1 } else { 2 }
+}
+
+/// Writes samples as they stand in the raster of a raw file (Netpbm, pgm(5)) over all bytes behind the first
+/// `at`: one byte a sample where maxval is below 256, else two, the more significant first. It takes no memory.
+pub fn put_samples(out: &mut [u8], at: usize, maxval: u16, samples: &[u32])
+    requires within { All (λ s. s ≤ maxval) samples.now }
+    requires room { at + length samples.now * sample_len maxval ≡ length out.old }
+    ensures { out.new ≡ take at out.old ++ flat_map (sample_bytes maxval) samples.now }
+{
+    if sample_len(maxval) == 1 {
+        put_narrow(out, at, maxval, samples);
+    } else {
+        put_wide(out, at, maxval, samples);
+    }
+}
+
 // The header of the raw file.
 fn header(alloc: Global, image: &Image) -> Result<String, PgmError>
     ensures text { IfOk result (λ t. string_bytes t ≡ raw_header image.now) }
@@ -54,15 +75,10 @@ pub fn write_raw(alloc: Global, image: &Image) -> Result<Vec<u8>, PgmError>
 {
     let header = header(alloc, image)?;
     let (maxval, samples) = (image.maxval(), image.samples());
-    let wide = maxval > 255;
-    let length = header.len() + samples.len() * if wide { 2 } else { 1 };
+    let length = header.len() + samples.len() * sample_len(maxval);
     let mut out = Vec::with_capacity(alloc, length)?;
     out.extend_from_slice(header.as_bytes())?;
     out.resize(length, 0)?;
-    if wide {
-        put_wide(&mut out, header.len(), maxval, samples);
-    } else {
-        put_narrow(&mut out, header.len(), maxval, samples);
-    }
+    put_samples(&mut out, header.len(), maxval, samples);
     Ok(out)
 }
