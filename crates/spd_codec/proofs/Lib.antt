@@ -1,0 +1,16 @@
+mod Loops
+mod Steps
+mod SixteenBytes
+mod Fields
+mod Sequences
+mod RunLists
+mod Values
+mod RisingTags
+mod StrokeParts
+mod Frames
+mod FrameLaws
+mod Answered
+mod FaultKinds
+mod Files
+mod Lengths
+mod Prints

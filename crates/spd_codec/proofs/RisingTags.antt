@@ -1,0 +1,250 @@
+-- Strokes and tombstones that rise by tag are those of the state that they make, in its order.
+use Rattle.std.proofs.Common.{◌≡◌, ℕ, ◌<◌, Bool, true, false, cond, ◌||◌, T, List, [], ◌∷◌, ◌++◌, map, Option, Some, None, refl, sym, ap, subst, ◌∙◌, append_assoc, arith, is_some, length}
+use Rattle.std.specs.Prelude.{◌&&◌}
+use Rattle.std.specs.List.{AllByRecursion, list_any}
+use Rattle.std.specs.declared.cmp.Ordering.{Ordering}
+use Rattle.std.specs.declared.cmp.Ordering.TheVariants.{Greater}
+use Rattle.std.specs.Ordering.{nat_cmp, is_lt, eq_by_cmp}
+use Rattle.std.specs.Cmp.{nat_cmp_total}
+use Rattle.std.specs.FinMap as fin
+use Rattle.std.specs.FinMap.{FinMap, is_sorted, put}
+use Rattle.std.specs.FinMap.Entries.{below_all, by_order, is_some-find}
+use Rattle.std.specs.FinSet as set
+use Rattle.std.proofs.lemmas.Bool.{ltb-true, lt-ltb}
+use Rattle.std.proofs.lemmas.Bool.Decides.{nat_tests}
+use Rattle.std.proofs.lemmas.List.{append-nil}
+use Rattle.stroke_core.specs.Seed.{Seed}
+use Rattle.stroke_lattice.specs.State.{State, nothing}
+use Rattle.stroke_lattice.specs.Pieces.{strokes_of, tombstones_of}
+use Rattle.spd_codec.specs.Faults.{is_above}
+use Rattle.spd_codec.specs.Reading.{gathered, with_stroke, with_tombstone}
+
+-- each tag is above the one before it
+abbrev pub Rise : Option ℕ → List ℕ → Type 0
+Rise before [] = Unit {0}
+Rise before (tag ∷ tags) = (is_above before tag ≡ true) × Rise (Some tag) tags
+
+-- the keys of entries
+abbrev pub keys_of : {X : Type 0} → List (ℕ × X) → List ℕ
+keys_of es = map (λ e. e.0) es
+
+-- the state of strokes and tombstones
+abbrev pub state_of : List (ℕ × Seed) → List ℕ → State
+state_of es tags = gathered with_tombstone (gathered with_stroke nothing es) tags
+
+-- the order of numbers, as it is named
+greater : (x y : ℕ) → y < x → nat_cmp x y ≡ Greater
+greater x y e = grind (arith, nat_tests)
+
+-- and back
+less_from : (x y : ℕ) → is_lt (nat_cmp x y) ≡ true → x < y
+less_from x y e = grind (arith, nat_tests)
+
+-- a test that holds is true
+holds : (b : Bool) → T b → b ≡ true
+holds true h = refl
+holds false h = absurd h
+
+-- the first of two tests
+front : (a b : Bool) → T (a && b) → T a
+front true b h = tt
+front false b h = absurd h
+
+-- the second of two tests
+back : (a b : Bool) → T (a && b) → T b
+back true b h = h
+back false b h = absurd h
+
+-- the order of tests does not matter
+swapped : (a b c : Bool) → (a || (b || c)) ≡ ((b || a) || c)
+swapped true true c = refl
+swapped true false c = refl
+swapped false true c = refl
+swapped false false c = refl
+
+-- a test beside one that fails
+or_false : (b : Bool) → (b || false) ≡ b
+or_false true = refl
+or_false false = refl
+
+-- a list of no length is empty
+nil_of : {A : Type 0} (xs : List A) → length xs ≡ 0 → xs ≡ []
+nil_of [] e = refl
+nil_of (x ∷ xs) e = absurd (omega arith)
+
+module _ {X : Type 0} where
+  -- each key is below the number
+  abbrev AreBelow : ℕ → List (ℕ × X) → Type 0
+  AreBelow n es = AllByRecursion (λ e. e.0 < n) es
+
+  -- a key above all others goes last
+  put_last : (k : ℕ) (v : X) (es : List (ℕ × X)) → AreBelow k es → put nat_cmp k v es ≡ es ++ (k, v) ∷ []
+  put_last k v [] below = refl
+  put_last k v (e ∷ es) below =
+      ap (λ (o : Ordering). by_order o ((k, v) ∷ e ∷ es) ((e.0, v) ∷ es) (e ∷ put nat_cmp k v es)) (greater k e.0 below.0)
+      ∙ ap (λ (l : List (ℕ × X)). e ∷ l) (put_last k v es below.1)
+
+  -- a key above all others, and one more
+  below_push : (n k : ℕ) (v : X) (es : List (ℕ × X)) → AreBelow k es → k < n → AreBelow n (es ++ (k, v) ∷ [])
+  below_push n k v [] below lt = (lt, tt)
+  below_push n k v (e ∷ es) below lt = (omega (arith, below.0), below_push n k v es below.1 lt)
+
+  -- the map with one entry more
+  abbrev pub with_entry : FinMap nat_cmp X → ℕ × X → FinMap nat_cmp X
+  with_entry m e = fin.insert m e.0 e.1
+
+  -- what may come next is above all keys
+  abbrev IsUnder : FinMap nat_cmp X → Option ℕ → Type 0
+  IsUnder m before = (k : ℕ) → is_above before k ≡ true → AreBelow k (fin.entries m)
+
+  -- entries that rise are put behind those before them
+  entries_after : (m : FinMap nat_cmp X) (es : List (ℕ × X)) (before : Option ℕ) → IsUnder m before → Rise before (keys_of es)
+      → fin.entries (gathered with_entry m es) ≡ fin.entries m ++ es
+  entries_after m [] before under rise = sym (append-nil (fin.entries m))
+  entries_after m (e ∷ es) before under rise =
+      let below : AreBelow e.0 (fin.entries m) = under e.0 rise.0 in
+      let one : fin.entries (fin.insert m e.0 e.1) ≡ fin.entries m ++ e ∷ [] = fin.entries-insert nat_cmp_total m e.0 e.1 ∙ put_last e.0 e.1 (fin.entries m) below in
+      let next : IsUnder (fin.insert m e.0 e.1) (Some e.0) = λ k above. subst (λ (l : List (ℕ × X)). AreBelow k l) (sym one) (below_push k e.0 e.1 (fin.entries m) below (ltb-true e.0 k above)) in
+      entries_after (fin.insert m e.0 e.1) es (Some e.0) next rise.1
+      ∙ ap (λ (l : List (ℕ × X)). l ++ es) one ∙ append_assoc (fin.entries m) (e ∷ []) es
+
+  -- the empty map has none
+  no_entries : fin.entries (fin.empty {X = X} {R = nat_cmp}) ≡ []
+  no_entries = nil_of (fin.entries (fin.empty {X = X} {R = nat_cmp})) (sym (fin.len-entries (fin.empty {X = X} {R = nat_cmp})) ∙ fin.len-empty nat_cmp X)
+
+  -- entries that rise are those of the map that they make
+  entries_made : (es : List (ℕ × X)) → Rise None (keys_of es) → fin.entries (gathered with_entry fin.empty es) ≡ es
+  entries_made es rise =
+      entries_after fin.empty es None (λ k above. subst (λ (l : List (ℕ × X)). AreBelow k l) (sym no_entries) tt) rise
+      ∙ ap (λ (l : List (ℕ × X)). l ++ es) no_entries
+
+  -- sorted entries behind a key rise
+  rise_behind : (k : ℕ) (es : List (ℕ × X)) → T (below_all nat_cmp k es) → T (is_sorted nat_cmp es) → Rise (Some k) (keys_of es)
+  rise_behind k [] below sorted = tt
+  rise_behind k (e ∷ es) below sorted = (
+    lt-ltb k e.0 (less_from k e.0 (holds _ (front (is_lt (nat_cmp k e.0)) (below_all nat_cmp k es) below))),
+    rise_behind e.0 es (front (below_all nat_cmp e.0 es) (is_sorted nat_cmp es) sorted) (back (below_all nat_cmp e.0 es) (is_sorted nat_cmp es) sorted),
+  )
+
+  -- sorted entries rise
+  rise_sorted : (es : List (ℕ × X)) → T (is_sorted nat_cmp es) → Rise None (keys_of es)
+  rise_sorted [] sorted = tt
+  rise_sorted (e ∷ es) sorted =
+      (refl, rise_behind e.0 es (front (below_all nat_cmp e.0 es) (is_sorted nat_cmp es) sorted) (back (below_all nat_cmp e.0 es) (is_sorted nat_cmp es) sorted))
+
+-- ---- tombstones
+
+-- a tag with nothing under it
+abbrev alone : ℕ → ℕ × Unit {0}
+alone tag = (tag, tt)
+
+-- the set as a map that has nothing under its tags
+abbrev as_map : set.FinSet nat_cmp → FinMap nat_cmp (Unit {0})
+as_map s = fin.from_entries {R = nat_cmp} (map alone (set.items s))
+
+-- tags are the keys of their entries
+keys_of_alone : (tags : List ℕ) → keys_of (map alone tags) ≡ tags
+keys_of_alone [] = refl
+keys_of_alone (tag ∷ tags) = ap (λ (t : List ℕ). tag ∷ t) (keys_of_alone tags)
+
+-- options of nothing are equal where both are there or neither
+same_if_some : (a b : Option (Unit {0})) → is_some a ≡ is_some b → a ≡ b
+same_if_some None None e = refl
+same_if_some None (Some y) e = absurd cc
+same_if_some (Some x) None e = absurd cc
+same_if_some (Some x) (Some y) e = refl
+
+-- the map has the tags of the set
+test_of_tags : (s : set.FinSet nat_cmp) (q : ℕ) → is_some (fin.get (as_map s) q) ≡ set.contains s q
+test_of_tags s q =
+    ap is_some (fin.get-from_entries nat_cmp_total (map alone (set.items s)) q)
+    ∙ is_some-find nat_cmp q (map alone (set.items s))
+    ∙ ap (list_any (eq_by_cmp nat_cmp q)) (keys_of_alone (set.items s))
+    ∙ sym (set.contains-items s q)
+
+-- a test, or an option that is there
+some_or : (b : Bool) (o : Option (Unit {0})) → (b || is_some o) ≡ is_some (cond b (Some tt) o)
+some_or true o = refl
+some_or false o = refl
+
+-- to add a tag to the set is to add it to the map
+as_map_insert : (s : set.FinSet nat_cmp) (tag : ℕ) → as_map (set.insert s tag) ≡ fin.insert (as_map s) tag tt
+as_map_insert s tag = fin.same_map nat_cmp_total fin.nat_cmp-IsAntisymmetric _ _ (λ q. same_if_some _ _
+    (test_of_tags (set.insert s tag) q ∙ set.contains-insert nat_cmp_total s tag q
+    ∙ ap (λ (b : Bool). eq_by_cmp nat_cmp q tag || b) (sym (test_of_tags s q))
+    ∙ some_or (eq_by_cmp nat_cmp q tag) (fin.get (as_map s) q)
+    ∙ ap is_some (sym (fin.get-insert nat_cmp_total (as_map s) tag tt q))))
+
+-- the empty set is the empty map
+as_map_empty : as_map set.empty ≡ fin.empty
+as_map_empty = fin.same_map nat_cmp_total fin.nat_cmp-IsAntisymmetric _ _ (λ q. same_if_some _ _
+    (test_of_tags set.empty q ∙ set.contains-empty nat_cmp q ∙ ap is_some (sym (fin.get-empty nat_cmp q))))
+
+-- and so for tags one after the other
+as_map_after : (s : set.FinSet nat_cmp) (tags : List ℕ) → as_map (gathered set.insert s tags) ≡ gathered with_entry (as_map s) (map alone tags)
+as_map_after s [] = refl
+as_map_after s (tag ∷ tags) = as_map_after (set.insert s tag) tags ∙ ap (λ (m : FinMap nat_cmp (Unit {0})). gathered with_entry m (map alone tags)) (as_map_insert s tag)
+
+-- ---- states
+
+-- only strokes are added
+strokes_alone : (s : State) (es : List (ℕ × Seed)) → gathered with_stroke s es ≡ record s { strokes = gathered with_entry s.strokes es }
+strokes_alone s [] = refl
+strokes_alone s (e ∷ es) = strokes_alone (with_stroke s e) es
+
+-- only tombstones are added
+tombstones_alone : (s : State) (tags : List ℕ) → gathered with_tombstone s tags ≡ record s { tombstones = gathered set.insert s.tombstones tags }
+tombstones_alone s [] = refl
+tombstones_alone s (tag ∷ tags) = tombstones_alone (with_tombstone s tag) tags
+
+-- the map and the set that they make
+abbrev made : List (ℕ × Seed) → List ℕ → State
+made es tags = record { strokes = gathered with_entry fin.empty es; tombstones = gathered set.insert set.empty tags }
+
+-- they are the state
+state_is : (es : List (ℕ × Seed)) (tags : List ℕ) → state_of es tags ≡ made es tags
+state_is es tags =
+    ap (λ (s : State). gathered with_tombstone s tags) (strokes_alone nothing es)
+    ∙ tombstones_alone (record { strokes = gathered with_entry fin.empty es; tombstones = set.empty }) tags
+
+-- the strokes of the state that they make
+pub strokes_made : (es : List (ℕ × Seed)) (tags : List ℕ) → Rise None (keys_of es) → strokes_of (state_of es tags) ≡ es
+strokes_made es tags rise = ap strokes_of (state_is es tags) ∙ entries_made es rise
+
+-- its tombstones
+pub tombstones_made : (es : List (ℕ × Seed)) (tags : List ℕ) → Rise None tags → tombstones_of (state_of es tags) ≡ tags
+tombstones_made es tags rise =
+    ap tombstones_of (state_is es tags)
+    ∙ ap (λ (m : FinMap nat_cmp (Unit {0})). keys_of (fin.entries m))
+    (as_map_after set.empty tags ∙ ap (λ (m : FinMap nat_cmp (Unit {0})). gathered with_entry m (map alone tags)) as_map_empty)
+    ∙ ap (λ (l : List (ℕ × Unit {0})). keys_of l) (entries_made (map alone tags) (subst (Rise None) (sym (keys_of_alone tags)) rise))
+    ∙ keys_of_alone tags
+
+-- strokes and tombstones of a state rise
+pub strokes_rise : (s : State) → Rise None (keys_of (strokes_of s))
+strokes_rise s = rise_sorted (strokes_of s) (fin.entries_sorted s.strokes)
+
+-- and so do its tombstones
+pub tombstones_rise : (s : State) → Rise None (tombstones_of s)
+tombstones_rise s = rise_sorted (fin.entries (as_map s.tombstones)) (fin.entries_sorted (as_map s.tombstones))
+
+-- what the set has after tags were added
+contains_after : (s : set.FinSet nat_cmp) (tags : List ℕ) (q : ℕ)
+    → set.contains (gathered set.insert s tags) q ≡ (list_any (eq_by_cmp nat_cmp q) tags || set.contains s q)
+contains_after s [] q = refl
+contains_after s (tag ∷ tags) q =
+    contains_after (set.insert s tag) tags q
+    ∙ ap (λ (b : Bool). list_any (eq_by_cmp nat_cmp q) tags || b) (set.contains-insert nat_cmp_total s tag q)
+    ∙ swapped (list_any (eq_by_cmp nat_cmp q) tags) (eq_by_cmp nat_cmp q tag) (set.contains s q)
+
+-- and they make it
+pub state_made : (s : State) → state_of (strokes_of s) (tombstones_of s) ≡ s
+state_made s =
+    let strokes : gathered with_entry fin.empty (strokes_of s) ≡ s.strokes = fin.same_entries_map _ _ (entries_made (strokes_of s) (strokes_rise s)) in
+    let tombstones : gathered set.insert set.empty (tombstones_of s) ≡ s.tombstones = set.same_set nat_cmp_total fin.nat_cmp-IsAntisymmetric _ _ (λ q.
+    contains_after set.empty (tombstones_of s) q
+    ∙ ap (λ (b : Bool). list_any (eq_by_cmp nat_cmp q) (tombstones_of s) || b) (set.contains-empty nat_cmp q)
+    ∙ or_false (list_any (eq_by_cmp nat_cmp q) (tombstones_of s))
+    ∙ sym (fin.contains_key-keys (as_map s.tombstones) q)
+    ∙ test_of_tags s.tombstones q) in
+    state_is (strokes_of s) (tombstones_of s) ∙ (λ i. record { strokes = strokes i; tombstones = tombstones i })

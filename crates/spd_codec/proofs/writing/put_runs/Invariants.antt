@@ -1,0 +1,10 @@
+use Rattle.std.proofs.Common.{◌≡◌, ◌++◌, drop}
+use Rattle.std.specs.List.{flat_map, AllByRecursion}
+use Rattle.spd_codec.specs.Spelling.{run_text, RunFits}
+use Rattle.spd_codec.proofs.writing.put_runs.Given as goal
+
+abbrev pub invariant-loop-run : goal.invariant-loop-run
+invariant-loop-run l = record {
+  text : l.out.items ++ flat_map run_text (drop l.run-index l.runs) ≡ l.initial.out.items ++ flat_map run_text l.runs;
+  fit : AllByRecursion RunFits (drop l.run-index l.runs) → AllByRecursion RunFits l.runs;
+}

@@ -1,0 +1,13 @@
+use Rattle.std.proofs.Common.{◌≡◌, ◌++◌}
+use Rattle.std.specs.List.{flat_map, AllByRecursion}
+use Rattle.stroke_lattice.specs.Pieces.{strokes_of}
+use Rattle.spd_codec.specs.declared.version.Version.TheVariants.{Second}
+use Rattle.spd_codec.specs.Spelling.{stroke_text, StrokeFits}
+use Rattle.spd_codec.proofs.writing.put_strokes.Given as goal
+
+abbrev pub invariant-loop-tag : goal.invariant-loop-tag
+invariant-loop-tag l = record {
+  text : l.out.items ++ flat_map (stroke_text Second) l.tag-iterator
+      ≡ l.initial.out.items ++ flat_map (stroke_text Second) (strokes_of l.delta);
+  fit : AllByRecursion (StrokeFits Second) l.tag-iterator → AllByRecursion (StrokeFits Second) (strokes_of l.delta);
+}
