@@ -1,0 +1,151 @@
+-- Lists of events that grow by one.
+use Rattle.std.proofs.Common.{◌≡◌, ◌∙◌, ◌∷◌, ◌++◌, ◌+◌, ◌<◌, [], ℕ, List, length, get_or, take, drop, refl, sym, subst, ap, arith, inl, inr}
+use Rattle.std.specs.Prelude.{◌≢◌}
+use Rattle.std.proofs.lemmas.List.{append-nil, take_more, take-append-drop, length-take-le, length-drop}
+use Rattle.stroke_lattice.specs.State.{State}
+use Rattle.core_rules.specs.declared.error.CoreError.TheVariants as core_errors
+use Rattle.replica_world.specs.declared.error.WorldError.{WorldError}
+use Rattle.replica_world.specs.declared.error.WorldError.TheVariants as errors
+use Rattle.replica_world.specs.declared.event.Event.{Event}
+use Rattle.replica_world.specs.declared.event.Event.TheVariants as events
+use Rattle.replica_world.specs.World.{World}
+use Rattle.replica_world.specs.Events.{IsNamed, Carries, IsDone, IsRefusal}
+use Rattle.replica_world.specs.Runs.{Refusal, AreEvents, IsSameButSerial, IsRun, IsStopped, IsOnward}
+
+-- ---- packets that come to replicas
+
+-- a packet that comes is an edit of what it carries
+pub delivered : (before after : World) (r k : ℕ) (delta : State) → Carries before k delta
+    → IsDone before (events.Edit r delta) after → IsDone before (events.Deliver r k) after
+delivered before after r k delta carries (within, taken) = (within, (delta, carries, taken))
+
+-- and it is refused as that edit is
+pub not_delivered : (before after : World) (r k : ℕ) (delta : State) (why : WorldError)
+    → IsNamed before (events.Deliver r k) → Carries before k delta
+    → IsRefusal before (events.Edit r delta) why after → IsRefusal before (events.Deliver r k) why after
+not_delivered before after r k delta errors.NoSuch (within, there) carries (inl (unnamed, same)) =
+    absurd (unnamed within)
+not_delivered before after r k delta (errors.Core why) named carries (inl ((within, refused), same)) =
+    inl ((within, (delta, carries, refused)), same)
+not_delivered before after r k delta why named carries (inr (memory, (within, same))) = inr (memory, (named, same))
+
+-- ---- want of memory
+
+-- an event that is refused leaves all but a serial as it was
+pub refusal_spends : (before after : World) (event : Event) (why : WorldError) → IsRefusal before event why after
+    → IsSameButSerial before after
+refusal_spends before after event why (inl (turned, same)) = inl same
+refusal_spends before after (events.Edit r delta) why (inr (memory, (within, same))) = inl same
+refusal_spends before after (events.Send r part) why (inr (memory, (within, same))) = inl same
+refusal_spends before after (events.Deliver r k) why (inr (memory, (named, same))) = inl same
+refusal_spends before after (events.Take r t) why (inr (memory, (within, ready, (serial, same)))) =
+    inr (r, serial, same)
+refusal_spends before after (events.Return r j) why (inr (memory, (named, same))) = inl same
+refusal_spends before after (events.Abandon r j) why (inr (memory, cut)) = absurd cut
+refusal_spends before after (events.Hand r t i) why (inr (memory, cut)) = absurd cut
+
+-- the world with this number of steps
+abbrev with_steps : ℕ → World → World
+with_steps n w = record w { steps = n }
+
+-- the same, where the number of events is kept then
+pub steps_kept : (before between after : World) (n : ℕ) → IsSameButSerial before between
+    → after ≡ record between { steps = n } → IsSameButSerial (record before { steps = n }) after
+steps_kept before between after n (inl same) kept = inl (kept ∙ ap (with_steps n) same)
+steps_kept before between after n (inr (r, serial, same)) kept = inr (r, serial, kept ∙ ap (with_steps n) same)
+
+-- ---- one event
+
+-- an event that came to pass lists nothing
+pub came_to_pass : (before after : World) (event : Event) (n : ℕ) (refusals : List Refusal)
+    → IsDone before event after → IsOnward event n before refusals after refusals
+came_to_pass before after event n refusals done = record {
+  listed = [];
+  are_events = inl (after, done, (refl, refl));
+  more_is = sym (append-nil refusals);
+}
+
+-- an event that was refused, and not for want of memory, is listed
+pub was_listed : (before after : World) (event : Event) (n : ℕ) (why : WorldError) (refusals more : List Refusal)
+    → IsRefusal before event why after → why ≢ errors.Core core_errors.Memory → more ≡ refusals ++ (n, why) ∷ []
+    → IsOnward event n before refusals after more
+was_listed before after event n why refusals more (inl (turned, same)) other longer = record {
+  listed = (n, why) ∷ [];
+  are_events = inr (why, [], turned, refl, (refl, same));
+  more_is = longer;
+}
+was_listed before after event n why refusals more (inr (memory, cut)) other longer = absurd (other memory)
+
+-- ---- one event more
+
+events_push : (front last : List Event) (a b c : World) (n m : ℕ) (refusals listed : List Refusal)
+    → m ≡ n + length front → AreEvents n front a refusals b → AreEvents m last b listed c
+    → AreEvents n (front ++ last) a (refusals ++ listed) c
+events_push [] last a b c n m refusals listed count (none, same) after =
+    let here : m ≡ n = omega (arith, count) in
+    subst (λ (rs : List Refusal). AreEvents n last a (rs ++ listed) c) (sym none)
+    (subst (λ (w : World). AreEvents n last w listed c) same
+    (subst (λ k. AreEvents k last b listed c) here after))
+events_push (event ∷ front) last a b c n m refusals listed count (inl (next, done, rest)) after =
+    inl (next, done, events_push front last next b c (n + 1) m refusals listed (omega (arith, count)) rest after)
+events_push (event ∷ front) last a b c n m refusals listed count (inr (why, more, turned, same, rest)) after =
+    inr (
+      why,
+      more ++ listed,
+      turned,
+      ap (λ (rs : List Refusal). rs ++ listed) same,
+      events_push front last a b c (n + 1) m more listed (omega (arith, count)) rest after,
+    )
+
+-- so many events of a list were brought to an end, with these refusals, and led to this world
+pub record HaveRun (start : World) (all : List Event) (n : ℕ) (now : World) (refusals : List Refusal) : Type 0 where
+  pub are_events : AreEvents 0 (take n all) start refusals now
+
+pub none_run : (start : World) (all : List Event) (refusals : List Refusal) → refusals ≡ []
+    → HaveRun start all 0 start refusals
+none_run start all refusals none = record { are_events = (none, refl) }
+
+pub one_more_run : (start now after : World) (all : List Event) (n : ℕ) (event : Event) (refusals more : List Refusal)
+    → HaveRun start all n now refusals → n < length all → event ≡ get_or all n event
+    → IsOnward event n now refusals after more → HaveRun start all (n + 1) after more
+one_more_run start now after all n event refusals more so_far within there onward =
+    let front : take (n + 1) all ≡ take n all ++ event ∷ [] =
+    take_more all n event within ∙ ap (λ e. take n all ++ e ∷ []) (sym there) in
+    let count : n ≡ 0 + length (take n all) = let known = length-take-le n all (omega (arith, within)) in omega (arith, known) in
+    record {
+      are_events =
+          subst (λ (rs : List Refusal). AreEvents 0 (take (n + 1) all) start rs after) (sym onward.more_is)
+          (subst (λ front. AreEvents 0 front start (refusals ++ onward.listed) after) (sym front)
+          (events_push (take n all) (event ∷ []) start now after 0 n refusals onward.listed count so_far.are_events
+          onward.are_events));
+    }
+
+pub whole_run : (start now after : World) (all : List Event) (n : ℕ) (refusals : List Refusal)
+    → HaveRun start all n now refusals → take n all ≡ all → after ≡ record now { steps = length all }
+    → IsRun start all refusals after
+whole_run start now after all n refusals so_far whole kept = record {
+  reached = now;
+  are_events = subst (λ done. AreEvents 0 done start refusals now) whole so_far.are_events;
+  after_is = kept;
+}
+
+pub run_stops : (start now between after : World) (all : List Event) (n : ℕ) (why : WorldError)
+    (refusals : List Refusal) → HaveRun start all n now refusals → n < length all
+    → why ≡ errors.Core core_errors.Memory → IsSameButSerial now between → after ≡ record between { steps = n }
+    → IsStopped start all why after
+run_stops start now between after all n why refusals so_far within memory same kept =
+    let count = length-take-le n all (omega (arith, within)) in
+    let rest = length-drop n all in
+    record {
+      memory = memory;
+      done = take n all;
+      left = drop n all;
+      parts = sym (take-append-drop n all);
+      some_left = omega (arith, within, rest);
+      refusals = refusals;
+      reached = now;
+      are_events = so_far.are_events;
+      after_is =
+          subst (λ m. IsSameButSerial (record now { steps = m }) after) (sym count)
+          (steps_kept now between after n same kept);
+    }

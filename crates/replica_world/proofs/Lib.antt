@@ -1,0 +1,10 @@
+pub mod Refusals
+pub mod Ground
+pub mod Worlds
+pub mod Handing
+pub mod Headline
+pub mod Events
+pub mod Results
+pub mod Reading
+pub mod Sending
+pub mod Outcomes

@@ -1,0 +1,118 @@
+//! Events, one or a list of them.
+
+ghost use Rattle.std.specs.Prelude.{◌≡◌, ◌≢◌, ◌<◌, [], ◌∷◌, ◌++◌, IfOk, IfErr, OnOk, OnErr, vec_len, vec_capacity};
+ghost use Rattle.core_rules.specs.declared.error.CoreError.TheVariants as core_errors;
+ghost use Rattle.replica_world.specs.declared.error.WorldError.TheVariants as errors;
+ghost use Rattle.replica_world.specs.Events.{IsDone, IsRefusal};
+ghost use Rattle.replica_world.specs.Runs.{IsRun, IsStopped, IsOnward, IsSameButSerial};
+
+use super::World;
+use crate::error::WorldError;
+use crate::event::Event;
+use grid_core::Memory;
+use std::alloc::Global;
+
+impl World {
+    /// Brings one event about.
+    ///
+    /// Errors: W1 where one of its numbers names nothing: no replica, piece, packet, tile, result or hint. Else W2 with
+    /// the reason of the core for which it refused the delta, or with C4. The world is then as it was, but that a core
+    /// may have spent a serial where memory ran out.
+    pub fn step(&mut self, alloc: Global, event: &Event) -> Result<(), WorldError>
+        ensures done { OnOk result (IsDone self.old event.now self.new) }
+        ensures refused { IfErr result (λ e. IsRefusal self.old event.now e self.new) }
+    {
+        match event {
+            Event::Edit(replica, delta) => self.edit(alloc, *replica, delta),
+            Event::Send(replica, part) => self.send(alloc, *replica, *part),
+            Event::Deliver(replica, packet) => self.deliver(alloc, *replica, *packet),
+            Event::Take(replica, tile) => self.take(alloc, *replica, *tile),
+            Event::Return(replica, result) => self.give_back(alloc, *replica, *result),
+            Event::Abandon(replica, result) => self.abandon(*replica, *result),
+            Event::Hand(replica, tile, place) => self.hand(*replica, *tile, *place),
+        }
+    }
+
+    /// Brings a list of events about, one after another. It answers the numbers of those that were refused, counted
+    /// from 0, each with the reason.
+    ///
+    /// Errors: W2 with C4, where memory ran out. The world is then as after the events before, of which
+    /// [`steps`](World::steps) says how many there are, but a core may have spent a serial; so the rest can be run.
+    pub fn run(
+        &mut self,
+        alloc: Global,
+        events: &[Event],
+    ) -> Result<Vec<(usize, WorldError)>, WorldError>
+        ensures ran { IfOk result (λ refusals. IsRun self.old events.now refusals.items self.new) }
+        ensures stopped { IfErr result (λ e. IsStopped self.old events.now e self.new) }
+    {
+        let mut refusals = Vec::new(alloc);
+        for i in 0..events.len() {
+            if let Err(why) = self.run_one(alloc, &mut refusals, i, &events[i]) {
+                self.keep_steps(i);
+                return Err(why);
+            }
+        }
+        self.keep_steps(events.len());
+        Ok(refusals)
+    }
+
+    // Keeps the number of events that the run brought to an end.
+    fn keep_steps(&mut self, steps: usize)
+        ensures { self.new ≡ record self.old { steps = steps } }
+    {
+        self.steps = steps;
+    }
+
+    // Brings the event of this number about, or lists why it is refused. The place in the list is reserved before.
+    //
+    // Errors: W2 with C4.
+    fn run_one(
+        &mut self,
+        alloc: Global,
+        refusals: &mut Vec<(usize, WorldError)>,
+        number: usize,
+        event: &Event,
+    ) -> Result<(), WorldError>
+        ensures onward { OnOk result (IsOnward event.now number self.old refusals.old.items self.new refusals.new.items) }
+        ensures memory { IfErr result (λ e. e ≡ errors.Core core_errors.Memory) }
+        ensures err { OnErr result (IsSameButSerial self.old self.new) }
+    {
+        make_room(refusals)?;
+        match self.step(alloc, event) {
+            Ok(()) => Ok(()),
+            Err(why) => list(refusals, number, why),
+        }
+    }
+}
+
+// Reserves a place.
+//
+// Errors: out of memory, where the list is as it was.
+fn make_room(refusals: &mut Vec<(usize, WorldError)>) -> Result<(), Memory>
+    ensures items { refusals.new.items ≡ refusals.old.items }
+    ensures room { OnOk result (vec_len refusals.new < vec_capacity refusals.new) }
+{
+    refusals.reserve(1)?;
+    Ok(())
+}
+
+// Lists that the event of this number is refused, in the place that is reserved.
+//
+// Errors: the reason, where memory ran out.
+fn list(
+    refusals: &mut Vec<(usize, WorldError)>,
+    number: usize,
+    why: WorldError,
+) -> Result<(), WorldError>
+    requires { vec_len refusals.old < vec_capacity refusals.old }
+    ensures listed { OnOk result (refusals.new.items ≡ refusals.old.items ++ (number, why) ∷ []) }
+    ensures reason { OnOk result (why ≢ errors.Core core_errors.Memory) }
+    ensures memory { IfErr result (λ e. e ≡ errors.Core core_errors.Memory) }
+{
+    if why.is_memory() {
+        return Err(why);
+    }
+    refusals.push_reserved((number, why));
+    Ok(())
+}

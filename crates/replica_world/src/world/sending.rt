@@ -1,0 +1,77 @@
+//! Pieces of replicas that are sent.
+
+ghost use Rattle.std.specs.Prelude.{◌≡◌, ◌≤◌, [], ◌∷◌, ◌++◌, IfOk, IfErr, OnOk, OnErr};
+ghost use Rattle.stroke_lattice.specs.Pieces.{pieces_of, frame_length, AllFit};
+ghost use Rattle.spd_codec.specs.declared.version.Version.TheVariants.{Second};
+ghost use Rattle.spd_codec.specs.Spelling.{frame_text};
+ghost use Rattle.replica_world.specs.declared.event.Event.TheVariants as events;
+ghost use Rattle.replica_world.specs.World.{IsReplica, core_at};
+ghost use Rattle.replica_world.specs.Events.{IsDone, IsRefusal, max_packet};
+
+use super::World;
+use crate::error::WorldError;
+use crate::packet::Packet;
+use grid_core::Memory;
+use spd_codec::{SpdError, encode};
+use std::alloc::Global;
+use stroke_lattice::Delta;
+
+/// The greatest length of a packet, in bytes.
+pub const MAX_PACKET: usize = 1400;
+
+impl World {
+    // Sends the frame of a piece of a replica's strokes: it is the next packet.
+    //
+    // Errors: W1 for a replica or a piece that is not there, else W2 with C4.
+    pub(super) fn send(
+        &mut self,
+        alloc: Global,
+        replica: usize,
+        part: usize,
+    ) -> Result<(), WorldError>
+        ensures done { OnOk result (IsDone self.old (events.Send replica part) self.new) }
+        ensures refused { IfErr result (λ e. IsRefusal self.old (events.Send replica part) e self.new) }
+    {
+        if replica >= self.replicas() {
+            return Err(WorldError::NoSuch);
+        }
+        let pieces = self.pieces(alloc, replica)?;
+        if part >= pieces.len() {
+            return Err(WorldError::NoSuch);
+        }
+        self.keep_frame(alloc, &pieces[part])?;
+        Ok(())
+    }
+
+    // The pieces of a replica's strokes.
+    //
+    // Errors: out of memory.
+    fn pieces(&self, alloc: Global, replica: usize) -> Result<Vec<Delta>, Memory>
+        requires { IsReplica self.now replica }
+        ensures pieces { IfOk result (λ pieces. pieces.items ≡ pieces_of max_packet (core_at self.now replica).state) }
+        ensures fit { IfOk result (λ pieces. AllFit max_packet pieces.items) }
+    {
+        self.core(replica).state().split(alloc, MAX_PACKET)
+    }
+
+    // Keeps the frame of a delta as the next packet.
+    //
+    // Errors: out of memory.
+    fn keep_frame(&mut self, alloc: Global, delta: &Delta) -> Result<(), Memory>
+        requires { frame_length delta.now ≤ max_packet }
+        ensures kept { OnOk result (self.new ≡ record self.old {
+          packets = self.old.packets ++ frame_text Second self.old.conn self.old.print delta.now ∷ [];
+        }) }
+        ensures err { OnErr result (self.new ≡ self.old) }
+    {
+        self.packets.reserve(1)?;
+        match encode(alloc, self.conn, &self.print, delta) {
+            Ok(bytes) => {
+                self.packets.push_reserved(Packet::new(bytes));
+                Ok(())
+            }
+            Err(SpdError::TooLong) => unreachable!(),
+            Err(_) => Err(Memory),
+        }
+    }
+}
