@@ -123,6 +123,30 @@ stops_later start next delta turnover deltas e merged (inr (memory, halted)) =
     stops_there start halted.core (delta ∷ deltas) (delta ∷ halted.before) halted.after halted.delta e (ap (λ (ds : List State). delta ∷ ds) halted.parts)
     (next, turnover, merged, halted.taken) (inr (memory, halted.acceptable))
 
+-- a core takes deltas and then others
+pub taken_append : (start middle core : Core) (deltas others : List State) → AreTaken start deltas middle → AreTaken middle others core
+    → AreTaken start (deltas ++ others) core
+taken_append start middle core [] others same more = subst (λ (c : Core). AreTaken c others core) same more
+taken_append start middle core (delta ∷ deltas) others (next, turnover, merged, rest) more =
+    (next, turnover, merged, taken_append next middle core deltas others rest more)
+
+-- merging stops among the first deltas
+pub stops_before : (start : Core) (deltas others : List State) (e : CoreError) → IsStop start deltas e → IsStop start (deltas ++ others) e
+stops_before start deltas others e (inl first) =
+    stops_there start first.core (deltas ++ others) first.before (first.after ++ others) first.delta e
+    (ap (λ (ds : List State). ds ++ others) first.parts ∙ append_assoc first.before (first.delta ∷ first.after) others) first.taken (inl first.refused)
+stops_before start deltas others e (inr (memory, halted)) =
+    stops_there start halted.core (deltas ++ others) halted.before (halted.after ++ others) halted.delta e
+    (ap (λ (ds : List State). ds ++ others) halted.parts ∙ append_assoc halted.before (halted.delta ∷ halted.after) others) halted.taken
+    (inr (memory, halted.acceptable))
+
+-- merging stops behind the first deltas
+pub stops_behind : (start middle : Core) (deltas others : List State) (e : CoreError) → AreTaken start deltas middle → IsStop middle others e
+    → IsStop start (deltas ++ others) e
+stops_behind start middle [] others e same stop = subst (λ (c : Core). IsStop c others e) same stop
+stops_behind start middle (delta ∷ deltas) others e (next, turnover, merged, rest) stop =
+    stops_later start next delta turnover (deltas ++ others) e merged (stops_behind next middle deltas others e rest stop)
+
 -- ---- what a core that takes deltas keeps, and what it becomes
 
 -- the mask and the connectivity stay

@@ -7,5 +7,9 @@ pub mod Settled
 pub mod Masks
 pub mod Refusals
 pub mod Shown
+pub mod KeptViews
+pub mod KeptLaws
+pub mod Derived
 pub mod Subcommands
 pub mod Calls
+pub mod KeptRuns

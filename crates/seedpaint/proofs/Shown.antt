@@ -38,7 +38,7 @@ module _ (images : ImageLaws) where
   )
 
   -- a state shows one image on a mask
-  one_shown : (conn : Conn) (mask : Graymap) (state : State) (image other : Graymap) → IsShown conn mask state image → IsShown conn mask state other → image ≡ other
+  pub one_shown : (conn : Conn) (mask : Graymap) (state : State) (image other : Graymap) → IsShown conn mask state image → IsShown conn mask state other → image ≡ other
   one_shown conn mask state image other a b =
       let d = domain_of mask.raster conn in
       let values = value_at mask.raster in
@@ -52,7 +52,7 @@ module _ (images : ImageLaws) where
 
 module _ (images : ImageLaws) (reading : ReadingLaws) (joins : JoinLaw) where
   -- an input spells one mask and one list of deltas
-  one_spelling : (input : List ℕ) (mask other : Graymap) (deltas others : List State) → InputSpells input mask deltas → InputSpells input other others → (mask ≡ other) × (deltas ≡ others)
+  pub one_spelling : (input : List ℕ) (mask other : Graymap) (deltas others : List State) → InputSpells input mask deltas → InputSpells input other others → (mask ≡ other) × (deltas ≡ others)
   one_spelling input mask other deltas others first second =
       let same = one_split input first.edits first.file second.edits second.file first.split second.split in
       let edits : EditSpells second.edits deltas = subst (λ (t : List ℕ). EditSpells t deltas) same.0 first.edits_spelled in
@@ -87,15 +87,15 @@ marker_of start core delta [] (next, turnover, merged, same) = (
 )
 marker_of start core delta (other ∷ deltas) (next, turnover, merged, rest) = marker_of next core other deltas rest
 
--- what was grown from a core that was opened on a mask, and took deltas, is shown
-pub grown_is_shown : (conn : Conn) (side : ℕ) (mask shown : Graymap) (old : State) (deltas : List State) (core : Core) (image : Raster) (state : State)
-    (maxval : ℕ) → AreTaken (opened mask.raster conn side 0) (old ∷ deltas) core → IsGrown core image → state ≡ core.state → maxval ≡ mask.maxval
-    → shown ≡ record { raster = image; maxval = maxval } → IsShown conn mask state shown
-grown_is_shown conn side mask shown old deltas core image state maxval taken grown state-is maxval-is shown-is =
+-- what was grown from a core that was opened on a mask, and took deltas, is shown, where its strokes have a marker
+pub marked_is_shown : (conn : Conn) (side : ℕ) (mask shown : Graymap) (deltas : List State) (core : Core) (image : Raster) (state : State) (maxval : ℕ)
+    → AreTaken (opened mask.raster conn side 0) deltas core
+    → ((marker : Pixel → ℕ) × IsMarker (domain_of core.mask core.conn) (value_at core.mask) core.state marker) → IsGrown core image → state ≡ core.state
+    → maxval ≡ mask.maxval → shown ≡ record { raster = image; maxval = maxval } → IsShown conn mask state shown
+marked_is_shown conn side mask shown deltas core image state maxval taken found grown state-is maxval-is shown-is =
     let start = opened mask.raster conn side 0 in
-    let mask-is : core.mask ≡ mask.raster = taken_mask start core (old ∷ deltas) taken in
-    let conn-is : core.conn ≡ conn = taken_conn start core (old ∷ deltas) taken in
-    let found = marker_of start core old deltas taken in
+    let mask-is : core.mask ≡ mask.raster = taken_mask start core deltas taken in
+    let conn-is : core.conn ≡ conn = taken_conn start core deltas taken in
     let marker = found.0 in
     let recon = grown.reconstruction marker found.1 in
     let marks : IsMarker (domain_of mask.raster conn) (value_at mask.raster) state marker =
@@ -114,6 +114,13 @@ grown_is_shown conn side mask shown old deltas core image state maxval taken gro
           (subst (λ (r : Raster). IsReconstruction (domain_of r core.conn) (value_at r) marker (value_at image)) mask-is recon);
     } in
     subst (IsShown conn mask state) (sym shown-is) made
+
+-- what was grown from it, where it took a delta
+pub grown_is_shown : (conn : Conn) (side : ℕ) (mask shown : Graymap) (old : State) (deltas : List State) (core : Core) (image : Raster) (state : State)
+    (maxval : ℕ) → AreTaken (opened mask.raster conn side 0) (old ∷ deltas) core → IsGrown core image → state ≡ core.state → maxval ≡ mask.maxval
+    → shown ≡ record { raster = image; maxval = maxval } → IsShown conn mask state shown
+grown_is_shown conn side mask shown old deltas core image state maxval taken =
+    marked_is_shown conn side mask shown (old ∷ deltas) core image state maxval taken (marker_of (opened mask.raster conn side 0) core old deltas taken)
 
 -- it is an image with the mask's maxval
 pub grown_is_graymap : ((image : Graymap) (grid : Raster) → IsGraymap image → IsFilled grid → IsBelow grid image.raster

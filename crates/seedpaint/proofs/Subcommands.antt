@@ -1,12 +1,9 @@
 -- What clap finds in the words, and the call that it is.
-use Rattle.std.proofs.Common.{rules, ◌≡◌, ℕ, ◌<◌, ◌^◌, ◌==◌, cond, List, Option, Some, None, option_map, codes, [], ◌∷◌, true, false, inl, inr}
-use Rattle.std.proofs.Common.{Bool, Ok, Result, ◌⊎◌, refl, sym, ap, ◌∙◌, subst, arith, drop, length, get_or, decimal}
-use Rattle.std.specs.Char.{digit_value}
-use Rattle.std.specs.Str.Parse.{AllDigits, IsNumeral, ParsesUnsigned, digits_value, without_leading_plus}
-use Rattle.std.proofs.lemmas.Bool.Decides.{Decides-eqb}
-use Rattle.std.proofs.lemmas.Fmt.{decimal_is_IsNumeral, decimal-digits_value}
+use Rattle.std.proofs.Common.{rules, ◌≡◌, ℕ, ◌<◌, ◌≤◌, ◌^◌, List, Option, Some, None, option_map, codes, [], ◌∷◌, false, inl, inr}
+use Rattle.std.proofs.Common.{refl, sym, ap, ◌∙◌, subst, arith, length, get_or, decimal}
+use Rattle.std.specs.Str.Parse.{AllDigits, digits_value}
+use Rattle.std.proofs.lemmas.Fmt.{decimal_is_IsNumeral, decimal_injective, decimal-digits_value}
 use Rattle.std.proofs.lemmas.Str.Parse.{IsNumeralModel}
-use Rattle.std.proofs.lemmas.Result.{Ok-from_Ok_iff}
 use Rattle.clap.specs.Words.{Row, Text, fault_of, first_of, found_of, rows_of, subcommand_name_of, subcommand_of, subcommand_rows_of}
 use Rattle.clap.specs.declared.parser.matches.ArgMatches.{ArgMatches}
 use Rattle.clap.specs.declared.parser.matches.ArgMatches.TheViews.{out-ArgMatches, out-SubCommand}
@@ -17,9 +14,11 @@ use Rattle.clap.specs.declared.builder.value_parser.Reading.TheVariants.{AsWritt
 use Rattle.std.specs.Box.{box_value}
 use Rattle.grid_core.specs.declared.conn.Conn.{Conn}
 use Rattle.grid_core.specs.Tiles.{IsTileSide}
-use Rattle.seedpaint.specs.Words.{program, ConnIs, SideIs, IsCall, IsUsage, NamesNoConn, NamesNoSide, Says}
+use Rattle.seedpaint.specs.Words.{program, ConnIs, SideIs, KindIs, HIs, IsCall, IsUsage, NamesNoConn, NamesNoSide, NamesNoKind, NamesNoH, Says}
+use Rattle.seedpaint.specs.declared.derive.View.{View as Kind}
+use Rattle.seedpaint.specs.declared.derive.View.TheVariants.{Fill, HMax, RegMax}
 use Rattle.seedpaint.specs.declared.words.Call.{Call}
-use Rattle.seedpaint.specs.declared.words.Call.TheVariants.{View}
+use Rattle.seedpaint.specs.declared.words.Call.TheVariants.{View, Derive}
 
 -- both parts of a pair in an option
 both_parts : {B X Y : Type 0} (f : B → X × Y) (o : Option B) (x : X) (y : Y)
@@ -56,12 +55,38 @@ name_of_rows m name rows =
 -- a view whose options name no connectivity or no side is no call
 pub no_call : (rows : List Row) (named : Option (Text × List Row)) → named ≡ Some (codes "view", rows)
     → NamesNoConn (first_of (codes "conn") rows) → (call : Call) → IsCall named call → ⊥
-no_call rows named is none (View conn side) (other, same, says, tile) =
+no_call rows named is none (View conn side file) (other, same, says, tile, kept) =
+    search rules
+no_call rows named is none (Derive kind h conn) (other, same, is_kind, is_h, is_conn) =
     search rules
 
 pub no_sided_call : (rows : List Row) (named : Option (Text × List Row)) → named ≡ Some (codes "view", rows)
     → NamesNoSide (first_of (codes "tile") rows) → (call : Call) → IsCall named call → ⊥
-no_sided_call rows named is none (View conn side) (other, same, says, tile) =
+no_sided_call rows named is none (View conn side file) (other, same, says, tile, kept) =
+    search rules
+no_sided_call rows named is none (Derive kind h conn) (other, same, is_kind, is_h, is_conn) =
+    search rules
+
+-- a derivation that names no view, no number for `--h` or no connectivity is no call
+pub no_kind_call : (rows : List Row) (named : Option (Text × List Row)) → named ≡ Some (codes "derive", rows)
+    → NamesNoKind (first_of (codes "kind") rows) → (call : Call) → IsCall named call → ⊥
+no_kind_call rows named is none (View conn side file) (other, same, says, tile, kept) =
+    search rules
+no_kind_call rows named is none (Derive kind h conn) (other, same, is_kind, is_h, is_conn) =
+    search rules
+
+pub no_h_call : (rows : List Row) (named : Option (Text × List Row)) → named ≡ Some (codes "derive", rows)
+    → NamesNoH (first_of (codes "h") rows) → (call : Call) → IsCall named call → ⊥
+no_h_call rows named is none (View conn side file) (other, same, says, tile, kept) =
+    search rules
+no_h_call rows named is none (Derive kind h conn) (other, same, is_kind, is_h, is_conn) =
+    search rules
+
+pub no_joined_call : (rows : List Row) (named : Option (Text × List Row)) → named ≡ Some (codes "derive", rows)
+    → NamesNoConn (first_of (codes "conn") rows) → (call : Call) → IsCall named call → ⊥
+no_joined_call rows named is none (View conn side file) (other, same, says, tile, kept) =
+    search rules
+no_joined_call rows named is none (Derive kind h conn) (other, same, is_kind, is_h, is_conn) =
     search rules
 
 -- no word is no subcommand
@@ -74,55 +99,82 @@ one_conn : (value : Option Text) (a b : Conn) → ConnIs value a → ConnIs valu
 one_conn None a b first second = search rules
 one_conn (Some v) a b first second = search rules
 
--- ---- the value of `--tile`
+-- ---- numbers in decimal, the values of `--tile` and `--h`
 
-true_or_false : (b : Bool) → (b ≡ true) ⊎ (b ≡ false)
-true_or_false true = inl refl
-true_or_false false = inr refl
+-- what the decimal text of a number says
+number_value : (value : Text) (n : ℕ) → value ≡ decimal n → n < 2 ^ 32 → digits_value 10 value ≡ n
+number_value value n is small =
+    rw is (decimal_is_IsNumeral n (omega (arith, small))).1
 
--- a digit is no plus
-no_plus_digit : (c : ℕ) → digit_value c < 10 → (c == 43) ≡ false
-no_plus_digit c digit = elim (true_or_false (c == 43)) [
-  | inl plus ↦
-      let is : c ≡ 43 = (Decides-eqb c 43).0 plus in
-      let low : digit_value 43 < 10 = subst (λ k. digit_value k < 10) is digit in
-      absurd (omega arith)
-  | inr other ↦ other
-]
+-- a text is at most one number in decimal
+pub one_number : (value : Text) (a b : ℕ) → value ≡ decimal a → a < 2 ^ 32 → value ≡ decimal b → b < 2 ^ 32 → a ≡ b
+one_number value a b first small second also =
+    decimal_injective a b (omega (arith, small)) (omega (arith, also)) (sym first ∙ second)
 
--- a numeral has no plus in front
-no_plus : (ds : List ℕ) → AllDigits 10 ds → without_leading_plus ds ≡ ds
-no_plus [] all = refl
-no_plus (c ∷ cs) all = ap (λ b. drop (cond b 1 0) (c ∷ cs)) (no_plus_digit c all.0)
+-- digits without a zero in front are the number that they say, in decimal
+pub is_decimal : (value : Text) (n : ℕ) → digits_value 10 value ≡ n → AllDigits 10 value → 0 < length value
+    → (get_or value 0 0 ≡ 48 → length value ≡ 1) → n < 2 ^ 32 → value ≡ decimal n
+is_decimal value n is all some no_zero small =
+    let model : IsNumeralModel (AllDigits 10) (digits_value 10) = record { to = λ ds h. h; from = λ ds h. h; same = λ ds h. refl } in
+    let fits : digits_value 10 value < 2 ^ 64 = rw is (omega (arith, small)) in
+    sym (decimal-digits_value model value all some no_zero fits) ∙ ap decimal is
 
--- what the decimal text of a side says
-side_value : (value : Text) (side : ℕ) → value ≡ decimal side → IsTileSide side → IsNumeral 10 value × (digits_value 10 value ≡ side)
-side_value value side is tile_side =
-    rw is (decimal_is_IsNumeral side (omega (arith, tile_side.at_most)))
+-- a side that tiles may have and a number of 16 bits are numbers of 32 bits
+pub small_side : (side : ℕ) → IsTileSide side → side < 2 ^ 32
+small_side side tile_side = omega (arith, tile_side.at_most)
 
--- what is read in the decimal text of a side is the side
-pub reads_side : {E : Type 0} (value : Text) (side : ℕ) (r : Result ℕ E) → SideIs (Some value) side → ParsesUnsigned 32 10 value r → r ≡ Ok side
-reads_side value side r (is, tile_side) parses =
-    let said = side_value value side is tile_side in
-    let same = no_plus value said.0.1 in
-    let small : digits_value 10 (without_leading_plus value) < 2 ^ 32 = rw (same, said.1) (omega (arith, tile_side.at_most)) in
-    Ok-from_Ok_iff r _ _ parses (rw same said.0, small) ∙ ap (λ ds. Ok (digits_value 10 ds)) same ∙ ap (λ n. Ok n) said.1
+pub small_h : (h : ℕ) → h ≤ 65535 → h < 2 ^ 32
+small_h h within = omega (arith, within)
 
 -- a value names at most one side
 one_side : (value : Option Text) (a b : ℕ) → SideIs value a → SideIs value b → a ≡ b
 one_side None a b first second = first ∙ sym second
 one_side (Some v) a b first second =
-    sym (side_value v a first.0 first.1).1 ∙ (side_value v b second.0 second.1).1
+    one_number v a b first.0 (small_side a first.1) second.0 (small_side b second.1)
+
+-- and at most one number of 16 bits
+one_h : (value : Option Text) (a b : ℕ) → HIs value a → HIs value b → a ≡ b
+one_h None a b first second = first ∙ sym second
+one_h (Some v) a b first second =
+    one_number v a b first.0 (small_h a first.1) second.0 (small_h b second.1)
 
 -- a text that says another number, or that number in another way, names no side
 pub names_no_side : (value : Text) → (value ≡ decimal (digits_value 10 value) → IsTileSide (digits_value 10 value) → ⊥) → NamesNoSide (Some value)
 names_no_side value none side (is, tile_side) =
-    let same : digits_value 10 value ≡ side = (side_value value side is tile_side).1 in
+    let same : digits_value 10 value ≡ side = number_value value side is (small_side side tile_side) in
     none (is ∙ ap decimal (sym same)) (subst IsTileSide (sym same) tile_side)
+
+-- and no number of 16 bits
+pub names_no_h : (value : Text) → (value ≡ decimal (digits_value 10 value) → digits_value 10 value ≤ 65535 → ⊥) → NamesNoH (Some value)
+names_no_h value none h (is, within) =
+    let same : digits_value 10 value ≡ h = number_value value h is (small_h h within) in
+    none (is ∙ ap decimal (sym same)) (omega (arith, same, within))
+
+-- a text that is a greater number in decimal names no number of 16 bits
+pub no_greater_h : (value : Option Text) (text : Text) (n : ℕ) → value ≡ Some text → (n < 2 ^ 32) × (text ≡ decimal n) → 65535 < n → NamesNoH value
+no_greater_h value text n is read above =
+    rw is (λ h named.
+    let same = one_number text n h read.1 read.0 named.0 (small_h h named.1) in
+    absurd (omega (arith, same, named.1, above)))
+
+-- a word names at most one view
+one_kind : (word : Option Text) (a b : Kind) → KindIs word a → KindIs word b → a ≡ b
+one_kind word Fill Fill first second = refl
+one_kind word HMax HMax first second = refl
+one_kind word RegMax RegMax first second = refl
+one_kind word Fill HMax first second = search rules
+one_kind word Fill RegMax first second = search rules
+one_kind word HMax Fill first second = search rules
+one_kind word HMax RegMax first second = search rules
+one_kind word RegMax Fill first second = search rules
+one_kind word RegMax HMax first second = search rules
 
 -- words say at most one call
 pub one_call : (words : List Text) (a b : Call) → Says words a → Says words b → a ≡ b
-one_call words (View a s) (View b t) first second = search (rules, one_conn, one_side, no_word_is_fault)
+one_call words (View a s f) (View b t g) first second = search (rules, one_conn, one_side, no_word_is_fault)
+one_call words (View a s f) (Derive kind h conn) first second = search (rules, no_word_is_fault)
+one_call words (Derive kind h conn) (View b t g) first second = search (rules, no_word_is_fault)
+one_call words (Derive kind h a) (Derive other g b) first second = search (rules, one_kind, one_h, one_conn, no_word_is_fault)
 
 -- words in which clap finds a fault say no call
 pub usage_at_fault : (words : List Text) → is_empty words ≡ false → is_empty (fault_of program words) ≡ false
@@ -134,9 +186,13 @@ usage_at_fault words some fault call (inr read) = search rules
 pub names_side : (value : Text) (side : ℕ) → digits_value 10 value ≡ side → AllDigits 10 value → 0 < length value
     → (get_or value 0 0 ≡ 48 → length value ≡ 1) → IsTileSide side → SideIs (Some value) side
 names_side value side is all some no_zero tile_side =
-    let model : IsNumeralModel (AllDigits 10) (digits_value 10) = record { to = λ ds h. h; from = λ ds h. h; same = λ ds h. refl } in
-    let small : digits_value 10 value < 2 ^ 64 = rw is (omega (arith, tile_side.at_most)) in
-    (sym (decimal-digits_value model value all some no_zero small) ∙ ap decimal is, tile_side)
+    (is_decimal value side is all some no_zero (small_side side tile_side), tile_side)
+
+-- and the number of 16 bits
+pub names_h : (value : Text) (h : ℕ) → digits_value 10 value ≡ h → AllDigits 10 value → 0 < length value
+    → (get_or value 0 0 ≡ 48 → length value ≡ 1) → h ≤ 65535 → HIs (Some value) h
+names_h value h is all some no_zero within =
+    (is_decimal value h is all some no_zero (small_h h within), within)
 
 -- words whose `--tile` names no side say no call
 pub usage_at_side : (words : List Text) (rows : List Row) (value : Text) → is_empty words ≡ false
@@ -146,7 +202,23 @@ usage_at_side words rows value some is tile none call (inl (no_word, is_call)) =
 usage_at_side words rows value some is tile none call (inr (no_fault, is_call)) =
     no_sided_call rows (subcommand_of program words) is (subst NamesNoSide (sym tile) none) call is_call
 
--- the row of an option's value in the words
+-- words whose `--h` names no number of 16 bits say no call
+pub usage_at_h : (words : List Text) (rows : List Row) (value : Text) → is_empty words ≡ false
+    → subcommand_of program words ≡ Some (codes "derive", rows) → first_of (codes "h") rows ≡ Some value → NamesNoH (Some value)
+    → IsUsage words
+usage_at_h words rows value some is h none call (inl (no_word, is_call)) = search rules
+usage_at_h words rows value some is h none call (inr (no_fault, is_call)) =
+    no_h_call rows (subcommand_of program words) is (subst NamesNoH (sym h) none) call is_call
+
+-- words behind `derive` that name no view say no call
+pub usage_at_kind : (words : List Text) (rows : List Row) → is_empty words ≡ false
+    → subcommand_of program words ≡ Some (codes "derive", rows) → NamesNoKind (first_of (codes "kind") rows)
+    → IsUsage words
+usage_at_kind words rows some is none call (inl (no_word, is_call)) = search rules
+usage_at_kind words rows some is none call (inr (no_fault, is_call)) =
+    no_kind_call rows (subcommand_of program words) is none call is_call
+
+-- the row of a word or of an option's value in the words
 abbrev pub option_row : Text → Text → Row
 option_row name value = record {
   id = name;

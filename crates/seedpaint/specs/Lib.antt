@@ -7,9 +7,15 @@ pub use Rattle.stroke_lattice.specs.State
 pub use Rattle.marker_tiles.specs.Marker
 pub use Rattle.core_rules.specs.Merge
 pub use Rattle.core_rules.specs.Opening
+pub use Rattle.spd_codec.specs.StateFile
+pub use Rattle.derived_views.specs.Holes
+pub use Rattle.derived_views.specs.Domes
+pub use Rattle.derived_views.specs.Plateaus
 pub mod Input
 pub mod Merging
 pub mod RunError
 pub mod View
+pub mod Kept
+pub mod Derive
 pub mod Words
 pub mod Run

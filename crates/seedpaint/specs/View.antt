@@ -20,7 +20,7 @@ use Rattle.core_rules.specs.Opening.{opened}
 use Rattle.core_rules.specs.declared.error.CoreError.TheVariants as core
 use Rattle.seedpaint.specs.Merging.{AreMerged, IsFirstRefusal, IsHalted}
 use Rattle.seedpaint.specs.declared.run_error.RunError.{RunError}
-use Rattle.seedpaint.specs.declared.run_error.RunError.TheVariants.{Usage, NoImage, Edit, Pgm, Core, Memory}
+use Rattle.seedpaint.specs.declared.run_error.RunError.TheVariants.{Usage, NoImage, Edit, Pgm, Core, Spd, OtherMask, StateFile, Memory}
 
 -- the input spells a mask behind its first `image` line, and deltas before it
 pub record InputSpells (input : List ℕ) (mask : Graymap) (deltas : List State) : Type 0 where
@@ -68,6 +68,9 @@ InputIsRefused conn side old input (Core e) =
     (mask : Graymap) × (deltas : List State) × InputSpells input mask deltas
     × IsFirstRefusal (opened mask.raster conn side 0) (old ∷ deltas) e
 InputIsRefused conn side old input Usage = ⊥
+InputIsRefused conn side old input (Spd e) = ⊥
+InputIsRefused conn side old input OtherMask = ⊥
+InputIsRefused conn side old input StateFile = ⊥
 InputIsRefused conn side old input Memory = ⊥
 
 -- memory runs out in merging, at a delta that could be taken

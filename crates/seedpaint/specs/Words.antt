@@ -1,5 +1,5 @@
 -- What the words of the command line say.
-use Rattle.std.specs.Prelude.{◌≡◌, ◌⊎◌, ℕ, [], List, Option, Some, None, String, map, drop, codes, true, string_bytes, decimal}
+use Rattle.std.specs.Prelude.{◌≡◌, ◌≤◌, ◌⊎◌, ℕ, [], List, Option, Some, None, String, map, drop, codes, true, string_bytes, decimal}
 use Rattle.std.specs.Iterator.{Drains}
 use Rattle.std.specs.Vec.Iter.{into_iter_steps}
 use Rattle.std.specs.declared.vec.IntoIter.{IntoIter}
@@ -9,7 +9,9 @@ use Rattle.grid_core.specs.declared.conn.Conn.{Conn}
 use Rattle.grid_core.specs.declared.conn.Conn.TheVariants.{Four, Eight}
 use Rattle.grid_core.specs.Tiles.{IsTileSide}
 use Rattle.seedpaint.specs.declared.words.Call.{Call}
-use Rattle.seedpaint.specs.declared.words.Call.TheVariants.{View}
+use Rattle.seedpaint.specs.declared.words.Call.TheVariants.{View, Derive}
+use Rattle.seedpaint.specs.declared.derive.View.{View as Kind}
+use Rattle.seedpaint.specs.declared.derive.View.TheVariants.{Fill, HMax, RegMax}
 
 -- the option `--conn`, which takes one value
 abbrev pub conn_option : Rule
@@ -19,18 +21,34 @@ conn_option = record (new_rule (codes "conn")) { long = Some (codes "conn") }
 abbrev pub tile_option : Rule
 tile_option = record (new_rule (codes "tile")) { long = Some (codes "tile") }
 
+-- the option `--state`, which takes one value
+abbrev pub state_option : Rule
+state_option = record (new_rule (codes "state")) { long = Some (codes "state") }
+
 -- the subcommand `view`, with these options alone
 abbrev pub view_command : App
-view_command = with_rule (with_rule (new_app (codes "view")) conn_option) tile_option
+view_command = with_rule (with_rule (with_rule (new_app (codes "view")) conn_option) tile_option) state_option
+
+-- the word behind `derive`
+abbrev pub kind_word : Rule
+kind_word = new_rule (codes "kind")
+
+-- the option `--h`, which takes one value
+abbrev pub h_option : Rule
+h_option = record (new_rule (codes "h")) { long = Some (codes "h") }
+
+-- the subcommand `derive`, with that word and these options alone
+abbrev pub derive_command : App
+derive_command = with_rule (with_rule (with_rule (new_app (codes "derive")) kind_word) h_option) conn_option
 
 -- the program: its words begin behind its name, they have to name a subcommand, and they can ask for no help
 abbrev pub program : App
-program = with_subcommand (on_top (λ top. record top {
+program = with_subcommand (with_subcommand (on_top (λ top. record top {
   no_binary_name = true;
   disable_help_flag = true;
   disable_help_subcommand = true;
   subcommand_required = true;
-}) (new_app (codes "seedpaint"))) view_command.top
+}) (new_app (codes "seedpaint"))) view_command.top) derive_command.top
 
 -- the value of `--conn` names this connectivity; where there is none, it is that of four neighbours
 abbrev pub ConnIs : Option Text → Conn → Type 0
@@ -50,16 +68,39 @@ SideIs (Some value) side = (value ≡ decimal side) × IsTileSide side
 abbrev pub NamesNoSide : Option Text → Type 0
 NamesNoSide value = (side : ℕ) → SideIs value side → ⊥
 
--- the subcommand that the words name, with what they give its options, is this call
-abbrev pub IsCall : Option (Text × List Row) → Call → Type 0
-IsCall named (View conn side) =
-    (rows : List Row) × (named ≡ Some (codes "view", rows)) × ConnIs (first_of (codes "conn") rows) conn
-    × SideIs (first_of (codes "tile") rows) side
+-- the word behind `derive` names this view
+abbrev pub KindIs : Option Text → Kind → Type 0
+KindIs word Fill = word ≡ Some (codes "fill")
+KindIs word HMax = word ≡ Some (codes "hmax")
+KindIs word RegMax = word ≡ Some (codes "regmax")
 
--- the words say this call: no word says `view` with four neighbours and tiles of side 64, and in others clap finds no
--- fault and reads it
+-- it names no view, or there is no such word
+abbrev pub NamesNoKind : Option Text → Type 0
+NamesNoKind word = (kind : Kind) → KindIs word kind → ⊥
+
+-- the value of `--h` is this number in decimal, 0 to 65535; where there is none, it is 1
+abbrev pub HIs : Option Text → ℕ → Type 0
+HIs None h = h ≡ 1
+HIs (Some value) h = (value ≡ decimal h) × (h ≤ 65535)
+
+-- the value of `--h` names no such number
+abbrev pub NamesNoH : Option Text → Type 0
+NamesNoH value = (h : ℕ) → HIs value h → ⊥
+
+-- the subcommand that the words name, with what they give its options, is this call; the value of `--state` is the name of
+-- the state file
+abbrev pub IsCall : Option (Text × List Row) → Call → Type 0
+IsCall named (View conn side file) =
+    (rows : List Row) × (named ≡ Some (codes "view", rows)) × ConnIs (first_of (codes "conn") rows) conn
+    × SideIs (first_of (codes "tile") rows) side × (file ≡ first_of (codes "state") rows)
+IsCall named (Derive kind h conn) =
+    (rows : List Row) × (named ≡ Some (codes "derive", rows)) × KindIs (first_of (codes "kind") rows) kind
+    × HIs (first_of (codes "h") rows) h × ConnIs (first_of (codes "conn") rows) conn
+
+-- the words say this call: no word says `view` with four neighbours and tiles of side 64, without a state file, and in
+-- others clap finds no fault and reads it
 abbrev pub Says : List Text → Call → Type 0
-Says words call = ((words ≡ []) × (call ≡ View Four 64))
+Says words call = ((words ≡ []) × (call ≡ View Four 64 None))
     ⊎ ((fault_of program words ≡ []) × IsCall (subcommand_of program words) call)
 
 -- the words say no call

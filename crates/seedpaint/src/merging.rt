@@ -1,9 +1,10 @@
 //! Merging deltas into a core, one after another, and what it shows once it has settled.
 
-ghost use Rattle.std.specs.Prelude.{◌≡◌, ◌∷◌, ◌⊎◌, IfOk, IfErr, OnOk};
+ghost use Rattle.std.specs.Prelude.{◌≡◌, ◌∷◌, ◌++◌, ◌⊎◌, IfOk, IfErr, OnOk};
 ghost use Rattle.grid_core.specs.Tiles.{IsTileSide};
 ghost use Rattle.core_rules.specs.Opening.{opened};
 ghost use Rattle.seedpaint.specs.Merging.{AreTaken, IsStop, IsGrown};
+ghost use Rattle.seedpaint.specs.Kept.{deltas_of};
 ghost use Rattle.seedpaint.specs.View.{IsSideFault};
 ghost use Rattle.seedpaint.specs.declared.run_error.RunError.TheVariants as errors;
 
@@ -11,6 +12,7 @@ use crate::run_error::RunError;
 use grid_core::{Conn, Grid, Memory};
 use pgm_codec::Image;
 use reset_core::{Core, CoreError};
+use spd_codec::Frame;
 use std::alloc::Global;
 use stroke_lattice::{Delta, State};
 
@@ -55,6 +57,33 @@ pub fn merge_each(alloc: Global, core: &mut Core, deltas: &[Delta]) -> Result<()
 {
     for delta in deltas {
         core.merge(alloc, delta)?;
+    }
+    Ok(())
+}
+
+/// Merges the deltas of the frames into the core, and then the deltas, in order.
+///
+/// Errors: C1, C2 or C3 at the first of them that meets it, else C4.
+pub fn merge_kept(
+    alloc: Global,
+    core: &mut Core,
+    frames: &[Frame],
+    deltas: &[Delta],
+) -> Result<(), CoreError>
+    ensures taken { OnOk result (AreTaken core.old (deltas_of frames.now ++ deltas.now) core.new) }
+    ensures stopped { IfErr result (IsStop core.old (deltas_of frames.now ++ deltas.now)) }
+{
+    merge_frames(alloc, core, frames)?;
+    merge_each(alloc, core, deltas)
+}
+
+// Merges the deltas of the frames into the core, in order.
+fn merge_frames(alloc: Global, core: &mut Core, frames: &[Frame]) -> Result<(), CoreError>
+    ensures taken { OnOk result (AreTaken core.old (deltas_of frames.now) core.new) }
+    ensures stopped { IfErr result (IsStop core.old (deltas_of frames.now)) }
+{
+    for frame in frames {
+        core.merge(alloc, &frame.delta)?;
     }
     Ok(())
 }

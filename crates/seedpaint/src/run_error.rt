@@ -2,13 +2,15 @@
 
 ghost use Rattle.std.specs.Prelude.{◌≡◌, ◌++◌, IfOk, OnOk, codes, decimal, string_bytes};
 ghost use Rattle.stroke_core.specs.Tag.{text_of};
-ghost use Rattle.seedpaint.specs.RunError.{fault_text, edit_text, core_text, status_of, edit_status, pgm_status, core_status};
+ghost use Rattle.seedpaint.specs.RunError.{fault_text, edit_text, core_text, frame_fault_text};
+ghost use Rattle.seedpaint.specs.RunError.{status_of, edit_status, pgm_status, core_status, spd_status};
 ghost use Rattle.seedpaint.specs.declared.run_error.RunError.TheVariants as errors;
 
 use edit_lang::EditError;
 use grid_core::Memory;
 use pgm_codec::PgmError;
 use reset_core::CoreError;
+use spd_codec::SpdError;
 use std::alloc::Global;
 use stroke_core::Tag;
 use thiserror::Error;
@@ -25,12 +27,21 @@ pub enum RunError {
     /// E1 to E4: the edit text before that line.
     #[error("{0}")]
     Edit(EditError),
-    /// P1 to P11: the image file behind it, or a device.
+    /// P1 to P11: the image file behind it, or the one that something is derived from, or a device.
     #[error("{0}")]
     Pgm(PgmError),
     /// C1 to C4: the strokes and withdrawals can not all be merged. C5: tiles have no such side.
     #[error("{0}")]
     Core(CoreError),
+    /// M1 to M8: the state file, or the one that is to be written.
+    #[error("{0}")]
+    Spd(SpdError),
+    /// D1: a frame of the state file is meant for another mask or connectivity.
+    #[error("D1: the state file is for another image")]
+    OtherMask,
+    /// V2: the state file can not be read or written.
+    #[error("V2: the state file can not be read or written")]
+    StateFile,
     /// Out of memory, outside reading, merging and writing.
     #[error("out of memory")]
     Memory,
@@ -60,6 +71,14 @@ impl From<CoreError> for RunError {
     }
 }
 
+impl From<SpdError> for RunError {
+    ghost from_gives = { λ e f. f ≡ errors.Spd e };
+
+    fn from(e: SpdError) -> RunError {
+        RunError::Spd(e)
+    }
+}
+
 impl From<Memory> for RunError {
     ghost from_gives = { λ _ f. f ≡ errors.Memory };
 
@@ -70,7 +89,7 @@ impl From<Memory> for RunError {
 
 /// The one line that the program writes on standard error, without its LF: `seedpaint: ` and the code.
 /// After E1 and E2 a blank and the number of the line, after E3 also a blank and the code of the stroke,
-/// after C1 and C2 a blank and the tag's text.
+/// after M5 a blank and the code of the stroke, after C1 and C2 a blank and the tag's text.
 ///
 /// Errors: out of memory.
 pub fn fault_line(alloc: Global, error: &RunError) -> Result<String, Memory>
@@ -83,13 +102,17 @@ pub fn fault_line(alloc: Global, error: &RunError) -> Result<String, Memory>
         RunError::Edit(e) => push_edit_fault(alloc, &mut line, e)?,
         RunError::Pgm(e) => line.push_str(e.code())?,
         RunError::Core(e) => push_core_fault(alloc, &mut line, e)?,
+        RunError::Spd(e) => push_frame_fault(&mut line, e)?,
+        RunError::OtherMask => line.push_str("D1")?,
+        RunError::StateFile => line.push_str("V2")?,
         RunError::Memory => line.push_str("memory")?,
     }
     Ok(line)
 }
 
-/// The exit status of the program: 1 for an input or a side of tiles that is refused, 2 for words on the command line, 3 for
-/// want of memory and for a device that failed. A run that writes its image has status 0.
+/// The exit status of the program: 1 for an input, a state file or a side of tiles that is refused, 2 for words on the
+/// command line, 3 for want of memory and for a device that failed, a file that is not read or written among them. A run
+/// that writes its image, and its state file where it has one, has status 0.
 pub fn status(error: &RunError) -> u8
     ensures { result ≡ status_of error.now }
 {
@@ -99,6 +122,9 @@ pub fn status(error: &RunError) -> u8
         RunError::Edit(e) => edit_status(e),
         RunError::Pgm(e) => pgm_status(e),
         RunError::Core(e) => core_status(e),
+        RunError::Spd(e) => spd_status(e),
+        RunError::OtherMask => 1,
+        RunError::StateFile => 3,
         RunError::Memory => 3,
     }
 }
@@ -141,6 +167,21 @@ fn core_status(error: &CoreError) -> u8
     }
 }
 
+fn spd_status(error: &SpdError) -> u8
+    ensures { result ≡ spd_status error.now }
+{
+    match error {
+        SpdError::BadMagic
+        | SpdError::BadConn
+        | SpdError::Truncated
+        | SpdError::TagOrder
+        | SpdError::BadStroke(_)
+        | SpdError::TooLong
+        | SpdError::Trailing => 1,
+        SpdError::Memory => 3,
+    }
+}
+
 // Adds the code of a fault in the edit text, with the number of its line.
 fn push_edit_fault(alloc: Global, line: &mut String, error: &EditError) -> Result<(), Memory>
     ensures { OnOk result (string_bytes line.new ≡ string_bytes line.old ++ edit_text error.now) }
@@ -167,6 +208,27 @@ fn push_core_fault(alloc: Global, line: &mut String, error: &CoreError) -> Resul
         CoreError::OutOfImage(tag) => push_tag(alloc, line, *tag),
         CoreError::Conflict(tag) => push_tag(alloc, line, *tag),
         CoreError::GenerationsSpent | CoreError::Memory | CoreError::BadSide => Ok(()),
+    }
+}
+
+// Adds the code of a fault in a state file, with that of the stroke, if one is refused.
+fn push_frame_fault(line: &mut String, error: &SpdError) -> Result<(), Memory>
+    ensures { OnOk result (string_bytes line.new ≡ string_bytes line.old ++ frame_fault_text error.now) }
+{
+    line.push_str(error.code())?;
+    match error {
+        SpdError::BadStroke(why) => {
+            line.push_str(" ")?;
+            line.push_str(why.code())?;
+            Ok(())
+        }
+        SpdError::BadMagic
+        | SpdError::BadConn
+        | SpdError::Truncated
+        | SpdError::TagOrder
+        | SpdError::TooLong
+        | SpdError::Trailing
+        | SpdError::Memory => Ok(()),
     }
 }
 

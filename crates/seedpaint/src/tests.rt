@@ -1,3 +1,7 @@
+mod derive;
+mod kept;
+mod memory_store;
+mod process;
 mod tiles;
 mod words;
 
@@ -7,6 +11,7 @@ use edit_lang::EditError;
 use grid_core::Conn;
 use pgm_codec::{MemorySink, MemorySource, PgmError};
 use reset_core::CoreError;
+use spd_codec::SpdError;
 use std::alloc::Global;
 use std::process::Abort;
 use std::test::Fail;
@@ -283,6 +288,15 @@ fn other_statuses(rt: HostRuntime) -> Result<(), Fail> {
         ),
         (RunError::Core(CoreError::Memory), 3, "seedpaint: C4"),
         (RunError::Core(CoreError::BadSide), 1, "seedpaint: C5"),
+        (RunError::Spd(SpdError::Memory), 3, "seedpaint: M8"),
+        (RunError::Spd(SpdError::Truncated), 1, "seedpaint: M3"),
+        (
+            RunError::Spd(SpdError::BadStroke(StrokeError::BadLevel)),
+            1,
+            "seedpaint: M5 S1",
+        ),
+        (RunError::OtherMask, 1, "seedpaint: D1"),
+        (RunError::StateFile, 3, "seedpaint: V2"),
         (
             RunError::Core(CoreError::OutOfImage(Tag(255))),
             1,

@@ -1,19 +1,24 @@
 //! The words of the command line, and the call that they say.
 
-ghost use Rattle.std.specs.Prelude.{◌≡◌, ◌≢◌, ◌⊎◌, ◌↔◌, decimal, IsTrue, [], ◌∷◌, codes, List, ℕ, Ok, Err, map, drop, option_map, string_bytes, IfOk, IfErr, IsOkAnd};
+ghost use Rattle.std.specs.Prelude.{◌≡◌, ◌≢◌, ◌<◌, ◌^◌, ◌⊎◌, ◌↔◌, decimal, IsTrue, [], ◌∷◌, codes, List, ℕ, Ok, Err, map, drop, option_map, string_bytes, false, IfOk, IfErr, IsOkAnd};
 ghost use Rattle.std.specs.IoError.{error_kind};
 ghost use Rattle.std.specs.Iterator.{Drains};
 ghost use Rattle.std.specs.Vec.Iter.{into_iter_steps};
 ghost use Rattle.std.specs.declared.io.ErrorKind.TheVariants.{OutOfMemory};
 ghost use Rattle.clap.specs.Words.{app_of, kind_of, fault_of, subcommand_of, subcommand_rows_of};
+ghost use Rattle.clap.specs.declared.builder.command.Command.TheViews.{out-Command};
 ghost use Rattle.clap.specs.declared.error.kind.ErrorKind.TheVariants as parse;
 ghost use Rattle.grid_core.specs.declared.conn.Conn.TheVariants.{Four, Eight};
-ghost use Rattle.seedpaint.specs.Words.{program, ConnIs, NamesNoConn, SideIs, NamesNoSide, IsCall, Says, IsUsage, GivesWords};
+ghost use Rattle.seedpaint.specs.Words.{program, view_command, derive_command, IsCall, Says, IsUsage, GivesWords};
+ghost use Rattle.seedpaint.specs.Words.{ConnIs, NamesNoConn, SideIs, NamesNoSide, KindIs, NamesNoKind, HIs, NamesNoH};
+ghost use Rattle.seedpaint.specs.declared.derive.View.TheVariants.{Fill, HMax, RegMax};
 ghost use Rattle.seedpaint.specs.declared.words.Call.{Call};
 ghost use Rattle.seedpaint.specs.declared.words.Call.TheVariants as call;
 ghost use Rattle.seedpaint.specs.declared.run_error.RunError.TheVariants as errors;
 
+use crate::derive::View;
 use crate::run_error::RunError;
+use crate::store::StatePath;
 use clap::{Arg, ArgMatches, Command};
 use grid_core::{Conn, Memory, is_tile_side};
 use reset_core::TILE_SIDE;
@@ -21,7 +26,7 @@ use std::alloc::Global;
 use std::{env, io};
 
 /// What the program is called to do.
-#[derive(Clone, Copy, Debug, PartialEq, Eq)]
+#[derive(Debug, Drop)]
 pub enum Call {
     /// Writes the image that standard input asks for.
     View {
@@ -29,6 +34,17 @@ pub enum Call {
         conn: Conn,
         /// The side of the tiles, 8 to 256.
         side: u32,
+        /// The file that keeps its strokes, where there is one.
+        file: Option<StatePath>,
+    },
+    /// Writes the image that is derived from the one on standard input.
+    Derive {
+        /// What is derived.
+        kind: View,
+        /// How much each dome loses at its top, for h-maxima.
+        h: u16,
+        /// Which pixels are neighbours.
+        conn: Conn,
     },
 }
 
@@ -44,8 +60,10 @@ impl From<clap::Error> for RunError {
     }
 }
 
-/// Reads the words behind the program's name: no word at all, or `view [--conn 4|8] [--tile N]`. Without `--conn` the
-/// connectivity is that of four neighbours. N is 8 to 256, and 64 where it is not given.
+/// Reads the words behind the program's name: no word at all, `view [--conn 4|8] [--tile N] [--state FILE]`, or
+/// `derive KIND [--h N] [--conn 4|8]`. Without `--conn` the connectivity is that of four neighbours. The N of `--tile` is
+/// 8 to 256, and 64 where it is not given. KIND is `fill`, `hmax` or `regmax`. The N of `--h` is 0 to 65535 with each
+/// KIND, and 1 where it is not given. FILE is any text.
 ///
 /// `--conn=8`, the options in another order and a `--` at the end are taken too, as `clap` does. A value is its very
 /// text: `08` is no value. There is no help and no version.
@@ -55,12 +73,13 @@ pub fn read_words(alloc: Global, words: &[String]) -> Result<Call, RunError>
     ensures says { IfOk result (Says (map string_bytes words.now)) }
     ensures usage { result ≡ Err errors.Usage → IsUsage (map string_bytes words.now) }
     ensures refused { IfErr result (λ e. (e ≡ errors.Usage) ⊎ (e ≡ errors.Memory)) }
-    ensures no_word { words.now ≡ [] → result ≡ Ok (call.View Four 64) }
+    ensures no_word { words.now ≡ [] → result ≡ Ok (call.View Four 64 None) }
 {
     if words.is_empty() {
         return Ok(Call::View {
             conn: Conn::Four,
             side: TILE_SIDE,
+            file: None,
         });
     }
     let matches = parse(alloc, words)?;
@@ -96,15 +115,27 @@ pub fn at_most_one_call()
 
 /// Words that say a view.
 pub fn words_of_a_view()
-    ensures alone { Says (codes "view" ∷ []) (call.View Four 64) }
-    ensures four { Says (codes "view" ∷ codes "--conn" ∷ codes "4" ∷ []) (call.View Four 64) }
-    ensures eight { Says (codes "view" ∷ codes "--conn" ∷ codes "8" ∷ []) (call.View Eight 64) }
-    ensures least { Says (codes "view" ∷ codes "--tile" ∷ codes "8" ∷ []) (call.View Four 8) }
-    ensures greatest { Says (codes "view" ∷ codes "--tile" ∷ codes "256" ∷ []) (call.View Four 256) }
-    ensures both { Says (codes "view" ∷ codes "--conn" ∷ codes "8" ∷ codes "--tile" ∷ codes "16" ∷ []) (call.View Eight 16) }
+    ensures alone { Says (codes "view" ∷ []) (call.View Four 64 None) }
+    ensures four { Says (codes "view" ∷ codes "--conn" ∷ codes "4" ∷ []) (call.View Four 64 None) }
+    ensures eight { Says (codes "view" ∷ codes "--conn" ∷ codes "8" ∷ []) (call.View Eight 64 None) }
+    ensures least { Says (codes "view" ∷ codes "--tile" ∷ codes "8" ∷ []) (call.View Four 8 None) }
+    ensures greatest { Says (codes "view" ∷ codes "--tile" ∷ codes "256" ∷ []) (call.View Four 256 None) }
+    ensures kept { Says (codes "view" ∷ codes "--state" ∷ codes "a" ∷ []) (call.View Four 64 (Some (codes "a"))) }
+    ensures both { Says (codes "view" ∷ codes "--conn" ∷ codes "8" ∷ codes "--tile" ∷ codes "16" ∷ []) (call.View Eight 16 None) }
 {}
 
-/// Words that say no call: another value, no value or a second one, a word too many, an option without a
+/// Words that say a derivation.
+pub fn words_of_a_derivation()
+    ensures fill { Says (codes "derive" ∷ codes "fill" ∷ []) (call.Derive Fill 1 Four) }
+    ensures h { Says (codes "derive" ∷ codes "hmax" ∷ codes "--h" ∷ codes "2" ∷ []) (call.Derive HMax 2 Four) }
+    ensures eight { Says (codes "derive" ∷ codes "regmax" ∷ codes "--conn" ∷ codes "8" ∷ []) (call.Derive RegMax 1 Eight) }
+    ensures least { Says (codes "derive" ∷ codes "fill" ∷ codes "--h" ∷ codes "0" ∷ []) (call.Derive Fill 0 Four) }
+    ensures greatest { Says (codes "derive" ∷ codes "hmax" ∷ codes "--h" ∷ codes "65535" ∷ []) (call.Derive HMax 65535 Four) }
+    ensures options_first { Says (codes "derive" ∷ codes "--h" ∷ codes "2" ∷ codes "--conn" ∷ codes "8" ∷ codes "hmax" ∷ [])
+        (call.Derive HMax 2 Eight) }
+{}
+
+/// Words that say no call: another value, no value or a second one, a word too many, an option of no or of another
 /// subcommand, help, another subcommand.
 pub fn words_of_no_call()
     ensures five { IsUsage (codes "view" ∷ codes "--conn" ∷ codes "5" ∷ []) }
@@ -117,7 +148,18 @@ pub fn words_of_no_call()
     ensures option { IsUsage (codes "--conn" ∷ codes "8" ∷ []) }
     ensures help_flag { IsUsage (codes "--help" ∷ []) }
     ensures help { IsUsage (codes "help" ∷ []) }
-    ensures other { IsUsage (codes "derive" ∷ []) }
+    ensures other { IsUsage (codes "grow" ∷ []) }
+    ensures no_kind { IsUsage (codes "derive" ∷ []) }
+    ensures other_kind { IsUsage (codes "derive" ∷ codes "hmin" ∷ []) }
+    ensures second_kind { IsUsage (codes "derive" ∷ codes "fill" ∷ codes "hmax" ∷ []) }
+    ensures h_too_great { IsUsage (codes "derive" ∷ codes "hmax" ∷ codes "--h" ∷ codes "65536" ∷ []) }
+    ensures unused_h_too_great { IsUsage (codes "derive" ∷ codes "fill" ∷ codes "--h" ∷ codes "65536" ∷ []) }
+    ensures h_with_a_zero { IsUsage (codes "derive" ∷ codes "hmax" ∷ codes "--h" ∷ codes "02" ∷ []) }
+    ensures side_of_a_derivation { IsUsage (codes "derive" ∷ codes "fill" ∷ codes "--tile" ∷ codes "64" ∷ []) }
+    ensures no_file { IsUsage (codes "view" ∷ codes "--state" ∷ []) }
+    ensures two_files { IsUsage (codes "view" ∷ codes "--state" ∷ codes "a" ∷ codes "--state" ∷ codes "b" ∷ []) }
+    ensures file_of_a_derivation { IsUsage (codes "derive" ∷ codes "fill" ∷ codes "--state" ∷ codes "a" ∷ []) }
+    ensures h_of_a_view { IsUsage (codes "view" ∷ codes "--h" ∷ codes "2" ∷ []) }
     ensures empty { IsUsage (codes "" ∷ []) }
 {}
 
@@ -125,16 +167,41 @@ pub fn words_of_no_call()
 fn program<'a>(alloc: Global) -> Result<Command<'a>, Memory>
     ensures { IfOk result (λ command. app_of command ≡ program) }
 {
-    let conn = Arg::new(alloc, "conn").long("conn");
-    let tile = Arg::new(alloc, "tile").long("tile");
-    let view = Command::new(alloc, "view").arg(conn)?.arg(tile)?;
     let seedpaint = Command::new(alloc, "seedpaint")
         .no_binary_name(true)
         .disable_help_flag(true)
         .disable_help_subcommand(true)
         .subcommand_required(true)
-        .subcommand(view)?;
+        .subcommand(view_command(alloc)?)?
+        .subcommand(derive_command(alloc)?)?;
     Ok(seedpaint)
+}
+
+// The subcommand `view`.
+fn view_command<'a>(alloc: Global) -> Result<Command<'a>, Memory>
+    ensures app { IfOk result (λ command. app_of command ≡ view_command) }
+    ensures local { IfOk result (λ command. (out-Command command).has_globals ≡ false) }
+{
+    let conn = Arg::new(alloc, "conn").long("conn");
+    let tile = Arg::new(alloc, "tile").long("tile");
+    let state = Arg::new(alloc, "state").long("state");
+    let view = Command::new(alloc, "view")
+        .arg(conn)?
+        .arg(tile)?
+        .arg(state)?;
+    Ok(view)
+}
+
+// The subcommand `derive`.
+fn derive_command<'a>(alloc: Global) -> Result<Command<'a>, Memory>
+    ensures app { IfOk result (λ command. app_of command ≡ derive_command) }
+    ensures local { IfOk result (λ command. (out-Command command).has_globals ≡ false) }
+{
+    let kind = Arg::new(alloc, "kind");
+    let h = Arg::new(alloc, "h").long("h");
+    let conn = Arg::new(alloc, "conn").long("conn");
+    let derive = Command::new(alloc, "derive").arg(kind)?.arg(h)?.arg(conn)?;
+    Ok(derive)
 }
 
 // What `clap` reads in the words.
@@ -154,12 +221,32 @@ fn call_of(alloc: Global, matches: &ArgMatches<'_>) -> Result<Call, RunError>
     ensures usage { result ≡ Err errors.Usage → (call : Call) → IsCall (subcommand_rows_of matches.now) call → ⊥ }
     ensures refused { IfErr result (λ e. (e ≡ errors.Usage) ⊎ (e ≡ errors.Memory)) }
 {
-    let Some(view) = matches.subcommand_matches("view") else {
+    if let Some(view) = matches.subcommand_matches("view") {
+        let conn = conn_of(view.get_str("conn"))?;
+        let side = side_of(alloc, view.get_str("tile"))?;
+        let file = file_of(alloc, view.get_str("state"))?;
+        return Ok(Call::View { conn, side, file });
+    }
+    let Some(derive) = matches.subcommand_matches("derive") else {
         return Err(RunError::Usage);
     };
-    let conn = conn_of(view.get_str("conn"))?;
-    let side = side_of(alloc, view.get_str("tile"))?;
-    Ok(Call::View { conn, side })
+    let kind = kind_of(derive.get_str("kind"))?;
+    let h = h_of(alloc, derive.get_str("h"))?;
+    let conn = conn_of(derive.get_str("conn"))?;
+    Ok(Call::Derive { kind, h, conn })
+}
+
+// The view that the word behind `derive` names.
+fn kind_of(word: Option<&str>) -> Result<View, RunError>
+    ensures ok { IfOk result (KindIs (option_map (λ text. text.now) word.entry)) }
+    ensures err { IfErr result (λ e. (e ≡ errors.Usage) × NamesNoKind (option_map (λ text. text.now) word.entry)) }
+{
+    match word {
+        Some("fill") => Ok(View::Fill),
+        Some("hmax") => Ok(View::HMax),
+        Some("regmax") => Ok(View::RegMax),
+        None | Some(_) => Err(RunError::Usage),
+    }
 }
 
 // The connectivity by the value of `--conn`.
@@ -183,11 +270,51 @@ fn side_of(alloc: Global, value: Option<&str>) -> Result<u32, RunError>
     let Some(text) = value else {
         return Ok(TILE_SIDE);
     };
-    let Ok(side) = text.parse::<u32>() else {
+    let side = number_of(alloc, text)?;
+    if is_tile_side(side) {
+        return Ok(side);
+    }
+    Err(RunError::Usage)
+}
+
+// The state file by the value of `--state`.
+fn file_of(alloc: Global, value: Option<&str>) -> Result<Option<StatePath>, Memory>
+    ensures { IfOk result (λ file. file ≡ option_map (λ text. text.now) value.entry) }
+{
+    match value {
+        Some(name) => Ok(Some(StatePath::new(alloc, name)?)),
+        None => Ok(None),
+    }
+}
+
+// How much domes lose, by the value of `--h`.
+#[tactic(auto, using(crate::proofs::Subcommands::no_greater_h))]
+fn h_of(alloc: Global, value: Option<&str>) -> Result<u16, RunError>
+    ensures ok { IfOk result (HIs (option_map (λ text. text.now) value.entry)) }
+    ensures usage { result ≡ Err errors.Usage → NamesNoH (option_map (λ text. text.now) value.entry) }
+    ensures refused { IfErr result (λ e. (e ≡ errors.Usage) ⊎ (e ≡ errors.Memory)) }
+{
+    let Some(text) = value else {
+        return Ok(1);
+    };
+    let h = number_of(alloc, text)?;
+    if h > 65_535 {
+        return Err(RunError::Usage);
+    }
+    Ok(h as u16)
+}
+
+// The number of 32 bits that the text is in decimal.
+fn number_of(alloc: Global, text: &str) -> Result<u32, RunError>
+    ensures ok { IfOk result (λ n. (n < 2 ^ 32) × (text.now ≡ decimal n)) }
+    ensures usage { result ≡ Err errors.Usage → (n : ℕ) → n < 2 ^ 32 → text.now ≡ decimal n → ⊥ }
+    ensures refused { IfErr result (λ e. (e ≡ errors.Usage) ⊎ (e ≡ errors.Memory)) }
+{
+    let Ok(n) = text.parse::<u32>() else {
         return Err(RunError::Usage);
     };
-    if is_tile_side(side) && is_decimal(alloc, text, side)? {
-        return Ok(side);
+    if is_decimal(alloc, text, n)? {
+        return Ok(n);
     }
     Err(RunError::Usage)
 }

@@ -1,3 +1,4 @@
+use crate::derive::View;
 use crate::run_error::RunError;
 use crate::words::{Call, read_process_words, read_words};
 use grid_core::Conn;
@@ -19,7 +20,64 @@ fn read(alloc: Global, words: &[&str]) -> Result<Result<Call, RunError>, Fail> {
     Ok(read_words(alloc, &words))
 }
 
-// The words are read, and say such a view.
+// The words are read, and say such a view, without a state file.
+fn is_view(call: &Result<Call, RunError>, conn: Conn, side: u32) -> bool {
+    match call {
+        Ok(
+            Call::View {
+                conn: c,
+                side: s,
+                file: None,
+            },
+        ) => *c == conn && *s == side,
+        _ => false,
+    }
+}
+
+// The words are read, and say a view with four neighbours and tiles of side 64, with such a state file.
+fn is_kept_view(call: &Result<Call, RunError>, name: &str) -> bool {
+    match call {
+        Ok(
+            Call::View {
+                conn: Conn::Four,
+                side: 64,
+                file: Some(path),
+            },
+        ) => path.name() == name,
+        _ => false,
+    }
+}
+
+// The words are read, and say such a derivation.
+fn is_derivation(call: &Result<Call, RunError>, kind: View, h: u16, conn: Conn) -> bool {
+    match call {
+        Ok(
+            Call::Derive {
+                kind: k,
+                h: n,
+                conn: c,
+            },
+        ) => *k == kind && *n == h && *c == conn,
+        _ => false,
+    }
+}
+
+// Memory ran out while the words were read.
+fn is_out_of_memory(call: &Result<Call, RunError>) -> bool {
+    match call {
+        Err(error) => *error == RunError::Memory,
+        Ok(_) => false,
+    }
+}
+
+// The words say no call.
+fn is_usage(call: &Result<Call, RunError>) -> bool {
+    match call {
+        Err(error) => *error == RunError::Usage,
+        Ok(_) => false,
+    }
+}
+
 fn reads(
     rt: &impl Abort,
     alloc: Global,
@@ -27,8 +85,7 @@ fn reads(
     conn: Conn,
     side: u32,
 ) -> Result<(), Fail> {
-    let call = Call::View { conn, side };
-    assert_eq!(rt; read(alloc, words)?, Ok(call), "{words:?}");
+    assert!(rt; is_view(&read(alloc, words)?, conn, side), "{words:?}");
     Ok(())
 }
 
@@ -81,7 +138,7 @@ fn sides_that_are_usage(rt: HostRuntime) -> Result<(), Fail> {
     ];
     for value in values {
         let words = ["view", "--tile", value];
-        assert_eq!(rt; read(alloc, &words)?, Err(RunError::Usage), "{value}");
+        assert!(rt; is_usage(&read(alloc, &words)?), "{value}");
     }
     let refused: [&[&str]; 4] = [
         &["view", "--tile"],
@@ -90,7 +147,94 @@ fn sides_that_are_usage(rt: HostRuntime) -> Result<(), Fail> {
         &["view", "--tiles", "8"],
     ];
     for words in refused {
-        assert_eq!(rt; read(alloc, words)?, Err(RunError::Usage), "{words:?}");
+        assert!(rt; is_usage(&read(alloc, words)?), "{words:?}");
+    }
+    Ok(())
+}
+
+#[test]
+fn words_of_a_derivation(rt: HostRuntime) -> Result<(), Fail> {
+    let alloc = rt.alloc();
+    let cases: [(&[&str], View, u16, Conn); 11] = [
+        (&["derive", "fill"], View::Fill, 1, Conn::Four),
+        (&["derive", "hmax"], View::HMax, 1, Conn::Four),
+        (&["derive", "regmax"], View::RegMax, 1, Conn::Four),
+        (&["derive", "hmax", "--h", "2"], View::HMax, 2, Conn::Four),
+        (&["derive", "hmax", "--h=0"], View::HMax, 0, Conn::Four),
+        (
+            &["derive", "--h", "65535", "hmax"],
+            View::HMax,
+            65_535,
+            Conn::Four,
+        ),
+        (&["derive", "fill", "--h", "7"], View::Fill, 7, Conn::Four),
+        (
+            &["derive", "regmax", "--conn", "4"],
+            View::RegMax,
+            1,
+            Conn::Four,
+        ),
+        (
+            &["derive", "regmax", "--conn", "8"],
+            View::RegMax,
+            1,
+            Conn::Eight,
+        ),
+        (
+            &["derive", "--conn=8", "fill", "--h=3"],
+            View::Fill,
+            3,
+            Conn::Eight,
+        ),
+        (&["derive", "--", "fill"], View::Fill, 1, Conn::Four),
+    ];
+    for (words, kind, h, conn) in cases {
+        assert!(rt;
+            is_derivation(&read(alloc, words)?, kind, h, conn),
+            "{words:?}"
+        );
+    }
+    Ok(())
+}
+
+#[test]
+fn derivations_that_are_usage(rt: HostRuntime) -> Result<(), Fail> {
+    let alloc = rt.alloc();
+    for value in [
+        "65536",
+        "",
+        "02",
+        "+2",
+        "-2",
+        "2.0",
+        "0x2",
+        "two",
+        " 2",
+        "4294967298",
+    ] {
+        for kind in ["fill", "hmax", "regmax"] {
+            let words = ["derive", kind, "--h", value];
+            assert!(rt; is_usage(&read(alloc, &words)?), "{value}");
+        }
+    }
+    let refused: [&[&str]; 14] = [
+        &["derive"],
+        &["derive", "hmin"],
+        &["derive", ""],
+        &["derive", "Fill"],
+        &["derive", "fill", "hmax"],
+        &["derive", "hmax", "2"],
+        &["derive", "hmax", "--h"],
+        &["derive", "hmax", "-h", "2"],
+        &["derive", "hmax", "--h", "2", "--h", "2"],
+        &["derive", "fill", "--conn", "5"],
+        &["derive", "fill", "--tile", "64"],
+        &["derive", "--help"],
+        &["fill"],
+        &["view", "--h", "2"],
+    ];
+    for words in refused {
+        assert!(rt; is_usage(&read(alloc, words)?), "{words:?}");
     }
     Ok(())
 }
@@ -122,7 +266,34 @@ fn other_words_are_usage(rt: HostRuntime) -> Result<(), Fail> {
         &[""],
     ];
     for words in refused {
-        assert_eq!(rt; read(alloc, words)?, Err(RunError::Usage), "{words:?}");
+        assert!(rt; is_usage(&read(alloc, words)?), "{words:?}");
+    }
+    Ok(())
+}
+
+#[test]
+fn words_that_name_a_state_file(rt: HostRuntime) -> Result<(), Fail> {
+    let alloc = rt.alloc();
+    let cases: [(&[&str], &str); 4] = [
+        (&["view", "--state", "strokes"], "strokes"),
+        (&["view", "--state=a b"], "a b"),
+        (
+            &["view", "--conn", "4", "--state", "../x.spd", "--tile", "64"],
+            "../x.spd",
+        ),
+        (&["view", "--state", ""], ""),
+    ];
+    for (words, name) in cases {
+        assert!(rt; is_kept_view(&read(alloc, words)?, name), "{words:?}");
+    }
+    let refused: [&[&str]; 4] = [
+        &["view", "--state"],
+        &["view", "--state", "a", "--state", "a"],
+        &["--state", "a"],
+        &["derive", "fill", "--state", "a"],
+    ];
+    for words in refused {
+        assert!(rt; is_usage(&read(alloc, words)?), "{words:?}");
     }
     Ok(())
 }
@@ -132,48 +303,22 @@ fn the_first_word_of_a_process_is_its_name(rt: HostRuntime) -> Result<(), Fail> 
     let alloc = rt.alloc();
     let eight = strings(alloc, &["seedpaint", "view", "--conn", "8"])?;
     let call = read_process_words(alloc, Ok(eight.into_iter()));
-    assert_eq!(rt;
-        call,
-        Ok(Call::View {
-            conn: Conn::Eight,
-            side: 64
-        })
-    );
+    assert!(rt; is_view(&call, Conn::Eight, 64));
     let name_alone = strings(alloc, &["view"])?;
     let call = read_process_words(alloc, Ok(name_alone.into_iter()));
-    assert_eq!(rt;
-        call,
-        Ok(Call::View {
-            conn: Conn::Four,
-            side: 64
-        })
-    );
+    assert!(rt; is_view(&call, Conn::Four, 64));
     let call = read_process_words(alloc, Ok(Vec::new(alloc).into_iter()));
-    assert_eq!(rt;
-        call,
-        Ok(Call::View {
-            conn: Conn::Four,
-            side: 64
-        })
-    );
+    assert!(rt; is_view(&call, Conn::Four, 64));
     let usage = strings(alloc, &["view", "--help"])?;
-    assert_eq!(rt;
-        read_process_words(alloc, Ok(usage.into_iter())),
-        Err(RunError::Usage)
-    );
+    let call = read_process_words(alloc, Ok(usage.into_iter()));
+    assert!(rt; is_usage(&call));
     Ok(())
 }
 
 #[test]
 fn words_that_cannot_be_had(rt: HostRuntime) {
     let not_text = io::Error::from(io::ErrorKind::InvalidData);
-    assert_eq!(rt;
-        read_process_words(rt.alloc(), Err(not_text)),
-        Err(RunError::Usage)
-    );
+    assert!(rt; is_usage(&read_process_words(rt.alloc(), Err(not_text))));
     let memory = io::Error::from(io::ErrorKind::OutOfMemory);
-    assert_eq!(rt;
-        read_process_words(rt.alloc(), Err(memory)),
-        Err(RunError::Memory)
-    );
+    assert!(rt; is_out_of_memory(&read_process_words(rt.alloc(), Err(memory))));
 }

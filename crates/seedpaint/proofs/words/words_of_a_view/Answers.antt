@@ -20,25 +20,25 @@ many =
 
 pub returns-clause-alone : goal.returns-clause-alone
 unfolding clap_on_literals
-returns-clause-alone c = inr (refl, ([], refl, refl, refl))
+returns-clause-alone c = inr (refl, ([], refl, refl, refl, refl))
 
 pub returns-clause-four : goal.returns-clause-four
 unfolding clap_on_literals
-returns-clause-four c = inr (refl, (option_row (codes "conn") (codes "4") ∷ [], refl, inl (refl, refl), refl))
+returns-clause-four c = inr (refl, (option_row (codes "conn") (codes "4") ∷ [], refl, inl (refl, refl), refl, refl))
 
 pub returns-clause-eight : goal.returns-clause-eight
 unfolding clap_on_literals
-returns-clause-eight c = inr (refl, (option_row (codes "conn") (codes "8") ∷ [], refl, inr (refl, refl), refl))
+returns-clause-eight c = inr (refl, (option_row (codes "conn") (codes "8") ∷ [], refl, inr (refl, refl), refl, refl))
 
 pub returns-clause-least : goal.returns-clause-least
 unfolding clap_on_literals
 returns-clause-least c =
-    inr (refl, (option_row (codes "tile") (codes "8") ∷ [], refl, refl, eight))
+    inr (refl, (option_row (codes "tile") (codes "8") ∷ [], refl, refl, eight, refl))
 
 pub returns-clause-greatest : goal.returns-clause-greatest
 unfolding clap_on_literals
 returns-clause-greatest c =
-    inr (refl, (option_row (codes "tile") (codes "256") ∷ [], refl, refl, many))
+    inr (refl, (option_row (codes "tile") (codes "256") ∷ [], refl, refl, many, refl))
 
 pub returns-clause-both : goal.returns-clause-both
 unfolding clap_on_literals
@@ -49,5 +49,10 @@ returns-clause-both c = inr (
     refl,
     inr (refl, refl),
     sixteen,
+    refl,
   ),
 )
+
+pub returns-clause-kept : goal.returns-clause-kept
+unfolding clap_on_literals
+returns-clause-kept c = inr (refl, (option_row (codes "state") (codes "a") ∷ [], refl, refl, refl, refl))

@@ -1,0 +1,165 @@
+//! Where state files are kept.
+
+ghost use Rattle.std.specs.Prelude.{◌≡◌, ◌++◌, ◌⊎◌, ℕ, List, Option, Some, None, IfOk, IfErr, IfSome, OnOk, OnErr, codes, MatchResult};
+ghost use Rattle.pgm_codec.specs.Device.{count_after};
+ghost use Rattle.seedpaint.specs.declared.run_error.RunError.TheVariants as errors;
+
+use crate::run_error::RunError;
+use grid_core::Memory;
+use pgm_codec::{PgmError, StdSource, read_all};
+use std::alloc::Global;
+use std::fs::{self, File, OpenFile};
+use std::io::{self, Write};
+use std::marker::Model;
+use std::rt::Files;
+
+/// The name of a state file, and of the file beside it that is written before it takes the other's place: the name with
+/// `.new` behind it. It is seen as the bytes of the name.
+#[derive(Debug, Drop)]
+pub struct StatePath {
+    path: String,
+    fresh: String,
+}
+
+impl Model for StatePath {
+    ghost use Rattle.std.specs.Prelude.{◌≡◌, ◌++◌, ℕ, List, codes, string_bytes};
+
+    ghost Value = { List ℕ };
+
+    ghost view = { λ p. string_bytes p.path };
+
+    ghost invariant = { λ p. string_bytes p.fresh ≡ string_bytes p.path ++ codes ".new" };
+}
+
+impl StatePath {
+    /// This name.
+    ///
+    /// Errors: out of memory.
+    pub fn new(alloc: Global, name: &str) -> Result<StatePath, Memory>
+        ensures { IfOk result (λ path. path ≡ name.now) }
+    {
+        let path = String::from_str(alloc, name)?;
+        let mut fresh = String::from_str(alloc, name)?;
+        fresh.push_str(".new")?;
+        Ok(StatePath { path, fresh })
+    }
+
+    /// The name.
+    pub fn name(&self) -> &str
+        ensures { result.now ≡ self.now }
+    {
+        self.path.as_str()
+    }
+
+    /// The name of the file beside it.
+    pub fn fresh_name(&self) -> &str
+        ensures { result.now ≡ self.now ++ codes ".new" }
+    {
+        self.fresh.as_str()
+    }
+}
+
+/// Where state files are kept, each under its name. A store counts its failures; the count stops at `u64::MAX`.
+pub trait StateStore {
+    // The bytes of the file of a name, where they are known: none where there is no such file.
+    ghost held: { Self → List ℕ → Option (List ℕ) };
+
+    // How many loads and saves failed.
+    ghost failures: { Self → ℕ };
+
+    /// The bytes of the file of this name, and none where there is no such file.
+    ///
+    /// Errors: V2 where the store failed; out of memory. Files stay as they are.
+    fn load(&mut self, alloc: Global, path: &StatePath) -> Result<Vec<u8>, RunError>
+        ensures bytes { IfOk result (λ v. IfSome (held self.old path.now) (λ known. v.items ≡ known)) }
+        ensures same { (name : List ℕ) → held self.new name ≡ held self.old name }
+        ensures failures { MatchResult result (λ _. failures self.new ≡ failures self.old)
+            (λ e. ((e ≡ errors.StateFile) × (failures self.new ≡ count_after (failures self.old) 1))
+            ⊎ ((e ≡ errors.Memory) × (failures self.new ≡ failures self.old))) };
+
+    /// Puts these bytes in the place of the file of this name, all of them or none.
+    ///
+    /// Errors: V2 where the store failed, with the file as it was.
+    fn save(&mut self, path: &StatePath, bytes: &[u8]) -> Result<(), RunError>
+        ensures bytes { OnOk result (IfSome (held self.old path.now) (λ _. held self.new path.now ≡ Some bytes.now)) }
+        ensures same { OnErr result ((name : List ℕ) → held self.new name ≡ held self.old name) }
+        ensures failures { MatchResult result (λ _. failures self.new ≡ failures self.old)
+            (λ e. (e ≡ errors.StateFile) × (failures self.new ≡ count_after (failures self.old) 1)) };
+}
+
+// Counts one more, up to the greatest number of 64 bits.
+pub(crate) fn count_one(count: &mut u64)
+    ensures { count.new ≡ count_after count.old 1 }
+{
+    *count = count.saturating_add(1);
+}
+
+/// The files of the system, as a store. What they hold is not known.
+#[derive(Drop)]
+pub struct FileStore<'a, R: Files> {
+    files: &'a R,
+    failures: u64,
+}
+
+impl<'a, R: Files> FileStore<'a, R> {
+    /// These files as a store, which has not failed.
+    pub fn new(files: &'a R) -> FileStore<'a, R>
+        ensures failures { ⟦<FileStore<'a, R> as StateStore>⟧.failures result ≡ 0 }
+    {
+        FileStore { files, failures: 0 }
+    }
+}
+
+// All bytes of the file of this name, and none where there is no such file.
+fn load_file<R: Files>(alloc: Global, files: &R, name: &str) -> Result<Vec<u8>, RunError>
+    ensures { IfErr result (λ e. (e ≡ errors.StateFile) ⊎ (e ≡ errors.Memory)) }
+{
+    let file = match File::open(files, name) {
+        Ok(file) => file,
+        Err(e) if e.kind() == io::ErrorKind::NotFound => return Ok(Vec::new(alloc)),
+        Err(_) => return Err(RunError::StateFile),
+    };
+    let mut source = StdSource::new(file);
+    match read_all(alloc, &mut source) {
+        Ok(bytes) => Ok(bytes),
+        Err(PgmError::Memory) => Err(RunError::Memory),
+        Err(_) => Err(RunError::StateFile),
+    }
+}
+
+// A new file of this name with these bytes, on the disk when it returns.
+fn write_file<R: Files>(files: &R, name: &str, bytes: &[u8]) -> io::Result<()> {
+    let mut file = File::create(files, name)?;
+    file.write_all(bytes)?;
+    file.sync_all()
+}
+
+// Writes a file beside the one of the name, and puts it into its place. A file that was begun and is not put there is
+// taken away again.
+fn replace_file<R: Files>(files: &R, path: &StatePath, bytes: &[u8]) -> io::Result<()> {
+    write_file(files, path.fresh_name(), bytes)?;
+    fs::rename(files, path.fresh_name(), path.name())
+}
+
+impl<R: Files> StateStore for FileStore<'_, R> {
+    ghost held = { λ s name. None };
+
+    ghost failures = { λ s. s.failures };
+
+    fn load(&mut self, alloc: Global, path: &StatePath) -> Result<Vec<u8>, RunError> {
+        let loaded = load_file(alloc, self.files, path.name());
+        if let Err(RunError::StateFile) = &loaded {
+            count_one(&mut self.failures);
+        }
+        loaded
+    }
+
+    fn save(&mut self, path: &StatePath, bytes: &[u8]) -> Result<(), RunError> {
+        if replace_file(self.files, path, bytes).is_ok() {
+            return Ok(());
+        }
+        let _ = fs::remove_file(self.files, path.fresh_name());
+        count_one(&mut self.failures);
+        Err(RunError::StateFile)
+    }
+}
