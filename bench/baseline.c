@@ -13,8 +13,12 @@
  *     cc -O2 -o baseline baseline.c
  *     ./baseline [--conn 4|8] < input > output
  *     ./baseline --marker < input > output
+ *     ./baseline --fill | --hmax H | --regmax [--conn 4|8] < image > output
  *
- * The second form writes the marker, before anything grows.
+ * The second form writes the marker, before anything grows. The third reads a
+ * raw PGM file alone and writes a view of it: its holes filled, its domes cut
+ * down by H, or its regional maxima (no sample may be 65535 there). Each view
+ * is what grows from a marker inside a mask that the image gives.
  * Inputs are taken to be well formed; what cannot be read ends the program
  * with status 1.
  */
@@ -60,6 +64,14 @@ struct picture {
 struct queue {
     uint32_t *items;
     size_t room, first, count; /* room is a power of two */
+};
+
+enum task { VIEW, MARKER, FILL, HMAX, REGMAX };
+
+struct words {
+    enum task task;
+    int conn;
+    unsigned height; /* of the domes that are cut down */
 };
 
 static void fail(const char *reason)
@@ -411,6 +423,85 @@ static void grow(struct picture *picture, int conn)
     free(queue.items);
 }
 
+/* ---- Views of an image ---- */
+
+/* Turns the mask upside down, and lets its border be the marker. */
+static void prepare_fill(struct picture *picture)
+{
+    for (size_t y = 1; y <= picture->height; y++) {
+        for (size_t x = 1; x <= picture->width; x++) {
+            size_t p = y * picture->stride + x;
+            picture->mask[p] = (uint16_t)(picture->maxval - picture->mask[p]);
+            if (y == 1 || y == picture->height || x == 1 || x == picture->width)
+                picture->image[p] = picture->mask[p];
+        }
+    }
+}
+
+/* Turns what has grown back. */
+static void finish_fill(struct picture *picture)
+{
+    for (size_t y = 1; y <= picture->height; y++)
+        for (size_t x = 1; x <= picture->width; x++)
+            picture->image[y * picture->stride + x] =
+                (uint16_t)(picture->maxval - picture->image[y * picture->stride + x]);
+}
+
+/* Lets the image less h be the marker. */
+static void prepare_domes(struct picture *picture, unsigned h)
+{
+    for (size_t y = 1; y <= picture->height; y++) {
+        for (size_t x = 1; x <= picture->width; x++) {
+            size_t p = y * picture->stride + x;
+            picture->image[p] = picture->mask[p] > h ? (uint16_t)(picture->mask[p] - h) : 0;
+        }
+    }
+}
+
+/* Lets the image be the marker inside itself raised by 1. */
+static void prepare_maxima(struct picture *picture)
+{
+    for (size_t y = 1; y <= picture->height; y++) {
+        for (size_t x = 1; x <= picture->width; x++) {
+            size_t p = y * picture->stride + x;
+            if (picture->mask[p] == UINT16_MAX)
+                fail("a sample without room above it");
+            picture->image[p] = picture->mask[p]++;
+        }
+    }
+}
+
+/* What the mask has more than what has grown in it: 1 on the maxima. */
+static void finish_maxima(struct picture *picture)
+{
+    for (size_t y = 1; y <= picture->height; y++) {
+        for (size_t x = 1; x <= picture->width; x++) {
+            size_t p = y * picture->stride + x;
+            picture->image[p] = picture->mask[p] - picture->image[p];
+        }
+    }
+    picture->maxval = 1;
+}
+
+static void derive(struct picture *picture, struct words words)
+{
+    switch (words.task) {
+    case FILL:
+        prepare_fill(picture);
+        grow(picture, words.conn);
+        finish_fill(picture);
+        break;
+    case HMAX:
+        prepare_domes(picture, words.height);
+        grow(picture, words.conn);
+        break;
+    default:
+        prepare_maxima(picture);
+        grow(picture, words.conn);
+        finish_maxima(picture);
+    }
+}
+
 /* ---- Output ---- */
 
 static void write_picture(const struct picture *picture, FILE *file)
@@ -438,30 +529,50 @@ static void write_picture(const struct picture *picture, FILE *file)
     free(raster);
 }
 
-/* The number of neighbours of a pixel, or 0 for the marker alone. */
-static int read_words(int argc, char **argv)
+static const char usage[] = "usage: baseline [--marker | --fill | --hmax H | --regmax] [--conn 4|8]";
+
+static struct words read_words(int argc, char **argv)
 {
-    if (argc == 1)
-        return 4;
-    if (argc == 2 && strcmp(argv[1], "--marker") == 0)
-        return 0;
-    if (argc == 3 && strcmp(argv[1], "--conn") == 0 && (strcmp(argv[2], "4") == 0 || strcmp(argv[2], "8") == 0))
-        return argv[2][0] - '0';
-    fail("usage: baseline [--conn 4|8 | --marker]");
-    return 0;
+    struct words words = {VIEW, 4, 0};
+
+    for (int i = 1; i < argc; i++) {
+        if (strcmp(argv[i], "--marker") == 0) {
+            words.task = MARKER;
+        } else if (strcmp(argv[i], "--fill") == 0) {
+            words.task = FILL;
+        } else if (strcmp(argv[i], "--regmax") == 0) {
+            words.task = REGMAX;
+        } else if (strcmp(argv[i], "--hmax") == 0 && i + 1 < argc) {
+            words.task = HMAX;
+            words.height = (unsigned)strtoul(argv[++i], NULL, 10);
+        } else if (strcmp(argv[i], "--conn") == 0 && i + 1 < argc) {
+            words.conn = (int)strtoul(argv[++i], NULL, 10);
+        } else {
+            fail(usage);
+        }
+    }
+    if (words.conn != 4 && words.conn != 8)
+        fail(usage);
+    return words;
 }
 
 int main(int argc, char **argv)
 {
-    int conn = read_words(argc, argv);
-    struct edits edits = {NULL, 0, 0, NULL, 0, 0};
+    struct words words = read_words(argc, argv);
     struct bytes input = read_all(stdin);
-    uint8_t *file = read_edits(&edits, input);
-    struct picture picture = read_picture(file, input.data + input.length);
+    const uint8_t *end = input.data + input.length;
+    struct picture picture;
 
-    paint_marker(&picture, &edits);
-    if (conn != 0)
-        grow(&picture, conn);
+    if (words.task == VIEW || words.task == MARKER) {
+        struct edits edits = {NULL, 0, 0, NULL, 0, 0};
+        picture = read_picture(read_edits(&edits, input), end);
+        paint_marker(&picture, &edits);
+        if (words.task == VIEW)
+            grow(&picture, words.conn);
+    } else {
+        picture = read_picture(input.data, end);
+        derive(&picture, words);
+    }
     write_picture(&picture, stdout);
     return 0;
 }

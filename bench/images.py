@@ -20,6 +20,10 @@ few-lit     cells on black ground, a stroke on every fifth
 all-lit     the same, a stroke on each
 lit-ground  as few-lit, on a noisy ground that is nowhere 0
 
+A family for the views of an image, of 16 bits and without strokes:
+
+relief      smooth hills with a little noise
+
 The same bytes come out each time, and on every machine: random numbers are of
 numpy's frozen RandomState with a fixed seed, and of them only sums, products,
 quotients and square roots are taken.
@@ -280,9 +284,19 @@ def lit_ground(width, height, generator):
     return edited_cells(generator.randint(10, 41, (height, width), numpy.uint8), 5, generator)
 
 
+def relief(width, height, generator):
+    """Hills of four sizes in 16 bits, with noise that leaves many small maxima and holes."""
+    ground = numpy.zeros((height, width))
+    for spacing, share in ((256, 0.5), (128, 0.25), (64, 0.15), (32, 0.1)):
+        ground += share * hills(width, height, spacing, generator)
+    noise = generator.randint(0, 500, (height, width))
+    return (65000 * ground).astype(numpy.uint16) + noise.astype(numpy.uint16), 65535, Strokes(width, height)
+
+
 FAMILIES = {"cells": cells, "plates": plates, "map": height_lines,
             "spiral": spiral, "maze": maze, "noise": noise,
-            "few-lit": few_lit, "all-lit": all_lit, "lit-ground": lit_ground}
+            "few-lit": few_lit, "all-lit": all_lit, "lit-ground": lit_ground,
+            "relief": relief}
 
 
 def make(family, width, height):
