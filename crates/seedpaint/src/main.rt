@@ -3,8 +3,9 @@
 //! standard input, the reconstruction by dilation as a raw PGM file on standard output. Of one PGM file it derives
 //! others: its holes filled, its h-maxima, its regional maxima.
 //!
-//! `view` has the theorem, from bytes to bytes, and `derive` the one of derived images. `process` makes the call that
-//! the words of the command line say, and `run_error` tells why a run ended. Read on in `docs/ARCHITECTURE.md`.
+//! `view` has the theorem, from bytes to bytes, `kept` that of a view over a state file, which a `store` keeps, and
+//! `derive` that of derived images. `process` makes the call that the words of the command line say, and `run_error`
+//! tells why a run ended. Read on in `docs/ARCHITECTURE.md`.
 
 pub mod derive;
 mod input;
