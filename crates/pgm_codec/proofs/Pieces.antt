@@ -1,39 +1,40 @@
--- Lists that are taken piece by piece, and clauses on a `Result` that hold either way.
-use Rattle.std.proofs.Common.{◌≡◌, ℕ, ◌+◌, ◌-◌, ◌≤◌, List, ◌++◌, Option, Some, None, IfSome, Result, Ok, Err, OnErr}
-use Rattle.std.proofs.Common.{subst, length, take, drop, sym, ap, ◌∙◌, append_assoc, take-append-drop, take-add}
-use Rattle.std.proofs.Common.{length-take-le, take_at, drop-drop}
-use Rattle.std.proofs.lemmas.List.{take_rest}
-
--- a fact holds on `Err` where it holds
-pub OnErr-always : {T E : Type 0} (P : Type 0) (r : Result T E) → P → OnErr r P
-OnErr-always P (Ok x) h = tt
-OnErr-always P (Err e) h = h
-
--- the first n of what is left go to those that are done
-pub moves_front : (all done rest : List ℕ) (n : ℕ) → all ≡ done ++ rest
-    → all ≡ (done ++ take n rest) ++ take (length rest - n) (drop n rest)
-moves_front all done rest n e =
-    e ∙ ap (λ l. done ++ l) (sym (take-append-drop n rest)) ∙ sym (append_assoc done (take n rest) (drop n rest))
-    ∙ ap (λ l. (done ++ take n rest) ++ l) (sym (take_rest rest n))
-
--- a copied piece, and then what is left behind it
-pub copied_piece : (xs piece buf : List ℕ) (at n : ℕ) → n ≤ length (drop at xs) → piece ≡ take n (drop at xs)
-    → drop at xs ≡ take n (piece ++ drop n buf) ++ drop (at + n) xs
-copied_piece xs piece buf at n fits same =
-    let left = drop at xs in
-    let long : length piece ≡ n = ap length same ∙ length-take-le n left fits in
-    let front : take n (piece ++ drop n buf) ≡ take n left = take_at piece (drop n buf) n long ∙ same in
-    sym (take-append-drop n left) ∙ ap (λ l. l ++ drop n left) (sym front)
-    ∙ ap (λ l. take n (piece ++ drop n buf) ++ l) (drop-drop n at xs)
+-- What is known of bytes that were read.
+use Rattle.std.proofs.Common.{◌≡◌, ℕ, List, Option, Some, None, IfSome, Result, Ok, Err, IfOk, IfErr, IsErrOf, ◌⊎◌, inl}
+use Rattle.std.proofs.Common.{inr, subst}
+use Rattle.byte_devices.specs.Transfer.{IsInputOf}
+use Rattle.pgm_codec.specs.declared.error.PgmError.{PgmError}
+use Rattle.pgm_codec.specs.declared.error.PgmError.TheVariants.{Memory}
+use Rattle.pgm_codec.specs.FirstFault.{PgmFault}
+use Rattle.pgm_codec.specs.Graymap.{Graymap}
+use Rattle.pgm_codec.specs.Spelling.{PgmSpells}
+use Rattle.pgm_codec.specs.Transfer.{IsOfMemory, IsOfDevice, ReadsImage}
 
 -- what holds of the text holds of the known bytes, if they are the text
-pub IfSome-known : (known : Option (List ℕ)) (text : List ℕ) (P : List ℕ → Type 0) → IfSome known (λ xs. text ≡ xs)
+pub IfSome-known : (known : Option (List ℕ)) (text : List ℕ) (P : List ℕ → Type 0) → IsInputOf known text
     → P text → IfSome known P
 IfSome-known None text P e h = tt
 IfSome-known (Some xs) text P e h = subst P e h
 
--- what stands in front stays, and n more stand behind it
-pub filled_more : (before after : List ℕ) (filled n : ℕ) → take filled after ≡ take filled before
-    → take filled before ++ take n (drop filled after) ≡ take (filled + n) after
-filled_more before after filled n same =
-    ap (λ (l : List ℕ). l ++ take n (drop filled after)) (sym same) ∙ sym (take-add filled n after)
+-- what reading answers on a text, it answers on known bytes that are this text
+pub reads_known : (known : Option (List ℕ)) (text : List ℕ) (result : Result Graymap PgmError) → IsInputOf known text
+    → IfOk result (λ image. PgmSpells text image)
+    → ((image : Graymap) → PgmSpells text image → (result ≡ Ok image) ⊎ IsErrOf result Memory)
+    → IfErr result (λ e. (e ≡ Memory) ⊎ PgmFault text e)
+    → ReadsImage known result
+reads_known known text (Ok x) same found only fault = record {
+  found = IfSome-known known text (λ t. PgmSpells t x) same found;
+  only = IfSome-known known text (λ t. (image : Graymap) → PgmSpells t image
+      → (Ok x ≡ Ok image) ⊎ ⊥) same
+      (λ image spelled. elim (only image spelled) [ inl h ↦ inl h | inr h ↦ cc ]);
+  fault = tt;
+}
+reads_known known text (Err e) same found only fault = record {
+  found = tt;
+  only = IfSome-known known text (λ t. (image : Graymap) → PgmSpells t image
+      → (Err e ≡ Ok image) ⊎ (IsOfMemory e ⊎ IsOfDevice e)) same
+      (λ image spelled. elim (only image spelled) [ inl h ↦ inl h | inr h ↦ inr (inl (cc)) ]);
+  fault = elim fault [
+    | inl memory ↦ inl memory
+    | inr first ↦ inr (inr (IfSome-known known text (λ t. PgmFault t e) same first))
+  ];
+}

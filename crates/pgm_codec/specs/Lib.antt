@@ -1,10 +1,12 @@
 pub use Rattle.grid_core.specs.Raster
+pub use Rattle.byte_devices.specs.Device
+pub use Rattle.byte_devices.specs.Transfer as DeviceTransfer
+pub use Rattle.byte_devices.specs.MemoryDevice
 pub mod Code
-pub mod Device
 pub mod FirstFault
 pub mod Graymap
-pub mod MemoryDevice
 pub mod PlainWriting
 pub mod Reading
 pub mod Spelling
+pub mod Transfer
 pub mod Writing

@@ -1,9 +1,10 @@
 //! What may go wrong with images and their files.
 ghost use Rattle.std.specs.Prelude.{◌≡◌};
 ghost use Rattle.pgm_codec.specs.declared.error.PgmError.TheVariants as errors;
+ghost use Rattle.byte_devices.specs.declared.fault.TransferError.TheVariants as transfers;
 ghost use Rattle.pgm_codec.specs.Code.{code_of};
 
-use crate::fault::Fault;
+use byte_devices::{Fault, TransferError};
 use std::alloc::{AllocError, AllocFailed};
 use thiserror::Error;
 
@@ -95,5 +96,17 @@ impl From<Fault> for PgmError {
 
     fn from(_fault: Fault) -> PgmError {
         PgmError::Device
+    }
+}
+
+impl From<TransferError> for PgmError {
+    ghost from_gives = { λ t e. (t ≡ transfers.Memory → e ≡ errors.Memory)
+        × (t ≡ transfers.Device → e ≡ errors.Device) };
+
+    fn from(e: TransferError) -> PgmError {
+        match e {
+            TransferError::Memory => PgmError::Memory,
+            TransferError::Device => PgmError::Device,
+        }
     }
 }

@@ -13,47 +13,34 @@
 //! let raw = write_raw(alloc, &image)?; // P5, 2 1, 255, and the bytes 0A 23
 //! ```
 //!
-//! Bytes come from a [`Source`] and go to a [`Sink`]: those of std ([`StdSource`], [`StdSink`]), or in memory
-//! ([`MemorySource`], [`MemorySink`]), where a chosen call can be made to fail. [`read_from`] and [`write_to`]
-//! join them to the format.
+//! [`read_from`] and [`write_to`] join the format to the devices of the crate `byte_devices`: bytes come from a
+//! [`Source`] and go to a [`Sink`].
 //!
 //! Read on: `specs/Spelling.antt` says which text spells which image, `specs/FirstFault.antt` which fault a
 //! text has, and `specs/Writing.antt` and `specs/PlainWriting.antt` what is written; the laws [`one_image`],
-//! [`one_fault`] and [`every_text`] say that each text has exactly one of the two. `specs/Device.antt` has the
-//! words on sources and sinks.
+//! [`one_fault`] and [`every_text`] say that each text has exactly one of the two. `specs/Transfer.antt`
+//! says what comes of sources and sinks.
 
-mod count;
 mod error;
-mod fault;
 mod grammar;
 mod header;
 mod image;
-mod memory_sink;
-mod memory_source;
 mod numbers;
 mod plain_writing;
 mod raster;
 mod reading;
 mod samples;
-mod sink;
-mod source;
-mod std_sink;
-mod std_source;
 mod transfer;
 mod writing;
 
+pub use byte_devices::{
+    Fault, MOST_PULLS, MemorySink, MemorySource, Sink, Source, StdSink, StdSource,
+};
 pub use error::PgmError;
-pub use fault::Fault;
 pub use image::{Image, below_keeps_maxval};
-pub use memory_sink::MemorySink;
-pub use memory_source::MemorySource;
 pub use plain_writing::write_plain;
 pub use reading::{every_text, one_fault, one_image, plain_text_is_read, raw_text_is_read, read};
-pub use sink::Sink;
-pub use source::Source;
-pub use std_sink::StdSink;
-pub use std_source::StdSource;
-pub use transfer::{MOST_PULLS, read_all, read_from, write_to};
+pub use transfer::{read_all, read_from, write_to};
 pub use writing::{put_samples, sample_len, write_raw};
 
 #[cfg(test)]

@@ -1,0 +1,2 @@
+pub mod Pieces
+pub mod Shared

@@ -1,0 +1,4 @@
+pub mod Device
+pub mod MemoryDevice
+pub mod Transfer
+pub mod Response
