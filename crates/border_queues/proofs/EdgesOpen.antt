@@ -1,7 +1,7 @@
 -- The hints of a tile are those of its open edges, in order.
-use Rattle.std.proofs.Common.{◌≡◌, ℕ, ◌<◌, Bool, true, false, List, [], ◌∷◌, ◌++◌, map, refl, ap, sym, subst, ◌∙◌}
+use Rattle.std.proofs.Common.{◌≡◌, ℕ, ◌<◌, true, List, [], ◌∷◌, ◌++◌, map, refl, ap, sym, subst, ◌∙◌}
 use Rattle.std.proofs.Common.{inl, inr, arith}
-use Rattle.std.specs.Prelude.{◌≢◌, ◌&&◌, not, nat_eq, nat_lt, Contains}
+use Rattle.std.specs.Prelude.{◌≢◌, not, nat_eq, nat_lt, Contains}
 use Rattle.std.specs.List.{filter, flat_map, range_with_len}
 use Rattle.std.proofs.lemmas.Bool.{ltb-true, lt-ltb}
 use Rattle.std.proofs.lemmas.Bool.Decides.{eqb_tells}
@@ -18,7 +18,8 @@ use Rattle.border_queues.specs.declared.hint.Hint.{Hint}
 use Rattle.border_queues.specs.OpenEdges.{Sender, IsOpenEdge, level_to, hint_to, is_open, hints_from, row_of, pixels_of}
 use Rattle.border_queues.specs.OpenEdges.{open_edges}
 use Rattle.border_queues.specs.Laws.{IsPairBefore, AreInPairOrder, AreHintsOf}
-use Rattle.border_queues.proofs.Members.{in_flat_map, flat_map_has, in_map, map_has, in_filter, filter_has, range_has}
+use Rattle.grid_core.proofs.Common.{both_true, true_and, in_flat_map, flat_map_has, in_map, map_has, in_filter}
+use Rattle.grid_core.proofs.Common.{filter_has, range_has}
 use Rattle.border_queues.proofs.InOrder.{InOrder, order_flat_map, order_map, order_filter, order_range}
 use Rattle.border_queues.proofs.SameEdges.{pixels_in_rect, pixels_inside}
 
@@ -60,18 +61,11 @@ hints_are s =
 
 -- ---- which edges they are
 
-both_true : (a b : Bool) → a && b ≡ true → (a ≡ true) × (b ≡ true)
-both_true true b h = (refl, h)
-both_true false b h = absurd cc
-
-true_and : (a b : Bool) → a ≡ true → b ≡ true → a && b ≡ true
-true_and true b p q = q
-true_and false b p q = absurd cc
-
 open_tells : (s : Sender) (value : ℕ) (q : Pixel) → is_open s value q ≡ true
     → (tile_of s.tiles q ≢ s.tile) × (s.image q < level_to s value q)
 open_tells s value q passes =
-    let tests = both_true (not (nat_eq (tile_of s.tiles q) s.tile)) (nat_lt (s.image q) (level_to s value q)) passes in (
+    let other = not (nat_eq (tile_of s.tiles q) s.tile) in
+    let tests = both_true other (nat_lt (s.image q) (level_to s value q)) passes in (
       elim (eqb_tells (tile_of s.tiles q) s.tile) [
         | inl (equal, same) ↦ absurd (let no : not true ≡ true = ap not (sym equal) ∙ tests.0 in cc)
         | inr (differ, other) ↦ other

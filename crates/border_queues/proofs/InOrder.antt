@@ -3,8 +3,8 @@ use Rattle.std.proofs.Common.{ℕ, zero, suc, ◌+◌, ◌<◌, Bool, cond, List
 use Rattle.std.proofs.Common.{refl, sym, subst, inl, inr, arith}
 use Rattle.std.specs.Prelude.{Contains}
 use Rattle.std.specs.List.{AllByRecursion, filter, flat_map, range_with_len}
-use Rattle.border_queues.proofs.Members.{true_or_false, at_head, behind_head, head_or_behind}
-use Rattle.border_queues.proofs.Members.{in_flat_map, in_map, in_filter, in_range}
+use Rattle.grid_core.proofs.Common.{true_or_false, here, later, first_or_later, in_flat_map, in_map, in_filter}
+use Rattle.grid_core.proofs.Common.{in_range}
 
 abbrev pub InOrder : {X : Type 0} → (X → X → Type 0) → List X → Type 0
 InOrder R [] = Unit {0}
@@ -13,11 +13,11 @@ InOrder R (x ∷ xs) = AllByRecursion (R x) xs × InOrder R xs
 pub all_of : {X : Type 0} (P : X → Type 0) (xs : List X) → ((x : X) → Contains xs x → P x) → AllByRecursion P xs
 all_of P [] each = tt
 all_of P (x ∷ xs) each =
-    (each x (at_head x x xs refl), all_of P xs (λ y there. each y (behind_head x y xs there)))
+    (each x (here x xs x refl), all_of P xs (λ y there. each y (later x xs y there)))
 
 pub each_of : {X : Type 0} (P : X → Type 0) (xs : List X) (x : X) → AllByRecursion P xs → Contains xs x → P x
 each_of P [] x all there = absurd (omega (arith, there.1))
-each_of P (y ∷ ys) x all there = elim (head_or_behind y x ys there) [
+each_of P (y ∷ ys) x all there = elim (first_or_later y ys x there) [
   | inl same ↦ subst P same all.0
   | inr rest ↦ each_of P ys x all.1 rest
 ]
@@ -31,8 +31,8 @@ order_append : {X : Type 0} (R : X → X → Type 0) (xs ys : List X) → InOrde
     → ((x y : X) → Contains xs x → Contains ys y → R x y) → InOrder R (xs ++ ys)
 order_append R [] ys first rest across = rest
 order_append R (x ∷ xs) ys first rest across = (
-  all_append (R x) xs ys first.0 (all_of (R x) ys (λ y there. across x y (at_head x x xs refl) there)),
-  order_append R xs ys first.1 rest (λ z y in_xs in_ys. across z y (behind_head x z xs in_xs) in_ys),
+  all_append (R x) xs ys first.0 (all_of (R x) ys (λ y there. across x y (here x xs x refl) there)),
+  order_append R xs ys first.1 rest (λ z y in_xs in_ys. across z y (later x xs z in_xs) in_ys),
 )
 
 pub order_flat_map : {X Y : Type 0} (R : X → X → Type 0) (S : Y → Y → Type 0) (f : X → List Y) (xs : List X)
@@ -40,8 +40,8 @@ pub order_flat_map : {X Y : Type 0} (R : X → X → Type 0) (S : Y → Y → Ty
     → ((x z : X) (y w : Y) → R x z → Contains (f x) y → Contains (f z) w → S y w) → InOrder S (flat_map f xs)
 order_flat_map R S f [] order each across = tt
 order_flat_map R S f (x ∷ xs) order each across =
-    order_append S (f x) (flat_map f xs) (each x (at_head x x xs refl))
-    (order_flat_map R S f xs order.1 (λ z there. each z (behind_head x z xs there)) across)
+    order_append S (f x) (flat_map f xs) (each x (here x xs x refl))
+    (order_flat_map R S f xs order.1 (λ z there. each z (later x xs z there)) across)
     (λ y w in_fx in_rest.
     let (z, in_xs, in_fz) = in_flat_map f xs w in_rest in
     across x z y w (each_of (R x) xs z order.0 in_xs) in_fx in_fz)

@@ -1,22 +1,23 @@
 -- Pixels inside a tile have no neighbour in another tile.
 use Rattle.std.proofs.Common.{◌≡◌, ℕ, zero, suc, ◌+◌, ◌<◌, ◌≤◌, Bool, false, cond, List, [], ◌∷◌, ◌++◌, map}
-use Rattle.std.proofs.Common.{true, refl, ap, sym, ◌∙◌, arith, append-nil}
+use Rattle.std.proofs.Common.{refl, ap, sym, ◌∙◌, arith, append-nil}
 use Rattle.std.specs.Prelude.{◌&&◌, not, nat_eq, nat_lt, Contains}
 use Rattle.std.specs.List.{filter, flat_map, range_with_len}
 use Rattle.std.proofs.lemmas.Bool.{eq-eqb, le-ltb}
 use Rattle.std.proofs.lemmas.List.Elements.{Contains-append_right}
 use Rattle.std.proofs.lemmas.List.Folds.{flat_map-map}
 use Rattle.grid_core.specs.declared.conn.Conn.{Conn}
-use Rattle.grid_core.specs.declared.conn.Conn.TheVariants.{Four, Eight}
 use Rattle.grid_core.specs.declared.pixel.Pixel.{Pixel}
 use Rattle.grid_core.specs.declared.rect.Rect.{Rect}
 use Rattle.grid_core.specs.Raster.{IsInside}
 use Rattle.grid_core.specs.RasterLaws.{NeighboursByRows}
-use Rattle.grid_core.specs.Neighbours.{apart, AreNeighbours}
+use Rattle.grid_core.specs.Neighbours.{AreNeighbours}
 use Rattle.grid_core.specs.Rects.{IsInRect}
 use Rattle.grid_core.specs.Rows.{rows_around}
 use Rattle.grid_core.specs.Tiles.{tile_of}
 use Rattle.border_queues.specs.declared.hint.Hint.{Hint}
+use Rattle.grid_core.proofs.Common.{and_false}
+use Rattle.grid_core.proofs.Pixels.{near}
 use Rattle.border_queues.specs.declared.border.Border.{Border}
 use Rattle.border_queues.specs.OpenEdges.{Sender, hint_to, is_open, hints_to, hints_from, level_to, row_of}
 use Rattle.border_queues.specs.Borders.{sender_of, IsBorder}
@@ -35,10 +36,6 @@ pub record IsInterior (rect : Rect) (p : Pixel) : Type 0 where
   pub right : p.x + 1 < rect.x + rect.w
   pub above : rect.y < p.y
   pub below : p.y + 1 < rect.y + rect.h
-
-near : (conn : Conn) (p q : Pixel) → AreNeighbours conn p q → (apart p.x q.x ≤ 1) × (apart p.y q.y ≤ 1)
-near Four p q beside = (omega arith, omega arith)
-near Eight p q beside = (beside.0, beside.1)
 
 neighbour_in_rect : (rect : Rect) (conn : Conn) (p q : Pixel) → IsInterior rect p → AreNeighbours conn p q
     → IsInRect rect q
@@ -99,10 +96,6 @@ pub by_columns : (s : Sender) (rect : Rect) (y : ℕ)
 by_columns s rect y = flat_map-map (hints_from s) (λ x. record { x = x; y = y }) (range_with_len rect.x rect.w)
 
 -- ---- a pixel of value 0 tells nothing
-
-and_false : (a b : Bool) → b ≡ false → a && b ≡ false
-and_false true b h = h
-and_false false b h = refl
 
 never_open : (s : Sender) (q : Pixel) → is_open s 0 q ≡ false
 never_open s q =

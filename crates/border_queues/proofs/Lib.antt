@@ -1,6 +1,6 @@
+-- The lemmas of this crate.
 pub mod Told
 pub mod Interior
-pub mod Members
 pub mod SameEdges
 pub mod InOrder
 pub mod EdgesOpen

@@ -14,7 +14,7 @@ use Rattle.grid_core.specs.Tiles.{Tiles, IsTiled, count_of, tile_of, rect_of}
 use Rattle.border_queues.specs.OpenEdges.{Sender, hint_to, is_open, hints_to, hints_from, row_of, pixels_of, open_edges}
 use Rattle.border_queues.specs.OpenEdges.{from_corner, with_tile}
 use Rattle.border_queues.specs.Borders.{moved}
-use Rattle.border_queues.proofs.Members.{same_flat_map, same_filter, in_flat_map, in_map, in_range}
+use Rattle.grid_core.proofs.Common.{same_flat_map, same_filter, in_flat_map, in_map, in_range}
 
 -- the pixels of a rectangle lie in it
 pub pixels_in_rect : (rect : Rect) (p : Pixel) → Contains (pixels_of rect) p → IsInRect rect p

@@ -20,7 +20,8 @@ hints_to-append s value qs rs =
 pub told_two : (s : Sender) (value : ℕ) (old : List Hint) (qs rs : List Pixel)
     → (old ++ hints_to s value qs) ++ hints_to s value rs ≡ old ++ hints_to s value (qs ++ rs)
 told_two s value old qs rs =
-    append_assoc old (hints_to s value qs) (hints_to s value rs) ∙ ap (λ hs. old ++ hs) (sym (hints_to-append s value qs rs))
+    append_assoc old (hints_to s value qs) (hints_to s value rs)
+    ∙ ap (λ hs. old ++ hs) (sym (hints_to-append s value qs rs))
 
 -- the neighbours of a pixel are told row by row
 pub told_around : (s : Sender) (value : ℕ) (old : List Hint) (above left right below : List Pixel)
@@ -60,5 +61,6 @@ told_row s old rect n =
     let row = row_of rect (rect.y + n) in
     append_assoc old (flat_map (hints_from s) above) (flat_map (hints_from s) row)
     ∙ ap (λ hs. old ++ hs) (sym (flat_map-append (hints_from s) above row))
-    ∙ ap (λ ps. old ++ flat_map (hints_from s) ps) (flat_map_more (row_of rect) [] (range_with_len rect.y n) (rect.y + n)
+    ∙ ap (λ ps. old ++ flat_map (hints_from s) ps)
+    (flat_map_more (row_of rect) [] (range_with_len rect.y n) (rect.y + n)
     ∙ ap (flat_map (row_of rect)) (range_more rect.y n))

@@ -25,6 +25,17 @@ pub record Sender : Type 0 where
   pub tile : ℕ
   pub generation : ℕ
 
+-- the tile as a sender, by these images
+abbrev pub sender_by : Tiles → Conn → (Pixel → ℕ) → (Pixel → ℕ) → ℕ → ℕ → Sender
+sender_by tiles conn mask image tile generation = record {
+  tiles = tiles;
+  conn = conn;
+  mask = mask;
+  image = image;
+  tile = tile;
+  generation = generation;
+}
+
 -- how far a pixel of this value can raise q under the mask
 abbrev pub level_to : Sender → ℕ → Pixel → ℕ
 level_to s value q = min value (s.mask q)

@@ -94,7 +94,8 @@ impl Border<'_> {
         requires row { IsTrue wanted → y < self.now.tiling.height }
         requires room { 3 ≤ out.old.room }
         ensures hints { out.new.hints ≡ out.old.hints
-            ++ hints_to (sender_of self.now) value (if wanted then row_around self.now.tiling.width x y sides true else []) }
+            ++ hints_to (sender_of self.now) value
+            (if wanted then row_around self.now.tiling.width x y sides true else []) }
         ensures room { out.old.room ≤ out.new.room + 3 }
         ensures kept { places out.old ≤ places out.new }
     {

@@ -1,9 +1,12 @@
+//! The hints of a tile's open edges.
+
 ghost use Rattle.std.specs.Prelude.{◌≡◌, ◌+◌, ◌*◌, ◌<◌, ◌≤◌, ◌++◌, IsOk, OnOk, OnErr};
 ghost use Rattle.grid_core.specs.Raster.{value_at};
 ghost use Rattle.grid_core.specs.Rects.{RectFits};
 ghost use Rattle.grid_core.specs.Tiles.{count_of, rect_of};
 ghost use Rattle.border_queues.specs.Waiting.{places};
-ghost use Rattle.border_queues.specs.OpenEdges.{IsOnTiling, open_edges, with_tile, room_for_edges};
+ghost use Rattle.border_queues.specs.OpenEdges.{IsOnTiling, open_edges, sender_by, with_tile};
+ghost use Rattle.border_queues.specs.OpenEdges.{room_for_edges};
 ghost use Rattle.border_queues.specs.Borders.{moved, sender_of, IsBorder};
 
 use crate::border::Border;
@@ -41,14 +44,8 @@ pub fn open_edges(
     requires inside_height { inside.now.height ≡ (rect_of tiling.now tile).h }
     requires image { IsOnTiling tiling.now image.now }
     requires mask { IsOnTiling tiling.now mask.now }
-    ensures hints { OnOk result (out.new.hints ≡ out.old.hints ++ open_edges (record {
-      tiles = tiling.now;
-      conn = conn;
-      mask = value_at mask.now;
-      image = with_tile tiling.now tile (value_at inside.now) (value_at image.now);
-      tile = tile;
-      generation = generation;
-    })) }
+    ensures hints { OnOk result (out.new.hints ≡ out.old.hints ++ open_edges (sender_by tiling.now conn
+        (value_at mask.now) (with_tile tiling.now tile (value_at inside.now) (value_at image.now)) tile generation)) }
     ensures enough { room_for_edges tiling.now ≤ out.old.room → IsOk result }
     ensures kept { places out.old ≤ places out.new }
     ensures err { OnErr result (out.new.hints ≡ out.old.hints) }
@@ -83,20 +80,15 @@ pub fn open_edges_in(
     requires tile { tile < count_of tiling.now }
     requires image { IsOnTiling tiling.now image.now }
     requires mask { IsOnTiling tiling.now mask.now }
-    ensures hints { OnOk result (out.new.hints ≡ out.old.hints ++ open_edges (record {
-      tiles = tiling.now;
-      conn = conn;
-      mask = value_at mask.now;
-      image = value_at image.now;
-      tile = tile;
-      generation = generation;
-    })) }
+    ensures hints { OnOk result (out.new.hints ≡ out.old.hints
+        ++ open_edges (sender_by tiling.now conn (value_at mask.now) (value_at image.now) tile generation)) }
     ensures enough { room_for_edges tiling.now ≤ out.old.room → IsOk result }
     ensures kept { places out.old ≤ places out.new }
     ensures err { OnErr result (out.new.hints ≡ out.old.hints) }
 {
     each_pixel_in_one_tile();
     same_image_same_edges();
+    // The side tells the prover that the tiling is one.
     let _ = tiling.side();
     out.reserve(room_for_edges(tiling))?;
     let rect = tiling.rect(tile);
@@ -126,18 +118,13 @@ fn border_of<'a>(
     requires image { IsOnTiling tiling.now image.now }
     requires mask { IsOnTiling tiling.now mask.now }
     ensures border { IsBorder result }
-    ensures sender { sender_of result ≡ record {
-      tiles = tiling.now;
-      conn = conn;
-      mask = value_at mask.now;
-      image = with_tile tiling.now tile (λ p. value_at inside.now (moved corner p)) (value_at image.now);
-      tile = tile;
-      generation = generation;
-    } }
+    ensures sender { sender_of result ≡ sender_by tiling.now conn (value_at mask.now)
+        (with_tile tiling.now tile (λ p. value_at inside.now (moved corner p)) (value_at image.now)) tile generation }
     ensures rect { result.rect ≡ rect_of tiling.now tile }
     ensures fits { RectFits tiling.now.width tiling.now.height result.rect }
 {
     each_pixel_in_one_tile();
+    // Side and width tell the prover that the tiling is one, and `inside` an image.
     let _ = (tiling.side(), inside.width());
     let rect = tiling.rect(tile);
     Border {

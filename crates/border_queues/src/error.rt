@@ -1,3 +1,5 @@
+//! Want of memory for hints.
+
 ghost use Rattle.std.specs.Prelude.{◌≡◌, codes};
 ghost use Rattle.border_queues.specs.declared.error.QueueError.TheVariants as errors;
 

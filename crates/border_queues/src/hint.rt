@@ -1,3 +1,5 @@
+//! Hints.
+
 use grid_core::Pixel;
 
 /// What a tile tells a pixel beyond its border: that it may rise to this value.

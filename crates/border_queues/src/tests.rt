@@ -1,3 +1,5 @@
+//! Tests of hints and inboxes.
+
 ghost use Rattle.std.specs.Prelude.{◌≡◌, ◌<◌, IfOk};
 ghost use Rattle.grid_core.specs.Raster.{IsInside};
 ghost use Rattle.grid_core.specs.Tiles.{count_of};

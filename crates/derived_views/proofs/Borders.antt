@@ -5,10 +5,9 @@ use Rattle.std.proofs.lemmas.Bool.{cases_lt}
 use Rattle.std.proofs.lemmas.List.{get_or-replicate, length-replicate, length-set}
 use Rattle.std.proofs.lemmas.Nat.{mul-add-lt}
 use Rattle.grid_core.specs.declared.pixel.Pixel.{Pixel}
-use Rattle.grid_core.specs.Raster.{Raster, IsInside, IsBelow, index_of, value_at, with_value}
+use Rattle.grid_core.specs.Raster.{Raster, IsInside, IsBelow, index_of, value_at, with_value, IsOnBorder}
 use Rattle.grid_core.proofs.Cells.{each_pixel_below, set_is_read, set_keeps_others}
 use Rattle.grid_core.proofs.Pixels.{same_pixel, same_pixel_or_not}
-use Rattle.derived_views.specs.Holes.{IsOnBorder}
 use Rattle.derived_views.specs.Rasters.{AgreeAt, IsPartOfBorder, KeepsAgreed}
 
 -- a pixel of an image is one of a border of it

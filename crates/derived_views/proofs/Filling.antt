@@ -8,7 +8,8 @@ use Rattle.grid_core.specs.Neighbours.{AreNeighbours}
 use Rattle.grid_core.specs.Path.{Domain, Inside, end_of, Reaches}
 use Rattle.grid_core.specs.Reconstruction.{IsReconstruction}
 use Rattle.grid_core.proofs.Reach.{IsPath-ends_inside}
-use Rattle.derived_views.specs.Holes.{IsOnBorder, Escapes, IsFill}
+use Rattle.derived_views.specs.Holes.{Escapes, IsFill}
+use Rattle.grid_core.specs.Raster.{IsOnBorder}
 use Rattle.derived_views.proofs.Paths.{along_path, at_end}
 
 -- the pixel of a column and a row

@@ -8,12 +8,13 @@ use Rattle.std.proofs.lemmas.List.{ext_get_or, get_or-map, length-map}
 use Rattle.grid_core.specs.declared.conn.Conn.{Conn}
 use Rattle.grid_core.specs.declared.pixel.Pixel.{Pixel}
 use Rattle.grid_core.specs.Path.{domain_of}
-use Rattle.grid_core.specs.Raster.{Raster, IsInside, IsFilled, IsImageSize, index_of, value_at}
+use Rattle.grid_core.specs.Raster.{Raster, IsInside, IsFilled, IsImageSize, IsOnBorder, index_of}
+use Rattle.grid_core.specs.Raster.{max_value, value_at}
 use Rattle.grid_core.specs.Reconstruction.{IsReconstruction}
 use Rattle.grid_core.proofs.Cells.{index_of-within, pixel_of, index_of-pixel_of, pixel_of-inside}
 use Rattle.pgm_codec.specs.Graymap.{Graymap, IsGraymap, max_maxval}
-use Rattle.derived_views.specs.Domes.{IsHMaxima, less}
-use Rattle.derived_views.specs.Holes.{IsFill, IsOnBorder}
+use Rattle.derived_views.specs.HMaxima.{IsHMaxima, less}
+use Rattle.derived_views.specs.Holes.{IsFill}
 use Rattle.derived_views.specs.Plateaus.{IsRegionalMaxima}
 use Rattle.derived_views.specs.Rasters.{mapped, complement_of, AgreeAt, IsPartOfBorder}
 use Rattle.derived_views.proofs.Filling.{fill_by_growing}
@@ -42,15 +43,15 @@ h_maxima_of conn h image lowered grown low recon =
     (λ i p. same p i) recon
 
 -- an image raised by 1 has room for it
-pub raised_cells : (xs : List ℕ) (top : ℕ) → top < 4294967295 → EachIndex xs (λ k. slice_index xs k ≤ top)
-    → map (λ v. min (v + 1) 4294967295) xs ≡ map (λ v. v + 1) xs
+pub raised_cells : (xs : List ℕ) (top : ℕ) → top < max_value → EachIndex xs (λ k. slice_index xs k ≤ top)
+    → map (λ v. min (v + 1) max_value) xs ≡ map (λ v. v + 1) xs
 raised_cells xs top room bound =
-    let long = length-map xs (λ v. min (v + 1) 4294967295) ∙ sym (length-map xs (λ v. v + 1)) in
-    ext_get_or 0 (map (λ v. min (v + 1) 4294967295) xs) (map (λ v. v + 1) xs) long (λ i within.
-    let here : i < length xs = omega (arith, within, length-map xs (λ v. min (v + 1) 4294967295)) in
+    let long = length-map xs (λ v. min (v + 1) max_value) ∙ sym (length-map xs (λ v. v + 1)) in
+    ext_get_or 0 (map (λ v. min (v + 1) max_value) xs) (map (λ v. v + 1) xs) long (λ i within.
+    let here : i < length xs = omega (arith, within, length-map xs (λ v. min (v + 1) max_value)) in
     omega (
       arith,
-      get_or-map (λ v. min (v + 1) 4294967295) xs i 0 0 here,
+      get_or-map (λ v. min (v + 1) max_value) xs i 0 0 here,
       get_or-map (λ v. v + 1) xs i 0 0 here,
       bound i here,
       room,

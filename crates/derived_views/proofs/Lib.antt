@@ -1,3 +1,4 @@
+-- The lemmas of this crate.
 pub mod Paths
 pub mod Filling
 pub mod Climbing

@@ -1,13 +1,10 @@
 -- An image whose holes are filled (Soille, "Morphological Image Analysis"): each pixel is raised to the least level at
 -- which it escapes to the border of the image.
-use Rattle.std.specs.Prelude.{◌≡◌, ℕ, ◌+◌, ◌<◌, ◌≤◌, ◌⊎◌, List, ◌∷◌}
+use Rattle.std.specs.Prelude.{ℕ, ◌<◌, ◌≤◌, List, ◌∷◌}
 use Rattle.std.specs.List.{AllByRecursion}
 use Rattle.grid_core.specs.declared.pixel.Pixel.{Pixel}
 use Rattle.grid_core.specs.Path.{Domain, Inside, IsPath, end_of}
-
--- the pixel lies in the first or the last column, or in the first or the last row, of an image of this width and height
-abbrev pub IsOnBorder : ℕ → ℕ → Pixel → Type 0
-IsOnBorder width height p = (p.x ≡ 0) ⊎ ((p.x + 1 ≡ width) ⊎ ((p.y ≡ 0) ⊎ (p.y + 1 ≡ height)))
+use Rattle.grid_core.specs.Raster.{IsOnBorder}
 
 -- the pixel escapes at level k: a path leads from it to a pixel on the border, and every value on it is at most k
 abbrev pub Escapes : Domain → (Pixel → ℕ) → Pixel → ℕ → Type 0

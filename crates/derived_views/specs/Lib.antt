@@ -1,10 +1,11 @@
+-- What the public contracts cite, and the words of private ones.
 pub use Rattle.grid_core.specs.Neighbours
 pub use Rattle.grid_core.specs.Path
 pub use Rattle.grid_core.specs.Raster
 pub use Rattle.grid_core.specs.Reconstruction
 pub use Rattle.pgm_codec.specs.Graymap
 pub mod Holes
-pub mod Domes
+pub mod HMaxima
 pub mod Plateaus
 pub mod Laws
 pub mod Rasters

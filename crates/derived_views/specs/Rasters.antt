@@ -1,8 +1,7 @@
 -- Images made on the way to a view. Only private functions have these words in their contracts.
 use Rattle.std.specs.Prelude.{◌≡◌, ℕ, ◌-◌, ◌⊎◌, map}
 use Rattle.grid_core.specs.declared.pixel.Pixel.{Pixel}
-use Rattle.grid_core.specs.Raster.{Raster, IsInside, IsFilled, value_at}
-use Rattle.derived_views.specs.Holes.{IsOnBorder}
+use Rattle.grid_core.specs.Raster.{Raster, IsInside, IsFilled, value_at, IsOnBorder}
 
 -- the image with a function of each of its values
 abbrev pub mapped : (ℕ → ℕ) → Raster → Raster

@@ -5,9 +5,9 @@
 
 ghost use Rattle.std.specs.Prelude.{◌≡◌, ◌+◌, ◌-◌, ◌⊎◌, length, slice_index, EachIndex, IfOk};
 ghost use Rattle.grid_core.specs.Path.{domain_of};
-ghost use Rattle.grid_core.specs.Raster.{IsFilled, IsInside, value_at};
+ghost use Rattle.grid_core.specs.Raster.{IsFilled, IsInside, value_at, IsOnBorder};
 ghost use Rattle.pgm_codec.specs.Graymap.{IsGraymap};
-ghost use Rattle.derived_views.specs.Holes.{IsFill, IsOnBorder};
+ghost use Rattle.derived_views.specs.Holes.{IsFill};
 ghost use Rattle.derived_views.specs.Rasters.{complement_of, AgreeAt, IsPartOfBorder, KeepsAgreed};
 
 use grid_core::{Conn, Grid, Memory, Pixel};

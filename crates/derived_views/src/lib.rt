@@ -17,16 +17,16 @@
 //! Each takes the memory of at most one grid beside the image that it gives back, and the room of growing
 //! ([`raster_sweeps::Room`]). Want of memory is its one error.
 //!
-//! Read on: `specs/Holes.antt`, `specs/Domes.antt` and `specs/Plateaus.antt` say what the three views are. They are
+//! Read on: `specs/Holes.antt`, `specs/HMaxima.antt` and `specs/Plateaus.antt` say what the three views are. They are
 //! computed by growing (`raster_sweeps`), each in a way of its own that its module tells.
 
-mod domes;
 mod holes;
 pub mod laws;
+mod maxima;
 mod plateaus;
 
-pub use domes::h_maxima;
 pub use holes::fill;
+pub use maxima::h_maxima;
 pub use plateaus::regional_maxima;
 
 #[cfg(test)]

@@ -5,7 +5,7 @@
 
 ghost use Rattle.std.specs.Prelude.{◌≡◌, ◌+◌, ◌-◌, length, map, min, slice_index, EachIndex, IfOk};
 ghost use Rattle.grid_core.specs.Path.{domain_of};
-ghost use Rattle.grid_core.specs.Raster.{IsFilled, value_at};
+ghost use Rattle.grid_core.specs.Raster.{IsFilled, max_value, value_at};
 ghost use Rattle.pgm_codec.specs.Graymap.{IsGraymap};
 ghost use Rattle.derived_views.specs.Plateaus.{IsRegionalMaxima};
 ghost use Rattle.derived_views.specs.Rasters.{mapped};
@@ -45,7 +45,7 @@ fn raised(alloc: Global, image: &Image) -> Result<Grid, Memory>
 
 // Each value and 1, where it is not the greatest that a cell can have.
 fn one_more(alloc: Global, values: &[u32]) -> Result<Vec<u32>, AllocError>
-    ensures { IfOk result (λ v. v.items ≡ map (λ s. min (s + 1) 4294967295) values.now) }
+    ensures { IfOk result (λ v. v.items ≡ map (λ s. min (s + 1) max_value) values.now) }
 {
     values.iter().map(|v| v.saturating_add(1)).collect(alloc)
 }

@@ -1,3 +1,5 @@
+//! The three views on worked examples.
+
 mod picture;
 
 use self::picture::Picture;

@@ -11,23 +11,17 @@ use Rattle.grid_core.specs.declared.pixel.Pixel.{Pixel}
 use Rattle.grid_core.specs.Raster.{IsInside}
 use Rattle.grid_core.specs.Neighbours.{apart, AreNeighbours, IsInRasterOrder}
 use Rattle.grid_core.specs.Rows.{has_diagonals, pixel_if, row_around, rows_around}
+use Rattle.grid_core.proofs.Common.{both_true, true_and, not_in_empty}
 use Rattle.grid_core.proofs.Pixels.{same_pixel}
-
-not_in_none : (q : Pixel) → Contains [] q → ⊥
-not_in_none q h = omega (arith, h.1)
-
-both_true : (a b : Bool) → a && b ≡ true → (a ≡ true) × (b ≡ true)
-both_true true b h = (refl, h)
-both_true false b h = absurd cc
 
 -- ---- one pixel, or none
 
 in_pixel_if : (b : Bool) (x y : ℕ) (q : Pixel) → Contains (pixel_if b x y) q → (b ≡ true) × (x ≡ q.x) × (y ≡ q.y)
 in_pixel_if true x y q h = elim (Contains-push_cases [] (record { x = x; y = y }) q h) [
-  | inl none ↦ absurd (not_in_none q none)
+  | inl none ↦ absurd (not_in_empty q none)
   | inr same ↦ (refl, ap (λ (p : Pixel). p.x) same, ap (λ (p : Pixel). p.y) same)
 ]
-in_pixel_if false x y q h = absurd (not_in_none q h)
+in_pixel_if false x y q h = absurd (not_in_empty q h)
 
 pixel_if_has : (b : Bool) (x y : ℕ) (q : Pixel) → b ≡ true → x ≡ q.x → y ≡ q.y → Contains (pixel_if b x y) q
 pixel_if_has true x y q h same_x same_y = (0, omega arith, same_pixel (record { x = x; y = y }) q same_x same_y)
@@ -64,10 +58,6 @@ in_row width x y sides middle q h =
           record { row = found.2; column = inr (inr (tests.0, omega arith, omega arith)) }
     ]
 
-true_and : (a b : Bool) → a ≡ true → b ≡ true → a && b ≡ true
-true_and true b p q = q
-true_and false b p q = absurd cc
-
 row_has : (width x y : ℕ) (sides middle : Bool) (q : Pixel) → IsInRow width x y sides middle q
     → Contains (row_around width x y sides middle) q
 row_has width x y sides middle q h =
@@ -96,7 +86,7 @@ row_has width x y sides middle q h =
 
 in_if : (b : Bool) (ps : List Pixel) (q : Pixel) → Contains (if b then ps else []) q → (b ≡ true) × Contains ps q
 in_if true ps q h = (refl, h)
-in_if false ps q h = absurd (not_in_none q h)
+in_if false ps q h = absurd (not_in_empty q h)
 
 if_has : (b : Bool) (ps : List Pixel) (q : Pixel) → b ≡ true → Contains ps q → Contains (if b then ps else []) q
 if_has true ps q e h = h

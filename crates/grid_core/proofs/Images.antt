@@ -79,3 +79,16 @@ lies_between d mask marker j r lawful recon p inside = (
     | inr within ↦ within
   ],
 )
+
+-- no pixel of a reconstruction can raise a neighbour
+pub reconstruction_is_closed : (d : Domain) (mask marker j : Pixel → ℕ) → IsReconstruction d mask marker j
+    → IsClosed d mask j
+reconstruction_is_closed d mask marker j recon p q inside_p inside_q beside =
+    elim (cases_lt (j q) (min (j p) (mask q))) [
+      | inl less ↦
+          absurd ((recon q inside_q).1 (min (j p) (mask q)) less
+          (reaches_by_step d mask marker q p (min (j p) (mask q)) inside_q (AreNeighbours-sym d.conn p q beside)
+          (omega arith)
+          (reaches_lower d mask marker p (j p) (min (j p) (mask q)) (omega arith) (recon p inside_p).0)))
+      | inr at_least ↦ at_least
+    ]

@@ -1,3 +1,5 @@
+-- The lemmas of this crate.
+pub mod Common
 pub mod Pixels
 pub mod Reach
 pub mod Images
@@ -11,3 +13,5 @@ pub mod TilesBeside
 pub mod Sums
 pub mod Growing
 pub mod Owed
+pub mod Headroom
+pub mod ImageRows

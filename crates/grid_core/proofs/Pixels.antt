@@ -1,15 +1,20 @@
 -- Neighbours are neighbours both ways, and pixels are equal or not.
-use Rattle.std.proofs.Common.{◌≡◌, ap, arith, inl, inr, ◌⊎◌}
+use Rattle.std.proofs.Common.{◌≡◌, ◌≤◌, ap, arith, inl, inr, ◌⊎◌}
 use Rattle.std.proofs.lemmas.Bool.{cases_eq}
 use Rattle.grid_core.specs.declared.conn.Conn.{Conn}
 use Rattle.grid_core.specs.declared.conn.Conn.TheVariants.{Four, Eight}
 use Rattle.grid_core.specs.declared.pixel.Pixel.{Pixel}
-use Rattle.grid_core.specs.Neighbours.{AreNeighbours}
+use Rattle.grid_core.specs.Neighbours.{apart, AreNeighbours}
 
 -- neighbours are neighbours both ways
 pub AreNeighbours-sym : (conn : Conn) (p q : Pixel) → AreNeighbours conn p q → AreNeighbours conn q p
 AreNeighbours-sym Four p q h = omega arith
 AreNeighbours-sym Eight p q h = (omega arith, omega arith, omega arith)
+
+-- neighbours are at most 1 apart in each coordinate
+pub near : (conn : Conn) (p q : Pixel) → AreNeighbours conn p q → (apart p.x q.x ≤ 1) × (apart p.y q.y ≤ 1)
+near Four p q beside = (omega arith, omega arith)
+near Eight p q beside = (beside.0, beside.1)
 
 -- pixels of equal coordinates are equal
 pub same_pixel : (p q : Pixel) → p.x ≡ q.x → p.y ≡ q.y → p ≡ q

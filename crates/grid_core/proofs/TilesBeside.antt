@@ -12,6 +12,7 @@ use Rattle.grid_core.specs.declared.pixel.Pixel.{Pixel}
 use Rattle.grid_core.specs.Raster.{IsInside, index_of}
 use Rattle.grid_core.specs.Neighbours.{apart, AreNeighbours, IsBefore, IsInRasterOrder}
 use Rattle.grid_core.specs.Tiles.{Tiles, IsTiled, AreTouching, columns_of, rows_of, count_of, column_of, row_of}
+use Rattle.grid_core.proofs.Common.{in_map}
 use Rattle.grid_core.proofs.Tilings.{column_of-within, row_of-within, tile_at_place}
 
 -- ---- images of lists
@@ -20,13 +21,6 @@ use Rattle.grid_core.proofs.Tilings.{column_of-within, row_of-within, tile_at_pl
 pub Contains-map : {X : Type 0} (f : X → ℕ) (xs : List X) (x : X) → Contains xs x → Contains (map f xs) (f x)
 Contains-map f xs x (k, within, there) =
     (k, subst (λ n. k < n) (sym (length-map xs f)) within, get_or-map f xs k x (f x) within ∙ ap f there)
-
--- an element of the image is the image of an element
-pub from_map : {X : Type 0} (f : X → ℕ) (xs : List X) (y : ℕ) (d : X) → Contains (map f xs) y
-    → (x : X) × Contains xs x × (f x ≡ y)
-from_map f xs y d (k, within, there) =
-    let inside : k < length xs = subst (λ n. k < n) (length-map xs f) within in
-    (get_or xs k d, Contains-get_or xs k d inside, sym (get_or-map f xs k d y inside) ∙ there)
 
 -- ---- in raster order places rise
 
@@ -101,7 +95,7 @@ pub touching_tiles : (t : Tiles) (tile : ℕ) (qs : List Pixel) → IsTiled t
     ↔ (AreTouching t tile other × (other < count_of t))
 touching_tiles t tile qs tiled around other = (
   λ found.
-      let (q, there, same) = from_map (index_of (columns_of t)) qs other (place_of t tile) found in
+      let (q, there, same) = in_map (index_of (columns_of t)) qs other found in
       let beside = (around q).0 there in
       subst (λ n. AreTouching t tile n × (n < count_of t)) same (neighbour_touches t tile q beside.0 beside.1),
   λ (touch, within).

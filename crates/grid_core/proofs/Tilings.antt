@@ -4,13 +4,13 @@ use Rattle.std.specs.Prelude.{◌↔◌, min}
 use Rattle.std.proofs.lemmas.Bool.{cases_eq}
 use Rattle.std.proofs.lemmas.Nat.{div-add-mod', div_below, mod_below, mul-add-lt, div-mul-add, mod-mul-add}
 use Rattle.grid_core.specs.declared.conn.Conn.{Conn}
-use Rattle.grid_core.specs.declared.conn.Conn.TheVariants.{Four, Eight}
 use Rattle.grid_core.specs.declared.pixel.Pixel.{Pixel}
 use Rattle.grid_core.specs.Raster.{IsInside}
-use Rattle.grid_core.specs.Neighbours.{apart, AreNeighbours}
+use Rattle.grid_core.specs.Neighbours.{AreNeighbours}
 use Rattle.grid_core.specs.Rects.{IsInRect, RectFits, in_image}
 use Rattle.grid_core.specs.Tiles.{Tiles, IsTiled, AreTouching, columns_of, rows_of, count_of, column_of, row_of}
 use Rattle.grid_core.specs.Tiles.{tile_of, rect_of}
+use Rattle.grid_core.proofs.Pixels.{near}
 use Rattle.grid_core.proofs.Rectangles.{rect_pixels_lie_in_rect, in_rect_inside}
 use Rattle.grid_core.proofs.Spans.{some_span, span_of-within, span_begins, in_span, span_from, near_spans}
 
@@ -114,14 +114,6 @@ tile_pixels t tile q tiled within =
 
 -- ---- neighbouring pixels
 
-near_columns : (conn : Conn) (p q : Pixel) → AreNeighbours conn p q → apart p.x q.x ≤ 1
-near_columns Four p q beside = omega arith
-near_columns Eight p q beside = beside.0
-
-near_rows : (conn : Conn) (p q : Pixel) → AreNeighbours conn p q → apart p.y q.y ≤ 1
-near_rows Four p q beside = omega arith
-near_rows Eight p q beside = beside.1
-
 pub neighbours_lie_in_touching_tiles : (t : Tiles) (conn : Conn) (p q : Pixel) → IsTiled t
     → IsInside t.width t.height p → IsInside t.width t.height q → AreNeighbours conn p q
     → (tile_of t p ≡ tile_of t q) ⊎ AreTouching t (tile_of t p) (tile_of t q)
@@ -133,13 +125,13 @@ neighbours_lie_in_touching_tiles t conn p q tiled inside_p inside_q beside =
         other = other;
         columns = omega (
           arith,
-          near_spans p.x q.x t.side side (near_columns conn p q beside),
+          near_spans p.x q.x t.side side (near conn p q beside).0,
           column_of-tile_of t p tiled inside_p,
           column_of-tile_of t q tiled inside_q,
         );
         rows = omega (
           arith,
-          near_spans p.y q.y t.side side (near_rows conn p q beside),
+          near_spans p.y q.y t.side side (near conn p q beside).1,
           row_of-tile_of t p tiled inside_p,
           row_of-tile_of t q tiled inside_q,
         );

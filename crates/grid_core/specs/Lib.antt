@@ -1,3 +1,4 @@
+-- What the public contracts cite, and the words of private ones.
 pub mod Raster
 pub mod Neighbours
 pub mod Rows

@@ -1,5 +1,6 @@
 -- An image as plain data, and its values at pixels.
-use Rattle.std.specs.Prelude.{◌≡◌, ℕ, ◌+◌, ◌*◌, ◌<◌, ◌≤◌, List, length, slice_index, slice_set}
+use Rattle.std.specs.Prelude.{◌≡◌, ℕ, ◌+◌, ◌-◌, ◌*◌, ◌<◌, ◌≤◌, ◌⊎◌, List, length, slice_index, slice_set}
+use Rattle.std.specs.List.{sum_by}
 use Rattle.grid_core.specs.declared.pixel.Pixel.{Pixel}
 
 -- an image: a width, a height, and the values row by row from the top, each row from the left
@@ -32,6 +33,10 @@ max_side = 16384
 abbrev pub max_pixels : ℕ
 max_pixels = 67108864
 
+-- the greatest value of a cell
+abbrev pub max_value : ℕ
+max_value = 4294967295
+
 -- the sides that an image may have: each from 1 to the greatest, and not too many pixels in all
 pub record IsImageSize (width height : ℕ) : Type 0 where
   pub some_width : 0 < width
@@ -54,3 +59,17 @@ pub record IsBelow (a b : Raster) : Type 0 where
   pub width : a.width ≡ b.width
   pub height : a.height ≡ b.height
   pub values : (k : ℕ) → k < length a.cells → slice_index a.cells k ≤ slice_index b.cells k
+
+-- the pixel lies in the first or the last column, or in the first or the last row, of an image of this width and height
+abbrev pub IsOnBorder : ℕ → ℕ → Pixel → Type 0
+IsOnBorder width height p = (p.x ≡ 0) ⊎ ((p.x + 1 ≡ width) ⊎ ((p.y ≡ 0) ⊎ (p.y + 1 ≡ height)))
+
+-- an image of the same size, with a value for each pixel
+pub record IsOfSize (old new : Raster) : Type 0 where
+  pub width : new.width ≡ old.width
+  pub height : new.height ≡ old.height
+  pub filled : IsFilled new
+
+-- how far the values lie below the greatest that a cell can have, in all
+abbrev pub headroom : List ℕ → ℕ
+headroom cells = sum_by (λ v. max_value - v) cells

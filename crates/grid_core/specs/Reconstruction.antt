@@ -25,3 +25,16 @@ pub record IsRaise (d : Domain) (mask old new : Pixel → ℕ) (p q : Pixel) : T
   pub beside : AreNeighbours d.conn p q
   pub raised : new q ≡ max (old q) (min (old p) (mask q))
   pub others : (r : Pixel) → Inside d r → (r ≡ q → ⊥) → new r ≡ old r
+
+-- the first of two neighbours can still raise the second, as far as the mask lets it
+pub record IsOpen (d : Domain) (mask image : Pixel → ℕ) (p q : Pixel) : Type 0 where
+  pub from_inside : Inside d p
+  pub to_inside : Inside d q
+  pub beside : AreNeighbours d.conn p q
+  pub lower : image q < min (image p) (mask q)
+
+-- at each pixel the image lies between marker and mask, and a path on which it is nowhere less than at the pixel
+-- leads from there to a pixel where the marker is no less
+abbrev pub IsSupported : Domain → (Pixel → ℕ) → (Pixel → ℕ) → (Pixel → ℕ) → Type 0
+IsSupported d mask marker j =
+    (p : Pixel) → Inside d p → (marker p ≤ j p) × (j p ≤ mask p) × Reaches d j marker p (j p)

@@ -1,3 +1,5 @@
+//! Which pixels are neighbours.
+
 /// Which pixels are neighbours.
 #[derive(Clone, Copy, Debug, PartialEq, Eq)]
 pub enum Conn {

@@ -1,12 +1,16 @@
+//! Images of values, and their rows and parts.
+
 ghost use Rattle.std.specs.Prelude.{◌≡◌, ◌*◌, ◌<◌, ◌⊎◌, ◌↔◌, length, replicate, IsTrue, IfOk, IsErrOf};
 ghost use Rattle.std.specs.Borrow.{sem};
 ghost use Rattle.grid_core.specs.Code.{code_of};
 ghost use Rattle.grid_core.specs.declared.grid.GridError.TheVariants as errors;
 ghost use Rattle.grid_core.specs.Lending.{LendsCells};
 ghost use Rattle.grid_core.specs.Raster.{IsInside, IsImageSize, IsSized, IsBelow, index_of, value_at, with_value};
+ghost use Rattle.grid_core.specs.Rects.{IsPart, IsRowOf, RectFits, part};
 
 use crate::memory::Memory;
 use crate::pixel::Pixel;
+use crate::rect::Rect;
 use std::alloc::{AllocError, AllocFailed, Global};
 use std::marker::Model;
 use thiserror::Error;
@@ -201,6 +205,33 @@ impl Grid {
     {
         let i = self.index_of(p);
         self.cells[i] = value;
+    }
+
+    /// The values of row `y` of a rectangle, counted from the rectangle's top, from the left.
+    pub fn row_in(&self, rect: Rect, y: u32) -> &[u32]
+        requires fits { RectFits self.now.width self.now.height rect }
+        requires row { y < rect.h }
+        ensures { IsRowOf rect.w (part rect (value_at self.now)) y result.now }
+    {
+        let width = self.width() as usize;
+        let start = (rect.y + y) as usize * width + rect.x as usize;
+        &self.cells()[start..start + rect.w as usize]
+    }
+
+    /// The part of the image in a rectangle, as an image of the rectangle's width and height.
+    ///
+    /// Errors: out of memory.
+    pub fn cut(&self, alloc: Global, rect: Rect) -> Result<Grid, Memory>
+        requires { RectFits self.now.width self.now.height rect }
+        ensures { IfOk result (IsPart rect self.now) }
+    {
+        // The prover learns from the width that the image has a size.
+        let _ = self.width();
+        let mut cells = Vec::with_capacity(alloc, rect.w as usize * rect.h as usize)?;
+        for y in 0..rect.h {
+            cells.extend_from_slice(self.row_in(rect, y))?;
+        }
+        Ok(Grid::from_cells(rect.w, rect.h, cells))
     }
 
     /// Whether the sizes are equal and no cell is greater than the other's.

@@ -1,3 +1,5 @@
+//! Want of memory.
+
 use std::alloc::{AllocError, AllocFailed};
 use thiserror::Error;
 

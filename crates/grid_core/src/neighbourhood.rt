@@ -1,3 +1,5 @@
+//! The pixels beside a pixel.
+
 ghost use Rattle.std.specs.Prelude.{◌≡◌, ◌+◌, ◌<◌, ◌≤◌, ◌↔◌, [], ◌∷◌, ◌++◌, length, Contains};
 ghost use Rattle.grid_core.specs.Raster.{IsInside};
 ghost use Rattle.grid_core.specs.Neighbours.{AreNeighbours, IsInRasterOrder};

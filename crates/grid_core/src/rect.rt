@@ -1,3 +1,5 @@
+//! Rectangles of pixels.
+
 ghost use Rattle.std.specs.Prelude.{◌↔◌, IsTrue};
 ghost use Rattle.grid_core.specs.Rects.{IsInRect};
 

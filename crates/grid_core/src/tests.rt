@@ -1,3 +1,5 @@
+//! Tests of grids, neighbours and tiles.
+
 ghost use Rattle.std.specs.Prelude.{◌≡◌, ◌≤◌, ◌+◌, ◌++◌, length, take, drop, IfOk};
 ghost use Rattle.grid_core.specs.Tiles.{IsTileSide};
 
@@ -141,6 +143,18 @@ fn a_rectangle_is_told_by_its_corner_and_sides(rt: HostRuntime) -> Result<(), Fa
 }
 
 #[test]
+fn a_part_has_the_rows_of_its_rectangle(rt: HostRuntime) -> Result<(), Fail> {
+    let image = Grid::from_cells(3, 2, [1, 2, 3, 4, 5, 6].to_vec(rt.alloc())?);
+    let rect = rect_at(1, 0, 2, 2);
+    assert_eq!(rt; image.row_in(rect, 0), [2, 3].as_slice());
+    assert_eq!(rt; image.row_in(rect, 1), [5, 6].as_slice());
+    let part = image.cut(rt.alloc(), rect)?;
+    assert_eq!(rt; (part.width(), part.height()), (2, 2));
+    assert_eq!(rt; part.cells(), [2, 3, 5, 6].as_slice());
+    Ok(())
+}
+
+#[test]
 fn a_rectangle_contains_its_corners(rt: HostRuntime) {
     let rect = rect_at(8, 4, 3, 2);
     for p in [at(8, 4), at(10, 4), at(8, 5), at(10, 5)] {
@@ -222,7 +236,9 @@ fn tiled(w: u32, h: u32, side: u32) -> Result<Tiling, GridError>
     Tiling::new(w, h, side)
 }
 
-fn rect_at(x: u32, y: u32, w: u32, h: u32) -> Rect {
+fn rect_at(x: u32, y: u32, w: u32, h: u32) -> Rect
+    ensures { result ≡ record { x = x; y = y; w = w; h = h } }
+{
     Rect { x, y, w, h }
 }
 

@@ -1,6 +1,6 @@
 -- The windows round runs and discs.
 use Rattle.std.proofs.Common.{◌≡◌, ℕ, ◌+◌, ◌-◌, ◌*◌, ◌<◌, ◌≤◌, ◌⊎◌, inl, inr, Bool, true, false, List, length, get_or}
-use Rattle.std.proofs.Common.{take, sym, ap, ◌∙◌, refl, arith}
+use Rattle.std.proofs.Common.{take, sym, ap, ◌∙◌, arith}
 use Rattle.std.specs.Prelude.{◌||◌, IsTrue}
 use Rattle.std.specs.List.{list_any}
 use Rattle.std.proofs.Math.Nat.{mul-le-mul}
@@ -9,6 +9,7 @@ use Rattle.std.proofs.lemmas.Bool.Decides.{nat_tests}
 use Rattle.std.proofs.lemmas.List.Folds.{list_any_more}
 use Rattle.grid_core.specs.declared.pixel.Pixel.{Pixel}
 use Rattle.grid_core.specs.Neighbours.{apart}
+use Rattle.grid_core.proofs.Common.{either}
 use Rattle.stroke_core.specs.Seed.{disc_covers}
 use Rattle.marker_tiles.specs.declared.window.Window.{Window}
 use Rattle.marker_tiles.specs.Painting.{in_window}
@@ -16,21 +17,18 @@ use Rattle.marker_tiles.specs.Painting.{in_window}
 square_le : (a b : ℕ) → a ≤ b → a * a ≤ b * b
 square_le a b h = mul-le-mul h h
 
-next_square : (r : ℕ) → r * r < (r + 1) * (r + 1)
-next_square r = omega arith
-
 -- a disc has no pixel on a row farther from its centre than the radius
 beyond_radius : (x y r : ℕ) (p : Pixel) → r < apart y p.y → disc_covers x y r p ≡ false
 beyond_radius x y r p far =
     let more : (r + 1) * (r + 1) ≤ apart y p.y * apart y p.y = square_le (r + 1) (apart y p.y) (omega arith) in
-    let least : r * r < (r + 1) * (r + 1) = next_square r in
+    let least : r * r < (r + 1) * (r + 1) = omega arith in
     grind (arith, nat_tests)
 
 -- nor in a column farther from its centre
 beyond_column : (x y r : ℕ) (p : Pixel) → r < apart x p.x → disc_covers x y r p ≡ false
 beyond_column x y r p far =
     let more : (r + 1) * (r + 1) ≤ apart x p.x * apart x p.x = square_le (r + 1) (apart x p.x) (omega arith) in
-    let least : r * r < (r + 1) * (r + 1) = next_square r in
+    let least : r * r < (r + 1) * (r + 1) = omega arith in
     grind (arith, nat_tests)
 
 -- a pixel of a disc is on a row, and in a column, at most the radius away
@@ -52,10 +50,6 @@ disc_in_window x y r w p left right top bottom has =
     let row : apart y p.y ≤ r = disc_near_row x y r p has in
     let column : apart x p.x ≤ r = disc_near_column x y r p has in
     grind (arith, nat_tests)
-
-pub either : (a b : Bool) → (a || b) ≡ true → (a ≡ true) ⊎ (b ≡ true)
-either true b e = inl refl
-either false b e = inr e
 
 -- what one of some elements passes, one of those before the last or the last does
 pub any_of_more : {X : Type 0} (test : X → Bool) (xs : List X) (i : ℕ) (x : X) → i < length xs

@@ -1,7 +1,7 @@
 -- Each state has a greatest level at each pixel, and so a marker.
 use Rattle.std.proofs.Common.{◌≡◌, ℕ, ◌≤◌, ◌⊎◌, inl, inr, Bool, true, false, min, max, List, [], ◌∷◌, Option}
 use Rattle.std.proofs.Common.{Some, None, refl, ap, subst, ◌∙◌, sym, arith}
-use Rattle.std.specs.Prelude.{◌||◌, is_some}
+use Rattle.std.specs.Prelude.{is_some}
 use Rattle.std.specs.List.{list_any}
 use Rattle.std.specs.Ordering.{nat_cmp, eq_by_cmp}
 use Rattle.std.specs.FinMap as map
@@ -10,6 +10,7 @@ use Rattle.std.proofs.lemmas.Bool.{cases_lt}
 use Rattle.std.proofs.lemmas.Bool.Decides.{nat_tests}
 use Rattle.grid_core.specs.declared.pixel.Pixel.{Pixel}
 use Rattle.grid_core.specs.Path.{Domain}
+use Rattle.grid_core.proofs.Common.{either, not_true}
 use Rattle.stroke_core.specs.Seed.{Seed, covers}
 use Rattle.stroke_lattice.specs.State.{State, HasStroke}
 use Rattle.marker_tiles.specs.Marker.{IsMarkedAt, IsTopLevel, IsMarker}
@@ -63,14 +64,6 @@ top_is_marked s p (tag ∷ tags) =
             | inr marked ↦ inr (subst (IsMarkedAt s p) same marked)
           ]
     ]
-
-either : (a b : Bool) → (a || b) ≡ true → (a ≡ true) ⊎ (b ≡ true)
-either true b e = inl refl
-either false b e = inr e
-
-not_true : (b : Bool) → (b ≡ true → ⊥) → b ≡ false
-not_true true never = absurd (never refl)
-not_true false never = refl
 
 same_tag : (a b : ℕ) → eq_by_cmp nat_cmp a b ≡ true → a ≡ b
 same_tag a b e = grind (arith, nat_tests)

@@ -1,13 +1,13 @@
 -- The marker of a state, from that of the state before and from what changed.
 use Rattle.std.proofs.Common.{◌≡◌, ℕ, ◌≤◌, ◌⊎◌, inl, inr, Bool, true, false, min, max, List, [], ◌∷◌, refl, sym}
 use Rattle.std.proofs.Common.{ap, subst, ◌∙◌, arith, Option, Some, None}
-use Rattle.std.specs.Prelude.{Contains, IsTrue, if◌then◌else◌, ◌||◌}
+use Rattle.std.specs.Prelude.{Contains, IsTrue, if◌then◌else◌}
 use Rattle.std.specs.FinMap as map
 use Rattle.std.specs.FinSet as set
 use Rattle.grid_core.specs.declared.pixel.Pixel.{Pixel}
 use Rattle.grid_core.specs.declared.conn.Conn.TheVariants.{Four}
 use Rattle.grid_core.specs.Path.{domain_of}
-use Rattle.grid_core.specs.Raster.{Raster, IsInside, IsSized, value_at}
+use Rattle.grid_core.specs.Raster.{Raster, IsInside, IsSized, value_at, IsOfSize}
 use Rattle.grid_core.specs.Tiles.{Tiles}
 use Rattle.grid_core.proofs.Cells.{each_pixel_below}
 use Rattle.stroke_core.specs.Seed.{Seed, covers}
@@ -17,12 +17,13 @@ use Rattle.marker_tiles.specs.declared.window.Window.{Window}
 use Rattle.marker_tiles.specs.Kept.{IsMarkerOf, HasGrown}
 use Rattle.marker_tiles.specs.Marker.{IsMarkedAt, IsTopLevel}
 use Rattle.marker_tiles.specs.InOrder.{IsInOrder}
-use Rattle.marker_tiles.specs.Painting.{AreOfOneSize, in_some}
+use Rattle.marker_tiles.specs.Painting.{in_some}
 use Rattle.marker_tiles.specs.UnderTags.{level_if, covers_if, level_of_some, some_covers}
 use Rattle.marker_tiles.specs.UnderTags.{IsBlankOn, IsRaisedBy, IsClearedOf, IsRaisedByLive}
 use Rattle.marker_tiles.proofs.Existence.{top_at, has_top}
 use Rattle.marker_tiles.proofs.Levels.{level_or_none, level_where, marker_within}
-use Rattle.marker_tiles.proofs.Lists.{first, later, first_or_later, not_in_empty}
+use Rattle.grid_core.proofs.Common.{first, later, first_or_later, not_in_empty, or_left, or_right}
+use Rattle.grid_core.proofs.Common.{true_or_false, true_or_not}
 
 -- ---- tags and their strokes
 
@@ -36,10 +37,6 @@ live_if s tag (Some seed) false e f = inl (seed, (e, λ gone. let both : false �
 live_or_not : (s : State) (tag : ℕ) → IsLiveTag s tag ⊎ (IsLiveTag s tag → ⊥)
 live_or_not s tag = live_if s tag (map.get s.strokes tag) (set.contains s.tombstones tag) refl refl
 
-true_or_not : (b : Bool) → (b ≡ true) ⊎ (b ≡ true → ⊥)
-true_or_not true = inl refl
-true_or_not false = inr (λ e. cc)
-
 some_same : (x y : Seed) → Some x ≡ Some y → x ≡ y
 some_same x y e = cc
 
@@ -48,13 +45,6 @@ one_stroke : (s : State) (tag : ℕ) (x y : Seed) → HasStroke s tag x → HasS
 one_stroke s tag x y has also = some_same x y (sym has ∙ also)
 
 -- ---- the strokes under tags
-
-or_left : (a b : Bool) → a ≡ true → (a || b) ≡ true
-or_left a b e = ap (λ t. t || b) e
-
-or_right : (a b : Bool) → b ≡ true → (a || b) ≡ true
-or_right true b e = refl
-or_right false b e = e
 
 -- the stroke under one of the tags covers the pixel
 tag_covers : (s : State) (tags : List ℕ) (p : Pixel) (tag : ℕ) (seed : Seed) → Contains tags tag
@@ -173,10 +163,6 @@ at_most_if : (b : Bool) (n : ℕ) → (if b then n else 0) ≤ n
 at_most_if true n = omega arith
 at_most_if false n = omega arith
 
-true_or_false : (b : Bool) → (b ≡ true) ⊎ (b ≡ false)
-true_or_false true = inl refl
-true_or_false false = inr refl
-
 module _ (mask old raised : Raster) (after : State) (change : Turnover) (grown : HasGrown mask old after change)
     (born : IsRaisedBy after change.born mask old raised) (p : Pixel)
     (inside : IsInside mask.width mask.height p) where
@@ -250,7 +236,7 @@ blank_marks_nothing mask image empty none blank conn p inside =
 
 -- ---- what is true of each kept marker
 
-pub kept_is_in_order : (mask image : Raster) (tiling : Tiles) (s : State) → IsSized mask → AreOfOneSize mask image
+pub kept_is_in_order : (mask image : Raster) (tiling : Tiles) (s : State) → IsSized mask → IsOfSize mask image
     → IsMarkerOf mask s image → tiling.width ≡ mask.width → tiling.height ≡ mask.height
     → IsInOrder (record { mask = mask; marker = image; tiling = tiling })
 kept_is_in_order mask image tiling s sized size marks same_width same_height = record {

@@ -9,7 +9,7 @@ use Rattle.stroke_core.specs.Seed.{Seed, covers}
 use Rattle.stroke_lattice.specs.State.{State, IsLive}
 use Rattle.marker_tiles.specs.Marker.{IsTopLevel, IsMarker}
 use Rattle.marker_tiles.specs.UnderTags.{level_at}
-use Rattle.marker_tiles.proofs.Lists.{first, later, first_or_later, not_in_empty}
+use Rattle.grid_core.proofs.Common.{first, later, first_or_later, not_in_empty}
 
 -- ---- it is one number, and so the marker is one
 

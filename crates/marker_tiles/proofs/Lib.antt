@@ -1,9 +1,8 @@
-pub mod Cutting
+-- The lemmas of this crate.
 pub mod Enclosing
 pub mod Existence
 pub mod Keeping
 pub mod Levels
-pub mod Lists
 pub mod Marking
 pub mod Painted
 pub mod Raising

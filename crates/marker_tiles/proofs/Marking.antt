@@ -6,7 +6,7 @@ use Rattle.std.proofs.lemmas.List.Elements.{Contains-append_right}
 use Rattle.grid_core.specs.declared.pixel.Pixel.{Pixel}
 use Rattle.grid_core.specs.declared.conn.Conn.{Conn}
 use Rattle.grid_core.specs.Path.{domain_of}
-use Rattle.grid_core.specs.Raster.{Raster, IsInside, IsBelow, value_at}
+use Rattle.grid_core.specs.Raster.{Raster, IsInside, IsBelow, value_at, IsOfSize}
 use Rattle.grid_core.proofs.Cells.{each_pixel_below}
 use Rattle.stroke_core.specs.Seed.{covers, Fits}
 use Rattle.stroke_lattice.specs.State.{State, StateFits}
@@ -15,16 +15,16 @@ use Rattle.marker_tiles.specs.declared.brush.Brush.{Brush}
 use Rattle.marker_tiles.specs.declared.brush.Brush.TheVariants.{Raise}
 use Rattle.marker_tiles.specs.declared.window.Window.{Window}
 use Rattle.marker_tiles.specs.Marker.{IsMarker}
-use Rattle.marker_tiles.specs.Painting.{AreOfOneSize, IsPaintedBy, brushed_if, in_window, in_some}
+use Rattle.marker_tiles.specs.Painting.{IsPaintedBy, brushed_if, in_window, in_some}
 use Rattle.marker_tiles.specs.UnderTags.{IsBlankOn, IsRaisedByLive}
 use Rattle.marker_tiles.proofs.Levels.{Entry, top_level, top_level-push, top_of_live}
-use Rattle.marker_tiles.proofs.Lists.{first}
+use Rattle.grid_core.proofs.Common.{first}
 use Rattle.marker_tiles.proofs.Raising.{raised_to_level}
 
 -- the image is the old one, raised within the windows by the live strokes but for those that are left
 pub record IsUnderWay (s : State) (ws : List Window) (mask old image : Raster) (left : List Entry) : Type 0 where
   pub done : List Entry
-  pub size : AreOfOneSize mask image
+  pub size : IsOfSize mask image
   pub values : (p : Pixel) → IsInside mask.width mask.height p
       → value_at image p
       ≡ max (value_at old p) (min (value_at mask p) (if in_some ws p then top_level done p else 0))
@@ -35,7 +35,7 @@ if_same true = refl
 if_same false = refl
 
 -- at first all are left
-pub under_way_start : (s : State) (ws : List Window) (live : List Entry) (mask old : Raster) → AreOfOneSize mask old
+pub under_way_start : (s : State) (ws : List Window) (live : List Entry) (mask old : Raster) → IsOfSize mask old
     → AreLive s live → IsUnderWay s ws mask old old live
 under_way_start s ws live mask old size are_live = record {
   done = [];

@@ -6,13 +6,14 @@ use Rattle.std.proofs.Math.Nat.{mul-le-mul_right}
 use Rattle.std.proofs.lemmas.Bool.{cases_lt}
 use Rattle.std.proofs.lemmas.Bool.Decides.{nat_tests}
 use Rattle.grid_core.specs.declared.pixel.Pixel.{Pixel}
-use Rattle.grid_core.specs.Raster.{Raster, IsInside, index_of, value_at}
+use Rattle.grid_core.specs.Raster.{Raster, IsInside, index_of, value_at, IsOfSize}
+use Rattle.grid_core.specs.Rects.{AreCellsChanged}
 use Rattle.grid_core.proofs.Cells.{index_of-within}
 use Rattle.stroke_core.specs.Seed.{Seed, covers}
 use Rattle.marker_tiles.specs.declared.brush.Brush.{Brush}
 use Rattle.marker_tiles.specs.declared.brush.Brush.TheVariants.{Raise, Clear}
 use Rattle.marker_tiles.specs.declared.window.Window.{Window}
-use Rattle.marker_tiles.specs.Painting.{AreOfOneSize, IsPaintedBy, AreCellsBrushed, brushed, brushed_if}
+use Rattle.marker_tiles.specs.Painting.{IsPaintedBy, brushed_cells, brushed, brushed_if}
 use Rattle.marker_tiles.specs.Painting.{in_some, is_between}
 
 -- a brush led twice leaves what it left at first
@@ -43,7 +44,7 @@ painted_also a b both brush mask old middle new first second same = record {
 }
 
 -- an image is painted by a test that no pixel passes
-pub painted_nothing : (test : Pixel → Bool) (brush : Brush) (mask old : Raster) → AreOfOneSize mask old
+pub painted_nothing : (test : Pixel → Bool) (brush : Brush) (mask old : Raster) → IsOfSize mask old
     → ((p : Pixel) → IsInside mask.width mask.height p → test p ≡ false) → IsPaintedBy test brush mask old old
 painted_nothing test brush mask old size none = record {
   size = size;
@@ -76,9 +77,9 @@ row_before width x y row inside before =
     omega (arith, rows)
 
 -- cells led over between two places of one row
-module _ (y first end from to : ℕ) (brush : Brush) (mask old new : Raster) (size : AreOfOneSize mask old)
+module _ (y first end from to : ℕ) (brush : Brush) (mask old new : Raster) (size : IsOfSize mask old)
     (columns : end ≤ mask.width) (from_is : from ≡ y * mask.width + first) (to_is : to ≡ y * mask.width + end)
-    (cells : AreCellsBrushed from to brush mask old new) (p : Pixel) (inside : IsInside mask.width mask.height p) where
+    (cells : AreCellsChanged from to (brushed_cells brush mask old) old new) (p : Pixel) (inside : IsInside mask.width mask.height p) where
   old_at : value_at old p ≡ slice_index old.cells (index_of mask.width p)
   old_at = ap (λ w. slice_index old.cells (index_of w p)) size.width
 
@@ -135,9 +136,9 @@ module _ (y first end from to : ℕ) (brush : Brush) (mask old new : Raster) (si
   ]
 
 -- cells led over between two places of one row are a painted span
-pub cells_are_span : (y first end from to : ℕ) (brush : Brush) (mask old new : Raster) → AreOfOneSize mask old
+pub cells_are_span : (y first end from to : ℕ) (brush : Brush) (mask old new : Raster) → IsOfSize mask old
     → end ≤ mask.width → from ≡ y * mask.width + first → to ≡ y * mask.width + end
-    → AreCellsBrushed from to brush mask old new
+    → AreCellsChanged from to (brushed_cells brush mask old) old new
     → IsPaintedBy (is_between y first end) brush mask old new
 cells_are_span y first end from to brush mask old new size columns from_is to_is cells = record {
   size = record {
@@ -149,7 +150,7 @@ cells_are_span y first end from to brush mask old new size columns from_is to_is
 }
 
 -- an empty span paints nothing
-pub empty_span : (y first end : ℕ) (brush : Brush) (mask old : Raster) → AreOfOneSize mask old → end ≤ first
+pub empty_span : (y first end : ℕ) (brush : Brush) (mask old : Raster) → IsOfSize mask old → end ≤ first
     → IsPaintedBy (is_between y first end) brush mask old old
 empty_span y first end brush mask old size empty =
     painted_nothing (is_between y first end) brush mask old size (λ p _. grind (arith, nat_tests))

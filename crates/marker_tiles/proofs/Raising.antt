@@ -7,13 +7,13 @@ use Rattle.std.specs.FinMap as map
 use Rattle.std.specs.Option.{option_copied}
 use Rattle.std.proofs.lemmas.List.{take_more}
 use Rattle.grid_core.specs.declared.pixel.Pixel.{Pixel}
-use Rattle.grid_core.specs.Raster.{Raster, IsInside, value_at}
+use Rattle.grid_core.specs.Raster.{Raster, IsInside, value_at, IsOfSize}
 use Rattle.stroke_core.specs.Seed.{Seed, covers}
 use Rattle.stroke_lattice.specs.State.{State}
 use Rattle.marker_tiles.specs.declared.brush.Brush.{Brush}
 use Rattle.marker_tiles.specs.declared.brush.Brush.TheVariants.{Raise}
 use Rattle.marker_tiles.specs.declared.window.Window.{Window}
-use Rattle.marker_tiles.specs.Painting.{AreOfOneSize, IsPaintedBy, brushed_if, in_window}
+use Rattle.marker_tiles.specs.Painting.{IsPaintedBy, brushed_if, in_window}
 use Rattle.marker_tiles.specs.UnderTags.{level_at, level_if, level_of_some, IsRaisedBy}
 
 -- a reference that is not there leads to nothing
@@ -50,7 +50,7 @@ level_of_more s tags i tag p within read =
     ∙ level_of_some-push s (take i tags) (get_or tags i tag) p
     ∙ ap (λ t. max (level_of_some s (take i tags) p) (level_if (map.get s.strokes t) p)) (sym read)
 
-pub raised_none : (s : State) (mask old : Raster) → AreOfOneSize mask old → IsRaisedBy s [] mask old old
+pub raised_none : (s : State) (mask old : Raster) → IsOfSize mask old → IsRaisedBy s [] mask old old
 raised_none s mask old size = record { size = size; values = λ p inside. omega arith }
 
 module _ (s : State) (tags : List ℕ) (i tag : ℕ) (mask old middle : Raster) (within : i < length tags)

@@ -1,10 +1,10 @@
 -- What is painted on an image: runs and the rows of a disc, span by span, within a window. Private functions have it
 -- in their contracts.
-use Rattle.std.specs.Prelude.{◌≡◌, ℕ, ◌<◌, ◌≤◌, ◌==◌, ◌&&◌, Bool, min, max, nat_le, nat_lt, if◌then◌else◌}
-use Rattle.std.specs.Prelude.{List, length, slice_index}
+use Rattle.std.specs.Prelude.{◌≡◌, ℕ, ◌≤◌, ◌==◌, ◌&&◌, Bool, min, max, nat_le, nat_lt, if◌then◌else◌}
+use Rattle.std.specs.Prelude.{List, slice_index}
 use Rattle.std.specs.List.{list_any, AllByRecursion}
 use Rattle.grid_core.specs.declared.pixel.Pixel.{Pixel}
-use Rattle.grid_core.specs.Raster.{Raster, IsInside, IsFilled, value_at}
+use Rattle.grid_core.specs.Raster.{Raster, IsInside, IsOfSize, value_at}
 use Rattle.marker_tiles.specs.declared.brush.Brush.{Brush}
 use Rattle.marker_tiles.specs.declared.brush.Brush.TheVariants.{Raise, Clear}
 use Rattle.marker_tiles.specs.declared.window.Window.{Window}
@@ -30,12 +30,6 @@ pub record WindowFits (width height : ℕ) (w : Window) : Type 0 where
 abbrev pub WindowsFit : ℕ → ℕ → List Window → Type 0
 WindowsFit width height windows = AllByRecursion (λ w. WindowFits width height w) windows
 
--- the images have one size, and the second has a value for each pixel
-pub record AreOfOneSize (mask image : Raster) : Type 0 where
-  pub width : image.width ≡ mask.width
-  pub height : image.height ≡ mask.height
-  pub filled : IsFilled image
-
 -- the value that a brush leaves where the mask and the image have these
 abbrev pub brushed : Brush → ℕ → ℕ → ℕ
 brushed (Raise level) limit old = max old (min limit level)
@@ -47,17 +41,10 @@ brushed_if b brush limit old = if b then brushed brush limit old else old
 
 -- the new image is the old one, with the brush led over the pixels where the test holds
 pub record IsPaintedBy (test : Pixel → Bool) (brush : Brush) (mask old new : Raster) : Type 0 where
-  pub size : AreOfOneSize mask new
+  pub size : IsOfSize mask new
   pub values : (p : Pixel) → IsInside mask.width mask.height p
       → value_at new p ≡ brushed_if (test p) brush (value_at mask p) (value_at old p)
 
--- the cells of the new image from the first place up to the second are those of the old one with the brush led over
--- them, and the others are the old ones
-pub record AreCellsBrushed (from to : ℕ) (brush : Brush) (mask old new : Raster) : Type 0 where
-  pub width : new.width ≡ old.width
-  pub height : new.height ≡ old.height
-  pub count : length new.cells ≡ length old.cells
-  pub inside : (k : ℕ) → from ≤ k → k < to
-      → slice_index new.cells k ≡ brushed brush (slice_index mask.cells k) (slice_index old.cells k)
-  pub before : (k : ℕ) → k < from → slice_index new.cells k ≡ slice_index old.cells k
-  pub after : (k : ℕ) → to ≤ k → k < length old.cells → slice_index new.cells k ≡ slice_index old.cells k
+-- the values that the brush leaves on the cells
+abbrev pub brushed_cells : Brush → Raster → Raster → ℕ → ℕ
+brushed_cells brush mask old k = brushed brush (slice_index mask.cells k) (slice_index old.cells k)

@@ -4,12 +4,12 @@ use Rattle.std.specs.Prelude.{◌≡◌, ℕ, Bool, false, min, max, if◌then�
 use Rattle.std.specs.FinMap as map
 use Rattle.std.specs.List.{list_any}
 use Rattle.grid_core.specs.declared.pixel.Pixel.{Pixel}
-use Rattle.grid_core.specs.Raster.{Raster, IsInside, value_at}
+use Rattle.grid_core.specs.Raster.{Raster, IsInside, value_at, IsOfSize}
 use Rattle.stroke_core.specs.Seed.{Seed, covers}
 use Rattle.stroke_lattice.specs.State.{State}
 use Rattle.marker_tiles.specs.declared.window.Window.{Window}
 use Rattle.marker_tiles.specs.Marker.{IsTopLevel}
-use Rattle.marker_tiles.specs.Painting.{AreOfOneSize, in_some}
+use Rattle.marker_tiles.specs.Painting.{in_some}
 
 -- the level of the seed where it covers the pixel, else 0
 abbrev pub level_at : Seed → Pixel → ℕ
@@ -36,19 +36,19 @@ some_covers s tags p = list_any (λ tag. covers_if (map.get s.strokes tag) p) ta
 
 -- the new image is the old one, raised by the strokes under these tags as far as the mask lets it
 pub record IsRaisedBy (s : State) (tags : List ℕ) (mask old new : Raster) : Type 0 where
-  pub size : AreOfOneSize mask new
+  pub size : IsOfSize mask new
   pub values : (p : Pixel) → IsInside mask.width mask.height p
       → value_at new p ≡ max (value_at old p) (min (value_at mask p) (level_of_some s tags p))
 
 -- the new image is the old one, with 0 where one of the strokes under these tags covers the pixel
 pub record IsClearedOf (s : State) (tags : List ℕ) (mask old new : Raster) : Type 0 where
-  pub size : AreOfOneSize mask new
+  pub size : IsOfSize mask new
   pub values : (p : Pixel) → IsInside mask.width mask.height p
       → value_at new p ≡ (if some_covers s tags p then 0 else value_at old p)
 
 -- the new image is the old one, raised within the windows by all live strokes as far as the mask lets it
 pub record IsRaisedByLive (s : State) (windows : List Window) (mask old new : Raster) : Type 0 where
-  pub size : AreOfOneSize mask new
+  pub size : IsOfSize mask new
   pub values : (p : Pixel) → IsInside mask.width mask.height p
       → (top : ℕ) × IsTopLevel s p top
       × (value_at new p
@@ -56,5 +56,5 @@ pub record IsRaisedByLive (s : State) (windows : List Window) (mask old new : Ra
 
 -- the image has the size of the mask, and is 0 at each pixel
 pub record IsBlankOn (mask image : Raster) : Type 0 where
-  pub size : AreOfOneSize mask image
+  pub size : IsOfSize mask image
   pub values : (p : Pixel) → IsInside mask.width mask.height p → value_at image p ≡ 0

@@ -1,3 +1,5 @@
+//! Want of memory for markers.
+
 ghost use Rattle.std.specs.Prelude.{◌≡◌};
 ghost use Rattle.marker_tiles.specs.declared.error.MarkersError.TheVariants as errors;
 ghost use Rattle.marker_tiles.specs.Code.{code_of};

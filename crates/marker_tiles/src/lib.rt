@@ -25,11 +25,10 @@
 //! [`Markers`].
 
 mod brush;
-mod cut;
 mod error;
 mod from_state;
-mod kept;
 pub mod laws;
+mod mask_and_marker;
 mod paint;
 mod renew;
 mod strokes;
@@ -38,7 +37,7 @@ mod windows;
 
 pub use error::MarkersError;
 pub use from_state::marker;
-pub use kept::Markers;
+pub use mask_and_marker::Markers;
 
 #[cfg(test)]
 mod tests;

@@ -3,8 +3,10 @@
 ghost use Rattle.std.specs.Prelude.{◌+◌, ◌*◌, ◌<◌, ◌≤◌, ◌&&◌, length};
 ghost use Rattle.stroke_core.specs.Seed.{Fits, covers};
 ghost use Rattle.stroke_core.specs.Spans.{span_has};
-ghost use Rattle.marker_tiles.specs.Painting.{AreOfOneSize, WindowFits, WindowsFit, IsPaintedBy};
-ghost use Rattle.marker_tiles.specs.Painting.{AreCellsBrushed, in_window, in_some, is_between};
+ghost use Rattle.marker_tiles.specs.Painting.{WindowFits, WindowsFit, IsPaintedBy};
+ghost use Rattle.grid_core.specs.Raster.{IsOfSize};
+ghost use Rattle.grid_core.specs.Rects.{AreCellsChanged};
+ghost use Rattle.marker_tiles.specs.Painting.{brushed_cells, in_window, in_some, is_between};
 
 use crate::brush::{Brush, brush_row};
 use crate::window::Window;
@@ -20,7 +22,7 @@ pub(crate) fn paint_within(
     windows: &[Window],
     brush: Brush,
 )
-    requires size { AreOfOneSize mask.now marker.old }
+    requires size { IsOfSize mask.now marker.old }
     requires fits { Fits mask.now.width mask.now.height stroke.now }
     requires windows { WindowsFit mask.now.width mask.now.height windows.now }
     ensures { IsPaintedBy (λ p. in_some windows.now p && covers stroke.now p) brush mask.now marker.old marker.new }
@@ -32,7 +34,7 @@ pub(crate) fn paint_within(
 
 /// Leads the brush over each pixel of the window that the stroke covers.
 pub(crate) fn paint(marker: &mut Grid, mask: &Grid, stroke: &Stroke, window: Window, brush: Brush)
-    requires size { AreOfOneSize mask.now marker.old }
+    requires size { IsOfSize mask.now marker.old }
     requires fits { Fits mask.now.width mask.now.height stroke.now }
     requires window { WindowFits mask.now.width mask.now.height window }
     ensures { IsPaintedBy (λ p. in_window window p && covers stroke.now p) brush mask.now marker.old marker.new }
@@ -47,7 +49,7 @@ pub(crate) fn paint(marker: &mut Grid, mask: &Grid, stroke: &Stroke, window: Win
 
 // Leads the brush over each pixel of the window that the span has. It lies on a row of the window.
 fn paint_span(marker: &mut Grid, mask: &Grid, span: Span, window: Window, brush: Brush)
-    requires size { AreOfOneSize mask.now marker.old }
+    requires size { IsOfSize mask.now marker.old }
     requires top { window.top ≤ span.y }
     requires bottom { span.y < window.bottom }
     requires window { WindowFits mask.now.width mask.now.height window }
@@ -60,7 +62,7 @@ fn paint_span(marker: &mut Grid, mask: &Grid, span: Span, window: Window, brush:
 
 // Leads the brush over the pixels of row `y` from column `first` up to column `end`, which is left out.
 fn paint_between(marker: &mut Grid, mask: &Grid, y: u32, first: u32, end: u32, brush: Brush)
-    requires size { AreOfOneSize mask.now marker.old }
+    requires size { IsOfSize mask.now marker.old }
     requires row { y < mask.now.height }
     requires columns { end ≤ mask.now.width }
     ensures { IsPaintedBy (is_between y first end) brush mask.now marker.old marker.new }
@@ -79,10 +81,10 @@ fn paint_between(marker: &mut Grid, mask: &Grid, y: u32, first: u32, end: u32, b
 
 // Leads the brush over the cells from `from` up to `to`, which is left out.
 fn paint_cells(marker: &mut Grid, mask: &Grid, from: usize, to: usize, brush: Brush)
-    requires size { AreOfOneSize mask.now marker.old }
+    requires size { IsOfSize mask.now marker.old }
     requires order { from ≤ to }
     requires within { to ≤ length marker.old.cells }
-    ensures { AreCellsBrushed from to brush mask.now marker.old marker.new }
+    ensures { AreCellsChanged from to (brushed_cells brush mask.now marker.old) marker.old marker.new }
 {
     cells_given_back();
     let limits = &mask.cells()[from..to];

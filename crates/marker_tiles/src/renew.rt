@@ -2,7 +2,7 @@
 
 ghost use Rattle.stroke_lattice.specs.State.{StateFits};
 ghost use Rattle.marker_tiles.specs.Kept.{IsMarkerOf, HasGrown};
-ghost use Rattle.marker_tiles.specs.Painting.{AreOfOneSize};
+ghost use Rattle.grid_core.specs.Raster.{IsOfSize};
 
 use crate::strokes::{clear_of, raise_by, raise_by_live, windows_round};
 use grid_core::Grid;
@@ -14,10 +14,10 @@ use stroke_lattice::State;
 /// The strokes that were born are painted. Those that died are cleared, and all live ones are painted again within
 /// windows round the cleared pixels: elsewhere nothing of theirs was lost.
 pub(crate) fn renew(marker: &mut Grid, mask: &Grid, state: &State, born: &[Tag], dead: &[Tag])
-    requires size { AreOfOneSize mask.now marker.old }
+    requires size { IsOfSize mask.now marker.old }
     requires fits { StateFits mask.now.width mask.now.height state.now }
     requires known { HasGrown mask.now marker.old state.now (record { born = born.now; dead = dead.now }) }
-    ensures size { AreOfOneSize mask.now marker.new }
+    ensures size { IsOfSize mask.now marker.new }
     ensures marks { IsMarkerOf mask.now state.now marker.new }
 {
     raise_by(marker, mask, state, born);

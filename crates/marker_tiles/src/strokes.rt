@@ -3,9 +3,9 @@
 ghost use Rattle.std.specs.Prelude.{IsTrue};
 ghost use Rattle.std.specs.FinMap as map;
 ghost use Rattle.grid_core.specs.declared.pixel.Pixel.{Pixel};
-ghost use Rattle.grid_core.specs.Raster.{IsInside};
+ghost use Rattle.grid_core.specs.Raster.{IsInside, IsOfSize};
 ghost use Rattle.stroke_lattice.specs.State.{StateFits};
-ghost use Rattle.marker_tiles.specs.Painting.{AreOfOneSize, WindowsFit, in_window, in_some};
+ghost use Rattle.marker_tiles.specs.Painting.{WindowsFit, in_window, in_some};
 ghost use Rattle.marker_tiles.specs.UnderTags.{IsRaisedBy, IsClearedOf, IsRaisedByLive, covers_if, some_covers};
 
 use crate::brush::{Brush, level_brush};
@@ -18,7 +18,7 @@ use stroke_lattice::State;
 
 /// Raises the image by the strokes under these tags, as far as the mask lets it.
 pub(crate) fn raise_by(image: &mut Grid, mask: &Grid, state: &State, tags: &[Tag])
-    requires size { AreOfOneSize mask.now image.old }
+    requires size { IsOfSize mask.now image.old }
     requires fits { StateFits mask.now.width mask.now.height state.now }
     ensures { IsRaisedBy state.now tags.now mask.now image.old image.new }
 {
@@ -32,7 +32,7 @@ pub(crate) fn raise_by(image: &mut Grid, mask: &Grid, state: &State, tags: &[Tag
 
 /// Makes the image 0 where a stroke under these tags covers it.
 pub(crate) fn clear_of(image: &mut Grid, mask: &Grid, state: &State, tags: &[Tag])
-    requires size { AreOfOneSize mask.now image.old }
+    requires size { IsOfSize mask.now image.old }
     requires fits { StateFits mask.now.width mask.now.height state.now }
     ensures { IsClearedOf state.now tags.now mask.now image.old image.new }
 {
@@ -46,7 +46,7 @@ pub(crate) fn clear_of(image: &mut Grid, mask: &Grid, state: &State, tags: &[Tag
 
 /// Raises the image within the windows by all live strokes, as far as the mask lets it.
 pub(crate) fn raise_by_live(image: &mut Grid, mask: &Grid, state: &State, windows: &[Window])
-    requires size { AreOfOneSize mask.now image.old }
+    requires size { IsOfSize mask.now image.old }
     requires fits { StateFits mask.now.width mask.now.height state.now }
     requires windows { WindowsFit mask.now.width mask.now.height windows.now }
     ensures { IsRaisedByLive state.now windows.now mask.now image.old image.new }

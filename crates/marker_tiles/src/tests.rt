@@ -1,3 +1,5 @@
+//! Markers made anew, on worked examples.
+
 ghost use Rattle.grid_core.specs.Raster.{IsSized};
 
 mod keeping;

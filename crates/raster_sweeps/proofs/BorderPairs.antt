@@ -6,8 +6,8 @@ use Rattle.std.proofs.lemmas.Bool.{cases_lt}
 use Rattle.grid_core.specs.declared.conn.Conn.{Conn}
 use Rattle.grid_core.specs.declared.pixel.Pixel.{Pixel}
 use Rattle.grid_core.specs.declared.rect.Rect.{Rect}
-use Rattle.grid_core.specs.Raster.{Raster, IsInside}
-use Rattle.raster_sweeps.specs.Borders.{IsOnBorder, OpenPairsBeginOnBorder}
+use Rattle.grid_core.specs.Raster.{Raster, IsInside, IsOnBorder}
+use Rattle.raster_sweeps.specs.Borders.{OpenPairsBeginOnBorder}
 use Rattle.raster_sweeps.specs.Growth.{AllWait, AreOpen, cell_of}
 use Rattle.raster_sweeps.specs.RowPairs.{HaveJoined, IsOpenCell, IsOpenFrom}
 use Rattle.raster_sweeps.proofs.ImageRows.{rows_near}
@@ -187,7 +187,7 @@ module _ (conn : Conn) (rect : Rect) (mask image : Raster) where
 
   -- where open pairs begin on the border alone, each waits
   pub border_waits : (room : Bool) (old new : List ℕ) → IsTrue room
-      → HaveJoined (Begins (IsOnBorder rect)) room old new
+      → HaveJoined (Begins (IsOnBorder rect.w rect.h)) room old new
       → OpenPairsBeginOnBorder conn rect mask image
       → AllWait conn rect mask image new
   border_waits room old new all joined begin p q raises =

@@ -1,35 +1,20 @@
 -- Rectangles whose open pairs begin on their border.
-use Rattle.std.proofs.Common.{◌≡◌, ◌≢◌, ℕ, ◌≤◌, min, sym, subst, arith, inl, inr}
-use Rattle.std.proofs.lemmas.Bool.{cases_lt}
+use Rattle.std.proofs.Common.{◌≡◌, ◌≢◌, ℕ, ◌≤◌, sym, subst, arith, inl, inr}
 use Rattle.grid_core.specs.declared.conn.Conn.{Conn}
 use Rattle.grid_core.specs.declared.pixel.Pixel.{Pixel}
 use Rattle.grid_core.specs.declared.rect.Rect.{Rect}
-use Rattle.grid_core.specs.Path.{Domain}
-use Rattle.grid_core.specs.Raster.{Raster, IsInside, value_at}
+use Rattle.grid_core.specs.Raster.{Raster, IsInside, value_at, IsOnBorder}
 use Rattle.grid_core.specs.Reconstruction.{IsClosed, IsReconstruction}
 use Rattle.grid_core.specs.Rects.{domain_in, part}
-use Rattle.grid_core.proofs.Pixels.{AreNeighbours-sym, same_pixel_or_not}
-use Rattle.grid_core.proofs.Reach.{reaches_by_step, reaches_lower}
-use Rattle.raster_sweeps.specs.Borders.{IsOnBorder, OpenPairsBeginOnBorder}
+use Rattle.grid_core.proofs.Images.{reconstruction_is_closed}
+use Rattle.grid_core.proofs.Pixels.{same_pixel_or_not}
+use Rattle.raster_sweeps.specs.Borders.{OpenPairsBeginOnBorder}
 
 pub closed_begins_on_border : (conn : Conn) (rect : Rect) (mask image : Raster)
     → IsClosed (domain_in rect conn) (part rect (value_at mask)) (part rect (value_at image))
     → OpenPairsBeginOnBorder conn rect mask image
 closed_begins_on_border conn rect mask image closed p q raises =
     absurd (omega (arith, raises.lower, closed p q raises.from_inside raises.to_inside raises.beside))
-
--- no pixel of a reconstruction can raise a neighbour
-reconstruction_is_closed : (d : Domain) (mask marker j : Pixel → ℕ) → IsReconstruction d mask marker j
-    → IsClosed d mask j
-reconstruction_is_closed d mask marker j recon p q inside_p inside_q beside =
-    elim (cases_lt (j q) (min (j p) (mask q))) [
-      | inl less ↦
-          absurd ((recon q inside_q).1 (min (j p) (mask q)) less
-          (reaches_by_step d mask marker q p (min (j p) (mask q)) inside_q (AreNeighbours-sym d.conn p q beside)
-          (omega arith)
-          (reaches_lower d mask marker p (j p) (min (j p) (mask q)) (omega arith) (recon p inside_p).0)))
-      | inr at_least ↦ at_least
-    ]
 
 pub reconstruction_begins_on_border : (conn : Conn) (rect : Rect) (mask image : Raster) (marker : Pixel → ℕ)
     → IsReconstruction (domain_in rect conn) (part rect (value_at mask)) marker (part rect (value_at image))
@@ -40,7 +25,7 @@ reconstruction_begins_on_border conn rect mask image marker recon =
     recon)
 
 pub border_raise_keeps_border : (conn : Conn) (rect : Rect) (mask before after : Raster) (raised : Pixel)
-    → IsOnBorder rect raised
+    → IsOnBorder rect.w rect.h raised
     → part rect (value_at before) raised ≤ part rect (value_at after) raised
     → ((p : Pixel) → IsInside rect.w rect.h p → p ≢ raised
     → part rect (value_at after) p ≡ part rect (value_at before) p)
@@ -48,7 +33,7 @@ pub border_raise_keeps_border : (conn : Conn) (rect : Rect) (mask before after :
     → OpenPairsBeginOnBorder conn rect mask after
 border_raise_keeps_border conn rect mask before after raised border rises others begin p q raises =
     elim (same_pixel_or_not p raised) [
-      | inl same ↦ subst (IsOnBorder rect) (sym same) border
+      | inl same ↦ subst (IsOnBorder rect.w rect.h) (sym same) border
       | inr other ↦
           let low : part rect (value_at before) q ≤ part rect (value_at after) q =
           elim (same_pixel_or_not q raised) [

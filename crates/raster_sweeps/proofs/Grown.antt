@@ -8,14 +8,16 @@ use Rattle.grid_core.specs.declared.conn.Conn.{Conn}
 use Rattle.grid_core.specs.declared.pixel.Pixel.{Pixel}
 use Rattle.grid_core.specs.declared.rect.Rect.{Rect}
 use Rattle.grid_core.specs.Path.{Domain, IsPath, end_of, Reaches}
-use Rattle.grid_core.specs.Raster.{Raster, IsInside, IsBelow, IsFilled, index_of, value_at}
-use Rattle.grid_core.specs.Reconstruction.{IsLawful}
+use Rattle.grid_core.specs.Raster.{Raster, IsInside, IsBelow, IsFilled, index_of, max_value, value_at, headroom}
+use Rattle.grid_core.specs.Reconstruction.{IsClosed, IsLawful}
 use Rattle.grid_core.specs.Rects.{IsInRect, RectFits, domain_in, in_image, part}
 use Rattle.grid_core.proofs.Cells.{pixel_of, pixel_of-inside, index_of-pixel_of, below_at_each_pixel}
+use Rattle.grid_core.proofs.Headroom.{headroom_falls, headroom_less}
+use Rattle.grid_core.proofs.Images.{closed_is_reconstruction}
 use Rattle.grid_core.proofs.Pixels.{same_pixel}
 use Rattle.grid_core.proofs.Reach.{reaches_here, reaches_by_step, reaches_lower}
-use Rattle.raster_sweeps.specs.Growth.{AreInside, AreOpen, IsGrown, headroom}
-use Rattle.raster_sweeps.proofs.Headroom.{headroom_falls, headroom_less}
+use Rattle.raster_sweeps.specs.Growth.{AreInside, AreOpen, IsGrown}
+use Rattle.raster_sweeps.specs.Regrowth.{IsRegrownIn}
 
 -- a pixel of the rectangle is one of the image
 pub in_image-inside : (width height : ℕ) (rect : Rect) (p : Pixel) → RectFits width height rect
@@ -131,7 +133,7 @@ module _ (conn : Conn) (rect : Rect) (mask before after : Raster) (filled : IsFi
 
   -- one cell that has risen takes from the room
   pub grown_headroom_less : (i : ℕ) → i < length before.cells
-      → slice_index before.cells i < slice_index after.cells i → slice_index after.cells i ≤ 4294967295
+      → slice_index before.cells i < slice_index after.cells i → slice_index after.cells i ≤ max_value
       → headroom after.cells < headroom before.cells
   grown_headroom_less i = headroom_less before.cells after.cells i grown.filled grown_rises
 
@@ -164,3 +166,23 @@ pub grown_filled : (conn : Conn) (rect : Rect) (mask before after : Raster) → 
 grown_filled conn rect mask before after filled grown =
     grown.filled ∙ filled ∙ ap (λ w. w * before.height) (sym grown.width)
     ∙ ap (λ h. after.width * h) (sym grown.height)
+
+-- an image that has grown until no pair is open is regrown
+pub regrown : (conn : Conn) (rect : Rect) (mask before after : Raster) → IsFilled before
+    → IsGrown conn rect mask before after
+    → IsClosed (domain_in rect conn) (part rect (value_at mask)) (part rect (value_at after))
+    → IsRegrownIn conn rect mask before after
+regrown conn rect mask before after filled grown closed = record {
+  patch = record {
+    size = record {
+      width = grown.width;
+      height = grown.height;
+      filled = grown_filled conn rect mask before after filled grown;
+    };
+    beyond = grown.outside;
+  };
+  below = grown.below;
+  reconstruction =
+      closed_is_reconstruction (domain_in rect conn) (part rect (value_at mask)) (part rect (value_at before))
+      (part rect (value_at after)) grown.lawful closed;
+}

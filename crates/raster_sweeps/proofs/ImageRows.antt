@@ -6,7 +6,8 @@ use Rattle.grid_core.specs.declared.conn.Conn.TheVariants.{Four, Eight}
 use Rattle.grid_core.specs.declared.pixel.Pixel.{Pixel}
 use Rattle.grid_core.specs.Neighbours.{apart, AreNeighbours}
 use Rattle.grid_core.specs.Path.{Domain, Inside}
-use Rattle.raster_sweeps.specs.RowPairs.{AreAside, AreBeside, IsClosedTo, IsRowOf, IsRowClosed}
+use Rattle.raster_sweeps.specs.RowPairs.{AreAside, AreBeside, IsClosedTo, IsRowClosed}
+use Rattle.grid_core.specs.Rects.{IsRowOf}
 
 -- ---- neighbours, by their rows and columns
 

@@ -1,12 +1,9 @@
-pub mod Cells
-pub mod Flooding
+-- The lemmas of this crate.
+pub mod Flood
 pub mod Grown
-pub mod Headroom
 pub mod Raised
 pub mod RaisedBy
-pub mod Seeding
 pub mod Spans
-pub mod Spreading
 pub mod Whole
 pub mod RowPairs
 pub mod ImageRows

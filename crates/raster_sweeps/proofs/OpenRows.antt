@@ -6,9 +6,9 @@ use Rattle.grid_core.specs.declared.conn.Conn.{Conn}
 use Rattle.grid_core.specs.declared.rect.Rect.{Rect}
 use Rattle.grid_core.specs.Neighbours.{apart, AreNeighbours}
 use Rattle.grid_core.specs.Raster.{Raster, value_at}
-use Rattle.grid_core.specs.Rects.{part}
+use Rattle.grid_core.specs.Rects.{part, IsRowOf}
 use Rattle.raster_sweeps.specs.Growth.{AllWait, AreOpen, cell_of}
-use Rattle.raster_sweeps.specs.RowPairs.{AreAside, AreBeside, RaisesTo, IsRowOf, IsOpenCell, HaveJoined}
+use Rattle.raster_sweeps.specs.RowPairs.{AreAside, AreBeside, RaisesTo, IsOpenCell, HaveJoined}
 use Rattle.raster_sweeps.proofs.ImageRows.{value_in_row, rows_near, aside_in_row, neighbours_in_row, beside_in_rows}
 use Rattle.raster_sweeps.proofs.ImageRows.{neighbours_in_rows}
 use Rattle.raster_sweeps.proofs.Joining.{none_joined, joined_same, joined_both, joined_stopped}

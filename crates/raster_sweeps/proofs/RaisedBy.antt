@@ -11,13 +11,13 @@ use Rattle.grid_core.specs.declared.pixel.Pixel.{Pixel}
 use Rattle.grid_core.specs.declared.rect.Rect.{Rect}
 use Rattle.grid_core.specs.Neighbours.{AreNeighbours}
 use Rattle.grid_core.specs.Path.{Domain, Reaches}
-use Rattle.grid_core.specs.Raster.{Raster, IsInside, IsBelow, IsFilled, index_of, value_at}
+use Rattle.grid_core.specs.Raster.{Raster, IsInside, IsBelow, IsFilled, index_of, value_at, headroom}
 use Rattle.grid_core.specs.Rects.{IsInRect, RectFits, domain_in, in_image, part}
 use Rattle.grid_core.proofs.Cells.{index_of-within, same_place}
 use Rattle.grid_core.proofs.Pixels.{AreNeighbours-sym, same_pixel, same_pixel_or_not}
 use Rattle.grid_core.proofs.Reach.{reaches_here, reaches_by_step}
 use Rattle.raster_sweeps.specs.declared.neighbourhood.Spans.{Spans}
-use Rattle.raster_sweeps.specs.Growth.{AllWait, AreInside, AreOpen, IsCellIn, IsGrown, IsOpenIn, cell_of, headroom}
+use Rattle.raster_sweeps.specs.Growth.{AllWait, AreInside, AreOpen, IsCellIn, IsGrown, IsOpenIn, cell_of}
 use Rattle.raster_sweeps.specs.Spans.{AreQueued, AreSpansOf, IsAround, IsRaised}
 use Rattle.raster_sweeps.proofs.Grown.{in_image-inside}
 use Rattle.raster_sweeps.proofs.Raised.{raised_rises}

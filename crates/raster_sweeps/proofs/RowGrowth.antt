@@ -13,10 +13,10 @@ use Rattle.grid_core.specs.declared.rect.Rect.{Rect}
 use Rattle.grid_core.specs.Neighbours.{apart, AreNeighbours}
 use Rattle.grid_core.specs.Path.{Domain, Inside, Reaches}
 use Rattle.grid_core.specs.Raster.{Raster, IsInside, IsBelow, IsFilled, value_at}
-use Rattle.grid_core.specs.Rects.{RectFits, domain_in, in_image, part}
+use Rattle.grid_core.specs.Rects.{RectFits, domain_in, in_image, part, IsRowOf}
 use Rattle.grid_core.proofs.Cells.{below_at_each_pixel}
 use Rattle.grid_core.proofs.Reach.{reaches_here, reaches_by_step, reaches_lower, reaches_within_mask}
-use Rattle.raster_sweeps.specs.RowPairs.{AreBeside, IsRowOf}
+use Rattle.raster_sweeps.specs.RowPairs.{AreBeside}
 use Rattle.raster_sweeps.specs.RowRaises.{IsRaisedBy, IsRaisedFromLeft, IsRaisedFromRight, AreCellsRaised, IsRowGrown}
 use Rattle.raster_sweeps.proofs.ImageRows.{neighbours_in_row, neighbours_in_rows}
 use Rattle.raster_sweeps.proofs.Grown.{in_image-inside}
@@ -235,16 +235,6 @@ module _ (conn : Conn) (rect : Rect) (mask before after : Raster) (y start : ℕ
   }
 
 -- ---- what a scan does to a row of an image
-
--- a rectangle that lies in the mask lies in an image of its size
-pub fits_below : (rect : Rect) (image mask : Raster) → IsBelow image mask → RectFits mask.width mask.height rect
-    → RectFits image.width image.height rect
-fits_below rect image mask below fits = record {
-  some_width = fits.some_width;
-  some_height = fits.some_height;
-  columns = omega (arith, fits.columns, below.width);
-  rows = omega (arith, fits.rows, below.height);
-}
 
 -- the image with other cells
 abbrev pub refilled : Raster → List ℕ → Raster

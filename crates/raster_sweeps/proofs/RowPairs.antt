@@ -64,7 +64,8 @@ module _ (row limits below limits_below : List ℕ) (i : ℕ) where
       → min (get_or below i 0) (get_or limits i 0) ≤ get_or row i 0
       → AreClosedUpTo row limits below limits_below (i + 1)
   closed_more closed right left down up = record {
-    right = below_more (λ k. min (get_or row k 0) (get_or limits (k + 1) 0) ≤ get_or row (k + 1) 0) i closed.right right;
+    right =
+        below_more (λ k. min (get_or row k 0) (get_or limits (k + 1) 0) ≤ get_or row (k + 1) 0) i closed.right right;
     left = below_more (λ k. min (get_or row (k + 1) 0) (get_or limits k 0) ≤ get_or row k 0) i closed.left left;
     down = below_more (λ k. min (get_or row k 0) (get_or limits_below k 0) ≤ get_or below k 0) i closed.down down;
     up = below_more (λ k. min (get_or below k 0) (get_or limits k 0) ≤ get_or row k 0) i closed.up up;

@@ -71,7 +71,8 @@ module _ (mask before row part after : List ℕ) (start size end : ℕ) (some : 
               ≡ max (get_or before (n + 1) 0) (min (get_or after n 0) (get_or mask (n + 1) 0))) here
               (step (k - start) (omega (arith, less, place)))
         ];
-        rest = λ k past. replaced.behind k (omega (arith, past, place, long_part)) ∙ sofar.rest k (omega (arith, past, place));
+        rest = λ k past.
+            replaced.behind k (omega (arith, past, place, long_part)) ∙ sofar.rest k (omega (arith, past, place));
       }
 
     module _ (sofar : IsDoneFromRight mask before end row) (raised : IsRaisedFromRight limits strip part) where

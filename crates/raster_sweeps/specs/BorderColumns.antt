@@ -4,7 +4,7 @@ use Rattle.std.specs.Prelude.{◌≡◌, ◌≢◌, ◌↔◌, ℕ, ◌<◌, ◌
 use Rattle.grid_core.specs.declared.pixel.Pixel.{Pixel}
 use Rattle.grid_core.specs.declared.rect.Rect.{Rect}
 use Rattle.grid_core.specs.Neighbours.{apart}
-use Rattle.grid_core.specs.Raster.{Raster, IsInside, value_at}
+use Rattle.grid_core.specs.Raster.{Raster, IsInside, max_value, value_at}
 use Rattle.grid_core.specs.Rects.{part}
 use Rattle.raster_sweeps.specs.declared.border.Column.{Column}
 
@@ -18,7 +18,7 @@ pub record IsBorderColumn (rect : Rect) (column : Column) : Type 0 where
 -- a level raises one of such pixels of the rectangle, as far as the mask lets it, just where it is above this value
 abbrev pub IsLeastToRise : Rect → Raster → Raster → (Pixel → Type 0) → ℕ → Type 0
 IsLeastToRise rect mask image IsSuch least =
-    (level : ℕ) → level ≤ 4294967295
+    (level : ℕ) → level ≤ max_value
     → (least < level)
     ↔ ((q : Pixel) × IsInside rect.w rect.h q × IsSuch q
     × (part rect (value_at image) q < min level (part rect (value_at mask) q)))

@@ -1,23 +1,14 @@
 -- Growing an image in place, inside a rectangle. Only private functions have these words in their contracts, but for
 -- open pairs, of which `specs/Borders.antt` speaks. What a reconstruction is stands in `specs/Reconstruction.antt` of
 -- `grid_core`, and what a rectangle is in `specs/Rects.antt` there.
-use Rattle.std.specs.Prelude.{◌≡◌, ℕ, ◌-◌, ◌<◌, ◌≤◌, List, length, min}
-use Rattle.std.specs.List.{Contains, sum_by}
+use Rattle.std.specs.Prelude.{◌≡◌, ℕ, ◌<◌, ◌≤◌, ◌⊎◌, Bool, IsTrue, List, length}
+use Rattle.std.specs.List.{Contains}
 use Rattle.grid_core.specs.declared.conn.Conn.{Conn}
 use Rattle.grid_core.specs.declared.pixel.Pixel.{Pixel}
 use Rattle.grid_core.specs.declared.rect.Rect.{Rect}
-use Rattle.grid_core.specs.Neighbours.{AreNeighbours}
-use Rattle.grid_core.specs.Path.{Domain, Inside}
-use Rattle.grid_core.specs.Raster.{Raster, IsInside, IsBelow, index_of, value_at}
-use Rattle.grid_core.specs.Reconstruction.{IsLawful}
+use Rattle.grid_core.specs.Raster.{Raster, IsInside, IsBelow, headroom, index_of, value_at}
+use Rattle.grid_core.specs.Reconstruction.{IsLawful, IsOpen}
 use Rattle.grid_core.specs.Rects.{IsInRect, domain_in, in_image, part}
-
--- the first of two neighbours can still raise the second, as far as the mask lets it
-pub record IsOpen (d : Domain) (mask image : Pixel → ℕ) (p q : Pixel) : Type 0 where
-  pub from_inside : Inside d p
-  pub to_inside : Inside d q
-  pub beside : AreNeighbours d.conn p q
-  pub lower : image q < min (image p) (mask q)
 
 -- a pair of neighbours of the rectangle is open, both counted from its upper left corner
 abbrev pub IsOpenIn : Conn → Rect → Raster → Raster → Pixel → Pixel → Type 0
@@ -65,6 +56,11 @@ AreOpen conn rect mask image waiting =
     (i : ℕ) → Contains waiting i
     → (p : Pixel) × (q : Pixel) × IsOpenIn conn rect mask image p q × (cell_of rect image.width p ≡ i)
 
--- how far the values lie below the greatest that a cell can have, in all
-abbrev pub headroom : List ℕ → ℕ
-headroom cells = sum_by (λ v. 4294967295 - v) cells
+-- the image has grown inside the rectangle. The queue has cells of the rectangle alone, and if there was room for all,
+-- the first pixel of each of its open pairs; where there was not, a cell has risen
+pub record IsQueueFilled (conn : Conn) (rect : Rect) (mask before after : Raster) (room : Bool) (waiting : List ℕ)
+    : Type 0 where
+  pub grown : IsGrown conn rect mask before after
+  pub inside : AreInside rect after.width waiting
+  pub waits : IsTrue room → AllWait conn rect mask after waiting
+  pub rose : IsTrue room ⊎ (headroom after.cells < headroom before.cells)

@@ -4,10 +4,10 @@ use Rattle.std.specs.Prelude.{◌≡◌, ◌≢◌, ℕ, ◌≤◌}
 use Rattle.grid_core.specs.declared.conn.Conn.{Conn}
 use Rattle.grid_core.specs.declared.pixel.Pixel.{Pixel}
 use Rattle.grid_core.specs.declared.rect.Rect.{Rect}
-use Rattle.grid_core.specs.Raster.{Raster, IsInside, value_at}
+use Rattle.grid_core.specs.Raster.{Raster, IsInside, value_at, IsOnBorder}
 use Rattle.grid_core.specs.Reconstruction.{IsClosed, IsReconstruction}
 use Rattle.grid_core.specs.Rects.{domain_in, part}
-use Rattle.raster_sweeps.specs.Borders.{IsOnBorder, OpenPairsBeginOnBorder}
+use Rattle.raster_sweeps.specs.Borders.{OpenPairsBeginOnBorder}
 
 -- where no pixel of the rectangle can raise a neighbour in it, the open pairs begin on the border: there is none
 abbrev pub ClosedBeginsOnBorder : Type 0
@@ -26,7 +26,7 @@ ReconstructionBeginsOnBorder =
 -- a pixel on the border that rises, while every other pixel of the rectangle stays, keeps the open pairs there
 abbrev pub BorderRaiseKeepsBorder : Type 0
 BorderRaiseKeepsBorder =
-    (conn : Conn) (rect : Rect) (mask before after : Raster) (raised : Pixel) → IsOnBorder rect raised
+    (conn : Conn) (rect : Rect) (mask before after : Raster) (raised : Pixel) → IsOnBorder rect.w rect.h raised
     → part rect (value_at before) raised ≤ part rect (value_at after) raised
     → ((p : Pixel) → IsInside rect.w rect.h p → p ≢ raised
     → part rect (value_at after) p ≡ part rect (value_at before) p)

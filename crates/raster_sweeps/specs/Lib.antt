@@ -1,3 +1,4 @@
+-- What the public contracts cite, and the words of private ones.
 pub use Rattle.grid_core.specs.Path
 pub use Rattle.grid_core.specs.Raster
 pub use Rattle.grid_core.specs.Reconstruction
@@ -7,6 +8,7 @@ pub mod Borders
 pub mod Flood
 pub mod Growth
 pub mod Laws
+pub mod Regrowth
 pub mod RowPairs
 pub mod RowRaises
 pub mod Spans

@@ -31,11 +31,6 @@ IsClosedTo IsBeside from mask to =
     (a b : ℕ) → a < length to → b < length to → IsBeside a b
     → min (slice_index from a) (slice_index mask b) ≤ slice_index to b
 
--- the list has the values of row y, from the left, of as many columns as the width says
-pub record IsRowOf (width : ℕ) (f : Pixel → ℕ) (y : ℕ) (row : List ℕ) : Type 0 where
-  pub long : length row ≡ width
-  pub values : (x : ℕ) → x < width → slice_index row x ≡ f (record { x = x; y = y })
-
 -- no pixel raises a neighbour, of the pairs whose upper pixel, or both, lie in this row
 abbrev pub IsRowClosed : Domain → (Pixel → ℕ) → (Pixel → ℕ) → ℕ → Type 0
 IsRowClosed d mask j y =

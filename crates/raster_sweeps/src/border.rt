@@ -3,7 +3,7 @@
 
 ghost use Rattle.std.specs.Prelude.{◌≡◌, ◌+◌, ◌<◌, ◌≤◌, ◌⊎◌, ◌↔◌, [], length, min, IsTrue};
 ghost use Rattle.grid_core.specs.Neighbours.{apart};
-ghost use Rattle.grid_core.specs.Raster.{IsBelow, value_at};
+ghost use Rattle.grid_core.specs.Raster.{IsBelow, max_value, value_at};
 ghost use Rattle.grid_core.specs.Rects.{RectFits, part};
 ghost use Rattle.raster_sweeps.specs.Borders.{OpenPairsBeginOnBorder};
 ghost use Rattle.raster_sweeps.specs.BorderColumns.{IsBorderColumn, IsLeastToRise};
@@ -11,7 +11,6 @@ ghost use Rattle.raster_sweeps.specs.Growth.{AllWait, AreOpen};
 ghost use Rattle.raster_sweeps.specs.RowPairs.{AreBeside, HaveJoined, IsOpenCell, IsOpenFrom};
 
 use crate::open_pairs::{first_cell, queue_between, queue_within};
-use crate::rows::row_in;
 use crate::waiting::Waiting;
 use grid_core::{Conn, Grid, Rect};
 
@@ -205,7 +204,7 @@ fn value_in(image: &Grid, rect: Rect, x: u32, y: u32) -> u32
     requires row { y < rect.h }
     ensures { result ≡ part rect (value_at image.now) (record { x = x; y = y }) }
 {
-    row_in(image, rect, y)[x as usize]
+    image.row_in(rect, y)[x as usize]
 }
 
 // The least values of the row `y` beside the column that are below the mask. Below the last row there is none.
@@ -232,8 +231,8 @@ fn least_in_row(
             across: u32::MAX,
         };
     }
-    let limits = row_in(mask, rect, y);
-    let row = row_in(image, rect, y);
+    let limits = mask.row_in(rect, y);
+    let row = image.row_in(rect, y);
     let own = least_to_rise(row[column.x as usize], limits[column.x as usize]);
     let other = least_to_rise(row[column.beside as usize], limits[column.beside as usize]);
     let along = own.min(other);
@@ -247,7 +246,7 @@ fn least_in_row(
 // The value where it is below its limit, and else the greatest one: what a level must be above to raise it.
 #[inline(always)]
 fn least_to_rise(value: u32, limit: u32) -> u32
-    ensures { (level : _) → level ≤ 4294967295 → (result < level) ↔ (value < min level limit) }
+    ensures { (level : _) → level ≤ max_value → (result < level) ↔ (value < min level limit) }
 {
     if value < limit { value } else { u32::MAX }
 }

@@ -7,7 +7,7 @@ ghost use Rattle.grid_core.specs.Reconstruction.{IsClosed};
 ghost use Rattle.grid_core.specs.Rects.{RectFits, domain_in, part};
 ghost use Rattle.raster_sweeps.specs.RowPairs.{IsRowClosed};
 
-use crate::rows::{is_closed_aslant, is_closed_to, row_in};
+use crate::rows::{is_closed_aslant, is_closed_to};
 use grid_core::{Conn, Grid, Rect};
 
 /// Whether no pixel of the image can raise a neighbour further, as far as the mask lets it. It takes no memory.
@@ -49,15 +49,15 @@ fn is_row_closed(mask: &Grid, image: &Grid, rect: Rect, y: u32, conn: Conn) -> b
     ensures { IsTrue result
         ↔ IsRowClosed (domain_in rect conn) (part rect (value_at mask.now)) (part rect (value_at image.now)) y }
 {
-    let mask_row = row_in(mask, rect, y);
-    let row = row_in(image, rect, y);
+    let mask_row = mask.row_in(rect, y);
+    let row = image.row_in(rect, y);
     if !is_closed_aslant(row, mask_row, row) {
         return false;
     }
     if y + 1 == rect.h {
         return true;
     }
-    let mask_below = row_in(mask, rect, y + 1);
-    let below = row_in(image, rect, y + 1);
+    let mask_below = mask.row_in(rect, y + 1);
+    let below = image.row_in(rect, y + 1);
     is_closed_to(row, mask_below, below, conn) && is_closed_to(below, mask_row, row, conn)
 }

@@ -3,12 +3,13 @@
 
 ghost use Rattle.std.specs.Prelude.{◌≡◌, ◌<◌, ◌⊎◌, [], length, IfOk, IsTrue, OnErr, OnOk};
 ghost use Rattle.grid_core.specs.Path.{domain_of};
-ghost use Rattle.grid_core.specs.Raster.{IsBelow, IsFilled, IsInside, value_at};
+ghost use Rattle.grid_core.specs.Raster.{IsBelow, IsFilled, value_at, headroom};
 ghost use Rattle.grid_core.specs.Reconstruction.{IsClosed, IsReconstruction};
-ghost use Rattle.grid_core.specs.Rects.{IsInRect, RectFits, domain_in, part};
+ghost use Rattle.grid_core.specs.Rects.{RectFits, domain_in, part};
 ghost use Rattle.raster_sweeps.specs.declared.growth.Start.TheVariants as starts;
 ghost use Rattle.raster_sweeps.specs.Borders.{OpenPairsBeginOnBorder};
-ghost use Rattle.raster_sweeps.specs.Growth.{AllWait, AreInside, AreOpen, IsGrown, headroom};
+ghost use Rattle.raster_sweeps.specs.Growth.{AreInside, AreOpen, IsGrown, IsQueueFilled};
+ghost use Rattle.raster_sweeps.specs.Regrowth.{IsRegrownIn};
 
 use crate::border::queue_border;
 use crate::open_pairs::queue_open_pairs;
@@ -56,16 +57,10 @@ impl Room {
 pub fn grow_within(room: &mut Room, mask: &Grid, image: &mut Grid, rect: Rect, conn: Conn)
     requires below { IsBelow image.old mask.now }
     requires fits { RectFits mask.now.width mask.now.height rect }
-    ensures width { image.new.width ≡ image.old.width }
-    ensures height { image.new.height ≡ image.old.height }
-    ensures filled { IsFilled image.new }
-    ensures below { IsBelow image.new mask.now }
-    ensures outside { (p : _) → IsInside image.old.width image.old.height p → (IsInRect rect p → ⊥)
-        → value_at image.new p ≡ value_at image.old p }
-    ensures reconstruction { IsReconstruction (domain_in rect conn) (part rect (value_at mask.now))
-        (part rect (value_at image.old)) (part rect (value_at image.new)) }
+    ensures { IsRegrownIn conn rect mask.now image.old image.new }
 {
-    prove!(image.width() == mask.width());
+    // The width tells the prover that the image has a cell for each pixel.
+    let _ = image.width();
     close(mask, image, rect, conn, &mut room.waiting, Start::Scans);
 }
 
@@ -79,16 +74,10 @@ pub fn grow_from_border(room: &mut Room, mask: &Grid, image: &mut Grid, rect: Re
     requires below { IsBelow image.old mask.now }
     requires fits { RectFits mask.now.width mask.now.height rect }
     requires border { OpenPairsBeginOnBorder conn rect mask.now image.old }
-    ensures width { image.new.width ≡ image.old.width }
-    ensures height { image.new.height ≡ image.old.height }
-    ensures filled { IsFilled image.new }
-    ensures below { IsBelow image.new mask.now }
-    ensures outside { (p : _) → IsInside image.old.width image.old.height p → (IsInRect rect p → ⊥)
-        → value_at image.new p ≡ value_at image.old p }
-    ensures reconstruction { IsReconstruction (domain_in rect conn) (part rect (value_at mask.now))
-        (part rect (value_at image.old)) (part rect (value_at image.new)) }
+    ensures { IsRegrownIn conn rect mask.now image.old image.new }
 {
-    prove!(image.width() == mask.width());
+    // The width tells the prover that the image has a cell for each pixel.
+    let _ = image.width();
     close(mask, image, rect, conn, &mut room.waiting, Start::Border);
 }
 
@@ -180,10 +169,7 @@ fn fill(
     requires below { IsBelow image.old mask.now }
     requires fits { RectFits mask.now.width mask.now.height rect }
     requires border { start ≡ starts.Border → OpenPairsBeginOnBorder conn rect mask.now image.old }
-    ensures grown { IsGrown conn rect mask.now image.old image.new }
-    ensures inside { AreInside rect image.new.width waiting.new }
-    ensures waits { IsTrue result → AllWait conn rect mask.now image.new waiting.new }
-    ensures rose { IsTrue result ⊎ (headroom image.new.cells < headroom image.old.cells) }
+    ensures { IsQueueFilled conn rect mask.now image.old image.new result waiting.new }
 {
     waiting.clear();
     match start {
@@ -199,10 +185,7 @@ fn scan(mask: &Grid, image: &mut Grid, rect: Rect, conn: Conn, waiting: &mut Wai
     requires below { IsBelow image.old mask.now }
     requires fits { RectFits mask.now.width mask.now.height rect }
     requires empty { waiting.old ≡ [] }
-    ensures grown { IsGrown conn rect mask.now image.old image.new }
-    ensures inside { AreInside rect image.new.width waiting.new }
-    ensures waits { IsTrue result → AllWait conn rect mask.now image.new waiting.new }
-    ensures rose { IsTrue result ⊎ (headroom image.new.cells < headroom image.old.cells) }
+    ensures { IsQueueFilled conn rect mask.now image.old image.new result waiting.new }
 {
     scan_down(mask, image, rect, conn);
     if scan_up(mask, image, rect, conn, waiting) {
@@ -219,10 +202,7 @@ fn check(mask: &Grid, image: &mut Grid, rect: Rect, conn: Conn, waiting: &mut Wa
     requires below { IsBelow image.old mask.now }
     requires fits { RectFits mask.now.width mask.now.height rect }
     requires empty { waiting.old ≡ [] }
-    ensures grown { IsGrown conn rect mask.now image.old image.new }
-    ensures inside { AreInside rect image.new.width waiting.new }
-    ensures waits { IsTrue result → AllWait conn rect mask.now image.new waiting.new }
-    ensures rose { IsTrue result ⊎ (headroom image.new.cells < headroom image.old.cells) }
+    ensures { IsQueueFilled conn rect mask.now image.old image.new result waiting.new }
 {
     if queue_open_pairs(mask, image, rect, conn, waiting) {
         return true;
@@ -245,10 +225,7 @@ fn check_border(
     requires fits { RectFits mask.now.width mask.now.height rect }
     requires border { OpenPairsBeginOnBorder conn rect mask.now image.old }
     requires empty { waiting.old ≡ [] }
-    ensures grown { IsGrown conn rect mask.now image.old image.new }
-    ensures inside { AreInside rect image.new.width waiting.new }
-    ensures waits { IsTrue result → AllWait conn rect mask.now image.new waiting.new }
-    ensures rose { IsTrue result ⊎ (headroom image.new.cells < headroom image.old.cells) }
+    ensures { IsQueueFilled conn rect mask.now image.old image.new result waiting.new }
 {
     if queue_border(mask, image, rect, conn, waiting) {
         return true;

@@ -9,7 +9,7 @@ ghost use Rattle.grid_core.specs.Rects.{RectFits};
 ghost use Rattle.raster_sweeps.specs.Growth.{AllWait, AreOpen, cell_of};
 ghost use Rattle.raster_sweeps.specs.RowPairs.{AreAside, AreBeside, RaisesStraight, RaisesTo, IsOpenCell, HaveJoined};
 
-use crate::rows::{are_closed_crosswise, is_closed_straight, row_in};
+use crate::rows::{are_closed_crosswise, is_closed_straight};
 use crate::waiting::Waiting;
 use grid_core::{Conn, Grid, Rect};
 
@@ -58,7 +58,7 @@ pub fn queue_row(
     ensures { HaveJoined (IsOpenCell conn rect mask.now image.now (λ a b. min a b ≡ y)) result
         waiting.old waiting.new }
 {
-    if is_row_closed(mask, image, rect, y, conn) {
+    if is_row_seen_closed(mask, image, rect, y, conn) {
         return true;
     }
     if !queue_within(mask, image, rect, y, waiting) {
@@ -73,21 +73,21 @@ pub fn queue_row(
 
 // Whether it is seen at once that no pixel of the rectangle's row `y` raises a neighbour in it or below it, and none of
 // the row below one in it. With eight neighbours, and in the last row, it is not.
-fn is_row_closed(mask: &Grid, image: &Grid, rect: Rect, y: u32, conn: Conn) -> bool
+fn is_row_seen_closed(mask: &Grid, image: &Grid, rect: Rect, y: u32, conn: Conn) -> bool
     requires below { IsBelow image.now mask.now }
     requires fits { RectFits mask.now.width mask.now.height rect }
     requires row { y < rect.h }
     ensures { IsTrue result → (cell : ℕ) → IsOpenCell conn rect mask.now image.now (λ a b. min a b ≡ y) cell → ⊥ }
 {
     match conn {
-        Conn::Four => is_row_closed_crosswise(mask, image, rect, y),
+        Conn::Four => is_row_seen_closed_crosswise(mask, image, rect, y),
         Conn::Eight => false,
     }
 }
 
-// Whether no pixel of the rectangle's row `y` raises one beside or below it, and none of the row below the one above it.
-// Of the last row it answers that it is not so.
-fn is_row_closed_crosswise(mask: &Grid, image: &Grid, rect: Rect, y: u32) -> bool
+// Whether no pixel of the rectangle's row `y` raises one beside or below it, and none of the row below the one above
+// it. Of the last row it answers that it is not so.
+fn is_row_seen_closed_crosswise(mask: &Grid, image: &Grid, rect: Rect, y: u32) -> bool
     requires below { IsBelow image.now mask.now }
     requires fits { RectFits mask.now.width mask.now.height rect }
     requires row { y < rect.h }
@@ -97,10 +97,10 @@ fn is_row_closed_crosswise(mask: &Grid, image: &Grid, rect: Rect, y: u32) -> boo
     if y + 1 == rect.h {
         return false;
     }
-    let row = row_in(image, rect, y);
-    let limits = row_in(mask, rect, y);
-    let below = row_in(image, rect, y + 1);
-    let limits_below = row_in(mask, rect, y + 1);
+    let row = image.row_in(rect, y);
+    let limits = mask.row_in(rect, y);
+    let below = image.row_in(rect, y + 1);
+    let limits_below = mask.row_in(rect, y + 1);
     are_closed_crosswise(row, limits, below, limits_below)
 }
 
@@ -114,8 +114,8 @@ pub fn queue_within(mask: &Grid, image: &Grid, rect: Rect, y: u32, waiting: &mut
         waiting.old waiting.new }
 {
     let first = first_cell(image, rect, y);
-    let row = row_in(image, rect, y);
-    let limits = row_in(mask, rect, y);
+    let row = image.row_in(rect, y);
+    let limits = mask.row_in(rect, y);
     queue_aslant(row, limits, row, first, waiting)
 }
 
@@ -139,9 +139,9 @@ pub fn queue_between(
         waiting.old waiting.new }
 {
     let first = first_cell(image, rect, from);
-    let raising = row_in(image, rect, from);
-    let limits = row_in(mask, rect, to);
-    let raised = row_in(image, rect, to);
+    let raising = image.row_in(rect, from);
+    let limits = mask.row_in(rect, to);
+    let raised = image.row_in(rect, to);
     queue_to(raising, limits, raised, first, conn, waiting)
 }
 

@@ -3,10 +3,10 @@
 ghost use Rattle.std.specs.Prelude.{◌≡◌, ◌+◌, ◌<◌, ◌≤◌, ◌⊎◌, ◌∷◌, [], length, min, slice_index};
 ghost use Rattle.std.specs.Prelude.{Contains, IsTrue};
 ghost use Rattle.grid_core.specs.Path.{domain_of};
-ghost use Rattle.grid_core.specs.Raster.{IsBelow, IsFilled, value_at};
+ghost use Rattle.grid_core.specs.Raster.{IsBelow, IsFilled, value_at, headroom};
 ghost use Rattle.grid_core.specs.Reconstruction.{IsClosed};
 ghost use Rattle.grid_core.specs.Rects.{RectFits, domain_in, part};
-ghost use Rattle.raster_sweeps.specs.Growth.{AllWait, AreInside, AreOpen, IsCellIn, IsGrown, headroom};
+ghost use Rattle.raster_sweeps.specs.Growth.{AllWait, AreInside, AreOpen, IsCellIn, IsGrown};
 ghost use Rattle.raster_sweeps.specs.Spans.{AreQueued, InSpan, IsAround, IsRaised};
 
 use crate::neighbourhood::{Span, Spans, spans_around};

@@ -1,22 +1,9 @@
 //! What is asked of rows of pixels, as slices of equal length.
 
 ghost use Rattle.std.specs.Prelude.{◌≡◌, ◌<◌, ◌↔◌, length, IsTrue};
-ghost use Rattle.grid_core.specs.Raster.{value_at};
-ghost use Rattle.grid_core.specs.Rects.{RectFits, part};
-ghost use Rattle.raster_sweeps.specs.RowPairs.{AreBeside, AreAside, IsClosedStraight, IsClosedTo, IsRowOf};
+ghost use Rattle.raster_sweeps.specs.RowPairs.{AreBeside, AreAside, IsClosedStraight, IsClosedTo};
 
-use grid_core::{Conn, Grid, Rect};
-
-// The values of the rectangle's row `y`, counted from its top.
-pub fn row_in(grid: &Grid, rect: Rect, y: u32) -> &[u32]
-    requires fits { RectFits grid.now.width grid.now.height rect }
-    requires row { y < rect.h }
-    ensures { IsRowOf rect.w (part rect (value_at grid.now)) y result.now }
-{
-    let width = grid.width() as usize;
-    let start = (rect.y + y) as usize * width + rect.x as usize;
-    &grid.cells()[start..start + rect.w as usize]
-}
+use grid_core::Conn;
 
 // Whether no pixel of the row `from` raises the one in the same column of the row `to`.
 pub fn is_closed_straight(from: &[u32], mask: &[u32], to: &[u32]) -> bool

@@ -10,7 +10,6 @@ ghost use Rattle.raster_sweeps.specs.RowRaises.{AreCellsRaised, IsRowGrown};
 
 use crate::open_pairs::queue_row;
 use crate::row_raises::{raise_by, raise_from_left, raise_from_right};
-use crate::rows::row_in;
 use crate::waiting::Waiting;
 use grid_core::laws::cells_given_back;
 use grid_core::{Conn, Grid, Rect};
@@ -62,7 +61,7 @@ fn raise_row_by(mask: &Grid, image: &mut Grid, rect: Rect, from: u32, to: u32, c
     ensures { IsRowGrown conn rect mask.now to image.old image.new }
 {
     cells_given_back();
-    let limits = row_in(mask, rect, to);
+    let limits = mask.row_in(rect, to);
     let width = image.width() as usize;
     let source = (rect.y + from) as usize * width + rect.x as usize;
     let target = (rect.y + to) as usize * width + rect.x as usize;
@@ -105,7 +104,7 @@ fn raise_row_from_left(mask: &Grid, image: &mut Grid, rect: Rect, y: u32)
     ensures { (conn : _) → IsRowGrown conn rect mask.now y image.old image.new }
 {
     cells_given_back();
-    let limits = row_in(mask, rect, y);
+    let limits = mask.row_in(rect, y);
     let width = image.width() as usize;
     let start = (rect.y + y) as usize * width + rect.x as usize;
     let cells = image.cells_mut();
@@ -120,7 +119,7 @@ fn raise_row_from_right(mask: &Grid, image: &mut Grid, rect: Rect, y: u32)
     ensures { (conn : _) → IsRowGrown conn rect mask.now y image.old image.new }
 {
     cells_given_back();
-    let limits = row_in(mask, rect, y);
+    let limits = mask.row_in(rect, y);
     let width = image.width() as usize;
     let start = (rect.y + y) as usize * width + rect.x as usize;
     let cells = image.cells_mut();

@@ -1,3 +1,5 @@
+//! Growing whole images: worked examples, and all small ones.
+
 ghost use Rattle.std.specs.Prelude.{◌≡◌, IfOk};
 ghost use Rattle.grid_core.specs.Rects.{RectFits};
 

@@ -37,6 +37,7 @@ impl Job {
         requires { IsBelow base mask }
         ensures { result ≡ record { ticket = ticket; conn = conn; base = base; mask = mask } }
     {
+        // The widths tell the prover that base and mask have a cell for each pixel.
         prove!(base.width() == mask.width());
         Job {
             ticket,

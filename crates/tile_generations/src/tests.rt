@@ -1,3 +1,5 @@
+//! Tests of jobs and generations.
+
 use crate::{Generations, Job, MAX_GENERATION, Ticket};
 use grid_core::{Conn, Grid};
 use std::test::Fail;

@@ -1,3 +1,5 @@
+//! Tickets: which job on which tile.
+
 /// Which job it is: the tile that is to be swept, the tile's generation, and the serial of the job.
 #[derive(Clone, Copy, Debug, PartialEq, Eq)]
 pub struct Ticket {

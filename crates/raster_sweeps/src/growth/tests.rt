@@ -1,12 +1,13 @@
+//! Growing in rectangles, compared with floods by thresholds.
+
 ghost use Rattle.std.specs.Prelude.{◌≡◌, ◌+◌, ◌<◌, ◌≤◌, IfOk};
-ghost use Rattle.grid_core.specs.Raster.{IsBelow, IsInside};
+ghost use Rattle.grid_core.specs.Raster.{IsBelow, IsInside, IsOnBorder};
 ghost use Rattle.grid_core.specs.Rects.{RectFits};
-ghost use Rattle.raster_sweeps.specs.Borders.{IsOnBorder, OpenPairsBeginOnBorder};
+ghost use Rattle.raster_sweeps.specs.Borders.{OpenPairsBeginOnBorder};
 
 use super::{Room, grow, grow_from_border, grow_within};
 use crate::closed::is_closed;
 use crate::laws::{border_raise_keeps_border, reconstruction_begins_on_border};
-use crate::rows::row_in;
 use crate::thresholds::slow;
 use crate::waiting::Waiting;
 use grid_core::{Conn, Grid, Pixel, Rect};
@@ -66,7 +67,7 @@ fn cut(alloc: Global, from: &Grid, rect: Rect) -> Result<Grid, Fail>
 {
     let mut cells = Vec::new(alloc);
     for y in 0..rect.h {
-        cells.extend_from_slice(row_in(from, rect, y))?;
+        cells.extend_from_slice(from.row_in(rect, y))?;
     }
     grid(alloc, rect.w, rect.h, &cells)
 }
@@ -139,7 +140,7 @@ fn grows_within(
 fn border_pixel(rect: Rect, seed: &mut u32) -> Pixel
     requires width { 0 < rect.w }
     requires height { 0 < rect.h }
-    ensures border { IsOnBorder rect result }
+    ensures border { IsOnBorder rect.w rect.h result }
     ensures inside { IsInside rect.w rect.h result }
 {
     let x = next(seed) % rect.w;
@@ -156,7 +157,7 @@ fn border_pixel(rect: Rect, seed: &mut u32) -> Pixel
 fn raise_pixel(mask: &Grid, image: &mut Grid, rect: Rect, p: Pixel, value: u32)
     requires mask { RectFits mask.now.width mask.now.height rect }
     requires image { RectFits image.old.width image.old.height rect }
-    requires border { IsOnBorder rect p }
+    requires border { IsOnBorder rect.w rect.h p }
     requires inside { IsInside rect.w rect.h p }
     ensures width { image.new.width ≡ image.old.width }
     ensures height { image.new.height ≡ image.old.height }

@@ -1,3 +1,5 @@
+//! Floods by thresholds on worked examples.
+
 ghost use Rattle.grid_core.specs.Raster.{IsSized};
 
 use super::slow;

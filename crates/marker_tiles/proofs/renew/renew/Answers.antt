@@ -5,7 +5,7 @@ use Rattle.stroke_lattice.specs.Change.{Turnover}
 use Rattle.marker_tiles.specs.declared.window.Window.{Window}
 use Rattle.marker_tiles.specs.Painting.{in_some}
 use Rattle.marker_tiles.proofs.Keeping.{marks_where_none_died, marks_where_some_died}
-use Rattle.marker_tiles.proofs.Lists.{no_length}
+use Rattle.grid_core.proofs.Common.{no_length}
 use Rattle.marker_tiles.proofs.renew.renew.Goals as goal
 
 pub returns-then-not-is_empty-clause-marks : goal.returns-then-not-is_empty-clause-marks

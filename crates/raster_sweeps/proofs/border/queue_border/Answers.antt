@@ -1,6 +1,6 @@
 use Rattle.std.proofs.Common.{◌≡◌, ◌+◌, ◌⊎◌, inl, inr, sym, ◌∙◌}
 use Rattle.std.proofs.lemmas.Bool.{false≢true}
-use Rattle.raster_sweeps.specs.Borders.{IsOnBorder}
+use Rattle.grid_core.specs.Raster.{IsOnBorder}
 use Rattle.raster_sweeps.proofs.BorderPairs.{begun_open, border_waits, either_joined}
 use Rattle.raster_sweeps.proofs.border.queue_border.Goals as goal
 
@@ -15,7 +15,7 @@ returns-then-queue_border_rows c =
     let room = c.queue_border_columns.result in
     let joined =
     either_joined conn rect mask image (λ p. (p.y ≡ 0) ⊎ (p.y + 1 ≡ rect.h)) (λ p. (p.x ≡ 0) ⊎ (p.x + 1 ≡ rect.w))
-    (IsOnBorder rect) room old c.queue_border_rows.new.waiting new (λ p row. inr (inr row))
+    (IsOnBorder rect.w rect.h) room old c.queue_border_rows.new.waiting new (λ p row. inr (inr row))
     (λ p column. elim column [ inl first ↦ inl first | inr last ↦ inr (inl last) ])
     (λ p inside border. elim border [
       | inl first ↦ inr (inl first)
@@ -23,7 +23,7 @@ returns-then-queue_border_rows c =
     ])
     c.if-queue_border_rows.ensures c.queue_border_columns.ensures in
     record {
-      «open» = begun_open conn rect mask image (IsOnBorder rect) room old new c.requires.empty joined;
+      «open» = begun_open conn rect mask image (IsOnBorder rect.w rect.h) room old new c.requires.empty joined;
       waits = λ all. border_waits conn rect mask image room old new all joined;
       full = joined.full;
     }

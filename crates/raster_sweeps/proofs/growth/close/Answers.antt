@@ -1,8 +1,7 @@
 use Rattle.std.proofs.Common.{◌≡◌, ◌<◌, ◌≤◌, sym, ◌∙◌, arith, inl, inr}
 use Rattle.std.proofs.lemmas.Bool.{false≢true}
-use Rattle.grid_core.specs.Raster.{IsFilled}
+use Rattle.grid_core.specs.Raster.{IsFilled, headroom}
 use Rattle.raster_sweeps.specs.declared.growth.Start.TheVariants.{Border, Scans}
-use Rattle.raster_sweeps.specs.Growth.{headroom}
 use Rattle.raster_sweeps.proofs.Grown.{fits_below, grown_filled, grown_headroom, grown_same, grown_twice}
 use Rattle.raster_sweeps.proofs.growth.close.Goals as goal
 use Rattle.raster_sweeps.proofs.growth.close.Goals.{else-all-via-then-all+else-drain, else-all-via-else-all}

@@ -1,7 +1,8 @@
 use Rattle.std.proofs.Common.{◌≡◌}
 use Rattle.raster_sweeps.specs.declared.growth.Start.TheVariants.{Border}
 use Rattle.raster_sweeps.specs.Borders.{OpenPairsBeginOnBorder}
-use Rattle.raster_sweeps.specs.Growth.{IsGrown, headroom}
+use Rattle.raster_sweeps.specs.Growth.{IsGrown}
+use Rattle.grid_core.specs.Raster.{headroom}
 use Rattle.raster_sweeps.proofs.growth.close.Given as goal
 
 abbrev pub invariant-rounds : goal.invariant-rounds

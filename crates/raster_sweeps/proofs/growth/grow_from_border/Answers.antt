@@ -1,13 +1,10 @@
-use Rattle.grid_core.specs.Raster.{value_at}
-use Rattle.grid_core.specs.Rects.{domain_in, part}
-use Rattle.grid_core.proofs.Images.{closed_is_reconstruction}
+use Rattle.raster_sweeps.proofs.Grown.{regrown}
 use Rattle.raster_sweeps.proofs.growth.grow_from_border.Goals as goal
 
-pub returns-clause-reconstruction : goal.returns-clause-reconstruction
-returns-clause-reconstruction c =
-    closed_is_reconstruction (domain_in c.args.rect c.args.conn) (part c.args.rect (value_at c.args.mask.now))
-    (part c.args.rect (value_at c.args.image.now)) (part c.args.rect (value_at c.close.new.image))
-    c.close.ensures.grown.lawful c.close.ensures.closed
+pub returns : goal.returns
+returns c =
+    regrown c.args.conn c.args.rect c.args.mask.now c.args.image.now c.close.new.image c.width.ensures.sized.filled
+    c.close.ensures.grown c.close.ensures.closed
 
 pub close-requires-clause-border : goal.close-requires-clause-border
 close-requires-clause-border c = λ same. c.requires.border

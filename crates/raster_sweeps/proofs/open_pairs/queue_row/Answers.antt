@@ -27,7 +27,7 @@ returns-else-queue_between c =
     c.args.waiting.now c.queue_within.new.waiting c.queue_between.new.waiting
     (c.if-not-queue_within.ensures c.args.conn) c.if-queue_between.ensures)
 
-pub returns-then-is_row_closed : goal.returns-then-is_row_closed
-returns-then-is_row_closed c =
+pub returns-then-is_row_seen_closed : goal.returns-then-is_row_seen_closed
+returns-then-is_row_seen_closed c =
     none_joined (IsOpenCell c.args.conn c.args.rect c.args.mask.now c.args.image.now (IsUpper c.args.y))
-    c.args.waiting.now (c.is_row_closed.ensures c.if-is_row_closed.true)
+    c.args.waiting.now (c.is_row_seen_closed.ensures c.if-is_row_seen_closed.true)

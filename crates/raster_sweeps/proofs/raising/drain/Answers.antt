@@ -1,6 +1,7 @@
 use Rattle.std.proofs.Common.{◌≤◌, subst, sym, ◌∙◌, arith, inl, inr}
 use Rattle.std.proofs.lemmas.Bool.{false≢true}
-use Rattle.raster_sweeps.specs.Growth.{AllWait, headroom}
+use Rattle.raster_sweeps.specs.Growth.{AllWait}
+use Rattle.grid_core.specs.Raster.{headroom}
 use Rattle.raster_sweeps.proofs.Grown.{fits_below, grown_headroom, grown_same, grown_twice}
 use Rattle.raster_sweeps.proofs.raising.drain.Goals as goal
 use Rattle.raster_sweeps.proofs.raising.drain.Goals.{then-not-room-via-then-not-room}

@@ -1,5 +1,6 @@
 use Rattle.std.proofs.Common.{◌+◌, ◌<◌, length}
-use Rattle.raster_sweeps.specs.Growth.{AllWait, AreInside, IsGrown, headroom}
+use Rattle.raster_sweeps.specs.Growth.{AllWait, AreInside, IsGrown}
+use Rattle.grid_core.specs.Raster.{headroom}
 use Rattle.raster_sweeps.proofs.raising.drain.Given as goal
 
 abbrev pub invariant-loop-cell : goal.invariant-loop-cell

@@ -4,9 +4,9 @@ use Rattle.std.proofs.Common.{arith, inl, inr, length-append}
 use Rattle.std.specs.Prelude.{Contains, IsTrue}
 use Rattle.std.proofs.lemmas.Bool.{false≢true}
 use Rattle.std.proofs.lemmas.List.Elements.{Contains-push_cases}
-use Rattle.raster_sweeps.specs.Growth.{headroom}
+use Rattle.grid_core.specs.Raster.{headroom}
 use Rattle.raster_sweeps.specs.Spans.{InSpan}
-use Rattle.raster_sweeps.proofs.Headroom.{headroom_set}
+use Rattle.grid_core.proofs.Headroom.{headroom_set}
 use Rattle.raster_sweeps.proofs.Raised.{span_to, next_raised, next_not_raised, next_queued, next_not_queued}
 use Rattle.raster_sweeps.proofs.Raised.{raised_at}
 use Rattle.raster_sweeps.proofs.raising.raise.Goals as goal

@@ -1,6 +1,6 @@
 use Rattle.std.proofs.Common.{◌≡◌, ◌+◌, ◌<◌, ◌≤◌, ◌⊎◌, length, ℕ}
 use Rattle.std.specs.Prelude.{Contains, IsTrue}
-use Rattle.raster_sweeps.specs.Growth.{headroom}
+use Rattle.grid_core.specs.Raster.{headroom}
 use Rattle.raster_sweeps.specs.Spans.{AreQueued, InSpan, IsRaised}
 use Rattle.raster_sweeps.proofs.raising.raise.Given as goal
 

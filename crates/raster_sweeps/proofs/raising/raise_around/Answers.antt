@@ -2,7 +2,7 @@ use Rattle.std.proofs.Common.{◌⊎◌, ℕ, List, arith, inl, inr}
 use Rattle.std.specs.Prelude.{Contains}
 use Rattle.raster_sweeps.specs.declared.neighbourhood.Spans.{Spans}
 use Rattle.raster_sweeps.specs.Spans.{InSpan, IsAround, IsRaised}
-use Rattle.raster_sweeps.proofs.Headroom.{headroom_less}
+use Rattle.grid_core.proofs.Headroom.{headroom_less}
 use Rattle.raster_sweeps.proofs.Raised.{queued_twice, raised_rises, raised_twice}
 use Rattle.raster_sweeps.proofs.raising.raise_around.Goals as goal
 use Rattle.raster_sweeps.proofs.raising.raise_around.Goals.{then-above, else-above}

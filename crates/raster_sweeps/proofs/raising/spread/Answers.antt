@@ -2,11 +2,11 @@ use Rattle.std.proofs.Common.{◌≡◌, ◌<◌, ℕ, [], ◌∷◌, length, su
 use Rattle.std.proofs.Common.{get_or, min, inl, inr}
 use Rattle.std.proofs.lemmas.List.Elements.{Contains-append_left, Contains-append_right}
 use Rattle.grid_core.specs.declared.rect.Rect.{Rect}
-use Rattle.grid_core.specs.Raster.{Raster, IsBelow, IsFilled}
+use Rattle.grid_core.specs.Raster.{Raster, IsBelow, IsFilled, headroom}
 use Rattle.grid_core.specs.Lending.{with_cells}
 use Rattle.grid_core.specs.Rects.{RectFits, in_image}
 use Rattle.grid_core.proofs.Cells.{index_of-within}
-use Rattle.raster_sweeps.specs.Growth.{IsCellIn, cell_of, headroom}
+use Rattle.raster_sweeps.specs.Growth.{IsCellIn, cell_of}
 use Rattle.raster_sweeps.specs.Spans.{AreQueued, AreSpansOf, IsAround, IsRaised}
 use Rattle.raster_sweeps.proofs.Grown.{fits_below, in_image-inside}
 use Rattle.raster_sweeps.proofs.RaisedBy.{HasSpread, cell_spreads}

@@ -3,4 +3,5 @@ use Rattle.raster_sweeps.proofs.row_raises.is_raised_from_left.Goals as goal
 
 pub returns : goal.returns
 returns c closed =
-    closed_from_left c.args.mask.now c.args.row.now c.requires.some c.requires.mask (c.is_closed_straight.ensures.0 closed)
+    closed_from_left c.args.mask.now c.args.row.now c.requires.some c.requires.mask
+    (c.is_closed_straight.ensures.0 closed)

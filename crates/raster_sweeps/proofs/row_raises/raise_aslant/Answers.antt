@@ -18,14 +18,15 @@ returns c =
     let ys = put_mid 1 n xs right in
     let left = c.raise_straight-2.new.row in
     let zs = left ++ drop n ys in
-    let size : length right ≡ n = omega (arith, c.raise_straight.ensures.long, (part_between xs 1 (length xs) n (omega arith) (omega arith)).long) in
+    let between_xs = part_between xs 1 (length xs) n (omega arith) (omega arith) in
+    let size : length right ≡ n = omega (arith, c.raise_straight.ensures.long, between_xs.long) in
     let middle : IsReplaced 1 right xs ys = replaced_mid 1 n right xs size (omega arith) in
     let front = part_front ys n (omega (arith, middle.long)) in
     let size_left : length left ≡ n = omega (arith, c.raise_straight-2.ensures.long, front.long) in
     let first : IsRaisedBy AreAside mask by xs ys =
     part_raised AreAside mask by xs ys (between 1 (length mask) mask) (take n by) (between 1 (length xs) xs) right 1 0 n
-    (λ s less. omega arith) c.requires.by (omega arith) (part_between mask 1 (length mask) n (omega arith) (omega arith))
-    (part_front by n (omega arith)) (part_between xs 1 (length xs) n (omega arith) (omega arith))
+    (λ s less. omega arith) c.requires.by (omega arith)
+    (part_between mask 1 (length mask) n (omega arith) (omega arith)) (part_front by n (omega arith)) between_xs
     c.raise_straight.ensures middle in
     let second : IsRaisedBy AreAside mask by ys zs =
     part_raised AreAside mask by ys zs (take n mask) (between 1 (length by) by) (take n ys) left 0 1 n

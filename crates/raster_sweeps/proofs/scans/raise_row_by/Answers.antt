@@ -1,7 +1,8 @@
 use Rattle.std.proofs.Common.{◌≡◌, ◌+◌, ◌*◌, arith, ap, sym, subst}
 use Rattle.grid_core.specs.Neighbours.{apart}
 use Rattle.raster_sweeps.specs.RowRaises.{AreCellsRaised, IsRowGrown}
-use Rattle.raster_sweeps.proofs.RowGrowth.{fits_below, refilled, grown_by, row_of}
+use Rattle.raster_sweeps.proofs.Grown.{fits_below}
+use Rattle.raster_sweeps.proofs.RowGrowth.{refilled, grown_by, row_of}
 use Rattle.raster_sweeps.proofs.scans.raise_row_by.Goals as goal
 
 pub returns : goal.returns
@@ -18,7 +19,7 @@ returns c =
     let begins : start ≡ (rect.y + y) * image.width + rect.x = ap (λ w. (rect.y + y) * w + rect.x) wide in
     let source_begins : source ≡ (rect.y + z) * image.width + rect.x = ap (λ w. (rect.y + z) * w + rect.x) wide in
     let filled = c.width-width.ensures.sized.filled in
-    let fits = fits_below rect image mask c.requires.below c.requires.fits in
+    let fits = fits_below rect mask image c.requires.below c.requires.fits in
     let limits = c.row_in-limits.result.now in
     let cells = c.raise_cells_by.new.cells in
     let same : c.cells_mut.result.now ≡ image.cells = c.cells_mut.ensures.values in

@@ -2,7 +2,8 @@ use Rattle.std.proofs.Common.{◌≡◌, ◌+◌, ◌-◌, ◌*◌, arith, ap, s
 use Rattle.std.specs.List.{between}
 use borrow.Rule.Slice.PartMut.{put_mid}
 use Rattle.raster_sweeps.specs.RowRaises.{IsRaisedFromRight, IsRowGrown}
-use Rattle.raster_sweeps.proofs.RowGrowth.{fits_below, refilled, grown_from_right}
+use Rattle.raster_sweeps.proofs.Grown.{fits_below}
+use Rattle.raster_sweeps.proofs.RowGrowth.{refilled, grown_from_right}
 use Rattle.raster_sweeps.proofs.scans.raise_row_from_right.Goals as goal
 
 pub returns : goal.returns
@@ -23,7 +24,7 @@ returns c conn =
     subst (λ xs. IsRaisedFromRight limits (between start (start + rect.w) xs) row) same c.raise_from_right.ensures in
     let grown : IsRowGrown conn rect mask y image (refilled image (put_mid start n image.cells row)) =
     grown_from_right conn rect mask image y start c.width-width.ensures.sized.filled c.requires.below
-    (fits_below rect image mask c.requires.below c.requires.fits) c.requires.row begins limits c.row_in-limits.ensures n
+    (fits_below rect mask image c.requires.below c.requires.fits) c.requires.row begins limits c.row_in-limits.ensures n
     row size raised in
     let lent : IsRowGrown conn rect mask y image (refilled image (put_mid start n c.cells_mut-cells.result.now row)) =
     subst (λ xs. IsRowGrown conn rect mask y image (refilled image (put_mid start n xs row))) (sym same) grown in

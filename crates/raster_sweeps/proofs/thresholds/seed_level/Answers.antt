@@ -2,8 +2,8 @@ use Rattle.std.proofs.Common.{◌≡◌, ◌*◌, ◌<◌, ◌≤◌, [], ◌∷
 use Rattle.grid_core.specs.Path.{Inside, domain_of}
 use Rattle.grid_core.specs.Raster.{index_of, value_at, with_value}
 use Rattle.raster_sweeps.specs.Flood.{IsSeeding}
-use Rattle.raster_sweeps.proofs.Cells.{written_sized}
-use Rattle.raster_sweeps.proofs.Seeding.{inside_from_index, seeding_marks, seeding_passes}
+use Rattle.raster_sweeps.proofs.Flood.Cells.{written_sized}
+use Rattle.raster_sweeps.proofs.Flood.Seeding.{inside_from_index, seeding_marks, seeding_passes}
 use Rattle.raster_sweeps.proofs.thresholds.seed_level.Goals as goal
 use Rattle.raster_sweeps.proofs.thresholds.seed_level.Goals.{then-value-level+in_ok-mark, else-value-level}
 

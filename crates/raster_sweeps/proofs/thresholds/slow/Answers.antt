@@ -2,9 +2,9 @@ use Rattle.std.proofs.Common.{◌≡◌, ◌+◌, ◌-◌, ◌*◌, replicate, s
 use Rattle.grid_core.specs.Raster.{value_at}
 use Rattle.grid_core.specs.Path.{domain_of}
 use Rattle.raster_sweeps.specs.Flood.{IsLevelDone}
-use Rattle.raster_sweeps.proofs.Flooding.{zeros_sized, zeros_flooded, flood_is_reconstruction, flooded_below}
-use Rattle.raster_sweeps.proofs.Cells.{filled_on}
-use Rattle.raster_sweeps.proofs.Seeding.{marker_at_most}
+use Rattle.raster_sweeps.proofs.Flood.Flooding.{zeros_sized, zeros_flooded, flood_is_reconstruction, flooded_below}
+use Rattle.raster_sweeps.proofs.Flood.Cells.{filled_on}
+use Rattle.raster_sweeps.proofs.Flood.Seeding.{marker_at_most}
 use Rattle.raster_sweeps.proofs.thresholds.slow.Goals as goal
 
 pub loop-done-init : goal.loop-done-init

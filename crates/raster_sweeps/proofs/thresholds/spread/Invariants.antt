@@ -1,6 +1,6 @@
 use Rattle.std.proofs.Common.{◌+◌, length}
 use Rattle.raster_sweeps.specs.Flood.{missing}
-use Rattle.raster_sweeps.proofs.Spreading.{IsSpreading}
+use Rattle.raster_sweeps.proofs.Flood.Spreading.{IsSpreading}
 use Rattle.raster_sweeps.proofs.thresholds.spread.Given as goal
 
 abbrev pub invariant-loop-beside : goal.invariant-loop-beside

@@ -21,7 +21,9 @@ returns-clause-hints c =
     let left : List Pixel = pixel_if (nat_lt 0 p.x) c.saturating_sub-2.result p.y in
     let right : List Pixel = pixel_if (nat_lt (p.x + 1) c.width.result) (p.x + 1) p.y in
     let below : List Pixel =
-    if nat_lt (p.y + 1) c.height.result then row_around b.tiling.width p.x (p.y + 1) c.diagonals-sides.result true else []
+    if nat_lt (p.y + 1) c.height.result then
+    row_around b.tiling.width p.x (p.y + 1) c.diagonals-sides.result true
+    else []
     in
     let same : old ++ to (above ++ (left ++ [] ++ right) ++ below) ≡ old ++ hints_from s p = λ i.
     old ++ hints_to s (c.value-value.ensures i)
