@@ -1,5 +1,7 @@
 -- How the first line of a text and the first word of a line are cut off.
-use Rattle.std.proofs.Common.{◌≡◌, ℕ, ◌+◌, ◌<◌, ◌≤◌, Bool, true, false, cond, eqb, ltb, List, [], ◌∷◌, ◌++◌, length, All, Option, Some, None, take, drop, get_or, map, refl, sym, ap, ◌∙◌, inl, inr, drop_of_length-le, arith}
+use Rattle.std.proofs.Common.{◌≡◌, ℕ, ◌+◌, ◌<◌, ◌≤◌, Bool, true, false, cond, eqb, ltb, List, [], ◌∷◌, ◌++◌, length}
+use Rattle.std.proofs.Common.{All, Option, Some, None, take, drop, get_or, map, refl, sym, ap, ◌∙◌, inl, inr}
+use Rattle.std.proofs.Common.{drop_of_length-le, arith}
 use Rattle.std.specs.List.{filter, slice_split, onto_first, position_or_len, before_first, after_first}
 use Rattle.std.specs.Str.Lines.{strip_carriage_return}
 use Rattle.std.proofs.lemmas.Bool.{lt-ltb, le-ltb, cases_lt}

@@ -4,7 +4,8 @@ use Rattle.std.proofs.lemmas.Bool.{cases_lt, cases_eq}
 use Rattle.stroke_core.specs.declared.run.Run.{Run}
 use Rattle.stroke_core.specs.declared.error.StrokeError.{StrokeError}
 use Rattle.stroke_core.specs.declared.error.StrokeError.TheVariants as reasons
-use Rattle.stroke_core.specs.Seed.{Seed, Shape, Runs, Disc, AreInOrder, IsBefore, AreOrdered, IsCanonical, IsCanonicalShape, IsRefusal, IsShapeRefusal}
+use Rattle.stroke_core.specs.Seed.{Seed, Shape, Runs, Disc, AreInOrder, IsBefore, AreOrdered, IsCanonical}
+use Rattle.stroke_core.specs.Seed.{IsCanonicalShape, IsRefusal, IsShapeRefusal}
 
 -- a canonical shape is not refused
 shape_not_refused : (shape : Shape) (why : StrokeError) → IsCanonicalShape shape → IsShapeRefusal shape why → ⊥

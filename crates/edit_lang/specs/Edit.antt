@@ -1,5 +1,6 @@
 -- What an edit text means: a state for each of its edits, or the fault of its first faulty line.
-use Rattle.std.specs.Prelude.{◌≡◌, ℕ, ◌+◌, List, [], ◌∷◌, ◌++◌, ◌⊎◌, if◌then◌else◌, codes, nat_eq, Option, Some, None, option_to_list, Result, Ok, Err}
+use Rattle.std.specs.Prelude.{◌≡◌, ℕ, ◌+◌, List, [], ◌∷◌, ◌++◌, ◌⊎◌, if◌then◌else◌, codes, nat_eq, Option, Some}
+use Rattle.std.specs.Prelude.{None, option_to_list, Result, Ok, Err}
 use Rattle.std.specs.List.{starts_with}
 use Rattle.std.specs.Str.{bytes_eq}
 use Rattle.stroke_core.specs.Seed.{Seed, Runs, IsCanonical, IsRefusal}

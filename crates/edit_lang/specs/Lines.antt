@@ -1,5 +1,6 @@
 -- The lines of a text, the words of a line, and the parts of a word.
-use Rattle.std.specs.Prelude.{ℕ, ◌+◌, Bool, List, [], ◌∷◌, ◌==◌, ◌||◌, if◌then◌else◌, length, map, filter, take, drop, position, nat_lt, Option, option_map}
+use Rattle.std.specs.Prelude.{ℕ, ◌+◌, Bool, List, [], ◌∷◌, ◌==◌, ◌||◌, if◌then◌else◌, length, map, filter, take}
+use Rattle.std.specs.Prelude.{drop, position, nat_lt, Option, option_map}
 use Rattle.std.specs.List.{slice_split, onto_first}
 use Rattle.std.specs.Str.Lines.{strip_carriage_return}
 

@@ -1,3 +1,5 @@
+//! Why an edit text is refused.
+
 ghost use Rattle.std.specs.Prelude.{◌≡◌};
 ghost use Rattle.edit_lang.specs.Code.{code_of};
 ghost use Rattle.edit_lang.specs.declared.error.EditError.TheVariants as errors;

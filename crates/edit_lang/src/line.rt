@@ -1,3 +1,5 @@
+//! Lines: from the words of a line to its delta.
+
 ghost use Rattle.std.specs.Prelude.{◌≡◌, ◌⊎◌, Ok, Err, Some, IfOk, MatchResult, option_map};
 ghost use Rattle.stroke_core.specs.Seed.{Runs, Disc};
 ghost use Rattle.edit_lang.specs.declared.error.EditError.TheVariants as errors;

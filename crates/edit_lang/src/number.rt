@@ -1,3 +1,5 @@
+//! Numbers in decimal digits.
+
 ghost use Rattle.std.specs.Prelude.{◌≡◌};
 ghost use Rattle.edit_lang.specs.Numbers.{number_of, coordinate_of};
 

@@ -1,3 +1,5 @@
+//! Runs and discs in words.
+
 ghost use Rattle.std.specs.Prelude.{◌≡◌, IfOk, option_map};
 ghost use Rattle.stroke_core.specs.Seed.{Disc};
 ghost use Rattle.edit_lang.specs.Shapes.{run_between, run_of, runs_of, disc_round, disc_of};

@@ -1,3 +1,5 @@
+//! Edit texts by examples: worked lines, and the first fault.
+
 use crate::*;
 use std::alloc::Global;
 use std::test::Fail;

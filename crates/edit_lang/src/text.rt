@@ -1,3 +1,5 @@
+//! Texts: line after line, each with its number.
+
 ghost use Rattle.std.specs.Prelude.{◌≡◌, ℕ, List, ◌⊎◌, IfOk, IfErr, MatchResult};
 ghost use Rattle.edit_lang.specs.declared.error.EditError as error;
 ghost use Rattle.edit_lang.specs.declared.error.EditError.TheVariants as errors;

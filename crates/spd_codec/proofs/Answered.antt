@@ -1,14 +1,15 @@
 -- What a reader that answers as reading does, or that memory ran out, tells of the bytes.
-use Rattle.std.proofs.Common.{◌≡◌, ◌⊎◌, ℕ, List, Result, Ok, Err, sym, ap, ◌∙◌, inl, inr}
+use Rattle.std.proofs.Common.{◌≡◌, ◌⊎◌, ℕ, ◌<◌, List, length, Result, Ok, Err, sym, ap, subst, ◌∙◌, inl, inr}
 use Rattle.std.specs.Prelude.{IfOk, IfErr, IsErrOf}
 use Rattle.spd_codec.specs.declared.error.SpdError.{SpdError}
 use Rattle.spd_codec.specs.declared.error.SpdError.TheVariants as errors
 use Rattle.spd_codec.specs.declared.frame.Frame.{Frame}
-use Rattle.spd_codec.specs.Spelling.{Spells}
+use Rattle.spd_codec.specs.Spelling.{max_bytes, Spells}
 use Rattle.spd_codec.specs.Faults.{IsFault}
 use Rattle.spd_codec.specs.Reading.{GivesOrMemory, frame_at}
 use Rattle.spd_codec.proofs.Fields.{IsBytes}
-use Rattle.spd_codec.proofs.Steps.{ok_is, done, failed}
+use Rattle.spd_codec.proofs.Steps.{ok_is, err_is, done, failed}
+use Rattle.spd_codec.proofs.FaultKinds.{too_many}
 use Rattle.spd_codec.proofs.Frames.{found, refused}
 use Rattle.spd_codec.proofs.FrameLaws.{again}
 
@@ -24,6 +25,15 @@ pub is_refused : (bytes : List ℕ) (r : Result Frame SpdError) → IsBytes byte
 is_refused bytes (Ok frame) small given = tt
 is_refused bytes (Err e) small (inl memory) = inl memory
 is_refused bytes (Err e) small (inr given) = inr (refused bytes e small given)
+
+-- what is refused as too long is too long
+pub is_too_long : (bytes : List ℕ) (r : Result Frame SpdError) → IsBytes bytes
+    → GivesOrMemory (λ frame. frame) r (frame_at bytes) → IsErrOf r errors.TooLong → max_bytes < length bytes
+is_too_long bytes (Ok frame) small given is = absurd cc
+is_too_long bytes (Err e) small (inl memory) is =
+    let no : errors.Memory ≡ errors.TooLong = sym memory ∙ err_is {A = Frame} e errors.TooLong is in absurd cc
+is_too_long bytes (Err e) small (inr given) is = too_many bytes
+    (subst (IsFault bytes) (err_is {A = Frame} e errors.TooLong is) (refused bytes e small given))
 
 -- a value is no fault
 no_error : {A : Type 0} (x : A) (e : SpdError) → done x ≡ failed e → ⊥

@@ -1,5 +1,6 @@
--- Want of memory is no fault of bytes.
-use Rattle.std.proofs.Common.{◌≡◌, ℕ, zero, suc, Bool, true, false, cond, List, Option, Some, None, refl, sym, ◌∙◌, inl, inr}
+-- Want of memory is no fault of bytes, and too great a length is none of a field.
+use Rattle.std.proofs.Common.{◌≡◌, ℕ, zero, suc, ◌<◌, Bool, true, false, cond, List, length, Option, Some, None}
+use Rattle.std.proofs.Common.{refl, sym, ap, ◌∙◌, inl, inr}
 use Rattle.std.specs.Prelude.{◌==◌, nat_le}
 use Rattle.stroke_core.specs.declared.run.Run.{Run}
 use Rattle.stroke_core.specs.declared.error.StrokeError.{StrokeError}
@@ -11,15 +12,22 @@ use Rattle.spd_codec.specs.declared.version.Version.{Version}
 use Rattle.spd_codec.specs.declared.version.Version.TheVariants.{First, Second}
 use Rattle.spd_codec.specs.declared.version.Kind.{Kind}
 use Rattle.spd_codec.specs.declared.version.Kind.TheVariants as kinds
+use Rattle.spd_codec.specs.Spelling.{max_bytes}
 use Rattle.spd_codec.specs.Faults.{Field, FieldFault, FaultIn, ManyFault, unless, IsFault, too_long, in_frame, FrameFault}
 use Rattle.spd_codec.specs.Faults.{FieldsFault, DeltaFault, StrokeFault, KindFault, SeedFault, ShapeFault}
 use Rattle.spd_codec.specs.Faults.{MagicFault, EndFault, FaultFrom, StartsGood, StartsKind, StartsStroke, StartsStrokes, StartsMagic}
 use Rattle.spd_codec.specs.Faults.{StartsConn, StartsFields, tag_field, run_field, count_field, number_field, radius_field}
 use Rattle.spd_codec.specs.Faults.{level_field, kind_field, magic_field, version_field, conn_field, print_field}
 
--- it is not want of memory
+-- whether a field may have this fault: all but two
+abbrev of_field : SpdError → Bool
+of_field errors.TooLong = false
+of_field errors.Memory = false
+of_field _ = true
+
+-- it is neither want of memory nor too great a length
 abbrev IsReal : SpdError → Type 0
-IsReal e = e ≡ errors.Memory → ⊥
+IsReal e = of_field e ≡ true
 
 -- none of the faults is
 abbrev AreReal : (List ℕ → SpdError → Type 0) → Type 0
@@ -32,11 +40,11 @@ some_is d e h = cc
 -- the reason of a test
 unless_real : (b : Bool) (d e : SpdError) → IsReal d → unless b d ≡ Some e → IsReal e
 unless_real true d e real h = absurd cc
-unless_real false d e real h = λ m. real (some_is d e h ∙ m)
+unless_real false d e real h = ap of_field (sym (some_is d e h)) ∙ real
 
 -- the faults of a field
 real_field : {X : Type 0} (field : Field X) → ((x : X) (e : SpdError) → field.fault x ≡ Some e → IsReal e) → AreReal (FieldFault field)
-real_field field judged text e (inl h) = λ m. (let g : errors.Truncated ≡ errors.Memory = sym h.1 ∙ m in absurd cc)
+real_field field judged text e (inl h) = ap of_field h.1
 real_field field judged text e (inr h) = judged h.0 e h.3
 
 -- where nothing can be wrong
@@ -65,23 +73,23 @@ real_many key Begins Fault each (suc count) before text e (inr h) =
 
 -- M1
 magic_real : IsReal errors.BadMagic
-magic_real m = absurd cc
+magic_real = refl
 
 -- M2
 conn_real : IsReal errors.BadConn
-conn_real m = absurd cc
+conn_real = refl
 
 -- M4
 tag_real : IsReal errors.TagOrder
-tag_real m = absurd cc
+tag_real = refl
 
 -- M5
 stroke_real : (w : StrokeError) → IsReal (errors.BadStroke w)
-stroke_real w m = absurd cc
+stroke_real w = refl
 
 -- the faults of a number of runs
 count_real : (a b : Bool) (e : SpdError) → cond a (Some (errors.BadStroke why.NoRuns)) (unless b (errors.BadStroke why.TooManyRuns)) ≡ Some e → IsReal e
-count_real true b e h = λ m. stroke_real why.NoRuns (some_is (errors.BadStroke why.NoRuns) e h ∙ m)
+count_real true b e h = ap of_field (sym (some_is (errors.BadStroke why.NoRuns) e h))
 count_real false b e h = unless_real b (errors.BadStroke why.TooManyRuns) e (stroke_real why.TooManyRuns) h
 
 -- the faults of a tag
@@ -143,7 +151,7 @@ real_fields = real_in StartsMagic real_magic (λ version.
 
 -- of the end
 real_end : AreReal EndFault
-real_end text e h m = let g : errors.Trailing ≡ errors.Memory = sym h.3 ∙ m in absurd cc
+real_end text e h = ap of_field h.3
 
 -- of a frame
 real_frame : AreReal FrameFault
@@ -152,4 +160,9 @@ real_frame = real_in StartsFields real_fields (λ frame. real_end)
 -- want of memory is no fault
 pub no_memory : (bytes : List ℕ) → IsFault bytes errors.Memory → ⊥
 no_memory bytes (too_long long is) = absurd cc
-no_memory bytes (in_frame within h) = real_frame bytes errors.Memory h refl
+no_memory bytes (in_frame within h) = let no : false ≡ true = real_frame bytes errors.Memory h in absurd cc
+
+-- too great a length is the fault of bytes that are too many
+pub too_many : (bytes : List ℕ) → IsFault bytes errors.TooLong → max_bytes < length bytes
+too_many bytes (too_long long is) = long
+too_many bytes (in_frame within h) = let no : false ≡ true = real_frame bytes errors.TooLong h in absurd cc

@@ -6,6 +6,7 @@ mod Sequences
 mod RunLists
 mod Values
 mod RisingTags
+mod NewTags
 mod StrokeParts
 mod Frames
 mod FrameLaws

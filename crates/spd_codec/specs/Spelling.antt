@@ -10,6 +10,7 @@ use Rattle.stroke_core.specs.Seed.{Seed, Shape, Runs, Disc, IsCanonical}
 use Rattle.stroke_lattice.specs.State.{State}
 use Rattle.stroke_lattice.specs.Pieces.{strokes_of, tombstones_of}
 use Rattle.spd_codec.specs.declared.version.Version.{Version}
+use Rattle.spd_codec.specs.declared.writing.TheConstants.{MAX_BYTES}
 use Rattle.spd_codec.specs.declared.version.Version.TheVariants.{First, Second}
 
 -- ---- fields
@@ -70,7 +71,7 @@ frame_text version conn print s = frame_of version conn print (strokes_of s) (to
 
 -- the most bytes that a frame has
 abbrev pub max_bytes : ℕ
-max_bytes = 1400
+max_bytes = MAX_BYTES
 
 -- each of the run's numbers has two bytes
 pub record RunFits (run : Run) : Type 0 where

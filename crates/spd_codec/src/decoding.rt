@@ -1,8 +1,8 @@
 //! Reading a frame, from left to right.
-ghost use Rattle.std.specs.Prelude.{◌≡◌, ◌⊎◌, List, ℕ, Ok, IfOk, IfErr, IsErrOf, length};
+ghost use Rattle.std.specs.Prelude.{◌≡◌, ◌⊎◌, ◌↔◌, ◌<◌, List, ℕ, Ok, IfOk, IfErr, IsErrOf, length};
 ghost use Rattle.spd_codec.specs.declared.error.SpdError.TheVariants as errors;
 ghost use Rattle.spd_codec.specs.declared.frame.Frame.{Frame as Read};
-ghost use Rattle.spd_codec.specs.Spelling.{Spells};
+ghost use Rattle.spd_codec.specs.Spelling.{max_bytes, Spells};
 ghost use Rattle.spd_codec.specs.Faults.{IsFault};
 ghost use Rattle.spd_codec.specs.Reading.{GivesOrMemory, fields_at, frame_at};
 
@@ -29,7 +29,8 @@ fn fields(alloc: Global, reader: &mut Reader<'_>) -> Result<Frame, SpdError>
 // The frame that is read from left to right.
 #[tactic(auto, unfolding(crate::specs::Reading::frame_at))]
 fn frame(alloc: Global, bytes: &[u8]) -> Result<Frame, SpdError>
-    ensures { GivesOrMemory (λ frame. frame) result (frame_at bytes.now) }
+    ensures read { GivesOrMemory (λ frame. frame) result (frame_at bytes.now) }
+    ensures too_long { max_bytes < length bytes.now → IsErrOf result errors.TooLong }
 {
     if bytes.len() > MAX_BYTES {
         return Err(SpdError::TooLong);
@@ -48,16 +49,18 @@ fn frame(alloc: Global, bytes: &[u8]) -> Result<Frame, SpdError>
 /// its tag, in `SPD2` a byte of kind, 0 for runs and 1 for a disc, 2 bytes of level, and then 2 for the number
 /// of runs and 6 for each run (row, first and last column), or 6 of a disc (column, row and radius).
 ///
-/// Errors: M6 for more than 1,400 bytes, before all else, and then the first fault from the left. M1 at a byte
+/// Errors: M6 for more than [`MAX_BYTES`] bytes, before all else, and then the first fault from the left. M1 at a byte
 /// that is not the magic's, M2 at another connectivity, M3 where the bytes end inside a field, M4 at a tag
 /// that is not above the one before it in its list, M5 at a value of a stroke that is refused, with its
 /// reason (S8 at a kind, S1 at a level, S2 and S3 at a number of runs, S4 at a run, S7 at a radius), and M7
-/// at a byte behind the last tombstone. M8 may stand in place of any answer.
+/// at a byte behind the last tombstone. M8 may stand in place of any answer but M6.
 pub fn decode(alloc: Global, bytes: &[u8]) -> Result<Frame, SpdError>
     // What is read is spelled so.
     ensures found { IfOk result (λ f. Spells bytes.now f.conn f.print f.delta) }
     // What is spelled so is read, unless memory runs out.
     ensures only { (f : Read) → Spells bytes.now f.conn f.print f.delta → (result ≡ Ok f) ⊎ IsErrOf result errors.Memory }
+    // Too many bytes are told before any memory is taken.
+    ensures too_long { IsErrOf result errors.TooLong ↔ (max_bytes < length bytes.now) }
     // A refusal is the first fault of the bytes, unless memory runs out.
     ensures fault { IfErr result (λ e. (e ≡ errors.Memory) ⊎ IsFault bytes.now e) }
 {

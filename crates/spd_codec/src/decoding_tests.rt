@@ -1,3 +1,5 @@
+//! Reading of frames: worked bytes, faults and their order.
+
 use crate::*;
 use grid_core::Conn;
 use std::alloc::Global;
@@ -67,6 +69,28 @@ fn frames_of_both_versions(rt: HostRuntime) -> Result<(), Fail> {
     let disc = decode(alloc, &DISC).ok().ok_or("no frame of a disc")?;
     assert!(rt; disc.is_for(Conn::Four, &zeros) && !disc.is_for(Conn::Eight, &zeros));
     assert!(rt; has_stroke(&disc, 5, Kind::Disc { x: 2, y: 2, r: 2 }));
+    Ok(())
+}
+
+#[test]
+fn a_frame_of_the_first_version_is_written_again_in_the_second(
+    rt: HostRuntime,
+) -> Result<(), Fail> {
+    let alloc = rt.alloc();
+    let frame = decode(alloc, &RUNS).ok().ok_or("no frame of runs")?;
+    let written = encode(alloc, frame.conn, &frame.print, &frame.delta)
+        .ok()
+        .ok_or("not written")?;
+    let bytes = written.as_slice();
+    assert_eq!(rt; bytes.len(), 68);
+    assert_eq!(rt; &bytes[..4], b"SPD2".as_slice());
+    assert_eq!(rt; &bytes[4..57], &RUNS[4..57]);
+    assert_eq!(rt; bytes[57], 0);
+    assert_eq!(rt; &bytes[58..], &RUNS[57..]);
+    let again = decode(alloc, bytes)
+        .ok()
+        .ok_or("no frame of the second version")?;
+    assert!(rt; again.is_for(frame.conn, &frame.print) && again.delta.is_same(&frame.delta));
     Ok(())
 }
 

@@ -26,7 +26,7 @@ pub enum SpdError {
     /// M5: a stroke is refused, for this reason: S1 to S4, S7 or S8.
     #[error("M5 {0}")]
     BadStroke(StrokeError),
-    /// M6: the frame has more than 1,400 bytes.
+    /// M6: the frame has more than [`MAX_BYTES`](crate::MAX_BYTES) bytes.
     #[error("M6: too long")]
     TooLong,
     /// M7: something follows the last tombstone.

@@ -1,3 +1,5 @@
+//! State files: worked bytes, pieces and faults.
+
 use crate::*;
 use grid_core::Conn;
 use std::alloc::Global;

@@ -1,3 +1,5 @@
+//! Frames as they are read.
+
 ghost use Rattle.std.specs.Prelude.{◌≡◌, ◌↔◌, IsTrue};
 
 use crate::print::Print;

@@ -1,11 +1,16 @@
 //! What holds of all frames, said by functions that do nothing.
-ghost use Rattle.std.specs.Prelude.{◌≡◌, ◌⊎◌, ℕ, ◌<◌, ◌≤◌, ◌^◌, List, [], ◌++◌, length};
-ghost use Rattle.std.specs.List.{AllByRecursion};
-ghost use Rattle.stroke_lattice.specs.Pieces.{strokes_of, tombstones_of};
+ghost use Rattle.std.specs.Prelude.{◌≡◌, ◌⊎◌, ℕ, ◌+◌, ◌*◌, ◌<◌, ◌≤◌, ◌^◌, List, [], ◌++◌, length};
+ghost use Rattle.std.specs.List.{AllByRecursion, sum_by};
+ghost use Rattle.grid_core.specs.declared.conn.Conn.{Conn};
+ghost use Rattle.stroke_core.specs.Seed.{byte_len_of};
+ghost use Rattle.stroke_lattice.specs.State.{State};
+ghost use Rattle.stroke_lattice.specs.declared.split.TheConstants.{HEAD_BYTES, TOMBSTONE_BYTES};
+ghost use Rattle.stroke_lattice.specs.Pieces.{frame_length, strokes_of, tombstones_of};
 ghost use Rattle.spd_codec.specs.declared.error.SpdError.{SpdError};
 ghost use Rattle.spd_codec.specs.declared.error.SpdError.TheVariants as errors;
 ghost use Rattle.spd_codec.specs.declared.frame.Frame.{Frame};
 ghost use Rattle.spd_codec.specs.declared.version.Version.{Version};
+ghost use Rattle.spd_codec.specs.declared.version.Version.TheVariants.{Second};
 ghost use Rattle.spd_codec.specs.Spelling.{StrokeFits, Spells, frame_text, max_bytes};
 ghost use Rattle.spd_codec.specs.Faults.{IsFault};
 
@@ -41,6 +46,16 @@ pub fn one_spelling()
 pub fn no_spelling_begins_another()
     ensures { (bytes more : List ℕ) (a b : Frame) → Spells bytes a.conn a.print a.delta
         → Spells (bytes ++ more) b.conn b.print b.delta → (more ≡ []) × (a ≡ b) }
+{}
+
+/// The text of a frame in the second version, which [`encode`](crate::encode) writes, has as many bytes as its strokes
+/// and tombstones say: those of the head, of each stroke ([`Stroke::byte_len`](stroke_core::Stroke::byte_len)) and of
+/// each tombstone.
+pub fn frame_text_has_its_length()
+    ensures text { (conn : Conn) (print : List ℕ) (s : State) → length print ≡ 32
+        → length (frame_text Second conn print s) ≡ frame_length s }
+    ensures parts { (s : State) → frame_length s ≡ HEAD_BYTES + sum_by (λ e. byte_len_of e.1.shape) (strokes_of s)
+        + TOMBSTONE_BYTES * length (tombstones_of s) }
 {}
 
 /// The text of a frame in a version spells that frame and no other, where it is not too long, the version has

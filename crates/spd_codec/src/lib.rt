@@ -6,7 +6,7 @@
 //! first fault of the bytes, an [`SpdError`]. There are two versions of the format, told apart by their magic;
 //! both are read.
 //!
-//! [`encode`] writes the second version. A frame has at most 1,400 bytes; a state that may be longer is kept as a
+//! [`encode`] writes the second version. A frame has at most [`MAX_BYTES`] bytes; a state that may be longer is kept as a
 //! state file, its pieces one after another ([`write_frames`], [`read_frames`]):
 //!
 //! ```text
@@ -35,15 +35,15 @@ pub use decoding::decode;
 pub use error::SpdError;
 pub use frame::Frame;
 pub use laws::{
-    at_most_one_frame, every_text, frame_text_is_read, no_spelling_begins_another, one_fault,
-    one_spelling,
+    at_most_one_frame, every_text, frame_text_has_its_length, frame_text_is_read,
+    no_spelling_begins_another, one_fault, one_spelling,
 };
 pub use print::{Print, print_of};
 pub use state_file::{
     every_file, joined_files_spell_both, one_file, one_file_fault, read_frames, write_frames,
 };
 pub use version::Version;
-pub use writing::encode;
+pub use writing::{MAX_BYTES, encode};
 
 #[cfg(test)]
 mod decoding_tests;

@@ -1,3 +1,5 @@
+//! Fingerprints of images.
+
 use crate::*;
 use pgm_codec::read;
 use std::alloc::Global;

@@ -21,7 +21,7 @@ use std::alloc::{AllocError, Global};
 use stroke_lattice::{Delta, State};
 
 /// The state file of a state: the frames of its pieces, each with its length in two bytes before it. The
-/// pieces are those of [`State::split`] at 1,400 bytes, so that the file of the state without strokes and
+/// pieces are those of [`State::split`] at [`MAX_BYTES`], so that the file of the state without strokes and
 /// tombstones is empty. It takes a time of about the state's size.
 ///
 /// Errors: M8.
@@ -63,7 +63,7 @@ fn put_piece(out: &mut Vec<u8>, conn: Conn, print: &Print, piece: &Delta) -> Res
 /// has none.
 ///
 /// Errors, those of the first frame that has one, behind frames that stand there rightly: M3 where the file
-/// ends inside the two bytes of its length, else M6 where the length is above 1,400, else M3 where the file
+/// ends inside the two bytes of its length, else M6 where the length is above [`MAX_BYTES`], else M3 where the file
 /// ends inside the frame, else what [`decode`] answers to the bytes of that length. M8 where a growth was
 /// refused, in place of any.
 pub fn read_frames(alloc: Global, bytes: &[u8]) -> Result<Vec<Frame>, SpdError>

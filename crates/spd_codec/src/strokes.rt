@@ -1,7 +1,7 @@
 //! Strokes and tombstones, read from left to right, each behind the tag of the one before it.
-ghost use Rattle.std.specs.Prelude.{◌≡◌, ◌≤◌, ◌<◌, None, IfOk};
+ghost use Rattle.std.specs.Prelude.{◌≡◌, ℕ, ◌≤◌, ◌<◌, None, IfOk};
 ghost use Rattle.stroke_core.specs.Seed.{max_runs};
-ghost use Rattle.stroke_lattice.specs.State.{nothing};
+ghost use Rattle.stroke_lattice.specs.State.{HasSomeStroke, HasTombstone, nothing};
 ghost use Rattle.spd_codec.specs.Faults.{is_behind, count_field};
 ghost use Rattle.spd_codec.specs.Reading.{Gives, GivesOrMemory, field_at, short_value, level_at, run_at, many_at};
 ghost use Rattle.spd_codec.specs.Reading.{with_level, disc_at, runs_at, seed_at, stroke_at, strokes_at, tombstones_at};
@@ -168,7 +168,7 @@ impl<'a> Reader<'a> {
         Ok((tag, stroke))
     }
 
-    // The state with as many strokes more.
+    // The state with as many strokes more. It had none.
     //
     // Errors: M3, M4, M5, M8.
     fn strokes(
@@ -178,6 +178,7 @@ impl<'a> Reader<'a> {
         count: u16,
         state: &mut State,
     ) -> Result<(), SpdError>
+        requires { (tag : ℕ) → HasSomeStroke state.old tag → ⊥ }
         ensures { GivesOrMemory (λ _. (state.new, self.new.rest.now)) result
             (onto with_stroke state.old (strokes_at version count self.old.rest.now)) }
     {
@@ -190,10 +191,11 @@ impl<'a> Reader<'a> {
         Ok(())
     }
 
-    // The state with as many tombstones more.
+    // The state with as many tombstones more. It had none.
     //
     // Errors: M3, M4, M8.
     fn tombstones(&mut self, count: u16, state: &mut State) -> Result<(), SpdError>
+        requires { (tag : ℕ) → HasTombstone state.old tag → ⊥ }
         ensures { GivesOrMemory (λ _. (state.new, self.new.rest.now)) result
             (onto with_tombstone state.old (tombstones_at count self.old.rest.now)) }
     {

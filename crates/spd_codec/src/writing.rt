@@ -15,20 +15,14 @@ use crate::print::Print;
 use grid_core::Conn;
 use std::alloc::{AllocError, Global};
 use stroke_core::{Kind, Run, Stroke, Tag};
-use stroke_lattice::{Delta, walks_give_one_list};
+use stroke_lattice::{Delta, HEAD_BYTES, TOMBSTONE_BYTES, walks_give_one_list};
 
 /// The most bytes that a frame may have.
-pub(crate) const MAX_BYTES: usize = 1400;
-
-// The length of a frame without strokes and tombstones.
-const HEAD_BYTES: usize = 41;
-
-// The length of a tombstone in a frame.
-const TOMBSTONE_BYTES: usize = 16;
+pub const MAX_BYTES: usize = 1400;
 
 /// The frame of a delta, in the second version of the format. Memory of its exact length is taken.
 ///
-/// Errors: M6 where the frame has more than 1,400 bytes, asked before any memory is taken, else M8.
+/// Errors: M6 where the frame has more than [`MAX_BYTES`] bytes, asked before any memory is taken, else M8.
 pub fn encode(alloc: Global, conn: Conn, print: &Print, delta: &Delta) -> Result<Vec<u8>, SpdError>
     ensures text { IfOk result (λ v. v.items ≡ frame_text Second conn print.now delta.now) }
     ensures spells { IfOk result (λ v. Spells v.items conn print.now delta.now) }
@@ -56,13 +50,13 @@ pub(crate) fn frame_len(delta: &Delta) -> usize
 
 // The length of a frame with the strokes alone, or one byte more than a frame may have where it is longer.
 fn strokes_len(delta: &Delta) -> usize
-    ensures { result ≡ min (41 + sum_by (λ e. byte_len_of e.1.shape) (strokes_of delta.now)) (max_bytes + 1) }
+    ensures { result ≡ min (HEAD_BYTES + sum_by (λ e. byte_len_of e.1.shape) (strokes_of delta.now)) (max_bytes + 1) }
 {
     walks_give_one_list();
     let mut length = HEAD_BYTES;
     for (_, stroke) in delta.strokes() {
         length = length.saturating_add(stroke.byte_len());
-        if length > MAX_BYTES {
+        if MAX_BYTES < length {
             return MAX_BYTES + 1;
         }
     }

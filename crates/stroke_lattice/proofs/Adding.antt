@@ -6,6 +6,7 @@ use Rattle.std.specs.List.{sum_by}
 use Rattle.std.proofs.lemmas.Bool.Decides.{nat_tests}
 use Rattle.std.proofs.lemmas.List.Sums.{sum_by-append}
 use Rattle.stroke_core.specs.Seed.{Shape, Runs, Disc, byte_len_of}
+use Rattle.stroke_lattice.specs.declared.split.TheConstants.{HEAD_BYTES}
 use Rattle.stroke_lattice.specs.State.{State, nothing}
 use Rattle.stroke_lattice.specs.Pieces.{Item, Placed, Withdrawn, items_of, item_length, frame_length, with_item, fits}
 use Rattle.stroke_lattice.specs.Pieces.{if_any, filled, AllFit}
@@ -70,23 +71,23 @@ piece_of_some item items piece =
     alone (nat_lt 0 (length (item ∷ items))) piece (is_below 0 (length (item ∷ items)) (omega arith))
 
 -- a piece with a longer frame than the shortest has something in it
-pub piece_with_items : (piece : State) → 41 < frame_length piece → if_any piece ≡ piece ∷ []
+pub piece_with_items : (piece : State) → HEAD_BYTES < frame_length piece → if_any piece ≡ piece ∷ []
 piece_with_items piece longer = alone (nat_lt 0 (length (items_of piece))) piece
     (is_below 0 (length (items_of piece)) (some_item (items_of piece) (omega arith)))
 
-pub piece_without_items : (piece : State) → frame_length piece ≤ 41 → if_any piece ≡ []
+pub piece_without_items : (piece : State) → frame_length piece ≤ HEAD_BYTES → if_any piece ≡ []
 piece_without_items piece short = none (nat_lt 0 (length (items_of piece))) piece
     (is_not_below 0 (length (items_of piece)) (no_item (items_of piece) (omega arith)))
 
 -- ---- room for an item
 
 fits_in_either : (max : ℕ) (f : Filling) (bytes : ℕ) (b : Bool) → nat_le (frame_length f.last + bytes) max ≡ b
-    → 41 + bytes ≤ max → frame_length (if b then f else turned f).last + bytes ≤ max
+    → HEAD_BYTES + bytes ≤ max → frame_length (if b then f else turned f).last + bytes ≤ max
 fits_in_either max f bytes true e small = at_most (frame_length f.last + bytes) max e
 fits_in_either max f bytes false e small = omega (arith, frame_length_of_nothing)
 
 -- where room was made there is room
-pub room_is_there : (max : ℕ) (f g : Filling) (bytes : ℕ) → g ≡ with_room max f bytes → 41 + bytes ≤ max
+pub room_is_there : (max : ℕ) (f g : Filling) (bytes : ℕ) → g ≡ with_room max f bytes → HEAD_BYTES + bytes ≤ max
     → frame_length g.last + bytes ≤ max
 room_is_there max f g bytes is small = subst (λ (h : Filling). frame_length h.last + bytes ≤ max) (sym is)
     (fits_in_either max f bytes (nat_le (frame_length f.last + bytes) max) refl small)
@@ -128,14 +129,14 @@ items_of_one item =
     items_of_longer nothing item (subst (λ (items : List Item). AllBefore items item) (sym items_of_nothing) tt)
     ∙ ap (λ (items : List Item). items ++ item ∷ []) items_of_nothing
 
-frame_length_of_one : (item : Item) → frame_length (with_item nothing item) ≡ 41 + item_length item
+frame_length_of_one : (item : Item) → frame_length (with_item nothing item) ≡ HEAD_BYTES + item_length item
 frame_length_of_one item =
-    let one : frame_length (with_item nothing item) ≡ 41 + (0 + item_length item) =
-    ap (λ (items : List Item). 41 + sum_by item_length items) (items_of_one item) in
+    let one : frame_length (with_item nothing item) ≡ HEAD_BYTES + (0 + item_length item) =
+    ap (λ (items : List Item). HEAD_BYTES + sum_by item_length items) (items_of_one item) in
     omega arith
 
 next_item : (max : ℕ) (s : State) (f : Filling) (item : Item) (rest : List Item) (b : Bool)
-    → fits max f.last item ≡ b → IsFilling max s f (item ∷ rest) → 41 + item_length item ≤ max
+    → fits max f.last item ≡ b → IsFilling max s f (item ∷ rest) → HEAD_BYTES + item_length item ≤ max
     → IsFilling max s (if b then put_in f item else put_in (turned f) item) rest
 next_item max s f item rest true e now small = record {
   whole = ap (λ (b : Bool). f.full ++ (if b then filled max (with_item f.last item) rest
@@ -151,7 +152,7 @@ next_item max s f item rest false e now small =
     let longer : max < frame_length (with_item f.last item) = above (frame_length (with_item f.last item)) max e in
     let some : if_any f.last ≡ f.last ∷ [] = piece_with_items f.last
     (omega (arith, frame_length_of_longer f.last item before)) in
-    let one : frame_length (with_item nothing item) ≡ 41 + item_length item = frame_length_of_one item in
+    let one : frame_length (with_item nothing item) ≡ HEAD_BYTES + item_length item = frame_length_of_one item in
     record {
       whole = append_assoc f.full (f.last ∷ []) (filled max (with_item nothing item) rest)
           ∙ ap (λ (pieces : List State). f.full ++ (pieces ++ filled max (with_item nothing item) rest)) (sym some)
@@ -164,13 +165,13 @@ next_item max s f item rest false e now small =
     }
 
 pub filling_after : (max : ℕ) (s : State) (f g : Filling) (item : Item) (rest : List Item) → g ≡ added max f item
-    → IsFilling max s f (item ∷ rest) → 41 + item_length item ≤ max → IsFilling max s g rest
+    → IsFilling max s f (item ∷ rest) → HEAD_BYTES + item_length item ≤ max → IsFilling max s g rest
 filling_after max s f g item rest is now small = subst (λ (h : Filling). IsFilling max s h rest) (sym is)
     (next_item max s f item rest (fits max f.last item) refl now small)
 
 -- ---- the beginning
 
-pub filling_begins : (max : ℕ) (s : State) (f : Filling) → f ≡ record { full = []; last = nothing } → 41 ≤ max
+pub filling_begins : (max : ℕ) (s : State) (f : Filling) → f ≡ record { full = []; last = nothing } → HEAD_BYTES ≤ max
     → IsFilling max s f (items_of s)
 filling_begins max s f is least = subst (λ (g : Filling). IsFilling max s g (items_of s)) (sym is) (record {
   whole = refl;

@@ -12,9 +12,10 @@ use Rattle.std.proofs.lemmas.Bool.{cases_eq}
 use Rattle.std.proofs.lemmas.List.{take_more}
 use Rattle.std.proofs.lemmas.List.Elements.{Contains-push, Contains-push_cases, Contains-append_left}
 use Rattle.stroke_core.specs.Seed.{Seed}
-use Rattle.stroke_lattice.specs.State.{State, HasStroke, HasTombstone, IsBelow, IsJoin, AreCompatible, nothing}
+use Rattle.stroke_lattice.specs.State.{State, HasStroke, HasSomeStroke, HasTombstone, IsBelow, IsJoin, AreCompatible}
+use Rattle.stroke_lattice.specs.State.{nothing}
 use Rattle.stroke_lattice.specs.Change.{IsChange}
-use Rattle.stroke_lattice.specs.Growth.{HasSomeStroke, IsBetween, HasTagsOf, HasTombstonesOf, IsWithoutStrokes}
+use Rattle.stroke_lattice.specs.Growth.{IsBetween, HasTagsOf, HasTombstonesOf, IsWithoutStrokes}
 use Rattle.stroke_lattice.specs.Growth.{IsWithoutTombstones, IsNewStroke, IsNewTombstone, IsBirth, IsDeath, AreTags}
 use Rattle.stroke_lattice.proofs.Joins.{either_bit, first_bit, second_bit}
 use Rattle.stroke_lattice.proofs.Joins.{one_seed, no_seed, agree, same_state, below_itself, union_is_join}
@@ -44,6 +45,12 @@ other_stroke : (s : State) (tag : ℕ) (seed : Seed) (t : ℕ) → (t ≡ tag �
     → map.get (with_stroke s tag seed).strokes t ≡ map.get s.strokes t
 other_stroke s tag seed t ne = map.get-insert nat_cmp_total s.strokes tag seed t
     ∙ ap (λ (b : Bool). cond b (Some seed) (map.get s.strokes t)) (apart t tag ne)
+
+-- a stroke of the state with one stroke more is that one or one of before
+pub only_one_stroke_more : (s : State) (tag : ℕ) (seed : Seed) (t : ℕ) → HasSomeStroke (with_stroke s tag seed) t
+    → (t ≡ tag) ⊎ HasSomeStroke s t
+only_one_stroke_more s tag seed t some = elim
+    (cases_eq t tag) [ inl e ↦ inl e | inr ne ↦ inr (some.0, sym (other_stroke s tag seed t ne) ∙ some.1) ]
 
 pub above_without : (s : State) (tag : ℕ) (seed : Seed) → (HasSomeStroke s tag → ⊥)
     → IsBelow s (with_stroke s tag seed)

@@ -16,14 +16,16 @@ use Rattle.std.proofs.lemmas.Bool.Decides.{nat_tests}
 use Rattle.std.proofs.lemmas.List.Sums.{sum_by-append}
 use Rattle.std.proofs.lemmas.List.Elements.{Contains-push, Contains-push_cases, Contains-append_left}
 use Rattle.stroke_core.specs.Seed.{Seed}
-use Rattle.stroke_lattice.specs.State.{State, HasTombstone, nothing}
+use Rattle.stroke_lattice.specs.declared.split.TheConstants.{HEAD_BYTES}
+use Rattle.stroke_lattice.specs.State.{State, HasSomeStroke, HasTombstone, nothing}
 use Rattle.stroke_lattice.specs.Change.{AreRising}
 use Rattle.stroke_lattice.specs.Walks.{AreStrokes, AreTombstones}
 use Rattle.stroke_lattice.specs.Pieces.{Item, Placed, Withdrawn, strokes_of, tombstones_of}
 use Rattle.stroke_lattice.specs.Pieces.{items_of, item_length, frame_length, with_item}
 use Rattle.stroke_lattice.specs.Filling.{ComesBefore, AllBefore, AreInOrder}
 use Rattle.stroke_lattice.proofs.Joins.{nothing_has_no_stroke, nothing_has_no_tombstone}
-use Rattle.stroke_lattice.proofs.Lists.{first_or_later, later, first, here, none_in_nil, below_later}
+use Rattle.stroke_lattice.proofs.Lists.{first_or_later, later, first, here, none_in_nil}
+use Rattle.stroke_lattice.proofs.Lists.{holds_of_member, below_later}
 use Rattle.stroke_lattice.proofs.Views.{kept}
 use Rattle.stroke_lattice.proofs.Walking.{are_strokes, are_tombstones}
 use Rattle.stroke_lattice.proofs.Growing.{tombstone_of_new, more_tombstones, only_one_more}
@@ -274,6 +276,22 @@ frame_length_of_longer s item before =
     ∙ sum_by-append item_length (items_of s) (item ∷ []) in
     omega arith
 
+-- an item that goes after all others is not there yet
+pub new_stroke : (s : State) (tag : ℕ) (seed : Seed) → AllBefore (items_of s) (Placed tag seed)
+    → HasSomeStroke s tag → ⊥
+new_stroke s tag seed before some =
+    let member : Contains (map (λ (e : ℕ × Seed). e.0) (strokes_of s)) tag =
+    key_member (λ e. e.0) (strokes_of s) (tag, some.0) (((strokes_walk s).each tag some.0).1 some.1) in
+    let below : tag < tag = holds_of_member (λ other. other < tag) (map (λ e. e.0) (strokes_of s)) tag
+    (strokes_below (strokes_of s) (tombstones_of s) tag seed before) member in
+    absurd (omega arith)
+
+pub new_tombstone : (s : State) (tag : ℕ) → AllBefore (items_of s) (Withdrawn tag) → HasTombstone s tag → ⊥
+new_tombstone s tag before has =
+    let below : tag < tag = holds_of_member (λ other. other < tag) (tombstones_of s) tag
+    (after_strokes (strokes_of s) (tombstones_of s) tag before) (((tombstones_walk s).each tag).1 has) in
+    absurd (omega arith)
+
 -- ---- no items
 
 no_strokes : AreStrokes nothing []
@@ -293,8 +311,8 @@ items_of_nothing =
     ap (λ (es : List (ℕ × Seed)). joined es (tombstones_of nothing)) (sym (strokes_are nothing [] no_strokes))
     ∙ ap (joined []) (sym (tombstones_are nothing [] no_tombstones))
 
-pub frame_length_of_nothing : frame_length nothing ≡ 41
-frame_length_of_nothing = ap (λ (items : List Item). 41 + sum_by item_length items) items_of_nothing
+pub frame_length_of_nothing : frame_length nothing ≡ HEAD_BYTES
+frame_length_of_nothing = ap (λ (items : List Item). HEAD_BYTES + sum_by item_length items) items_of_nothing
 
 -- ---- the order of all items
 

@@ -11,3 +11,4 @@ pub mod Refusing
 pub mod Items
 pub mod Adding
 pub mod Cutting
+pub mod Shared

@@ -6,9 +6,9 @@ use Rattle.std.proofs.lemmas.List.{append-nil}
 use Rattle.stroke_lattice.specs.Change.{AreRising}
 use Rattle.std.specs.Map.{keys_of}
 use Rattle.stroke_core.specs.Seed.{Seed}
-use Rattle.stroke_lattice.specs.State.{State, HasTombstone}
+use Rattle.stroke_lattice.specs.State.{State, HasSomeStroke, HasTombstone}
 use Rattle.stroke_lattice.specs.Walks.{AreStrokes, AreTombstones}
-use Rattle.stroke_lattice.specs.Growth.{AreTags, HasSomeStroke}
+use Rattle.stroke_lattice.specs.Growth.{AreTags}
 use Rattle.stroke_lattice.proofs.Walking.{StrokesLeft, TombstonesLeft, strokes_begin, stroke_step, stroke_here}
 use Rattle.stroke_lattice.proofs.Walking.{tombstones_begin, tombstone_step, tombstone_here, key_of_member}
 use Rattle.stroke_lattice.proofs.Lists.{first_or_later, none_in_nil, rise_without}

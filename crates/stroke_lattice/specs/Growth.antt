@@ -1,12 +1,8 @@
 -- How a state grows while it takes in another, and what is new in that other.
 use Rattle.std.specs.Prelude.{◌≡◌, ℕ, List, ◌⊎◌, ◌↔◌, Contains}
 use Rattle.stroke_core.specs.Seed.{Seed}
-use Rattle.stroke_lattice.specs.State.{State, HasStroke, HasTombstone, IsLiveTag, IsBelow}
+use Rattle.stroke_lattice.specs.State.{State, HasStroke, HasSomeStroke, HasTombstone, IsLiveTag, IsBelow}
 use Rattle.stroke_lattice.specs.Change.{AreRising}
-
--- the state has a stroke of the tag, live or not
-abbrev pub HasSomeStroke : State → ℕ → Type 0
-HasSomeStroke s tag = (seed : Seed) × HasStroke s tag seed
 
 -- the new state is above the old one, and what it has more stands in the one that is taken in
 pub record IsBetween (old given new : State) : Type 0 where

@@ -6,6 +6,7 @@ use Rattle.std.specs.FinMap.{entries, keys, insert, from_entries}
 use Rattle.std.specs.FinSet as set
 use Rattle.std.specs.List.{sum_by, AllByRecursion}
 use Rattle.stroke_core.specs.Seed.{Seed, byte_len_of}
+use Rattle.stroke_lattice.specs.declared.split.TheConstants.{HEAD_BYTES, TOMBSTONE_BYTES}
 use Rattle.stroke_lattice.specs.State.{State, nothing}
 
 -- what a state is made of: a stroke under its tag, or a tombstone
@@ -32,15 +33,14 @@ tombstone_items s = map (λ tag. Withdrawn tag) (tombstones_of s)
 abbrev pub items_of : State → List Item
 items_of s = stroke_items s ++ tombstone_items s
 
--- how many bytes an item takes in a frame: a tombstone is 16 bytes of tag
+-- how many bytes an item takes in a frame: a tombstone is a tag
 abbrev pub item_length : Item → ℕ
 item_length (Placed tag seed) = byte_len_of seed.shape
-item_length (Withdrawn tag) = 16
+item_length (Withdrawn tag) = TOMBSTONE_BYTES
 
--- how many bytes the frame of the state has: 41 before its items, which are 4 of magic, 1 of connectivity, 32 of
--- fingerprint, and 2 for the number of strokes and 2 for that of tombstones
+-- how many bytes the frame of the state has: those of its head and those of its items
 abbrev pub frame_length : State → ℕ
-frame_length s = 41 + sum_by item_length (items_of s)
+frame_length s = HEAD_BYTES + sum_by item_length (items_of s)
 
 -- the state with one item more
 abbrev pub with_item : State → Item → State

@@ -16,6 +16,10 @@ pub record State : Type 0 where
 abbrev pub HasStroke : State → ℕ → Seed → Type 0
 HasStroke s tag seed = map.get s.strokes tag ≡ Some seed
 
+-- the state has a stroke of the tag, live or not
+abbrev pub HasSomeStroke : State → ℕ → Type 0
+HasSomeStroke s tag = (seed : Seed) × HasStroke s tag seed
+
 -- the tag was withdrawn
 abbrev pub HasTombstone : State → ℕ → Type 0
 HasTombstone s tag = IsTrue (set.contains s.tombstones tag)

@@ -1,3 +1,5 @@
+//! What a merge tells: births and deaths.
+
 ghost use Rattle.std.specs.Prelude.{◌≡◌};
 
 use std::marker::Model;

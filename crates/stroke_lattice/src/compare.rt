@@ -4,7 +4,6 @@ ghost use Rattle.std.specs.Prelude.{◌≡◌, ℕ, ◌↔◌, IsTrue, MatchOpti
 ghost use Rattle.stroke_core.specs.Seed.{Seed};
 ghost use Rattle.stroke_lattice.specs.State.{HasStroke, HasTombstone, IsBelow};
 ghost use Rattle.stroke_lattice.specs.State.{IsLeastClash, AreCompatible, StateFits, IsLeastOutside};
-ghost use Rattle.stroke_lattice.specs.Growth.{HasSomeStroke};
 
 use crate::state::{Delta, State};
 use stroke_core::{Stroke, Tag};
@@ -47,13 +46,6 @@ impl State {
             }
         }
         None
-    }
-
-    /// Whether the tag has a stroke, live or not.
-    pub(crate) fn has_stroke(&self, tag: Tag) -> bool
-        ensures { IsTrue result ↔ HasSomeStroke self.now tag }
-    {
-        self.stroke(tag).is_some()
     }
 
     fn strokes_are_in(&self, other: &State) -> bool

@@ -1,3 +1,5 @@
+//! Why a state is not made or not changed.
+
 ghost use Rattle.std.specs.Prelude.{◌≡◌};
 ghost use Rattle.stroke_lattice.specs.declared.error.StateError.TheVariants as errors;
 ghost use Rattle.stroke_lattice.specs.Code.{code_of};

@@ -33,9 +33,9 @@ mod error;
 mod laws;
 mod live;
 mod merge;
-mod news;
 mod split;
 mod state;
+mod turnover;
 
 pub use change::Change;
 pub use error::{RefusedStroke, StateError};
@@ -48,6 +48,7 @@ pub use laws::{
     pieces_of_nothing, walks_give_one_list,
 };
 pub use live::Live;
+pub use split::{HEAD_BYTES, MIN_PIECE_BYTES, TOMBSTONE_BYTES};
 pub use state::{Delta, State};
 
 #[cfg(test)]

@@ -1,3 +1,5 @@
+//! The walk over the live strokes of a state.
+
 ghost use Rattle.std.specs.Prelude.{◌≡◌, ℕ, length, not};
 ghost use Rattle.std.specs.BTreeSet.{contains};
 ghost use Rattle.std.specs.Iterator.{at_most};

@@ -1,3 +1,5 @@
+//! Merging: the least state above a state and a delta.
+
 ghost use Rattle.std.specs.Prelude.{◌≡◌, ℕ, ◌↔◌, IfOk, IfErr, OnOk, OnErr, IsErrOf};
 ghost use Rattle.stroke_lattice.specs.State.{IsJoin, IsLeastClash, AreCompatible};
 ghost use Rattle.stroke_lattice.specs.Change.{IsChange};
@@ -28,8 +30,23 @@ impl State {
     {
         match self.clash(delta) {
             Some(tag) => Err(StateError::Conflict(tag)),
-            None => Ok(self.merge_compatible(alloc, delta)?),
+            None => Ok(self.join(alloc, delta)?),
         }
+    }
+
+    /// Merges a delta that does not clash, as [`State::clash`] tells. It is [`State::merge`] without that search.
+    ///
+    /// Errors: want of memory. The state is then as it was.
+    pub fn join(&mut self, alloc: Global, delta: &Delta) -> Result<Change, Memory>
+        requires { AreCompatible self.old delta.now }
+        ensures join { OnOk result (IsJoin self.old delta.now self.new) }
+        ensures change { IfOk result (IsChange self.old self.new) }
+        ensures err { OnErr result (self.new ≡ self.old) }
+    {
+        let born = self.births(alloc, delta)?;
+        let dead = self.deaths(alloc, delta)?;
+        self.take_in(alloc, delta)?;
+        Ok(Change::new(born, dead))
     }
 
     /// A state with the same strokes and the same tombstones.
@@ -42,19 +59,6 @@ impl State {
         let mut copy = State::new(alloc);
         copy.grow(alloc, self)?;
         Ok(copy)
-    }
-
-    /// Merges a delta that does not clash.
-    fn merge_compatible(&mut self, alloc: Global, delta: &Delta) -> Result<Change, Memory>
-        requires { AreCompatible self.old delta.now }
-        ensures join { OnOk result (IsJoin self.old delta.now self.new) }
-        ensures change { IfOk result (IsChange self.old self.new) }
-        ensures err { OnErr result (self.new ≡ self.old) }
-    {
-        let born = self.births(alloc, delta)?;
-        let dead = self.deaths(alloc, delta)?;
-        self.take_in(alloc, delta)?;
-        Ok(Change::new(born, dead))
     }
 
     /// Takes a delta in that does not clash. Where memory runs out, what was taken goes out again.
@@ -103,7 +107,9 @@ impl State {
         ensures tombstones { OnOk result (HasTombstonesOf self.new delta.now) }
     {
         for tag in delta.tombstones() {
-            self.bury(*tag)?;
+            if !self.has_tombstone(*tag) {
+                self.bury(*tag)?;
+            }
         }
         Ok(())
     }

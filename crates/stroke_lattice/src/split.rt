@@ -13,11 +13,15 @@ use std::alloc::Global;
 use std::mem;
 use stroke_core::{Stroke, Tag};
 
-/// The length of a frame without items, in bytes.
-const HEAD_BYTES: usize = 41;
+/// The length of a frame without strokes and tombstones, in bytes: 4 of magic, 1 of connectivity, 32 of fingerprint,
+/// and 2 for the number of strokes and 2 for that of tombstones.
+pub const HEAD_BYTES: usize = 41;
 
-/// The length of a tombstone in a frame, in bytes.
-const TOMBSTONE_BYTES: usize = 16;
+/// The length of a tombstone in a frame, in bytes: a tag.
+pub const TOMBSTONE_BYTES: usize = 16;
+
+/// The least length that pieces may be cut to, in bytes: that of a frame with the longest stroke.
+pub const MIN_PIECE_BYTES: usize = 1022;
 
 impl State {
     /// Pieces whose join is the state ([`pieces_join`](crate::pieces_join)), and whose frames have at most
@@ -27,7 +31,7 @@ impl State {
     ///
     /// Errors: out of memory.
     pub fn split(&self, alloc: Global, max_bytes: usize) -> Result<Vec<Delta>, Memory>
-        requires { 1022 ≤ max_bytes }
+        requires { MIN_PIECE_BYTES ≤ max_bytes }
         ensures pieces { IfOk result (λ pieces. pieces.items ≡ pieces_of max_bytes self.now) }
         ensures fit { IfOk result (λ pieces. AllFit max_bytes pieces.items) }
     {
@@ -44,7 +48,7 @@ impl State {
         max_bytes: usize,
         pieces: &mut Pieces,
     ) -> Result<(), Memory>
-        requires max { 1022 ≤ max_bytes }
+        requires max { MIN_PIECE_BYTES ≤ max_bytes }
         requires measured { IsMeasured pieces.old }
         requires filling { IsFilling max_bytes self.now (filling pieces.old) (items_of self.now) }
         ensures measured { OnOk result (IsMeasured pieces.new) }
@@ -64,7 +68,7 @@ impl State {
         max_bytes: usize,
         pieces: &mut Pieces,
     ) -> Result<(), Memory>
-        requires max { 1022 ≤ max_bytes }
+        requires max { MIN_PIECE_BYTES ≤ max_bytes }
         requires measured { IsMeasured pieces.old }
         requires filling { IsFilling max_bytes self.now (filling pieces.old) (tombstone_items self.now) }
         ensures measured { OnOk result (IsMeasured pieces.new) }
@@ -105,11 +109,11 @@ impl Pieces {
         tag: Tag,
         stroke: &Stroke,
     ) -> Result<(), Memory>
-        requires max { 1022 ≤ max_bytes }
+        requires max { MIN_PIECE_BYTES ≤ max_bytes }
         requires measured { IsMeasured self.old }
         requires fits { frame_length self.old.last ≤ max_bytes }
         requires before { AllBefore (items_of self.old.last) (Placed tag stroke.now) }
-        ensures small { 41 + byte_len_of stroke.now.shape ≤ max_bytes }
+        ensures small { HEAD_BYTES + byte_len_of stroke.now.shape ≤ max_bytes }
         ensures measured { OnOk result (IsMeasured self.new) }
         ensures added { OnOk result (filling self.new ≡ added max_bytes (filling self.old) (Placed tag stroke.now)) }
     {
@@ -122,7 +126,7 @@ impl Pieces {
 
     /// Puts the tombstone into the last piece, or into the next one where it does not fit.
     fn add_tombstone(&mut self, alloc: Global, max_bytes: usize, tag: Tag) -> Result<(), Memory>
-        requires max { 1022 ≤ max_bytes }
+        requires max { MIN_PIECE_BYTES ≤ max_bytes }
         requires measured { IsMeasured self.old }
         requires fits { frame_length self.old.last ≤ max_bytes }
         requires before { AllBefore (items_of self.old.last) (Withdrawn tag) }

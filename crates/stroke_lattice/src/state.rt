@@ -1,10 +1,12 @@
+//! States: strokes and tombstones under tags.
+
 ghost use Rattle.std.specs.Prelude.{◌≡◌, ℕ, ◌↔◌, IsTrue, IsOk, IfOk, IfErr, OnOk, OnErr};
 ghost use Rattle.std.specs.FinMap as map;
 ghost use Rattle.std.specs.FinSet as set;
 ghost use Rattle.std.specs.Map.Iter.{ShowsInOrder, deref, deref_pair};
 ghost use Rattle.std.specs.Option.{option_copied};
 ghost use Rattle.stroke_core.specs.Seed.{Seed};
-ghost use Rattle.stroke_lattice.specs.State.{HasTombstone, IsLiveTag, nothing, placed, withdrawn};
+ghost use Rattle.stroke_lattice.specs.State.{HasSomeStroke, HasTombstone, IsLiveTag, nothing, placed, withdrawn};
 ghost use Rattle.stroke_lattice.specs.Walks.{AreStrokes, AreTombstones, AreLive};
 ghost use Rattle.stroke_lattice.specs.declared.error.StateError.TheVariants as errors;
 
@@ -100,6 +102,13 @@ impl State {
         self.strokes.get(&tag)
     }
 
+    /// Whether the tag has a stroke, live or not.
+    pub fn has_stroke(&self, tag: Tag) -> bool
+        ensures { IsTrue result ↔ HasSomeStroke self.now tag }
+    {
+        self.stroke(tag).is_some()
+    }
+
     /// Whether the tag was withdrawn.
     pub fn has_tombstone(&self, tag: Tag) -> bool
         ensures { IsTrue result ↔ HasTombstone self.now tag }
@@ -111,7 +120,7 @@ impl State {
     pub fn is_live(&self, tag: Tag) -> bool
         ensures { IsTrue result ↔ IsLiveTag self.now tag }
     {
-        self.stroke(tag).is_some() && !self.has_tombstone(tag)
+        self.has_stroke(tag) && !self.has_tombstone(tag)
     }
 
     /// The strokes with their tags, live or not, rising by tag.
@@ -138,10 +147,11 @@ impl State {
         Live::new(self.strokes.iter(), &self.tombstones)
     }
 
-    /// Puts a stroke under a tag, in place of the tag's own if it has one.
+    /// Puts a stroke under a tag that has none ([`State::has_stroke`] tells).
     ///
     /// Errors: want of memory, with the stroke handed back. The state is then unchanged.
     pub fn insert(&mut self, tag: Tag, stroke: Stroke) -> Result<(), AllocFailed<Stroke>>
+        requires { HasSomeStroke self.old tag → ⊥ }
         ensures ok { OnOk result (self.new ≡ record self.old { strokes = map.insert self.old.strokes tag stroke }) }
         ensures err { OnErr result (self.new ≡ self.old) }
         ensures returned { IfErr result (λ e. e.value ≡ stroke) }
@@ -161,10 +171,11 @@ impl State {
         self.strokes.remove(&tag);
     }
 
-    /// Puts a tombstone under a tag.
+    /// Puts a tombstone under a tag that has none ([`State::has_tombstone`] tells).
     ///
     /// Errors: want of memory. The state is then unchanged.
     pub fn bury(&mut self, tag: Tag) -> Result<(), Memory>
+        requires { HasTombstone self.old tag → ⊥ }
         ensures ok { OnOk result (self.new ≡ record self.old { tombstones = set.insert self.old.tombstones tag }) }
         ensures err { OnErr result (self.new ≡ self.old) }
     {

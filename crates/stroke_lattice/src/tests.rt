@@ -1,3 +1,5 @@
+//! States merged and compared, by their public calls.
+
 mod pieces;
 
 use crate::*;
@@ -161,5 +163,38 @@ fn states_against_others_and_images(rt: HostRuntime) -> Result<(), Fail> {
     assert!(rt; low.is_below(&high) && !high.is_below(&low) && !low.is_same(&high));
     assert_eq!(rt; high.outside(2, 1), None);
     assert_eq!(rt; high.outside(1, 1), Some(T1));
+    Ok(())
+}
+
+#[test]
+fn a_delta_that_is_known_not_to_clash_is_joined(rt: HostRuntime) -> Result<(), Fail> {
+    let alloc = rt.alloc();
+    let mut joined = place(alloc, T1, 2)?;
+    let delta = merged(alloc, &[place(alloc, T2, 3)?, State::withdrawn(alloc, T1)?])?;
+    let both = merged(alloc, &[joined.copy(alloc)?, delta.copy(alloc)?])?;
+    let None = joined.clash(&delta) else {
+        return Err(Fail::from("they do not clash"));
+    };
+    let change = joined.join(alloc, &delta)?;
+    assert!(rt; joined.is_same(&both));
+    assert_eq!(rt; change.born(), [T2].as_slice());
+    assert_eq!(rt; change.dead(), [T1].as_slice());
+    Ok(())
+}
+
+#[test]
+fn a_disc_lies_outside_where_its_centre_does(rt: HostRuntime) -> Result<(), Fail> {
+    let alloc = rt.alloc();
+    let beside = State::placed(alloc, T2, Stroke::disc(7, 9, 9, 254)?)?;
+    let state = merged(
+        alloc,
+        &[
+            beside,
+            State::placed(alloc, T1, Stroke::disc(7, 4, 4, 254)?)?,
+        ],
+    )?;
+    assert_eq!(rt; state.outside(5, 5), Some(T2));
+    assert_eq!(rt; state.outside(10, 9), Some(T2));
+    assert_eq!(rt; state.outside(10, 10), None);
     Ok(())
 }

@@ -1,3 +1,5 @@
+//! Pieces of states, and their lengths.
+
 use crate::tests::merged;
 use crate::*;
 use std::alloc::Global;
@@ -29,7 +31,7 @@ fn withdraw(alloc: Global, state: &mut State, first: u128, end: u128) -> Result<
 /// The numbers of strokes and of tombstones, and the length of the frame in bytes.
 fn measured(state: &State) -> (u64, u64, usize) {
     let mut strokes: u64 = 0;
-    let mut length: usize = 41;
+    let mut length: usize = HEAD_BYTES;
     for (_, stroke) in state.strokes() {
         strokes = strokes.saturating_add(1);
         length = length.saturating_add(stroke.byte_len());
@@ -37,14 +39,14 @@ fn measured(state: &State) -> (u64, u64, usize) {
     let mut tombstones: u64 = 0;
     for _ in state.tombstones() {
         tombstones = tombstones.saturating_add(1);
-        length = length.saturating_add(16);
+        length = length.saturating_add(TOMBSTONE_BYTES);
     }
     (strokes, tombstones, length)
 }
 
 /// What each piece of the state measures.
 fn pieces(alloc: Global, state: &State, max_bytes: u16) -> Result<Vec<(u64, u64, usize)>, Fail> {
-    let max_bytes = usize::from(max_bytes).max(1022);
+    let max_bytes = usize::from(max_bytes).max(MIN_PIECE_BYTES);
     let mut measures = Vec::new(alloc);
     for piece in &state.split(alloc, max_bytes)? {
         measures.push(measured(piece))?;

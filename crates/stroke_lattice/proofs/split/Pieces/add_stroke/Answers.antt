@@ -3,7 +3,7 @@ use Rattle.stroke_core.specs.Seed.{Seed}
 use Rattle.stroke_lattice.specs.State.{State}
 use Rattle.stroke_lattice.specs.Pieces.{Placed, item_length, frame_length, with_item}
 use Rattle.stroke_lattice.specs.Filling.{filling, with_room}
-use Rattle.stroke_lattice.proofs.Items.{frame_length_of_longer}
+use Rattle.stroke_lattice.proofs.Items.{frame_length_of_longer, new_stroke}
 use Rattle.stroke_lattice.proofs.Adding.{room_is_there, before_in_room, added_in_room}
 use Rattle.stroke_lattice.proofs.split.Pieces.add_stroke.Goals as goal
 
@@ -12,6 +12,11 @@ overflow_add-self c =
     let room = room_is_there c.args.max_bytes (filling c.args.self.now) (filling c.make_room.new.self)
     c.stroke_bytes-bytes.result c.in_ok-make_room.ensures.room (omega arith) in
     omega (arith, room, c.in_ok-make_room.ensures.measured)
+
+pub insert-requires : goal.insert-requires
+insert-requires c = new_stroke c.make_room.new.self.last c.args.tag c.args.stroke.now
+    (before_in_room c.args.max_bytes (filling c.args.self.now) (filling c.make_room.new.self)
+    c.stroke_bytes-bytes.result (Placed c.args.tag c.args.stroke.now) c.in_ok-make_room.ensures.room c.requires.before)
 
 pub returns-clause-measured : goal.returns-clause-measured
 returns-clause-measured c =

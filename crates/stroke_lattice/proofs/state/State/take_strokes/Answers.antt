@@ -1,6 +1,7 @@
 use Rattle.std.proofs.Common.{◌≡◌, true, false, refl, ap, subst, sym, ◌∙◌}
 use Rattle.stroke_lattice.specs.State.{State}
-use Rattle.stroke_lattice.specs.Growth.{HasSomeStroke, IsBetween}
+use Rattle.stroke_lattice.specs.State.{HasSomeStroke}
+use Rattle.stroke_lattice.specs.Growth.{IsBetween}
 use Rattle.stroke_lattice.proofs.Walking.{StrokesLeft, strokes_begin, stroke_step, stroke_here}
 use Rattle.stroke_lattice.proofs.Growing.{between_at_first, with_stroke, above_without, stroke_of_new}
 use Rattle.stroke_lattice.proofs.Growing.{grows_by_stroke}

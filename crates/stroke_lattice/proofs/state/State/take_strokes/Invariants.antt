@@ -1,4 +1,5 @@
-use Rattle.stroke_lattice.specs.Growth.{HasSomeStroke, IsBetween}
+use Rattle.stroke_lattice.specs.State.{HasSomeStroke}
+use Rattle.stroke_lattice.specs.Growth.{IsBetween}
 use Rattle.stroke_lattice.proofs.Walking.{StrokesLeft}
 use Rattle.stroke_lattice.proofs.state.State.take_strokes.Given as goal
 

@@ -1,12 +1,12 @@
-use Rattle.std.proofs.Common.{◌≡◌, ap, subst, sym, ◌∙◌}
+use Rattle.std.proofs.Common.{◌≡◌, refl, ap, subst, sym, ◌∙◌}
 use Rattle.stroke_lattice.specs.State.{State, HasTombstone}
 use Rattle.stroke_lattice.specs.Growth.{IsBetween}
 use Rattle.stroke_lattice.proofs.Walking.{TombstonesLeft, tombstone_step, tombstone_here}
 use Rattle.stroke_lattice.proofs.Growing.{with_tombstone, more_tombstones, tombstone_of_new, grows_by_tombstone}
 use Rattle.stroke_lattice.proofs.state.State.take_tombstones.Goals as goal
 
-pub loop-tag-preserved : goal.loop-tag-preserved
-loop-tag-preserved c =
+pub loop-tag-preserved-in-Continue-1 : goal.loop-tag-preserved-in-Continue-1
+loop-tag-preserved-in-Continue-1 c =
     let s = c.loop-tag.self in
     let delta = c.args.delta.now in
     let tag = c.in-Some.tag.now in
@@ -22,3 +22,12 @@ loop-tag-preserved c =
           (grows_by_tombstone c.args.self.now delta s tag c.loop-tag.invariant.between given);
       strokes = ap (λ (q : State). q.strokes) is ∙ c.loop-tag.invariant.strokes;
     }
+
+pub loop-tag-preserved : goal.loop-tag-preserved
+loop-tag-preserved c = record {
+  left = tombstone_step (HasTombstone c.loop-tag.self) (HasTombstone c.loop-tag.self) c.args.delta.now
+      c.in-Some.tag.now c.loop-tag.tag-iterator c.next.new.self c.in-Some.ensures.steps c.loop-tag.invariant.left
+      (λ t has. has) (c.if-not-has_tombstone.ensures.0 refl);
+  between = c.loop-tag.invariant.between;
+  strokes = c.loop-tag.invariant.strokes;
+}

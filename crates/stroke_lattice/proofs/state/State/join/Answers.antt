@@ -1,7 +1,7 @@
 use Rattle.std.proofs.Common.{subst, sym}
 use Rattle.stroke_lattice.specs.Change.{IsChange}
 use Rattle.stroke_lattice.proofs.Growing.{change_of_join}
-use Rattle.stroke_lattice.proofs.state.State.merge_compatible.Goals as goal
+use Rattle.stroke_lattice.proofs.state.State.join.Goals as goal
 
 pub returns-clause-change : goal.returns-clause-change
 returns-clause-change c =

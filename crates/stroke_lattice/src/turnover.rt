@@ -1,5 +1,5 @@
-//! What is new in a delta: the tags of which a merge takes a stroke or a tombstone, and those of which it
-//! makes or ends the life. Each list rises.
+//! Births and deaths, and what else is new in a delta: the tags of which a merge takes a stroke or a tombstone, and
+//! those that become live or cease to be. Each list rises.
 
 ghost use Rattle.std.specs.Prelude.{◌↔◌, IfOk, IsTrue};
 ghost use Rattle.stroke_lattice.specs.Growth.{IsNewStroke, IsNewTombstone, IsVacant, IsBirth, IsDeath, AreTags};
