@@ -10,7 +10,8 @@ use Rattle.border_queues.specs.declared.hint.Hint.{Hint}
 use Rattle.core_rules.specs.Image.{IsOpen}
 use Rattle.core_rules.specs.Image.{IsSupported, IsOfSize}
 use Rattle.grid_core.specs.Tiles.{tile_of}
-use Rattle.core_rules.specs.Work.{Core, TileWork, domain, tiling, mask_at, image_at, idle, IsTile, work_at, with_work}
+use Rattle.core_rules.specs.Work.{Core, domain, tiling, mask_at, image_at, IsTile, work_at, with_work}
+use Rattle.border_queues.specs.TileWork.{TileWork, idle}
 use Rattle.core_rules.specs.Hints.{IsPresent}
 use Rattle.core_rules.specs.Invariant.{IsShaped, IsValid, HasHint, HasWork, IsSound}
 

@@ -29,7 +29,8 @@ use Rattle.core_rules.specs.declared.answers.Handed.{Handed}
 use Rattle.core_rules.specs.declared.answers.Handed.TheVariants.{Raised, Same, Stale as Old, Nothing}
 use Rattle.core_rules.specs.declared.step.Step.{Step}
 use Rattle.core_rules.specs.declared.step.Step.TheVariants as steps
-use Rattle.core_rules.specs.Work.{Core, TileWork, idle, domain, tiling, mask_at, image_at, IsTile, work_at, with_work}
+use Rattle.core_rules.specs.Work.{Core, domain, tiling, mask_at, image_at, IsTile, work_at, with_work}
+use Rattle.border_queues.specs.TileWork.{TileWork, idle}
 use Rattle.core_rules.specs.Work.{IsQuiet}
 use Rattle.core_rules.specs.Sweeps.{taken, IsKnown, IsTaken, IsGivenBack, IsAbandoned, IsJoined}
 use Rattle.core_rules.specs.Hints.{without_hint, raised, IsHanded}

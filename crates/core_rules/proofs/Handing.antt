@@ -15,7 +15,8 @@ use Rattle.core_rules.specs.Image.{IsOpen}
 use Rattle.core_rules.specs.declared.answers.Handed.{Handed}
 use Rattle.core_rules.specs.declared.answers.Handed.TheVariants.{Raised, Same, Stale, Nothing}
 use Rattle.core_rules.specs.Image.{IsSupported}
-use Rattle.core_rules.specs.Work.{Core, TileWork, domain, tiling, mask_at, image_at, idle, IsTile, work_at}
+use Rattle.core_rules.specs.Work.{Core, domain, tiling, mask_at, image_at, IsTile, work_at}
+use Rattle.border_queues.specs.TileWork.{TileWork, idle}
 use Rattle.core_rules.specs.Hints.{hint_at, IsPresent, without_hint, raised, IsHanded}
 use Rattle.core_rules.specs.Invariant.{IsValid, HasHint, HasWork, IsSound}
 use Rattle.core_rules.proofs.Cores.{work_there, work_elsewhere, field_kept, inside_image, IsRise, sound_after}

@@ -16,9 +16,10 @@ use Rattle.border_queues.specs.OpenEdges.{open_edges}
 use Rattle.tile_generations.specs.Jobs.{Job, Swept, IsSwept}
 use Rattle.core_rules.specs.declared.answers.Back.TheVariants.{Joined}
 use Rattle.core_rules.specs.Image.{IsJoinedWith}
-use Rattle.core_rules.specs.Work.{Core, TileWork, domain, tiling, mask_at, image_at, IsTile, work_at}
+use Rattle.core_rules.specs.Work.{Core, domain, tiling, mask_at, image_at, IsTile, work_at}
+use Rattle.border_queues.specs.TileWork.{TileWork, received}
 use Rattle.core_rules.specs.Sweeps.{tile_rect, IsReady, IsNextJob, taken, IsOut, IsKnown, IsUnchanged, sender_of}
-use Rattle.core_rules.specs.Sweeps.{hints_of, hints_for, received, IsJoined, IsGivenBack}
+use Rattle.core_rules.specs.Sweeps.{hints_of, hints_for, IsJoined, IsGivenBack}
 use Rattle.core_rules.specs.InPlace.{IsSweptInPlace}
 use Rattle.core_rules.specs.Runs.{Entry, IsJobOut, IsNext, IsWorkedOff}
 use Rattle.core_rules.specs.Events.{Take, GiveBack, OfTake, OfGiveBack}

@@ -22,8 +22,9 @@ use Rattle.tile_generations.specs.Jobs.{Job, Swept, IsSwept}
 use Rattle.core_rules.specs.declared.answers.Back.{Back}
 use Rattle.core_rules.specs.declared.answers.Back.TheVariants.{Joined, Again, Stale, Stranger}
 use Rattle.core_rules.specs.Image.{IsSupported}
-use Rattle.core_rules.specs.Work.{Core, TileWork, domain, tiling, mask_at, image_at, idle, IsTile, work_at}
-use Rattle.core_rules.specs.Sweeps.{tile_rect, IsKnown, sender_of, hints_of, hints_for, received, IsJoined}
+use Rattle.core_rules.specs.Work.{Core, domain, tiling, mask_at, image_at, IsTile, work_at}
+use Rattle.border_queues.specs.TileWork.{TileWork, idle, received}
+use Rattle.core_rules.specs.Sweeps.{tile_rect, IsKnown, sender_of, hints_of, hints_for, IsJoined}
 use Rattle.core_rules.specs.Sweeps.{IsGivenBack}
 use Rattle.core_rules.specs.Invariant.{IsValid, HasHint, HasWork, IsSound}
 use Rattle.core_rules.proofs.Cores.{inside_image, changed, IsRise, sound_after, told_after, open_before}

@@ -1,3 +1,4 @@
+-- The lemmas of this crate, file by file.
 pub mod Supporting
 pub mod Cores
 pub mod Removals
@@ -10,6 +11,7 @@ pub mod Running
 pub mod Opening
 pub mod Resets
 pub mod Schedules
+pub mod Deltas
 pub mod Ordered
 pub mod Successors
 pub mod Pieces

@@ -17,7 +17,8 @@ use Rattle.border_queues.specs.declared.hint.Hint.{Hint}
 use Rattle.core_rules.specs.Image.{IsOpen}
 use Rattle.tile_generations.specs.Generations.{max_generation}
 use Rattle.core_rules.specs.Image.{IsSupported}
-use Rattle.core_rules.specs.Work.{Core, TileWork, domain, tiling, mask_at, image_at, IsTile, work_at}
+use Rattle.core_rules.specs.Work.{Core, domain, tiling, mask_at, image_at, IsTile, work_at}
+use Rattle.border_queues.specs.TileWork.{TileWork}
 use Rattle.core_rules.specs.Hits.{IsInTile, AreLinked, IsHit}
 use Rattle.core_rules.specs.Merge.{IsKept, IsMerged}
 use Rattle.core_rules.specs.Hints.{IsPresent}
@@ -31,7 +32,7 @@ module _ (before after : Core) (delta : State) (turnover : Turnover) (sound : Is
     (merged : IsMerged before delta turnover after) where
   -- ---- tiles of pixels
 
-  in_its_tile : (p : Pixel) → Inside (domain before) p → IsInTile before (tile_of (tiling before) p) p
+  in_its_tile : (p : Pixel) → Inside (domain before) p → IsInTile (tiling before) (tile_of (tiling before) p) p
   in_its_tile p inside = record { inside = inside; tile = refl }
 
   tile_of_pixel : (p : Pixel) → Inside (domain before) p → IsTile before (tile_of (tiling before) p)
@@ -42,7 +43,7 @@ module _ (before after : Core) (delta : State) (turnover : Turnover) (sound : Is
 
   -- a tile that is hit hits the tiles that it is linked to
   hits_next : (p q : Pixel) → Inside (domain before) p → Inside (domain before) q
-      → AreLinked before (tile_of (tiling before) q) (tile_of (tiling before) p)
+      → AreLinked (tiling before) before.image before.conn (tile_of (tiling before) q) (tile_of (tiling before) p)
       → (IsHit before after.state (tile_of (tiling before) p) → ⊥)
       → IsHit before after.state (tile_of (tiling before) q) → ⊥
   hits_next p q inside_p inside_q linked spared (list, lead) =
@@ -112,7 +113,8 @@ module _ (before after : Core) (delta : State) (turnover : Turnover) (sound : Is
       let inside_q = IsPath-inside (domain before) q rest path.2 in
       let at_p : k ≤ image_at before p = all.0 in
       let at_q : k ≤ image_at before q = all.1.0 in
-      let linked : AreLinked before (tile_of (tiling before) q) (tile_of (tiling before) p) = record {
+      let linked : AreLinked (tiling before) before.image before.conn (tile_of (tiling before) q)
+      (tile_of (tiling before) p) = record {
         p = q;
         q = p;
         from = in_its_tile q inside_q;
@@ -300,7 +302,7 @@ module _ (before after : Core) (delta : State) (turnover : Turnover) (sound : Is
           ]
       | inr (spared_q, kept_q) ↦ elim (cases_lt (image_at before p) (image_at after p)) [
         | inl risen ↦
-            inl (kept.dirty.1 (inr (inl (p, in_its_tile p pair.from_inside, risen))))
+            inl (kept.dirty.1 (inr (inl (record { p = p; in_tile = in_its_tile p pair.from_inside; rose = risen }))))
         | inr no_rise ↦
             still_work p q pair no_rise spared kept (sound.work p q (was_open p q pair no_rise spared_q))
       ]

@@ -13,8 +13,9 @@ use Rattle.stroke_lattice.specs.State.{nothing}
 use Rattle.stroke_lattice.proofs.Joins.{nothing_has_no_stroke}
 use Rattle.marker_tiles.specs.Marker.{IsMarker}
 use Rattle.tile_generations.specs.Generations.{max_generation}
-use Rattle.core_rules.specs.Work.{TileWork, tiling, idle, IsTile, work_at, IsQuiet}
-use Rattle.core_rules.specs.Opening.{blank, fresh, opened}
+use Rattle.core_rules.specs.Work.{tiling, IsTile, work_at, IsQuiet}
+use Rattle.border_queues.specs.TileWork.{TileWork, idle, fresh}
+use Rattle.core_rules.specs.Opening.{blank, opened}
 use Rattle.core_rules.specs.Invariant.{IsSound}
 use Rattle.core_rules.proofs.Quiet.{none_in_nothing}
 

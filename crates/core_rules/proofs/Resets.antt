@@ -7,8 +7,9 @@ use Rattle.stroke_lattice.proofs.Joins.{one_join, compatible_join}
 use Rattle.stroke_lattice.specs.Change.{Turnover, IsChange}
 use Rattle.marker_tiles.specs.Marker.{IsMarker}
 use Rattle.marker_tiles.proofs.Levels.{one_marker}
-use Rattle.core_rules.specs.Work.{Core, TileWork, domain, mask_at, image_at, IsTile, work_at}
-use Rattle.core_rules.specs.Hits.{IsInTile, LeadTo, IsHit}
+use Rattle.core_rules.specs.Work.{Core, domain, tiling, mask_at, image_at, IsTile, work_at}
+use Rattle.border_queues.specs.TileWork.{TileWork}
+use Rattle.core_rules.specs.Hits.{IsInTile, HoldsOne, LosesStroke, AreLinked, LeadFrom, IsHit}
 use Rattle.core_rules.specs.declared.error.CoreError.{CoreError}
 use Rattle.core_rules.specs.declared.error.CoreError.TheVariants.{OutOfImage, Conflict, GenerationsSpent, Memory}
 use Rattle.core_rules.specs.declared.error.CoreError.TheVariants.{BadSide}
@@ -30,7 +31,7 @@ module _ (before after : Core) (delta : State) (turnover : Turnover) (merged : I
   ]
 
   pub others_rise : (IsHit before after.state t → ⊥) → (marker : Pixel → ℕ)
-      → IsMarker (domain before) (mask_at before) after.state marker → (p : Pixel) → IsInTile before t p
+      → IsMarker (domain before) (mask_at before) after.state marker → (p : Pixel) → IsInTile (tiling before) t p
       → image_at after p ≡ max (image_at before p) (marker p)
   others_rise spared marker is_marker p in_tile = elim (merged.each t is_tile) [
     | inl (hit, reset) ↦ absurd (spared hit)
@@ -42,7 +43,10 @@ module _ (before after : Core) (delta : State) (turnover : Turnover) (merged : I
 
 -- where no stroke dies, no list of tiles leads anywhere
 none_leads : (before : Core) (after : State) (turnover : Turnover) → IsChange before.state after turnover
-    → turnover.dead ≡ [] → (list : List ℕ) (t : ℕ) → LeadTo before after list t → ⊥
+    → turnover.dead ≡ [] → (list : List ℕ) (t : ℕ)
+    → LeadFrom (HoldsOne (tiling before) (LosesStroke before.state after))
+    (AreLinked (tiling before) before.image before.conn) list t
+    → ⊥
 none_leads before after turnover change none [] t (p, in_tile, loses) =
     none_in_nothing loses.tag (subst (λ tags. Contains tags loses.tag) none
     ((change.dead loses.tag).1 ((loses.seed, loses.was), loses.is_dead)))

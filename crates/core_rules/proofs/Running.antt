@@ -40,7 +40,7 @@ run_append a b c [] second same run = subst (λ m. IsRun m second c) same run
 run_append a b c (entry ∷ first) second (next, happens, rest) run =
     (next, happens, run_append next b c first second rest run)
 
-worked_is_run : (before after : Core) (log : List Entry) → IsWorkedOff before log after → IsRun before log after
+pub worked_is_run : (before after : Core) (log : List Entry) → IsWorkedOff before log after → IsRun before log after
 worked_is_run before after [] same = same
 worked_is_run before after (entry ∷ log) (is_next, (next, happens, rest)) =
     (next, happens, worked_is_run next after log rest)

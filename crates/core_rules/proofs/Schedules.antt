@@ -139,7 +139,7 @@ steps_join start [] a b joined same = subst (IsJoined start) (sym same) joined
 steps_join start (step ∷ rest) a b joined (next, is_step, are_steps) =
     steps_join start rest next b (step_joins start step a next joined is_step) are_steps
 
-join_of_one : (s : State) → IsJoinOf (s ∷ []) s
+pub join_of_one : (s : State) → IsJoinOf (s ∷ []) s
 join_of_one s = record {
   strokes = λ tag seed. (λ has. inl has, λ some. elim some [ inl has ↦ has | inr none ↦ absurd none ]);
   tombstones = λ tag. (λ has. inl has, λ some. elim some [ inl has ↦ has | inr none ↦ absurd none ]);

@@ -28,11 +28,12 @@ use Rattle.core_rules.specs.declared.answers.Back.TheVariants as back
 use Rattle.core_rules.specs.declared.answers.Handed.{Handed}
 use Rattle.core_rules.specs.declared.answers.Handed.TheVariants as handed
 use Rattle.core_rules.specs.Image.{IsPart}
-use Rattle.core_rules.specs.Work.{Core, domain, tiling, mask_at, image_at, idle, IsTile, work_at}
+use Rattle.core_rules.specs.Work.{Core, domain, tiling, mask_at, image_at, IsTile, work_at}
+use Rattle.border_queues.specs.TileWork.{idle, received}
 use Rattle.core_rules.specs.Hits.{IsInTile, IsHit, TouchesHit}
 use Rattle.core_rules.specs.Merge.{IsKept, HasRisen, IsMerged}
 use Rattle.core_rules.specs.Sweeps.{tile_rect, IsNextJob, IsTaken, IsKnown, IsOut, IsUnchanged, HasOnlyRisen, IsJoined}
-use Rattle.core_rules.specs.Sweeps.{IsGivenBack, IsAbandoned, sender_of, hints_of, hints_for, received}
+use Rattle.core_rules.specs.Sweeps.{IsGivenBack, IsAbandoned, sender_of, hints_of, hints_for}
 use Rattle.core_rules.specs.Hints.{IsPresent, IsHanded, without_hint, raised}
 use Rattle.core_rules.specs.Events.{Event, Answer, Happens, Merge, Take, GiveBack, Abandon, Hand}
 use Rattle.core_rules.specs.Events.{OfMerge, OfTake, OfGiveBack, OfAbandon, OfHand}
@@ -293,7 +294,7 @@ module _ (core a b : Core) (delta : State) (x y : Turnover) (sound : IsSound cor
   merged_value : (p : Pixel) → Inside (domain core) p → image_at a p ≡ image_at b p
   merged_value p inside =
       let t = tile_of (tiling core) p in
-      let in_tile : IsInTile core (tile_of (tiling core) p) p = record { inside = inside; tile = refl } in
+      let in_tile : IsInTile (tiling core) (tile_of (tiling core) p) p = record { inside = inside; tile = refl } in
       let marker = merged_marker p inside in
       elim (merged_a.each t (tile_there p inside)) [
         | inl (hit_a, reset_a) ↦ elim (merged_b.each t (tile_there p inside)) [
@@ -317,24 +318,28 @@ module _ (core a b : Core) (delta : State) (x y : Turnover) (sound : IsSound cor
       let height = size_a.height ∙ sound.shape.image.height in
       merged_value p (omega (arith, inside.0, width), omega (arith, inside.1, height)))
 
-  risen_both : (t : ℕ) → HasRisen core a t → HasRisen core b t
-  risen_both t (p, in_tile, risen) =
-      let same = merged_value p in_tile.inside in
-      (p, in_tile, omega (arith, risen, same))
+  risen_both : (t : ℕ) → HasRisen (tiling core) t core.image a.image → HasRisen (tiling core) t core.image b.image
+  risen_both t risen =
+      let same = merged_value risen.p risen.in_tile.inside in
+      let rose = risen.rose in
+      record { p = risen.p; in_tile = risen.in_tile; rose = omega (arith, rose, same) }
 
-  risen_back : (t : ℕ) → HasRisen core b t → HasRisen core a t
-  risen_back t (p, in_tile, risen) =
-      let same = merged_value p in_tile.inside in
-      (p, in_tile, omega (arith, risen, same))
+  risen_back : (t : ℕ) → HasRisen (tiling core) t core.image b.image → HasRisen (tiling core) t core.image a.image
+  risen_back t risen =
+      let same = merged_value risen.p risen.in_tile.inside in
+      let rose = risen.rose in
+      record { p = risen.p; in_tile = risen.in_tile; rose = omega (arith, rose, same) }
 
-  dirty_both : (t : ℕ) → IsTrue (work_at core t).dirty ⊎ HasRisen core a t ⊎ TouchesHit core a.state t
-      → IsTrue (work_at core t).dirty ⊎ HasRisen core b t ⊎ TouchesHit core b.state t
+  dirty_both : (t : ℕ)
+      → IsTrue (work_at core t).dirty ⊎ HasRisen (tiling core) t core.image a.image ⊎ TouchesHit core a.state t
+      → IsTrue (work_at core t).dirty ⊎ HasRisen (tiling core) t core.image b.image ⊎ TouchesHit core b.state t
   dirty_both t (inl dirty) = inl dirty
   dirty_both t (inr (inl risen)) = inr (inl (risen_both t risen))
   dirty_both t (inr (inr touches)) = inr (inr (subst (λ s. TouchesHit core s t) merged_state touches))
 
-  dirty_back : (t : ℕ) → IsTrue (work_at core t).dirty ⊎ HasRisen core b t ⊎ TouchesHit core b.state t
-      → IsTrue (work_at core t).dirty ⊎ HasRisen core a t ⊎ TouchesHit core a.state t
+  dirty_back : (t : ℕ)
+      → IsTrue (work_at core t).dirty ⊎ HasRisen (tiling core) t core.image b.image ⊎ TouchesHit core b.state t
+      → IsTrue (work_at core t).dirty ⊎ HasRisen (tiling core) t core.image a.image ⊎ TouchesHit core a.state t
   dirty_back t (inl dirty) = inl dirty
   dirty_back t (inr (inl risen)) = inr (inl (risen_back t risen))
   dirty_back t (inr (inr touches)) = inr (inr (subst (λ s. TouchesHit core s t) (sym merged_state) touches))

@@ -7,7 +7,8 @@ use Rattle.grid_core.specs.declared.pixel.Pixel.{Pixel}
 use Rattle.grid_core.specs.Tiles.{tile_of}
 use Rattle.tile_generations.specs.declared.ticket.Ticket.{Ticket}
 use Rattle.tile_generations.specs.Jobs.{Job}
-use Rattle.core_rules.specs.Work.{Core, TileWork, tiling, IsTile, work_at, with_work}
+use Rattle.core_rules.specs.Work.{Core, tiling, IsTile, work_at, with_work}
+use Rattle.border_queues.specs.TileWork.{TileWork}
 use Rattle.core_rules.specs.Sweeps.{IsTaken, IsAbandoned}
 use Rattle.core_rules.specs.Invariant.{HasWork, IsSound}
 use Rattle.core_rules.proofs.Cores.{work_there, work_elsewhere, field_kept, IsRise, sound_after, told_after, changed}

@@ -3,13 +3,14 @@ use Rattle.std.specs.Prelude.{ℕ, ◌+◌, ◌≤◌, List, [], ◌∷◌, coun
 use Rattle.grid_core.specs.declared.pixel.Pixel.{Pixel}
 use Rattle.marker_tiles.specs.Marker.{IsMarker}
 use Rattle.grid_core.specs.Owed.{IsOwed}
+use Rattle.border_queues.specs.TileWork.{dirty_count}
 use Rattle.core_rules.specs.Work.{Core, domain, mask_at, image_at}
 use Rattle.core_rules.specs.Events.{Merge}
 use Rattle.core_rules.specs.Runs.{Entry}
 
 -- how many tiles are dirty, those of which a job is out among them
 abbrev pub dirty_tiles : Core → ℕ
-dirty_tiles core = count_by (λ work. work.dirty) core.tiles
+dirty_tiles core = dirty_count core.tiles
 
 -- of how many tiles a job is out
 abbrev pub tiles_out : Core → ℕ

@@ -1,45 +1,59 @@
 -- Which tiles a withdrawal resets.
 use Rattle.std.specs.Prelude.{◌≡◌, ℕ, ◌<◌, List, [], ◌∷◌, IsTrue}
+use Rattle.grid_core.specs.declared.conn.Conn.{Conn}
 use Rattle.grid_core.specs.declared.pixel.Pixel.{Pixel}
+use Rattle.grid_core.specs.Raster.{Raster, IsInside, value_at}
 use Rattle.grid_core.specs.Neighbours.{AreNeighbours}
-use Rattle.grid_core.specs.Path.{Inside}
+use Rattle.grid_core.specs.Tiles.{Tiles, tile_of, AreTouching}
 use Rattle.stroke_core.specs.Seed.{Seed, covers}
 use Rattle.stroke_lattice.specs.State.{State, IsLive, IsLiveTag}
-use Rattle.grid_core.specs.Tiles.{tile_of, AreTouching}
-use Rattle.core_rules.specs.Work.{Core, domain, tiling, image_at, IsTile}
+use Rattle.core_rules.specs.Work.{Core, tiling, IsTile}
 
--- the tile holds the pixel
-pub record IsInTile (core : Core) (t : ℕ) (p : Pixel) : Type 0 where
-  pub inside : Inside (domain core) p
-  pub tile : tile_of (tiling core) p ≡ t
+-- the pixel lies in the image, and in this tile of it
+pub record IsInTile (tiles : Tiles) (t : ℕ) (p : Pixel) : Type 0 where
+  pub inside : IsInside tiles.width tiles.height p
+  pub tile : tile_of tiles p ≡ t
 
--- a dead stroke covers the pixel: it is live in the core, and its tag is not live afterwards
-pub record LosesStroke (core : Core) (after : State) (p : Pixel) : Type 0 where
+-- some pixel of the tile is one of these
+abbrev pub HoldsOne : Tiles → (Pixel → Type 0) → ℕ → Type 0
+HoldsOne tiles P t = (p : Pixel) × IsInTile tiles t p × P p
+
+-- a dead stroke covers the pixel: it is live at first, and its tag is not live afterwards
+pub record LosesStroke (before after : State) (p : Pixel) : Type 0 where
   pub tag : ℕ
   pub seed : Seed
-  pub was : IsLive core.state tag seed
+  pub was : IsLive before tag seed
   pub is_dead : IsLiveTag after tag → ⊥
   pub covered : IsTrue (covers seed p)
 
 -- the tiles hold neighbouring pixels at which the image is above 0
-pub record AreLinked (core : Core) (t u : ℕ) : Type 0 where
+pub record AreLinked (tiles : Tiles) (image : Raster) (conn : Conn) (t u : ℕ) : Type 0 where
   pub p : Pixel
   pub q : Pixel
-  pub from : IsInTile core t p
-  pub to : IsInTile core u q
-  pub beside : AreNeighbours core.conn p q
-  pub from_above : 0 < image_at core p
-  pub to_above : 0 < image_at core q
+  pub from : IsInTile tiles t p
+  pub to : IsInTile tiles u q
+  pub beside : AreNeighbours conn p q
+  pub from_above : 0 < value_at image p
+  pub to_above : 0 < value_at image q
 
--- the tiles of the list, the last of them first, lead to the tile: the first holds a pixel that a dead stroke covers,
--- and each is linked to the next
-abbrev pub LeadTo : Core → State → List ℕ → ℕ → Type 0
-LeadTo core after [] t = (p : Pixel) × IsInTile core t p × LosesStroke core after p
-LeadTo core after (u ∷ before) t = LeadTo core after before u × AreLinked core u t
+-- the tiles of the list, the last of them first, lead to the tile: the first is one of these, and each is linked to
+-- the next
+abbrev pub LeadFrom : (ℕ → Type 0) → (ℕ → ℕ → Type 0) → List ℕ → ℕ → Type 0
+LeadFrom P linked [] t = P t
+LeadFrom P linked (u ∷ before) t = LeadFrom P linked before u × linked u t
 
--- a list of tiles leads to the tile from one that holds a pixel that a dead stroke covers
+-- such a list leads to the tile
+abbrev pub IsReached : (ℕ → Type 0) → (ℕ → ℕ → Type 0) → ℕ → Type 0
+IsReached P linked t = (before : List ℕ) × LeadFrom P linked before t
+
+-- a list of linked tiles leads to the tile from one that holds a pixel that a dead stroke covers
+abbrev pub IsHitIn : Tiles → Raster → Conn → State → State → ℕ → Type 0
+IsHitIn tiles image conn before after t =
+    IsReached (HoldsOne tiles (LosesStroke before after)) (AreLinked tiles image conn) t
+
+-- so it is in the core, where its strokes become these
 abbrev pub IsHit : Core → State → ℕ → Type 0
-IsHit core after t = (before : List ℕ) × LeadTo core after before t
+IsHit core after t = IsHitIn (tiling core) core.image core.conn core.state after t
 
 -- the tile touches one that is hit
 pub record TouchesHit (core : Core) (after : State) (t : ℕ) : Type 0 where

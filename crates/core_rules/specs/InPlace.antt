@@ -6,7 +6,8 @@ use Rattle.grid_core.specs.Reconstruction.{IsReconstruction}
 use Rattle.grid_core.specs.Rects.{IsInRect, domain_in, part}
 use Rattle.core_rules.specs.Image.{IsOfSize}
 use Rattle.core_rules.specs.Work.{Core, mask_at, image_at, IsTile, work_at}
-use Rattle.core_rules.specs.Sweeps.{tile_rect, hints_of, hints_for, received}
+use Rattle.core_rules.specs.Sweeps.{tile_rect, hints_of, hints_for}
+use Rattle.border_queues.specs.TileWork.{received}
 
 -- the image of the tile became the reconstruction of its mask, the tile is no longer dirty, and the hints of its open
 -- edges wait at their tiles: the effect of a take, a sweep and a give-back with nothing between them

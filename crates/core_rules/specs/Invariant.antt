@@ -26,14 +26,14 @@ pub record IsShaped (core : Core) : Type 0 where
 -- a pixel of the tile can raise the other to this value
 pub record CanRaise (core : Core) (t : ℕ) (q : Pixel) (value : ℕ) : Type 0 where
   pub p : Pixel
-  pub from : IsInTile core t p
+  pub from : IsInTile (tiling core) t p
   pub beside : AreNeighbours core.conn p q
   pub enough : value ≤ min (image_at core p) (mask_at core q)
 
 -- a hint that waits at the tile is for a pixel of it, from a tile that was in no later generation then; and where it is
 -- present, what it says is true
 pub record IsValid (core : Core) (t : ℕ) (hint : Hint) : Type 0 where
-  pub to : IsInTile core t hint.to_pixel
+  pub to : IsInTile (tiling core) t hint.to_pixel
   pub from : IsTile core hint.from
   pub earlier : hint.from_generation ≤ (work_at core hint.from).generation
   pub holds : IsPresent core hint → CanRaise core hint.from hint.to_pixel hint.value

@@ -12,14 +12,14 @@ use Rattle.grid_core.specs.Reconstruction.{IsLawful}
 use Rattle.core_rules.specs.Image.{IsSupported}
 use Rattle.core_rules.specs.declared.answers.Back.{Back}
 use Rattle.core_rules.specs.declared.answers.Handed.{Handed}
-use Rattle.core_rules.specs.Work.{Core, domain, mask_at, image_at, IsTile, work_at, IsQuiet}
+use Rattle.core_rules.specs.Work.{Core, domain, tiling, mask_at, image_at, IsTile, work_at, IsQuiet}
 use Rattle.core_rules.specs.Opening.{opened}
 use Rattle.core_rules.specs.Hits.{IsInTile, IsHit}
 use Rattle.tile_generations.specs.declared.ticket.Ticket.{Ticket}
 use Rattle.tile_generations.specs.Jobs.{Job, Swept, IsSwept}
 use Rattle.stroke_lattice.specs.State.{State, IsJoinOf}
 use Rattle.stroke_lattice.specs.Change.{Turnover, IsChange}
-use Rattle.core_rules.specs.Merge.{IsMerged, IsRefused, IsAcceptable}
+use Rattle.core_rules.specs.Merge.{IsMerged, IsRefused, IsAcceptable, AreTaken}
 use Rattle.core_rules.specs.declared.error.CoreError.{CoreError}
 use Rattle.core_rules.specs.Sweeps.{IsTaken, IsGivenBack, IsAbandoned}
 use Rattle.core_rules.specs.Hints.{IsHanded}
@@ -132,7 +132,7 @@ OtherTilesRise =
     (before after : Core) (delta : State) (turnover : Turnover) → IsMerged before delta turnover after
     → (t : ℕ) → IsTile before t → (IsHit before after.state t → ⊥)
     → (marker : Pixel → ℕ) → IsMarker (domain before) (mask_at before) after.state marker
-    → (p : Pixel) → IsInTile before t p → image_at after p ≡ max (image_at before p) (marker p)
+    → (p : Pixel) → IsInTile (tiling before) t p → image_at after p ≡ max (image_at before p) (marker p)
 
 -- where no stroke dies, no tile is hit
 abbrev pub NoDeathHitsNone : Type 0
@@ -219,3 +219,13 @@ SettlingIsWithinWork =
 -- as many jobs are out as tiles have one out
 abbrev pub OneJobOutATile : Type 0
 OneJobOutATile = (core : Core) → length (tickets_out 0 core.tiles) ≡ tiles_out core
+
+-- the strokes of a core that took deltas are the join of those that it had and of the deltas
+abbrev pub TakenDeltasAreJoined : Type 0
+TakenDeltasAreJoined =
+    (start core : Core) (deltas : List State) → AreTaken start deltas core → IsJoinOf (start.state ∷ deltas) core.state
+
+-- its mask is the one that it had
+abbrev pub TakenDeltasKeepTheMask : Type 0
+TakenDeltasKeepTheMask =
+    (start core : Core) (deltas : List State) → AreTaken start deltas core → core.mask ≡ start.mask

@@ -1,6 +1,8 @@
 -- What a core becomes where it takes a delta, and why it refuses one.
-use Rattle.std.specs.Prelude.{◌≡◌, ℕ, ◌+◌, ◌<◌, ◌⊎◌, ◌↔◌, max, true, length, IsTrue, None}
+use Rattle.std.specs.Prelude.{◌≡◌, ℕ, ◌<◌, ◌⊎◌, ◌↔◌, max, length, IsTrue, List, [], ◌∷◌}
 use Rattle.grid_core.specs.declared.pixel.Pixel.{Pixel}
+use Rattle.grid_core.specs.Raster.{Raster, value_at}
+use Rattle.grid_core.specs.Tiles.{Tiles}
 use Rattle.stroke_lattice.specs.State.{State, StateFits, IsJoin, AreCompatible, IsLeastOutside, IsLeastClash}
 use Rattle.stroke_lattice.specs.Change.{Turnover, IsChange}
 use Rattle.marker_tiles.specs.Marker.{IsMarker}
@@ -9,29 +11,30 @@ use Rattle.core_rules.specs.declared.error.CoreError.{CoreError}
 use Rattle.core_rules.specs.declared.error.CoreError.TheVariants.{OutOfImage, Conflict, GenerationsSpent, Memory}
 use Rattle.core_rules.specs.declared.error.CoreError.TheVariants.{BadSide}
 use Rattle.core_rules.specs.Image.{IsOfSize}
-use Rattle.core_rules.specs.Work.{Core, TileWork, domain, mask_at, image_at, IsTile, work_at}
+use Rattle.border_queues.specs.TileWork.{TileWork, reset_work}
+use Rattle.core_rules.specs.Work.{Core, domain, tiling, mask_at, image_at, IsTile, work_at}
 use Rattle.core_rules.specs.Hits.{IsInTile, IsHit, TouchesHit}
 
--- the work at a tile that is reset: the next generation, dirty, its job forgotten, its hints kept
-abbrev pub reset_work : TileWork → TileWork
-reset_work work = record work { generation = work.generation + 1; dirty = true; out = None }
-
--- the tile is reset, and its image is the marker
-pub record IsReset (before : Core) (marker : Pixel → ℕ) (after : Core) (t : ℕ) : Type 0 where
-  pub work : work_at after t ≡ reset_work (work_at before t)
-  pub image : (p : Pixel) → IsInTile before t p → image_at after p ≡ marker p
+-- the tile is reset: its work is that of a reset tile, and its pixels have the marker's values
+pub record IsReset (tiles : Tiles) (marker : Pixel → ℕ) (new : Raster) (before after : TileWork) (t : ℕ)
+    : Type 0 where
+  pub work : after ≡ reset_work before
+  pub image : (p : Pixel) → IsInTile tiles t p → value_at new p ≡ marker p
 
 -- a pixel of the tile rises
-abbrev pub HasRisen : Core → Core → ℕ → Type 0
-HasRisen before after t = (p : Pixel) × IsInTile before t p × (image_at before p < image_at after p)
+pub record HasRisen (tiles : Tiles) (t : ℕ) (old new : Raster) : Type 0 where
+  pub p : Pixel
+  pub in_tile : IsInTile tiles t p
+  pub rose : value_at old p < value_at new p
 
 -- the tile is kept, and its image is raised to the marker: it is dirty if it was, if a pixel rose, or if it touches
 -- a tile that is reset
 pub record IsKept (before : Core) (marker : Pixel → ℕ) (after : Core) (t : ℕ) : Type 0 where
   pub work : work_at after t ≡ record (work_at before t) { dirty = (work_at after t).dirty }
   pub dirty : IsTrue (work_at after t).dirty
-      ↔ (IsTrue (work_at before t).dirty ⊎ HasRisen before after t ⊎ TouchesHit before after.state t)
-  pub image : (p : Pixel) → IsInTile before t p → image_at after p ≡ max (image_at before p) (marker p)
+      ↔ (IsTrue (work_at before t).dirty ⊎ HasRisen (tiling before) t before.image after.image
+      ⊎ TouchesHit before after.state t)
+  pub image : (p : Pixel) → IsInTile (tiling before) t p → image_at after p ≡ max (image_at before p) (marker p)
 
 -- the delta is taken: the strokes are the join, the tiles that are hit are reset, and the others are raised to the
 -- new marker
@@ -43,7 +46,8 @@ pub record IsMerged (before : Core) (delta : State) (turnover : Turnover) (after
   pub marker : Pixel → ℕ
   pub is_marker : IsMarker (domain before) (mask_at before) after.state marker
   pub each : (t : ℕ) → IsTile before t
-      → (IsHit before after.state t × IsReset before marker after t)
+      → (IsHit before after.state t
+      × IsReset (tiling before) marker after.image (work_at before t) (work_at after t) t)
       ⊎ ((IsHit before after.state t → ⊥) × IsKept before marker after t)
   pub size : IsOfSize before.image after.image
   pub count : length after.tiles ≡ length before.tiles
@@ -73,3 +77,9 @@ pub record IsAcceptable (core : Core) (delta : State) : Type 0 where
   pub fits : StateFits core.mask.width core.mask.height delta
   pub compatible : AreCompatible core.state delta
   pub unspent : HasSpent core delta → ⊥
+
+-- the first core takes the deltas, one after another, and is then the second
+abbrev pub AreTaken : Core → List State → Core → Type 0
+AreTaken start [] core = core ≡ start
+AreTaken start (delta ∷ deltas) core =
+    (next : Core) × (turnover : Turnover) × IsMerged start delta turnover next × AreTaken next deltas core

@@ -1,18 +1,15 @@
 -- A core as it is opened.
-use Rattle.std.specs.Prelude.{ℕ, false, [], length, replicate, None}
+use Rattle.std.specs.Prelude.{ℕ, length, replicate}
 use Rattle.grid_core.specs.declared.conn.Conn.{Conn}
 use Rattle.grid_core.specs.Raster.{Raster}
 use Rattle.grid_core.specs.Tiles.{Tiles, count_of}
 use Rattle.stroke_lattice.specs.State.{nothing}
-use Rattle.core_rules.specs.Work.{Core, TileWork}
+use Rattle.border_queues.specs.TileWork.{fresh}
+use Rattle.core_rules.specs.Work.{Core}
 
 -- an image of zeros, of the mask's size
 abbrev pub blank : Raster → Raster
 blank mask = record { width = mask.width; height = mask.height; cells = replicate (length mask.cells) 0 }
-
--- a tile of this generation at which no work is left
-abbrev pub fresh : ℕ → TileWork
-fresh first = record { generation = first; dirty = false; out = None; inbox = [] }
 
 -- the core of a mask before anything happened, with tiles of this side and this first generation: no strokes, an image
 -- of zeros, and no work

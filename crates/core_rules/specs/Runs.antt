@@ -3,7 +3,8 @@ use Rattle.std.specs.Prelude.{◌≡◌, ◌≢◌, ℕ, ◌+◌, ◌≤◌, tru
 use Rattle.std.specs.Prelude.{Option, Some, None, option_map, option_to_list}
 use Rattle.tile_generations.specs.declared.ticket.Ticket.{Ticket}
 use Rattle.tile_generations.specs.Jobs.{Job}
-use Rattle.core_rules.specs.Work.{Core, TileWork, IsTile, work_at, IsQuiet}
+use Rattle.border_queues.specs.TileWork.{TileWork, IsLeast}
+use Rattle.core_rules.specs.Work.{Core, IsTile, work_at, IsQuiet}
 use Rattle.core_rules.specs.Image.{IsPart}
 use Rattle.core_rules.specs.Sweeps.{tile_rect, IsOut}
 use Rattle.core_rules.specs.Events.{Event, Answer, Happens, Take, GiveBack, Abandon, Hand, OfTake, OfAbandon}
@@ -56,10 +57,6 @@ HasHints core t = IsTile core t × ((work_at core t).inbox ≢ [])
 abbrev pub IsDirty : Core → ℕ → Type 0
 IsDirty core t = IsTile core t × IsTrue (work_at core t).dirty
 
--- it holds of the number, and of no lesser one
-abbrev pub IsLeast : (ℕ → Type 0) → ℕ → Type 0
-IsLeast P n = P n × ((m : ℕ) → P m → n ≤ m)
-
 -- the job is the one that is out, and its base and mask are the tile's
 pub record IsJobOut (core : Core) (job : Job) : Type 0 where
   pub out : IsOut core job.ticket
@@ -94,7 +91,8 @@ pub record IsSettled (before : Core) (log : List Entry) (after : Core) : Type 0 
   pub settling : IsSettling before log after
   pub quiet : IsQuiet after
 
--- settling that ended for want of memory: as far as some events, and the job in hand, if there was one, abandoned
+-- settling that ended for want of memory: as far as some events, and the job in hand, if there was one, abandoned; it
+-- ends so only where a tile has still to be swept
 pub record IsCutShort (before : Core) (log : List Entry) (after : Core) : Type 0 where
   pub reached : Core
   pub done : List Entry
@@ -103,4 +101,5 @@ pub record IsCutShort (before : Core) (log : List Entry) (after : Core) : Type 0
   pub drops : IsRun reached (abandoned in_hand) after
   pub at_most_one : length in_hand ≤ 1
   pub none_out : NoneOut after
+  pub some_dirty : (t : ℕ) × IsDirty after t
   pub parts : log ≡ done ++ abandoned in_hand

@@ -1,5 +1,5 @@
 -- Schedules: lists of steps, of which each takes, gives back, abandons, hands over or edits.
-use Rattle.std.specs.Prelude.{◌≡◌, ℕ, ◌+◌, ◌⊎◌, List, [], ◌∷◌, ◌++◌, Option, Some, None, slice_get}
+use Rattle.std.specs.Prelude.{◌≡◌, ℕ, ◌+◌, ◌<◌, ◌≤◌, ◌⊎◌, List, [], ◌∷◌, ◌++◌, length, Option, Some, None, slice_get}
 use Rattle.stroke_lattice.specs.State.{State}
 use Rattle.stroke_lattice.specs.Change.{Turnover}
 use Rattle.tile_generations.specs.Jobs.{Job, Swept, IsSwept}
@@ -7,7 +7,8 @@ use Rattle.core_rules.specs.declared.error.CoreError.{CoreError}
 use Rattle.core_rules.specs.declared.step.Step.{Step}
 use Rattle.core_rules.specs.declared.step.Step.TheVariants as steps
 use Rattle.core_rules.specs.Work.{Core}
-use Rattle.core_rules.specs.Merge.{IsRefused}
+use Rattle.core_rules.specs.Merge.{IsRefused, IsAcceptable}
+use Rattle.core_rules.specs.Sweeps.{IsReady}
 use Rattle.core_rules.specs.Events.{Event, Answer, Happens, Merge, Take, GiveBack, Abandon, Hand, OfMerge, OfTake}
 use Rattle.core_rules.specs.Runs.{Entry, jobs_of, abandons_of}
 
@@ -93,14 +94,37 @@ abbrev pub AreSteps : List Step → Progress → Progress → Type 0
 AreSteps [] a b = b ≡ a
 AreSteps (step ∷ rest) a b = (next : Progress) × IsStep step a next × AreSteps rest next b
 
--- a schedule that ended for want of memory: the core is as after the steps before, but the serials may have moved on
-pub record IsStopped (start : Core) (steps : List Step) (after : Core) : Type 0 where
+-- ---- want of memory
+
+-- how many of the steps are edits
+abbrev pub edits_of : List Step → ℕ
+edits_of [] = 0
+edits_of (steps.Edit delta ∷ rest) = 1 + edits_of rest
+edits_of (_ ∷ rest) = edits_of rest
+
+-- memory ran out within the step: only within an edit whose delta would else be taken, the take of a tile that can be
+-- taken, and the return of a result that is there. The core stays, but a take may have spent a serial
+abbrev pub IsCutOff : Core → List Swept → Step → Core → Type 0
+IsCutOff before results (steps.Edit delta) after = IsAcceptable before delta × (after ≡ before)
+IsCutOff before results (steps.Take t) after =
+    IsReady before t × (after ≡ record before { serial = after.serial })
+IsCutOff before results (steps.Return j) after = (j < length results) × (after ≡ before)
+IsCutOff before results _ after = ⊥
+
+-- a schedule that ended for want of memory within a step, after those before it
+pub record IsCutShort (start : Core) (steps : List Step) (after : Core) : Type 0 where
   pub done : List Step
-  pub left : List Step
-  pub parts : steps ≡ done ++ left
+  pub step : Step
+  pub rest : List Step
+  pub parts : steps ≡ done ++ step ∷ rest
   pub reached : Progress
   pub are_steps : AreSteps done (started start) reached
-  pub core_is : after ≡ record reached.core { serial = after.serial }
+  pub cut_off : IsCutOff reached.core reached.results step after
+
+-- a schedule that ended for want of memory: before its first step, where its edits found no place in the lists of those
+-- that are accepted and refused; or within a step
+abbrev pub IsStopped : Core → List Step → Core → Type 0
+IsStopped start steps after = ((1 ≤ edits_of steps) × (after ≡ start)) ⊎ IsCutShort start steps after
 
 -- what a schedule answers: how many takes gave a job, how many jobs were abandoned, and the numbers of the edits that
 -- were accepted and refused

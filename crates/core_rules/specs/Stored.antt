@@ -9,7 +9,8 @@ use Rattle.stroke_core.specs.Seed.{Seed}
 use Rattle.stroke_lattice.specs.State.{State}
 use Rattle.stroke_lattice.specs.Stored.{state_code}
 use Rattle.border_queues.specs.declared.hint.Hint.{Hint}
-use Rattle.core_rules.specs.Work.{Core, TileWork}
+use Rattle.core_rules.specs.Work.{Core}
+use Rattle.border_queues.specs.TileWork.{TileWork}
 
 abbrev pub raster_code : Coded Raster
 raster_code =

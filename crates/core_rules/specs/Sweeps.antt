@@ -1,5 +1,5 @@
 -- Jobs that are taken, and swept tiles that are given back.
-use Rattle.std.specs.Prelude.{◌≡◌, ◌≢◌, ℕ, ◌+◌, ◌%◌, ◌^◌, ◌≤◌, ◌⊎◌, ◌==◌, ◌++◌, Bool, true, false, List, length, filter}
+use Rattle.std.specs.Prelude.{◌≡◌, ◌≢◌, ℕ, ◌+◌, ◌%◌, ◌^◌, ◌≤◌, ◌⊎◌, Bool, true, false, List, length}
 use Rattle.std.specs.Prelude.{Option, Some, None}
 use Rattle.grid_core.specs.declared.rect.Rect.{Rect}
 use Rattle.border_queues.specs.declared.hint.Hint.{Hint}
@@ -9,8 +9,9 @@ use Rattle.tile_generations.specs.Jobs.{Job, Swept}
 use Rattle.core_rules.specs.declared.answers.Back.{Back}
 use Rattle.core_rules.specs.declared.answers.Back.TheVariants.{Joined, Again, Stale, Stranger}
 use Rattle.core_rules.specs.Image.{IsPart, IsAtMostPart, IsJoinedWith}
-use Rattle.grid_core.specs.Tiles.{tile_of, rect_of}
-use Rattle.core_rules.specs.Work.{Core, TileWork, tiling, mask_at, image_at, IsTile, work_at, with_work}
+use Rattle.grid_core.specs.Tiles.{rect_of}
+use Rattle.border_queues.specs.TileWork.{received, hints_at}
+use Rattle.core_rules.specs.Work.{Core, tiling, mask_at, image_at, IsTile, work_at, with_work}
 
 -- the rectangle of a tile of the core
 abbrev pub tile_rect : Core → ℕ → Rect
@@ -86,11 +87,7 @@ hints_of before after t = open_edges (record (sender_of before t) { image = imag
 
 -- the hints whose pixel lies in the tile, in their order
 abbrev pub hints_for : Core → ℕ → List Hint → List Hint
-hints_for core t hints = filter (λ hint. tile_of (tiling core) hint.to_pixel == t) hints
-
--- the work at a tile once hints have come for it
-abbrev pub received : TileWork → List Hint → TileWork
-received work hints = record work { inbox = work.inbox ++ hints }
+hints_for core t hints = hints_at (tiling core) t hints
 
 -- the swept tile is joined: its image is raised to the pixels, it is no longer out, and the hints of its open edges
 -- wait at their tiles

@@ -1,20 +1,12 @@
 -- One replica's core as plain data: mask, strokes and image, and the work that is left at each tile.
-use Rattle.std.specs.Prelude.{◌≡◌, ℕ, ◌<◌, Bool, false, List, [], length, Option, None, slice_index_or, slice_set}
+use Rattle.std.specs.Prelude.{ℕ, ◌<◌, List, length, slice_set}
 use Rattle.grid_core.specs.declared.conn.Conn.{Conn}
 use Rattle.grid_core.specs.declared.pixel.Pixel.{Pixel}
 use Rattle.grid_core.specs.Raster.{Raster, value_at}
 use Rattle.grid_core.specs.Path.{Domain, domain_of}
 use Rattle.stroke_lattice.specs.State.{State}
-use Rattle.border_queues.specs.declared.hint.Hint.{Hint}
+use Rattle.border_queues.specs.TileWork.{TileWork, work_of, IsIdle}
 use Rattle.grid_core.specs.Tiles.{Tiles}
-
--- the work that is left at a tile: its generation, which each reset raises by 1, whether it is to be swept, the
--- serial of the job that is out, and the hints that wait for it
-pub record TileWork : Type 0 where
-  pub generation : ℕ
-  pub dirty : Bool
-  pub out : Option ℕ
-  pub inbox : List Hint
 
 -- a core: the mask, which pixels are neighbours, the side of the tiles, the strokes, the image so far, the work at
 -- each tile, and the serial of the next job
@@ -42,27 +34,17 @@ mask_at core = value_at core.mask
 abbrev pub image_at : Core → Pixel → ℕ
 image_at core = value_at core.image
 
--- no work is left
-abbrev pub idle : TileWork
-idle = record { generation = 0; dirty = false; out = None; inbox = [] }
-
 -- the core has such a tile
 abbrev pub IsTile : Core → ℕ → Type 0
 IsTile core t = t < length core.tiles
 
 -- the work that is left at a tile
 abbrev pub work_at : Core → ℕ → TileWork
-work_at core t = slice_index_or core.tiles t idle
+work_at core t = work_of core.tiles t
 
 -- the core with other work at one tile
 abbrev pub with_work : Core → ℕ → TileWork → Core
 with_work core t work = record core { tiles = slice_set core.tiles t work }
-
--- the tile is not dirty, no job of it is out, and no hint waits for it
-pub record IsIdle (work : TileWork) : Type 0 where
-  pub clean : work.dirty ≡ false
-  pub none_out : work.out ≡ None
-  pub empty : work.inbox ≡ []
 
 -- no work is left at any tile
 abbrev pub IsQuiet : Core → Type 0

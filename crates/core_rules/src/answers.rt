@@ -1,3 +1,5 @@
+//! What is answered where a swept tile is given back, and where a hint is handed over.
+
 /// What became of a swept tile that was given back.
 #[derive(Clone, Copy, Debug, PartialEq, Eq)]
 pub enum Back {

@@ -1,3 +1,5 @@
+//! Why a core is not opened, or refuses a delta.
+
 ghost use Rattle.std.specs.Prelude.{◌≡◌};
 ghost use Rattle.core_rules.specs.declared.error.CoreError.TheVariants as errors;
 ghost use Rattle.core_rules.specs.Codes.{code_of, refused_state};

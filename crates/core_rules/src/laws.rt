@@ -9,6 +9,7 @@ ghost use Rattle.core_rules.specs.Laws.{AcceptedAreEdits, MergedIsAcceptable, Re
 ghost use Rattle.core_rules.specs.Laws.{OneSuccessor, SweptInPlaceIsWorkedOff, WorkGoesOn};
 ghost use Rattle.core_rules.specs.Laws.{OneDebt, QuietOwesNothing, RunIsWithinWork, ScheduleIsWithinWork};
 ghost use Rattle.core_rules.specs.Laws.{SettlingIsWithinWork, OneJobOutATile};
+ghost use Rattle.core_rules.specs.Laws.{TakenDeltasAreJoined, TakenDeltasKeepTheMask};
 
 use border_queues::laws::edges_are_open;
 
@@ -187,4 +188,11 @@ pub fn settling_is_within_work()
 /// As many jobs are out as tiles have one out.
 pub fn one_job_out_a_tile()
     ensures { OneJobOutATile }
+{}
+
+/// The strokes of a core that took deltas are the join of those that it had and of the deltas, and its mask is the one
+/// that it had. So what it shows once it is quiet rests on that join alone.
+pub fn taken_deltas_are_joined()
+    ensures state { TakenDeltasAreJoined }
+    ensures mask { TakenDeltasKeepTheMask }
 {}

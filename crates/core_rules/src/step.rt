@@ -1,3 +1,5 @@
+//! The steps of schedules.
+
 use stroke_lattice::Delta;
 
 /// One step of a schedule. Each take that gives a job is swept at once, and kept as the next result, counted from 0.

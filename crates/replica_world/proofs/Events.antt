@@ -1,7 +1,9 @@
 -- Lists of events that grow by one.
-use Rattle.std.proofs.Common.{◌≡◌, ◌∙◌, ◌∷◌, ◌++◌, ◌+◌, ◌<◌, [], ℕ, List, length, get_or, take, drop, refl, sym, subst, ap, arith, inl, inr}
+use Rattle.std.proofs.Common.{◌≡◌, ◌∙◌, ◌∷◌, ◌++◌, ◌+◌, ◌<◌, [], ℕ, List, length, get_or, take, drop}
+use Rattle.std.proofs.Common.{suc, refl, sym, subst, ap, arith, inl, inr}
 use Rattle.std.specs.Prelude.{◌≢◌}
-use Rattle.std.proofs.lemmas.List.{append-nil, take_more, take-append-drop, length-take-le, length-drop}
+use Rattle.std.proofs.Math.Seq.{drop-cons}
+use Rattle.std.proofs.lemmas.List.{append-nil, take_more, take-append-drop, length-take-le}
 use Rattle.stroke_lattice.specs.State.{State}
 use Rattle.core_rules.specs.declared.error.CoreError.TheVariants as core_errors
 use Rattle.replica_world.specs.declared.error.WorldError.{WorldError}
@@ -9,8 +11,8 @@ use Rattle.replica_world.specs.declared.error.WorldError.TheVariants as errors
 use Rattle.replica_world.specs.declared.event.Event.{Event}
 use Rattle.replica_world.specs.declared.event.Event.TheVariants as events
 use Rattle.replica_world.specs.World.{World}
-use Rattle.replica_world.specs.Events.{IsNamed, Carries, IsDone, IsRefusal}
-use Rattle.replica_world.specs.Runs.{Refusal, AreEvents, IsSameButSerial, IsRun, IsStopped, IsOnward}
+use Rattle.replica_world.specs.Events.{IsNamed, Carries, IsDone, IsTurnedDown, IsCutOff, IsRefusal}
+use Rattle.replica_world.specs.Runs.{Refusal, AreEvents, IsRun, IsStopped, IsOnward}
 
 -- ---- packets that come to replicas
 
@@ -27,32 +29,31 @@ not_delivered before after r k delta errors.NoSuch (within, there) carries (inl 
     absurd (unnamed within)
 not_delivered before after r k delta (errors.Core why) named carries (inl ((within, refused), same)) =
     inl ((within, (delta, carries, refused)), same)
-not_delivered before after r k delta why named carries (inr (memory, (within, same))) = inr (memory, (named, same))
+not_delivered before after r k delta why named carries (inr (memory, (within, acceptable, same))) =
+    inr (memory, (named, same))
 
 -- ---- want of memory
 
--- an event that is refused leaves all but a serial as it was
-pub refusal_spends : (before after : World) (event : Event) (why : WorldError) → IsRefusal before event why after
-    → IsSameButSerial before after
-refusal_spends before after event why (inl (turned, same)) = inl same
-refusal_spends before after (events.Edit r delta) why (inr (memory, (within, same))) = inl same
-refusal_spends before after (events.Send r part) why (inr (memory, (within, same))) = inl same
-refusal_spends before after (events.Deliver r k) why (inr (memory, (named, same))) = inl same
-refusal_spends before after (events.Take r t) why (inr (memory, (within, ready, (serial, same)))) =
-    inr (r, serial, same)
-refusal_spends before after (events.Return r j) why (inr (memory, (named, same))) = inl same
-refusal_spends before after (events.Abandon r j) why (inr (memory, cut)) = absurd cut
-refusal_spends before after (events.Hand r t i) why (inr (memory, cut)) = absurd cut
+-- a core refuses no delta for want of memory
+never_memory : (world : World) (event : Event) → IsTurnedDown world event (errors.Core core_errors.Memory) → ⊥
+never_memory world (events.Edit r delta) (within, refused) = refused
+never_memory world (events.Deliver r k) (within, (delta, carries, refused)) = refused
+never_memory world (events.Send r part) refused = refused
+never_memory world (events.Take r t) refused = refused
+never_memory world (events.Return r j) refused = refused
+never_memory world (events.Abandon r j) refused = refused
+never_memory world (events.Hand r t i) refused = refused
+
+-- an event that is refused for want of memory was cut off
+pub cut_off : (before after : World) (event : Event) (why : WorldError) → IsRefusal before event why after
+    → why ≡ errors.Core core_errors.Memory → IsCutOff before event after
+cut_off before after event why (inl (turned, same)) memory =
+    absurd (never_memory before event (subst (IsTurnedDown before event) memory turned))
+cut_off before after event why (inr (is, cut)) memory = cut
 
 -- the world with this number of steps
 abbrev with_steps : ℕ → World → World
 with_steps n w = record w { steps = n }
-
--- the same, where the number of events is kept then
-pub steps_kept : (before between after : World) (n : ℕ) → IsSameButSerial before between
-    → after ≡ record between { steps = n } → IsSameButSerial (record before { steps = n }) after
-steps_kept before between after n (inl same) kept = inl (kept ∙ ap (with_steps n) same)
-steps_kept before between after n (inr (r, serial, same)) kept = inr (r, serial, kept ∙ ap (with_steps n) same)
 
 -- ---- one event
 
@@ -111,7 +112,8 @@ pub one_more_run : (start now after : World) (all : List Event) (n : ℕ) (event
 one_more_run start now after all n event refusals more so_far within there onward =
     let front : take (n + 1) all ≡ take n all ++ event ∷ [] =
     take_more all n event within ∙ ap (λ e. take n all ++ e ∷ []) (sym there) in
-    let count : n ≡ 0 + length (take n all) = let known = length-take-le n all (omega (arith, within)) in omega (arith, known) in
+    let known = length-take-le n all (omega (arith, within)) in
+    let count : n ≡ 0 + length (take n all) = omega (arith, known) in
     record {
       are_events =
           subst (λ (rs : List Refusal). AreEvents 0 (take (n + 1) all) start rs after) (sym onward.more_is)
@@ -129,23 +131,28 @@ whole_run start now after all n refusals so_far whole kept = record {
   after_is = kept;
 }
 
-pub run_stops : (start now between after : World) (all : List Event) (n : ℕ) (why : WorldError)
-    (refusals : List Refusal) → HaveRun start all n now refusals → n < length all
-    → why ≡ errors.Core core_errors.Memory → IsSameButSerial now between → after ≡ record between { steps = n }
+pub run_stops : (start now left after : World) (all : List Event) (n : ℕ) (event : Event) (why : WorldError)
+    (refusals : List Refusal) → HaveRun start all n now refusals → n < length all → event ≡ get_or all n event
+    → why ≡ errors.Core core_errors.Memory → IsCutOff now event left → after ≡ record left { steps = n }
     → IsStopped start all why after
-run_stops start now between after all n why refusals so_far within memory same kept =
-    let count = length-take-le n all (omega (arith, within)) in
-    let rest = length-drop n all in
-    record {
-      memory = memory;
-      done = take n all;
-      left = drop n all;
-      parts = sym (take-append-drop n all);
-      some_left = omega (arith, within, rest);
-      refusals = refusals;
-      reached = now;
-      are_events = so_far.are_events;
-      after_is =
-          subst (λ m. IsSameButSerial (record now { steps = m }) after) (sym count)
-          (steps_kept now between after n same kept);
-    }
+run_stops start now left after all n event why refusals so_far within there memory cut kept =
+    let known = length-take-le n all (omega (arith, within)) in
+    let count : n ≡ length (take n all) = omega (arith, known) in
+    let next : suc n ≡ n + 1 = omega arith in
+    let rest : drop n all ≡ event ∷ drop (n + 1) all =
+    drop-cons all n event within ∙ ap (λ k. get_or all n event ∷ drop k all) next
+    ∙ ap (λ e. e ∷ drop (n + 1) all) (sym there) in (
+      memory,
+      inr (record {
+        done = take n all;
+        event = event;
+        rest = drop (n + 1) all;
+        parts = sym (take-append-drop n all) ∙ ap (λ es. take n all ++ es) rest;
+        refusals = refusals;
+        reached = now;
+        are_events = so_far.are_events;
+        left = left;
+        cut_off = cut;
+        after_is = kept ∙ ap (λ m. with_steps m left) count;
+      }),
+    )

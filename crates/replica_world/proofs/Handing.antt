@@ -7,7 +7,8 @@ use Rattle.std.proofs.lemmas.Option.{slice_get_within, slice_get_cases}
 use Rattle.border_queues.specs.declared.hint.Hint.{Hint}
 use Rattle.core_rules.specs.declared.answers.Handed.{Handed}
 use Rattle.core_rules.specs.declared.answers.Handed.TheVariants.{Raised, Same, Stale, Nothing}
-use Rattle.core_rules.specs.Work.{Core, TileWork, IsTile, work_at, idle}
+use Rattle.core_rules.specs.Work.{Core, IsTile, work_at}
+use Rattle.border_queues.specs.TileWork.{TileWork, idle}
 use Rattle.core_rules.specs.Hints.{IsHanded, hint_at}
 
 -- a tile with a hint is one of the image

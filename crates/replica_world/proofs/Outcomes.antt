@@ -84,7 +84,8 @@ one_core_refusal : OneFrame → OneRefusal → (world : World) (event : Event) (
     → IsCoreRefusal world event why → IsCoreRefusal world event other → why ≡ other
 one_core_refusal one law world (events.Edit r delta) why other (within, refused) (here, again) =
     law (core_at world r) delta why other refused again
-one_core_refusal one law world (events.Deliver r k) why other (within, (a, carries, refused)) (here, (b, carried, again)) =
+one_core_refusal one law world (events.Deliver r k) why other (within, (a, carries, refused))
+    (here, (b, carried, again)) =
     let equal = one_delta one world k a b carries carried in
     law (core_at world r) b why other (subst (λ d. IsRefused (core_at world r) d why) equal refused) again
 one_core_refusal one law world (events.Send r part) why other refused again = absurd refused

@@ -11,12 +11,12 @@ use Rattle.replica_world.specs.declared.event.Event.TheVariants as events
 use Rattle.replica_world.specs.World.{World, IsReplica, core_at}
 use Rattle.replica_world.specs.Events.{IsRefusal}
 
--- the same core refuses the delta, or memory ran out
+-- the same core refuses the delta, or memory ran out where it would take it
 pub not_taken : (core same : Core) (delta : State) (why : CoreError) → core ≡ same
     → IsRefused core delta why ⊎ ((why ≡ errors.Memory) × IsAcceptable core delta)
-    → IsRefused same delta why ⊎ (why ≡ errors.Memory)
-not_taken core same delta why equal (inl refused) = inl (subst (λ k. IsRefused k delta why) equal refused)
-not_taken core same delta why equal (inr (memory, acceptable)) = inr memory
+    → IsRefused same delta why ⊎ ((why ≡ errors.Memory) × IsAcceptable same delta)
+not_taken core same delta why equal answer =
+    subst (λ k. IsRefused k delta why ⊎ ((why ≡ errors.Memory) × IsAcceptable k delta)) equal answer
 
 -- what a function returns where it fails with this error
 pub err_is : {T E : Type 0} (P : E → Type 0) (result : Result T E) (e : E) → IsErrAnd result (λ x. x ≡ e) → P e
@@ -26,8 +26,9 @@ err_is P (Err x) e is holds = subst P (sym is) holds
 
 -- an edit that the core refuses, or within which memory ran out
 pub edit_refused : (world after : World) (r : ℕ) (delta : State) (why : CoreError) → IsReplica world r
-    → IsRefused (core_at world r) delta why ⊎ (why ≡ errors.Memory) → after ≡ world
+    → IsRefused (core_at world r) delta why ⊎ ((why ≡ errors.Memory) × IsAcceptable (core_at world r) delta)
+    → after ≡ world
     → IsRefusal world (events.Edit r delta) (world_errors.Core why) after
 edit_refused world after r delta why within (inl refused) same = inl ((within, refused), same)
-edit_refused world after r delta why within (inr memory) same =
-    inr (ap (λ (e : CoreError). world_errors.Core e) memory, (within, same))
+edit_refused world after r delta why within (inr (memory, acceptable)) same =
+    inr (ap (λ (e : CoreError). world_errors.Core e) memory, (within, acceptable, same))

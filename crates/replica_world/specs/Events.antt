@@ -9,7 +9,7 @@ use Rattle.tile_generations.specs.Jobs.{Job, Swept}
 use Rattle.core_rules.specs.declared.error.CoreError.{CoreError}
 use Rattle.core_rules.specs.declared.error.CoreError.TheVariants as core_errors
 use Rattle.core_rules.specs.Work.{Core, IsTile, work_at}
-use Rattle.core_rules.specs.Merge.{IsRefused}
+use Rattle.core_rules.specs.Merge.{IsRefused, IsAcceptable}
 use Rattle.core_rules.specs.Sweeps.{IsReady}
 use Rattle.core_rules.specs.Events.{Event as CoreEvent, Answer, Happens, Merge, Take, GiveBack, Abandon, Hand}
 use Rattle.core_rules.specs.Events.{OfMerge, OfTake}
@@ -104,10 +104,12 @@ IsTurnedDown world event errors.NoSuch = IsNamed world event → ⊥
 IsTurnedDown world event (errors.Core why) = IsCoreRefusal world event why
 
 -- memory ran out within the event: the world is as it was, but that the serial of a core from which a job was taken may
--- have moved on. To abandon a job and to hand over a hint takes no memory, nor does the take of a tile that gives no
--- job, nor a number of a replica, a packet or a result that names nothing
+-- have moved on. An edit that the core refuses is told so, whatever memory does; of a packet this is not known, since
+-- to read it takes memory. To abandon a job and to hand over a hint takes none, nor does the take of a tile that gives
+-- no job, nor a number of a replica, a packet or a result that names nothing
 abbrev pub IsCutOff : World → Event → World → Type 0
-IsCutOff before (events.Edit r delta) after = IsReplica before r × (after ≡ before)
+IsCutOff before (events.Edit r delta) after =
+    IsReplica before r × IsAcceptable (core_at before r) delta × (after ≡ before)
 IsCutOff before (events.Send r part) after = IsReplica before r × (after ≡ before)
 IsCutOff before (events.Deliver r k) after = IsNamed before (events.Deliver r k) × (after ≡ before)
 IsCutOff before (events.Take r t) after =

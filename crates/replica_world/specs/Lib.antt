@@ -3,6 +3,7 @@ pub use Rattle.stroke_lattice.specs.State
 pub use Rattle.stroke_lattice.specs.Pieces
 pub use Rattle.spd_codec.specs.Spelling
 pub use Rattle.tile_generations.specs.Jobs
+pub use Rattle.border_queues.specs.TileWork
 pub use Rattle.core_rules.specs.Work
 pub use Rattle.core_rules.specs.Merge
 pub use Rattle.core_rules.specs.Sweeps

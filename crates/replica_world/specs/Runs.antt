@@ -1,11 +1,11 @@
 -- Lists of events, one after another.
-use Rattle.std.specs.Prelude.{◌≡◌, ℕ, ◌+◌, ◌<◌, ◌⊎◌, List, [], ◌∷◌, ◌++◌, length}
+use Rattle.std.specs.Prelude.{◌≡◌, ℕ, ◌+◌, ◌≤◌, ◌⊎◌, List, [], ◌∷◌, ◌++◌, length}
 use Rattle.core_rules.specs.declared.error.CoreError.TheVariants as core_errors
 use Rattle.replica_world.specs.declared.error.WorldError.{WorldError}
 use Rattle.replica_world.specs.declared.error.WorldError.TheVariants as errors
 use Rattle.replica_world.specs.declared.event.Event.{Event}
-use Rattle.replica_world.specs.World.{World, core_at, with_core}
-use Rattle.replica_world.specs.Events.{IsDone, IsTurnedDown}
+use Rattle.replica_world.specs.World.{World}
+use Rattle.replica_world.specs.Events.{IsDone, IsTurnedDown, IsCutOff}
 
 -- a refusal: the number of the event in its list, counted from 0, and the reason
 abbrev pub Refusal : Type 0
@@ -20,30 +20,31 @@ AreEvents n (event ∷ rest) before refusals after =
     ⊎ ((why : WorldError) × (more : List Refusal) × IsTurnedDown before event why × (refusals ≡ (n, why) ∷ more)
     × AreEvents (n + 1) rest before more after)
 
--- the same world, but that the serial of a core may have moved on
-abbrev pub IsSameButSerial : World → World → Type 0
-IsSameButSerial before after =
-    (after ≡ before)
-    ⊎ ((r serial : ℕ) × (after ≡ with_core before r (record (core_at before r) { serial = serial })))
-
 -- the whole list was run from the first world, with these refusals
 pub record IsRun (before : World) (events : List Event) (refusals : List Refusal) (after : World) : Type 0 where
   pub reached : World
   pub are_events : AreEvents 0 events before refusals reached
   pub after_is : after ≡ record reached { steps = length events }
 
--- the run ended for want of memory at an event: those before it were brought to an end, their number is kept, and the
--- world is the one after them, but that the serial of a core may have moved on
-pub record IsStopped (before : World) (events : List Event) (why : WorldError) (after : World) : Type 0 where
-  pub memory : why ≡ errors.Core core_errors.Memory
+-- a run that memory cut short within an event: those before it were brought to an end, and their number is kept
+pub record IsCutShort (before : World) (events : List Event) (after : World) : Type 0 where
   pub done : List Event
-  pub left : List Event
-  pub parts : events ≡ done ++ left
-  pub some_left : 0 < length left
+  pub event : Event
+  pub rest : List Event
+  pub parts : events ≡ done ++ event ∷ rest
   pub refusals : List Refusal
   pub reached : World
   pub are_events : AreEvents 0 done before refusals reached
-  pub after_is : IsSameButSerial (record reached { steps = length done }) after
+  pub left : World
+  pub cut_off : IsCutOff reached event left
+  pub after_is : after ≡ record left { steps = length done }
+
+-- a run that ended for want of memory: before its first event, where there were no places for the list of refusals, and
+-- then nothing happened; or within an event
+abbrev pub IsStopped : World → List Event → WorldError → World → Type 0
+IsStopped before events why after =
+    (why ≡ errors.Core core_errors.Memory)
+    × (((1 ≤ length events) × (after ≡ record before { steps = 0 })) ⊎ IsCutShort before events after)
 
 -- the event of this number leads from the one world to the other, and from the refusals before it to those then
 pub record IsOnward (event : Event) (n : ℕ) (before : World) (refusals : List Refusal) (after : World)

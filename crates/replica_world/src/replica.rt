@@ -7,7 +7,7 @@ ghost use Rattle.stroke_lattice.specs.State.{IsJoinOf};
 ghost use Rattle.tile_generations.specs.Jobs.{Job as Task, Swept as Result, IsSwept};
 ghost use Rattle.core_rules.specs.declared.answers.Back.{Back as Answer};
 ghost use Rattle.core_rules.specs.declared.error.CoreError.TheVariants as core_errors;
-ghost use Rattle.core_rules.specs.Merge.{IsMerged, IsRefused};
+ghost use Rattle.core_rules.specs.Merge.{IsMerged, IsRefused, IsAcceptable};
 ghost use Rattle.core_rules.specs.Sweeps.{IsReady, IsTaken, IsGivenBack, IsAbandoned};
 ghost use Rattle.core_rules.specs.Hints.{IsHanded};
 ghost use Rattle.core_rules.specs.Schedule.{IsAdded};
@@ -75,19 +75,23 @@ impl Replica {
         &self.took
     }
 
-    // Merges a delta, which then counts among those that were taken. The copy that is kept is made before.
+    // Merges a delta, which then counts among those that were taken. The copy that is kept is made before; where there
+    // is no memory for it, the core is asked whether it would take the delta.
     //
-    // Errors: C1 to C3 as the core says, or C4. The replica is then as it was.
+    // Errors: C1 to C3 as the core says, else C4. The replica is then as it was.
     pub fn take_in(&mut self, alloc: Global, delta: &Delta) -> Result<(), CoreError>
         ensures merged { OnOk result ((turnover : Turnover)
             × IsMerged self.old.core delta.now turnover self.new.core) }
         ensures took { OnOk result (self.new.took ≡ self.old.took ++ delta.now ∷ []) }
-        ensures refused { IfErr result (λ e. IsRefused self.old.core delta.now e ⊎ (e ≡ core_errors.Memory)) }
+        ensures refused { IfErr result (λ e. IsRefused self.old.core delta.now e
+            ⊎ ((e ≡ core_errors.Memory) × IsAcceptable self.old.core delta.now)) }
         ensures err { OnErr result (self.new ≡ self.old) }
     {
         join_of_a_longer_list();
-        let copy = delta.copy(alloc)?;
-        make_room(&mut self.took)?;
+        let copy = match copy_to_keep(alloc, &mut self.took, delta) {
+            Ok(copy) => copy,
+            Err(_) => return Err(why_not_taken(&mut self.core, delta)),
+        };
         match self.core.merge(alloc, delta) {
             Ok(_change) => {
                 self.took.push_reserved(copy);
@@ -162,15 +166,31 @@ impl Replica {
     }
 }
 
-// Reserves a place.
+// Why a core does not take a delta, where there is no memory to keep it.
+fn why_not_taken(core: &mut Core, delta: &Delta) -> CoreError
+    ensures refused { IsRefused core.old delta.now result
+        ⊎ ((result ≡ core_errors.Memory) × IsAcceptable core.old delta.now) }
+    ensures same { core.new ≡ core.old }
+{
+    match core.judge(delta) {
+        Ok(()) => CoreError::Memory,
+        Err(why) => why,
+    }
+}
+
+// A copy of the delta, for which there is then a place in the list.
 //
 // Errors: out of memory, where the list is as it was.
-fn make_room(deltas: &mut Vec<Delta>) -> Result<(), Memory>
+fn copy_to_keep(alloc: Global, deltas: &mut Vec<Delta>, delta: &Delta) -> Result<Delta, Memory>
+    ensures copy { IfOk result (λ copy. copy ≡ delta.now) }
     ensures items { deltas.new.items ≡ deltas.old.items }
     ensures room { OnOk result (vec_len deltas.new < vec_capacity deltas.new) }
 {
     deltas.reserve(1)?;
-    Ok(())
+    match delta.copy(alloc) {
+        Ok(copy) => Ok(copy),
+        Err(_) => Err(Memory),
+    }
 }
 
 // Sweeps the job, and puts the result behind the others.

@@ -8,7 +8,7 @@ use Rattle.grid_core.specs.declared.conn.Conn.{Conn}
 use Rattle.grid_core.specs.declared.conn.Conn.TheVariants.{Four, Eight}
 use Rattle.grid_core.specs.declared.pixel.Pixel.{Pixel}
 use Rattle.grid_core.specs.declared.rect.Rect.{Rect}
-use Rattle.grid_core.specs.Raster.{Raster, IsInside, IsFilled, index_of, value_at, with_value}
+use Rattle.grid_core.specs.Raster.{Raster, IsInside, IsFilled, index_of, value_at, with_value, IsOnBorder}
 use Rattle.grid_core.specs.Neighbours.{apart, AreNeighbours}
 use Rattle.grid_core.specs.Rects.{IsInRect, in_image}
 use Rattle.grid_core.specs.Tiles.{Tiles, IsTiled, count_of, tile_of, rect_of}
@@ -18,8 +18,8 @@ use Rattle.grid_core.proofs.Tilings.{each_pixel_in_one_tile, tile_pixels}
 use Rattle.border_queues.specs.declared.hint.Hint.{Hint}
 use Rattle.border_queues.specs.OpenEdges.{Sender, IsOnTiling, hint_to, open_edges}
 use Rattle.border_queues.specs.Laws.{EdgesAreOpen}
-use Rattle.border_queues.proofs.Members.{at_head, behind_head}
-use Rattle.raster_sweeps.specs.Borders.{IsOnBorder, OpenPairsBeginOnBorder}
+use Rattle.grid_core.proofs.Common.{here, later}
+use Rattle.raster_sweeps.specs.Borders.{OpenPairsBeginOnBorder}
 use Rattle.raster_sweeps.proofs.Borders.{border_raise_keeps_border, same_part_keeps_border}
 use Rattle.reset_core.specs.Telling.{ImageAndWork, handed, all_handed}
 use Rattle.core_rules.proofs.Removals.{from_map}
@@ -33,7 +33,7 @@ near Eight p q beside = (beside.0, beside.1)
 
 -- a pixel of a rectangle with a neighbour outside lies on the rectangle's border
 on_border : (conn : Conn) (rect : Rect) (p q : Pixel) → IsInside rect.w rect.h q → (IsInRect rect p → ⊥)
-    → AreNeighbours conn p (in_image rect q) → IsOnBorder rect q
+    → AreNeighbours conn p (in_image rect q) → IsOnBorder rect.w rect.h q
 on_border conn rect p q inside outside beside =
     let (columns, rows) = near conn p (in_image rect q) beside in
     elim (cases_eq q.x 0) [
@@ -62,7 +62,7 @@ pub record IsOnTileBorder (tiles : Tiles) (q : Pixel) : Type 0 where
   pub r : Pixel
   pub inside : IsInside (rect_of tiles (tile_of tiles q)).w (rect_of tiles (tile_of tiles q)).h r
   pub here : in_image (rect_of tiles (tile_of tiles q)) r ≡ q
-  pub border : IsOnBorder (rect_of tiles (tile_of tiles q)) r
+  pub border : IsOnBorder (rect_of tiles (tile_of tiles q)).w (rect_of tiles (tile_of tiles q)).h r
 
 -- a pixel with a neighbour in another tile lies on the border of its tile
 beside_other_tile : (conn : Conn) (tiles : Tiles) (p q : Pixel) → IsTiled tiles
@@ -125,7 +125,7 @@ module _ (tiles : Tiles) (conn : Conn) (mask : Raster) (tiled : IsTiled tiles) (
   tile_pixel p inside = (tile_pixels tiles u (in_image (rect_of tiles u) p) tiled within).1 (p, inside, refl)
 
   raised_here : (image : Raster) (r : Pixel) (v : ℕ) → IsClosedAt tiles conn mask u image
-      → IsInside (rect_of tiles u).w (rect_of tiles u).h r → IsOnBorder (rect_of tiles u) r
+      → IsInside (rect_of tiles u).w (rect_of tiles u).h r → IsOnBorder (rect_of tiles u).w (rect_of tiles u).h r
       → value_at image (in_image (rect_of tiles u) r) < v
       → OpenPairsBeginOnBorder conn (rect_of tiles u) mask (with_value image (in_image (rect_of tiles u) r) v)
   raised_here image r v closed inside border above =
@@ -165,8 +165,8 @@ module _ (tiles : Tiles) (conn : Conn) (mask : Raster) (tiled : IsTiled tiles) (
           subst (λ n. IsInside (rect_of tiles n).w (rect_of tiles n).h at.r) same at.inside in
           let here : in_image (rect_of tiles u) at.r ≡ q =
           subst (λ n. in_image (rect_of tiles n) at.r ≡ q) same at.here in
-          let border : IsOnBorder (rect_of tiles u) at.r =
-          subst (λ n. IsOnBorder (rect_of tiles n) at.r) same at.border in
+          let border : IsOnBorder (rect_of tiles u).w (rect_of tiles u).h at.r =
+          subst (λ n. IsOnBorder (rect_of tiles n).w (rect_of tiles n).h at.r) same at.border in
           subst (λ (p : Pixel). OpenPairsBeginOnBorder conn (rect_of tiles u) mask (with_value image p v)) here
           (raised_here image at.r v closed inside border
           (subst (λ (p : Pixel). value_at image p < v) (sym here) above))
@@ -191,5 +191,5 @@ module _ (tiles : Tiles) (conn : Conn) (mask : Raster) (tiled : IsTiled tiles) (
       → IsClosedAt tiles conn mask u s.image → IsClosedAt tiles conn mask u (all_handed tiles hints s).image
   hints_keep_closed [] s to_border closed = closed
   hints_keep_closed (hint ∷ hints) s to_border closed =
-      hints_keep_closed hints (handed tiles hint s) (λ h there. to_border h (behind_head hint h hints there))
-      (hint_keeps_closed hint s (to_border hint (at_head hint hint hints refl)) closed)
+      hints_keep_closed hints (handed tiles hint s) (λ h there. to_border h (later hint hints h there))
+      (hint_keeps_closed hint s (to_border hint (here hint hints hint refl)) closed)

@@ -1,3 +1,5 @@
+-- The lemmas of this crate, file by file.
+pub mod Answering
 pub mod Storing
 pub mod Settling
 pub mod Sweeping

@@ -8,30 +8,29 @@ use Rattle.grid_core.specs.Raster.{Raster, IsInside, value_at}
 use Rattle.grid_core.specs.Path.{Inside}
 use Rattle.grid_core.specs.Tiles.{Tiles, tile_of, count_of}
 use Rattle.grid_core.proofs.Tilings.{each_pixel_in_one_tile}
-use Rattle.stroke_lattice.specs.State.{State, StateFits, AreCompatible, IsJoin, IsLive, IsLiveTag, IsLeastClash}
+use Rattle.stroke_lattice.specs.State.{State, StateFits, AreCompatible, IsJoin, IsLive, IsLiveTag}
 use Rattle.grid_core.specs.declared.conn.Conn.{Conn}
 use Rattle.stroke_lattice.specs.Change.{Turnover}
-use Rattle.stroke_lattice.specs.declared.error.StateError.{StateError}
-use Rattle.stroke_lattice.specs.declared.error.StateError.TheVariants as state_errors
 use Rattle.stroke_lattice.proofs.Joins.{one_seed, join_is_union}
 use Rattle.stroke_lattice.proofs.Joining.{joined}
 use Rattle.marker_tiles.specs.Marker.{IsMarker, IsMarkedAt}
 use Rattle.marker_tiles.specs.Kept.{IsMarkerOf}
 use Rattle.tile_generations.specs.Generations.{max_generation}
 use Rattle.core_rules.specs.declared.error.CoreError.{CoreError}
-use Rattle.core_rules.specs.declared.error.CoreError.TheVariants.{GenerationsSpent, Memory}
-use Rattle.core_rules.specs.Codes.{refused_state}
-use Rattle.core_rules.specs.Work.{Core, TileWork, domain, tiling, mask_at, image_at, IsTile, work_at}
-use Rattle.core_rules.specs.Hits.{IsInTile, LeadTo, IsHit, TouchesHit}
+use Rattle.core_rules.specs.declared.error.CoreError.TheVariants.{GenerationsSpent}
+use Rattle.core_rules.specs.Work.{Core, domain, tiling, mask_at, image_at, IsTile, work_at}
+use Rattle.border_queues.specs.TileWork.{TileWork, work_of}
+use Rattle.core_rules.specs.Hits.{IsInTile, HoldsOne, LosesStroke, AreLinked, LeadFrom, IsHit, TouchesHit}
 use Rattle.core_rules.specs.Merge.{HasRisen, IsReset, IsKept, IsMerged, IsRefused, IsAcceptable}
 use Rattle.core_rules.specs.Invariant.{IsSound}
 use Rattle.tile_work.specs.TileSet.{Has}
-use Rattle.tile_resets.specs.Renewing.{IsPixelOf, IsTileReset, IsTileKept, TouchesMarked, HasRisenIn, IsUnder, row_at}
+use Rattle.tile_resets.specs.Renewing.{IsTileKept, TouchesMarked, IsUnder}
 use Rattle.tile_resets.specs.Renewing.{AreReset, IsRaisedUnder, IsDirtyIf}
-use Rattle.reset_core.specs.Replica.{Parts, core_of, IsStored}
+use Rattle.reset_core.specs.declared.replica.Core.TheInside.{Inside as Parts}
+use Rattle.reset_core.specs.Replica.{core_of, IsStored}
 use Rattle.reset_core.specs.MergeSteps.{IsMarked, HasSpentMark, IsGrown, AreMarkedReset, IsRaisedByBirths, IsRenewed}
 use Rattle.core_rules.specs.Image.{IsOfSize}
-use Rattle.tile_resets.specs.Marks.{AreHits, IsCoreOf}
+use Rattle.tile_resets.specs.Marks.{AreHits}
 use Rattle.reset_core.proofs.Storing.{empty_still}
 use Rattle.tile_resets.proofs.RenewingResets.{reset_stays}
 use Rattle.core_rules.proofs.Merging.{merge_keeps_sound}
@@ -39,14 +38,16 @@ use Rattle.core_rules.proofs.Resets.{one_refusal}
 
 -- ---- tiles that are hit
 
-tile_of_pixel_is_tile : (core : Core) (t : ℕ) (p : Pixel) → IsSound core → IsInTile core t p → IsTile core t
+tile_of_pixel_is_tile : (core : Core) (t : ℕ) (p : Pixel) → IsSound core → IsInTile (tiling core) t p → IsTile core t
 tile_of_pixel_is_tile core t p sound in_tile =
     let in_one = (each_pixel_in_one_tile (tiling core) p sound.shape.tiled in_tile.inside).0 in
     let count = sound.shape.tiles in
     let is_tile : IsTile core (tile_of (tiling core) p) = omega (arith, in_one, count) in
     subst (IsTile core) in_tile.tile is_tile
 
-hit_is_tile : (core : Core) (after : State) (list : List ℕ) (t : ℕ) → IsSound core → LeadTo core after list t
+hit_is_tile : (core : Core) (after : State) (list : List ℕ) (t : ℕ) → IsSound core
+    → LeadFrom (HoldsOne (tiling core) (LosesStroke core.state after)) (AreLinked (tiling core) core.image core.conn)
+    list t
     → IsTile core t
 hit_is_tile core after [] t sound (p, in_tile, loses) = tile_of_pixel_is_tile core t p sound in_tile
 hit_is_tile core after (u ∷ list) t sound (lead, linked) = tile_of_pixel_is_tile core t linked.q sound linked.to
@@ -105,13 +106,6 @@ module _ (core : Core) (delta : State) (marks : List Bool) (sound : IsSound core
       unspent = λ spent. none (spent.t, hit_is_marked spent.joined spent.join spent.t spent.hit, spent.spent);
     }
 
--- where nothing clashes, a state takes a delta unless memory runs out
-pub only_memory : (a b : State) (why : StateError)
-    → ((tag : ℕ) → why ≡ state_errors.Conflict tag → IsLeastClash a b tag) → AreCompatible a b
-    → refused_state why ≡ Memory
-only_memory a b (state_errors.Conflict tag) clashes compatible = absurd (compatible tag (clashes tag refl).0)
-only_memory a b state_errors.Memory clashes compatible = refl
-
 -- ---- what is merged
 
 -- the core with other strokes, another image and other work
@@ -132,9 +126,6 @@ module _ (before : Core) (delta : State) (turnover : Turnover) (marks : List Boo
       let width = reset.size.width ∙ sound.shape.image.width in
       let height = reset.size.height ∙ sound.shape.image.height in
       (omega (arith, width, inside.0), omega (arith, height, inside.1))
-
-  pixel_of_tile : (t : ℕ) (p : Pixel) → IsInTile before t p → IsPixelOf (tiling before) t p
-  pixel_of_tile t p in_tile = record { inside = in_tile.inside; tile = in_tile.tile }
 
   -- ---- the image
 
@@ -226,35 +217,33 @@ module _ (before : Core) (delta : State) (turnover : Turnover) (marks : List Boo
 
   -- a tile that is reset
   tile_reset : (t : ℕ) → IsTile before t
-      → IsTileReset (tiling before) marker middle (row_at before.tiles t) (row_at between t) t
-      → IsReset before (value_at marker) (renewed_core before state new after) t
+      → IsReset (tiling before) (value_at marker) middle (work_of before.tiles t) (work_of between t) t
+      → IsReset (tiling before) (value_at marker) new (work_of before.tiles t) (work_of after t) t
   tile_reset t is_tile is_reset = record {
     work =
-        reset_stays (HasRisenIn (tiling before) t middle new) (row_at before.tiles t) (row_at between t)
-        (row_at after t) is_reset.work (raised.dirty t (row_is_tile t is_tile));
-    image = λ p in_tile. reset_value p in_tile.inside (is_reset.values p (pixel_of_tile t p in_tile));
+        reset_stays (HasRisen (tiling before) t middle new) (work_of before.tiles t) (work_of between t)
+        (work_of after t) is_reset.work (raised.dirty t (row_is_tile t is_tile));
+    image = λ p in_tile. reset_value p in_tile.inside (is_reset.image p in_tile);
   }
 
   -- a tile that is kept
   module _ (t : ℕ) (is_tile : IsTile before t)
-      (kept : IsTileKept (tiling before) (Has marks) before.image middle (row_at before.tiles t) (row_at between t) t)
+      (kept : IsTileKept (tiling before) (Has marks) before.image middle (work_of before.tiles t) (work_of between t) t)
     where
-      risen : HasRisenIn (tiling before) t middle new → HasRisen before (renewed_core before state new after) t
+      risen : HasRisen (tiling before) t middle new → HasRisen (tiling before) t before.image new
       risen rises =
-          let same = kept.values rises.p rises.of_tile in
-          let rose = rises.rose in (
-            rises.p,
-            record { inside = rises.of_tile.inside; tile = rises.of_tile.tile },
-            omega (arith, same, rose),
-          )
+          let same = kept.values rises.p rises.in_tile in
+          let rose = rises.rose in
+          record { p = rises.p; in_tile = rises.in_tile; rose = omega (arith, same, rose) }
 
-      has_risen : HasRisen before (renewed_core before state new after) t → HasRisenIn (tiling before) t middle new
-      has_risen (p, in_tile, rose) =
-          let same = kept.values p (pixel_of_tile t p in_tile) in
-          record { p = p; of_tile = pixel_of_tile t p in_tile; rose = omega (arith, same, rose) }
+      has_risen : HasRisen (tiling before) t before.image new → HasRisen (tiling before) t middle new
+      has_risen rises =
+          let same = kept.values rises.p rises.in_tile in
+          let rose = rises.rose in
+          record { p = rises.p; in_tile = rises.in_tile; rose = omega (arith, same, rose) }
 
-      why_dirty : IsTrue (row_at after t).dirty
-          → IsTrue (work_at before t).dirty ⊎ HasRisen before (renewed_core before state new after) t
+      why_dirty : IsTrue (work_of after t).dirty
+          → IsTrue (work_at before t).dirty ⊎ HasRisen (tiling before) t before.image new
           ⊎ TouchesHit before state t
       why_dirty dirty = elim ((raised.dirty t (row_is_tile t is_tile)).dirty.0 dirty) [
         | inl was ↦ elim (kept.work.dirty.0 was) [
@@ -264,8 +253,8 @@ module _ (before : Core) (delta : State) (turnover : Turnover) (marks : List Boo
         | inr rises ↦ inr (inl (risen rises))
       ]
 
-      is_dirty : IsTrue (work_at before t).dirty ⊎ HasRisen before (renewed_core before state new after) t
-          ⊎ TouchesHit before state t → IsTrue (row_at after t).dirty
+      is_dirty : IsTrue (work_at before t).dirty ⊎ HasRisen (tiling before) t before.image new
+          ⊎ TouchesHit before state t → IsTrue (work_of after t).dirty
       is_dirty (inl old) = (raised.dirty t (row_is_tile t is_tile)).dirty.1 (inl (kept.work.dirty.1 (inl old)))
       is_dirty (inr (inl rises)) = (raised.dirty t (row_is_tile t is_tile)).dirty.1 (inr (has_risen rises))
       is_dirty (inr (inr touches)) =
@@ -275,13 +264,14 @@ module _ (before : Core) (delta : State) (turnover : Turnover) (marks : List Boo
       tile_kept = record {
         work =
             (raised.dirty t (row_is_tile t is_tile)).rest
-            ∙ ap (λ (w : TileWork). record w { dirty = (row_at after t).dirty }) kept.work.rest;
+            ∙ ap (λ (w : TileWork). record w { dirty = (work_of after t).dirty }) kept.work.rest;
         dirty = (why_dirty, is_dirty);
-        image = λ p in_tile. raised_value p in_tile.inside (kept.values p (pixel_of_tile t p in_tile));
+        image = λ p in_tile. raised_value p in_tile.inside (kept.values p in_tile);
       }
 
   each_tile : (t : ℕ) → IsTile before t
-      → (IsHit before state t × IsReset before (value_at marker) (renewed_core before state new after) t)
+      → (IsHit before state t
+      × IsReset (tiling before) (value_at marker) new (work_of before.tiles t) (work_of after t) t)
       ⊎ ((IsHit before state t → ⊥) × IsKept before (value_at marker) (renewed_core before state new after) t)
   each_tile t is_tile = elim (reset.each t is_tile) [
     | inl (has, is_reset) ↦
@@ -329,15 +319,15 @@ module _ (before after : Parts) (delta : State) (turnover : Turnover) (stored : 
   same_core =
       let core = renewed_core (core_of before) after.state after.image after.work in
       ap (λ (m : Raster). record core { mask = m }) (sym renewed.mask)
-      ∙ ap (λ (t : Tiles). record core { mask = after.kept.mask; side = t.side }) (sym renewed.tiling_is)
-      ∙ ap (λ (conn : Conn). record core { mask = after.kept.mask; side = after.kept.tiling.side; conn = conn })
+      ∙ ap (λ (t : Tiles). record core { mask = after.markers.mask; side = t.side }) (sym renewed.tiling_is)
+      ∙ ap (λ (conn : Conn). record core { mask = after.markers.mask; side = after.markers.tiling.side; conn = conn })
       (sym renewed.conn)
       ∙ ap (λ n. record (core_of after) { serial = n }) (sym renewed.serial)
 
   pub renewed_is_merged : IsMerged (core_of before) delta turnover (core_of after)
   renewed_is_merged =
       subst (IsMerged (core_of before) delta turnover) same_core
-      (steps_merge (core_of before) delta turnover renewed.marks after.state after.kept.marker renewed.image.middle
+      (steps_merge (core_of before) delta turnover renewed.marks after.state after.markers.marker renewed.image.middle
       after.image renewed.image.between after.work stored.sound renewed.marked renewed.none_spent renewed.grown
       renewed.image.reset renewed.image.raised)
 
@@ -348,7 +338,8 @@ module _ (before after : Parts) (delta : State) (turnover : Turnover) (stored : 
   renewed_is_stored = record {
     sound = merge_keeps_sound (core_of before) (core_of after) delta turnover stored.sound renewed_is_merged;
     marks =
-        subst (λ (m : Raster). IsMarkerOf m after.state after.kept.marker) (sym renewed.mask) renewed.grown.marker_is;
+        subst (λ (m : Raster). IsMarkerOf m after.state after.markers.marker) (sym renewed.mask)
+        renewed.grown.marker_is;
     no_marks =
         renewed.cleared
         ∙ ap (λ n. replicate n false) (renewed.marked.count ∙ sym stored.sound.shape.tiles ∙ sym same_count);
@@ -360,15 +351,12 @@ module _ (before after : Parts) (delta : State) (turnover : Turnover) (stored : 
 pub hits_are_marked : (before : Parts) (core : Core) (tiles : Tiles) (delta : State) (marks : List Bool)
     → core_of before ≡ core → tiles ≡ tiling (core_of before) → StateFits core.mask.width core.mask.height delta
     → AreCompatible core.state delta → length marks ≡ count_of tiles
-    → ((k : Core) → IsCoreOf k tiles before.image before.conn before.state → AreHits k delta marks)
-    → IsMarked (core_of before) delta marks
+    → AreHits tiles before.image before.conn before.state delta marks → IsMarked (core_of before) delta marks
 hits_are_marked before core tiles delta marks view tiles_are fits compatible count hits = record {
   fits = subst (λ (k : Core). StateFits k.mask.width k.mask.height delta) (sym view) fits;
   compatible = subst (λ (k : Core). AreCompatible k.state delta) (sym view) compatible;
   count = count ∙ ap count_of tiles_are;
-  hits =
-      hits (core_of before)
-      (record { tiling_is = sym tiles_are; image_is = refl; conn_is = refl; state_is = refl });
+  hits = subst (λ ts. AreHits ts before.image before.conn before.state delta marks) tiles_are hits;
 }
 
 module _ (tiles known : Tiles) (tiles_are : tiles ≡ known) (marker new_marker : Raster)
@@ -387,7 +375,7 @@ module _ (tiles known : Tiles) (tiles_are : tiles ≡ known) (marker new_marker 
   pub births_are_raised : (turnover : Turnover) (state : State) (old new : Raster) (work after : List TileWork)
       (born : List ℕ) → born ≡ turnover.born → IsOfSize old new → length after ≡ length work
       → IsRaisedUnder state born marker old new
-      → ((t : ℕ) → t < length work → IsDirtyIf (HasRisenIn tiles t old new) (row_at work t) (row_at after t))
+      → ((t : ℕ) → t < length work → IsDirtyIf (HasRisen tiles t old new) (work_of work t) (work_of after t))
       → IsRaisedByBirths known turnover state new_marker old new work after
   births_are_raised turnover state old new work after born born_is size count values risen = record {
     size = size;
@@ -397,7 +385,7 @@ module _ (tiles known : Tiles) (tiles_are : tiles ≡ known) (marker new_marker 
         (subst (λ (tags : List ℕ). IsRaisedUnder state tags marker old new) born_is values);
     dirty =
         subst (λ (ts : Tiles). (t : ℕ) → t < length work
-        → IsDirtyIf (HasRisenIn ts t old new) (row_at work t) (row_at after t)) tiles_are risen;
+        → IsDirtyIf (HasRisen ts t old new) (work_of work t) (work_of after t)) tiles_are risen;
   }
 
 -- a refusal is the answer to each refusal

@@ -1,10 +1,11 @@
 -- Schedules: what each step leads to, and how one goes after another.
 use Rattle.std.proofs.Common.{◌≡◌, ℕ, ◌+◌, ◌<◌, ◌≤◌, Bool, true, false, List, [], ◌∷◌, ◌++◌, length, take, drop}
-use Rattle.std.proofs.Common.{get_or, set, refl, sym, subst, ap, ◌∙◌, arith, inl, inr}
+use Rattle.std.proofs.Common.{suc, get_or, set, refl, sym, subst, ap, ◌∙◌, arith, inl, inr}
 use Rattle.std.specs.Prelude.{◌⊎◌, ◌≢◌, Option, Some, None, Result, Ok, Err, OnOk, OnErr, slice_get}
 use Rattle.std.specs.Borrow.{Bor}
 use Rattle.std.specs.Slice.{IsItemAt}
 use Rattle.std.proofs.lemmas.Option.{slice_get_past, slice_get_read}
+use Rattle.std.proofs.Math.Seq.{drop-cons}
 use Rattle.std.proofs.lemmas.List.{append-nil, length_push, take_more, take-append-drop, length-set, set-set}
 use Rattle.std.proofs.lemmas.List.{set-get_or}
 use Rattle.stroke_lattice.specs.State.{State}
@@ -17,7 +18,8 @@ use Rattle.core_rules.specs.declared.answers.Back.{Back}
 use Rattle.core_rules.specs.declared.answers.Handed.{Handed}
 use Rattle.core_rules.specs.declared.step.Step.{Step}
 use Rattle.core_rules.specs.declared.step.Step.TheVariants as steps
-use Rattle.core_rules.specs.Work.{Core, TileWork, work_at, with_work, idle}
+use Rattle.core_rules.specs.Work.{Core, work_at, with_work}
+use Rattle.border_queues.specs.TileWork.{TileWork, idle}
 use Rattle.core_rules.specs.Merge.{IsMerged, IsRefused, IsAcceptable}
 use Rattle.core_rules.specs.Sweeps.{IsTaken, IsGivenBack, IsAbandoned, IsReady, IsOut, taken}
 use Rattle.core_rules.specs.Hints.{IsHanded}
@@ -27,8 +29,10 @@ use Rattle.core_rules.specs.Runs.{Entry, jobs_of, abandons_of}
 use Rattle.core_rules.specs.Counting.{IsWithinWork}
 use Rattle.core_rules.specs.Laws.{ScheduleIsWithinWork}
 use Rattle.core_rules.specs.Invariant.{IsSound}
-use Rattle.core_rules.specs.Schedule.{Progress, Ran, started, passed, after_event, IsStep, AreSteps, IsStopped, ran_of}
-use Rattle.reset_core.specs.Scheduling.{Kept, Agrees, LeadsOn, HaveRun}
+use Rattle.core_rules.specs.Schedule.{Progress, Ran, started, passed, after_event, IsStep, AreSteps, ran_of}
+use Rattle.core_rules.specs.Schedule.{IsStopped, IsCutOff, edits_of}
+use Rattle.reset_core.specs.declared.replica.scheduling.Tally.{Tally}
+use Rattle.reset_core.specs.Scheduling.{Kept, Agrees, LeadsOn, HaveRun, HasRoom}
 use Rattle.core_rules.proofs.Cores.{work_there}
 use Rattle.reset_core.proofs.Settling.{jobs_append}
 
@@ -131,6 +135,16 @@ on_ok (Err e) holds = tt
 pub on_ok_at_err : {T E : Type 0} (P : Type 0) (r : Result T E) (e : E) → r ≡ Err e → OnOk r P
 on_ok_at_err {T} {E} P r e same = subst (λ (s : Result T E). OnOk s P) (sym same) tt
 
+-- and where it hands on what another returned
+
+pub on_ok_map2 : {T E P Q S : Type 0} (r : Result T E) → OnOk r P → OnOk r Q → (P → Q → S) → OnOk r S
+on_ok_map2 (Ok x) first second map = map first second
+on_ok_map2 (Err e) first second map = tt
+
+pub on_err_map : {T E P Q : Type 0} (r : Result T E) → OnErr r P → (P → Q) → OnErr r Q
+on_err_map (Ok x) holds map = tt
+on_err_map (Err e) holds map = map holds
+
 -- ---- edits
 
 pub edit_accepted : (n : ℕ) (delta : State) (before after : Core) (kept : Kept) (turnover : Turnover)
@@ -186,6 +200,14 @@ edit_turned_down n delta before after kept more why (inl refused) other same_cor
     (edit_refused n delta before kept why refused))
 edit_turned_down n delta before after kept more why (inr (memory, acceptable)) other same_core same =
     absurd (other memory)
+
+-- and where the reason is memory, the delta would else be taken
+pub edit_cut_off : (delta : State) (before : Core) (why : CoreError)
+    → IsRefused before delta why ⊎ ((why ≡ errors.Memory) × IsAcceptable before delta) → why ≡ errors.Memory
+    → IsAcceptable before delta
+edit_cut_off delta before why (inl refused) memory =
+    absurd (subst (IsRefused before delta) memory refused)
+edit_cut_off delta before why (inr (is, acceptable)) memory = acceptable
 
 -- ---- takes
 
@@ -441,16 +463,54 @@ all_run start all n now kept ran so_far whole same =
       sym agrees.core_is,
     )
 
-pub run_stops : (start : Core) (all : List Step) (n : ℕ) (now after : Core) (kept : Kept) → HaveRun start all n now kept
-    → after ≡ record now { serial = after.serial } → IsStopped start all after
-run_stops start all n now after kept so_far same = record {
-  done = take n all;
-  left = drop n all;
-  parts = sym (take-append-drop n all);
-  reached = so_far.reached;
-  are_steps = so_far.are_steps;
-  core_is = subst (λ (core : Core). after ≡ record core { serial = after.serial }) (sym so_far.agrees.core_is) same;
-}
+-- the steps that are left, the next one first
+next_is : (all : List Step) (n : ℕ) (step : Step) → n < length all → step ≡ get_or all n step
+    → drop n all ≡ step ∷ drop (n + 1) all
+next_is all n step within there =
+    let next : suc n ≡ n + 1 = omega arith in
+    drop-cons all n step within ∙ ap (λ k. get_or all n step ∷ drop k all) next
+    ∙ ap (λ s. s ∷ drop (n + 1) all) (sym there)
+
+-- memory ran out within the next step
+pub run_stops : (start : Core) (all : List Step) (n : ℕ) (now after : Core) (kept : Kept) (step : Step)
+    → HaveRun start all n now kept → n < length all → step ≡ get_or all n step → IsCutOff now kept.results step after
+    → IsStopped start all after
+run_stops start all n now after kept step so_far within there cut =
+    let reached = so_far.reached in
+    let rest : drop n all ≡ step ∷ drop (n + 1) all = next_is all n step within there in
+    inr (record {
+      done = take n all;
+      step = step;
+      rest = drop (n + 1) all;
+      parts = sym (take-append-drop n all) ∙ ap (λ left. take n all ++ left) rest;
+      reached = reached;
+      are_steps = so_far.are_steps;
+      cut_off =
+          subst (λ (core : Core). IsCutOff core reached.results step after) (sym so_far.agrees.core_is)
+          (subst (λ results. IsCutOff now results step after) (sym so_far.agrees.results_are) cut);
+    })
+
+-- ---- places for edits
+
+-- the steps that are left have one edit fewer, if the next one is an edit
+edits_of_cons : (step : Step) (rest : List Step) → edits_of (step ∷ rest) ≡ edits_of (step ∷ []) + edits_of rest
+edits_of_cons (steps.Edit delta) rest = omega arith
+edits_of_cons (steps.Take t) rest = omega arith
+edits_of_cons (steps.Return j) rest = omega arith
+edits_of_cons (steps.Abandon j) rest = omega arith
+edits_of_cons (steps.Hand t place) rest = omega arith
+
+pub next_edits : (all : List Step) (n : ℕ) (step : Step) → n < length all → step ≡ get_or all n step
+    → edits_of (drop n all) ≡ edits_of (step ∷ []) + edits_of (drop (n + 1) all)
+next_edits all n step within there =
+    ap edits_of (next_is all n step within there) ∙ edits_of_cons step (drop (n + 1) all)
+
+-- room for more edits is room for fewer
+pub room_for_fewer : (tally : Tally) (n m : ℕ) → HasRoom tally n → m ≤ n → HasRoom tally m
+room_for_fewer tally n m room fewer =
+    let accepted = room.accepted in
+    let refused = room.refused in
+    record { accepted = omega (arith, accepted, fewer); refused = omega (arith, refused, fewer) }
 
 -- ---- the bound on the work
 

@@ -1,7 +1,8 @@
 -- Settling: jobs that are abandoned, hints that are handed over, and tiles that are swept, one after another.
 use Rattle.std.proofs.Common.{◌≡◌, ℕ, zero, suc, ◌+◌, ◌-◌, ◌*◌, ◌<◌, ◌≤◌, true, List, [], ◌∷◌, ◌++◌, length}
 use Rattle.std.proofs.Common.{refl, sym, ap, ◌∙◌, subst, arith, set, get_or, IsTrue}
-use Rattle.std.specs.Prelude.{◌≢◌, IsSome, Bool, false, Option, option_map, option_to_list, Some, None, remove, slice_get, if◌then◌else◌}
+use Rattle.std.specs.Prelude.{◌≢◌, IsSome, Bool, false, Option, option_map, option_to_list, Some, None, remove}
+use Rattle.std.specs.Prelude.{slice_get, if◌then◌else◌}
 use Rattle.std.specs.List.{All}
 use Rattle.border_queues.specs.declared.hint.Hint.{Hint}
 use Rattle.grid_core.specs.Tiles.{tile_of}
@@ -11,18 +12,19 @@ use Rattle.std.proofs.lemmas.Nat.{mul-le}
 use Rattle.std.proofs.lemmas.List.{append-nil, append_assoc, length-append, length-set, map-append}
 use Rattle.std.proofs.lemmas.List.Edits.{length-remove}
 use Rattle.std.proofs.lemmas.List.Sums.{sum_by-set, sum_by-le}
-use Rattle.grid_core.specs.Raster.{Raster, IsSized}
+use Rattle.grid_core.specs.Raster.{Raster, IsSized, max_value}
 use Rattle.grid_core.specs.Tiles.{Tiles, IsTiled, count_of, columns_of, rows_of}
 use Rattle.grid_core.proofs.Spans.{spans-le}
 use Rattle.tile_generations.specs.declared.ticket.Ticket.{Ticket}
 use Rattle.core_rules.specs.declared.answers.Handed.{Handed}
 use Rattle.core_rules.specs.declared.answers.Handed.TheVariants.{Raised, Same, Stale, Nothing}
-use Rattle.core_rules.specs.Work.{Core, TileWork, idle, tiling, IsTile, work_at, with_work, IsQuiet}
+use Rattle.core_rules.specs.Work.{Core, tiling, IsTile, work_at, with_work, IsQuiet}
+use Rattle.border_queues.specs.TileWork.{TileWork, idle, IsLeast}
 use Rattle.core_rules.specs.Sweeps.{IsAbandoned}
 use Rattle.core_rules.specs.Hints.{hint_at, without_hint, raised, IsHanded}
 use Rattle.core_rules.specs.Events.{Merge, Take, GiveBack, Abandon, Hand}
 use Rattle.core_rules.specs.Events.{OfTake, OfAbandon, OfHand}
-use Rattle.core_rules.specs.Runs.{IsSettled, IsCutShort, Entry, IsRun, IsWorkedOff, IsLeast, NoneOut, HasHints, IsDirty}
+use Rattle.core_rules.specs.Runs.{IsSettled, IsCutShort, Entry, IsRun, IsWorkedOff, NoneOut, HasHints, IsDirty}
 use Rattle.core_rules.specs.Runs.{jobs_of, abandons_of, abandoned, tickets_out}
 use Rattle.core_rules.specs.Counting.{IsWithinWork, Owes}
 use Rattle.core_rules.specs.Laws.{SettlingIsWithinWork}
@@ -40,7 +42,8 @@ pub jobs_append : (first second : List Entry) → jobs_of (first ++ second) ≡ 
 jobs_append [] second = omega arith
 jobs_append ((Take t, OfTake (Some job)) ∷ log) second =
     let rest = jobs_append log second in
-    ap (λ n. 1 + n) rest ∙ (let e : 1 + (jobs_of log + jobs_of second) ≡ 1 + jobs_of log + jobs_of second = omega arith in e)
+    let e : 1 + (jobs_of log + jobs_of second) ≡ 1 + jobs_of log + jobs_of second = omega arith in
+    ap (λ n. 1 + n) rest ∙ e
 jobs_append (entry ∷ log) second = jobs_append log second
 
 pub no_jobs_abandoned : (tickets : List Ticket) → jobs_of (abandoned tickets) ≡ 0
@@ -77,8 +80,9 @@ pub first_ticket : (k : ℕ) (works : List TileWork) (t serial : ℕ) → t < le
 first_ticket k [] t serial within out first = absurd (omega (arith, within))
 first_ticket k (work ∷ works) zero serial within out first =
     let here : k + 0 ≡ k = omega arith in
+    let ticket : ℕ → Ticket = λ n. record { tile = n; generation = work.generation; serial = serial } in
     ap (λ o. tickets_out k (record work { out = o } ∷ works)) out
-    ∙ ap (λ n. record { tile = n; generation = work.generation; serial = serial } ∷ tickets_out (k + 1) works) (sym here)
+    ∙ ap (λ n. ticket n ∷ tickets_out (k + 1) works) (sym here)
 first_ticket k (work ∷ works) (suc t) serial within out first =
     let next : k + 1 + t ≡ k + suc t = omega arith in
     let rest = first_ticket (k + 1) works t serial (omega (arith, within)) out
@@ -302,8 +306,8 @@ pub bounded_burden : (core : Core) → IsSized core.image → IsTiled (tiling co
     → length core.tiles ≡ count_of (tiling core) → burden core + 1 < 18446744073709551616
 bounded_burden core sized tiled count =
     let t = tiling core in
-    let cells = sum_by-le (λ v. 4294967295 - v) 4294967295 core.image.cells
-    (All-of {P = λ v. 4294967295 - v ≤ 4294967295} (λ v. omega arith) core.image.cells) in
+    let cells = sum_by-le (λ v. max_value - v) max_value core.image.cells
+    (All-of {P = λ v. max_value - v ≤ max_value} (λ v. omega arith) core.image.cells) in
     let rows = sum_by-le (λ (work : TileWork). if work.dirty then 1 else 0) 1 core.tiles
     (All-of {P = λ work. (if work.dirty then 1 else 0) ≤ 1} (λ (work : TileWork). at_most_one work.dirty) core.tiles) in
     let filled = sized.filled in
@@ -314,8 +318,8 @@ bounded_burden core sized tiled count =
     let tiles : count_of t ≤ t.width * t.height = mul-le (columns_of t) (rows_of t) t.width t.height columns lines in
     let most = tiled.size.pixels_within in
     let total : length core.image.cells ≤ 67108864 = omega (arith, filled, few) in
-    let all : length core.image.cells * 4294967295 ≤ 67108864 * 4294967295 =
-    mul-le (length core.image.cells) 4294967295 67108864 4294967295 total (omega arith) in
+    let all : length core.image.cells * max_value ≤ 67108864 * max_value =
+    mul-le (length core.image.cells) max_value 67108864 max_value total (omega arith) in
     omega (arith, cells, rows, all, tiles, most, count) where
       at_most_one : (b : Bool) → (if b then 1 else 0) ≤ 1
       at_most_one true = omega arith
@@ -347,23 +351,61 @@ quiet_from core none_out no_hints clean t within = record {
 
 -- ---- settling
 
--- where memory is wanted before anything is worked off, the jobs that were out are abandoned
-pub cut_before_work : (before after : Core) → IsRun before (abandoned (tickets_out 0 before.tiles)) after → NoneOut after
-    → (log : List Entry) × IsCutShort before log after
-cut_before_work before after clears none_out =
-    let tickets = abandoned (tickets_out 0 before.tiles) in (
-      tickets,
-      record {
-        reached = after;
-        done = tickets;
-        in_hand = [];
-        settling = record { cleared = after; work = []; clears = clears; works = refl; parts = sym (append-nil tickets) };
-        drops = refl;
-        at_most_one = omega arith;
-        none_out = none_out;
-        parts = sym (append-nil tickets);
-      },
-    )
+-- where memory is wanted before a tile is swept, the jobs that were out are abandoned, and the hints handed over
+pub cut_before_sweeps : (before cleared handed after : Core)
+    → IsRun before (abandoned (tickets_out 0 before.tiles)) cleared
+    → ((log : List Entry) × IsWorkedOff cleared log handed × (jobs_of log ≡ 0)) → NoneOut handed
+    → ((t : ℕ) × IsDirty handed t) → after ≡ handed → (log : List Entry) × IsCutShort before log after
+cut_before_sweeps before cleared handed after clears (hints, hands, no_jobs) none_out dirty same =
+    let tickets = abandoned (tickets_out 0 before.tiles) in
+    let cut : IsCutShort before (tickets ++ hints) handed = record {
+      reached = handed;
+      done = tickets ++ hints;
+      in_hand = [];
+      settling = record { cleared = cleared; work = hints; clears = clears; works = hands; parts = refl };
+      drops = refl;
+      at_most_one = omega arith;
+      none_out = none_out;
+      some_dirty = dirty;
+      parts = sym (append-nil (tickets ++ hints));
+    } in
+    (tickets ++ hints, subst (IsCutShort before (tickets ++ hints)) (sym same) cut)
+
+-- nothing is abandoned at a quiet core
+none_abandoned_where_quiet : (core after : Core) (tickets : List Ticket) → IsQuiet core
+    → IsRun core (abandoned tickets) after → after ≡ core
+none_abandoned_where_quiet core after [] quiet same = same
+none_abandoned_where_quiet core after (ticket ∷ tickets) quiet (next, (out, same), rest) =
+    let e : Some ticket.serial ≡ None = sym out.out ∙ (quiet ticket.tile out.is_tile).none_out in
+    absurd cc
+
+-- and nothing is worked off there
+none_worked_where_quiet : (core after : Core) (log : List Entry) → IsQuiet core → IsWorkedOff core log after
+    → after ≡ core
+none_worked_where_quiet core after [] quiet same = same
+none_worked_where_quiet core after ((GiveBack swept, answer) ∷ log) quiet (is_next, rest) =
+    let ticket = swept.job.ticket in
+    let e : Some ticket.serial ≡ None = sym is_next.out.out ∙ (quiet ticket.tile is_next.out.is_tile).none_out in
+    absurd cc
+none_worked_where_quiet core after ((Hand t place, answer) ∷ log) quiet ((none_out, least, first), rest) =
+    absurd (least.0.1 (quiet t least.0.0).empty)
+none_worked_where_quiet core after ((Take t, answer) ∷ log) quiet ((none_out, no_hints, least), rest) =
+    let e : true ≡ false = sym least.0.1 ∙ (quiet t least.0.0).clean in
+    absurd cc
+none_worked_where_quiet core after ((Merge delta, answer) ∷ log) quiet (is_next, rest) = absurd is_next
+none_worked_where_quiet core after ((Abandon ticket, answer) ∷ log) quiet (is_next, rest) = absurd is_next
+
+-- so a tile that is dirty once that is done was not one of a quiet core
+pub some_work_before : (before cleared handed : Core) → IsRun before (abandoned (tickets_out 0 before.tiles)) cleared
+    → ((log : List Entry) × IsWorkedOff cleared log handed × (jobs_of log ≡ 0)) → ((t : ℕ) × IsDirty handed t)
+    → IsQuiet before → ⊥
+some_work_before before cleared handed clears (hints, hands, no_jobs) (t, dirty) quiet =
+    let same_cleared = none_abandoned_where_quiet before cleared (tickets_out 0 before.tiles) quiet clears in
+    let same : handed ≡ before =
+    none_worked_where_quiet cleared handed hints (subst IsQuiet (sym same_cleared) quiet) hands ∙ same_cleared in
+    let was : IsDirty before t = subst (λ (core : Core). IsDirty core t) same dirty in
+    let e : true ≡ false = sym was.1 ∙ (quiet t was.0).clean in
+    absurd cc
 
 -- jobs that are abandoned, hints that are handed over and tiles that are swept until the core is quiet
 pub settled_by : (before cleared handed after : Core) (jobs abandons : ℕ)

@@ -6,7 +6,8 @@ use Rattle.grid_core.specs.Raster.{IsFilled}
 use Rattle.grid_core.specs.Tiles.{Tiles, IsTiled, count_of}
 use Rattle.stroke_lattice.specs.State.{State, nothing}
 use Rattle.tile_generations.specs.Generations.{max_generation}
-use Rattle.core_rules.specs.Opening.{blank, fresh, opened}
+use Rattle.core_rules.specs.Opening.{blank, opened}
+use Rattle.border_queues.specs.TileWork.{fresh, TileWork}
 use Rattle.core_rules.proofs.Opening.{opened_is_sound}
 use Rattle.grid_core.specs.Raster.{Raster, IsInside, IsBelow, with_value}
 use Rattle.grid_core.specs.Tiles.{tile_of}
@@ -15,11 +16,12 @@ use Rattle.border_queues.specs.declared.hint.Hint.{Hint}
 use Rattle.marker_tiles.specs.Kept.{Kept, IsMarkerOf}
 use Rattle.core_rules.specs.declared.answers.Handed.{Handed}
 use Rattle.core_rules.specs.declared.answers.Handed.TheVariants.{Raised}
-use Rattle.core_rules.specs.Work.{Core, TileWork, tiling, image_at, IsTile, work_at, with_work}
+use Rattle.core_rules.specs.Work.{Core, tiling, image_at, IsTile, work_at, with_work}
 use Rattle.core_rules.specs.Hits.{IsInTile}
 use Rattle.core_rules.specs.Hints.{hint_at, IsPresent, without_hint, raised, IsHanded}
 use Rattle.core_rules.specs.Invariant.{IsSound}
-use Rattle.reset_core.specs.Replica.{Parts, core_of, IsEmptySet, IsStored}
+use Rattle.reset_core.specs.declared.replica.Core.TheInside.{Inside as Parts}
+use Rattle.reset_core.specs.Replica.{core_of, IsEmptySet, IsStored}
 use Rattle.core_rules.proofs.Cores.{inside_image}
 use Rattle.tile_generations.specs.declared.ticket.Ticket.{Ticket}
 use Rattle.core_rules.specs.Sweeps.{IsAbandoned}
@@ -59,6 +61,16 @@ stored_still old image work serial stored count sound = record {
   none_queued = empty_still old.work work old.queue count stored.none_queued;
 }
 
+-- so do other marks, where none of them is set
+pub unmarked_is_stored : (parts : Parts) (marks queue : List Bool) → IsStored parts → IsEmptySet parts.work marks
+    → IsEmptySet parts.work queue → IsStored (record parts { marks = marks; queue = queue })
+unmarked_is_stored parts marks queue stored no_marks none_queued = record {
+  sound = stored.sound;
+  marks = stored.marks;
+  no_marks = no_marks;
+  none_queued = none_queued;
+}
+
 -- ---- hints
 
 module _ (parts : Parts) (stored : IsStored parts) (t i : ℕ) (hint : Hint)
@@ -66,7 +78,7 @@ module _ (parts : Parts) (stored : IsStored parts) (t i : ℕ) (hint : Hint)
   pub is_hint_of_tile : IsTile (core_of parts) t
   is_hint_of_tile = hint_of_tile (core_of parts) t i hint there
 
-  pub goes_to_tile : IsInTile (core_of parts) t hint.to_pixel
+  pub goes_to_tile : IsInTile (tiling (core_of parts)) t hint.to_pixel
   goes_to_tile =
       (stored.sound.hints t hint is_hint_of_tile (taken_was_there (work_at (core_of parts) t).inbox i hint there)).to
 
@@ -79,11 +91,14 @@ module _ (parts : Parts) (stored : IsStored parts) (t i : ℕ) (hint : Hint)
       → IsStored (record parts { work = (without_hint (core_of parts) t i).tiles })
   lost_is_stored handed happens =
       stored_still parts parts.image (without_hint (core_of parts) t i).tiles parts.serial stored
-      (length-set parts.work t (record (work_at (core_of parts) t) { inbox = remove (work_at (core_of parts) t).inbox i }))
+      (length-set parts.work t (record (work_at (core_of parts) t) {
+        inbox = remove (work_at (core_of parts) t).inbox i;
+      }))
       (hand_keeps_sound (core_of parts) (without_hint (core_of parts) t i) t i handed stored.sound happens)
 
   -- the hint leaves its inbox, its pixel is raised, and its tile is dirty
-  module _ (present : IsPresent (core_of parts) hint) (above : image_at (core_of parts) hint.to_pixel < hint.value) where
+  module _ (present : IsPresent (core_of parts) hint)
+      (above : image_at (core_of parts) hint.to_pixel < hint.value) where
     pub raised_happens : IsHanded (core_of parts) t i Raised (raised (without_hint (core_of parts) t i) hint)
     raised_happens = (hint, there, present, above, refl)
 
@@ -105,8 +120,8 @@ module _ (parts : Parts) (stored : IsStored parts) (t i : ℕ) (hint : Hint)
 -- ---- opening
 
 -- what a core is opened as
-pub is_opened : (parts : Parts) (mask : Raster) (side first : ℕ) → parts.kept.mask ≡ mask
-    → parts.kept.tiling.side ≡ side → parts.state ≡ nothing → parts.image ≡ blank mask
+pub is_opened : (parts : Parts) (mask : Raster) (side first : ℕ) → parts.markers.mask ≡ mask
+    → parts.markers.tiling.side ≡ side → parts.state ≡ nothing → parts.image ≡ blank mask
     → parts.work
     ≡ replicate (count_of (record { width = mask.width; height = mask.height; side = side })) (fresh first)
     → parts.serial ≡ 0 → core_of parts ≡ opened mask parts.conn side first
@@ -126,7 +141,7 @@ is_opened parts mask side first same_mask same_side state image work serial =
 
 pub opened_is_stored : (parts : Parts) (mask : Raster) (side first : ℕ) → IsFilled mask
     → IsTiled (record { width = mask.width; height = mask.height; side = side }) → first ≤ max_generation
-    → core_of parts ≡ opened mask parts.conn side first → IsMarkerOf parts.kept.mask nothing parts.kept.marker
+    → core_of parts ≡ opened mask parts.conn side first → IsMarkerOf parts.markers.mask nothing parts.markers.marker
     → parts.marks ≡ replicate (count_of (record { width = mask.width; height = mask.height; side = side })) false
     → parts.queue ≡ replicate (count_of (record { width = mask.width; height = mask.height; side = side })) false
     → IsStored parts
@@ -136,8 +151,9 @@ opened_is_stored parts mask side first filled tiled bound is_open marks no_marks
     ap (λ (core : Core). length core.tiles) is_open ∙ length-replicate (count_of tiling) (fresh first) in
     record {
       sound = subst IsSound (sym is_open) (opened_is_sound mask parts.conn side first filled tiled bound);
-      marks = subst (λ s. IsMarkerOf parts.kept.mask s parts.kept.marker) (sym (ap (λ (core : Core). core.state) is_open))
-          marks;
+      marks =
+          subst (λ s. IsMarkerOf parts.markers.mask s parts.markers.marker)
+          (sym (ap (λ (core : Core). core.state) is_open)) marks;
       no_marks = no_marks ∙ ap (λ n. replicate n false) (sym count);
       none_queued = none_queued ∙ ap (λ n. replicate n false) (sym count);
     }

@@ -23,14 +23,16 @@ use Rattle.tile_generations.specs.declared.ticket.Ticket.{Ticket}
 use Rattle.tile_generations.specs.Jobs.{Job, Swept, IsSwept}
 use Rattle.core_rules.specs.declared.answers.Back.TheVariants.{Joined, Again}
 use Rattle.core_rules.specs.Image.{IsPart, IsJoinedWith}
-use Rattle.core_rules.specs.Work.{Core, TileWork, domain, tiling, image_at, idle, IsTile, work_at}
+use Rattle.core_rules.specs.Work.{Core, domain, tiling, image_at, IsTile, work_at}
+use Rattle.border_queues.specs.TileWork.{TileWork, idle, received}
 use Rattle.core_rules.specs.Sweeps.{tile_rect, IsReady, IsNextJob, IsOut, IsKnown, IsUnchanged, HasOnlyRisen, sender_of}
-use Rattle.core_rules.specs.Sweeps.{hints_of, received, IsJoined}
+use Rattle.core_rules.specs.Sweeps.{hints_of, IsJoined}
 use Rattle.core_rules.specs.Invariant.{IsSound}
 use Rattle.core_rules.specs.Laws.{TakeKeepsSound, AbandonKeepsSound, GiveBackKeepsSound}
 use Rattle.reset_core.specs.Parts.{IsRaisedPart}
 use Rattle.tile_work.specs.WorkTable.{IsToTouching, AreReceived}
-use Rattle.reset_core.specs.Replica.{Parts, core_of, IsStored}
+use Rattle.reset_core.specs.declared.replica.Core.TheInside.{Inside as Parts}
+use Rattle.reset_core.specs.Replica.{core_of, IsStored}
 use Rattle.reset_core.proofs.Storing.{stored_still}
 use Rattle.core_rules.proofs.Cores.{inside_image}
 use Rattle.core_rules.proofs.Removals.{passed_was_there, passed_test, from_map}
@@ -222,18 +224,18 @@ join_keeps_sound keeps before after swept sound is_swept known out (inr risen) j
 -- ---- the parts of a stored core
 
 module _ (parts : Parts) (core : Core) (tiles : Tiles) (view : core_of parts ≡ core)
-    (tiles_are : tiles ≡ parts.kept.tiling)
-    (width : parts.kept.tiling.width ≡ parts.kept.mask.width)
-    (height : parts.kept.tiling.height ≡ parts.kept.mask.height) where
+    (tiles_are : tiles ≡ parts.markers.tiling)
+    (width : parts.markers.tiling.width ≡ parts.markers.mask.width)
+    (height : parts.markers.tiling.height ≡ parts.markers.mask.height) where
   stored_tiling : tiles ≡ tiling (core_of parts)
-  stored_tiling = tiles_are ∙ (λ i. record { width = width i; height = height i; side = parts.kept.tiling.side })
+  stored_tiling = tiles_are ∙ (λ i. record { width = width i; height = height i; side = parts.markers.tiling.side })
 
   pub tiling_is : tiles ≡ tiling core
   tiling_is = stored_tiling ∙ ap tiling view
 
   -- the hints that a walk along the tile's border gave
   pub told_are_edges : (t tile generation : ℕ) (mask raised : Raster) (before told : List Hint)
-      → mask ≡ parts.kept.mask → tile ≡ t → generation ≡ (slice_index_or parts.work tile idle).generation
+      → mask ≡ parts.markers.mask → tile ≡ t → generation ≡ (slice_index_or parts.work tile idle).generation
       → before ≡ []
       → told
       ≡ before ++ open_edges (record {

@@ -7,10 +7,11 @@ use Rattle.std.proofs.lemmas.List.{length-set, append-nil, ext_get_or}
 use Rattle.grid_core.specs.Raster.{with_value}
 use Rattle.grid_core.specs.Tiles.{Tiles, tile_of}
 use Rattle.border_queues.specs.declared.hint.Hint.{Hint}
-use Rattle.border_queues.proofs.Members.{at_head, behind_head, head_or_behind}
+use Rattle.grid_core.proofs.Common.{here, later, first_or_later}
 use Rattle.core_rules.specs.declared.answers.Handed.TheVariants.{Raised, Same}
-use Rattle.core_rules.specs.Work.{Core, TileWork, tiling, image_at, idle, IsTile, work_at}
-use Rattle.core_rules.specs.Sweeps.{hints_for, received}
+use Rattle.core_rules.specs.Work.{Core, tiling, image_at, IsTile, work_at}
+use Rattle.border_queues.specs.TileWork.{TileWork, idle, received}
+use Rattle.core_rules.specs.Sweeps.{hints_for}
 use Rattle.core_rules.specs.Hints.{hint_at, IsPresent, without_hint, raised, IsHanded}
 use Rattle.core_rules.specs.Events.{Hand, OfHand}
 use Rattle.core_rules.specs.Runs.{Entry, jobs_of, NoneOut, IsNext, IsWorkedOff}
@@ -94,8 +95,8 @@ pub none_for : (tiles : Tiles) (hints : List Hint) (t : ℕ)
     → ((hint : Hint) → Contains hints hint → tile_of tiles hint.to_pixel ≡ t → ⊥) → hints_in tiles hints t ≡ []
 none_for tiles [] t none = refl
 none_for tiles (hint ∷ hints) t none =
-    first_for_another tiles hint hints t (none hint (at_head hint hint hints refl))
-    ∙ none_for tiles hints t (λ h there. none h (behind_head hint h hints there))
+    first_for_another tiles hint hints t (none hint (here hint hints hint refl))
+    ∙ none_for tiles hints t (λ h there. none h (later hint hints h there))
 
 first_removed : (work : TileWork) (hint : Hint) (hints : List Hint) → work.inbox ≡ []
     → record (received work (hint ∷ hints)) { inbox = remove (received work (hint ∷ hints)).inbox 0 }
@@ -191,7 +192,7 @@ pub record AreToldAt (core : Core) (hints : List Hint) : Type 0 where
 
 module _ (core : Core) (hint : Hint) (rest : List Hint) (told : AreToldAt core (hint ∷ rest)) where
   home_is_tile : IsTile core (tile_of (tiling core) hint.to_pixel)
-  home_is_tile = told.to_tile hint (at_head hint hint rest refl)
+  home_is_tile = told.to_tile hint (here hint rest hint refl)
 
   first_work : work_at (telling core (hint ∷ rest)) (tile_of (tiling core) hint.to_pixel)
       ≡ received (work_at core (tile_of (tiling core) hint.to_pixel))
@@ -217,7 +218,7 @@ module _ (core : Core) (hint : Hint) (rest : List Hint) (told : AreToldAt core (
   -- no hint is for a tile before that of the first
   none_before : (t : ℕ) → t < tile_of (tiling core) hint.to_pixel → hints_for core t (hint ∷ rest) ≡ []
   none_before t less = none_for (tiling core) (hint ∷ rest) t (λ later there same.
-      elim (head_or_behind hint later rest there) [
+      elim (first_or_later hint rest later there) [
         | inl first ↦
             let e : tile_of (tiling core) hint.to_pixel ≡ tile_of (tiling core) later.to_pixel =
             ap (λ (h : Hint). tile_of (tiling core) h.to_pixel) first in
@@ -254,7 +255,7 @@ module _ (core : Core) (hint : Hint) (rest : List Hint) (told : AreToldAt core (
 
   first_present : IsPresent (telling core (hint ∷ rest)) hint
   first_present =
-      let there = told.present hint (at_head hint hint rest refl) in
+      let there = told.present hint (here hint rest hint refl) in
       record {
         is_tile = is_tile_still hint.from there.is_tile;
         generation =
@@ -287,8 +288,8 @@ module _ (core : Core) (hint : Hint) (rest : List Hint) (told : AreToldAt core (
   told_still = record {
     none_out = told.none_out;
     none_wait = told.none_wait;
-    to_tile = λ h there. told.to_tile h (behind_head hint h rest there);
-    present = λ h there. told.present h (behind_head hint h rest there);
+    to_tile = λ h there. told.to_tile h (later hint rest h there);
+    present = λ h there. told.present h (later hint rest h there);
     order = told.order.1;
   }
 
@@ -308,9 +309,9 @@ module _ (core : Core) (hint : Hint) (rest : List Hint) (told : AreToldAt core (
             field_kept core u dirty (λ (w : TileWork). w.inbox) home_is_tile refl t
             ∙ told.none_wait t (was t within);
         to_tile = λ h there.
-            still (tile_of (tiling core) h.to_pixel) (told.to_tile h (behind_head hint h rest there));
+            still (tile_of (tiling core) h.to_pixel) (told.to_tile h (later hint rest h there));
         present = λ h there.
-            let before = told.present h (behind_head hint h rest there) in
+            let before = told.present h (later hint rest h there) in
             record {
               is_tile = still h.from before.is_tile;
               generation =

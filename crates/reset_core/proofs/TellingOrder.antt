@@ -15,7 +15,7 @@ use Rattle.grid_core.specs.TileLaws.{EachPixelInOneTile, NeighboursLieInTouching
 use Rattle.border_queues.specs.declared.hint.Hint.{Hint}
 use Rattle.border_queues.specs.OpenEdges.{Sender, hint_to, open_edges}
 use Rattle.border_queues.specs.Laws.{EdgesAreOpen}
-use Rattle.border_queues.proofs.Members.{at_head, behind_head, head_or_behind, in_flat_map, not_in_none}
+use Rattle.grid_core.proofs.Common.{here, later, first_or_later, in_flat_map, not_in_empty}
 use Rattle.reset_core.specs.Telling.{hints_in, AreInTileOrder, AreByTile}
 use Rattle.core_rules.proofs.Removals.{passed_was_there, passed_test, from_map}
 use Rattle.reset_core.proofs.Telling.{none_for, first_for_its_tile}
@@ -79,8 +79,8 @@ all_for : (tiles : Tiles) (hints : List Hint) (t : ℕ)
     → ((hint : Hint) → Contains hints hint → tile_of tiles hint.to_pixel ≡ t) → hints_in tiles hints t ≡ hints
 all_for tiles [] t all = refl
 all_for tiles (hint ∷ hints) t all =
-    first_for_its_tile tiles hint hints t (all hint (at_head hint hint hints refl))
-    ∙ ap (λ hs. hint ∷ hs) (all_for tiles hints t (λ h there. all h (behind_head hint h hints there)))
+    first_for_its_tile tiles hint hints t (all hint (here hint hints hint refl))
+    ∙ ap (λ hs. hint ∷ hs) (all_for tiles hints t (λ h there. all h (later hint hints h there)))
 
 -- the hints, tile by tile
 abbrev by_tiles : Tiles → List Hint → List ℕ → List Hint
@@ -119,14 +119,14 @@ module _ (tiles : Tiles) (hints : List Hint) where
   each_part : (us : List ℕ) → Rises us → (t : ℕ)
       → (Contains us t × (hints_in tiles (by_tiles tiles hints us) t ≡ hints_in tiles hints t))
       ⊎ (Contains us t → ⊥)
-  each_part [] rises t = inr (not_in_none t)
+  each_part [] rises t = inr (not_in_empty t)
   each_part (u ∷ us) rises t = elim (cases_eq u t) [
     | inl same ↦
         let none : Contains us t → ⊥ = λ there. let more = rises.0 t there in omega (arith, more, same) in
         let first : hints_in tiles (hints_in tiles hints u) t ≡ hints_in tiles hints t =
         ap (λ n. hints_in tiles (hints_in tiles hints n) t) same ∙ own_part t in
         inl (
-          at_head u t us same,
+          here u us t same,
           part_of u us t ∙ ap (λ hs. hs ++ hints_in tiles (by_tiles tiles hints us) t) first
               ∙ ap (λ hs. hints_in tiles hints t ++ hs) (none_elsewhere us t none)
               ∙ append-nil (hints_in tiles hints t),
@@ -134,12 +134,12 @@ module _ (tiles : Tiles) (hints : List Hint) where
     | inr other ↦ elim (each_part us rises.1 t) [
       | inl found ↦
           inl (
-            behind_head u t us found.0,
+            later u us t found.0,
             part_of u us t
                 ∙ ap (λ hs. hs ++ hints_in tiles (by_tiles tiles hints us) t) (other_part u t other) ∙ found.1,
           )
       | inr absent ↦
-          inr (λ there. elim (head_or_behind u t us there) [ inl same ↦ other same | inr behind ↦ absent behind ])
+          inr (λ there. elim (first_or_later u us t there) [ inl same ↦ other same | inr behind ↦ absent behind ])
     ]
   ]
 
@@ -147,14 +147,14 @@ module _ (tiles : Tiles) (hints : List Hint) where
       → ((hint : Hint) → Contains xs hint → tile_of tiles hint.to_pixel ≡ u)
       → ((hint : Hint) → Contains ys hint → u ≤ tile_of tiles hint.to_pixel) → AreInTileOrder tiles ys
       → AreInTileOrder tiles (xs ++ ys)
-  in_order_append u [] ys here later order = order
-  in_order_append u (x ∷ xs) ys here later order =
-      let first = here x (at_head x x xs refl) in (
+  in_order_append u [] ys at_u from_u order = order
+  in_order_append u (x ∷ xs) ys at_u from_u order =
+      let first = at_u x (here x xs x refl) in (
         λ hint there. elim (Contains-append_cases xs ys hint there) [
-          | inl in_xs ↦ let same = here hint (behind_head x hint xs in_xs) in omega (arith, first, same)
-          | inr in_ys ↦ let more = later hint in_ys in omega (arith, first, more)
+          | inl in_xs ↦ let same = at_u hint (later x xs hint in_xs) in omega (arith, first, same)
+          | inr in_ys ↦ let more = from_u hint in_ys in omega (arith, first, more)
         ],
-        in_order_append u xs ys (λ hint there. here hint (behind_head x hint xs there)) later order,
+        in_order_append u xs ys (λ hint there. at_u hint (later x xs hint there)) from_u order,
       )
 
   in_order : (us : List ℕ) → Rises us → AreInTileOrder tiles (by_tiles tiles hints us)

@@ -1,7 +1,7 @@
 -- A tile that is swept in place, with its hints handed over at once: the events that have the same effect.
 use Rattle.std.proofs.Common.{◌≡◌, ℕ, ◌+◌, ◌*◌, ◌%◌, ◌^◌, ◌<◌, ◌≤◌, false, List, [], ◌∷◌, ◌++◌, length, set, refl, sym}
 use Rattle.std.proofs.Common.{ap, ◌∙◌, subst, arith, inl, inr}
-use Rattle.std.specs.Prelude.{◌≢◌, Some, Contains, if◌then◌else◌, replicate}
+use Rattle.std.specs.Prelude.{◌≢◌, Some, Contains, if◌then◌else◌}
 use Rattle.std.proofs.lemmas.Bool.{cases_eq}
 use Rattle.std.proofs.lemmas.List.{length-set, append-nil}
 use Rattle.std.proofs.lemmas.List.Sums.{sum_by-set}
@@ -16,34 +16,27 @@ use Rattle.grid_core.proofs.Reach.{reaches_here}
 use Rattle.grid_core.proofs.Tilings.{each_pixel_in_one_tile, tile_pixels, neighbours_lie_in_touching_tiles}
 use Rattle.border_queues.specs.declared.hint.Hint.{Hint}
 use Rattle.border_queues.specs.Laws.{EdgesAreOpen}
-use Rattle.raster_sweeps.proofs.Headroom.{headroom_falls}
+use Rattle.grid_core.proofs.Headroom.{headroom_falls}
 use Rattle.core_rules.specs.declared.answers.Back.TheVariants.{Joined}
 use Rattle.core_rules.specs.Image.{IsOfSize}
-use Rattle.core_rules.specs.Work.{Core, TileWork, domain, tiling, mask_at, image_at, idle, IsTile, work_at}
-use Rattle.core_rules.specs.Sweeps.{tile_rect, sender_of, hints_of, hints_for, received}
+use Rattle.core_rules.specs.Work.{Core, domain, tiling, mask_at, image_at, IsTile, work_at}
+use Rattle.border_queues.specs.TileWork.{TileWork, idle, received, dirty_count}
+use Rattle.core_rules.specs.Sweeps.{tile_rect, sender_of, hints_of, hints_for}
 use Rattle.core_rules.specs.InPlace.{IsSweptInPlace}
 use Rattle.core_rules.specs.Events.{Take, GiveBack, OfTake, OfGiveBack}
-use Rattle.core_rules.specs.Runs.{Entry, IsRun, IsNext, IsWorkedOff, NoneOut, HasHints, jobs_of}
+use Rattle.core_rules.specs.Runs.{Entry, IsNext, IsWorkedOff, NoneOut, HasHints, jobs_of}
 use Rattle.core_rules.specs.Invariant.{IsSound}
-use Rattle.reset_core.specs.Replica.{Parts, core_of, IsStored}
-use Rattle.reset_core.specs.Telling.{ImageAndWork, image_and_work, burden, burden_of, headroom, dirty_count, AreByTile}
+use Rattle.reset_core.specs.declared.replica.Core.TheInside.{Inside as Parts}
+use Rattle.reset_core.specs.Telling.{ImageAndWork, image_and_work, burden, burden_of, headroom, AreByTile}
 use Rattle.reset_core.specs.Telling.{AreTold}
 use Rattle.core_rules.proofs.Cores.{work_there, work_elsewhere, field_kept}
 use Rattle.core_rules.proofs.Supporting.{reach_at_most}
 use Rattle.core_rules.proofs.Running.{run_keeps_sound}
 use Rattle.core_rules.proofs.InPlaceSweeps.{in_place_is_worked_off, work_goes_on}
+use Rattle.core_rules.proofs.Running.{worked_is_run}
 use Rattle.reset_core.proofs.Telling.{telling, telling_count, telling_work, telling_same, none_for}
 use Rattle.reset_core.proofs.Telling.{with_image_and_work, AreToldAt, HandsOver, hands_over}
 use Rattle.reset_core.proofs.TellingOrder.{IsToldBy, told_by}
-
--- the image of a sound core is below its mask
-pub image_below_mask : (core : Core) → IsSound core → IsBelow core.image core.mask
-image_below_mask core sound =
-    let size = sound.shape.image in
-    each_pixel_below core.image core.mask size.filled size.width size.height (λ p inside.
-    let width = size.width in
-    let height = size.height in
-    (sound.supported p (omega (arith, inside.0, width), omega (arith, inside.1, height))).1)
 
 -- the image has grown in the tile: there it is the reconstruction, and elsewhere it is as it was
 pub record IsGrownAt (before : Core) (t : ℕ) (image : Raster) : Type 0 where
@@ -69,11 +62,6 @@ grown_core before t image = record before {
 empty_inbox : (hints : List Hint) → (hints ≢ [] → ⊥) → hints ≡ []
 empty_inbox [] full = refl
 empty_inbox (hint ∷ hints) full = absurd (full (λ same. absurd cc))
-
-worked_is_run : (before after : Core) (log : List Entry) → IsWorkedOff before log after → IsRun before log after
-worked_is_run before after [] same = same
-worked_is_run before after (entry ∷ log) (is_next, (next, happens, rest)) =
-    (next, happens, worked_is_run next after log rest)
 
 module _ (edges_open : EdgesAreOpen) (before : Core) (t : ℕ) (sound : IsSound before)
     (next : IsNext before (Take t)) (image : Raster) (grown : IsGrownAt before t image) where
@@ -277,12 +265,3 @@ one_step edges_open before t sound next image grown s told =
 abbrev pub worked_parts : Parts → ImageAndWork → Parts
 worked_parts parts s =
     record parts { image = s.image; work = s.rows; serial = (parts.serial + 1) % 2 ^ 64 }
-
-pub stored_still : (parts : Parts) (s : ImageAndWork) → IsStored parts → IsSound (core_of (worked_parts parts s))
-    → length s.rows ≡ length parts.work → IsStored (worked_parts parts s)
-stored_still parts s stored sound count = record {
-  sound = sound;
-  marks = stored.marks;
-  no_marks = stored.no_marks ∙ ap (λ n. replicate n false) (sym count);
-  none_queued = stored.none_queued ∙ ap (λ n. replicate n false) (sym count);
-}

@@ -1,3 +1,4 @@
+-- The definitions of this crate, file by file, and those from below that its clauses cite.
 pub use Rattle.grid_core.specs.Neighbours
 pub use Rattle.grid_core.specs.Rects
 pub use Rattle.grid_core.specs.Tiles
@@ -9,6 +10,7 @@ pub use Rattle.stroke_lattice.specs.State
 pub use Rattle.marker_tiles.specs.Marker
 pub use Rattle.tile_generations.specs.Jobs
 pub use Rattle.border_queues.specs.OpenEdges
+pub use Rattle.border_queues.specs.TileWork
 pub use Rattle.core_rules.specs.Work
 pub use Rattle.core_rules.specs.Image
 pub use Rattle.core_rules.specs.Opening

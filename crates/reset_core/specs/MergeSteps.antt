@@ -7,18 +7,21 @@ use Rattle.stroke_lattice.specs.Change.{Turnover, IsChange}
 use Rattle.marker_tiles.specs.Kept.{IsMarkerOf}
 use Rattle.tile_generations.specs.Generations.{max_generation}
 use Rattle.core_rules.specs.Image.{IsOfSize}
-use Rattle.core_rules.specs.Work.{Core, TileWork, tiling, work_at}
+use Rattle.core_rules.specs.Work.{Core, tiling, work_at}
+use Rattle.border_queues.specs.TileWork.{TileWork, work_of}
 use Rattle.tile_resets.specs.Marks.{AreHits}
 use Rattle.tile_work.specs.TileSet.{Has}
-use Rattle.reset_core.specs.Replica.{Parts, core_of}
-use Rattle.tile_resets.specs.Renewing.{AreReset, IsRaisedUnder, IsDirtyIf, HasRisenIn, row_at}
+use Rattle.reset_core.specs.declared.replica.Core.TheInside.{Inside as Parts}
+use Rattle.reset_core.specs.Replica.{core_of}
+use Rattle.tile_resets.specs.Renewing.{AreReset, IsRaisedUnder, IsDirtyIf}
+use Rattle.core_rules.specs.Merge.{HasRisen}
 
 -- the delta fits the core, and its hits are marked
 pub record IsMarked (core : Core) (delta : State) (marks : List Bool) : Type 0 where
   pub fits : StateFits core.mask.width core.mask.height delta
   pub compatible : AreCompatible core.state delta
   pub count : length marks ≡ count_of (tiling core)
-  pub hits : AreHits core delta marks
+  pub hits : AreHits (tiling core) core.image core.conn core.state delta marks
 
 -- a marked tile has spent its generations
 abbrev pub HasSpentMark : Core → List Bool → Type 0
@@ -45,7 +48,7 @@ pub record IsRaisedByBirths (tiles : Tiles) (turnover : Turnover) (state : State
   pub count : length after ≡ length work
   pub values : IsRaisedUnder state turnover.born marker old new
   pub dirty : (t : ℕ) → t < length work
-      → IsDirtyIf (HasRisenIn tiles t old new) (row_at work t) (row_at after t)
+      → IsDirtyIf (HasRisen tiles t old new) (work_of work t) (work_of after t)
 
 -- the marked tiles are reset, and then the image is raised where a stroke that was born lies
 pub record IsImageRenewed (tiles : Tiles) (marks : List Bool) (turnover : Turnover) (state : State)
@@ -61,12 +64,12 @@ pub record IsRenewed (before : Parts) (delta : State) (turnover : Turnover) (aft
   pub marks : List Bool
   pub marked : IsMarked (core_of before) delta marks
   pub none_spent : HasSpentMark (core_of before) marks → ⊥
-  pub grown : IsGrown (core_of before) delta turnover after.state after.kept.marker
-  pub image : IsImageRenewed (tiling (core_of before)) marks turnover after.state after.kept.marker before.image
+  pub grown : IsGrown (core_of before) delta turnover after.state after.markers.marker
+  pub image : IsImageRenewed (tiling (core_of before)) marks turnover after.state after.markers.marker before.image
       after.image before.work after.work
   pub cleared : after.marks ≡ replicate (length marks) false
   pub queue : after.queue ≡ before.queue
-  pub mask : after.kept.mask ≡ before.kept.mask
-  pub tiling_is : after.kept.tiling ≡ before.kept.tiling
+  pub mask : after.markers.mask ≡ before.markers.mask
+  pub tiling_is : after.markers.tiling ≡ before.markers.tiling
   pub conn : after.conn ≡ before.conn
   pub serial : after.serial ≡ before.serial

@@ -1,44 +1,47 @@
--- What a core is stored as, and what is true of each stored core. Private functions cite it; the clauses of the core's
--- looks hand it out.
-use Rattle.std.specs.Prelude.{◌≡◌, ℕ, Bool, false, List, length, replicate}
+-- Which core the parts of a stored one are, and what is true of each stored core. Private functions cite it; the
+-- clauses of the core's looks hand it out.
+use Rattle.std.specs.Prelude.{◌≡◌, Bool, false, List, length, replicate}
 use Rattle.grid_core.specs.declared.conn.Conn.{Conn}
-use Rattle.grid_core.specs.Raster.{Raster}
-use Rattle.stroke_lattice.specs.State.{State}
 use Rattle.marker_tiles.specs.Kept.{Kept, IsMarkerOf}
-use Rattle.core_rules.specs.Work.{Core, TileWork}
+use Rattle.core_rules.specs.Work.{Core}
+use Rattle.border_queues.specs.TileWork.{TileWork}
 use Rattle.core_rules.specs.Invariant.{IsSound}
+use Rattle.reset_core.specs.declared.replica.Core.TheInside.{Inside as Parts}
+use Rattle.reset_core.specs.declared.replica.Beginning.{Beginning}
 
--- the parts that a core is stored as: with the mask goes the marker, and between merges no tile is marked and none
--- waits to be looked at
-pub record Parts : Type 0 where
-  pub conn : Conn
-  pub state : State
-  pub kept : Kept
-  pub image : Raster
-  pub work : List TileWork
-  pub serial : ℕ
-  pub marks : List Bool
-  pub queue : List Bool
-
--- the core that is stored so
+-- the core that is stored as these parts
 abbrev pub core_of : Parts → Core
 core_of parts = record {
-  mask = parts.kept.mask;
+  mask = parts.markers.mask;
   conn = parts.conn;
-  side = parts.kept.tiling.side;
+  side = parts.markers.tiling.side;
   state = parts.state;
   image = parts.image;
   tiles = parts.work;
   serial = parts.serial;
 }
 
+-- the parts of a core that begins so
+abbrev pub begun : Beginning → Conn → Kept → Parts
+begun beginning conn markers = record {
+  conn = conn;
+  state = beginning.state;
+  markers = markers;
+  image = beginning.image;
+  work = beginning.work;
+  serial = 0;
+  marks = beginning.marks;
+  queue = beginning.queue;
+}
+
 -- no tile is in the set
 abbrev pub IsEmptySet : List TileWork → List Bool → Type 0
 IsEmptySet work set = set ≡ replicate (length work) false
 
--- the core is sound, the marker is that of its strokes, and the marks are clear
+-- the core is sound, the marker is that of its strokes, and between merges no tile is marked and none waits to be
+-- looked at
 pub record IsStored (parts : Parts) : Type 0 where
   pub sound : IsSound (core_of parts)
-  pub marks : IsMarkerOf parts.kept.mask parts.state parts.kept.marker
+  pub marks : IsMarkerOf parts.markers.mask parts.state parts.markers.marker
   pub no_marks : IsEmptySet parts.work parts.marks
   pub none_queued : IsEmptySet parts.work parts.queue

@@ -1,5 +1,5 @@
 -- What is kept while a schedule runs. Only private functions have these words in their contracts.
-use Rattle.std.specs.Prelude.{◌≡◌, ℕ, ◌+◌, ◌≤◌, List, length, take}
+use Rattle.std.specs.Prelude.{◌≡◌, ℕ, ◌+◌, ◌≤◌, List, length, take, vec_len, vec_capacity}
 use Rattle.tile_generations.specs.Jobs.{Swept}
 use Rattle.core_rules.specs.declared.error.CoreError.{CoreError}
 use Rattle.reset_core.specs.declared.replica.scheduling.Tally.{Tally}
@@ -23,6 +23,15 @@ kept_of tally = record {
   accepted = tally.accepted.items;
   refused = tally.refused.items;
 }
+
+-- the lists have room for so many more edits
+pub record HasRoom (tally : Tally) (n : ℕ) : Type 0 where
+  pub accepted : vec_len tally.accepted + n ≤ vec_capacity tally.accepted
+  pub refused : vec_len tally.refused + n ≤ vec_capacity tally.refused
+
+-- but for so many places, the lists keep their room
+abbrev pub KeepsRoom : ℕ → Tally → Tally → Type 0
+KeepsRoom places before after = (n : ℕ) → HasRoom before (places + n) → HasRoom after n
 
 -- a schedule that has come so far, after so many steps, left this core, and this was kept
 pub record Agrees (now : Core) (kept : Kept) (steps : ℕ) (a : Progress) : Type 0 where

@@ -3,9 +3,10 @@ use Rattle.std.specs.Prelude.{◌≡◌, ℕ, ◌+◌, ◌<◌, ◌≤◌, List,
 use Rattle.std.specs.List.{sum_by}
 use Rattle.tile_generations.specs.declared.ticket.Ticket.{Ticket}
 use Rattle.core_rules.specs.declared.answers.Handed.{Handed}
-use Rattle.core_rules.specs.Work.{Core, TileWork, tiling}
+use Rattle.core_rules.specs.Work.{Core, tiling}
+use Rattle.border_queues.specs.TileWork.{TileWork, IsLeast}
 use Rattle.core_rules.specs.Hints.{IsHanded}
-use Rattle.core_rules.specs.Runs.{Entry, IsRun, IsWorkedOff, NoneOut, HasHints, IsLeast, jobs_of, abandoned, tickets_out}
+use Rattle.core_rules.specs.Runs.{Entry, IsRun, IsWorkedOff, NoneOut, HasHints, jobs_of, abandoned, tickets_out}
 use Rattle.reset_core.specs.Telling.{burden}
 
 -- some of the jobs that were out are abandoned

@@ -5,17 +5,14 @@ use Rattle.std.specs.List.{sum_by}
 use Rattle.grid_core.specs.Raster.{Raster, value_at, with_value}
 use Rattle.grid_core.specs.Tiles.{Tiles, tile_of, count_of}
 use Rattle.border_queues.specs.declared.hint.Hint.{Hint}
-use Rattle.core_rules.specs.Work.{Core, TileWork, idle}
+use Rattle.core_rules.specs.Work.{Core}
+use Rattle.border_queues.specs.TileWork.{TileWork, idle, dirty_count}
 
 -- ---- how much work a core can still have
 
 -- how far the values lie below the greatest that a cell can have, in all
 abbrev pub headroom : List ℕ → ℕ
 headroom cells = sum_by (λ v. 4294967295 - v) cells
-
--- how many tiles are dirty
-abbrev pub dirty_count : List TileWork → ℕ
-dirty_count rows = sum_by (λ work. if work.dirty then 1 else 0) rows
 
 -- an image, and the work that is left at each tile
 pub record ImageAndWork : Type 0 where

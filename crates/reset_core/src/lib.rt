@@ -10,9 +10,9 @@
 //! ```
 //!
 //! [`Core::settle`] works by itself until nothing is left to do. A keeper that gives work to others takes a job
-//! ([`Core::take`]), has it swept, gives the result back ([`Core::give_back`]), late, twice or never, and hands over the
-//! hints that wait ([`Core::hand`]). A withdrawal resets the tiles that the stroke's growth can have reached, and raises
-//! their generations, so that results and hints from before are known.
+//! ([`Core::take`]), has it swept, gives the result back ([`Core::give_back`]), late, twice or never, and hands over
+//! the hints that wait ([`Core::hand`]). A withdrawal resets the tiles that the stroke's growth can have reached, and
+//! raises their generations, so that results and hints from before are known.
 //!
 //! What a core is, what can happen to it and what each event answers is one table, in the crate `core_rules`, which the
 //! contracts here cite; [`laws`] are that crate's.

@@ -49,6 +49,7 @@ pub(crate) fn cut(alloc: Global, whole: &Grid, rect: Rect) -> Result<Grid, Memor
     requires { RectFits whole.now.width whole.now.height rect }
     ensures { IfOk result (IsPart rect whole.now) }
 {
+    // For its clauses alone: the sides of an image are bounded.
     let _ = whole.width();
     let mut cells = Vec::with_capacity(alloc, rect.w as usize * rect.h as usize)?;
     for y in 0..rect.h {

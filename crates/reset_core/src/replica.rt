@@ -1,6 +1,7 @@
 //! The core.
 
-ghost use Rattle.std.specs.Prelude.{◌≡◌, ◌<◌, ◌≤◌, ◌↔◌, ◌⊎◌, ◌≢◌, length, replicate, false, None, IfOk, IfErr, IsErr, IsErrOf, IsTrue};
+ghost use Rattle.std.specs.Prelude.{◌≡◌, ◌<◌, ◌≤◌, ◌↔◌, ◌⊎◌, ◌≢◌, length, replicate, false, None, IfOk, IfErr};
+ghost use Rattle.std.specs.Prelude.{IsErr, IsErrOf, IsTrue};
 ghost use Rattle.grid_core.specs.Raster.{IsFilled, IsInside, IsSized, IsBelow, value_at};
 ghost use Rattle.grid_core.specs.Tiles.{IsTiled, IsTileSide, count_of};
 ghost use Rattle.marker_tiles.specs.Kept.{IsMarkerOf};
@@ -8,8 +9,9 @@ ghost use Rattle.tile_generations.specs.Generations.{max_generation};
 ghost use Rattle.core_rules.specs.declared.error.CoreError.TheVariants as errors;
 ghost use Rattle.core_rules.specs.Work.{IsTile, IsQuiet, tiling, work_at};
 ghost use Rattle.core_rules.specs.Invariant.{IsSound, HasLawfulImage, HasReconstruction};
-ghost use Rattle.core_rules.specs.Opening.{blank, fresh, opened};
-ghost use Rattle.reset_core.specs.Replica.{core_of, IsStored};
+ghost use Rattle.core_rules.specs.Opening.{blank, opened};
+ghost use Rattle.border_queues.specs.TileWork.{fresh};
+ghost use Rattle.reset_core.specs.Replica.{core_of, IsStored, begun};
 ghost use Rattle.stroke_lattice.specs.State.{nothing};
 ghost use Rattle.core_rules.specs.Runs.{ticket_out};
 
@@ -25,6 +27,7 @@ use tile_work::{TileSet, WorkTable};
 
 mod handing;
 mod in_place;
+mod judging;
 mod merging;
 mod scheduling;
 mod settling;
@@ -71,27 +74,9 @@ impl Model for Core {
 
     ghost coded = { core_code stroke.the_row.coded };
 
-    ghost view = { λ c. core_of (record {
-      conn = c.conn;
-      state = c.state;
-      kept = c.markers;
-      image = c.image;
-      work = c.work;
-      serial = c.serial;
-      marks = c.marks;
-      queue = c.queue;
-    }) };
+    ghost view = { core_of };
 
-    ghost invariant = { λ c. IsStored (record {
-      conn = c.conn;
-      state = c.state;
-      kept = c.markers;
-      image = c.image;
-      work = c.work;
-      serial = c.serial;
-      marks = c.marks;
-      queue = c.queue;
-    }) };
+    ghost invariant = { IsStored };
 }
 
 impl Core {
@@ -277,6 +262,7 @@ impl Core {
         ensures tiling { result.now.tiling ≡ tiling self.now }
         ensures marks { IsMarkerOf self.now.mask self.now.state result.now.marker }
     {
+        // For its clauses alone: the tiling is of the mask.
         let _ = self.markers.tiling();
         &self.markers
     }
@@ -309,6 +295,7 @@ impl Core {
     fn soundness(&self)
         ensures { IsSound self.now }
     {
+        // A look at a field opens the core, so that what each core keeps is known.
         let _conn = self.conn;
     }
 
@@ -362,26 +349,8 @@ impl Beginning {
 
     // The core that begins so.
     fn with_markers(self, conn: Conn, markers: Markers) -> Core
-        requires { IsStored (record {
-          conn = conn;
-          state = self.state;
-          kept = markers;
-          image = self.image;
-          work = self.work;
-          serial = 0;
-          marks = self.marks;
-          queue = self.queue;
-        }) }
-        ensures { result ≡ core_of (record {
-          conn = conn;
-          state = self.state;
-          kept = markers;
-          image = self.image;
-          work = self.work;
-          serial = 0;
-          marks = self.marks;
-          queue = self.queue;
-        }) }
+        requires { IsStored (begun self conn markers) }
+        ensures { result ≡ core_of (begun self conn markers) }
     {
         let Beginning {
             state,

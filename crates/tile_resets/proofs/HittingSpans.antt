@@ -21,7 +21,8 @@ use Rattle.stroke_lattice.proofs.Joins.{one_seed}
 use Rattle.stroke_lattice.proofs.Walking.{TombstonesLeft, tombstones_begin, tombstone_here, tombstone_step}
 use Rattle.stroke_lattice.proofs.Walking.{tombstones_end}
 use Rattle.tile_work.specs.TileSet.{Has}
-use Rattle.tile_resets.specs.Marks.{Grows, Adds, HoldsOne, IsLost, IsLostAt}
+use Rattle.tile_resets.specs.Marks.{Grows, Adds, IsLost, IsLostAt}
+use Rattle.core_rules.specs.Hits.{IsInTile, HoldsOne}
 use Rattle.tile_resets.proofs.HittingMarks.{grows_none, grows_more, adds_none, adds_more, adds_same}
 
 -- ---- the pixels of a span
@@ -61,7 +62,7 @@ column_same x z side some from below =
 
 module _ (tiles : Tiles) (span : Span) (some : 0 < tiles.side) where
   none_upto_first : (t : ℕ) → HoldsUpto tiles span span.first t → ⊥
-  none_upto_first t (p, inside, tile, (row, from, below, before)) = omega (arith, from, before)
+  none_upto_first t (p, in_tile, (row, from, below, before)) = omega (arith, from, before)
 
   pub upto_first : (m q : List Bool) → Adds (HoldsUpto tiles span span.first) m q m q
   upto_first m q = adds_none (HoldsUpto tiles span span.first) m q (λ t holds. absurd (none_upto_first t holds))
@@ -76,21 +77,22 @@ module _ (tiles : Tiles) (span : Span) (some : 0 < tiles.side) where
 
     upto_parts : (t : ℕ) → HoldsUpto tiles span next t → HoldsUpto tiles span x t ⊎ (t ≡ tile_of tiles here)
     unfolding next here
-    upto_parts t (p, inside, tile, (row, from, below, before)) = elim (cases_lt p.x x) [
-      | inl earlier ↦ inl (p, inside, tile, (row, from, below, earlier))
-      | inr later ↦ inr (sym tile
+    upto_parts t (p, in_tile, (row, from, below, before)) = elim (cases_lt p.x x) [
+      | inl earlier ↦ inl (p, in_tile, (row, from, below, earlier))
+      | inr later ↦ inr (sym in_tile.tile
           ∙ (λ i. (row i / tiles.side) * columns_of tiles + column_same x p.x tiles.side some later before i))
     ]
 
     upto_more : (t : ℕ) → HoldsUpto tiles span x t → HoldsUpto tiles span next t
     unfolding next
-    upto_more t (p, inside, tile, (row, from, below, before)) =
-        (p, inside, tile, (row, from, below, omega (arith, before, column_past x tiles.side some)))
+    upto_more t (p, in_tile, (row, from, below, before)) =
+        (p, in_tile, (row, from, below, omega (arith, before, column_past x tiles.side some)))
 
     upto_here : (t : ℕ) → t ≡ tile_of tiles here → HoldsUpto tiles span next t
     unfolding next here
     upto_here t same =
-        (here, (inside_x, inside_y), sym same, (refl, first, within, column_past x tiles.side some))
+        let in_tile : IsInTile tiles t here = record { inside = (inside_x, inside_y); tile = sym same } in
+        (here, in_tile, (refl, first, within, column_past x tiles.side some))
 
     pub upto_next : (m q m1 q1 m2 q2 : List Bool) → Adds (HoldsUpto tiles span x) m q m1 q1
         → Adds (λ t. t ≡ tile_of tiles (record { x = x; y = span.y })) m1 q1 m2 q2
@@ -106,15 +108,15 @@ module _ (tiles : Tiles) (span : Span) (some : 0 < tiles.side) where
   pub upto_end : (x : ℕ) (m q m1 q1 : List Bool) → min span.end tiles.width ≤ x
       → Adds (HoldsUpto tiles span x) m q m1 q1 → Adds (HoldsSpan tiles span) m q m1 q1
   upto_end x m q m1 q1 past adds = adds_same (HoldsUpto tiles span x) (HoldsSpan tiles span) m q m1 q1 adds
-      (λ t (p, inside, tile, held). let parts = has_parts span p held in
-      (p, inside, tile, (parts.0, parts.1, parts.2, omega (arith, past, parts.2, inside.0))))
-      (λ t (p, inside, tile, (row, from, below, before)). (p, inside, tile, parts_have span p row from below))
+      (λ t (p, in_tile, held). let parts = has_parts span p held in
+      (p, in_tile, (parts.0, parts.1, parts.2, omega (arith, past, parts.2, in_tile.inside.0))))
+      (λ t (p, in_tile, (row, from, below, before)). (p, in_tile, parts_have span p row from below))
 
 pub none_of_span : (tiles : Tiles) (span : Span) (m q : List Bool) → tiles.height ≤ span.y
     → Adds (HoldsSpan tiles span) m q m q
-none_of_span tiles span m q low = adds_none (HoldsSpan tiles span) m q (λ t (p, inside, tile, held).
+none_of_span tiles span m q low = adds_none (HoldsSpan tiles span) m q (λ t (p, in_tile, held).
     let parts = has_parts span p held in
-    absurd (omega (arith, parts.0, inside.1, low)))
+    absurd (omega (arith, parts.0, in_tile.inside.1, low)))
 
 -- ---- the spans of a stroke
 
@@ -140,7 +142,7 @@ any_of_one false = refl
 
 module _ (tiles : Tiles) (seed : Seed) where
   pub no_spans : (m q : List Bool) → Adds (HoldsSpans tiles seed 0) m q m q
-  no_spans m q = adds_none (HoldsSpans tiles seed 0) m q (λ t (p, inside, tile, held). let gone : false ≡ true = held in
+  no_spans m q = adds_none (HoldsSpans tiles seed 0) m q (λ t (p, in_tile, held). let gone : false ≡ true = held in
       absurd cc)
 
   more_spans : (p : Pixel) (i : ℕ) (span : Span) → i < length (spans_of seed)
@@ -160,22 +162,20 @@ module _ (tiles : Tiles) (seed : Seed) where
       → Adds (HoldsSpan tiles span) m1 q1 m2 q2 → Adds (HoldsSpans tiles seed (i + 1)) m q m2 q2
   next_span i span m q m1 q1 m2 q2 within is a b =
       adds_more (HoldsSpans tiles seed i) (HoldsSpan tiles span) (HoldsSpans tiles seed (i + 1)) m q m1 q1 m2 q2 a b
-      (λ t (p, inside, tile, held).
+      (λ t (p, in_tile, held).
       elim (either_of _ (span_has span p) (sym (more_spans p i span within is) ∙ held)) [
-        | inl before ↦ inl (p, inside, tile, before)
-        | inr here ↦ inr (p, inside, tile, here)
+        | inl before ↦ inl (p, in_tile, before)
+        | inr here ↦ inr (p, in_tile, here)
       ])
-      (λ t (p, inside, tile, held). (
+      (λ t (p, in_tile, held). (
         p,
-        inside,
-        tile,
+        in_tile,
         more_spans p i span within is
             ∙ first_of_two (list_any (λ s. span_has s p) (take i (spans_of seed))) (span_has span p) held,
       ))
-      (λ t (p, inside, tile, held). (
+      (λ t (p, in_tile, held). (
         p,
-        inside,
-        tile,
+        in_tile,
         more_spans p i span within is
             ∙ second_of_two (list_any (λ s. span_has s p) (take i (spans_of seed))) (span_has span p) held,
       ))
@@ -186,16 +186,14 @@ module _ (tiles : Tiles) (seed : Seed) where
   all_spans n m q m1 q1 all cover adds =
       let whole : take n (spans_of seed) ≡ spans_of seed = take_all n (spans_of seed) (omega (arith, all)) in
       adds_same (HoldsSpans tiles seed n) (HoldsOne tiles (λ p. IsTrue (covers seed p))) m q m1 q1 adds
-      (λ t (p, inside, tile, held). (
+      (λ t (p, in_tile, held). (
         p,
-        inside,
-        tile,
+        in_tile,
         ap (list_any (λ span. span_has span p)) whole ∙ sym (cover seed p) ∙ held,
       ))
-      (λ t (p, inside, tile, held). (
+      (λ t (p, in_tile, held). (
         p,
-        inside,
-        tile,
+        in_tile,
         cover seed p ∙ sym (ap (list_any (λ span. span_has span p)) whole) ∙ held,
       ))
 
@@ -208,13 +206,12 @@ pub stroke_is_lost : (tiles : Tiles) (state : State) (tag : ℕ) (seed : Seed) (
     → Adds (HoldsOne tiles (IsLostAt state tag)) m q m1 q1
 stroke_is_lost tiles state tag seed m q m1 q1 has live adds =
     adds_same (HoldsOne tiles (λ p. IsTrue (covers seed p))) (HoldsOne tiles (IsLostAt state tag)) m q m1 q1 adds
-    (λ t (p, inside, tile, (other, was, held)). (
+    (λ t (p, in_tile, (other, was, held)). (
       p,
-      inside,
-      tile,
+      in_tile,
       subst (λ s. IsTrue (covers s p)) (one_seed other seed (sym was.0 ∙ has)) held,
     ))
-    (λ t (p, inside, tile, held). (p, inside, tile, (seed, (has, live), held)))
+    (λ t (p, in_tile, held). (p, in_tile, (seed, (has, live), held)))
 
 -- what the walk over the tombstones keeps
 pub record IsLosing (tiles : Tiles) (state delta : State) (m q m1 q1 : List Bool) (left : List ℕ) : Type 0 where
@@ -243,7 +240,7 @@ module _ (tiles : Tiles) (state delta : State) where
         grows = grows_more m q m1 q1 m2 q2 losing.grows adds.grows;
         sound = λ t has. elim ((adds.marked t).0 has) [
           | inl earlier ↦ losing.sound t earlier
-          | inr (p, inside, tile, lost) ↦ inr (p, inside, tile, (tag, buried, lost))
+          | inr (p, in_tile, lost) ↦ inr (p, in_tile, (tag, buried, lost))
         ];
         left_over = tombstone_step marked1 marked2 delta tag before left same losing.left_over
             (λ other all t holds. adds.grows.kept t (all t holds)) (λ t holds. (adds.marked t).1 (inr holds));
@@ -260,7 +257,7 @@ module _ (tiles : Tiles) (state delta : State) where
           losing.sound t,
           λ either. elim either [
             | inl had ↦ losing.grows.kept t had
-            | inr (p, inside, tile, (tag, buried, lost)) ↦ all tag buried t (p, inside, tile, lost)
+            | inr (p, in_tile, (tag, buried, lost)) ↦ all tag buried t (p, in_tile, lost)
           ],
         );
       }

@@ -13,7 +13,8 @@ use Rattle.grid_core.specs.Rects.{IsInRect, RectFits}
 use Rattle.grid_core.specs.Tiles.{Tiles, IsTiled, AreTouching, tile_of, count_of, rect_of}
 use Rattle.grid_core.specs.TileLaws.{EachPixelInOneTile, NeighboursLieInTouchingTiles}
 use Rattle.tile_work.specs.TileSet.{Has}
-use Rattle.tile_resets.specs.Marks.{Adds, HoldsOne, SomeIn, IsLightBeside, IsLinkedInto, AreLinkedIn}
+use Rattle.tile_resets.specs.Marks.{Adds, SomeIn, IsLightBeside, IsLinkedInto}
+use Rattle.core_rules.specs.Hits.{HoldsOne, AreLinked}
 use Rattle.tile_resets.proofs.HittingMarks.{adds_none, adds_more}
 
 -- the tile is one of the first of these, and linked
@@ -62,39 +63,56 @@ module _ (tiles : Tiles) (tiled : IsTiled tiles) (one : EachPixelInOneTile) (v :
   rect_to_tile fits P (p, in_rect, has) =
       let inside : IsInside tiles.width tiles.height p =
       (omega (arith, in_rect.1, fits.columns), omega (arith, in_rect.3, fits.rows)) in
-      (p, inside, ((one tiles p tiled inside).1 v is_v).0 (subst (λ r. IsInRect r p) is in_rect), has)
+      let tile = ((one tiles p tiled inside).1 v is_v).0 (subst (λ r. IsInRect r p) is in_rect) in
+      (p, record { inside = inside; tile = tile }, has)
 
   pub tile_to_rect : (P : Pixel → Type 0) → HoldsOne tiles P v → SomeIn rect P
-  tile_to_rect P (p, inside, tile, has) =
-      (p, subst (λ r. IsInRect r p) (sym is) (((one tiles p tiled inside).1 v is_v).1 tile), has)
+  tile_to_rect P (p, in_tile, has) =
+      (p, subst (λ r. IsInRect r p) (sym is) (((one tiles p tiled in_tile.inside).1 v is_v).1 in_tile.tile), has)
 
 module _ (tiles : Tiles) (image : Raster) (conn : Conn) (tiled : IsTiled tiles) (one : EachPixelInOneTile) (t u : ℕ)
     (is_t : t < count_of tiles) (is_u : u < count_of tiles) (a b : Rect) (is_a : a ≡ rect_of tiles t)
     (is_b : b ≡ rect_of tiles u) where
   pub rects_to_tiles : RectFits tiles.width tiles.height a → RectFits tiles.width tiles.height b
-      → SomeIn a (IsLinkedInto image conn b) → AreLinkedIn tiles image conn t u
+      → SomeIn a (IsLinkedInto image conn b) → AreLinked tiles image conn t u
+  unfolding rect_to_tile
   rects_to_tiles fits_a fits_b (p, in_rect, (above, some)) =
-      rect_to_tile tiles tiled one t is_t a is_a fits_a
-      (λ p. (0 < value_at image p) × HoldsOne tiles (IsLightBeside image conn p) u)
-      (p, in_rect, (above, rect_to_tile tiles tiled one u is_u b is_b fits_b (IsLightBeside image conn p) some))
+      let from = rect_to_tile tiles tiled one t is_t a is_a fits_a (λ p. 0 < value_at image p) (p, in_rect, above) in
+      let to = rect_to_tile tiles tiled one u is_u b is_b fits_b (IsLightBeside image conn p) some in
+      record {
+        p = p;
+        q = to.0;
+        from = from.1;
+        to = to.1;
+        beside = to.2.0;
+        from_above = above;
+        to_above = to.2.1;
+      }
 
-  pub tiles_to_rects : AreLinkedIn tiles image conn t u → SomeIn a (IsLinkedInto image conn b)
-  tiles_to_rects (p, inside, tile, (above, some)) =
-      tile_to_rect tiles tiled one t is_t a is_a (IsLinkedInto image conn b)
-      (p, inside, tile, (above, tile_to_rect tiles tiled one u is_u b is_b (IsLightBeside image conn p) some))
+  pub tiles_to_rects : AreLinked tiles image conn t u → SomeIn a (IsLinkedInto image conn b)
+  tiles_to_rects link =
+      tile_to_rect tiles tiled one t is_t a is_a (IsLinkedInto image conn b) (
+        link.p,
+        link.from,
+        (
+          link.from_above,
+          tile_to_rect tiles tiled one u is_u b is_b (IsLightBeside image conn link.p)
+              (link.q, link.to, (link.beside, link.to_above)),
+        ),
+      )
 
 -- linked tiles are one or touch
 pub linked_touch : (tiles : Tiles) (image : Raster) (conn : Conn) (t u : ℕ) → IsTiled tiles
-    → NeighboursLieInTouchingTiles → AreLinkedIn tiles image conn t u → (t ≡ u) ⊎ AreTouching tiles t u
-linked_touch tiles image conn t u tiled touch (p, inside, tile, (above, (q, there, other, (beside, light)))) =
-    subst (λ a. (a ≡ u) ⊎ AreTouching tiles a u) tile
-    (subst (λ b. (tile_of tiles p ≡ b) ⊎ AreTouching tiles (tile_of tiles p) b) other
-    (touch tiles conn p q tiled inside there beside))
+    → NeighboursLieInTouchingTiles → AreLinked tiles image conn t u → (t ≡ u) ⊎ AreTouching tiles t u
+linked_touch tiles image conn t u tiled touch link =
+    subst (λ a. (a ≡ u) ⊎ AreTouching tiles a u) link.from.tile
+    (subst (λ b. (tile_of tiles link.p ≡ b) ⊎ AreTouching tiles (tile_of tiles link.p) b) link.to.tile
+    (touch tiles conn link.p link.q tiled link.from.inside link.to.inside link.beside))
 
 pub linked_is_tile : (tiles : Tiles) (image : Raster) (conn : Conn) (t u : ℕ) → IsTiled tiles → EachPixelInOneTile
-    → AreLinkedIn tiles image conn t u → u < count_of tiles
-linked_is_tile tiles image conn t u tiled one (p, inside, tile, (above, (q, there, other, (beside, light)))) =
-    subst (λ b. b < count_of tiles) other (one tiles q tiled there).0
+    → AreLinked tiles image conn t u → u < count_of tiles
+linked_is_tile tiles image conn t u tiled one link =
+    subst (λ b. b < count_of tiles) link.to.tile (one tiles link.q tiled link.to.inside).0
 
 module _ (tiles : Tiles) (image : Raster) (conn : Conn) (t : ℕ) (items result : List ℕ) (same : items ≡ result)
     (members : (u : ℕ) → Contains result u ↔ (AreTouching tiles t u × (u < count_of tiles))) where
@@ -104,7 +122,7 @@ module _ (tiles : Tiles) (image : Raster) (conn : Conn) (t : ℕ) (items result 
       (Contains-get_or items i 0 within))).1
 
   pub linked_is_listed : IsTiled tiles → NeighboursLieInTouchingTiles → EachPixelInOneTile → (u : ℕ)
-      → AreLinkedIn tiles image conn t u → (t ≡ u) ⊎ Contains items u
+      → AreLinked tiles image conn t u → (t ≡ u) ⊎ Contains items u
   linked_is_listed tiled touch one u link = elim (linked_touch tiles image conn t u tiled touch link) [
     | inl own ↦ inl own
     | inr touching ↦ inr (subst (λ xs. Contains xs u) (sym same)

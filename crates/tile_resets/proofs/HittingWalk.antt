@@ -5,7 +5,8 @@ use Rattle.std.specs.Prelude.{◌↔◌}
 use Rattle.std.proofs.lemmas.Bool.{cases_eq}
 use Rattle.std.proofs.lemmas.List.{length-set}
 use Rattle.tile_work.specs.TileSet.{Has}
-use Rattle.tile_resets.specs.Marks.{Adds, LeadFrom, IsReached}
+use Rattle.tile_resets.specs.Marks.{Adds}
+use Rattle.core_rules.specs.Hits.{LeadFrom, IsReached}
 use Rattle.tile_resets.proofs.HittingMarks.{is_there, cases_has, taken_has, not_has_false}
 
 -- ---- what is left

@@ -1,3 +1,4 @@
+-- The lemmas of this crate, file by file.
 pub mod HittingCores
 pub mod HittingMarks
 pub mod HittingRects

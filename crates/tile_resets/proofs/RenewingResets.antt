@@ -6,11 +6,12 @@ use Rattle.std.proofs.lemmas.Bool.{cases_eq, cases_lt}
 use Rattle.grid_core.specs.declared.pixel.Pixel.{Pixel}
 use Rattle.grid_core.specs.Raster.{Raster, value_at}
 use Rattle.grid_core.specs.Tiles.{Tiles, AreTouching}
-use Rattle.core_rules.specs.Work.{TileWork}
-use Rattle.core_rules.specs.Merge.{reset_work}
+use Rattle.border_queues.specs.TileWork.{TileWork, reset_work, work_of}
 use Rattle.tile_work.specs.TileSet.{Has, IsFirstFrom}
-use Rattle.tile_resets.specs.Renewing.{IsPixelOf, IsDirtyIf, TouchesMarked, IsTileReset, IsTileKept, AreReset}
-use Rattle.tile_resets.specs.Renewing.{IsOneReset, row_at}
+use Rattle.tile_resets.specs.Renewing.{IsDirtyIf, TouchesMarked, IsTileKept, AreReset}
+use Rattle.core_rules.specs.Merge.{IsReset}
+use Rattle.core_rules.specs.Hits.{IsInTile}
+use Rattle.tile_resets.specs.Renewing.{IsOneReset}
 use Rattle.tile_resets.proofs.RenewingWork.{dirty_joins, dirty_stays, dirty_alike}
 
 -- a marked tile before this one
@@ -43,9 +44,9 @@ reset_none tiling is_marked marker old work never t within =
       never t,
       record {
         work =
-            dirty_stays (TouchesMarked tiling is_marked t) (row_at work t)
+            dirty_stays (TouchesMarked tiling is_marked t) (work_of work t)
             (λ touches. never touches.u touches.marked);
-        values = λ p of_tile. refl;
+        values = λ p in_tile. refl;
       },
     )
 
@@ -65,7 +66,7 @@ reset_alike tiling a b marker old new before after same are t within = elim (are
   | inr (not_marked, kept) ↦ inr (
     λ marked. not_marked ((same t).1 marked),
     record {
-      work = dirty_alike (TouchesMarked tiling a t) (TouchesMarked tiling b t) (row_at before t) (row_at after t)
+      work = dirty_alike (TouchesMarked tiling a t) (TouchesMarked tiling b t) (work_of before t) (work_of after t)
           (touches_alike tiling a b t same) kept.work;
       values = kept.values;
     },
@@ -107,32 +108,33 @@ module _ (tiling : Tiles) (marks : List Bool) (from tile : ℕ) (marker old midd
   )
 
   pub own_tile : (t : ℕ) → t ≡ tile → t < length before
-      → IsTileReset tiling marker new (row_at before t) (row_at after t) t
+      → IsReset tiling (value_at marker) new (work_of before t) (work_of after t) t
   own_tile t same within = elim (so_far t within) [
     | inl (marked, reset) ↦ absurd (omega (arith, marked.1, first.from, same))
     | inr (not_marked, kept) ↦ record {
-      work = reset_later (TouchesMarked tiling (IsMarkedBefore marks from) t) (row_at before t) (row_at between t)
-          (row_at after t) kept.work
-          (subst (λ u. row_at after u ≡ reset_work (row_at between u)) (sym same) one.own);
-      values = λ p of_tile. one.within p (subst (λ u. IsPixelOf tiling u p) same of_tile);
+      work = reset_later (TouchesMarked tiling (IsMarkedBefore marks from) t) (work_of before t) (work_of between t)
+          (work_of after t) kept.work
+          (subst (λ u. work_of after u ≡ reset_work (work_of between u)) (sym same) one.own);
+      image = λ p in_tile. one.within p (subst (λ u. IsInTile tiling u p) same in_tile);
     }
   ]
 
   pub other_tile : (t : ℕ) → (t ≡ tile → ⊥) → t < length before
-      → (IsMarkedBefore marks (tile + 1) t × IsTileReset tiling marker new (row_at before t) (row_at after t) t)
+      → (IsMarkedBefore marks (tile + 1) t
+      × IsReset tiling (value_at marker) new (work_of before t) (work_of after t) t)
       ⊎ ((IsMarkedBefore marks (tile + 1) t → ⊥)
-      × IsTileKept tiling (IsMarkedBefore marks (tile + 1)) old new (row_at before t) (row_at after t) t)
+      × IsTileKept tiling (IsMarkedBefore marks (tile + 1)) old new (work_of before t) (work_of after t) t)
   other_tile t other within =
       let now = one.others t (omega (arith, within, count)) other in
-      let stays : (p : Pixel) → IsPixelOf tiling t p → value_at new p ≡ value_at middle p =
-      λ p of_tile. one.beyond p of_tile.inside (λ e. other (sym of_tile.tile ∙ e)) in
+      let stays : (p : Pixel) → IsInTile tiling t p → value_at new p ≡ value_at middle p =
+      λ p in_tile. one.beyond p in_tile.inside (λ e. other (sym in_tile.tile ∙ e)) in
       elim (so_far t within) [
         | inl (marked, reset) ↦ inl (
           before_or_last t marked,
           record {
-            work = reset_stays (AreTouching tiling t tile) (row_at before t) (row_at between t) (row_at after t)
+            work = reset_stays (AreTouching tiling t tile) (work_of before t) (work_of between t) (work_of after t)
                 reset.work now;
-            values = λ p of_tile. stays p of_tile ∙ reset.values p of_tile;
+            image = λ p in_tile. stays p in_tile ∙ reset.image p in_tile;
           },
         )
         | inr (not_marked, kept) ↦ inr (
@@ -142,9 +144,9 @@ module _ (tiling : Tiles) (marks : List Bool) (from tile : ℕ) (marker old midd
           ],
           record {
             work = dirty_joins (TouchesMarked tiling (IsMarkedBefore marks from) t) (AreTouching tiling t tile)
-                (TouchesMarked tiling (IsMarkedBefore marks (tile + 1)) t) (row_at before t) (row_at between t)
-                (row_at after t) kept.work now (touches_more t);
-            values = λ p of_tile. stays p of_tile ∙ kept.values p of_tile;
+                (TouchesMarked tiling (IsMarkedBefore marks (tile + 1)) t) (work_of before t) (work_of between t)
+                (work_of after t) kept.work now (touches_more t);
+            values = λ p in_tile. stays p in_tile ∙ kept.values p in_tile;
           },
         )
       ]
@@ -158,7 +160,7 @@ module _ (tiling : Tiles) (marks : List Bool) (from tile : ℕ) (marker old midd
 -- a tile that is not reset yet has its generation
 pub same_generation : (tiling : Tiles) (is_marked : ℕ → Type 0) (marker old new : Raster) (before after : List TileWork)
     (t : ℕ) → AreReset tiling is_marked marker old new before after → t < length before → (is_marked t → ⊥)
-    → (row_at after t).generation ≡ (row_at before t).generation
+    → (work_of after t).generation ≡ (work_of before t).generation
 same_generation tiling is_marked marker old new before after t are within never = elim (are t within) [
   | inl (marked, reset) ↦ absurd (never marked)
   | inr (not_marked, kept) ↦ ap (λ (w : TileWork). w.generation) kept.work.rest

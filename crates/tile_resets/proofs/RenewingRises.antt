@@ -13,9 +13,10 @@ use Rattle.border_queues.specs.OpenEdges.{IsOnTiling}
 use Rattle.stroke_core.specs.declared.span.Span.{Span}
 use Rattle.stroke_core.specs.Spans.{span_has}
 use Rattle.core_rules.specs.Image.{IsOfSize}
-use Rattle.core_rules.specs.Work.{TileWork}
-use Rattle.tile_resets.specs.Renewing.{IsMadeWhere, IsRaisedWhere, RisesWhere, HasRisenIn}
-use Rattle.tile_resets.specs.Renewing.{greater_value, made_if, row_at}
+use Rattle.border_queues.specs.TileWork.{TileWork, work_of}
+use Rattle.tile_resets.specs.Renewing.{IsMadeWhere, IsRaisedWhere, RisesWhere}
+use Rattle.core_rules.specs.Merge.{HasRisen}
+use Rattle.tile_resets.specs.Renewing.{greater_value, made_if}
 use Rattle.tile_resets.proofs.RenewingSpans.{raise_is_steady, made_also, made_nothing, made_alike}
 use Rattle.tile_resets.proofs.RenewingWork.{all_dirty_join, all_dirty_stay, all_dirty_alike, one_made_dirty}
 
@@ -40,30 +41,30 @@ still_on tiling old new on size = record { width = size.width ∙ on.width; heig
 -- a pixel has risen in all where it has risen at first or later
 risen_in_all : (tiling : Tiles) (t : ℕ) (a b : Pixel → Bool) (marker old middle new : Raster) → IsOnTiling tiling old
     → IsMadeWhere a greater_value marker old middle → IsMadeWhere b greater_value marker middle new
-    → HasRisenIn tiling t old new ↔ (HasRisenIn tiling t old middle ⊎ HasRisenIn tiling t middle new)
+    → HasRisen tiling t old new ↔ (HasRisen tiling t old middle ⊎ HasRisen tiling t middle new)
 risen_in_all tiling t a b marker old middle new on first second =
     let on_middle = still_on tiling old middle on first.size in (
       λ risen. elim (cases_lt (value_at old risen.p) (value_at middle risen.p)) [
-        | inl earlier ↦ inl (record { p = risen.p; of_tile = risen.of_tile; rose = earlier })
-        | inr later ↦ inr (record { p = risen.p; of_tile = risen.of_tile; rose = omega (arith, risen.rose) })
+        | inl earlier ↦ inl (record { p = risen.p; in_tile = risen.in_tile; rose = earlier })
+        | inr later ↦ inr (record { p = risen.p; in_tile = risen.in_tile; rose = omega (arith, risen.rose) })
       ],
       λ some. elim some [
         | inl risen ↦ record {
           p = risen.p;
-          of_tile = risen.of_tile;
+          in_tile = risen.in_tile;
           rose = omega (
             arith,
             risen.rose,
-            no_fall b marker middle new second risen.p (on_image tiling middle on_middle risen.p risen.of_tile.inside),
+            no_fall b marker middle new second risen.p (on_image tiling middle on_middle risen.p risen.in_tile.inside),
           );
         }
         | inr risen ↦ record {
           p = risen.p;
-          of_tile = risen.of_tile;
+          in_tile = risen.in_tile;
           rose = omega (
             arith,
             risen.rose,
-            no_fall a marker old middle first risen.p (on_image tiling old on risen.p risen.of_tile.inside),
+            no_fall a marker old middle first risen.p (on_image tiling old on risen.p risen.in_tile.inside),
           );
         }
       ],
@@ -78,8 +79,8 @@ pub raised_also : (tiling : Tiles) (a b both : Pixel → Bool) (marker old middl
 raised_also tiling a b both marker old middle new before between after on first second same = record {
   values = made_also greater_value raise_is_steady a b both marker old middle new first.values second.values same;
   work =
-      all_dirty_join (λ t. HasRisenIn tiling t old middle) (λ t. HasRisenIn tiling t middle new)
-      (λ t. HasRisenIn tiling t old new) before between after first.work second.work
+      all_dirty_join (λ t. HasRisen tiling t old middle) (λ t. HasRisen tiling t middle new)
+      (λ t. HasRisen tiling t old new) before between after first.work second.work
       (λ t _. risen_in_all tiling t a b marker old middle new on first.values second.values);
 }
 
@@ -89,7 +90,7 @@ pub raised_nothing : (tiling : Tiles) (test : Pixel → Bool) (marker old : Rast
     → IsRaisedWhere tiling test marker old old work work
 raised_nothing tiling test marker old work filled none = record {
   values = made_nothing test greater_value marker old filled none;
-  work = all_dirty_stay (λ t. HasRisenIn tiling t old old) work (λ t risen. omega (arith, risen.rose));
+  work = all_dirty_stay (λ t. HasRisen tiling t old old) work (λ t risen. omega (arith, risen.rose));
 }
 
 -- tests that agree on the pixels of the image
@@ -133,10 +134,10 @@ risen_is_tested true old marker new is rose = refl
 risen_is_tested false old marker new is rose = absurd (omega arith)
 
 risen_in_piece : (tiling : Tiles) (t : ℕ) (piece : Span) (marker old new : Raster) → IsOnTiling tiling old
-    → IsMadeWhere (span_has piece) greater_value marker old new → HasRisenIn tiling t old new
+    → IsMadeWhere (span_has piece) greater_value marker old new → HasRisen tiling t old new
     → RisesWhere (span_has piece) old new
 risen_in_piece tiling t piece marker old new on made risen =
-    let inside = on_image tiling old on risen.p risen.of_tile.inside in
+    let inside = on_image tiling old on risen.p risen.in_tile.inside in
     record {
       p = risen.p;
       inside = inside;
@@ -152,18 +153,18 @@ pub piece_rose : (tiling : Tiles) (piece : Span) (marker old new : Raster) (work
     → IsMadeWhere (span_has piece) greater_value marker old new → RisesWhere (span_has piece) old new
     → IsRaisedWhere tiling (span_has piece) marker old new work
     (slice_set work (tile_of tiling (corner_of piece))
-    (record (row_at work (tile_of tiling (corner_of piece))) { dirty = true }))
+    (record (work_of work (tile_of tiling (corner_of piece))) { dirty = true }))
 piece_rose tiling piece marker old new work on some within there made rises =
     let tile = tile_of tiling (corner_of piece) in
     record {
       values = made;
       work =
-          all_dirty_alike (λ t. t ≡ tile) (λ t. HasRisenIn tiling t old new) work
-          (slice_set work tile (record (row_at work tile) { dirty = true }))
+          all_dirty_alike (λ t. t ≡ tile) (λ t. HasRisen tiling t old new) work
+          (slice_set work tile (record (work_of work tile) { dirty = true }))
           (λ t _. (
             λ is. record {
               p = rises.p;
-              of_tile = record {
+              in_tile = record {
                 inside =
                     (omega (arith, rises.inside.0, on.width), omega (arith, rises.inside.1, on.height));
                 tile = tile_of_piece tiling piece rises.p some within rises.tested ∙ sym is;
@@ -171,9 +172,9 @@ piece_rose tiling piece marker old new work on some within there made rises =
               rose = rises.rose;
             },
             λ risen.
-                sym risen.of_tile.tile ∙ tile_of_piece tiling piece risen.p some within
+                sym risen.in_tile.tile ∙ tile_of_piece tiling piece risen.p some within
                 (risen_is_tested (span_has piece risen.p) (value_at old risen.p) (value_at marker risen.p)
-                (value_at new risen.p) (made.values risen.p (on_image tiling old on risen.p risen.of_tile.inside))
+                (value_at new risen.p) (made.values risen.p (on_image tiling old on risen.p risen.in_tile.inside))
                 risen.rose),
           ))
           (one_made_dirty work tile there);
@@ -198,11 +199,11 @@ next_tile tiling at end side next tiled is_side before is =
 pub piece_made_dirty : (tiling : Tiles) (piece : Span) (marker old new : Raster) (before after : List TileWork)
     (tile : ℕ) → IsOnTiling tiling old → 0 < tiling.side
     → piece.end ≤ (piece.first / tiling.side + 1) * tiling.side → tile ≡ tile_of tiling (corner_of piece)
-    → tile < length before → after ≡ slice_set before tile (record (row_at before tile) { dirty = true })
+    → tile < length before → after ≡ slice_set before tile (record (work_of before tile) { dirty = true })
     → IsMadeWhere (span_has piece) greater_value marker old new → RisesWhere (span_has piece) old new
     → IsRaisedWhere tiling (span_has piece) marker old new before after
 piece_made_dirty tiling piece marker old new before after tile on some within is_tile there is_after made rises =
     subst (λ (rows : List TileWork). IsRaisedWhere tiling (span_has piece) marker old new before rows) (sym is_after)
     (subst (λ u. IsRaisedWhere tiling (span_has piece) marker old new before
-    (slice_set before u (record (row_at before u) { dirty = true }))) (sym is_tile)
+    (slice_set before u (record (work_of before u) { dirty = true }))) (sym is_tile)
     (piece_rose tiling piece marker old new before on some within (omega (arith, there, is_tile)) made rises))

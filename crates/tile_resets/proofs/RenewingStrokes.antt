@@ -12,7 +12,7 @@ use Rattle.grid_core.specs.Raster.{Raster, value_at}
 use Rattle.stroke_core.specs.Seed.{Seed, covers}
 use Rattle.stroke_lattice.specs.State.{State}
 use Rattle.marker_tiles.specs.UnderTags.{covers_if, some_covers}
-use Rattle.marker_tiles.proofs.Lists.{first_or_later, later, first, not_in_empty}
+use Rattle.grid_core.proofs.Common.{first_or_later, later, first, not_in_empty}
 use Rattle.stroke_core.specs.declared.span.Span.{Span}
 use Rattle.stroke_core.specs.Spans.{span_has}
 use Rattle.tile_resets.specs.Renewing.{greater_value, made_if, IsMadeWhere, IsUnder, IsRaisedUnder}

@@ -13,9 +13,8 @@ use Rattle.grid_core.specs.Tiles.{Tiles, IsTiled, AreTouching, count_of, tile_of
 use Rattle.grid_core.specs.TileLaws.{EachPixelInOneTile}
 use Rattle.border_queues.specs.OpenEdges.{IsOnTiling}
 use Rattle.core_rules.specs.Image.{IsOfSize}
-use Rattle.core_rules.specs.Work.{TileWork, idle}
-use Rattle.core_rules.specs.Merge.{reset_work}
-use Rattle.tile_resets.specs.Renewing.{IsDirtyIf, AreDirtyWhere, IsCopiedIn, IsOneReset, row_at}
+use Rattle.border_queues.specs.TileWork.{TileWork, idle, reset_work, work_of}
+use Rattle.tile_resets.specs.Renewing.{IsDirtyIf, AreDirtyWhere, IsCopiedIn, IsOneReset}
 use Rattle.tile_resets.proofs.RenewingResets.{reset_stays}
 use Rattle.tile_resets.proofs.RenewingWork.{dirty_alike}
 
@@ -30,12 +29,12 @@ touching_back tiling a b touching = record {
 -- the tiles around a tile have rows in the table
 pub touching_are_tiles : (tiling : Tiles) (tile : ℕ) (before middle : List TileWork) (around listed : List ℕ)
     → listed ≡ around → length before ≡ count_of tiling
-    → middle ≡ slice_set before tile (reset_work (row_at before tile))
+    → middle ≡ slice_set before tile (reset_work (work_of before tile))
     → ((other : ℕ) → Contains around other ↔ (AreTouching tiling tile other × (other < count_of tiling)))
     → (k : ℕ) → k < length listed → slice_index listed k < length middle
 touching_are_tiles tiling tile before middle around listed is_listed count is_reset members k within =
     let same : length middle ≡ length before =
-    ap length is_reset ∙ length-set before tile (reset_work (row_at before tile)) in
+    ap length is_reset ∙ length-set before tile (reset_work (work_of before tile)) in
     let there : Contains around (get_or listed k 0) =
     subst (λ (l : List ℕ). Contains l (get_or listed k 0)) is_listed (Contains-get_or listed k 0 within) in
     omega (arith, ((members (get_or listed k 0)).0 there).1, same, count)
@@ -46,7 +45,7 @@ module _ (tiling : Tiles) (tile : ℕ) (rect : Rect) (marker old new : Raster) (
     (size : IsOfSize marker old) (is_tile : tile < count_of tiling) (in_one : EachPixelInOneTile)
     (is_rect : rect ≡ rect_of tiling tile) (copied : IsCopiedIn rect marker old new)
     (count : length before ≡ count_of tiling)
-    (is_reset : middle ≡ slice_set before tile (reset_work (row_at before tile))) (is_listed : listed ≡ around)
+    (is_reset : middle ≡ slice_set before tile (reset_work (work_of before tile))) (is_listed : listed ≡ around)
     (members : (other : ℕ) → Contains around other ↔ (AreTouching tiling tile other × (other < count_of tiling)))
     (dirty : AreDirtyWhere (Contains listed) middle after) where
   in_old : (p : Pixel) → IsInside tiling.width tiling.height p → IsInside old.width old.height p
@@ -59,17 +58,17 @@ module _ (tiling : Tiles) (tile : ℕ) (rect : Rect) (marker old new : Raster) (
       ((in_one tiling p tiled inside).1 tile is_tile)
 
   same_count : length middle ≡ length before
-  same_count = ap length is_reset ∙ length-set before tile (reset_work (row_at before tile))
+  same_count = ap length is_reset ∙ length-set before tile (reset_work (work_of before tile))
 
-  own_row : row_at middle tile ≡ reset_work (row_at before tile)
+  own_row : work_of middle tile ≡ reset_work (work_of before tile)
   own_row =
-      ap (λ rows. row_at rows tile) is_reset
-      ∙ get_or-set_same before tile (reset_work (row_at before tile)) idle (omega (arith, is_tile, count))
+      ap (λ rows. work_of rows tile) is_reset
+      ∙ get_or-set_same before tile (reset_work (work_of before tile)) idle (omega (arith, is_tile, count))
 
-  other_row : (t : ℕ) → (t ≡ tile → ⊥) → row_at middle t ≡ row_at before t
+  other_row : (t : ℕ) → (t ≡ tile → ⊥) → work_of middle t ≡ work_of before t
   other_row t other =
-      ap (λ rows. row_at rows t) is_reset
-      ∙ get_or-set_other before tile t (reset_work (row_at before tile)) idle other
+      ap (λ rows. work_of rows t) is_reset
+      ∙ get_or-set_other before tile t (reset_work (work_of before tile)) idle other
 
   touched : (t : ℕ) → t < length before → Contains listed t ↔ AreTouching tiling t tile
   touched t within =
@@ -83,14 +82,14 @@ module _ (tiling : Tiles) (tile : ℕ) (rect : Rect) (marker old new : Raster) (
     size = copied.size;
     count = dirty.count ∙ same_count;
     own =
-        reset_stays (Contains listed tile) (row_at before tile) (row_at middle tile) (row_at after tile) own_row
+        reset_stays (Contains listed tile) (work_of before tile) (work_of middle tile) (work_of after tile) own_row
         (dirty.each tile (omega (arith, is_tile, count, same_count)));
     others = λ t within other.
-        dirty_alike (Contains listed t) (AreTouching tiling t tile) (row_at before t) (row_at after t)
+        dirty_alike (Contains listed t) (AreTouching tiling t tile) (work_of before t) (work_of after t)
         (touched t within)
-        (subst (λ (w : TileWork). IsDirtyIf (Contains listed t) w (row_at after t)) (other_row t other)
+        (subst (λ (w : TileWork). IsDirtyIf (Contains listed t) w (work_of after t)) (other_row t other)
         (dirty.each t (omega (arith, within, same_count))));
-    within = λ p of_tile.
-        copied.within p (in_old p of_tile.inside) ((in_rect p of_tile.inside).1 of_tile.tile);
+    within = λ p in_tile.
+        copied.within p (in_old p in_tile.inside) ((in_rect p in_tile.inside).1 in_tile.tile);
     beyond = λ p inside out. copied.beyond p (in_old p inside) (λ has. out ((in_rect p inside).0 has));
   }

@@ -5,8 +5,8 @@ use Rattle.std.specs.Prelude.{◌↔◌, slice_set}
 use Rattle.std.proofs.Math.ListN.{length-set}
 use Rattle.std.proofs.lemmas.Bool.{cases_eq}
 use Rattle.std.proofs.lemmas.List.{get_or-set_same, get_or-set_other}
-use Rattle.core_rules.specs.Work.{TileWork, idle}
-use Rattle.tile_resets.specs.Renewing.{IsDirtyIf, AreDirtyWhere, row_at}
+use Rattle.border_queues.specs.TileWork.{TileWork, idle, work_of}
+use Rattle.tile_resets.specs.Renewing.{IsDirtyIf, AreDirtyWhere}
 
 -- what is dirty from the start or by one hit stays so by the next, and is dirty by nothing else
 pub dirty_joins : (p q r : Type 0) (before middle after : TileWork) → IsDirtyIf p before middle
@@ -63,38 +63,38 @@ pub all_dirty_join : (p q r : ℕ → Type 0) (before middle after : List TileWo
 all_dirty_join p q r before middle after first second both = record {
   count = second.count ∙ first.count;
   each = λ t within.
-      dirty_joins (p t) (q t) (r t) (row_at before t) (row_at middle t) (row_at after t) (first.each t within)
+      dirty_joins (p t) (q t) (r t) (work_of before t) (work_of middle t) (work_of after t) (first.each t within)
       (second.each t (omega (arith, within, first.count))) (both t within);
 }
 
 pub all_dirty_stay : (p : ℕ → Type 0) (work : List TileWork) → ((t : ℕ) → p t → ⊥) → AreDirtyWhere p work work
 all_dirty_stay p work never = record {
   count = refl;
-  each = λ t within. dirty_stays (p t) (row_at work t) (never t);
+  each = λ t within. dirty_stays (p t) (work_of work t) (never t);
 }
 
 pub all_dirty_alike : (p q : ℕ → Type 0) (before after : List TileWork)
     → ((t : ℕ) → t < length before → p t ↔ q t) → AreDirtyWhere p before after → AreDirtyWhere q before after
 all_dirty_alike p q before after same is = record {
   count = is.count;
-  each = λ t within. dirty_alike (p t) (q t) (row_at before t) (row_at after t) (same t within) (is.each t within);
+  each = λ t within. dirty_alike (p t) (q t) (work_of before t) (work_of after t) (same t within) (is.each t within);
 }
 
 -- one tile is made dirty
 pub one_made_dirty : (work : List TileWork) (tile : ℕ) → tile < length work
-    → AreDirtyWhere (λ t. t ≡ tile) work (slice_set work tile (record (row_at work tile) { dirty = true }))
+    → AreDirtyWhere (λ t. t ≡ tile) work (slice_set work tile (record (work_of work tile) { dirty = true }))
 one_made_dirty work tile there = record {
-  count = length-set work tile (record (row_at work tile) { dirty = true });
+  count = length-set work tile (record (work_of work tile) { dirty = true });
   each = λ t within.
-      let after = slice_set work tile (record (row_at work tile) { dirty = true }) in
+      let after = slice_set work tile (record (work_of work tile) { dirty = true }) in
       elim (cases_eq t tile) [
         | inl same ↦
-            dirty_now (t ≡ tile) (row_at work t) (row_at after t) same
-            (subst (λ u. row_at after u ≡ record (row_at work u) { dirty = true }) (sym same)
-            (get_or-set_same work tile (record (row_at work tile) { dirty = true }) idle there))
+            dirty_now (t ≡ tile) (work_of work t) (work_of after t) same
+            (subst (λ u. work_of after u ≡ record (work_of work u) { dirty = true }) (sym same)
+            (get_or-set_same work tile (record (work_of work tile) { dirty = true }) idle there))
         | inr other ↦
-            subst (λ (w : TileWork). IsDirtyIf (t ≡ tile) (row_at work t) w)
-            (sym (get_or-set_other work tile t (record (row_at work tile) { dirty = true }) idle other))
-            (dirty_stays (t ≡ tile) (row_at work t) other)
+            subst (λ (w : TileWork). IsDirtyIf (t ≡ tile) (work_of work t) w)
+            (sym (get_or-set_other work tile t (record (work_of work tile) { dirty = true }) idle other))
+            (dirty_stays (t ≡ tile) (work_of work t) other)
       ];
 }

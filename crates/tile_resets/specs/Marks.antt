@@ -1,36 +1,24 @@
 -- Which tiles are marked before a delta is taken: those that it resets.
-use Rattle.std.specs.Prelude.{◌≡◌, ℕ, ◌+◌, ◌<◌, ◌≤◌, ◌⊎◌, ◌↔◌, Bool, List, [], ◌∷◌, length, IsTrue}
+use Rattle.std.specs.Prelude.{◌≡◌, ℕ, ◌+◌, ◌<◌, ◌≤◌, ◌⊎◌, ◌↔◌, Bool, List, length, IsTrue}
 use Rattle.grid_core.specs.declared.conn.Conn.{Conn}
 use Rattle.grid_core.specs.declared.pixel.Pixel.{Pixel}
 use Rattle.grid_core.specs.declared.rect.Rect.{Rect}
-use Rattle.grid_core.specs.Raster.{Raster, IsInside, value_at}
+use Rattle.grid_core.specs.Raster.{Raster, value_at}
 use Rattle.grid_core.specs.Neighbours.{AreNeighbours}
 use Rattle.grid_core.specs.Rects.{IsInRect}
-use Rattle.grid_core.specs.Tiles.{Tiles, tile_of}
+use Rattle.grid_core.specs.Tiles.{Tiles, count_of}
 use Rattle.stroke_core.specs.Seed.{Seed, covers}
 use Rattle.stroke_lattice.specs.State.{State, HasTombstone, IsLive, IsJoin}
-use Rattle.core_rules.specs.Work.{Core, tiling}
-use Rattle.core_rules.specs.Hits.{IsHit}
+use Rattle.core_rules.specs.Hits.{IsHitIn}
 use Rattle.tile_work.specs.TileSet.{Has}
 
--- the core has this tiling, image, connectivity and state
-pub record IsCoreOf (core : Core) (tiles : Tiles) (image : Raster) (conn : Conn) (state : State) : Type 0 where
-  pub tiling_is : tiling core ≡ tiles
-  pub image_is : core.image ≡ image
-  pub conn_is : core.conn ≡ conn
-  pub state_is : core.state ≡ state
+-- marked are just the tiles that are hit where the strokes take the delta
+abbrev pub AreHits : Tiles → Raster → Conn → State → State → List Bool → Type 0
+AreHits tiles image conn state delta marks =
+    (after : State) → IsJoin state delta after
+    → (t : ℕ) → t < length marks → Has marks t ↔ IsHitIn tiles image conn state after t
 
--- marked are just the tiles that are hit where the core takes the delta
-abbrev pub AreHits : Core → State → List Bool → Type 0
-AreHits core delta marks =
-    (after : State) → IsJoin core.state delta after
-    → (t : ℕ) → t < length marks → Has marks t ↔ IsHit core after t
-
--- ---- tiles with a pixel of which something holds
-
--- some pixel of the tile is one of these
-abbrev pub HoldsOne : Tiles → (Pixel → Type 0) → ℕ → Type 0
-HoldsOne tiles P t = (p : Pixel) × IsInside tiles.width tiles.height p × (tile_of tiles p ≡ t) × P p
+-- ---- pixels of which something holds
 
 -- some pixel of the rectangle is one of these
 abbrev pub SomeIn : Rect → (Pixel → Type 0) → Type 0
@@ -56,10 +44,10 @@ IsLightBeside image conn p q = AreNeighbours conn p q × (0 < value_at image q)
 abbrev pub IsLinkedInto : Raster → Conn → Rect → Pixel → Type 0
 IsLinkedInto image conn rect p = (0 < value_at image p) × SomeIn rect (IsLightBeside image conn p)
 
--- the image is above 0 at a pixel of one tile and at a neighbour of it in the other
-abbrev pub AreLinkedIn : Tiles → Raster → Conn → ℕ → ℕ → Type 0
-AreLinkedIn tiles image conn t u =
-    HoldsOne tiles (λ p. (0 < value_at image p) × HoldsOne tiles (IsLightBeside image conn p) u) t
+-- the rectangle, which may be empty, ends inside an image of this width and height
+pub record EndsWithin (width height : ℕ) (rect : Rect) : Type 0 where
+  pub columns : rect.x + rect.w ≤ width
+  pub rows : rect.y + rect.h ≤ height
 
 -- the pixel is at most 1 from the rectangle, in columns and in rows
 pub record IsNear (rect : Rect) (p : Pixel) : Type 0 where
@@ -77,17 +65,12 @@ pub record Grows (marks queue new_marks new_queue : List Bool) : Type 0 where
   pub kept : (t : ℕ) → Has marks t → Has new_marks t
   pub queued : (t : ℕ) → Has new_queue t ↔ (Has queue t ⊎ (Has new_marks t × (Has marks t → ⊥)))
 
+-- there is a mark and a place in the queue for each tile
+pub record AreMarks (tiles : Tiles) (marks queue : List Bool) : Type 0 where
+  pub count : length marks ≡ count_of tiles
+  pub queue_count : length queue ≡ length marks
+
 -- these tiles are marked, and those of them that were not are put into the queue
 pub record Adds (P : ℕ → Type 0) (marks queue new_marks new_queue : List Bool) : Type 0 where
   pub grows : Grows marks queue new_marks new_queue
   pub marked : (t : ℕ) → Has new_marks t ↔ (Has marks t ⊎ P t)
-
--- the tiles of the list, the last of them first, lead to the tile: the first is one of these, and each is linked to
--- the next
-abbrev pub LeadFrom : (ℕ → Type 0) → (ℕ → ℕ → Type 0) → List ℕ → ℕ → Type 0
-LeadFrom P linked [] t = P t
-LeadFrom P linked (u ∷ before) t = LeadFrom P linked before u × linked u t
-
--- such a list leads to the tile
-abbrev pub IsReached : (ℕ → Type 0) → (ℕ → ℕ → Type 0) → ℕ → Type 0
-IsReached P linked t = (before : List ℕ) × LeadFrom P linked before t

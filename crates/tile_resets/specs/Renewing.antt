@@ -1,26 +1,19 @@
 -- What a merge does to the image and to the work at the tiles, once strokes and marker are the new ones.
 use Rattle.std.specs.Prelude.{◌≡◌, ℕ, ◌<◌, ◌≤◌, ◌⊎◌, ◌↔◌, Bool, max, if◌then◌else◌, IsTrue}
-use Rattle.std.specs.Prelude.{List, length, slice_index, slice_index_or}
+use Rattle.std.specs.Prelude.{List, length, slice_index}
 use Rattle.std.specs.List.{Contains}
 use Rattle.grid_core.specs.declared.pixel.Pixel.{Pixel}
 use Rattle.grid_core.specs.declared.rect.Rect.{Rect}
 use Rattle.grid_core.specs.Raster.{Raster, IsInside, value_at}
 use Rattle.grid_core.specs.Rects.{IsInRect}
-use Rattle.grid_core.specs.Tiles.{Tiles, tile_of, AreTouching}
+use Rattle.grid_core.specs.Tiles.{Tiles, tile_of, count_of, AreTouching}
+use Rattle.border_queues.specs.OpenEdges.{IsOnTiling}
 use Rattle.stroke_core.specs.Seed.{Seed, covers}
 use Rattle.stroke_lattice.specs.State.{State, HasStroke}
 use Rattle.core_rules.specs.Image.{IsOfSize}
-use Rattle.core_rules.specs.Work.{TileWork, idle}
-use Rattle.core_rules.specs.Merge.{reset_work}
-
--- the pixel lies in the image and in this tile
-pub record IsPixelOf (tiling : Tiles) (t : ℕ) (p : Pixel) : Type 0 where
-  pub inside : IsInside tiling.width tiling.height p
-  pub tile : tile_of tiling p ≡ t
-
--- the work at a tile, of the work at all of them
-abbrev pub row_at : List TileWork → ℕ → TileWork
-row_at rows t = slice_index_or rows t idle
+use Rattle.core_rules.specs.Hits.{IsInTile}
+use Rattle.core_rules.specs.Merge.{HasRisen, IsReset}
+use Rattle.border_queues.specs.TileWork.{TileWork, work_of, reset_work}
 
 -- the work is dirty if it was or if the tile is hit, and nothing else of it changes
 pub record IsDirtyIf (is_hit : Type 0) (before after : TileWork) : Type 0 where
@@ -30,7 +23,7 @@ pub record IsDirtyIf (is_hit : Type 0) (before after : TileWork) : Type 0 where
 -- so is that of each tile
 pub record AreDirtyWhere (is_hit : ℕ → Type 0) (before after : List TileWork) : Type 0 where
   pub count : length after ≡ length before
-  pub each : (t : ℕ) → t < length before → IsDirtyIf (is_hit t) (row_at before t) (row_at after t)
+  pub each : (t : ℕ) → t < length before → IsDirtyIf (is_hit t) (work_of before t) (work_of after t)
 
 -- ---- tiles that are reset
 
@@ -40,33 +33,28 @@ pub record TouchesMarked (tiling : Tiles) (is_marked : ℕ → Type 0) (t : ℕ)
   pub marked : is_marked u
   pub touching : AreTouching tiling t u
 
--- the tile is reset: its work is that of a reset tile, and its pixels have the marker's values
-pub record IsTileReset (tiling : Tiles) (marker new : Raster) (before after : TileWork) (t : ℕ) : Type 0 where
-  pub work : after ≡ reset_work before
-  pub values : (p : Pixel) → IsPixelOf tiling t p → value_at new p ≡ value_at marker p
-
 -- the tile is kept: it is dirty if it was or if a marked tile touches it, and its pixels have their old values
 pub record IsTileKept (tiling : Tiles) (is_marked : ℕ → Type 0) (old new : Raster) (before after : TileWork) (t : ℕ)
     : Type 0 where
   pub work : IsDirtyIf (TouchesMarked tiling is_marked t) before after
-  pub values : (p : Pixel) → IsPixelOf tiling t p → value_at new p ≡ value_at old p
+  pub values : (p : Pixel) → IsInTile tiling t p → value_at new p ≡ value_at old p
 
 -- each marked tile is reset, and each other one is kept
 abbrev pub AreReset : Tiles → (ℕ → Type 0) → Raster → Raster → Raster → List TileWork → List TileWork → Type 0
 AreReset tiling is_marked marker old new before after =
     (t : ℕ) → t < length before
-    → (is_marked t × IsTileReset tiling marker new (row_at before t) (row_at after t) t)
-    ⊎ ((is_marked t → ⊥) × IsTileKept tiling is_marked old new (row_at before t) (row_at after t) t)
+    → (is_marked t × IsReset tiling (value_at marker) new (work_of before t) (work_of after t) t)
+    ⊎ ((is_marked t → ⊥) × IsTileKept tiling is_marked old new (work_of before t) (work_of after t) t)
 
 -- this tile is reset, each tile that touches it is dirty, and nothing else changes
 pub record IsOneReset (tiling : Tiles) (marker old new : Raster) (before after : List TileWork) (tile : ℕ)
     : Type 0 where
   pub size : IsOfSize old new
   pub count : length after ≡ length before
-  pub own : row_at after tile ≡ reset_work (row_at before tile)
+  pub own : work_of after tile ≡ reset_work (work_of before tile)
   pub others : (t : ℕ) → t < length before → (t ≡ tile → ⊥)
-      → IsDirtyIf (AreTouching tiling t tile) (row_at before t) (row_at after t)
-  pub within : (p : Pixel) → IsPixelOf tiling tile p → value_at new p ≡ value_at marker p
+      → IsDirtyIf (AreTouching tiling t tile) (work_of before t) (work_of after t)
+  pub within : (p : Pixel) → IsInTile tiling tile p → value_at new p ≡ value_at marker p
   pub beyond : (p : Pixel) → IsInside tiling.width tiling.height p → (tile_of tiling p ≡ tile → ⊥)
       → value_at new p ≡ value_at old p
 
@@ -121,17 +109,17 @@ pub record RisesWhere (test : Pixel → Bool) (old new : Raster) : Type 0 where
 
 -- ---- tiles that are raised
 
--- a pixel of the tile has risen
-pub record HasRisenIn (tiling : Tiles) (t : ℕ) (old new : Raster) : Type 0 where
-  pub p : Pixel
-  pub of_tile : IsPixelOf tiling t p
-  pub rose : value_at old p < value_at new p
+-- marker and image are of the size of the tiling, and there is work at each tile
+pub record AreAtHand (tiling : Tiles) (marker image : Raster) (work : List TileWork) : Type 0 where
+  pub size : IsOfSize marker image
+  pub marker_is : IsOnTiling tiling marker
+  pub count : length work ≡ count_of tiling
 
 -- the image is raised to the marker where the test holds, and each tile in which a pixel rises is dirty
 pub record IsRaisedWhere (tiling : Tiles) (test : Pixel → Bool) (marker old new : Raster)
     (before after : List TileWork) : Type 0 where
   pub values : IsMadeWhere test greater_value marker old new
-  pub work : AreDirtyWhere (λ t. HasRisenIn tiling t old new) before after
+  pub work : AreDirtyWhere (λ t. HasRisen tiling t old new) before after
 
 -- one of the strokes that stand under these tags, live or not, covers the pixel
 pub record IsUnder (s : State) (tags : List ℕ) (p : Pixel) : Type 0 where

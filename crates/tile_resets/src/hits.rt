@@ -1,11 +1,11 @@
 //! The tiles that taking a delta resets.
 
-ghost use Rattle.std.specs.Prelude.{◌≡◌, ◌↔◌, ℕ, false, length, replicate, slice_index_or, IsTrue};
+ghost use Rattle.std.specs.Prelude.{◌≡◌, ◌↔◌, ℕ, false, length, replicate, IsTrue};
 ghost use Rattle.grid_core.specs.Tiles.{count_of};
 ghost use Rattle.tile_generations.specs.Generations.{max_generation};
 ghost use Rattle.border_queues.specs.OpenEdges.{IsOnTiling};
-ghost use Rattle.core_rules.specs.Work.{Core, idle};
-ghost use Rattle.tile_resets.specs.Marks.{AreHits, IsCoreOf};
+ghost use Rattle.border_queues.specs.TileWork.{work_of};
+ghost use Rattle.tile_resets.specs.Marks.{AreHits};
 ghost use Rattle.tile_work.specs.TileSet.{Has};
 
 mod links;
@@ -38,8 +38,7 @@ pub fn mark_hits(
     requires on_tiling { IsOnTiling tiling.now image.now }
     requires marks { marks.old ≡ replicate (count_of tiling.now) false }
     requires queue { queue.old ≡ replicate (count_of tiling.now) false }
-    ensures marks { (core : Core) → IsCoreOf core tiling.now image.now conn state.now
-        → AreHits core delta.now marks.new }
+    ensures marks { AreHits tiling.now image.now conn state.now delta.now marks.new }
     ensures count { length marks.new ≡ count_of tiling.now }
     ensures queue { queue.new ≡ queue.old }
 {
@@ -56,8 +55,9 @@ pub fn mark_hits(
 pub fn is_one_spent(marks: &TileSet, work: &WorkTable) -> bool
     requires { length marks.now ≡ length work.now }
     ensures { IsTrue result
-        ↔ ((t : ℕ) × Has marks.now t × ((slice_index_or work.now t idle).generation ≡ max_generation)) }
+        ↔ ((t : ℕ) × Has marks.now t × ((work_of work.now t).generation ≡ max_generation)) }
 {
+    // For its clause alone: the number of tiles is a usize.
     let _ = marks.len();
     let mut start = 0;
     while let Some(tile) = marks.first_from(start) {

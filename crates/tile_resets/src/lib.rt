@@ -1,9 +1,9 @@
 #![tactic(auto)]
 //! What taking a delta does to tiles.
 //!
-//! [`mark_hits`] finds the tiles that a withdrawal resets, before anything changes; [`is_one_spent`] says whether one of
-//! them has no generation left. Once strokes and marker are the new ones, [`reset_marked`] resets the marked tiles, and
-//! [`raise_to_marker`] raises the image at the others. None of them takes memory.
+//! [`mark_hits`] finds the tiles that a withdrawal resets, before anything changes; [`is_one_spent`] says whether one
+//! of them has no generation left. Once strokes and marker are the new ones, [`reset_marked`] resets the marked tiles,
+//! and [`raise_to_marker`] raises the image at the others. None of them takes memory.
 
 mod hits;
 mod renewing;

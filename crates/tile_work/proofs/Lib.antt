@@ -1,3 +1,4 @@
+-- The lemmas of this crate, file by file.
 pub mod TileSetWords
 pub mod TileSets
 pub mod WorkTables

@@ -14,11 +14,10 @@ use Rattle.tile_generations.specs.Generations.{max_generation}
 use Rattle.grid_core.specs.Tiles.{Tiles, AreTouching, count_of, tile_of}
 use Rattle.border_queues.specs.declared.hint.Hint.{Hint}
 use Rattle.tile_work.specs.declared.work_table.row.TileRow.{TileRow}
-use Rattle.core_rules.specs.Work.{TileWork, idle}
-use Rattle.core_rules.specs.Sweeps.{received}
-use Rattle.tile_work.specs.WorkTable.{work_of, dirty_count, hints_at, IsToTouching, AreReceived, as_work}
+use Rattle.border_queues.specs.TileWork.{TileWork, idle, received, work_of, hints_at}
+use Rattle.tile_work.specs.WorkTable.{IsToTouching, AreReceived, as_work}
 use Rattle.tile_work.specs.WorkTable.{works_of, rooms_of, is_some_hint, dirty_bits, waiting_bits, AreInStep}
-use Rattle.tile_work.proofs.WorkTables.{row_with_inbox, same_dirty_count}
+use Rattle.tile_work.proofs.WorkTables.{row_with_inbox}
 
 -- ---- hints of a tile, one after another
 
@@ -262,9 +261,6 @@ module _ {tiles : Tiles} {hints : List Hint} {old new : List TileWork} (came : A
   same_dirty : dirty_bits new ≡ dirty_bits old
   same_dirty =
       same_bits (λ w. w.dirty) old new came.count (λ t within. ap (λ (w : TileWork). w.dirty) (came.each t within))
-
-  pub received_dirty_count : dirty_count new ≡ dirty_count old
-  received_dirty_count = same_dirty_count old new same_dirty
 
   pub received_in_step : (dirty out waiting waiting_now : List Bool) → AreInStep old dirty out waiting
       → waiting_now ≡ waiting_bits new → AreInStep new dirty out waiting_now

@@ -10,7 +10,8 @@ use Rattle.grid_core.proofs.Tilings.{neighbours_lie_in_touching_tiles}
 use Rattle.border_queues.specs.declared.hint.Hint.{Hint}
 use Rattle.border_queues.specs.OpenEdges.{Sender, IsOpenEdge, hint_to, open_edges}
 use Rattle.border_queues.specs.Laws.{EdgesAreOpen}
-use Rattle.tile_work.specs.WorkTable.{hints_at, IsToTouching}
+use Rattle.tile_work.specs.WorkTable.{IsToTouching}
+use Rattle.border_queues.specs.TileWork.{hints_at}
 use Rattle.tile_work.proofs.WorkTableHints.{first_or_none}
 
 open_edge_touches : (s : Sender) (p q : Pixel) → IsTiled s.tiles → IsOpenEdge s p q

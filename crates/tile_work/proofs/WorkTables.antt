@@ -1,21 +1,18 @@
 -- The rows of a table and its sets stay in step where one row changes, and the sets say what is left.
-use Rattle.std.proofs.Common.{◌≡◌, ◌≢◌, ℕ, zero, suc, ◌+◌, ◌<◌, ◌≤◌, Bool, true, false, List, [], ◌∷◌}
+use Rattle.std.proofs.Common.{◌≡◌, ◌≢◌, ℕ, zero, suc, ◌<◌, ◌≤◌, Bool, true, false, List, [], ◌∷◌}
 use Rattle.std.proofs.Common.{map, length, get_or, set}
-use Rattle.std.proofs.Common.{cond, replicate, refl, sym, ◌∙◌, ap, subst, arith, inl, inr}
+use Rattle.std.proofs.Common.{replicate, refl, sym, ◌∙◌, ap, subst, arith, inl, inr}
 use Rattle.std.specs.Prelude.{◌↔◌, Option, Some, None, MatchOption, is_some, IsTrue, not}
 use Rattle.std.proofs.lemmas.Bool.{cases_eq}
 use Rattle.std.proofs.lemmas.List.{length-set, length-map, get_or-map, get_or-set_same, get_or-set_other, map-set}
 use Rattle.std.proofs.lemmas.List.{set-get_or, length-replicate, get_or-replicate}
-use Rattle.std.proofs.lemmas.List.Sums.{sum_by-set, sum_by-cons}
 use Rattle.border_queues.specs.declared.hint.Hint.{Hint}
 use Rattle.tile_generations.specs.Generations.{max_generation}
 use Rattle.tile_work.specs.declared.work_table.row.TileRow.{TileRow}
 use Rattle.tile_work.specs.declared.work_table.WorkTable.TheInside.{Inside}
 use Rattle.tile_work.specs.TileSet.{Has, HasNoneFrom, IsFirstFrom}
-use Rattle.core_rules.specs.Work.{TileWork, idle, IsIdle}
-use Rattle.core_rules.specs.Opening.{fresh}
-use Rattle.core_rules.specs.Runs.{IsLeast}
-use Rattle.tile_work.specs.WorkTable.{work_of, IsDirtyTile, HasJobOut, HasHintsAt, dirty_count, as_work, works_of}
+use Rattle.border_queues.specs.TileWork.{TileWork, idle, IsIdle, fresh, IsLeast, work_of}
+use Rattle.tile_work.specs.WorkTable.{IsDirtyTile, HasJobOut, HasHintsAt, as_work, works_of}
 use Rattle.tile_work.specs.WorkTable.{is_some_hint, dirty_bits, out_bits, waiting_bits, AreInStep}
 
 -- ---- one row changes
@@ -278,54 +275,3 @@ quiet_without_hints works first_dirty first_out first_waiting dirty out waiting 
       (none_of first_waiting _ _ waiting (says ∙ ap not yes)),
   λ idle. answer_when_none first_waiting (HasHintsAt works) waiting (none_waiting works idle) answer says,
 )
-
--- ---- how many tiles are dirty
-
-abbrev one_if : Bool → ℕ
-one_if dirty = cond dirty 1 0
-
-at_most_one : (dirty : Bool) → one_if dirty ≤ 1
-at_most_one true = omega arith
-at_most_one false = omega arith
-
-module _ (works : List TileWork) (t : ℕ) (new : TileWork) (within : t < length works) where
-  count_moves : dirty_count (set works t new) + one_if (work_of works t).dirty
-      ≡ dirty_count works + one_if new.dirty
-  count_moves = sum_by-set (λ (work : TileWork). one_if work.dirty) works t new idle within
-
-  -- a tile that stays dirty or clean keeps the number
-  pub as_many_dirty : new.dirty ≡ (work_of works t).dirty → dirty_count (set works t new) ≡ dirty_count works
-  as_many_dirty same =
-      let moves = count_moves in
-      let bit : one_if new.dirty ≡ one_if (work_of works t).dirty = ap one_if same in
-      omega (arith, moves, bit)
-
-  -- a tile that becomes clean lowers it by 1
-  pub one_fewer_dirty : IsTrue (work_of works t).dirty → new.dirty ≡ false
-      → dirty_count (set works t new) + 1 ≡ dirty_count works
-  one_fewer_dirty dirty clean =
-      let moves = count_moves in
-      let was : one_if (work_of works t).dirty ≡ 1 = ap one_if dirty in
-      let is : one_if new.dirty ≡ 0 = ap one_if clean in
-      omega (arith, moves, was, is)
-
-  -- whatever happens at a tile raises it by at most 1
-  pub at_most_one_more_dirty : dirty_count (set works t new) ≤ dirty_count works + 1
-  at_most_one_more_dirty =
-      let moves = count_moves in
-      let few = at_most_one new.dirty in
-      omega (arith, moves, few)
-
--- lists with the same dirty tiles have as many
-pub same_dirty_count : (old new : List TileWork) → dirty_bits new ≡ dirty_bits old → dirty_count new ≡ dirty_count old
-same_dirty_count [] [] same = refl
-same_dirty_count [] (work ∷ works) same = absurd cc
-same_dirty_count (work ∷ works) [] same = absurd cc
-same_dirty_count (old ∷ olds) (new ∷ news) same =
-    let head : new.dirty ≡ old.dirty = cc in
-    let tail : dirty_bits news ≡ dirty_bits olds = cc in
-    let rest = same_dirty_count olds news tail in
-    let bit : one_if new.dirty ≡ one_if old.dirty = ap one_if head in
-    let new_is = sum_by-cons (λ (work : TileWork). one_if work.dirty) new news in
-    let old_is = sum_by-cons (λ (work : TileWork). one_if work.dirty) old olds in
-    omega (arith, rest, bit, new_is, old_is)

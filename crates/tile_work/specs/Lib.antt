@@ -1,7 +1,6 @@
+-- The definitions of this crate, file by file, and those from below that its clauses cite.
 pub use Rattle.grid_core.specs.Tiles
 pub use Rattle.border_queues.specs.OpenEdges
-pub use Rattle.core_rules.specs.Work
-pub use Rattle.core_rules.specs.Runs
-pub use Rattle.core_rules.specs.Sweeps
+pub use Rattle.border_queues.specs.TileWork
 pub mod TileSet
 pub mod WorkTable

@@ -1,17 +1,12 @@
 -- The work that is left at each tile as the table of a core stores it, and what the table answers.
-use Rattle.std.specs.Prelude.{◌≡◌, ◌≢◌, ℕ, ◌<◌, ◌≤◌, ◌==◌, Bool, true, false, List, [], ◌∷◌, map, length, filter}
-use Rattle.std.specs.Prelude.{count_by, is_some, IsTrue, IsSome, slice_index_or}
+use Rattle.std.specs.Prelude.{◌≡◌, ◌≢◌, ℕ, ◌<◌, ◌≤◌, Bool, true, false, List, [], ◌∷◌, map, length}
+use Rattle.std.specs.Prelude.{is_some, IsTrue, IsSome}
 use Rattle.grid_core.specs.Raster.{IsInside}
 use Rattle.grid_core.specs.Tiles.{Tiles, AreTouching, tile_of}
 use Rattle.border_queues.specs.declared.hint.Hint.{Hint}
 use Rattle.tile_generations.specs.Generations.{max_generation}
 use Rattle.tile_work.specs.declared.work_table.row.TileRow.{TileRow}
-use Rattle.core_rules.specs.Work.{TileWork, idle}
-use Rattle.core_rules.specs.Sweeps.{received}
-
--- the work that is left at a tile
-abbrev pub work_of : List TileWork → ℕ → TileWork
-work_of works t = slice_index_or works t idle
+use Rattle.border_queues.specs.TileWork.{TileWork, work_of, received, hints_at}
 
 -- the tile is dirty
 abbrev pub IsDirtyTile : List TileWork → ℕ → Type 0
@@ -25,15 +20,7 @@ HasJobOut works t = (t < length works) × IsSome (work_of works t).out
 abbrev pub HasHintsAt : List TileWork → ℕ → Type 0
 HasHintsAt works t = (t < length works) × ((work_of works t).inbox ≢ [])
 
--- how many tiles are dirty
-abbrev pub dirty_count : List TileWork → ℕ
-dirty_count works = count_by (λ work. work.dirty) works
-
 -- ---- hints that come
-
--- the hints whose pixel lies in the tile, in their order
-abbrev pub hints_at : Tiles → ℕ → List Hint → List Hint
-hints_at tiles t hints = filter (λ hint. tile_of tiles hint.to_pixel == t) hints
 
 -- the hint's pixel is inside the image
 abbrev pub IsToInside : Tiles → Hint → Type 0

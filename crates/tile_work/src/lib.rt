@@ -2,8 +2,8 @@
 //! The work that is left at each tile of one replica's image: its generation, whether it is to be swept, the job of it
 //! that is out, and the hints that wait.
 //!
-//! [`WorkTable`] has a row a tile. [`TileSet`]s beside the rows say which tiles are dirty, which are out and where hints
-//! wait, so that the next one is found without a walk over all tiles.
+//! [`WorkTable`] has a row a tile. [`TileSet`]s beside the rows say which tiles are dirty, which are out and where
+//! hints wait, so that the next one is found without a walk over all tiles.
 
 mod tile_set;
 mod work_table;

@@ -7,11 +7,8 @@ ghost use Rattle.std.specs.Prelude.{◌≡◌, ◌+◌, ◌<◌, ◌≤◌, ◌�
 ghost use Rattle.std.specs.Prelude.{slice_set, All, Some, None, MatchOption, IfOk, OnOk, OnErr, IsTrue};
 ghost use Rattle.grid_core.specs.Tiles.{count_of};
 ghost use Rattle.tile_generations.specs.Generations.{max_generation};
-ghost use Rattle.core_rules.specs.Work.{IsIdle};
-ghost use Rattle.core_rules.specs.Opening.{fresh};
-ghost use Rattle.core_rules.specs.Merge.{reset_work};
-ghost use Rattle.core_rules.specs.Runs.{IsLeast};
-ghost use Rattle.tile_work.specs.WorkTable.{work_of, IsDirtyTile, HasJobOut, HasHintsAt, IsToTouching, AreReceived};
+ghost use Rattle.border_queues.specs.TileWork.{IsIdle, fresh, reset_work, IsLeast, work_of};
+ghost use Rattle.tile_work.specs.WorkTable.{IsDirtyTile, HasJobOut, HasHintsAt, IsToTouching, AreReceived};
 
 use crate::tile_set::TileSet;
 use border_queues::Hint;
@@ -33,7 +30,7 @@ pub struct WorkTable {
 
 impl Model for WorkTable {
     ghost use Rattle.std.specs.Prelude.{List};
-    ghost use Rattle.core_rules.specs.Work.{TileWork};
+    ghost use Rattle.border_queues.specs.TileWork.{TileWork};
 
     ghost Value = { List TileWork };
 

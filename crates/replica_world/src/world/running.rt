@@ -1,10 +1,11 @@
 //! Events, one or a list of them.
 
-ghost use Rattle.std.specs.Prelude.{◌≡◌, ◌≢◌, ◌<◌, [], ◌∷◌, ◌++◌, IfOk, IfErr, OnOk, OnErr, vec_len, vec_capacity};
+ghost use Rattle.std.specs.Prelude.{◌≡◌, ◌≢◌, ◌+◌, ◌<◌, ◌≤◌, [], ◌∷◌, ◌++◌, IfOk, IfErr, OnOk, OnErr, vec_len};
+ghost use Rattle.std.specs.Prelude.{vec_capacity};
 ghost use Rattle.core_rules.specs.declared.error.CoreError.TheVariants as core_errors;
 ghost use Rattle.replica_world.specs.declared.error.WorldError.TheVariants as errors;
-ghost use Rattle.replica_world.specs.Events.{IsDone, IsRefusal};
-ghost use Rattle.replica_world.specs.Runs.{IsRun, IsStopped, IsOnward, IsSameButSerial};
+ghost use Rattle.replica_world.specs.Events.{IsDone, IsRefusal, IsCutOff};
+ghost use Rattle.replica_world.specs.Runs.{IsRun, IsStopped, IsOnward};
 
 use super::World;
 use crate::error::WorldError;
@@ -36,8 +37,9 @@ impl World {
     /// Brings a list of events about, one after another. It answers the numbers of those that were refused, counted
     /// from 0, each with the reason.
     ///
-    /// Errors: W2 with C4, where memory ran out. The world is then as after the events before, of which
-    /// [`steps`](World::steps) says how many there are, but a core may have spent a serial; so the rest can be run.
+    /// Errors: W2 with C4, where memory ran out: for the places of the list, before the first event, or within an
+    /// event. The world is then as after the events before, of which [`steps`](World::steps) says how many there are,
+    /// but a core may have spent a serial; so the rest can be run.
     pub fn run(
         &mut self,
         alloc: Global,
@@ -46,7 +48,13 @@ impl World {
         ensures ran { IfOk result (λ refusals. IsRun self.old events.now refusals.items self.new) }
         ensures stopped { IfErr result (λ e. IsStopped self.old events.now e self.new) }
     {
-        let mut refusals = Vec::new(alloc);
+        let mut refusals = match places(alloc, events.len()) {
+            Ok(refusals) => refusals,
+            Err(why) => {
+                self.keep_steps(0);
+                return Err(why.into());
+            }
+        };
         for i in 0..events.len() {
             if let Err(why) = self.run_one(alloc, &mut refusals, i, &events[i]) {
                 self.keep_steps(i);
@@ -64,9 +72,9 @@ impl World {
         self.steps = steps;
     }
 
-    // Brings the event of this number about, or lists why it is refused. The place in the list is reserved before.
+    // Brings the event of this number about, or lists why it is refused, in its place.
     //
-    // Errors: W2 with C4.
+    // Errors: W2 with C4, where memory ran out within the event.
     fn run_one(
         &mut self,
         alloc: Global,
@@ -74,11 +82,14 @@ impl World {
         number: usize,
         event: &Event,
     ) -> Result<(), WorldError>
-        ensures onward { OnOk result (IsOnward event.now number self.old refusals.old.items self.new refusals.new.items) }
+        requires { vec_len refusals.old < vec_capacity refusals.old }
+        ensures onward { OnOk result (IsOnward event.now number self.old refusals.old.items self.new
+            refusals.new.items) }
+        ensures one_more { vec_len refusals.new ≤ vec_len refusals.old + 1 }
+        ensures room { vec_capacity refusals.new ≡ vec_capacity refusals.old }
         ensures memory { IfErr result (λ e. e ≡ errors.Core core_errors.Memory) }
-        ensures err { OnErr result (IsSameButSerial self.old self.new) }
+        ensures err { OnErr result (IsCutOff self.old event.now self.new) }
     {
-        make_room(refusals)?;
         match self.step(alloc, event) {
             Ok(()) => Ok(()),
             Err(why) => list(refusals, number, why),
@@ -86,18 +97,18 @@ impl World {
     }
 }
 
-// Reserves a place.
+// An empty list with so many places.
 //
-// Errors: out of memory, where the list is as it was.
-fn make_room(refusals: &mut Vec<(usize, WorldError)>) -> Result<(), Memory>
-    ensures items { refusals.new.items ≡ refusals.old.items }
-    ensures room { OnOk result (vec_len refusals.new < vec_capacity refusals.new) }
+// Errors: out of memory, where there are to be some.
+fn places(alloc: Global, count: usize) -> Result<Vec<(usize, WorldError)>, Memory>
+    ensures empty { IfOk result (λ list. (list.items ≡ []) × (vec_len list ≡ 0)) }
+    ensures room { IfOk result (λ list. count ≤ vec_capacity list) }
+    ensures some { OnErr result (1 ≤ count) }
 {
-    refusals.reserve(1)?;
-    Ok(())
+    Ok(Vec::with_capacity(alloc, count)?)
 }
 
-// Lists that the event of this number is refused, in the place that is reserved.
+// Lists that the event of this number is refused, in its place.
 //
 // Errors: the reason, where memory ran out.
 fn list(
@@ -108,7 +119,9 @@ fn list(
     requires { vec_len refusals.old < vec_capacity refusals.old }
     ensures listed { OnOk result (refusals.new.items ≡ refusals.old.items ++ (number, why) ∷ []) }
     ensures reason { OnOk result (why ≢ errors.Core core_errors.Memory) }
-    ensures memory { IfErr result (λ e. e ≡ errors.Core core_errors.Memory) }
+    ensures one_more { vec_len refusals.new ≤ vec_len refusals.old + 1 }
+    ensures room { vec_capacity refusals.new ≡ vec_capacity refusals.old }
+    ensures memory { IfErr result (λ e. (e ≡ errors.Core core_errors.Memory) × (why ≡ e)) }
 {
     if why.is_memory() {
         return Err(why);

@@ -8,8 +8,9 @@ use border_queues::Hint;
 use core_rules::Handed;
 
 impl Core {
-    /// Hands over the hint at place `i` of a tile's inbox: it leaves the inbox, and raises its pixel where the tile that
-    /// told it was not reset since, and it is above the pixel's value. The pixel's tile is then dirty. It takes no memory.
+    /// Hands over the hint at place `i` of a tile's inbox: it leaves the inbox, and raises its pixel where the tile
+    /// that told it was not reset since, and it is above the pixel's value. The pixel's tile is then dirty. It takes no
+    /// memory.
     pub fn hand(&mut self, tile: usize, i: usize) -> Handed
         ensures { IsHanded self.old tile i result self.new }
     {

@@ -4,13 +4,14 @@ ghost use Rattle.std.specs.Prelude.{◌≡◌, ◌<◌, ◌≤◌, ℕ, [], ◌�
 ghost use Rattle.std.specs.Prelude.{slice_index_or, slice_set};
 ghost use Rattle.std.specs.List.{flat_map};
 ghost use Rattle.grid_core.specs.Raster.{IsBelow, IsInside, IsFilled, value_at};
-ghost use Rattle.grid_core.specs.Reconstruction.{IsReconstruction};
-ghost use Rattle.grid_core.specs.Rects.{IsInRect, RectFits, domain_in, part};
+ghost use Rattle.grid_core.specs.Rects.{IsInRect, RectFits};
 ghost use Rattle.grid_core.specs.Tiles.{IsTiled, count_of, tile_of};
-ghost use Rattle.border_queues.specs.OpenEdges.{IsOnTiling, room_for_edges, open_edges};
+ghost use Rattle.border_queues.specs.OpenEdges.{IsOnTiling, sender_by, room_for_edges, open_edges};
 ghost use Rattle.border_queues.specs.Waiting.{places};
 ghost use Rattle.raster_sweeps.specs.Borders.{OpenPairsBeginOnBorder};
-ghost use Rattle.core_rules.specs.Work.{tiling, idle};
+ghost use Rattle.raster_sweeps.specs.Regrowth.{IsRegrownIn};
+ghost use Rattle.core_rules.specs.Work.{tiling};
+ghost use Rattle.border_queues.specs.TileWork.{idle};
 ghost use Rattle.core_rules.specs.Events.{Take};
 ghost use Rattle.core_rules.specs.Runs.{Entry, IsNext, IsWorkedOff, NoneOut, HasHints, jobs_of};
 ghost use Rattle.reset_core.specs.Closing.{AreClosedInside};
@@ -82,13 +83,7 @@ fn sweep(room: &mut Room, mask: &Grid, image: &mut Grid, rect: Rect, conn: Conn,
     requires below { IsBelow image.old mask.now }
     requires fits { RectFits mask.now.width mask.now.height rect }
     requires border { IsTrue from_border → OpenPairsBeginOnBorder conn rect mask.now image.old }
-    ensures width { image.new.width ≡ image.old.width }
-    ensures height { image.new.height ≡ image.old.height }
-    ensures filled { IsFilled image.new }
-    ensures outside { (p : _) → IsInside image.old.width image.old.height p → (IsInRect rect p → ⊥)
-        → value_at image.new p ≡ value_at image.old p }
-    ensures reconstruction { IsReconstruction (domain_in rect conn) (part rect (value_at mask.now))
-        (part rect (value_at image.old)) (part rect (value_at image.new)) }
+    ensures { IsRegrownIn conn rect mask.now image.old image.new }
 {
     if from_border {
         grow_from_border(room, mask, image, rect, conn);
@@ -114,14 +109,9 @@ fn tell(
     requires count { count_of tiling.now ≡ length work.old }
     requires tile { tile < length work.old }
     requires enough { room_for_edges tiling.now ≤ places told.old }
-    ensures hints { AreTold tiling.now (open_edges (record {
-      tiles = tiling.now;
-      conn = conn;
-      mask = value_at mask.now;
-      image = value_at image.old;
-      tile = tile;
-      generation = (slice_index_or work.old tile idle).generation;
-    })) (record { image = image.old; rows = work.old }) (record { image = image.new; rows = work.new }) }
+    ensures hints { AreTold tiling.now (open_edges (sender_by tiling.now conn (value_at mask.now) (value_at image.old)
+        tile (slice_index_or work.old tile idle).generation))
+        (record { image = image.old; rows = work.old }) (record { image = image.new; rows = work.new }) }
     ensures enough { places told.old ≤ places told.new }
 {
     edges_are_open();

@@ -6,7 +6,7 @@ ghost use Rattle.marker_tiles.specs.Kept.{IsMarkerOf, HasGrown};
 ghost use Rattle.border_queues.specs.OpenEdges.{IsOnTiling};
 ghost use Rattle.tile_generations.specs.Generations.{max_generation};
 ghost use Rattle.tile_work.specs.TileSet.{Has};
-ghost use Rattle.tile_resets.specs.Renewing.{row_at};
+ghost use Rattle.border_queues.specs.TileWork.{work_of};
 ghost use Rattle.reset_core.specs.MergeSteps.{IsImageRenewed};
 ghost use Rattle.core_rules.specs.declared.error.CoreError.{CoreError};
 ghost use Rattle.core_rules.specs.declared.error.CoreError.TheVariants as errors;
@@ -54,7 +54,7 @@ impl Core {
             self.marks.clear();
             return Err(CoreError::GenerationsSpent);
         }
-        match self.state.merge(alloc, delta) {
+        match self.state.join(alloc, delta) {
             Ok(change) => {
                 renew(
                     &mut self.marks,
@@ -76,7 +76,7 @@ impl Core {
     // Looks whether the delta's strokes fit the image and the core's strokes.
     //
     // Errors: C1, else C2.
-    fn check(&self, delta: &Delta) -> Result<(), CoreError>
+    pub(super) fn check(&self, delta: &Delta) -> Result<(), CoreError>
         ensures fits { OnOk result (StateFits self.now.mask.width self.now.mask.height delta.now) }
         ensures compatible { OnOk result (AreCompatible self.now.state delta.now) }
         ensures refused { IfErr result (IsRefused self.now delta.now) }
@@ -107,7 +107,7 @@ fn renew(
     requires image { IsOnTiling markers.old.tiling image.old }
     requires work { length work.old ≡ count_of markers.old.tiling }
     requires marks { length marks.old ≡ count_of markers.old.tiling }
-    requires unspent { (t : ℕ) → Has marks.old t → (row_at work.old t).generation < max_generation }
+    requires unspent { (t : ℕ) → Has marks.old t → (work_of work.old t).generation < max_generation }
     ensures mask { markers.new.mask ≡ markers.old.mask }
     ensures tiling { markers.new.tiling ≡ markers.old.tiling }
     ensures marker { IsMarkerOf markers.new.mask state.now markers.new.marker }

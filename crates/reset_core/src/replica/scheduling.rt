@@ -4,9 +4,11 @@ ghost use Rattle.std.specs.Prelude.{◌≡◌, ◌≢◌, ℕ, ◌+◌, ◌<◌,
 ghost use Rattle.tile_generations.specs.Jobs.{Swept as Result, IsSwept};
 ghost use Rattle.core_rules.specs.declared.error.CoreError.TheVariants as errors;
 ghost use Rattle.core_rules.specs.declared.step.Step.TheVariants as steps;
-ghost use Rattle.core_rules.specs.Schedule.{Progress, started, AreSteps, IsStopped, ran_of};
+ghost use Rattle.core_rules.specs.Merge.{IsAcceptable};
+ghost use Rattle.core_rules.specs.Sweeps.{IsReady};
+ghost use Rattle.core_rules.specs.Schedule.{Progress, started, AreSteps, IsStopped, IsCutOff, edits_of, ran_of};
 ghost use Rattle.core_rules.specs.Counting.{IsWithinWork};
-ghost use Rattle.reset_core.specs.Scheduling.{kept_of, LeadsOn};
+ghost use Rattle.reset_core.specs.Scheduling.{kept_of, LeadsOn, HasRoom, KeepsRoom};
 
 use super::Core;
 use core_rules::laws::schedule_is_within_work;
@@ -78,7 +80,9 @@ impl Core {
     /// start, one for each unit that the image lacked of the reconstruction in all at the start and does not lack at
     /// the end, and one for each job that was abandoned.
     ///
-    /// Errors: out of memory. The core is then as after the steps before, but serials may have been spent.
+    /// Errors: out of memory, where there was no place to list the edits, and then nothing has happened; or within an
+    /// edit whose delta would else be taken, the take of a tile that can be taken, or the return of a result that is
+    /// there. The core is then as after the steps before, but a take may have spent a serial.
     pub fn run_schedule(&mut self, alloc: Global, steps: &[Step]) -> Result<Ran, Memory>
         ensures ran { IfOk result (λ ran. (end : Progress) × AreSteps steps.now (started self.old) end
             × (ran ≡ ran_of end) × (self.new ≡ end.core)) }
@@ -88,16 +92,16 @@ impl Core {
     {
         self.soundness();
         schedule_is_within_work();
-        let mut tally = Tally::new(alloc);
+        let mut tally = Tally::new(alloc, count_edits(steps))?;
         for i in 0..steps.len() {
             self.run_step(alloc, &mut tally, i, &steps[i])?;
         }
         Ok(tally.into_ran())
     }
 
-    // Runs the step of this number.
+    // Runs the step of this number. An edit has its place in the lists.
     //
-    // Errors: out of memory, where no more than the serial has changed.
+    // Errors: out of memory within the step.
     fn run_step(
         &mut self,
         alloc: Global,
@@ -105,10 +109,12 @@ impl Core {
         number: usize,
         step: &Step,
     ) -> Result<(), Memory>
-        requires { tally.old.abandons < u64.MAX }
+        requires few { tally.old.abandons < u64.MAX }
+        requires room { HasRoom tally.old (edits_of (step.now ∷ [])) }
         ensures step { OnOk result (LeadsOn step.now number self.old (kept_of tally.old) self.new (kept_of tally.new)) }
         ensures few { tally.new.abandons ≤ tally.old.abandons + 1 }
-        ensures err { OnErr result (self.new ≡ record self.old { serial = self.new.serial }) }
+        ensures room { KeepsRoom (edits_of (step.now ∷ [])) tally.old tally.new }
+        ensures err { OnErr result (IsCutOff self.old tally.old.results.items step.now self.new) }
     {
         match step {
             Step::Edit(delta) => self.edit(alloc, tally, number, delta),
@@ -135,22 +141,26 @@ impl Core {
         number: usize,
         delta: &Delta,
     ) -> Result<(), Memory>
+        requires { HasRoom tally.old 1 }
         ensures step { OnOk result (LeadsOn (steps.Edit delta.now) number self.old (kept_of tally.old) self.new
             (kept_of tally.new)) }
         ensures abandons { tally.new.abandons ≡ tally.old.abandons }
+        ensures room { KeepsRoom 1 tally.old tally.new }
+        ensures memory { OnErr result (IsAcceptable self.old delta.now) }
         ensures err { OnErr result (self.new ≡ self.old) }
     {
-        tally.accepted.reserve(1)?;
         match self.merge(alloc, delta) {
-            Ok(_change) => tally.accepted.push_reserved(number),
-            Err(why) => tally.refuse(number, why)?,
+            Ok(_change) => {
+                tally.accept(number);
+                Ok(())
+            }
+            Err(why) => tally.refuse(number, why),
         }
-        Ok(())
     }
 
     // Takes a tile, sweeps its job, and keeps the result.
     //
-    // Errors: out of memory, where the core is as it was, but a serial may have been spent.
+    // Errors: out of memory, where the tile can be taken, and the core is as it was, but a serial may have been spent.
     fn take_and_sweep(
         &mut self,
         alloc: Global,
@@ -160,6 +170,8 @@ impl Core {
         ensures step { OnOk result ((n : ℕ)
             → LeadsOn (steps.Take tile) n self.old (kept_of tally.old) self.new (kept_of tally.new)) }
         ensures abandons { tally.new.abandons ≡ tally.old.abandons }
+        ensures room { KeepsRoom 0 tally.old tally.new }
+        ensures memory { OnErr result (IsReady self.old tile) }
         ensures err { OnErr result (self.new ≡ record self.old { serial = self.new.serial }) }
     {
         let Some(job) = self.take(alloc, tile)? else {
@@ -181,6 +193,7 @@ impl Core {
     fn give_back_copy(&mut self, alloc: Global, tally: &Tally, place: usize) -> Result<(), Memory>
         ensures step { OnOk result ((n : ℕ)
             → LeadsOn (steps.Return place) n self.old (kept_of tally.now) self.new (kept_of tally.now)) }
+        ensures memory { OnErr result (place < length tally.now.results.items) }
         ensures err { OnErr result (self.new ≡ self.old) }
     {
         let Some(swept) = tally.results.get(place) else {
@@ -200,6 +213,7 @@ impl Core {
         ensures step { (n : ℕ)
             → LeadsOn (steps.Abandon place) n self.old (kept_of tally.old) self.new (kept_of tally.new) }
         ensures few { tally.new.abandons ≤ tally.old.abandons + 1 }
+        ensures room { KeepsRoom 0 tally.old tally.new }
     {
         let Some(swept) = tally.results.get(place) else {
             return;
@@ -221,31 +235,50 @@ struct Tally {
 }
 
 impl Tally {
-    // What is kept at the start.
-    fn new(alloc: Global) -> Tally
-        ensures { kept_of result ≡ record { results = []; abandons = 0; accepted = []; refused = [] } }
+    // What is kept at the start, with a place in the lists for so many edits.
+    //
+    // Errors: out of memory, where there are some.
+    fn new(alloc: Global, edits: usize) -> Result<Tally, Memory>
+        ensures empty { IfOk result (λ tally.
+            kept_of tally ≡ record { results = []; abandons = 0; accepted = []; refused = [] }) }
+        ensures room { IfOk result (λ tally. HasRoom tally edits) }
+        ensures some { OnErr result (1 ≤ edits) }
     {
-        Tally {
+        Ok(Tally {
             results: Vec::new(alloc),
             abandons: 0,
-            accepted: Vec::new(alloc),
-            refused: Vec::new(alloc),
-        }
+            accepted: Vec::with_capacity(alloc, edits)?,
+            refused: Vec::with_capacity(alloc, edits)?,
+        })
     }
 
-    // Lists that the edit of this number is refused.
+    // Lists that the edit of this number is accepted, in its place.
+    fn accept(&mut self, number: usize)
+        requires { HasRoom self.old 1 }
+        ensures listed { kept_of self.new
+            ≡ record (kept_of self.old) { accepted = self.old.accepted.items ++ number ∷ [] } }
+        ensures abandons { self.new.abandons ≡ self.old.abandons }
+        ensures room { KeepsRoom 1 self.old self.new }
+    {
+        self.accepted.push_reserved(number);
+    }
+
+    // Lists that the edit of this number is refused, in its place.
     //
-    // Errors: out of memory, also as the reason.
+    // Errors: out of memory, as the reason.
     fn refuse(&mut self, number: usize, why: CoreError) -> Result<(), Memory>
+        requires { HasRoom self.old 1 }
         ensures listed { OnOk result (kept_of self.new
             ≡ record (kept_of self.old) { refused = self.old.refused.items ++ (number, why) ∷ [] }) }
         ensures reason { OnOk result (why ≢ errors.Memory) }
+        ensures memory { OnErr result (why ≡ errors.Memory) }
         ensures abandons { self.new.abandons ≡ self.old.abandons }
+        ensures room { KeepsRoom 1 self.old self.new }
     {
         match why {
             CoreError::Memory => Err(Memory),
             _ => {
-                self.refused.push((number, why))?;
+                self.refused.push_reserved((number, why));
                 Ok(())
             }
         }
@@ -258,6 +291,7 @@ impl Tally {
         ensures kept { OnOk result ((swept : Result) × IsSwept swept × (swept.job ≡ job) × (kept_of self.new
             ≡ record (kept_of self.old) { results = self.old.results.items ++ swept ∷ [] })) }
         ensures abandons { self.new.abandons ≡ self.old.abandons }
+        ensures room { KeepsRoom 0 self.old self.new }
     {
         match job.sweep(alloc) {
             Ok(swept) => {
@@ -290,4 +324,17 @@ impl Tally {
             refused,
         }
     }
+}
+
+// How many of the steps are edits.
+fn count_edits(steps: &[Step]) -> usize
+    ensures { result ≡ edits_of steps.now }
+{
+    let mut edits = 0;
+    for step in steps {
+        if let Step::Edit(_) = step {
+            edits += 1;
+        }
+    }
+    edits
 }

@@ -6,7 +6,7 @@ ghost use Rattle.border_queues.specs.Waiting.{places};
 ghost use Rattle.tile_generations.specs.declared.ticket.Ticket.{Ticket};
 ghost use Rattle.core_rules.specs.Work.{IsQuiet, tiling};
 ghost use Rattle.core_rules.specs.Sweeps.{IsAbandoned};
-ghost use Rattle.core_rules.specs.Runs.{Entry, IsRun, IsWorkedOff, IsSettled, IsCutShort, NoneOut, HasHints};
+ghost use Rattle.core_rules.specs.Runs.{Entry, IsRun, IsWorkedOff, IsSettled, IsCutShort, NoneOut, HasHints, IsDirty};
 ghost use Rattle.core_rules.specs.Runs.{jobs_of, abandons_of, abandoned, tickets_out};
 ghost use Rattle.core_rules.specs.Counting.{IsWithinWork, Owes, tiles_out};
 ghost use Rattle.reset_core.specs.Closing.{AreClosedInside};
@@ -33,13 +33,14 @@ pub struct Count {
 impl Core {
     /// Works until no work is left. The image is then the reconstruction of the mask from the marker of the strokes.
     ///
-    /// Each job that is out is abandoned. Then, again and again, each waiting hint is handed over, tile by tile, and the
-    /// first dirty tile is swept. A tile that was swept before is checked on its border alone.
+    /// Each job that is out is abandoned. Then, again and again, each waiting hint is handed over, tile by tile, and
+    /// the first dirty tile is swept. A tile that was swept before is checked on its border alone.
     ///
     /// No more tiles are swept than there is work: one for each tile that was dirty, one for each unit that the image
     /// lacked of the reconstruction in all, and one for each job that was abandoned.
     ///
-    /// Errors: out of memory. The core is then as the first of these steps have left it, and no job is out.
+    /// Errors: out of memory, where a tile has still to be swept. The core is then as the first of these steps have
+    /// left it, and no job is out. A core that is quiet takes no memory.
     pub fn settle(&mut self, alloc: Global) -> Result<Count, Memory>
         ensures settled { IfOk result (λ count. (log : List Entry) × IsSettled self.old log self.new
             × (count.jobs ≡ jobs_of log) × (count.abandons ≡ abandons_of log)) }
@@ -47,18 +48,14 @@ impl Core {
         ensures owes_nothing { IfOk result (λ count. Owes self.new 0) }
         ensures abandons { IfOk result (λ count. count.abandons ≡ tiles_out self.old) }
         ensures cut_short { OnErr result ((log : List Entry) × IsCutShort self.old log self.new) }
+        ensures some_work { OnErr result (IsQuiet self.old → ⊥) }
     {
         self.soundness();
         settling_is_within_work();
         one_job_out_a_tile();
         let abandons = self.abandon_all();
-        let tiling = self.tiling();
-        let mut room = Room::new(alloc, tiling.side() * tiling.side())?;
-        let mut told = Inbox::new(alloc);
-        told.reserve(room_for_edges(&tiling)).map_err(|_| Memory)?;
-        let mut swept = TileSet::empty(alloc, tiling.count())?;
         self.hand_all();
-        let jobs = self.work_all_off(&mut room, &mut told, &mut swept);
+        let jobs = self.sweep_all(alloc)?;
         Ok(Count { jobs, abandons })
     }
 
@@ -78,7 +75,8 @@ impl Core {
 
     // Abandons the first job that is out, and says whether there was one.
     fn abandon_first(&mut self) -> bool
-        ensures first { ((result ≡ true) × ((ticket : Ticket) × (tickets_out 0 self.old.tiles ≡ ticket ∷ tickets_out 0 self.new.tiles)
+        ensures first { ((result ≡ true) × ((ticket : Ticket)
+            × (tickets_out 0 self.old.tiles ≡ ticket ∷ tickets_out 0 self.new.tiles)
             × IsAbandoned self.old ticket true self.new))
             ⊎ ((result ≡ false) × (self.new ≡ self.old) × (tickets_out 0 self.old.tiles ≡ []) × NoneOut self.old) }
         ensures few { length (tickets_out 0 self.old.tiles) ≤ length self.old.tiles }
@@ -116,6 +114,29 @@ impl Core {
             }
             None => false,
         }
+    }
+
+    // Sweeps dirty tiles until none is left, and says how often. Where none is, it takes no memory.
+    //
+    // Errors: out of memory, where a tile is dirty, and the core is as it was.
+    fn sweep_all(&mut self, alloc: Global) -> Result<u64, Memory>
+        requires none_out { NoneOut self.old }
+        requires no_hints { (u : ℕ) → HasHints self.old u → ⊥ }
+        ensures works { IfOk result (λ jobs. (log : List Entry) × IsWorkedOff self.old log self.new
+            × (jobs_of log ≡ jobs)) }
+        ensures quiet { OnOk result (IsQuiet self.new) }
+        ensures dirty { OnErr result ((t : ℕ) × IsDirty self.old t) }
+        ensures err { OnErr result (self.new ≡ self.old) }
+    {
+        let Some(_first) = self.work.first_dirty() else {
+            return Ok(0);
+        };
+        let tiling = self.tiling();
+        let mut room = Room::new(alloc, tiling.side() * tiling.side())?;
+        let mut told = Inbox::new(alloc);
+        told.reserve(room_for_edges(&tiling)).map_err(|_| Memory)?;
+        let mut swept = TileSet::empty(alloc, tiling.count())?;
+        Ok(self.work_all_off(&mut room, &mut told, &mut swept))
     }
 
     // Sweeps the first dirty tile in place until none is dirty, and says how often. In the tiles of `swept` nothing is

@@ -4,11 +4,12 @@ ghost use Rattle.std.specs.Prelude.{◌≡◌, ◌+◌, ◌<◌, ◌≤◌, ◌�
 ghost use Rattle.grid_core.specs.declared.pixel.Pixel.{Pixel};
 ghost use Rattle.grid_core.specs.Raster.{IsInside, max_side, value_at};
 ghost use Rattle.grid_core.specs.Neighbours.{AreNeighbours};
-ghost use Rattle.grid_core.specs.Rects.{IsInRect};
+ghost use Rattle.grid_core.specs.Rects.{IsInRect, IsRowOf};
 ghost use Rattle.grid_core.specs.Tiles.{count_of};
 ghost use Rattle.border_queues.specs.OpenEdges.{IsOnTiling};
-ghost use Rattle.raster_sweeps.specs.RowPairs.{IsRowOf};
-ghost use Rattle.tile_resets.specs.Marks.{Adds, AreLinkedIn, IsLight, IsLightBeside, IsLinkedInto, IsNear, SomeIn};
+ghost use Rattle.tile_resets.specs.Marks.{Adds, AreMarks, EndsWithin, IsLight, IsLightBeside, IsLinkedInto};
+ghost use Rattle.tile_resets.specs.Marks.{IsNear, SomeIn};
+ghost use Rattle.core_rules.specs.Hits.{AreLinked};
 ghost use Rattle.tile_work.specs.TileSet.{Has};
 
 use crate::hits::marking::mark;
@@ -29,14 +30,14 @@ impl Links<'_> {
     /// itself is marked.
     pub(super) fn mark_linked(&self, marks: &mut TileSet, queue: &mut TileSet, tile: usize)
         requires on_tiling { IsOnTiling self.now.tiling self.now.image.now }
-        requires count { length marks.old ≡ count_of self.now.tiling }
-        requires queue { length queue.old ≡ length marks.old }
+        requires marks { AreMarks self.now.tiling marks.old queue.old }
         requires tile { Has marks.old tile }
-        ensures { Adds (AreLinkedIn self.now.tiling self.now.image.now self.now.conn tile)
+        ensures { Adds (AreLinked self.now.tiling self.now.image.now self.now.conn tile)
             marks.old queue.old marks.new queue.new }
     {
         each_pixel_in_one_tile();
         neighbours_lie_in_touching_tiles();
+        // For its clause alone: the tiling is one of an image.
         let _ = self.tiling.side();
         let touching = self.tiling.touching(tile);
         for other in touching.as_slice() {
@@ -47,11 +48,10 @@ impl Links<'_> {
     // Marks a tile if it is linked with the first one.
     fn mark_if_linked(&self, marks: &mut TileSet, queue: &mut TileSet, tile: usize, other: usize)
         requires on_tiling { IsOnTiling self.now.tiling self.now.image.now }
-        requires count { length marks.old ≡ count_of self.now.tiling }
-        requires queue { length queue.old ≡ length marks.old }
+        requires marks { AreMarks self.now.tiling marks.old queue.old }
         requires tile { tile < count_of self.now.tiling }
         requires other { other < count_of self.now.tiling }
-        ensures { Adds (λ t. (t ≡ other) × AreLinkedIn self.now.tiling self.now.image.now self.now.conn tile t)
+        ensures { Adds (λ t. (t ≡ other) × AreLinked self.now.tiling self.now.image.now self.now.conn tile t)
             marks.old queue.old marks.new queue.new }
     {
         if !marks.contains(other) && self.are_linked(tile, other) {
@@ -64,21 +64,21 @@ impl Links<'_> {
         requires on_tiling { IsOnTiling self.now.tiling self.now.image.now }
         requires tile { tile < count_of self.now.tiling }
         requires other { other < count_of self.now.tiling }
-        ensures { IsTrue result ↔ AreLinkedIn self.now.tiling self.now.image.now self.now.conn tile other }
+        ensures { IsTrue result ↔ AreLinked self.now.tiling self.now.image.now self.now.conn tile other }
     {
         each_pixel_in_one_tile();
+        // For its clause alone: the tiling is one of an image.
         let _ = self.tiling.side();
         self.are_rects_linked(self.tiling.rect(tile), self.tiling.rect(other))
     }
 
     // Whether the image is above 0 at a pixel of one rectangle and at a neighbour of it in the other.
     fn are_rects_linked(&self, rect: Rect, other: Rect) -> bool
-        requires columns { rect.x + rect.w ≤ self.now.image.now.width }
-        requires rows { rect.y + rect.h ≤ self.now.image.now.height }
-        requires other_columns { other.x + other.w ≤ self.now.image.now.width }
-        requires other_rows { other.y + other.h ≤ self.now.image.now.height }
+        requires rect { EndsWithin self.now.image.now.width self.now.image.now.height rect }
+        requires other { EndsWithin self.now.image.now.width self.now.image.now.height other }
         ensures { IsTrue result ↔ SomeIn rect (IsLinkedInto self.now.image.now self.now.conn other) }
     {
+        // For its clauses alone: the sides of an image are bounded.
         let _ = self.image.width();
         let opposite = part_near(other, rect);
         if !self.is_light(opposite) {
@@ -95,10 +95,10 @@ impl Links<'_> {
 
     // Whether the image is above 0 at some pixel of the rectangle.
     fn is_light(&self, rect: Rect) -> bool
-        requires columns { rect.x + rect.w ≤ self.now.image.now.width }
-        requires rows { rect.y + rect.h ≤ self.now.image.now.height }
+        requires { EndsWithin self.now.image.now.width self.now.image.now.height rect }
         ensures { IsTrue result ↔ SomeIn rect (IsLight self.now.image.now) }
     {
+        // For its clauses alone: the sides of an image are bounded.
         let _ = self.image.width();
         for i in 0..rect.h {
             if self.is_row_light(rect.x, rect.y + i, rect.w) {
@@ -139,11 +139,11 @@ impl Links<'_> {
     fn is_row_linked(&self, x: u32, y: u32, w: u32, other: Rect) -> bool
         requires column { x + w ≤ self.now.image.now.width }
         requires row { y < self.now.image.now.height }
-        requires other_columns { other.x + other.w ≤ self.now.image.now.width }
-        requires other_rows { other.y + other.h ≤ self.now.image.now.height }
+        requires other { EndsWithin self.now.image.now.width self.now.image.now.height other }
         ensures { IsTrue result ↔ SomeIn (record { x = x; y = y; w = w; h = 1 })
             (IsLinkedInto self.now.image.now self.now.conn other) }
     {
+        // For its clauses alone: the sides of an image are bounded.
         let _ = self.image.width();
         for i in 0..w {
             let p = Pixel { x: x + i, y };
@@ -157,10 +157,10 @@ impl Links<'_> {
     // Whether the image is above 0 at a neighbour of the pixel in the rectangle.
     fn is_light_beside(&self, p: Pixel, rect: Rect) -> bool
         requires inside { IsInside self.now.image.now.width self.now.image.now.height p }
-        requires columns { rect.x + rect.w ≤ self.now.image.now.width }
-        requires rows { rect.y + rect.h ≤ self.now.image.now.height }
+        requires rect { EndsWithin self.now.image.now.width self.now.image.now.height rect }
         ensures { IsTrue result ↔ SomeIn rect (IsLightBeside self.now.image.now self.now.conn p) }
     {
+        // For its clauses alone: the sides of an image are bounded.
         let _ = self.image.width();
         let at = Rect {
             x: p.x,
@@ -186,6 +186,7 @@ impl Links<'_> {
         ensures { IsTrue result ↔ SomeIn (record { x = x; y = y; w = w; h = 1 })
             (IsLightBeside self.now.image.now self.now.conn p) }
     {
+        // For its clauses alone: the sides of an image are bounded.
         let _ = self.image.width();
         for i in 0..w {
             let q = Pixel { x: x + i, y };
@@ -213,10 +214,8 @@ fn are_neighbours(conn: Conn, p: Pixel, q: Pixel) -> bool
 
 // The pixels of a rectangle that are at most 1 from another.
 fn part_near(rect: Rect, other: Rect) -> Rect
-    requires columns { rect.x + rect.w ≤ max_side }
-    requires rows { rect.y + rect.h ≤ max_side }
-    requires other_columns { other.x + other.w ≤ max_side }
-    requires other_rows { other.y + other.h ≤ max_side }
+    requires rect { EndsWithin max_side max_side rect }
+    requires other { EndsWithin max_side max_side other }
     ensures pixels { (p : Pixel) → IsInRect result p ↔ (IsInRect rect p × IsNear other p) }
     ensures columns { result.x + result.w ≤ rect.x + rect.w }
     ensures rows { result.y + result.h ≤ rect.y + rect.h }

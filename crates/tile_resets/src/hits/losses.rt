@@ -4,7 +4,8 @@ ghost use Rattle.std.specs.Prelude.{◌≡◌, length, IsTrue};
 ghost use Rattle.grid_core.specs.Tiles.{count_of};
 ghost use Rattle.stroke_core.specs.Seed.{covers};
 ghost use Rattle.stroke_core.specs.Spans.{span_has};
-ghost use Rattle.tile_resets.specs.Marks.{Adds, HoldsOne, IsLost, IsLostAt};
+ghost use Rattle.tile_resets.specs.Marks.{Adds, AreMarks, IsLost, IsLostAt};
+ghost use Rattle.core_rules.specs.Hits.{HoldsOne};
 
 use crate::hits::marking::mark;
 use grid_core::laws::each_pixel_in_one_tile;
@@ -21,8 +22,7 @@ pub(super) fn mark_losses(
     state: &State,
     delta: &Delta,
 )
-    requires count { length marks.old ≡ count_of tiling.now }
-    requires queue { length queue.old ≡ length marks.old }
+    requires { AreMarks tiling.now marks.old queue.old }
     ensures { Adds (HoldsOne tiling.now (IsLost state.now delta.now)) marks.old queue.old marks.new queue.new }
 {
     for tag in delta.tombstones() {
@@ -32,8 +32,7 @@ pub(super) fn mark_losses(
 
 // Marks each tile with a pixel that the stroke of the tag covers, if it is live.
 fn mark_lost(marks: &mut TileSet, queue: &mut TileSet, tiling: &Tiling, state: &State, tag: Tag)
-    requires count { length marks.old ≡ count_of tiling.now }
-    requires queue { length queue.old ≡ length marks.old }
+    requires { AreMarks tiling.now marks.old queue.old }
     ensures { Adds (HoldsOne tiling.now (IsLostAt state.now tag)) marks.old queue.old marks.new queue.new }
 {
     if state.has_tombstone(tag) {
@@ -46,8 +45,7 @@ fn mark_lost(marks: &mut TileSet, queue: &mut TileSet, tiling: &Tiling, state: &
 
 // Marks each tile with a pixel that the stroke covers.
 fn mark_stroke(marks: &mut TileSet, queue: &mut TileSet, tiling: &Tiling, stroke: &Stroke)
-    requires count { length marks.old ≡ count_of tiling.now }
-    requires queue { length queue.old ≡ length marks.old }
+    requires { AreMarks tiling.now marks.old queue.old }
     ensures { Adds (HoldsOne tiling.now (λ p. IsTrue (covers stroke.now p))) marks.old queue.old marks.new queue.new }
 {
     spans_cover();
@@ -58,8 +56,7 @@ fn mark_stroke(marks: &mut TileSet, queue: &mut TileSet, tiling: &Tiling, stroke
 
 // Marks each tile with a pixel of the span.
 fn mark_span(marks: &mut TileSet, queue: &mut TileSet, tiling: &Tiling, span: Span)
-    requires count { length marks.old ≡ count_of tiling.now }
-    requires queue { length queue.old ≡ length marks.old }
+    requires { AreMarks tiling.now marks.old queue.old }
     ensures { Adds (HoldsOne tiling.now (λ p. IsTrue (span_has span p))) marks.old queue.old marks.new queue.new }
 {
     each_pixel_in_one_tile();

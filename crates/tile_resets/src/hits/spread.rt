@@ -3,7 +3,8 @@
 ghost use Rattle.std.specs.Prelude.{◌≡◌, ◌↔◌, ℕ, length};
 ghost use Rattle.grid_core.specs.Tiles.{count_of};
 ghost use Rattle.border_queues.specs.OpenEdges.{IsOnTiling};
-ghost use Rattle.tile_resets.specs.Marks.{AreLinkedIn, IsReached};
+ghost use Rattle.core_rules.specs.Hits.{AreLinked, IsReached};
+ghost use Rattle.tile_resets.specs.Marks.{AreMarks};
 ghost use Rattle.tile_work.specs.TileSet.{Has};
 
 use crate::hits::links::Links;
@@ -12,11 +13,10 @@ use tile_work::TileSet;
 /// Marks the tiles to which links lead from the marked ones, which wait in the queue. The queue is empty then.
 pub(super) fn spread(links: &Links, marks: &mut TileSet, queue: &mut TileSet)
     requires on_tiling { IsOnTiling links.now.tiling links.now.image.now }
-    requires count { length marks.old ≡ count_of links.now.tiling }
-    requires queue { length queue.old ≡ length marks.old }
+    requires marks { AreMarks links.now.tiling marks.old queue.old }
     requires waiting { (t : ℕ) → Has queue.old t ↔ Has marks.old t }
     ensures marks { (t : ℕ) → Has marks.new t
-        ↔ IsReached (Has marks.old) (AreLinkedIn links.now.tiling links.now.image.now links.now.conn) t }
+        ↔ IsReached (Has marks.old) (AreLinked links.now.tiling links.now.image.now links.now.conn) t }
     ensures count { length marks.new ≡ length marks.old }
     ensures queue_count { length queue.new ≡ length queue.old }
     ensures none { (t : ℕ) → Has queue.new t → ⊥ }

@@ -7,8 +7,9 @@ ghost use Rattle.stroke_core.specs.Spans.{span_has};
 ghost use Rattle.stroke_lattice.specs.State.{StateFits};
 ghost use Rattle.border_queues.specs.OpenEdges.{IsOnTiling};
 ghost use Rattle.core_rules.specs.Image.{IsOfSize};
-ghost use Rattle.tile_resets.specs.Renewing.{IsRaisedWhere, IsRaisedUnder, IsDirtyIf};
-ghost use Rattle.tile_resets.specs.Renewing.{HasRisenIn, row_at};
+ghost use Rattle.tile_resets.specs.Renewing.{AreAtHand, IsRaisedWhere, IsRaisedUnder, IsDirtyIf};
+ghost use Rattle.core_rules.specs.Merge.{HasRisen};
+ghost use Rattle.border_queues.specs.TileWork.{work_of};
 
 use crate::renewing::cells::raise_span;
 use grid_core::{Grid, Pixel, Tiling};
@@ -36,7 +37,7 @@ pub fn raise_to_marker(
     ensures count { length work.new ≡ length work.old }
     ensures values { IsRaisedUnder state.now tags.now marker.now image.old image.new }
     ensures work { (t : ℕ) → t < length work.old
-        → IsDirtyIf (HasRisenIn tiling.now t image.old image.new) (row_at work.old t) (row_at work.new t) }
+        → IsDirtyIf (HasRisen tiling.now t image.old image.new) (work_of work.old t) (work_of work.new t) }
 {
     prove!(image.width() == marker.width());
     for tag in tags {
@@ -54,9 +55,7 @@ fn raise_stroke(
     work: &mut WorkTable,
     stroke: &Stroke,
 )
-    requires size { IsOfSize marker.now image.old }
-    requires marker { IsOnTiling tiling.now marker.now }
-    requires count { length work.old ≡ count_of tiling.now }
+    requires { AreAtHand tiling.now marker.now image.old work.old }
     ensures { IsRaisedWhere tiling.now (covers stroke.now) marker.now image.old image.new work.old work.new }
 {
     spans_cover();
@@ -67,9 +66,7 @@ fn raise_stroke(
 
 // Raises the image where it has pixels of a span.
 fn raise_clipped(image: &mut Grid, marker: &Grid, tiling: &Tiling, work: &mut WorkTable, span: Span)
-    requires size { IsOfSize marker.now image.old }
-    requires marker { IsOnTiling tiling.now marker.now }
-    requires count { length work.old ≡ count_of tiling.now }
+    requires { AreAtHand tiling.now marker.now image.old work.old }
     ensures { IsRaisedWhere tiling.now (span_has span) marker.now image.old image.new work.old work.new }
 {
     if span.y < tiling.height() {
@@ -83,9 +80,7 @@ fn raise_clipped(image: &mut Grid, marker: &Grid, tiling: &Tiling, work: &mut Wo
 
 // Raises the image on a span, which lies in it, in pieces of one tile.
 fn raise_across(image: &mut Grid, marker: &Grid, tiling: &Tiling, work: &mut WorkTable, span: Span)
-    requires size { IsOfSize marker.now image.old }
-    requires marker { IsOnTiling tiling.now marker.now }
-    requires count { length work.old ≡ count_of tiling.now }
+    requires at_hand { AreAtHand tiling.now marker.now image.old work.old }
     requires row { span.y < tiling.now.height }
     requires columns { span.end ≤ tiling.now.width }
     ensures { IsRaisedWhere tiling.now (span_has span) marker.now image.old image.new work.old work.new }
@@ -106,9 +101,7 @@ fn raise_across(image: &mut Grid, marker: &Grid, tiling: &Tiling, work: &mut Wor
 
 // Raises the image on a span that lies in one tile.
 fn raise_piece(image: &mut Grid, marker: &Grid, tiling: &Tiling, work: &mut WorkTable, piece: Span)
-    requires size { IsOfSize marker.now image.old }
-    requires marker { IsOnTiling tiling.now marker.now }
-    requires count { length work.old ≡ count_of tiling.now }
+    requires at_hand { AreAtHand tiling.now marker.now image.old work.old }
     requires row { piece.y < tiling.now.height }
     requires side { 0 < tiling.now.side }
     requires some { piece.first < piece.end }

@@ -7,7 +7,8 @@ ghost use Rattle.border_queues.specs.OpenEdges.{IsOnTiling};
 ghost use Rattle.tile_generations.specs.Generations.{max_generation};
 ghost use Rattle.core_rules.specs.Image.{IsOfSize};
 ghost use Rattle.tile_work.specs.TileSet.{Has};
-ghost use Rattle.tile_resets.specs.Renewing.{AreReset, IsOneReset, AreDirtyWhere, IsCopiedIn, row_at};
+ghost use Rattle.tile_resets.specs.Renewing.{AreAtHand, AreReset, IsOneReset, AreDirtyWhere, IsCopiedIn};
+ghost use Rattle.border_queues.specs.TileWork.{work_of};
 
 use crate::renewing::cells::copy_cells;
 use grid_core::laws::each_pixel_in_one_tile;
@@ -29,7 +30,7 @@ pub fn reset_marked(
     requires marker { IsOnTiling tiling.now marker.now }
     requires count { length work.old ≡ count_of tiling.now }
     requires marks { length marks.old ≡ count_of tiling.now }
-    requires unspent { (t : ℕ) → Has marks.old t → (row_at work.old t).generation < max_generation }
+    requires unspent { (t : ℕ) → Has marks.old t → (work_of work.old t).generation < max_generation }
     ensures marks { marks.new ≡ replicate (length marks.old) false }
     ensures size { IsOfSize image.old image.new }
     ensures count { length work.new ≡ length work.old }
@@ -47,12 +48,10 @@ pub fn reset_marked(
 
 // Resets one tile. Each tile that touches it is dirty.
 fn reset_tile(image: &mut Grid, marker: &Grid, tiling: &Tiling, work: &mut WorkTable, tile: usize)
-    requires size { IsOfSize marker.now image.old }
-    requires marker { IsOnTiling tiling.now marker.now }
+    requires at_hand { AreAtHand tiling.now marker.now image.old work.old }
     requires tiled { IsTiled tiling.now }
-    requires count { length work.old ≡ count_of tiling.now }
     requires tile { tile < count_of tiling.now }
-    requires unspent { (row_at work.old tile).generation < max_generation }
+    requires unspent { (work_of work.old tile).generation < max_generation }
     ensures { IsOneReset tiling.now marker.now image.old image.new work.old work.new tile }
 {
     each_pixel_in_one_tile();

@@ -3,8 +3,8 @@
 ghost use Rattle.std.specs.Prelude.{◌≡◌, ◌+◌, ◌<◌, ◌≤◌, ◌^◌, ℕ, [], ◌∷◌, true, length, slice_index, slice_set};
 ghost use Rattle.std.specs.Prelude.{◌==◌, All, OnOk, IsOk, if◌then◌else◌};
 ghost use Rattle.grid_core.specs.Tiles.{count_of};
-ghost use Rattle.core_rules.specs.Sweeps.{received};
-ghost use Rattle.tile_work.specs.WorkTable.{work_of, works_of, rooms_of, waiting_bits, hints_at, IsToInside};
+ghost use Rattle.border_queues.specs.TileWork.{received, work_of, hints_at};
+ghost use Rattle.tile_work.specs.WorkTable.{works_of, rooms_of, waiting_bits, IsToInside};
 ghost use Rattle.tile_work.specs.WorkTable.{AreReceived};
 
 use super::row::TileRow;

@@ -2,7 +2,7 @@
 
 ghost use Rattle.std.specs.Prelude.{◌≡◌, ◌+◌, ◌<◌, ◌≤◌, ◌↔◌, ℕ, [], ◌∷◌, ◌++◌, length, remove, replicate, slice_get};
 ghost use Rattle.std.specs.Prelude.{IfOk, OnOk, OnErr, IsTrue, IsOk};
-ghost use Rattle.core_rules.specs.Opening.{fresh};
+ghost use Rattle.border_queues.specs.TileWork.{fresh};
 ghost use Rattle.tile_work.specs.WorkTable.{as_work, works_of};
 
 use border_queues::{Hint, Inbox};

@@ -1,3 +1,4 @@
+-- The law `quiet_owes_nothing`, by its lemma.
 use Rattle.core_rules.proofs.Counting.{quiet_owes_nothing}
 use Rattle.core_rules.proofs.laws.quiet_owes_nothing.Goals as goal
 

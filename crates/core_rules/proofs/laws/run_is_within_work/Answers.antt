@@ -1,3 +1,4 @@
+-- The law `run_is_within_work`, by its lemma.
 use Rattle.core_rules.proofs.Counting.{run_is_within_work}
 use Rattle.core_rules.proofs.laws.run_is_within_work.Goals as goal
 

@@ -1,3 +1,4 @@
+-- The law `schedule_is_within_work`, by its lemma.
 use Rattle.core_rules.proofs.Counting.{schedule_is_within_work}
 use Rattle.core_rules.proofs.laws.schedule_is_within_work.Goals as goal
 

@@ -1,3 +1,4 @@
+-- The law `schedule_joins`, by its lemma.
 use Rattle.core_rules.proofs.Schedules.{schedule_joins}
 use Rattle.core_rules.proofs.laws.schedule_joins.Goals as goal
 

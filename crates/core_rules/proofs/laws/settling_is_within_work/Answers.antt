@@ -1,3 +1,4 @@
+-- The law `settling_is_within_work`, by its lemma.
 use Rattle.core_rules.proofs.Counting.{settled_is_within_work}
 use Rattle.core_rules.proofs.laws.settling_is_within_work.Goals as goal
 

@@ -1,3 +1,4 @@
+-- What the tactics leave open of `cut`.
 use Rattle.grid_core.specs.Raster.{value_at}
 use Rattle.grid_core.specs.Rects.{part}
 use Rattle.reset_core.proofs.SweepingRows.{rows_more}

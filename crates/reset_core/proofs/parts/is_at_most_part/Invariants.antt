@@ -1,3 +1,4 @@
+-- What the loop of `is_at_most_part` keeps.
 use Rattle.std.proofs.Common.{◌≤◌}
 use Rattle.grid_core.specs.Raster.{value_at}
 use Rattle.grid_core.specs.Rects.{part}

@@ -1,3 +1,4 @@
+-- What the tactics leave open of `is_part`.
 use Rattle.std.proofs.Common.{◌≡◌, refl, subst, arith}
 use Rattle.std.proofs.lemmas.Bool.{false≢true}
 use Rattle.grid_core.specs.Raster.{value_at}

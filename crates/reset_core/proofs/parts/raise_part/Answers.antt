@@ -1,3 +1,4 @@
+-- What the tactics leave open of `raise_part`.
 use Rattle.std.proofs.Common.{◌≡◌, ◌+◌, ◌*◌, subst, sym, ap, ◌∙◌}
 use Rattle.grid_core.specs.Raster.{value_at}
 use Rattle.reset_core.specs.Parts.{IsRow}

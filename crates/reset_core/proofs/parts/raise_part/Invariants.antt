@@ -1,3 +1,4 @@
+-- What the loop of `raise_part` keeps.
 use Rattle.core_rules.specs.Image.{IsJoinedWith}
 use Rattle.reset_core.proofs.parts.raise_part.Given as goal
 

@@ -1,7 +1,8 @@
+-- What the loop of `is_one_spent` keeps.
 use Rattle.std.proofs.Common.{◌≡◌, ℕ, ◌+◌, ◌-◌, ◌<◌, length}
 use Rattle.std.specs.Prelude.{slice_index_or}
 use Rattle.tile_generations.specs.Generations.{max_generation}
-use Rattle.core_rules.specs.Work.{idle}
+use Rattle.border_queues.specs.TileWork.{idle}
 use Rattle.tile_work.specs.TileSet.{Has}
 use Rattle.tile_resets.proofs.hits.is_one_spent.Given as goal
 

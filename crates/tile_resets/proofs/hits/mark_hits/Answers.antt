@@ -1,17 +1,16 @@
+-- What the tactics leave open of `mark_hits`.
 use Rattle.std.proofs.Common.{false, sym, ◌∙◌, length}
 use Rattle.std.proofs.lemmas.List.{length-replicate}
 use Rattle.grid_core.specs.Tiles.{count_of}
 use Rattle.tile_resets.proofs.HittingMarks.{none_is_replicate}
-use Rattle.tile_resets.proofs.HittingCores.{marks_are_hits, reached_is_hit}
+use Rattle.tile_resets.proofs.HittingCores.{reached_is_hit}
 use Rattle.tile_resets.proofs.hits.mark_hits.Goals as goal
 
 pub returns-clause-marks : goal.returns-clause-marks
-returns-clause-marks c = λ core is.
-    marks_are_hits core c.args.tiling.now c.args.image.now c.args.conn c.args.state.now c.args.delta.now
-    c.spread.new.marks is
-    (reached_is_hit c.args.tiling.now c.args.image.now c.args.conn c.args.state.now c.args.delta.now
+returns-clause-marks c =
+    reached_is_hit c.args.tiling.now c.args.image.now c.args.conn c.args.state.now c.args.delta.now
     (count_of c.args.tiling.now) c.args.marks.now c.args.queue.now c.mark_losses.new.marks c.mark_losses.new.queue
-    c.spread.new.marks c.requires.marks c.mark_losses.ensures c.spread.ensures.marks)
+    c.spread.new.marks c.requires.marks c.mark_losses.ensures c.spread.ensures.marks
 
 pub returns-clause-queue : goal.returns-clause-queue
 returns-clause-queue c =

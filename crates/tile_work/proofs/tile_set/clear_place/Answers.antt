@@ -1,3 +1,4 @@
+-- What the tactics leave open of `clear_place`.
 use Rattle.tile_work.proofs.TileSetWords.{IsWritten-clear}
 use Rattle.tile_work.proofs.tile_set.clear_place.Goals as goal
 

@@ -1,3 +1,4 @@
+-- What the loop of `clear_words` keeps.
 use Rattle.std.proofs.Common.{◌≡◌, ℕ, ◌*◌, ◌-◌, ◌/◌, ◌≤◌, length}
 use Rattle.tile_work.specs.TileSet.{bit_of}
 use Rattle.tile_work.proofs.tile_set.clear_words.Given as goal

@@ -1,3 +1,4 @@
+-- What the tactics leave open of `lowest_bit`.
 use Rattle.tile_work.proofs.TileSetWords.{none_in_word, lowest_in_word, lowest_within}
 use Rattle.tile_work.proofs.tile_set.lowest_bit.Goals as goal
 

@@ -1,3 +1,4 @@
+-- What the tactics leave open of `lowest_place`.
 use Rattle.std.proofs.Common.{arith}
 use Rattle.tile_work.proofs.TileSetWords.{lowest_in_later}
 use Rattle.tile_work.proofs.tile_set.lowest_place.Goals as goal

@@ -1,3 +1,4 @@
+-- What the loop of `lowest_place` keeps.
 use Rattle.std.proofs.Common.{◌≡◌, ℕ, ◌/◌, ◌<◌, ◌≤◌}
 use Rattle.tile_work.specs.TileSet.{bit_of}
 use Rattle.tile_work.proofs.tile_set.lowest_place.Given as goal

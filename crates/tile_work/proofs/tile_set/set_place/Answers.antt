@@ -1,3 +1,4 @@
+-- What the tactics leave open of `set_place`.
 use Rattle.tile_work.proofs.TileSetWords.{IsWritten-set}
 use Rattle.tile_work.proofs.tile_set.set_place.Goals as goal
 

@@ -9,13 +9,15 @@ pub returns-clause-mask : goal.returns-clause-mask
 returns-clause-mask c =
     let r = c.args.replica in
     let within = subst (λ (w : World). IsReplica w r) (sym c.self.view_is) c.requires in
-    subst (λ (w : World). (core_at w r).mask ≡ w.mask) c.self.view_is (c.self.invariant.one_mask r nobody within).mask_is
+    subst (λ (w : World). (core_at w r).mask ≡ w.mask) c.self.view_is
+    (c.self.invariant.one_mask r nobody within).mask_is
 
 pub returns-clause-conn : goal.returns-clause-conn
 returns-clause-conn c =
     let r = c.args.replica in
     let within = subst (λ (w : World). IsReplica w r) (sym c.self.view_is) c.requires in
-    subst (λ (w : World). (core_at w r).conn ≡ w.conn) c.self.view_is (c.self.invariant.one_mask r nobody within).conn_is
+    subst (λ (w : World). (core_at w r).conn ≡ w.conn) c.self.view_is
+    (c.self.invariant.one_mask r nobody within).conn_is
 
 pub returns-clause-lawful : goal.returns-clause-lawful
 returns-clause-lawful c =

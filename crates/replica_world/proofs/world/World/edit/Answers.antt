@@ -1,7 +1,7 @@
 use Rattle.std.proofs.Common.{◌≡◌, ◌⊎◌, ◌<◌, set, length, sym, subst, arith}
 use Rattle.core_rules.specs.declared.error.CoreError.TheVariants as core_errors
 use Rattle.core_rules.specs.Events.{Merge, OfMerge}
-use Rattle.core_rules.specs.Merge.{IsRefused}
+use Rattle.core_rules.specs.Merge.{IsRefused, IsAcceptable}
 use Rattle.replica_world.specs.declared.error.WorldError.TheVariants as errors
 use Rattle.replica_world.specs.declared.event.Event.TheVariants as events
 use Rattle.replica_world.specs.World.{World, Replica}
@@ -28,7 +28,8 @@ returns-in_err-take_in-clause-refused c =
     is_old held.conn held.print rs held.packets.items c.args.replica old within
     c.index_mut.ensures.value c.self.invariant in
     let refused =
-    subst (λ (replica : Replica). IsRefused replica.core c.args.delta.now why ⊎ (why ≡ core_errors.Memory)) (sym there)
+    subst (λ (replica : Replica). IsRefused replica.core c.args.delta.now why
+    ⊎ ((why ≡ core_errors.Memory) × IsAcceptable replica.core c.args.delta.now)) (sym there)
     c.in_err-take_in.ensures.refused in
     err_is _ c.from_residual.result (errors.Core why) c.from_residual.ensures.1
     (subst (λ (w : World). IsRefusal w (events.Edit c.args.replica c.args.delta.now) (errors.Core why)

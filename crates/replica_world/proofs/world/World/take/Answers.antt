@@ -83,6 +83,6 @@ returns-clause-done c =
       within,
       tile,
       taken_and_swept held.conn held.print rs held.packets.items c.args.replica c.index_mut.result.now within
-          c.index_mut.ensures.value c.self.invariant c.take.new.self held.results.items c.take.new.results.items held.steps
-          c.args.tile taken.0 taken.1 taken.2 taken.3 taken.4 done.took,
+          c.index_mut.ensures.value c.self.invariant c.take.new.self held.results.items c.take.new.results.items
+          held.steps c.args.tile taken.0 taken.1 taken.2 taken.3 taken.4 done.took,
     )

@@ -1,3 +1,4 @@
+-- What the tactics leave open of `check`.
 use Rattle.std.proofs.Common.{◌≡◌, ◌∙◌, ap, subst}
 use Rattle.grid_core.specs.Tiles.{Tiles}
 use Rattle.stroke_lattice.specs.State.{StateFits, AreCompatible, IsLeastOutside, IsLeastClash}

@@ -1,25 +1,19 @@
-use Rattle.std.proofs.Common.{◌≡◌, ◌<◌, ◌≤◌, true, false, List, refl, sym, ◌∙◌, ap, subst, IsTrue, slice_index_or, slice_set}
+-- What the tactics leave open of `hand`.
+use Rattle.std.proofs.Common.{◌≡◌, ◌<◌, ◌≤◌, true, false, List, refl, sym, ◌∙◌, ap, subst, IsTrue, slice_index_or}
+use Rattle.std.proofs.Common.{slice_set}
 use Rattle.grid_core.specs.Raster.{Raster, with_value}
 use Rattle.core_rules.specs.declared.answers.Handed.TheVariants.{Raised, Same, Stale}
-use Rattle.core_rules.specs.Work.{TileWork, idle, image_at, work_at, with_work}
+use Rattle.core_rules.specs.Work.{image_at, work_at, with_work}
+use Rattle.border_queues.specs.TileWork.{TileWork, idle}
 use Rattle.core_rules.specs.Hints.{IsPresent, IsHanded, without_hint, raised}
-use Rattle.reset_core.specs.Replica.{Parts, core_of, IsStored}
+use Rattle.reset_core.specs.Replica.{core_of, IsStored}
 use Rattle.reset_core.proofs.Storing.{goes_inside, goes_to_tile, lost_is_stored, raised_is_stored}
 use Rattle.reset_core.proofs.replica.Core.hand.Goals as goal
 
 -- src/replica/handing.rt:27:13
 pub invariant_of-self : goal.invariant_of-self
 invariant_of-self c =
-    let parts : Parts = record {
-      conn = c.self.inside.conn;
-      state = c.self.inside.state;
-      kept = c.self.inside.markers;
-      image = c.self.inside.image;
-      work = c.self.inside.work;
-      serial = c.self.inside.serial;
-      marks = c.self.inside.marks;
-      queue = c.self.inside.queue;
-    } in
+    let parts = c.self.inside in
     let there = sym c.hint.ensures ∙ c.in-Some.is in
     let absent : IsPresent (core_of parts) c.in-Some.hint → ⊥ =
     subst (λ core. IsPresent core c.in-Some.hint → ⊥) (sym c.self.view_is)
@@ -31,32 +25,14 @@ invariant_of-self c =
 -- src/replica/handing.rt:29:12
 pub get-requires : goal.get-requires
 get-requires c =
-    let parts : Parts = record {
-      conn = c.self.inside.conn;
-      state = c.self.inside.state;
-      kept = c.self.inside.markers;
-      image = c.self.inside.image;
-      work = c.self.inside.work;
-      serial = c.self.inside.serial;
-      marks = c.self.inside.marks;
-      queue = c.self.inside.queue;
-    } in
+    let parts = c.self.inside in
     let there = sym c.hint.ensures ∙ c.in-Some.is in
     goes_inside parts c.self.invariant c.args.tile c.args.i c.in-Some.hint there
 
 -- src/replica/handing.rt:30:13
 pub invariant_of-self-then-get-hint : goal.invariant_of-self-then-get-hint
 invariant_of-self-then-get-hint c =
-    let parts : Parts = record {
-      conn = c.self.inside.conn;
-      state = c.self.inside.state;
-      kept = c.self.inside.markers;
-      image = c.self.inside.image;
-      work = c.self.inside.work;
-      serial = c.self.inside.serial;
-      marks = c.self.inside.marks;
-      queue = c.self.inside.queue;
-    } in
+    let parts = c.self.inside in
     let there = sym c.hint.ensures ∙ c.in-Some.is in
     let present : IsPresent (core_of parts) c.in-Some.hint =
     subst (λ core. IsPresent core c.in-Some.hint) (sym c.self.view_is) (c.if-not-present.ensures.0 refl) in
@@ -69,39 +45,22 @@ invariant_of-self-then-get-hint c =
 -- src/replica/handing.rt:32:9
 pub set-requires : goal.set-requires
 set-requires c =
-    let parts : Parts = record {
-      conn = c.self.inside.conn;
-      state = c.self.inside.state;
-      kept = c.self.inside.markers;
-      image = c.self.inside.image;
-      work = c.self.inside.work;
-      serial = c.self.inside.serial;
-      marks = c.self.inside.marks;
-      queue = c.self.inside.queue;
-    } in
+    let parts = c.self.inside in
     let there = sym c.hint.ensures ∙ c.in-Some.is in
     goes_inside parts c.self.invariant c.args.tile c.args.i c.in-Some.hint there
 
 -- src/replica/handing.rt:14:5
 pub invariant_of-self-2 : goal.invariant_of-self-2
 invariant_of-self-2 c =
-    let parts : Parts = record {
-      conn = c.self.inside.conn;
-      state = c.self.inside.state;
-      kept = c.self.inside.markers;
-      image = c.self.inside.image;
-      work = c.self.inside.work;
-      serial = c.self.inside.serial;
-      marks = c.self.inside.marks;
-      queue = c.self.inside.queue;
-    } in
+    let parts = c.self.inside in
     let there = sym c.hint.ensures ∙ c.in-Some.is in
     let present : IsPresent (core_of parts) c.in-Some.hint =
     subst (λ core. IsPresent core c.in-Some.hint) (sym c.self.view_is) (c.if-not-present.ensures.0 refl) in
     let above : image_at (core_of parts) c.in-Some.hint.to_pixel < c.in-Some.hint.value =
     subst (λ v. v < c.in-Some.hint.value) c.get.ensures c.if-get-hint.false in
     let home = (goes_to_tile parts c.self.invariant c.args.tile c.args.i c.in-Some.hint there).tile in
-    let work : c.mark_dirty.new.self ≡ (raised (without_hint (core_of parts) c.args.tile c.args.i) c.in-Some.hint).tiles =
+    let work : c.mark_dirty.new.self
+    ≡ (raised (without_hint (core_of parts) c.args.tile c.args.i) c.in-Some.hint).tiles =
     c.mark_dirty.ensures
     ∙ ap (λ (work : List TileWork). slice_set work c.args.tile
     (record (slice_index_or work c.args.tile idle) { dirty = true })) c.remove_hint.ensures
@@ -117,23 +76,15 @@ invariant_of-self-2 c =
 -- src/replica/handing.rt:14:5
 pub returns : goal.returns
 returns c =
-    let parts : Parts = record {
-      conn = c.self.inside.conn;
-      state = c.self.inside.state;
-      kept = c.self.inside.markers;
-      image = c.self.inside.image;
-      work = c.self.inside.work;
-      serial = c.self.inside.serial;
-      marks = c.self.inside.marks;
-      queue = c.self.inside.queue;
-    } in
+    let parts = c.self.inside in
     let there = sym c.hint.ensures ∙ c.in-Some.is in
     let present : IsPresent (core_of parts) c.in-Some.hint =
     subst (λ core. IsPresent core c.in-Some.hint) (sym c.self.view_is) (c.if-not-present.ensures.0 refl) in
     let above : image_at (core_of parts) c.in-Some.hint.to_pixel < c.in-Some.hint.value =
     subst (λ v. v < c.in-Some.hint.value) c.get.ensures c.if-get-hint.false in
     let home = (goes_to_tile parts c.self.invariant c.args.tile c.args.i c.in-Some.hint there).tile in
-    let work : c.mark_dirty.new.self ≡ (raised (without_hint (core_of parts) c.args.tile c.args.i) c.in-Some.hint).tiles =
+    let work : c.mark_dirty.new.self
+    ≡ (raised (without_hint (core_of parts) c.args.tile c.args.i) c.in-Some.hint).tiles =
     c.mark_dirty.ensures
     ∙ ap (λ (work : List TileWork). slice_set work c.args.tile
     (record (slice_index_or work c.args.tile idle) { dirty = true })) c.remove_hint.ensures

@@ -1,6 +1,7 @@
 use Rattle.std.proofs.Common.{refl, subst, inl}
 use Rattle.core_rules.specs.Work.{Core}
-use Rattle.core_rules.specs.Runs.{HasHints, IsLeast}
+use Rattle.core_rules.specs.Runs.{HasHints}
+use Rattle.border_queues.specs.TileWork.{IsLeast}
 use Rattle.core_rules.specs.Invariant.{IsSound}
 use Rattle.reset_core.proofs.Settling.{first_handed}
 use Rattle.reset_core.proofs.replica.Core.hand_first.Goals as goal

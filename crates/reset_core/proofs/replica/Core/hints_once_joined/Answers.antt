@@ -1,3 +1,4 @@
+-- What the tactics leave open of `hints_once_joined`.
 use Rattle.std.specs.Prelude.{All}
 use Rattle.std.proofs.Common.{◌∙◌, ◌<◌, ap, subst, sym, arith}
 use Rattle.grid_core.specs.Tiles.{count_of}
@@ -5,7 +6,6 @@ use Rattle.border_queues.specs.OpenEdges.{with_tile}
 use Rattle.grid_core.specs.Raster.{value_at}
 use Rattle.tile_generations.specs.declared.ticket.Ticket.{Ticket}
 use Rattle.core_rules.specs.Invariant.{IsSound}
-use Rattle.reset_core.specs.Replica.{Parts}
 use Rattle.core_rules.specs.Sweeps.{sender_of}
 use Rattle.core_rules.specs.Work as work
 use Rattle.tile_work.specs.WorkTable.{IsToTouching}
@@ -14,17 +14,7 @@ use Rattle.reset_core.proofs.replica.Core.hints_once_joined.Goals as goal
 
 pub returns-in-Ok-clause-hints : goal.returns-in-Ok-clause-hints
 returns-in-Ok-clause-hints c =
-    let held = c.self.inside in
-    let parts : Parts = record {
-      conn = held.conn;
-      state = held.state;
-      kept = held.markers;
-      image = held.image;
-      work = held.work;
-      serial = held.serial;
-      marks = held.marks;
-      queue = held.queue;
-    } in
+    let parts = c.self.inside in
     let core = c.args.self.now in
     let tile = c.ticket-tile.result.tile in
     let t = c.args.swept.now.job.ticket.tile in
@@ -46,17 +36,7 @@ returns-in-Ok-clause-hints c =
 
 pub returns-in-Ok-clause-touching : goal.returns-in-Ok-clause-touching
 returns-in-Ok-clause-touching c =
-    let held = c.self.inside in
-    let parts : Parts = record {
-      conn = held.conn;
-      state = held.state;
-      kept = held.markers;
-      image = held.image;
-      work = held.work;
-      serial = held.serial;
-      marks = held.marks;
-      queue = held.queue;
-    } in
+    let parts = c.self.inside in
     let core = c.args.self.now in
     let tile = c.ticket-tile.result.tile in
     let t = c.args.swept.now.job.ticket.tile in

@@ -1,3 +1,4 @@
+-- What the tactics leave open of `image`.
 use Rattle.std.proofs.Common.{subst}
 use Rattle.core_rules.specs.Invariant.{IsSound}
 use Rattle.reset_core.proofs.Storing.{image_below_mask}

@@ -1,25 +1,15 @@
+-- What the tactics leave open of `join`.
 use Rattle.std.specs.Prelude.{All}
 use Rattle.std.proofs.Common.{ap, subst, sym}
 use Rattle.grid_core.specs.Tiles.{Tiles}
 use Rattle.tile_generations.specs.declared.ticket.Ticket.{Ticket}
-use Rattle.reset_core.specs.Replica.{Parts}
 use Rattle.tile_work.specs.WorkTable.{IsToTouching}
 use Rattle.reset_core.proofs.Sweeping.{tiling_is, parts_joined, joined_is_stored}
 use Rattle.reset_core.proofs.replica.Core.join.Goals as goal
 
 pub receive-requires-clause-touching : goal.receive-requires-clause-touching
 receive-requires-clause-touching c =
-    let held = c.self.inside in
-    let parts : Parts = record {
-      conn = held.conn;
-      state = held.state;
-      kept = held.markers;
-      image = held.image;
-      work = held.work;
-      serial = held.serial;
-      marks = held.marks;
-      queue = held.queue;
-    } in
+    let parts = c.self.inside in
     let core = c.args.self.now in
     let swept = c.args.swept.now in
     let tile_is = ap (λ (k : Ticket). k.tile) c.ticket-tile.ensures in
@@ -33,17 +23,7 @@ receive-requires-clause-touching c =
 
 pub invariant_of-self-2 : goal.invariant_of-self-2
 invariant_of-self-2 c =
-    let held = c.self.inside in
-    let parts : Parts = record {
-      conn = held.conn;
-      state = held.state;
-      kept = held.markers;
-      image = held.image;
-      work = held.work;
-      serial = held.serial;
-      marks = held.marks;
-      queue = held.queue;
-    } in
+    let parts = c.self.inside in
     let core = c.args.self.now in
     let swept = c.args.swept.now in
     let tile_is = ap (λ (k : Ticket). k.tile) c.ticket-tile.ensures in
@@ -58,17 +38,7 @@ invariant_of-self-2 c =
 
 pub returns-clause-joined : goal.returns-clause-joined
 returns-clause-joined c =
-    let held = c.self.inside in
-    let parts : Parts = record {
-      conn = held.conn;
-      state = held.state;
-      kept = held.markers;
-      image = held.image;
-      work = held.work;
-      serial = held.serial;
-      marks = held.marks;
-      queue = held.queue;
-    } in
+    let parts = c.self.inside in
     let core = c.args.self.now in
     let swept = c.args.swept.now in
     let tile_is = ap (λ (k : Ticket). k.tile) c.ticket-tile.ensures in

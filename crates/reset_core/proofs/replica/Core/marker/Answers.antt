@@ -1,3 +1,4 @@
+-- What the tactics leave open of `marker`.
 use Rattle.std.proofs.Common.{◌≡◌}
 use Rattle.marker_tiles.specs.Kept.{IsMarkerOf}
 use Rattle.core_rules.specs.Work.{tiling}
@@ -11,16 +12,7 @@ use Rattle.reset_core.proofs.replica.Core.marker.Goals as goal
 pub returns-clause-tiling : goal.returns-clause-tiling
 returns-clause-tiling c =
     let same : c.self.inside.markers.tiling
-    ≡ tiling (core_of (record {
-      conn = c.self.inside.conn;
-      state = c.self.inside.state;
-      kept = c.self.inside.markers;
-      image = c.self.inside.image;
-      work = c.self.inside.work;
-      serial = c.self.inside.serial;
-      marks = c.self.inside.marks;
-      queue = c.self.inside.queue;
-    })) =
+    ≡ tiling (core_of c.self.inside) =
     same_tiling c.self.inside.markers c.tiling.ensures.width c.tiling.ensures.height in
     subst (λ (core : Core). c.self.inside.markers.tiling ≡ tiling core) c.self.view_is same
 

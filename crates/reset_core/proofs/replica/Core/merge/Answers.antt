@@ -1,33 +1,27 @@
-use Rattle.std.proofs.Common.{◌≡◌, true, false, refl, sym, ap, ◌∙◌, subst, inl, inr}
-use Rattle.std.specs.Prelude.{Err}
+-- What the tactics leave open of `merge`.
+use Rattle.std.proofs.Common.{◌≡◌, true, false, refl, sym, ap, ◌∙◌, subst, inl, inr, replicate}
 use Rattle.std.proofs.lemmas.Result.{err_from_is_err_and}
 use Rattle.marker_tiles.specs.Kept.{IsMarkerOf}
 use Rattle.core_rules.specs.declared.error.CoreError.TheVariants as errors
 use Rattle.core_rules.specs.Work.{Core, tiling}
 use Rattle.core_rules.specs.Merge.{IsMerged, IsRefused, IsAcceptable}
-use Rattle.reset_core.specs.Replica.{Parts, core_of}
+use Rattle.reset_core.specs.declared.replica.Core.TheInside.{Inside as Parts}
+use Rattle.stroke_lattice.specs.State.{State}
+use Rattle.reset_core.specs.Replica.{core_of, IsStored}
+use Rattle.reset_core.proofs.Storing.{unmarked_is_stored}
 use Rattle.reset_core.specs.MergeSteps.{IsMarked, IsImageRenewed, IsRenewed}
 use Rattle.reset_core.proofs.MergeSteps.{hits_are_marked, join_fits, exactly_this}
-use Rattle.reset_core.proofs.MergeSteps.{spent_is_refused, unspent_is_acceptable, only_memory}
+use Rattle.reset_core.proofs.MergeSteps.{spent_is_refused, unspent_is_acceptable}
 use Rattle.reset_core.proofs.MergeSteps.{renewed_is_merged, renewed_is_stored}
 use Rattle.core_rules.proofs.Resets.{refused_is_not_acceptable}
 use Rattle.reset_core.proofs.Sweeping.{tiling_is}
 use Rattle.reset_core.proofs.replica.Core.merge.Goals as goal
-use Rattle.reset_core.proofs.replica.Core.merge.Goals.{After-mark_hits, After-clear, After-merge}
+use Rattle.reset_core.proofs.replica.Core.merge.Goals.{After-mark_hits, After-clear}
 use Rattle.reset_core.proofs.replica.Core.merge.Goals.{After-renew, After-into}
 
 -- the parts that the core was stored as
 abbrev parts_before : After-mark_hits → Parts
-parts_before c = record {
-  conn = c.self.inside.conn;
-  state = c.self.inside.state;
-  kept = c.self.inside.markers;
-  image = c.self.inside.image;
-  work = c.self.inside.work;
-  serial = c.self.inside.serial;
-  marks = c.self.inside.marks;
-  queue = c.self.inside.queue;
-}
+parts_before c = c.self.inside
 
 tiles_are : (c : After-mark_hits) → c.tiling-tiling.result ≡ tiling (core_of (parts_before c))
 tiles_are c =
@@ -73,36 +67,46 @@ is_acceptable c =
 
 pub returns-in-Err-clause-refused : goal.returns-in-Err-clause-refused
 returns-in-Err-clause-refused c =
-    let at = (goal.at.returns-in-Err-clause-refused c).After-mark_hits in
-    inr (
-      c.into.ensures
-          ∙ only_memory c.self.inside.state c.args.delta.now c.in-Err.why
-          (λ tag e. (c.in-Err.ensures.conflict tag).0 (ap Err e)) (is_marked at).compatible,
-      is_acceptable c,
-    )
+    inr (c.into.ensures, is_acceptable c)
 
 pub returns-in-Err-clause-exactly : goal.returns-in-Err-clause-exactly
 returns-in-Err-clause-exactly c = λ e refused.
     absurd (refused_is_not_acceptable c.args.self.now c.args.delta.now e refused (is_acceptable c))
 
+pub invariant_of-self-in-Err : goal.invariant_of-self-in-Err
+invariant_of-self-in-Err c =
+    let at = (goal.at.returns-in-Err-clause-refused c).After-mark_hits in
+    subst (λ (s : State). IsStored (record c.self.inside {
+      state = s;
+      marks = c.clear-in-Err.new.self;
+      queue = c.mark_hits.new.queue;
+    })) (sym c.in-Err.ensures.err)
+    (unmarked_is_stored c.self.inside c.clear-in-Err.new.self c.mark_hits.new.queue c.self.invariant
+    (c.clear-in-Err.ensures
+    ∙ ap (λ n. replicate n false) ((is_marked at).count ∙ sym c.self.invariant.sound.shape.tiles))
+    (c.mark_hits.ensures.queue ∙ c.self.invariant.none_queued))
+
 -- ---- what the calls require
+
+pub join-requires : goal.join-requires
+join-requires c =
+    let at = (goal.at.join-requires c).After-mark_hits in
+    (is_marked at).compatible
 
 pub renew-requires-clause-fits : goal.renew-requires-clause-fits
 renew-requires-clause-fits c =
     let at = (goal.at.renew-requires-clause-fits c).After-mark_hits in
-    join_fits (core_of (parts_before at)) c.args.delta.now c.merge.new.self c.self.invariant.sound (is_marked at).fits
+    join_fits (core_of (parts_before at)) c.args.delta.now c.join.new.self c.self.invariant.sound (is_marked at).fits
     c.in-Ok.ensures.join
 
 -- ---- what is merged
 
 abbrev parts_after : After-renew → Parts
-parts_after c = record {
-  conn = c.self.inside.conn;
-  state = c.merge.new.self;
-  kept = c.renew.new.markers;
+parts_after c = record c.self.inside {
+  state = c.join.new.self;
+  markers = c.renew.new.markers;
   image = c.renew.new.image;
   work = c.renew.new.work;
-  serial = c.self.inside.serial;
   marks = c.renew.new.marks;
   queue = c.mark_hits.new.queue;
 }
@@ -121,11 +125,11 @@ is_renewed c =
         join = c.in-Ok.ensures.join;
         change = c.in-Ok.ensures.change;
         marker_is =
-            subst (λ mask. IsMarkerOf mask c.merge.new.self c.renew.new.markers.marker) c.renew.ensures.mask
+            subst (λ mask. IsMarkerOf mask c.join.new.self c.renew.new.markers.marker) c.renew.ensures.mask
             c.renew.ensures.marker;
       };
       image =
-          subst (λ tiles. IsImageRenewed tiles c.mark_hits.new.marks c.in-Ok.change c.merge.new.self
+          subst (λ tiles. IsImageRenewed tiles c.mark_hits.new.marks c.in-Ok.change c.join.new.self
           c.renew.new.markers.marker c.self.inside.image c.renew.new.image c.self.inside.work c.renew.new.work)
           (sym c.tiling-tiling.ensures.value ∙ tiles_are at) c.renew.ensures.image;
       cleared = c.renew.ensures.marks;

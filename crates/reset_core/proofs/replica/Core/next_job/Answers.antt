@@ -1,3 +1,4 @@
+-- What the tactics leave open of `next_job`.
 use Rattle.std.proofs.Common.{◌∙◌, ap, subst}
 use Rattle.grid_core.specs.Raster.{Raster}
 use Rattle.core_rules.specs.Image.{IsPart}

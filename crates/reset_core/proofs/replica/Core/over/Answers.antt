@@ -1,22 +1,14 @@
+-- What the tactics leave open of `over`.
 use Rattle.std.proofs.Common.{refl, ◌∙◌, ap, subst, replicate, false}
 use Rattle.grid_core.specs.Tiles.{Tiles, IsTiled, count_of}
-use Rattle.core_rules.specs.Opening.{fresh}
-use Rattle.reset_core.specs.Replica.{Parts}
+use Rattle.border_queues.specs.TileWork.{fresh}
+use Rattle.reset_core.specs.Replica.{begun}
 use Rattle.reset_core.proofs.Storing.{is_opened, opened_is_stored}
 use Rattle.reset_core.proofs.replica.Core.over.Goals as goal
 
 pub with_markers-requires : goal.with_markers-requires
 with_markers-requires c =
-    let parts : Parts = record {
-      conn = c.args.conn;
-      state = c.in-Ok.beginning.state;
-      kept = c.in-Ok-over.markers;
-      image = c.in-Ok.beginning.image;
-      work = c.in-Ok.beginning.work;
-      serial = 0;
-      marks = c.in-Ok.beginning.marks;
-      queue = c.in-Ok.beginning.queue;
-    } in
+    let parts = begun c.in-Ok.beginning c.args.conn c.in-Ok-over.markers in
     let made = c.in-Ok-over.ensures in
     let begun = c.in-Ok.ensures in
     let side = ap (λ (t : Tiles). t.side) (made.tiling ∙ c.tiling_of-tiling.ensures) in

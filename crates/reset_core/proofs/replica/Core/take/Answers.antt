@@ -1,20 +1,10 @@
+-- What the tactics leave open of `take`.
 use Rattle.std.proofs.Common.{refl}
-use Rattle.reset_core.specs.Replica.{Parts}
 use Rattle.reset_core.proofs.Sweeping.{taken_is_stored}
 use Rattle.reset_core.proofs.replica.Core.take.Goals as goal
 
 pub invariant_of-self : goal.invariant_of-self
 invariant_of-self c =
-    let held = c.self.inside in
-    let parts : Parts = record {
-      conn = held.conn;
-      state = held.state;
-      kept = held.markers;
-      image = held.image;
-      work = held.work;
-      serial = held.serial;
-      marks = held.marks;
-      queue = held.queue;
-    } in
+    let parts = c.self.inside in
     taken_is_stored c.take_keeps_sound.ensures parts c.args.self.now c.args.tile c.in_ok-job.job c.take.new.self
     c.self.view_is c.self.invariant (c.if-not-is_ready.ensures.0 refl) c.in_ok-job.ensures c.take.ensures

@@ -1,6 +1,7 @@
 use Rattle.std.proofs.Common.{arith, [], refl, subst}
 use Rattle.core_rules.specs.Work.{Core}
-use Rattle.core_rules.specs.Runs.{IsDirty, IsLeast}
+use Rattle.core_rules.specs.Runs.{IsDirty}
+use Rattle.border_queues.specs.TileWork.{IsLeast}
 use Rattle.reset_core.proofs.Settling.{one_more_swept, bounded_burden, quiet_from, same_tiles}
 use Rattle.reset_core.proofs.replica.Core.work_all_off.Goals as goal
 
@@ -21,8 +22,12 @@ loop-tile-init c = (
 
 pub work_off-requires-clause-next : goal.work_off-requires-clause-next
 work_off-requires-clause-next c =
-    let least = subst (λ (core : Core). IsLeast (IsDirty core) c.in-Some.tile) c.self-in-loop-tile.view_is c.in-Some.ensures
-    in (c.loop-tile.invariant.0.none_out, c.loop-tile.invariant.0.no_hints, least)
+    let least =
+    subst (λ (core : Core). IsLeast (IsDirty core) c.in-Some.tile) c.self-in-loop-tile.view_is c.in-Some.ensures in (
+      c.loop-tile.invariant.0.none_out,
+      c.loop-tile.invariant.0.no_hints,
+      least,
+    )
 
 pub work_off-requires-clause-enough : goal.work_off-requires-clause-enough
 work_off-requires-clause-enough c = c.loop-tile.invariant.1

@@ -1,3 +1,4 @@
+-- What the tactics leave open of `work_off`.
 use Rattle.std.proofs.Common.{◌≡◌, ℕ, ◌<◌, List, length, set, get_or, ◌∙◌, sym, ap, subst}
 use Rattle.std.proofs.lemmas.List.{length-set}
 use Rattle.grid_core.specs.declared.pixel.Pixel.{Pixel}
@@ -7,33 +8,26 @@ use Rattle.grid_core.specs.Reconstruction.{IsReconstruction}
 use Rattle.grid_core.specs.Rects.{IsInRect, domain_in, part}
 use Rattle.grid_core.specs.Tiles.{Tiles, rect_of}
 use Rattle.border_queues.specs.OpenEdges.{open_edges}
-use Rattle.core_rules.specs.Work.{Core, TileWork, tiling, idle, IsTile, work_at}
+use Rattle.core_rules.specs.Work.{Core, tiling, IsTile, work_at}
+use Rattle.border_queues.specs.TileWork.{TileWork, idle}
 use Rattle.core_rules.specs.Sweeps.{tile_rect, hints_of}
 use Rattle.core_rules.specs.Events.{Take}
 use Rattle.core_rules.specs.Runs.{Entry, IsNext, IsWorkedOff, jobs_of}
-use Rattle.reset_core.specs.Replica.{Parts, core_of}
+use Rattle.reset_core.specs.declared.replica.Core.TheInside.{Inside as Parts}
+use Rattle.reset_core.specs.Replica.{core_of}
 use Rattle.reset_core.specs.Telling.{ImageAndWork, image_and_work, burden, AreTold}
 use Rattle.reset_core.specs.Closing.{AreClosedInside}
 use Rattle.core_rules.proofs.Cores.{work_there}
 use Rattle.reset_core.proofs.Closing.{closed_in_rect, swept_are_closed}
-use Rattle.reset_core.proofs.TellingSweeps.{IsGrownAt, clean, grown_core, image_below_mask, IsOneStep, one_step}
-use Rattle.reset_core.proofs.TellingSweeps.{worked_parts, stored_still}
+use Rattle.reset_core.proofs.Storing.{image_below_mask, stored_still}
+use Rattle.reset_core.proofs.TellingSweeps.{IsGrownAt, clean, grown_core, IsOneStep, one_step, worked_parts}
 use Rattle.reset_core.proofs.replica.Core.work_off.Goals as goal
 use Rattle.reset_core.proofs.replica.Core.work_off.Goals.{After-rect, After-tell}
 
 -- ---- the core before
 
 abbrev stored : After-rect → Parts
-stored c = record {
-  conn = c.self.inside.conn;
-  state = c.self.inside.state;
-  kept = c.self.inside.markers;
-  image = c.self.inside.image;
-  work = c.self.inside.work;
-  serial = c.self.inside.serial;
-  marks = c.self.inside.marks;
-  queue = c.self.inside.queue;
-}
+stored c = c.self.inside
 
 is_next_of : (c : After-rect) → IsNext (core_of (stored c)) (Take c.args.tile)
 is_next_of c = subst (λ core. IsNext core (Take c.args.tile)) (sym c.self.view_is) c.requires.next
@@ -97,16 +91,16 @@ grown c =
     (part rect (value_at new)) in
     record {
       size = record {
-        width = c.sweep.ensures.width;
-        height = c.sweep.ensures.height;
-        filled = c.sweep.ensures.filled;
+        width = c.sweep.ensures.patch.size.width;
+        height = c.sweep.ensures.patch.size.height;
+        filled = c.sweep.ensures.patch.size.filled;
       };
       grown =
           subst (λ rect. to_rect rect c.self.inside.markers.mask) (rect_is c)
           (subst (λ mask. to_rect c.rect.result mask) c.mask-mask.ensures.value c.sweep.ensures.reconstruction);
       beyond =
           subst (λ rect. (p : Pixel) → IsInside old.width old.height p → (IsInRect rect p → ⊥)
-          → value_at new p ≡ value_at old p) (rect_is c) c.sweep.ensures.outside;
+          → value_at new p ≡ value_at old p) (rect_is c) c.sweep.ensures.patch.beyond;
     }
 
 abbrev middle : After-tell → Core
@@ -162,7 +156,8 @@ pub invariant_of-self : goal.invariant_of-self
 invariant_of-self c =
     let count : length c.tell.new.work ≡ length c.self.inside.work =
     (told c).over.count ∙ length-set c.self.inside.work c.args.tile (clean (before c) c.args.tile) in
-    stored_still (parts c) (reached c) c.self.invariant (step c).sound count
+    let after = worked_parts (parts c) (reached c) in
+    stored_still (parts c) after.image after.work after.serial c.self.invariant count (step c).sound
 
 pub returns-clause-works : goal.returns-clause-works
 returns-clause-works c =

@@ -1,3 +1,4 @@
+-- What the loop of `hand_over_all` keeps.
 use Rattle.std.proofs.Common.{take}
 use Rattle.std.specs.List.{flat_map}
 use Rattle.reset_core.specs.Telling.{hints_in, AreHandedOver}

@@ -1,3 +1,4 @@
+-- What the loop of `hand_over_in` keeps.
 use Rattle.std.proofs.Common.{take}
 use Rattle.reset_core.specs.Telling.{hints_in, AreHandedOver}
 use Rattle.reset_core.proofs.replica.in_place.hand_over_in.Given as goal

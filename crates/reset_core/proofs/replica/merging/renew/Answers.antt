@@ -1,3 +1,4 @@
+-- What the tactics leave open of `renew`.
 use Rattle.std.proofs.Common.{ap, ◌∙◌, sym, subst}
 use Rattle.grid_core.specs.Tiles.{Tiles}
 use Rattle.stroke_lattice.specs.State.{StateFits}

@@ -1,3 +1,4 @@
+-- What the tactics leave open of `mark_losses`.
 use Rattle.tile_resets.proofs.HittingSpans.{losing_begins, losing_goes_on, losing_ends}
 use Rattle.tile_resets.proofs.hits.losses.mark_losses.Goals as goal
 

@@ -1,3 +1,4 @@
+-- What the loop of `mark_losses` keeps.
 use Rattle.tile_resets.proofs.HittingSpans.{IsLosing}
 use Rattle.tile_resets.proofs.hits.losses.mark_losses.Given as goal
 

@@ -1,3 +1,4 @@
+-- What the tactics leave open of `mark_lost`.
 use Rattle.std.proofs.Common.{◌≡◌, false, true, sym}
 use Rattle.tile_resets.proofs.HittingSpans.{stroke_is_lost}
 use Rattle.tile_resets.proofs.hits.losses.mark_lost.Goals as goal

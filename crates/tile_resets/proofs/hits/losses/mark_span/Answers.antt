@@ -1,3 +1,4 @@
+-- What the tactics leave open of `mark_span`.
 use Rattle.std.proofs.Common.{◌≡◌, ℕ, ◌+◌, ◌*◌, ◌/◌, ◌<◌, ◌≤◌, sym, subst, arith}
 use Rattle.std.specs.Prelude.{min}
 use Rattle.tile_resets.specs.Marks.{Adds}

@@ -1,3 +1,4 @@
+-- What the loop of `mark_span` keeps.
 use Rattle.std.proofs.Common.{◌-◌, ◌≤◌}
 use Rattle.tile_resets.specs.Marks.{Adds}
 use Rattle.tile_resets.proofs.HittingSpans.{HoldsUpto}

@@ -1,3 +1,4 @@
+-- What the tactics leave open of `mark_stroke`.
 use Rattle.std.proofs.Common.{◌≡◌, ◌<◌, length, arith}
 use Rattle.stroke_core.specs.Spans.{spans_of}
 use Rattle.tile_resets.proofs.HittingSpans.{next_span, all_spans}

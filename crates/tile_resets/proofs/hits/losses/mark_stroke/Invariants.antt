@@ -1,3 +1,4 @@
+-- What the loop of `mark_stroke` keeps.
 use Rattle.tile_resets.specs.Marks.{Adds}
 use Rattle.tile_resets.proofs.HittingSpans.{HoldsSpans}
 use Rattle.tile_resets.proofs.hits.losses.mark_stroke.Given as goal

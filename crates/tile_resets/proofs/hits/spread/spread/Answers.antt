@@ -1,12 +1,14 @@
+-- What the tactics leave open of `spread`.
 use Rattle.std.proofs.Common.{Bool, List, length, subst, arith}
 use Rattle.tile_work.specs.TileSet.{Has}
-use Rattle.tile_resets.specs.Marks.{Adds, AreLinkedIn}
+use Rattle.tile_resets.specs.Marks.{Adds}
+use Rattle.core_rules.specs.Hits.{AreLinked}
 use Rattle.tile_resets.proofs.HittingWalk.{walk_goes_on, walk_shortens, walk_ends}
 use Rattle.tile_resets.proofs.hits.spread.spread.Goals as goal
 
 pub loop-tile-smaller : goal.loop-tile-smaller
 loop-tile-smaller c =
-    let linked = AreLinkedIn c.args.links.now.tiling c.args.links.now.image.now c.args.links.now.conn in
+    let linked = AreLinked c.args.links.now.tiling c.args.links.now.image.now c.args.links.now.conn in
     let tile = c.in-Some.tile in
     let m = c.loop-tile.marks in
     let q = c.loop-tile.queue in
@@ -18,7 +20,7 @@ loop-tile-smaller c =
 
 pub loop-tile-preserved : goal.loop-tile-preserved
 loop-tile-preserved c =
-    let linked = AreLinkedIn c.args.links.now.tiling c.args.links.now.image.now c.args.links.now.conn in
+    let linked = AreLinked c.args.links.now.tiling c.args.links.now.image.now c.args.links.now.conn in
     let tile = c.in-Some.tile in
     let m = c.loop-tile.marks in
     let q = c.loop-tile.queue in
@@ -30,6 +32,6 @@ loop-tile-preserved c =
 
 pub returns-clause-marks : goal.returns-clause-marks
 returns-clause-marks c =
-    let linked = AreLinkedIn c.args.links.now.tiling c.args.links.now.image.now c.args.links.now.conn in
+    let linked = AreLinked c.args.links.now.tiling c.args.links.now.image.now c.args.links.now.conn in
     walk_ends (Has c.args.marks.now) linked (length c.args.marks.now) c.loop-tile.marks c.loop-tile.queue
     c.loop-tile.invariant (λ t has. c.in_default.ensures t (omega arith) has)

@@ -1,3 +1,4 @@
+-- What the tactics leave open of `raise_cells`.
 use Rattle.tile_resets.proofs.RenewingSpans.{rose_in_part}
 use Rattle.tile_resets.proofs.renewing.cells.raise_cells.Goals as goal
 

@@ -1,3 +1,4 @@
+-- What the loop of `raise_row` keeps.
 use Rattle.std.proofs.Common.{◌≡◌, ℕ, ◌<◌, ◌≤◌, get_or, max}
 use Rattle.std.specs.Prelude.{◌↔◌, IsTrue}
 use Rattle.tile_resets.specs.Renewing.{SomeIsLess}

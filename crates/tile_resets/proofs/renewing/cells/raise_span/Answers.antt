@@ -1,3 +1,4 @@
+-- What the tactics leave open of `raise_span`.
 use Rattle.std.proofs.Common.{◌≡◌, ◌+◌, ◌*◌, ap}
 use Rattle.stroke_core.specs.Spans.{span_has}
 use Rattle.tile_resets.specs.Renewing.{greater_value, IsMadeWhere}

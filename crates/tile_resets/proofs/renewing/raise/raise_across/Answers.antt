@@ -1,3 +1,4 @@
+-- What the tactics leave open of `raise_across`.
 use Rattle.std.proofs.Common.{◌<◌, ◌≤◌, arith, inl, inr, refl}
 use Rattle.stroke_core.specs.Spans.{span_has}
 use Rattle.tile_resets.proofs.RenewingRises.{on_marker, raised_also, raised_nothing, raised_alike, next_tile}
@@ -9,7 +10,8 @@ loop-first-init c = (
   omega arith,
   inr refl,
   raised_nothing c.args.tiling.now (span_has (part_of c.args.span c.args.span.first c.args.span.first))
-      c.args.marker.now c.args.image.now c.args.work.now c.requires.size.filled (λ p _. empty_part c.args.span p),
+      c.args.marker.now c.args.image.now c.args.work.now c.requires.at_hand.size.filled
+      (λ p _. empty_part c.args.span p),
 )
 
 pub loop-first-preserved : goal.loop-first-preserved
@@ -17,6 +19,7 @@ loop-first-preserved c =
     let s = c.args.span in
     let at = c.loop-first.first in
     let next = c.min-end.result in
+    let given = c.requires.at_hand in
     let further : at < next =
     next_tile c.args.tiling.now at s.end c.side-side.result next c.side-side.ensures.tiled c.side-side.ensures.value
     c.loop-first-test.true c.min-end.ensures in
@@ -26,7 +29,7 @@ loop-first-preserved c =
       raised_also c.args.tiling.now (span_has (part_of s s.first at)) (span_has (part_of s at next))
           (span_has (part_of s s.first next)) c.args.marker.now c.args.image.now c.loop-first.image
           c.raise_piece.new.image c.args.work.now c.loop-first.work c.raise_piece.new.work
-          (on_marker c.args.tiling.now c.args.marker.now c.args.image.now c.requires.marker c.requires.size)
+          (on_marker c.args.tiling.now c.args.marker.now c.args.image.now given.marker_is given.size)
           c.loop-first.invariant.2 c.raise_piece.ensures
           (λ p _. part_more s at next p c.loop-first.invariant.0 (omega arith)),
     )

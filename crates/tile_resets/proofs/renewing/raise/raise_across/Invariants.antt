@@ -1,3 +1,4 @@
+-- What the loop of `raise_across` keeps.
 use Rattle.std.proofs.Common.{◌≡◌, ◌-◌, ◌≤◌, ◌⊎◌}
 use Rattle.stroke_core.specs.Spans.{span_has}
 use Rattle.tile_resets.specs.Renewing.{IsRaisedWhere}

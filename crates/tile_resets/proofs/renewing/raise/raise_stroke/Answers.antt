@@ -1,3 +1,4 @@
+-- What the tactics leave open of `raise_stroke`.
 use Rattle.std.proofs.Common.{◌≡◌, ◌+◌, ◌<◌, length, take, refl, sym, ap, ◌∙◌, arith}
 use Rattle.std.proofs.Math.Seq.{take-length}
 use Rattle.stroke_core.specs.Seed.{covers}
@@ -19,7 +20,7 @@ loop-i-preserved c =
     raised_also c.args.tiling.now (some_has (take i spans)) (span_has c.span.result) (some_has (take (i + 1) spans))
     c.args.marker.now c.args.image.now c.loop-i.image c.raise_clipped.new.image c.args.work.now c.loop-i.work
     c.raise_clipped.new.work
-    (on_marker c.args.tiling.now c.args.marker.now c.args.image.now c.requires.marker c.requires.size)
+    (on_marker c.args.tiling.now c.args.marker.now c.args.image.now c.requires.marker_is c.requires.size)
     c.loop-i.invariant c.raise_clipped.ensures
     (λ p _. one_span_more spans i c.span.result p within c.span.ensures.value)
 

@@ -1,3 +1,4 @@
+-- What the loop of `raise_stroke` keeps.
 use Rattle.std.proofs.Common.{take}
 use Rattle.stroke_core.specs.Spans.{spans_of}
 use Rattle.tile_resets.specs.Renewing.{IsRaisedWhere}

@@ -1,10 +1,11 @@
+-- What the tactics leave open of `raise_to_marker`.
 use Rattle.std.proofs.Common.{◌≡◌, ◌+◌, ◌<◌, List, length, take, refl, sym, ap, subst, ◌∙◌, arith}
 use Rattle.std.proofs.Math.Seq.{take-length}
 use Rattle.grid_core.specs.Raster.{Raster}
 use Rattle.stroke_core.specs.Seed.{covers}
 use Rattle.marker_tiles.specs.UnderTags.{some_covers}
 use Rattle.marker_tiles.proofs.Raising.{nothing_there}
-use Rattle.core_rules.specs.Work.{TileWork}
+use Rattle.border_queues.specs.TileWork.{TileWork}
 use Rattle.tile_resets.specs.Renewing.{IsRaisedWhere, greater_value}
 use Rattle.tile_resets.proofs.RenewingSpans.{made_alike}
 use Rattle.tile_resets.proofs.RenewingRises.{raised_also, raised_nothing, raised_alike}

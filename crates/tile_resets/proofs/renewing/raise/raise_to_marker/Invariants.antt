@@ -1,3 +1,4 @@
+-- What the loop of `raise_to_marker` keeps.
 use Rattle.std.proofs.Common.{take}
 use Rattle.marker_tiles.specs.UnderTags.{some_covers}
 use Rattle.tile_resets.specs.Renewing.{IsRaisedWhere}

@@ -1,3 +1,4 @@
+-- What the tactics leave open of `copy_rect`.
 use Rattle.std.proofs.Common.{◌≡◌, ◌+◌, ◌*◌, ap, arith}
 use Rattle.stroke_core.specs.Spans.{span_has}
 use Rattle.tile_resets.specs.Renewing.{marker_value}

@@ -1,3 +1,4 @@
+-- What the loop of `copy_rect` keeps.
 use Rattle.tile_resets.specs.Renewing.{IsMadeWhere, marker_value}
 use Rattle.tile_resets.proofs.RenewingRects.{rect_above}
 use Rattle.tile_resets.proofs.renewing.reset.copy_rect.Given as goal

@@ -1,3 +1,4 @@
+-- What the loop of `mark_all_dirty` keeps.
 use Rattle.std.proofs.Common.{take}
 use Rattle.std.specs.List.{Contains}
 use Rattle.tile_resets.specs.Renewing.{AreDirtyWhere}

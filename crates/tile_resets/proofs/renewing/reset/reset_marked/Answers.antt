@@ -1,7 +1,8 @@
+-- What the tactics leave open of `reset_marked`.
 use Rattle.std.proofs.Common.{◌≡◌, refl, ◌∙◌, arith, inl, inr}
 use Rattle.std.proofs.lemmas.Bool.{cases_lt}
 use Rattle.tile_work.specs.TileSet.{Has}
-use Rattle.tile_resets.specs.Renewing.{row_at}
+use Rattle.border_queues.specs.TileWork.{work_of}
 use Rattle.tile_resets.proofs.RenewingSpans.{sizes_join}
 use Rattle.tile_resets.proofs.RenewingResets.{IsMarkedBefore, reset_none, reset_alike, reset_more, same_generation}
 use Rattle.tile_resets.proofs.renewing.reset.reset_marked.Goals as goal
@@ -14,11 +15,15 @@ loop-tile-init c = (
       c.args.work.now (λ t marked. omega (arith, marked.1)),
 )
 
-pub reset_tile-requires-clause-size : goal.reset_tile-requires-clause-size
-reset_tile-requires-clause-size c = record {
-  width = omega (arith, c.loop-tile.invariant.0.width, c.requires.image.width, c.requires.marker.width);
-  height = omega (arith, c.loop-tile.invariant.0.height, c.requires.image.height, c.requires.marker.height);
-  filled = c.loop-tile.invariant.0.filled;
+pub reset_tile-requires-clause-at_hand : goal.reset_tile-requires-clause-at_hand
+reset_tile-requires-clause-at_hand c = record {
+  size = record {
+    width = omega (arith, c.loop-tile.invariant.0.width, c.requires.image.width, c.requires.marker.width);
+    height = omega (arith, c.loop-tile.invariant.0.height, c.requires.image.height, c.requires.marker.height);
+    filled = c.loop-tile.invariant.0.filled;
+  };
+  marker_is = c.requires.marker;
+  count = c.loop-tile.invariant.1 ∙ c.requires.count;
 }
 
 pub reset_tile-requires-clause-unspent : goal.reset_tile-requires-clause-unspent
@@ -26,7 +31,7 @@ reset_tile-requires-clause-unspent c =
     let tile = c.in-Some.tile in
     let marks = c.args.marks.now in
     let first = c.in-Some.ensures in
-    let same : (row_at c.loop-tile.work tile).generation ≡ (row_at c.args.work.now tile).generation =
+    let same : (work_of c.loop-tile.work tile).generation ≡ (work_of c.args.work.now tile).generation =
     same_generation c.args.tiling.now (IsMarkedBefore marks c.loop-tile.from) c.args.marker.now c.args.image.now
     c.loop-tile.image c.args.work.now c.loop-tile.work tile c.loop-tile.invariant.2
     (omega (arith, first.has.0, c.requires.count, c.requires.marks))

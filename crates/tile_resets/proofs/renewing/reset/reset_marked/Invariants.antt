@@ -1,3 +1,4 @@
+-- What the loop of `reset_marked` keeps.
 use Rattle.std.proofs.Common.{◌≡◌, ◌-◌, length}
 use Rattle.core_rules.specs.Image.{IsOfSize}
 use Rattle.tile_resets.specs.Renewing.{AreReset}

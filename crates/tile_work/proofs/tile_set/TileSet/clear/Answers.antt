@@ -1,3 +1,4 @@
+-- What the tactics leave open of `clear`.
 use Rattle.std.proofs.Common.{◌≡◌, ℕ, ◌∙◌, ap, length, replicate, false, ◌+◌, ◌/◌, arith}
 use Rattle.std.proofs.lemmas.List.{with_items_is, length-replicate}
 use Rattle.tile_work.proofs.TileSetWords.{count_is, tiles_of-clear, IsSummed-clear, bit_of-replicate}

@@ -1,3 +1,4 @@
+-- What the tactics leave open of `contains`.
 use Rattle.std.proofs.Common.{◌≡◌, sym, ◌∙◌, ap, ◌<◌, ◌/◌, ◌%◌, length, get_or, false, nat_eq, arith}
 use Rattle.std.proofs.lemmas.List.{get_or_default}
 use Rattle.std.proofs.lemmas.Nat.Bits.{shr_and_one}

@@ -1,3 +1,4 @@
+-- What the tactics leave open of `empty`.
 use Rattle.std.proofs.Common.{◌+◌, ◌/◌, ◌∙◌, ap}
 use Rattle.tile_work.specs.TileSet.{bit_of}
 use Rattle.tile_work.proofs.TileSetWords.{tiles_of-clear, bit_of-replicate}

@@ -1,3 +1,4 @@
+-- What the tactics leave open of `first_from`.
 use Rattle.std.proofs.Common.{◌≡◌, ℕ, ◌+◌, ◌/◌, ◌^◌, ◌<◌, ◌≤◌, arith}
 use Rattle.tile_work.specs.TileSet.{bit_of, IsLowestFrom}
 use Rattle.tile_work.proofs.TileSetWords.{HasNoneFrom-count, IsFirstFrom-here, HasNoneFrom-after, IsFirstFrom-after}

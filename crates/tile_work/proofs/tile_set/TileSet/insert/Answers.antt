@@ -1,3 +1,4 @@
+-- What the tactics leave open of `insert`.
 use Rattle.std.proofs.Common.{◌/◌, arith}
 use Rattle.std.proofs.lemmas.List.{with_items_is}
 use Rattle.tile_work.specs.TileSet.{IsWritten}

@@ -1,3 +1,4 @@
+-- What the tactics leave open of `len`.
 use Rattle.tile_work.proofs.TileSetWords.{count_is}
 use Rattle.tile_work.proofs.tile_set.TileSet.len.Goals as goal
 

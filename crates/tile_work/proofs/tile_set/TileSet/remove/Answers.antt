@@ -1,3 +1,4 @@
+-- What the tactics leave open of `remove`.
 use Rattle.std.proofs.Common.{◌≡◌, ◌∙◌, ap, ◌/◌, get_or, arith}
 use Rattle.std.proofs.lemmas.List.{with_items_is}
 use Rattle.tile_work.specs.TileSet.{IsWritten}

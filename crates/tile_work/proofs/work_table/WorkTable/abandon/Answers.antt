@@ -1,3 +1,4 @@
+-- What the tactics leave open of `abandon`.
 use Rattle.std.proofs.Common.{true, refl}
 use Rattle.std.specs.Prelude.{None}
 use Rattle.tile_work.proofs.WorkTables.{IsRowAt, row_changed, row_bounded, waiting_stays, stays_in_step}

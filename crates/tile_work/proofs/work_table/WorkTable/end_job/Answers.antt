@@ -1,3 +1,4 @@
+-- What the tactics leave open of `end_job`.
 use Rattle.std.proofs.Common.{refl}
 use Rattle.std.specs.Prelude.{None}
 use Rattle.tile_work.proofs.WorkTables.{IsRowAt, row_changed, row_bounded, dirty_stays, waiting_stays, stays_in_step}

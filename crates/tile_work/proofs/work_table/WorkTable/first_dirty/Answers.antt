@@ -1,3 +1,4 @@
+-- What the tactics leave open of `first_dirty`.
 use Rattle.tile_work.proofs.WorkTables.{first_dirty_of_table}
 use Rattle.tile_work.proofs.work_table.WorkTable.first_dirty.Goals as goal
 

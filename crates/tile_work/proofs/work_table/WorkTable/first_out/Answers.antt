@@ -1,3 +1,4 @@
+-- What the tactics leave open of `first_out`.
 use Rattle.tile_work.proofs.WorkTables.{first_out_of_table}
 use Rattle.tile_work.proofs.work_table.WorkTable.first_out.Goals as goal
 

@@ -1,3 +1,4 @@
+-- What the tactics leave open of `first_waiting`.
 use Rattle.tile_work.proofs.WorkTables.{first_waiting_of_table}
 use Rattle.tile_work.proofs.work_table.WorkTable.first_waiting.Goals as goal
 

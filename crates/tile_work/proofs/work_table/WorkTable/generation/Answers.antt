@@ -1,3 +1,4 @@
+-- What the tactics leave open of `generation`.
 use Rattle.tile_work.proofs.WorkTables.{IsRowAt, row_bounded}
 use Rattle.tile_work.proofs.work_table.WorkTable.generation.Goals as goal
 use Rattle.tile_work.proofs.work_table.WorkTable.generation.Goals.{After-index}

@@ -1,3 +1,4 @@
+-- What the tactics leave open of `is_quiet`.
 use Rattle.std.proofs.Common.{ap, ◌∙◌, sym}
 use Rattle.std.specs.Prelude.{not}
 use Rattle.tile_work.proofs.WorkTables.{quiet_without_hints}

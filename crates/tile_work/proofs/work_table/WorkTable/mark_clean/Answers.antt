@@ -1,3 +1,4 @@
+-- What the tactics leave open of `mark_clean`.
 use Rattle.std.proofs.Common.{false, refl}
 use Rattle.tile_work.proofs.WorkTables.{IsRowAt, row_changed, row_bounded, out_stays, waiting_stays, stays_in_step}
 use Rattle.tile_work.proofs.work_table.WorkTable.mark_clean.Goals as goal

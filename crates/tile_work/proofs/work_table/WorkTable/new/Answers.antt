@@ -1,3 +1,4 @@
+-- What the tactics leave open of `new`.
 use Rattle.tile_work.proofs.WorkTables.{fresh_in_step}
 use Rattle.tile_work.proofs.work_table.WorkTable.new.Goals as goal
 

@@ -1,7 +1,7 @@
+-- What the tactics leave open of `reset`.
 use Rattle.std.proofs.Common.{◌<◌, refl, sym, subst, arith}
 use Rattle.tile_generations.specs.Generations.{max_generation}
-use Rattle.core_rules.specs.Work.{TileWork}
-use Rattle.core_rules.specs.Merge.{reset_work}
+use Rattle.border_queues.specs.TileWork.{TileWork, reset_work}
 use Rattle.tile_work.proofs.WorkTables.{IsRowAt, work_is, row_changed, waiting_stays, stays_in_step}
 use Rattle.tile_work.proofs.work_table.WorkTable.reset.Goals as goal
 use Rattle.tile_work.proofs.work_table.WorkTable.reset.Goals.{After-remove}

@@ -1,3 +1,4 @@
+-- What the tactics leave open of `take`.
 use Rattle.std.proofs.Common.{false, refl}
 use Rattle.std.specs.Prelude.{Some}
 use Rattle.tile_work.proofs.WorkTables.{IsRowAt, row_changed, row_bounded, waiting_stays, stays_in_step}

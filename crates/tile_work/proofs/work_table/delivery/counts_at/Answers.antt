@@ -1,3 +1,4 @@
+-- What the tactics leave open of `counts_at`.
 use Rattle.std.proofs.Common.{take, arith, length-take, slice_index}
 use Rattle.tile_work.proofs.WorkTableHints.{count_at_most}
 use Rattle.tile_work.proofs.work_table.delivery.counts_at.Goals as goal

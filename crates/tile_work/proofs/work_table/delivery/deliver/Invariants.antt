@@ -1,3 +1,4 @@
+-- What the loop of `deliver` keeps.
 use Rattle.tile_work.proofs.WorkTableHints.{IsDelivery}
 use Rattle.tile_work.proofs.work_table.delivery.deliver.Given as goal
 

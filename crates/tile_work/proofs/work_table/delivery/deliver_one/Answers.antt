@@ -1,3 +1,4 @@
+-- What the tactics leave open of `deliver_one`.
 use Rattle.std.proofs.Common.{get_or}
 use Rattle.tile_work.proofs.WorkTableHints.{read_again, room_left, row_received, waiting_received}
 use Rattle.tile_work.proofs.work_table.delivery.deliver_one.Goals as goal

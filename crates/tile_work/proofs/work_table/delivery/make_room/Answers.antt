@@ -1,3 +1,4 @@
+-- What the tactics leave open of `make_room`.
 use Rattle.std.proofs.Common.{◌≡◌, ◌<◌, get_or, length, sym, ap, ◌∙◌, below_more, arith}
 use Rattle.std.specs.Prelude.{slice_index}
 use Rattle.tile_work.specs.declared.work_table.row.TileRow.{TileRow}

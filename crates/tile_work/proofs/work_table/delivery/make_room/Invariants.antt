@@ -1,3 +1,4 @@
+-- What the loop of `make_room` keeps.
 use Rattle.std.proofs.Common.{◌≡◌, ℕ, ◌<◌, ◌≤◌}
 use Rattle.std.specs.Prelude.{slice_index}
 use Rattle.tile_work.specs.WorkTable.{works_of, rooms_of}

@@ -1,5 +1,6 @@
+-- What the loop of `rows_from` keeps.
 use Rattle.std.proofs.Common.{◌≡◌, replicate}
-use Rattle.core_rules.specs.Opening.{fresh}
+use Rattle.border_queues.specs.TileWork.{fresh}
 use Rattle.tile_work.specs.WorkTable.{works_of}
 use Rattle.tile_work.proofs.work_table.row.rows_from.Given as goal
 

@@ -1,3 +1,4 @@
+-- What the tactics leave open of `are_linked`.
 use Rattle.tile_resets.proofs.HittingTouching.{rects_to_tiles, tiles_to_rects}
 use Rattle.tile_resets.proofs.hits.links.Links.are_linked.Goals as goal
 

@@ -1,3 +1,4 @@
+-- What the tactics leave open of `are_rects_linked`.
 use Rattle.std.proofs.Common.{◌≡◌, true, refl, arith, ◌<◌, ◌≤◌}
 use Rattle.tile_resets.specs.Marks.{SomeIn, IsLinkedInto}
 use Rattle.tile_resets.proofs.HittingRects.{yes_where, no_where, some_in_row, none_in_all_rows, some_of_near}

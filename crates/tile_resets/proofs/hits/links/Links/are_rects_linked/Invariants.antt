@@ -1,3 +1,4 @@
+-- What the loop of `are_rects_linked` keeps.
 use Rattle.tile_resets.specs.Marks.{SomeIn, IsLinkedInto}
 use Rattle.tile_resets.proofs.HittingRects.{rows_upto}
 use Rattle.tile_resets.proofs.hits.links.Links.are_rects_linked.Given as goal

@@ -1,3 +1,4 @@
+-- What the tactics leave open of `is_light_beside`.
 use Rattle.std.proofs.Common.{refl, arith, ◌<◌, ◌≤◌}
 use Rattle.tile_resets.specs.Marks.{SomeIn, IsLightBeside}
 use Rattle.tile_resets.proofs.HittingRects.{yes_where, no_where, some_in_row, none_in_all_rows, some_near_pixel}

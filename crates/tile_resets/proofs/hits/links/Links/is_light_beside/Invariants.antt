@@ -1,3 +1,4 @@
+-- What the loop of `is_light_beside` keeps.
 use Rattle.tile_resets.specs.Marks.{SomeIn, IsLightBeside}
 use Rattle.tile_resets.proofs.HittingRects.{rows_upto}
 use Rattle.tile_resets.proofs.hits.links.Links.is_light_beside.Given as goal

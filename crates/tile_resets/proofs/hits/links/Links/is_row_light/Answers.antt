@@ -1,3 +1,4 @@
+-- What the tactics leave open of `is_row_light`.
 use Rattle.std.proofs.Common.{◌+◌, ◌<◌, ◌≤◌, arith}
 use Rattle.grid_core.specs.Raster.{value_at}
 use Rattle.tile_resets.specs.Marks.{SomeIn, IsLight}

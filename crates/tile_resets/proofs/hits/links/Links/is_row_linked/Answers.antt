@@ -1,3 +1,4 @@
+-- What the tactics leave open of `is_row_linked`.
 use Rattle.std.proofs.Common.{◌≡◌, true, false, arith}
 use Rattle.tile_resets.specs.Marks.{IsLinkedInto}
 use Rattle.tile_resets.proofs.HittingRects.{none_in_more_pixels}

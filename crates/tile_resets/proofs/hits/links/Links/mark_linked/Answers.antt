@@ -1,6 +1,7 @@
+-- What the tactics leave open of `mark_linked`.
 use Rattle.std.proofs.Common.{refl, arith, ◌<◌, ◌≤◌, length}
 use Rattle.std.specs.Prelude.{slice_index_or}
-use Rattle.tile_resets.specs.Marks.{AreLinkedIn}
+use Rattle.core_rules.specs.Hits.{AreLinked}
 use Rattle.tile_resets.proofs.HittingTouching.{listed_is_tile, linked_is_listed, one_more_among, all_among}
 use Rattle.tile_resets.proofs.hits.links.Links.mark_linked.Goals as goal
 
@@ -15,7 +16,7 @@ mark_if_linked-requires-clause-other c =
 pub loop-other-preserved : goal.loop-other-preserved
 loop-other-preserved c =
     let items = c.as_slice-other-items.result.now in
-    one_more_among items (AreLinkedIn c.args.self.now.tiling c.args.self.now.image.now c.args.self.now.conn c.args.tile)
+    one_more_among items (AreLinked c.args.self.now.tiling c.args.self.now.image.now c.args.self.now.conn c.args.tile)
     c.loop-other.other-index (slice_index_or items c.loop-other.other-index 0) c.args.marks.now c.args.queue.now
     c.loop-other.marks c.loop-other.queue c.mark_if_linked.new.marks c.mark_if_linked.new.queue refl
     c.loop-other.invariant c.mark_if_linked.ensures
@@ -27,7 +28,7 @@ returns c =
     let conn = c.args.self.now.conn in
     let items = c.as_slice-other-items.result.now in
     let past : length items ≤ c.loop-other.other-index = omega (arith, c.loop-other-test.false) in
-    all_among items (AreLinkedIn tiles image conn c.args.tile) c.loop-other.other-index c.args.tile c.args.marks.now
+    all_among items (AreLinked tiles image conn c.args.tile) c.loop-other.other-index c.args.tile c.args.marks.now
     c.args.queue.now c.loop-other.marks c.loop-other.queue c.requires.tile
     (linked_is_listed tiles image conn c.args.tile items c.touching-touching.result c.as_slice-other-items.ensures.tiles
     c.touching-touching.ensures.members c.side.ensures.tiled c.neighbours_lie_in_touching_tiles.ensures
