@@ -5,8 +5,8 @@
 //! edit_bench COUNT SIDE [--times] < input
 //! ```
 //!
-//! The input is one of Seedpaint: edit lines, a line `image` and a PGM file. All edits but the last COUNT are merged into
-//! a core with tiles of this side, and the core settles. Then each of the last COUNT is merged, and the core settles
+//! The input is one of Seedpaint: edit lines, a line `image` and a PGM file. All edits but the last COUNT are merged
+//! into a core with tiles of this side, and the core settles. Then each of the last COUNT is merged, and the core settles
 //! again. For each of these a line is written: `placed`, `withdrawn` or `nothing`, as a stroke became live, ceased to
 //! be, or neither; how many tiles were reset; how many were swept, each as often as it was; and with `--times` the
 //! processor time of merging and settling, in nanoseconds.

@@ -1,15 +1,2 @@
-pub mod Lists
-pub mod LowerLaws
-pub mod ImageLines
-pub mod Splits
-pub mod Deltas
-pub mod Settled
-pub mod Masks
-pub mod Refusals
-pub mod Shown
-pub mod KeptViews
-pub mod KeptLaws
-pub mod Derived
 pub mod Subcommands
 pub mod Calls
-pub mod KeptRuns

@@ -1,10 +1,12 @@
 -- What clap finds in the words, and the call that it is.
-use Rattle.std.proofs.Common.{rules, ◌≡◌, ℕ, ◌<◌, ◌≤◌, ◌^◌, List, Option, Some, None, option_map, codes, [], ◌∷◌, false, inl, inr}
+use Rattle.std.proofs.Common.{rules, ◌≡◌, ℕ, ◌<◌, ◌≤◌, ◌^◌, List, Option, Some, None, option_map, codes, [], ◌∷◌}
+use Rattle.std.proofs.Common.{false, inl, inr}
 use Rattle.std.proofs.Common.{refl, sym, ap, ◌∙◌, subst, arith, length, get_or, decimal}
 use Rattle.std.specs.Str.Parse.{AllDigits, digits_value}
 use Rattle.std.proofs.lemmas.Fmt.{decimal_is_IsNumeral, decimal_injective, decimal-digits_value}
 use Rattle.std.proofs.lemmas.Str.Parse.{IsNumeralModel}
-use Rattle.clap.specs.Words.{Row, Text, fault_of, first_of, found_of, rows_of, subcommand_name_of, subcommand_of, subcommand_rows_of}
+use Rattle.clap.specs.Words.{Row, Text, fault_of, first_of, found_of, rows_of, subcommand_name_of, subcommand_of}
+use Rattle.clap.specs.Words.{subcommand_rows_of}
 use Rattle.clap.specs.declared.parser.matches.ArgMatches.{ArgMatches}
 use Rattle.clap.specs.declared.parser.matches.ArgMatches.TheViews.{out-ArgMatches, out-SubCommand}
 use Rattle.clap.proofs.OnLiterals.{clap_on_literals}
@@ -14,15 +16,17 @@ use Rattle.clap.specs.declared.builder.value_parser.Reading.TheVariants.{AsWritt
 use Rattle.std.specs.Box.{box_value}
 use Rattle.grid_core.specs.declared.conn.Conn.{Conn}
 use Rattle.grid_core.specs.Tiles.{IsTileSide}
-use Rattle.seedpaint.specs.Words.{program, ConnIs, SideIs, KindIs, HIs, IsCall, IsUsage, NamesNoConn, NamesNoSide, NamesNoKind, NamesNoH, Says}
-use Rattle.seedpaint.specs.declared.derive.View.{View as Kind}
-use Rattle.seedpaint.specs.declared.derive.View.TheVariants.{Fill, HMax, RegMax}
+use Rattle.seedpaint.specs.Words.{program, ConnIs, SideIs, KindIs, HIs, IsCall, IsUsage, Says}
+use Rattle.seedpaint.specs.Words.{NamesNoConn, NamesNoSide, NamesNoKind, NamesNoH}
+use Rattle.paint_session.specs.declared.derive.Derivation.{Derivation as Kind}
+use Rattle.paint_session.specs.declared.derive.Derivation.TheVariants.{Fill, HMax, RegMax}
 use Rattle.seedpaint.specs.declared.words.Call.{Call}
 use Rattle.seedpaint.specs.declared.words.Call.TheVariants.{View, Derive}
 
 -- both parts of a pair in an option
 both_parts : {B X Y : Type 0} (f : B → X × Y) (o : Option B) (x : X) (y : Y)
-    → option_map (λ b. (f b).0) o ≡ Some x → option_map (λ p. p.1) (option_map f o) ≡ Some y → option_map f o ≡ Some (x, y)
+    → option_map (λ b. (f b).0) o ≡ Some x → option_map (λ p. p.1) (option_map f o) ≡ Some y
+    → option_map f o ≡ Some (x, y)
 both_parts f None x y first second = search rules
 both_parts f (Some b) x y first second = search rules
 
@@ -115,7 +119,8 @@ one_number value a b first small second also =
 pub is_decimal : (value : Text) (n : ℕ) → digits_value 10 value ≡ n → AllDigits 10 value → 0 < length value
     → (get_or value 0 0 ≡ 48 → length value ≡ 1) → n < 2 ^ 32 → value ≡ decimal n
 is_decimal value n is all some no_zero small =
-    let model : IsNumeralModel (AllDigits 10) (digits_value 10) = record { to = λ ds h. h; from = λ ds h. h; same = λ ds h. refl } in
+    let model : IsNumeralModel (AllDigits 10) (digits_value 10) =
+    record { to = λ ds h. h; from = λ ds h. h; same = λ ds h. refl } in
     let fits : digits_value 10 value < 2 ^ 64 = rw is (omega (arith, small)) in
     sym (decimal-digits_value model value all some no_zero fits) ∙ ap decimal is
 
@@ -139,19 +144,22 @@ one_h (Some v) a b first second =
     one_number v a b first.0 (small_h a first.1) second.0 (small_h b second.1)
 
 -- a text that says another number, or that number in another way, names no side
-pub names_no_side : (value : Text) → (value ≡ decimal (digits_value 10 value) → IsTileSide (digits_value 10 value) → ⊥) → NamesNoSide (Some value)
+pub names_no_side : (value : Text)
+    → (value ≡ decimal (digits_value 10 value) → IsTileSide (digits_value 10 value) → ⊥) → NamesNoSide (Some value)
 names_no_side value none side (is, tile_side) =
     let same : digits_value 10 value ≡ side = number_value value side is (small_side side tile_side) in
     none (is ∙ ap decimal (sym same)) (subst IsTileSide (sym same) tile_side)
 
 -- and no number of 16 bits
-pub names_no_h : (value : Text) → (value ≡ decimal (digits_value 10 value) → digits_value 10 value ≤ 65535 → ⊥) → NamesNoH (Some value)
+pub names_no_h : (value : Text)
+    → (value ≡ decimal (digits_value 10 value) → digits_value 10 value ≤ 65535 → ⊥) → NamesNoH (Some value)
 names_no_h value none h (is, within) =
     let same : digits_value 10 value ≡ h = number_value value h is (small_h h within) in
     none (is ∙ ap decimal (sym same)) (omega (arith, same, within))
 
 -- a text that is a greater number in decimal names no number of 16 bits
-pub no_greater_h : (value : Option Text) (text : Text) (n : ℕ) → value ≡ Some text → (n < 2 ^ 32) × (text ≡ decimal n) → 65535 < n → NamesNoH value
+pub no_greater_h : (value : Option Text) (text : Text) (n : ℕ) → value ≡ Some text
+    → (n < 2 ^ 32) × (text ≡ decimal n) → 65535 < n → NamesNoH value
 no_greater_h value text n is read above =
     rw is (λ h named.
     let same = one_number text n h read.1 read.0 named.0 (small_h h named.1) in
@@ -174,7 +182,8 @@ pub one_call : (words : List Text) (a b : Call) → Says words a → Says words 
 one_call words (View a s f) (View b t g) first second = search (rules, one_conn, one_side, no_word_is_fault)
 one_call words (View a s f) (Derive kind h conn) first second = search (rules, no_word_is_fault)
 one_call words (Derive kind h conn) (View b t g) first second = search (rules, no_word_is_fault)
-one_call words (Derive kind h a) (Derive other g b) first second = search (rules, one_kind, one_h, one_conn, no_word_is_fault)
+one_call words (Derive kind h a) (Derive other g b) first second =
+    search (rules, one_kind, one_h, one_conn, no_word_is_fault)
 
 -- words in which clap finds a fault say no call
 pub usage_at_fault : (words : List Text) → is_empty words ≡ false → is_empty (fault_of program words) ≡ false
@@ -196,7 +205,8 @@ names_h value h is all some no_zero within =
 
 -- words whose `--tile` names no side say no call
 pub usage_at_side : (words : List Text) (rows : List Row) (value : Text) → is_empty words ≡ false
-    → subcommand_of program words ≡ Some (codes "view", rows) → first_of (codes "tile") rows ≡ Some value → NamesNoSide (Some value)
+    → subcommand_of program words ≡ Some (codes "view", rows) → first_of (codes "tile") rows ≡ Some value
+    → NamesNoSide (Some value)
     → IsUsage words
 usage_at_side words rows value some is tile none call (inl (no_word, is_call)) = search rules
 usage_at_side words rows value some is tile none call (inr (no_fault, is_call)) =
@@ -204,7 +214,8 @@ usage_at_side words rows value some is tile none call (inr (no_fault, is_call)) 
 
 -- words whose `--h` names no number of 16 bits say no call
 pub usage_at_h : (words : List Text) (rows : List Row) (value : Text) → is_empty words ≡ false
-    → subcommand_of program words ≡ Some (codes "derive", rows) → first_of (codes "h") rows ≡ Some value → NamesNoH (Some value)
+    → subcommand_of program words ≡ Some (codes "derive", rows) → first_of (codes "h") rows ≡ Some value
+    → NamesNoH (Some value)
     → IsUsage words
 usage_at_h words rows value some is h none call (inl (no_word, is_call)) = search rules
 usage_at_h words rows value some is h none call (inr (no_fault, is_call)) =

@@ -1,13 +1,19 @@
--- What a run does: the call that the words say, on an input and on what its state file holds.
-use Rattle.std.specs.Prelude.{◌≡◌, ◌⊎◌, ⊤, ℕ, List, Option, Some, None, IfSome}
+-- What a run does: the call that the words say, on an input and over what its state file holds.
+use Rattle.std.specs.Prelude.{◌≡◌, ◌⊎◌, ◌++◌, ◌∷◌, [], ⊤, ℕ, List, Option, Some, None, Result, Ok, Err, String, IsOkAnd}
+use Rattle.std.specs.Io.KnownBytes.{Appends}
+use Rattle.std.specs.declared.vec.IntoIter.{IntoIter}
+use Rattle.byte_devices.specs.Device.{SinkSeen, HasRisen}
+use Rattle.byte_devices.specs.Transfer.{AppendsFront}
 use Rattle.grid_core.specs.Tiles.{IsTileSide}
 use Rattle.stroke_lattice.specs.State.{State, nothing}
-use Rattle.spd_codec.specs.declared.error.SpdError.TheVariants as spd
-use Rattle.seedpaint.specs.Derive.{IsDerivation, FileIsRefused}
-use Rattle.seedpaint.specs.Kept.{IsKeptView, KeptStops}
-use Rattle.seedpaint.specs.View.{IsView, InputStops}
-use Rattle.seedpaint.specs.declared.run_error.RunError.{RunError}
-use Rattle.seedpaint.specs.declared.run_error.RunError.TheVariants.{Spd, StateFile}
+use Rattle.paint_session.specs.Derive.{IsDerivation, DerivationStops}
+use Rattle.paint_session.specs.RunError.{fault_text, IsReadingFault}
+use Rattle.paint_session.specs.Serving.{IsStoredView, IsStoreFault, StoredStops, ToKeep}
+use Rattle.paint_session.specs.Store.{Held}
+use Rattle.paint_session.specs.View.{IsView, InputStops}
+use Rattle.paint_session.specs.declared.run_error.RunError.{RunError}
+use Rattle.paint_session.specs.declared.run_error.RunError.TheVariants.{Memory, Usage}
+use Rattle.seedpaint.specs.Words.{GivesWords, Says}
 use Rattle.seedpaint.specs.declared.words.Call.{Call}
 use Rattle.seedpaint.specs.declared.words.Call.TheVariants.{View, Derive}
 
@@ -16,44 +22,55 @@ abbrev pub CanBeMade : Call → Type 0
 CanBeMade (View conn side file) = IsTileSide side
 CanBeMade (Derive kind h conn) = ⊤
 
--- the name of the call's state file, where it has one
-abbrev pub file_of : Call → Option (List ℕ)
-file_of (View conn side file) = file
-file_of (Derive kind h conn) = None
+-- the text is what the call writes for an input, and this is to be kept: for a view with a state file the new bytes of
+-- that, over what files hold, else nothing
+abbrev pub IsAnswer : Call → Held → List ℕ → List ℕ → ToKeep → Type 0
+IsAnswer (View conn side None) held input text kept =
+    ((state : State) × IsView conn nothing input state text) × (kept ≡ None)
+IsAnswer (View conn side (Some name)) held input text kept = IsStoredView conn held name input text kept
+IsAnswer (Derive kind h conn) held input text kept = IsDerivation kind h conn input text × (kept ≡ None)
 
--- what files hold, by their names, where it is known
-abbrev pub Held : Type 0
-Held = List ℕ → Option (List ℕ)
+-- where the call stops on an input
+abbrev pub StopsOn : Call → Held → List ℕ → RunError → Type 0
+StopsOn (View conn side None) held input e = InputStops nothing input e
+StopsOn (View conn side (Some name)) held input e = StoredStops conn held name input e
+StopsOn (Derive kind h conn) held input e = DerivationStops input e
 
--- no file changes
-abbrev pub AreSame : Held → Held → Type 0
-AreSame before after = (name : List ℕ) → after name ≡ before name
+-- the errors of the call that may come whatever the input is; V2 is among them where it has a state file
+abbrev pub EndsEarly : Call → RunError → Type 0
+EndsEarly (View conn side None) e = IsReadingFault e
+EndsEarly (View conn side (Some name)) e = IsStoreFault e
+EndsEarly (Derive kind h conn) e = IsReadingFault e
 
--- the bytes are those of the file that is named, where one is and they are known
-abbrev pub IsHeldIn : Held → Option (List ℕ) → List ℕ → Type 0
-IsHeldIn held None bytes = ⊤
-IsHeldIn held (Some name) bytes = IfSome (held name) (λ known. bytes ≡ known)
+-- the words of the process say a call, and this holds of it
+abbrev pub IsSaid : {Z E : Type 0} → Result (IntoIter (String Z) Z) E → (Call → Type 0) → Type 0
+IsSaid args P = IsOkAnd args (λ given.
+    (words : List (List ℕ)) × (call : Call) × GivesWords given words × Says words call × P call)
 
--- the bytes took the place of those of the file that is named; where none is, no file changes
-abbrev pub IsSavedIn : Held → Held → Option (List ℕ) → List ℕ → Type 0
-IsSavedIn before after None bytes = AreSame before after
-IsSavedIn before after (Some name) bytes = IfSome (before name) (λ known. after name ≡ Some bytes)
+-- the same three of the call that the words say; words that say none are usage, and reading them may find no memory
+abbrev pub RunAnswers : {Z E : Type 0} → Result (IntoIter (String Z) Z) E → Held → List ℕ → List ℕ → ToKeep → Type 0
+RunAnswers args held input text kept = IsSaid args (λ call. IsAnswer call held input text kept)
 
--- the text is what the call writes for an input, whatever the side of the tiles; where it has a state file, over the old
--- bytes of that, and these are the new ones
-abbrev pub IsAnswer : Call → List ℕ → List ℕ → List ℕ → List ℕ → Type 0
-IsAnswer (View conn side None) old input text new = (state : State) × IsView conn nothing input state text
-IsAnswer (View conn side (Some name)) old input text new = IsKeptView conn old input text new
-IsAnswer (Derive kind h conn) old input text new = IsDerivation kind h conn input text
+abbrev pub RunStops : {Z E : Type 0} → Result (IntoIter (String Z) Z) E → Held → List ℕ → RunError → Type 0
+RunStops args held input e = IsSaid args (λ call. StopsOn call held input e)
 
--- where the call stops on an input and on the old bytes of its state file
-abbrev pub StopsOn : Call → List ℕ → List ℕ → RunError → Type 0
-StopsOn (View conn side None) old input e = InputStops conn side nothing input e
-StopsOn (View conn side (Some name)) old input e = KeptStops conn side old input e
-StopsOn (Derive kind h conn) old input e = FileIsRefused input e
+abbrev pub RunEndsEarly : {Z E : Type 0} → Result (IntoIter (String Z) Z) E → RunError → Type 0
+RunEndsEarly args e = (e ≡ Usage) ⊎ (e ≡ Memory) ⊎ IsSaid args (λ call. EndsEarly call e)
 
--- for a call with a state file: its store failed, or frames found no memory
-abbrev pub IsStoreFault : Call → RunError → Type 0
-IsStoreFault (View conn side None) e = ⊥
-IsStoreFault (View conn side (Some name)) e = (e ≡ StateFile) ⊎ (e ≡ Spd spd.Memory)
-IsStoreFault (Derive kind h conn) e = ⊥
+-- the line of a fault, with its LF
+abbrev pub error_line : RunError → List ℕ
+error_line e = fault_text e ++ 10 ∷ []
+
+-- this line, all of it, or a front of it where the sink failed
+abbrev pub TellsLine : SinkSeen → SinkSeen → List ℕ → Type 0
+TellsLine old new line = Appends old.written new.written line
+    ⊎ (HasRisen old.failures new.failures × AppendsFront old.written new.written line)
+
+-- the line of a fault, or where no memory is left for that the line of want of memory
+abbrev pub TellsFault : RunError → SinkSeen → SinkSeen → Type 0
+TellsFault e old new = TellsLine old new (error_line e) ⊎ TellsLine old new (error_line Memory)
+
+-- what goes to standard error: nothing after a run that ended well, else the line of its fault
+abbrev pub Tells : {T : Type 0} → Result T RunError → SinkSeen → SinkSeen → Type 0
+Tells (Ok value) old new = new ≡ old
+Tells (Err e) old new = TellsFault e old new

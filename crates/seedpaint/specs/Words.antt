@@ -1,17 +1,19 @@
 -- What the words of the command line say.
-use Rattle.std.specs.Prelude.{◌≡◌, ◌≤◌, ◌⊎◌, ℕ, [], List, Option, Some, None, String, map, drop, codes, true, string_bytes, decimal}
+use Rattle.std.specs.Prelude.{◌≡◌, ◌≤◌, ◌⊎◌, ℕ, [], List, Option, Some, None, String, map, drop, codes, true}
+use Rattle.std.specs.Prelude.{string_bytes, decimal}
 use Rattle.std.specs.Iterator.{Drains}
 use Rattle.std.specs.Vec.Iter.{into_iter_steps}
 use Rattle.std.specs.declared.vec.IntoIter.{IntoIter}
-use Rattle.clap.specs.Words.{App, Row, Rule, Text, first_of, fault_of, new_app, new_rule, subcommand_of, with_rule, with_subcommand}
+use Rattle.clap.specs.Words.{App, Row, Rule, Text, first_of, fault_of, new_app, new_rule, subcommand_of, with_rule}
+use Rattle.clap.specs.Words.{with_subcommand}
 use Rattle.clap.specs.Simple.{on_top}
 use Rattle.grid_core.specs.declared.conn.Conn.{Conn}
 use Rattle.grid_core.specs.declared.conn.Conn.TheVariants.{Four, Eight}
 use Rattle.grid_core.specs.Tiles.{IsTileSide}
 use Rattle.seedpaint.specs.declared.words.Call.{Call}
 use Rattle.seedpaint.specs.declared.words.Call.TheVariants.{View, Derive}
-use Rattle.seedpaint.specs.declared.derive.View.{View as Kind}
-use Rattle.seedpaint.specs.declared.derive.View.TheVariants.{Fill, HMax, RegMax}
+use Rattle.paint_session.specs.declared.derive.Derivation.{Derivation as Kind}
+use Rattle.paint_session.specs.declared.derive.Derivation.TheVariants.{Fill, HMax, RegMax}
 
 -- the option `--conn`, which takes one value
 abbrev pub conn_option : Rule
@@ -68,13 +70,13 @@ SideIs (Some value) side = (value ≡ decimal side) × IsTileSide side
 abbrev pub NamesNoSide : Option Text → Type 0
 NamesNoSide value = (side : ℕ) → SideIs value side → ⊥
 
--- the word behind `derive` names this view
+-- the word behind `derive` names this derivation
 abbrev pub KindIs : Option Text → Kind → Type 0
 KindIs word Fill = word ≡ Some (codes "fill")
 KindIs word HMax = word ≡ Some (codes "hmax")
 KindIs word RegMax = word ≡ Some (codes "regmax")
 
--- it names no view, or there is no such word
+-- it names none, or there is no such word
 abbrev pub NamesNoKind : Option Text → Type 0
 NamesNoKind word = (kind : Kind) → KindIs word kind → ⊥
 
@@ -87,8 +89,8 @@ HIs (Some value) h = (value ≡ decimal h) × (h ≤ 65535)
 abbrev pub NamesNoH : Option Text → Type 0
 NamesNoH value = (h : ℕ) → HIs value h → ⊥
 
--- the subcommand that the words name, with what they give its options, is this call; the value of `--state` is the name of
--- the state file
+-- the subcommand that the words name, with what they give its options, is this call; the value of `--state` is the name
+-- of the state file
 abbrev pub IsCall : Option (Text × List Row) → Call → Type 0
 IsCall named (View conn side file) =
     (rows : List Row) × (named ≡ Some (codes "view", rows)) × ConnIs (first_of (codes "conn") rows) conn

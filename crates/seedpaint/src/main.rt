@@ -3,26 +3,17 @@
 //! standard input, the reconstruction by dilation as a raw PGM file on standard output. Of one PGM file it derives
 //! others: its holes filled, its h-maxima, its regional maxima.
 //!
-//! `view` has the theorem, from bytes to bytes, `kept` that of a view over a state file, which a `store` keeps, and
-//! `derive` that of derived images. `process` makes the call that the words of the command line say, and `run_error`
-//! tells why a run ended. Read on in `docs/ARCHITECTURE.md`.
+//! `words` reads the command line, and `process` makes the call that its words say, by the library `paint_session`.
+//! Read on in `docs/ARCHITECTURE.md`.
 
-pub mod derive;
-mod input;
-pub mod kept;
-pub mod laws;
-mod merging;
 pub mod process;
-pub mod run_error;
-pub mod store;
-pub mod view;
 pub mod words;
 
-use pgm_codec::{StdSink, StdSource};
+use byte_devices::{StdSink, StdSource};
+use paint_session::store::FileStore;
 use process::{conclude, run};
 use std::env;
 use std::process::ExitCode;
-use store::FileStore;
 
 fn main(rt: HostRuntime) -> ExitCode {
     let mut source = StdSource::new(rt.stdin());
@@ -35,7 +26,7 @@ fn main(rt: HostRuntime) -> ExitCode {
         &mut store,
         &mut sink,
     );
-    conclude(&rt, &outcome)
+    conclude(rt.alloc(), &outcome, &mut StdSink::new(rt.stderr()))
 }
 
 #[cfg(test)]

@@ -1,6 +1,7 @@
 //! The words of the command line, and the call that they say.
 
-ghost use Rattle.std.specs.Prelude.{◌≡◌, ◌≢◌, ◌<◌, ◌^◌, ◌⊎◌, ◌↔◌, decimal, IsTrue, [], ◌∷◌, codes, List, ℕ, Ok, Err, map, drop, option_map, string_bytes, false, IfOk, IfErr, IsOkAnd};
+ghost use Rattle.std.specs.Prelude.{◌≡◌, ◌≢◌, ◌<◌, ◌^◌, ◌⊎◌, ◌↔◌, decimal, IsTrue, [], ◌∷◌, codes, List, ℕ, Ok, Err};
+ghost use Rattle.std.specs.Prelude.{map, drop, option_map, string_bytes, false, IfOk, IfErr, IsOkAnd};
 ghost use Rattle.std.specs.IoError.{error_kind};
 ghost use Rattle.std.specs.Iterator.{Drains};
 ghost use Rattle.std.specs.Vec.Iter.{into_iter_steps};
@@ -11,19 +12,21 @@ ghost use Rattle.clap.specs.declared.error.kind.ErrorKind.TheVariants as parse;
 ghost use Rattle.grid_core.specs.declared.conn.Conn.TheVariants.{Four, Eight};
 ghost use Rattle.seedpaint.specs.Words.{program, view_command, derive_command, IsCall, Says, IsUsage, GivesWords};
 ghost use Rattle.seedpaint.specs.Words.{ConnIs, NamesNoConn, SideIs, NamesNoSide, KindIs, NamesNoKind, HIs, NamesNoH};
-ghost use Rattle.seedpaint.specs.declared.derive.View.TheVariants.{Fill, HMax, RegMax};
+ghost use Rattle.paint_session.specs.declared.derive.Derivation.TheVariants.{Fill, HMax, RegMax};
 ghost use Rattle.seedpaint.specs.declared.words.Call.{Call};
 ghost use Rattle.seedpaint.specs.declared.words.Call.TheVariants as call;
-ghost use Rattle.seedpaint.specs.declared.run_error.RunError.TheVariants as errors;
+ghost use Rattle.paint_session.specs.declared.run_error.RunError.TheVariants as errors;
 
-use crate::derive::View;
-use crate::run_error::RunError;
-use crate::store::StatePath;
 use clap::{Arg, ArgMatches, Command};
 use grid_core::{Conn, Memory, is_tile_side};
-use reset_core::TILE_SIDE;
+use paint_session::derive::Derivation;
+use paint_session::run_error::RunError;
+use paint_session::store::StatePath;
 use std::alloc::Global;
 use std::{env, io};
+
+/// The side of the tiles where none is named.
+pub const TILE_SIDE: u32 = 64;
 
 /// What the program is called to do.
 #[derive(Debug, Drop)]
@@ -40,7 +43,7 @@ pub enum Call {
     /// Writes the image that is derived from the one on standard input.
     Derive {
         /// What is derived.
-        kind: View,
+        kind: Derivation,
         /// How much each dome loses at its top, for h-maxima.
         h: u16,
         /// Which pixels are neighbours.
@@ -48,21 +51,20 @@ pub enum Call {
     },
 }
 
-impl From<clap::Error> for RunError {
-    ghost from_gives = { λ e f. ((kind_of e ≡ parse.OutOfMemory) × (f ≡ errors.Memory))
-        ⊎ ((kind_of e ≢ parse.OutOfMemory) × (f ≡ errors.Usage)) };
-
-    fn from(e: clap::Error) -> RunError {
-        match e.kind() {
-            clap::error::ErrorKind::OutOfMemory => RunError::Memory,
-            _ => RunError::Usage,
-        }
+// What a refusal of `clap` is: want of memory, or usage.
+fn refusal_of(e: clap::Error) -> RunError
+    ensures { ((kind_of e ≡ parse.OutOfMemory) × (result ≡ errors.Memory))
+        ⊎ ((kind_of e ≢ parse.OutOfMemory) × (result ≡ errors.Usage)) }
+{
+    match e.kind() {
+        clap::error::ErrorKind::OutOfMemory => RunError::Memory,
+        _ => RunError::Usage,
     }
 }
 
 /// Reads the words behind the program's name: no word at all, `view [--conn 4|8] [--tile N] [--state FILE]`, or
-/// `derive KIND [--h N] [--conn 4|8]`. Without `--conn` the connectivity is that of four neighbours. The N of `--tile` is
-/// 8 to 256, and 64 where it is not given. KIND is `fill`, `hmax` or `regmax`. The N of `--h` is 0 to 65535 with each
+/// `derive KIND [--h N] [--conn 4|8]`. Without `--conn` the connectivity is that of four neighbours. The N of `--tile`
+/// is 8 to 256, and 64 where it is not given. KIND is `fill`, `hmax` or `regmax`. The N of `--h` is 0 to 65535 with each
 /// KIND, and 1 where it is not given. FILE is any text.
 ///
 /// `--conn=8`, the options in another order and a `--` at the end are taken too, as `clap` does. A value is its very
@@ -121,17 +123,21 @@ pub fn words_of_a_view()
     ensures least { Says (codes "view" ∷ codes "--tile" ∷ codes "8" ∷ []) (call.View Four 8 None) }
     ensures greatest { Says (codes "view" ∷ codes "--tile" ∷ codes "256" ∷ []) (call.View Four 256 None) }
     ensures kept { Says (codes "view" ∷ codes "--state" ∷ codes "a" ∷ []) (call.View Four 64 (Some (codes "a"))) }
-    ensures both { Says (codes "view" ∷ codes "--conn" ∷ codes "8" ∷ codes "--tile" ∷ codes "16" ∷ []) (call.View Eight 16 None) }
+    ensures both { Says (codes "view" ∷ codes "--conn" ∷ codes "8" ∷ codes "--tile" ∷ codes "16" ∷ [])
+        (call.View Eight 16 None) }
 {}
 
 /// Words that say a derivation.
 pub fn words_of_a_derivation()
     ensures fill { Says (codes "derive" ∷ codes "fill" ∷ []) (call.Derive Fill 1 Four) }
     ensures h { Says (codes "derive" ∷ codes "hmax" ∷ codes "--h" ∷ codes "2" ∷ []) (call.Derive HMax 2 Four) }
-    ensures eight { Says (codes "derive" ∷ codes "regmax" ∷ codes "--conn" ∷ codes "8" ∷ []) (call.Derive RegMax 1 Eight) }
+    ensures eight { Says (codes "derive" ∷ codes "regmax" ∷ codes "--conn" ∷ codes "8" ∷ [])
+        (call.Derive RegMax 1 Eight) }
     ensures least { Says (codes "derive" ∷ codes "fill" ∷ codes "--h" ∷ codes "0" ∷ []) (call.Derive Fill 0 Four) }
-    ensures greatest { Says (codes "derive" ∷ codes "hmax" ∷ codes "--h" ∷ codes "65535" ∷ []) (call.Derive HMax 65535 Four) }
-    ensures options_first { Says (codes "derive" ∷ codes "--h" ∷ codes "2" ∷ codes "--conn" ∷ codes "8" ∷ codes "hmax" ∷ [])
+    ensures greatest { Says (codes "derive" ∷ codes "hmax" ∷ codes "--h" ∷ codes "65535" ∷ [])
+        (call.Derive HMax 65535 Four) }
+    ensures options_first { Says
+        (codes "derive" ∷ codes "--h" ∷ codes "2" ∷ codes "--conn" ∷ codes "8" ∷ codes "hmax" ∷ [])
         (call.Derive HMax 2 Eight) }
 {}
 
@@ -211,8 +217,10 @@ fn parse<'a>(alloc: Global, words: &'a [String]) -> Result<ArgMatches<'a>, RunEr
     ensures usage { result ≡ Err errors.Usage → fault_of program (map string_bytes words.now) ≢ [] }
     ensures refused { IfErr result (λ e. (e ≡ errors.Usage) ⊎ (e ≡ errors.Memory)) }
 {
-    let matches = program(alloc)?.try_get_matches_from(words)?;
-    Ok(matches)
+    match program(alloc)?.try_get_matches_from(words) {
+        Ok(matches) => Ok(matches),
+        Err(e) => Err(refusal_of(e)),
+    }
 }
 
 // The call that `clap` read.
@@ -236,15 +244,15 @@ fn call_of(alloc: Global, matches: &ArgMatches<'_>) -> Result<Call, RunError>
     Ok(Call::Derive { kind, h, conn })
 }
 
-// The view that the word behind `derive` names.
-fn kind_of(word: Option<&str>) -> Result<View, RunError>
+// What the word behind `derive` names.
+fn kind_of(word: Option<&str>) -> Result<Derivation, RunError>
     ensures ok { IfOk result (KindIs (option_map (λ text. text.now) word.entry)) }
     ensures err { IfErr result (λ e. (e ≡ errors.Usage) × NamesNoKind (option_map (λ text. text.now) word.entry)) }
 {
     match word {
-        Some("fill") => Ok(View::Fill),
-        Some("hmax") => Ok(View::HMax),
-        Some("regmax") => Ok(View::RegMax),
+        Some("fill") => Ok(Derivation::Fill),
+        Some("hmax") => Ok(Derivation::HMax),
+        Some("regmax") => Ok(Derivation::RegMax),
         None | Some(_) => Err(RunError::Usage),
     }
 }

@@ -1,10 +1,12 @@
-use super::memory_store::MemoryStore;
 use super::source_of;
-use crate::process::run;
-use crate::run_error::RunError;
-use pgm_codec::MemorySink;
+use crate::process::{conclude, run};
+use byte_devices::MemorySink;
+use core_rules::CoreError;
+use paint_session::memory_store::MemoryStore;
+use paint_session::run_error::RunError;
 use std::alloc::Global;
 use std::test::Fail;
+use stroke_core::Tag;
 
 // What the program writes when it is called with these words on this input.
 fn written(alloc: Global, words: &[&str], input: &str) -> Result<Result<Vec<u8>, RunError>, Fail> {
@@ -13,7 +15,7 @@ fn written(alloc: Global, words: &[&str], input: &str) -> Result<Result<Vec<u8>,
         all.push(String::from_str(alloc, word)?)?;
     }
     let mut source = source_of(alloc, input)?;
-    let mut store = MemoryStore::new(Vec::new(alloc));
+    let mut store = MemoryStore::new(alloc);
     let mut sink = MemorySink::new(alloc);
     match run(
         alloc,
@@ -74,7 +76,7 @@ fn words_that_say_no_call_read_nothing(rt: HostRuntime) -> Result<(), Fail> {
             words.push(String::from_str(alloc, word)?)?;
         }
         let mut source = source_of(alloc, "P2\n1 1\n9\n5\n")?.failing_at(1);
-        let mut store = MemoryStore::new(Vec::new(alloc)).failing_at(1);
+        let mut store = MemoryStore::new(alloc).failing_at(1);
         let mut sink = MemorySink::new(alloc);
         let outcome = run(
             alloc,
@@ -86,5 +88,33 @@ fn words_that_say_no_call_read_nothing(rt: HostRuntime) -> Result<(), Fail> {
         assert_eq!(rt; outcome, Err(RunError::Usage), "{kind}");
         assert_eq!(rt; sink.written().len(), 0, "{kind}");
     }
+    Ok(())
+}
+
+#[test]
+fn a_fault_is_told_in_one_line(rt: HostRuntime) -> Result<(), Fail> {
+    let alloc = rt.alloc();
+    let cases = [
+        (RunError::Usage, "seedpaint: usage\n"),
+        (RunError::StateFile, "seedpaint: V2\n"),
+        (RunError::Memory, "seedpaint: memory\n"),
+        (
+            RunError::Core(CoreError::Conflict(Tag(255))),
+            "seedpaint: C2 00000000-0000-0000-0000-0000000000ff\n",
+        ),
+    ];
+    for (error, line) in cases {
+        let outcome: Result<(), RunError> = Err(error);
+        let mut errors = MemorySink::new(alloc).in_pieces(5);
+        let _ = conclude(alloc, &outcome, &mut errors);
+        assert_eq!(rt; errors.written(), line.as_bytes(), "{line}");
+        let mut cut = MemorySink::new(alloc).in_pieces(5).failing_at(2);
+        let _ = conclude(alloc, &outcome, &mut cut);
+        assert_eq!(rt; cut.written(), &line.as_bytes()[..5], "{line}");
+    }
+    let mut errors = MemorySink::new(alloc);
+    let outcome: Result<(), RunError> = Ok(());
+    let _ = conclude(alloc, &outcome, &mut errors);
+    assert_eq!(rt; errors.puts(), 0);
     Ok(())
 }

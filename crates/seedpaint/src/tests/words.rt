@@ -1,7 +1,7 @@
-use crate::derive::View;
-use crate::run_error::RunError;
 use crate::words::{Call, read_process_words, read_words};
 use grid_core::Conn;
+use paint_session::derive::Derivation;
+use paint_session::run_error::RunError;
 use std::alloc::Global;
 use std::io;
 use std::process::Abort;
@@ -49,7 +49,7 @@ fn is_kept_view(call: &Result<Call, RunError>, name: &str) -> bool {
 }
 
 // The words are read, and say such a derivation.
-fn is_derivation(call: &Result<Call, RunError>, kind: View, h: u16, conn: Conn) -> bool {
+fn is_derivation(call: &Result<Call, RunError>, kind: Derivation, h: u16, conn: Conn) -> bool {
     match call {
         Ok(
             Call::Derive {
@@ -155,38 +155,53 @@ fn sides_that_are_usage(rt: HostRuntime) -> Result<(), Fail> {
 #[test]
 fn words_of_a_derivation(rt: HostRuntime) -> Result<(), Fail> {
     let alloc = rt.alloc();
-    let cases: [(&[&str], View, u16, Conn); 11] = [
-        (&["derive", "fill"], View::Fill, 1, Conn::Four),
-        (&["derive", "hmax"], View::HMax, 1, Conn::Four),
-        (&["derive", "regmax"], View::RegMax, 1, Conn::Four),
-        (&["derive", "hmax", "--h", "2"], View::HMax, 2, Conn::Four),
-        (&["derive", "hmax", "--h=0"], View::HMax, 0, Conn::Four),
+    let cases: [(&[&str], Derivation, u16, Conn); 11] = [
+        (&["derive", "fill"], Derivation::Fill, 1, Conn::Four),
+        (&["derive", "hmax"], Derivation::HMax, 1, Conn::Four),
+        (&["derive", "regmax"], Derivation::RegMax, 1, Conn::Four),
+        (
+            &["derive", "hmax", "--h", "2"],
+            Derivation::HMax,
+            2,
+            Conn::Four,
+        ),
+        (
+            &["derive", "hmax", "--h=0"],
+            Derivation::HMax,
+            0,
+            Conn::Four,
+        ),
         (
             &["derive", "--h", "65535", "hmax"],
-            View::HMax,
+            Derivation::HMax,
             65_535,
             Conn::Four,
         ),
-        (&["derive", "fill", "--h", "7"], View::Fill, 7, Conn::Four),
+        (
+            &["derive", "fill", "--h", "7"],
+            Derivation::Fill,
+            7,
+            Conn::Four,
+        ),
         (
             &["derive", "regmax", "--conn", "4"],
-            View::RegMax,
+            Derivation::RegMax,
             1,
             Conn::Four,
         ),
         (
             &["derive", "regmax", "--conn", "8"],
-            View::RegMax,
+            Derivation::RegMax,
             1,
             Conn::Eight,
         ),
         (
             &["derive", "--conn=8", "fill", "--h=3"],
-            View::Fill,
+            Derivation::Fill,
             3,
             Conn::Eight,
         ),
-        (&["derive", "--", "fill"], View::Fill, 1, Conn::Four),
+        (&["derive", "--", "fill"], Derivation::Fill, 1, Conn::Four),
     ];
     for (words, kind, h, conn) in cases {
         assert!(rt;

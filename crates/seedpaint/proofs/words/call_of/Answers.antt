@@ -2,7 +2,7 @@ use Rattle.std.proofs.Common.{rules, subst, ◌∙◌, ◌≡◌, Option, codes,
 use Rattle.std.proofs.lemmas.Result.{err_from_is_err_and}
 use Rattle.clap.specs.Words.{Text, first_of, found_of, rows_of}
 use Rattle.clap.proofs.WalkLemmas.{first_value-rows}
-use Rattle.seedpaint.specs.declared.run_error.RunError.TheVariants.{Usage}
+use Rattle.paint_session.specs.declared.run_error.RunError.TheVariants.{Usage}
 use Rattle.seedpaint.specs.Words.{ConnIs, NamesNoConn, SideIs, NamesNoSide, KindIs, NamesNoKind, HIs, NamesNoH}
 use Rattle.seedpaint.proofs.Calls.{same_err}
 use Rattle.seedpaint.proofs.Subcommands.{named_rows, no_call, no_sided_call, no_kind_call, no_h_call, no_joined_call}

@@ -21,9 +21,10 @@ returns c =
     ap app_of_fields c.no_binary_name.ensures ∙ ap unnamed c.new.ensures.app in
     let flag_is : app_of c.disable_help_flag.result ≡ without_flag (unnamed (new_app (codes "seedpaint"))) =
     ap app_of_fields c.disable_help_flag.ensures ∙ ap without_flag unnamed_is in
-    let help_is : app_of c.disable_help_subcommand.result ≡ without_help (without_flag (unnamed (new_app (codes "seedpaint")))) =
+    let bare = unnamed (new_app (codes "seedpaint")) in
+    let help_is : app_of c.disable_help_subcommand.result ≡ without_help (without_flag bare) =
     ap app_of_fields c.disable_help_subcommand.ensures ∙ ap without_help flag_is in
-    let top_is : app_of c.subcommand_required.result ≡ required (without_help (without_flag (unnamed (new_app (codes "seedpaint"))))) =
+    let top_is : app_of c.subcommand_required.result ≡ required (without_help (without_flag bare)) =
     ap app_of_fields c.subcommand_required.ensures ∙ ap required help_is in
     let with_view = c.in_ok-subcommand.ensures.shape c.in_ok-view_command.ensures.local
     ∙ ap₂ with_subcommand top_is (ap (λ (a : App). a.top) c.in_ok-view_command.ensures.app) in

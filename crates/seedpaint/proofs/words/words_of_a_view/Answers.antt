@@ -6,7 +6,8 @@ use Rattle.seedpaint.proofs.words.words_of_a_view.Goals as goal
 
 eight : SideIs (Some (codes "8")) 8
 eight =
-    names_side (codes "8") 8 refl (omega arith, tt) (omega arith) (λ zero. refl) (record { at_least = omega arith; at_most = omega arith })
+    names_side (codes "8") 8 refl (omega arith, tt) (omega arith) (λ zero. refl)
+    (record { at_least = omega arith; at_most = omega arith })
 
 sixteen : SideIs (Some (codes "16")) 16
 sixteen =
@@ -15,7 +16,8 @@ sixteen =
 
 many : SideIs (Some (codes "256")) 256
 many =
-    names_side (codes "256") 256 refl (omega arith, (omega arith, (omega arith, tt))) (omega arith) (λ zero. absurd (omega arith))
+    names_side (codes "256") 256 refl (omega arith, (omega arith, (omega arith, tt))) (omega arith)
+    (λ zero. absurd (omega arith))
     (record { at_least = omega arith; at_most = omega arith })
 
 pub returns-clause-alone : goal.returns-clause-alone

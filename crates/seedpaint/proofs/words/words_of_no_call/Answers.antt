@@ -1,9 +1,10 @@
 use Rattle.std.proofs.Common.{rules, Some, refl, codes, [], ◌∷◌, length, ap, ◌∙◌, arith}
 use Rattle.std.proofs.lemmas.Fmt.{decimal_digit}
 use Rattle.clap.proofs.OnLiterals.{clap_on_literals}
-use Rattle.seedpaint.proofs.Subcommands.{option_row, names_no_h, names_no_side, usage_at_fault, usage_at_h, usage_at_kind, usage_at_side}
+use Rattle.seedpaint.proofs.Subcommands.{option_row, names_no_h, names_no_side}
+use Rattle.seedpaint.proofs.Subcommands.{usage_at_fault, usage_at_h, usage_at_kind, usage_at_side}
 use Rattle.seedpaint.specs.Words.{NamesNoH, NamesNoKind}
-use Rattle.seedpaint.specs.declared.derive.View.TheVariants.{Fill, HMax, RegMax}
+use Rattle.paint_session.specs.declared.derive.Derivation.TheVariants.{Fill, HMax, RegMax}
 use Rattle.seedpaint.proofs.words.words_of_no_call.Goals as goal
 
 pub returns-clause-five : goal.returns-clause-five
@@ -85,17 +86,20 @@ too_great = names_no_h (codes "65536") (λ same within. absurd (omega (arith, wi
 pub returns-clause-h_too_great : goal.returns-clause-h_too_great
 unfolding clap_on_literals
 returns-clause-h_too_great c =
-    usage_at_h _ (option_row (codes "kind") (codes "hmax") ∷ option_row (codes "h") (codes "65536") ∷ []) (codes "65536") refl refl refl too_great
+    usage_at_h _ (option_row (codes "kind") (codes "hmax") ∷ option_row (codes "h") (codes "65536") ∷ [])
+    (codes "65536") refl refl refl too_great
 
 pub returns-clause-unused_h_too_great : goal.returns-clause-unused_h_too_great
 unfolding clap_on_literals
 returns-clause-unused_h_too_great c =
-    usage_at_h _ (option_row (codes "kind") (codes "fill") ∷ option_row (codes "h") (codes "65536") ∷ []) (codes "65536") refl refl refl too_great
+    usage_at_h _ (option_row (codes "kind") (codes "fill") ∷ option_row (codes "h") (codes "65536") ∷ [])
+    (codes "65536") refl refl refl too_great
 
 pub returns-clause-h_with_a_zero : goal.returns-clause-h_with_a_zero
 unfolding clap_on_literals
 returns-clause-h_with_a_zero c =
-    usage_at_h _ (option_row (codes "kind") (codes "hmax") ∷ option_row (codes "h") (codes "02") ∷ []) (codes "02") refl refl refl
+    usage_at_h _ (option_row (codes "kind") (codes "hmax") ∷ option_row (codes "h") (codes "02") ∷ []) (codes "02")
+    refl refl refl
     (names_no_h (codes "02") (λ same within.
     absurd (omega (arith, ap length (same ∙ decimal_digit 2 (omega arith))))))
 

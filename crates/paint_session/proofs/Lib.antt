@@ -1,0 +1,14 @@
+pub mod Results
+pub mod Lists
+pub mod LowerLaws
+pub mod ImageLines
+pub mod Splits
+pub mod Deltas
+pub mod Refusals
+pub mod Shown
+pub mod KeptViews
+pub mod KeptLaws
+pub mod Derived
+pub mod Files
+pub mod Shared
+pub mod StoredViews

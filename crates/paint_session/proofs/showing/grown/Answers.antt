@@ -1,0 +1,23 @@
+use Rattle.std.proofs.Common.{sym, ◌∙◌, subst}
+use Rattle.grid_core.specs.Raster.{Raster, IsBelow}
+use Rattle.stroke_lattice.specs.State.{StateFits}
+use Rattle.paint_session.proofs.Shown.{grown_is_shown}
+use Rattle.paint_session.proofs.showing.grown.Goals as goal
+
+pub marker-requires : goal.marker-requires
+marker-requires c =
+    subst (λ (r : Raster). StateFits r.width r.height c.args.state.now) (sym c.grid.ensures.value) c.requires
+
+pub grow_in_place-requires : goal.grow_in_place-requires
+grow_in_place-requires c =
+    subst (IsBelow c.in_ok-image.image) (c.grid.ensures.value ∙ sym c.grid-2.ensures.value) c.in_ok-image.ensures.below
+
+pub returns : goal.returns
+returns c =
+    grown_is_shown c.args.conn c.args.mask.now c.over.result c.args.state.now c.grid.result.now c.grid-2.result.now
+    c.in_ok-image.image
+    c.grow_in_place.new.image c.maxval.result c.grid.ensures.value c.grid-2.ensures.value
+    (c.in_ok-image.ensures.marks c.args.conn)
+    c.grow_in_place.ensures.below c.in_ok-grow_in_place.ensures.filled c.in_ok-grow_in_place.ensures.reconstruction
+    c.maxval.ensures.value
+    c.over.ensures

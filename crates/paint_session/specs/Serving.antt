@@ -1,0 +1,65 @@
+-- What a run says over a store: it loads a state file, answers what the source had left, writes the answer, and saves
+-- what the file is to keep.
+use Rattle.std.specs.Prelude.{◌≡◌, ◌⊎◌, ℕ, ◌<◌, List, Option, Some, None, Result, IfErr, OnErr, OnOk, IsErrOf}
+use Rattle.std.specs.Io.KnownBytes.{Appends}
+use Rattle.byte_devices.specs.Device.{SinkSeen, HasRisen}
+use Rattle.byte_devices.specs.Transfer.{IsInputOf, AppendsFront}
+use Rattle.grid_core.specs.declared.conn.Conn.{Conn}
+use Rattle.paint_session.specs.Kept.{IsKeptView, KeptStops}
+use Rattle.paint_session.specs.RunError.{IsReadingFault, IsTransferFault}
+use Rattle.paint_session.specs.Store.{AreSame, Held, IsHeldIn, IsReplaced, StoreSeen}
+use Rattle.paint_session.specs.declared.run_error.RunError.{RunError}
+use Rattle.paint_session.specs.declared.run_error.RunError.TheVariants.{Memory, StateFile}
+
+-- what is to be kept: bytes for the file of a name, or nothing
+abbrev pub ToKeep : Type 0
+ToKeep = Option (List ℕ × List ℕ)
+
+-- it is kept; where it is nothing, no file changes
+abbrev pub IsKeptIn : Held → Held → ToKeep → Type 0
+IsKeptIn before after None = AreSame before after
+IsKeptIn before after (Some file) = IsReplaced before after file.0 file.1
+
+-- The answer to what the source had left was written, and what it keeps was saved, or the run was refused. A text and
+-- what it keeps answer an input (`answers`), or an error stops it (`stops`); `early` are the errors that may come
+-- whatever the input is.
+pub record Serves {S K : Type 0} (answers : List ℕ → List ℕ → ToKeep → Type 0) (stops : List ℕ → RunError → Type 0)
+    (early : RunError → Type 0) (result : Result (Unit {0}) RunError) (known : Option (List ℕ)) (source source' : S)
+    (seen : K → SinkSeen) (sink sink' : K) (before after : Held) : Type 0 where
+  -- what is written answers what is read, and nothing else is; what is to be kept is kept, and no other file changes
+  pub shown : OnOk result ((input text : List ℕ) × (kept : ToKeep) × IsInputOf known input × answers input text kept
+      × Appends (seen sink).written (seen sink').written text × IsKeptIn before after kept)
+  -- those errors and devices aside, a refusal is one at which the input stops
+  pub refused : IfErr result (λ e. early e ⊎ IsTransferFault e
+      ⊎ ((input : List ℕ) × IsInputOf known input × stops input e))
+  -- nothing is written, unless the sink failed: then a front of the answer
+  pub untouched : IfErr result (λ e. (IsTransferFault e → ⊥) → (e ≡ StateFile → ⊥) → sink' ≡ sink)
+  pub written : IfErr result (λ e. IsTransferFault e → (sink' ≡ sink)
+      ⊎ (HasRisen (seen sink).failures (seen sink').failures
+      × ((input text : List ℕ) × (kept : ToKeep) × IsInputOf known input × answers input text kept
+      × AppendsFront (seen sink).written (seen sink').written text)))
+  -- or the file could not be loaded, and nothing was read; or not be saved, and the answer was written
+  pub not_saved : IfErr result (λ e. e ≡ StateFile → ((source' ≡ source) × (sink' ≡ sink))
+      ⊎ ((input text : List ℕ) × (kept : ToKeep) × IsInputOf known input × answers input text kept
+      × Appends (seen sink).written (seen sink').written text))
+
+-- What the store tells after such a run: after an error no file has changed; V2 comes only of a store that failed, and
+-- a store that failed gives it.
+pub record TellsStore (result : Result (Unit {0}) RunError) (old new : StoreSeen) : Type 0 where
+  pub files : OnErr result (AreSame old.held new.held)
+  pub fault : IfErr result (λ e. e ≡ StateFile → HasRisen old.failures new.failures)
+  pub failure : old.failures < new.failures → IsErrOf result StateFile
+
+-- the errors of a run with a state file that may come whatever the input is: in loading and saving the file, and in
+-- reading and writing
+abbrev pub IsStoreFault : RunError → Type 0
+IsStoreFault e = (e ≡ StateFile) ⊎ (e ≡ Memory) ⊎ IsReadingFault e
+
+-- the text is the view of the input over the strokes of the file of this name, which is to keep the new bytes
+abbrev pub IsStoredView : Conn → Held → List ℕ → List ℕ → List ℕ → ToKeep → Type 0
+IsStoredView conn held name input text kept =
+    (old new : List ℕ) × IsHeldIn held name old × IsKeptView conn old input text new × (kept ≡ Some (name, new))
+
+-- an input stops over the strokes of that file
+abbrev pub StoredStops : Conn → Held → List ℕ → List ℕ → RunError → Type 0
+StoredStops conn held name input e = (old : List ℕ) × IsHeldIn held name old × KeptStops conn old input e

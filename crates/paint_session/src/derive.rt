@@ -1,0 +1,112 @@
+//! An image derived from one image file: from bytes in to bytes out.
+
+ghost use Rattle.std.specs.Prelude.{◌≡◌, ℕ, List, IfOk};
+ghost use Rattle.byte_devices.specs.Response.{Responds, TellsDevices};
+ghost use Rattle.grid_core.specs.declared.conn.Conn.{Conn};
+ghost use Rattle.paint_session.specs.Derive.{DerivationStops, FileIsRefused, IsDerivation, IsDerived};
+ghost use Rattle.paint_session.specs.RunError.{IsReadingFault, IsTransferFault};
+ghost use Rattle.paint_session.specs.declared.derive.Derivation.{Derivation};
+ghost use Rattle.paint_session.specs.declared.run_error.RunError.{RunError};
+
+use crate::run_error::RunError;
+use byte_devices::{Responder, Sink, Source, respond};
+use derived_views::laws::{at_most_one_fill, at_most_one_regional_maxima};
+use derived_views::{fill, h_maxima, regional_maxima};
+use grid_core::laws::{at_most_one_reconstruction, equal_pixels_equal_images};
+use grid_core::{Conn, Memory};
+use pgm_codec::{Image, one_fault, one_image, read, write_raw};
+use std::alloc::Global;
+
+/// What can be derived from an image.
+#[derive(Clone, Copy, Debug, PartialEq, Eq)]
+pub enum Derivation {
+    /// Its holes filled (Soille).
+    Fill,
+    /// Its h-maxima (Vincent 1993).
+    HMax,
+    /// Its regional maxima (Vincent 1993).
+    RegMax,
+}
+
+/// Reads one PGM file, all that the source has, and writes what is derived from its image as a raw PGM file: the image
+/// with its holes filled, its h-maxima for this `h`, or its regional maxima, under this connectivity. `h` is 0 to
+/// 65535, and of use for h-maxima alone. The file has the maxval of the one that was read, and for regional maxima 1.
+///
+/// Errors, the first that is met: P1 to P9 of the file. P11 where a device failed or the source did not end; P10 in
+/// place of any answer, or plain want of memory where the file has no fault. Nothing is written, unless the sink
+/// failed: then a front of the file.
+pub fn derive_run<S: Source, K: Sink>(
+    alloc: Global,
+    source: &mut S,
+    kind: Derivation,
+    h: u16,
+    conn: Conn,
+    sink: &mut K,
+) -> Result<(), RunError>
+    ensures responds { Responds (λ input _ text. IsDerivation kind h conn input text) DerivationStops
+        IsReadingFault IsTransferFault result (S.seen source.old).remaining K.seen sink.old sink.new }
+    ensures devices { TellsDevices IsReadingFault IsTransferFault result
+        (S.seen source.old) (S.seen source.new) (K.seen sink.old) (K.seen sink.new) }
+{
+    respond(alloc, &Deriver { kind, h, conn }, source, sink)
+}
+
+// Derives images of one kind.
+#[derive(Drop)]
+struct Deriver {
+    kind: Derivation,
+    h: u16,
+    conn: Conn,
+}
+
+impl Responder for Deriver {
+    type Value = ();
+
+    type Error = RunError;
+
+    ghost answers = { λ d input _ text. IsDerivation d.kind d.h d.conn input text };
+
+    ghost stops = { λ _ input e. DerivationStops input e };
+
+    fn answer(&self, alloc: Global, input: &[u8]) -> Result<((), Vec<u8>), RunError> {
+        one_fault();
+        let image = read(alloc, input)?;
+        let derived = derived_image(alloc, &image, self.kind, self.h, self.conn)?;
+        let text = write_raw(alloc, &derived)?;
+        Ok(((), text))
+    }
+}
+
+// The image that is derived from another.
+fn derived_image(
+    alloc: Global,
+    image: &Image,
+    kind: Derivation,
+    h: u16,
+    conn: Conn,
+) -> Result<Image, Memory>
+    ensures { IfOk result (IsDerived kind h conn image.now) }
+{
+    match kind {
+        Derivation::Fill => fill(alloc, image, conn),
+        Derivation::HMax => h_maxima(alloc, image, h, conn),
+        Derivation::RegMax => regional_maxima(alloc, image, conn),
+    }
+}
+
+/// At most one image of a kind is derived from an input. An input is refused for at most one reason, and then nothing
+/// is derived from it.
+pub fn one_derivation()
+    ensures text { (kind : Derivation) (h : ℕ) (conn : Conn) (input a b : List ℕ) → IsDerivation kind h conn input a
+        → IsDerivation kind h conn input b → a ≡ b }
+    ensures refusal { (input : List ℕ) (d e : RunError) → FileIsRefused input d → FileIsRefused input e → d ≡ e }
+    ensures none { (kind : Derivation) (h : ℕ) (conn : Conn) (input text : List ℕ) (e : RunError)
+        → IsDerivation kind h conn input text → FileIsRefused input e → ⊥ }
+{
+    one_image();
+    one_fault();
+    at_most_one_fill();
+    at_most_one_regional_maxima();
+    at_most_one_reconstruction();
+    equal_pixels_equal_images();
+}

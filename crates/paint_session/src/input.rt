@@ -1,0 +1,72 @@
+//! What stands before and after the line `image`, and what it spells.
+
+ghost use Rattle.std.specs.Prelude.{◌≡◌, ◌≢◌, ℕ, ◌<◌, ◌≤◌, ◌↔◌, ◌⊎◌, length, slice_index};
+ghost use Rattle.std.specs.Prelude.{IsTrue, IfSome, IfNone, IfOk, IfErr};
+ghost use Rattle.paint_session.specs.Input.{IsImageLine, IsSplit, HasNoImageLine};
+ghost use Rattle.paint_session.specs.RunError.{IsReadingFault};
+ghost use Rattle.paint_session.specs.View.{InputSpells, InputIsRefusedBy, no_more};
+
+use crate::run_error::RunError;
+use edit_lang::parse;
+use pgm_codec::{Image, read};
+use std::alloc::Global;
+use stroke_lattice::Delta;
+
+// Where the line at the front ends: the index of its LF, or the length where there is none.
+fn line_length(bytes: &[u8]) -> usize
+    ensures within { result ≤ length bytes.now }
+    ensures before { (k : ℕ) → k < result → slice_index bytes.now k ≢ 10 }
+    ensures at_end { result < length bytes.now → slice_index bytes.now result ≡ 10 }
+{
+    for (k, byte) in bytes.iter().enumerate() {
+        if *byte == b'\n' {
+            return k;
+        }
+    }
+    bytes.len()
+}
+
+fn is_image_line(line: &[u8]) -> bool
+    ensures { IsTrue result ↔ IsImageLine line.now }
+{
+    line == b"image".as_slice() || line == b"image\r".as_slice()
+}
+
+/// The edit text before the first line that is exactly `image` and ends with LF, and the image file
+/// after it. A CR before that LF does not count. `None` where there is no such line.
+pub fn split(input: &[u8]) -> Option<(&[u8], &[u8])>
+    ensures split { IfSome result (λ p. IsSplit input.now p.0.now p.1.now) }
+    ensures none { IfNone result (HasNoImageLine input.now) }
+{
+    let mut start = 0;
+    while start < input.len() {
+        let (edits, rest) = input.split_at(start);
+        let length = line_length(rest);
+        if length == rest.len() {
+            break;
+        }
+        let (line, _) = rest.split_at(length);
+        let (_, file) = rest.split_at(length + 1);
+        if is_image_line(line) {
+            return Some((edits, file));
+        }
+        start += length + 1;
+    }
+    None
+}
+
+/// The deltas of an input's edit lines, in order, and the mask behind them.
+///
+/// Errors, the first that is met: V1 without an `image` line; E1 to E3 of the edit text; P1 to P9 of the image file. E4
+/// or P10 for want of memory.
+pub fn read_input(alloc: Global, input: &[u8]) -> Result<(Vec<Delta>, Image), RunError>
+    ensures spelled { IfOk result (λ parts. InputSpells input.now parts.1 parts.0.items) }
+    ensures refused { IfErr result (λ e. IsReadingFault e ⊎ InputIsRefusedBy no_more input.now e) }
+{
+    let Some((edits, file)) = split(input) else {
+        return Err(RunError::NoImage);
+    };
+    let deltas = parse(alloc, edits)?;
+    let mask = read(alloc, file)?;
+    Ok((deltas, mask))
+}

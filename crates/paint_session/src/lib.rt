@@ -1,0 +1,24 @@
+#![tactic(auto)]
+//! A session of painting seed strokes: what Seedpaint does between its words and its devices, as a library.
+//!
+//! An input is edit lines, a line `image` and a PGM file ([`input`]). [`view`] writes the reconstruction by dilation of
+//! its mask from its strokes, over none, over a state, or over the bytes of a state file, and [`derive`] an image that
+//! is derived from one file. A [`store`] keeps state files. [`run_error`] tells why a run ended, with its line and
+//! status.
+//!
+//! There is one view: `merging` judges the old deltas and then those of the lines, one by one, and joins them, and
+//! `showing` paints the marker of their join once and grows it.
+
+pub mod derive;
+pub mod input;
+mod kept;
+pub mod laws;
+pub mod memory_store;
+mod merging;
+pub mod run_error;
+mod showing;
+pub mod store;
+pub mod stored;
+#[cfg(test)]
+mod tests;
+pub mod view;

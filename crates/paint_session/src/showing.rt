@@ -1,0 +1,88 @@
+//! What an input shows: its image, made once from the join of all deltas.
+
+ghost use Rattle.std.specs.Prelude.{◌++◌, ◌⊎◌, IfOk, IfErr, map};
+ghost use Rattle.stroke_lattice.specs.State.{StateFits};
+ghost use Rattle.paint_session.specs.Kept.{IsImageKept, KeptStops};
+ghost use Rattle.paint_session.specs.Merging.{AreMerged};
+ghost use Rattle.paint_session.specs.RunError.{IsReadingFault};
+ghost use Rattle.paint_session.specs.View.{DeltasAreRefused, DeltasHalt, InputStops, IsImageOfView, IsShown};
+
+use crate::input::read_input;
+use crate::kept::frames_for;
+use crate::merging::{HasDelta, merge_all};
+use crate::run_error::RunError;
+use grid_core::{Conn, Memory};
+use marker_tiles::marker;
+use pgm_codec::{Image, below_keeps_maxval};
+use raster_sweeps::grow_in_place;
+use spd_codec::{print_of, write_frames};
+use std::alloc::Global;
+use std::slice;
+use stroke_lattice::{Delta, State};
+
+/// The image that an input asks for over an old state, and the state that it shows.
+///
+/// Errors: those of [`view_from`](crate::view::view_from) but the devices'.
+pub fn show_over(
+    alloc: Global,
+    input: &[u8],
+    old: &State,
+    conn: Conn,
+) -> Result<(Image, State), RunError>
+    ensures shown { IfOk result (λ parts. IsImageOfView conn old.now input.now parts.1 parts.0) }
+    ensures refused { IfErr result (λ e. IsReadingFault e ⊎ InputStops old.now input.now e) }
+{
+    let (deltas, mask) = read_input(alloc, input)?;
+    show(alloc, &mask, slice::from_ref(old), &deltas, conn)
+}
+
+/// The image that an input asks for over the old bytes of a state file, and the new bytes.
+///
+/// Errors: those of [`view_kept`](crate::view::view_kept) but the devices' and C5.
+pub fn show_kept(
+    alloc: Global,
+    input: &[u8],
+    old: &[u8],
+    conn: Conn,
+) -> Result<(Image, Vec<u8>), RunError>
+    ensures shown { IfOk result (λ parts. (state : _)
+        × IsImageKept conn old.now input.now state parts.0 parts.1.items) }
+    ensures refused { IfErr result (λ e. IsReadingFault e ⊎ KeptStops conn old.now input.now e) }
+{
+    let (deltas, mask) = read_input(alloc, input)?;
+    let print = print_of(&mask);
+    let frames = frames_for(alloc, old, conn, &print)?;
+    let (image, state) = show(alloc, &mask, &frames, &deltas, conn)?;
+    let new = write_frames(alloc, conn, &print, &state)?;
+    Ok((image, new))
+}
+
+// The image that a mask shows of old deltas and of others, merged in order, and the state that they join to.
+fn show<D: HasDelta>(
+    alloc: Global,
+    mask: &Image,
+    old: &[D],
+    deltas: &[Delta],
+    conn: Conn,
+) -> Result<(Image, State), RunError>
+    ensures merged { IfOk result (λ parts. AreMerged mask.now.raster.width mask.now.raster.height
+        (map D.delta_of old.now ++ deltas.now) parts.1) }
+    ensures shown { IfOk result (λ parts. IsShown conn mask.now parts.1 parts.0) }
+    ensures refused { IfErr result (λ e. DeltasAreRefused (map D.delta_of old.now ++ deltas.now) mask.now e
+        ⊎ DeltasHalt (map D.delta_of old.now ++ deltas.now) mask.now e) }
+{
+    let state = merge_all(alloc, old, deltas, mask.width(), mask.height())?;
+    let image = grown(alloc, mask, &state, conn)?;
+    Ok((image, state))
+}
+
+// The mask grown from the marker of a state, with the mask's maxval.
+fn grown(alloc: Global, mask: &Image, state: &State, conn: Conn) -> Result<Image, Memory>
+    requires { StateFits mask.now.raster.width mask.now.raster.height state.now }
+    ensures { IfOk result (IsShown conn mask.now state.now) }
+{
+    below_keeps_maxval();
+    let mut image = marker(alloc, mask.grid(), state)?;
+    grow_in_place(alloc, mask.grid(), &mut image, conn)?;
+    Ok(Image::over(image, mask.maxval()))
+}

@@ -1,0 +1,205 @@
+//! The view of an input: from bytes in to bytes out.
+
+ghost use Rattle.std.specs.Prelude.{◌≡◌, IsErrOf};
+ghost use Rattle.byte_devices.specs.Response.{Responds, TellsDevices};
+ghost use Rattle.grid_core.specs.Tiles.{IsTileSide};
+ghost use Rattle.core_rules.specs.declared.error.CoreError.TheVariants as core;
+ghost use Rattle.stroke_lattice.specs.State.{State, nothing};
+ghost use Rattle.paint_session.specs.Kept.{IsKeptView, KeptStops};
+ghost use Rattle.paint_session.specs.RunError.{IsReadingFault, IsTransferFault};
+ghost use Rattle.paint_session.specs.View.{IsView, InputStops};
+
+use crate::run_error::RunError;
+use crate::showing::{show_kept, show_over};
+use byte_devices::{Responder, Sink, Source, respond};
+use core_rules::CoreError;
+use grid_core::{Conn, is_tile_side};
+use pgm_codec::{one_fault, write_raw};
+use std::alloc::Global;
+use stroke_lattice::State;
+
+/// Reads an input to its end, and writes the image that it asks for as a raw PGM file with the mask's maxval: the
+/// reconstruction by dilation of the mask (Vincent 1993) from the marker of its live strokes.
+///
+/// The input is edit lines, a line `image`, and one PGM file to the end.
+///
+/// Errors, the first that is met: V1 without an `image` line; E1 to E3 of the edit text; P1 to P9 of the file; C1 or C2
+/// at the first delta that meets it. P11 where a device failed or the source did not end; E4 or P10 for want of memory
+/// in reading and writing; C4 at a delta that could be taken; plain want of memory where all deltas are. Nothing is
+/// written, unless the sink failed: then a front of the file.
+pub fn view_run<S: Source, K: Sink>(
+    alloc: Global,
+    source: &mut S,
+    conn: Conn,
+    sink: &mut K,
+) -> Result<(), RunError>
+    ensures responds { Responds (λ input _ text. (state : State) × IsView conn nothing input state text)
+        (InputStops nothing) IsReadingFault IsTransferFault result
+        (S.seen source.old).remaining K.seen sink.old sink.new }
+    ensures devices { TellsDevices IsReadingFault IsTransferFault result
+        (S.seen source.old) (S.seen source.new) (K.seen sink.old) (K.seen sink.new) }
+{
+    respond(alloc, &FirstView { conn }, source, sink)
+}
+
+/// Reads an input to its end, merges the old state and then the input's deltas in order, and writes the image that
+/// their join shows on the input's mask as a raw PGM file with the mask's maxval. Answers that join.
+///
+/// Errors: those of [`view_run`], where the old state is the first delta.
+pub fn view_from<S: Source, K: Sink>(
+    alloc: Global,
+    source: &mut S,
+    old: &State,
+    conn: Conn,
+    sink: &mut K,
+) -> Result<State, RunError>
+    ensures responds { Responds (λ input state text. IsView conn old.now input state text) (InputStops old.now)
+        IsReadingFault IsTransferFault result (S.seen source.old).remaining K.seen sink.old sink.new }
+    ensures devices { TellsDevices IsReadingFault IsTransferFault result
+        (S.seen source.old) (S.seen source.new) (K.seen sink.old) (K.seen sink.new) }
+{
+    respond(alloc, &ViewBehind { old, conn }, source, sink)
+}
+
+/// As [`view_from`], for a side of tiles. Neither what is written nor what is answered depends on it.
+///
+/// Errors: C5 where the side is less than 8 or more than 256, with source and sink as they were; else as [`view_from`].
+pub fn view_tiled<S: Source, K: Sink>(
+    alloc: Global,
+    source: &mut S,
+    old: &State,
+    conn: Conn,
+    side: u32,
+    sink: &mut K,
+) -> Result<State, RunError>
+    // Where tiles have no such side, nothing is read or written.
+    ensures side { (IsTileSide side → ⊥) → IsErrOf result (RunError.Core core.BadSide) }
+    ensures unread { (IsTileSide side → ⊥) → (source.new ≡ source.old) × (sink.new ≡ sink.old) }
+
+    ensures responds { IsTileSide side → Responds (λ input state text. IsView conn old.now input state text)
+        (InputStops old.now) IsReadingFault IsTransferFault result
+        (S.seen source.old).remaining K.seen sink.old sink.new }
+    ensures devices { IsTileSide side → TellsDevices IsReadingFault IsTransferFault result
+        (S.seen source.old) (S.seen source.new) (K.seen sink.old) (K.seen sink.new) }
+{
+    if !is_tile_side(side) {
+        return Err(RunError::Core(CoreError::BadSide));
+    }
+    view_from(alloc, source, old, conn, sink)
+}
+
+/// Reads an input to its end, merges the strokes and tombstones that the old bytes of a state file spell and then the
+/// input's deltas, in order, and writes the image that their join shows on the input's mask, as [`view_tiled`] does.
+/// Answers the new bytes of the state file, which keep that join. A state file that is not there has no bytes.
+///
+/// Errors, the first that is met: C5 where the side is less than 8 or more than 256, with source and sink as they were;
+/// V1 without an `image` line; E1 to E3 of the edit text; P1 to P9 of the image file; M1 to M7 of the old bytes; D1
+/// where one of their frames is meant for another connectivity or mask; C1 or C2 at the first delta that meets it. P11
+/// where a device failed or the source did not end; E4 or P10 for want of memory in reading and writing; M8 for want of
+/// it at the old bytes or the new; C4 at a delta that could be taken; plain want of memory where all deltas are.
+/// Nothing is written, unless the sink failed: then a front of the file.
+pub fn view_kept<S: Source, K: Sink>(
+    alloc: Global,
+    source: &mut S,
+    old: &[u8],
+    conn: Conn,
+    side: u32,
+    sink: &mut K,
+) -> Result<Vec<u8>, RunError>
+    // Where tiles have no such side, nothing is read or written.
+    ensures side { (IsTileSide side → ⊥) → IsErrOf result (RunError.Core core.BadSide) }
+    ensures unread { (IsTileSide side → ⊥) → (source.new ≡ source.old) × (sink.new ≡ sink.old) }
+
+    ensures responds { IsTileSide side → Responds (λ input new text. IsKeptView conn old.now input text new.items)
+        (KeptStops conn old.now) IsReadingFault IsTransferFault result
+        (S.seen source.old).remaining K.seen sink.old sink.new }
+    ensures devices { IsTileSide side → TellsDevices IsReadingFault IsTransferFault result
+        (S.seen source.old) (S.seen source.new) (K.seen sink.old) (K.seen sink.new) }
+{
+    if !is_tile_side(side) {
+        return Err(RunError::Core(CoreError::BadSide));
+    }
+    respond(alloc, &KeptView { old, conn }, source, sink)
+}
+
+// Views over no state.
+#[derive(Drop)]
+struct FirstView {
+    conn: Conn,
+}
+
+impl Responder for FirstView {
+    ghost use Rattle.stroke_lattice.specs.State.{State, nothing};
+    ghost use Rattle.paint_session.specs.View.{IsView, InputStops};
+
+    type Value = ();
+
+    type Error = RunError;
+
+    ghost answers = { λ v input _ text. (state : State) × IsView v.conn nothing input state text };
+
+    ghost stops = { λ _ input e. InputStops nothing input e };
+
+    fn answer(&self, alloc: Global, input: &[u8]) -> Result<((), Vec<u8>), RunError> {
+        one_fault();
+        let old = match State::empty(alloc) {
+            Ok(old) => old,
+            Err(_) => return Err(RunError::Memory),
+        };
+        let (image, _) = show_over(alloc, input, &old, self.conn)?;
+        let text = write_raw(alloc, &image)?;
+        Ok(((), text))
+    }
+}
+
+// Views over an old state.
+#[derive(Drop)]
+struct ViewBehind<'a> {
+    old: &'a State,
+    conn: Conn,
+}
+
+impl<'a> Responder for ViewBehind<'a> {
+    ghost use Rattle.paint_session.specs.View.{IsView, InputStops};
+
+    type Value = State;
+
+    type Error = RunError;
+
+    ghost answers = { λ v input state text. IsView v.conn v.old.now input state text };
+
+    ghost stops = { λ v input e. InputStops v.old.now input e };
+
+    fn answer(&self, alloc: Global, input: &[u8]) -> Result<(State, Vec<u8>), RunError> {
+        one_fault();
+        let (image, state) = show_over(alloc, input, self.old, self.conn)?;
+        let text = write_raw(alloc, &image)?;
+        Ok((state, text))
+    }
+}
+
+// Views over the old bytes of a state file.
+#[derive(Drop)]
+struct KeptView<'a> {
+    old: &'a [u8],
+    conn: Conn,
+}
+
+impl<'a> Responder for KeptView<'a> {
+    ghost use Rattle.paint_session.specs.Kept.{IsKeptView, KeptStops};
+
+    type Value = Vec<u8>;
+
+    type Error = RunError;
+
+    ghost answers = { λ v input new text. IsKeptView v.conn v.old.now input text new.items };
+
+    ghost stops = { λ v input e. KeptStops v.conn v.old.now input e };
+
+    fn answer(&self, alloc: Global, input: &[u8]) -> Result<(Vec<u8>, Vec<u8>), RunError> {
+        one_fault();
+        let (image, new) = show_kept(alloc, input, self.old, self.conn)?;
+        let text = write_raw(alloc, &image)?;
+        Ok((new, text))
+    }
+}
