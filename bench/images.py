@@ -12,6 +12,11 @@ map     smooth hills, quantised to height lines
 spiral  a corridor one pixel wide that winds inwards, one seed at its outer end
 maze    a perfect maze of corridors one pixel wide, one seed
 noise   16-bit white noise, a few seeds
+rising  a flat plate with 64 seeds from top to bottom, each brighter than the one above it
+
+A family of many strokes, for `strokes.py`, with `--discs N` and `--withdrawn K`:
+
+discs   plates under N discs of radius 0 to 3, of which the last K lines withdraw some
 
 Families for one edit on a settled image. At a side of 4096 they have 5,000 cells, and behind the other edits 200 that
 are measured: a stroke is placed on a cell and withdrawn again, on 100 cells.
@@ -41,13 +46,14 @@ SEED = 1993
 class Strokes:
     """Edit lines, each stroke under a tag of its own and cut to the image."""
 
-    def __init__(self, width, height):
-        self.width, self.height = width, height
+    def __init__(self, width, height, scattered=False):
+        self.width, self.height, self.scattered = width, height, scattered
         self.lines = []
 
     def tag(self):
-        """A tag for the next line."""
-        return uuid.UUID(int=len(self.lines) + 1)
+        """A tag for the next line: the number of the line, or scattered over all tags as those of `uuidgen` are."""
+        number = len(self.lines) + 1
+        return uuid.UUID(int=number * 0x9E3779B97F4A7C15F39CC0605CEDC835 % 2 ** 128 if self.scattered else number)
 
     def dash(self, row, column, reach, level):
         """A slanted stroke of 2 * reach + 1 rows through a pixel."""
@@ -253,6 +259,29 @@ def noise(width, height, generator):
     return mask, 65535, strokes
 
 
+def rising(width, height, generator):
+    """A flat plate; seeds from the top down, each of which floods all that those above it have lit."""
+    mask = numpy.full((height, width), 255, numpy.uint8)
+    strokes = Strokes(width, height)
+    for number in range(64):
+        strokes.dash((2 * number + 1) * height // 128, generator.randint(width), 0, 100 + 2 * number)
+    return mask, 255, strokes
+
+
+def discs(width, height, generator, count=30_000, withdrawn=0):
+    """Plates under many small discs, some of which are withdrawn again."""
+    mask, maxval, _ = plates(width, height, generator)
+    strokes = Strokes(width, height, scattered=True)
+    rows, columns = generator.randint(height, size=count), generator.randint(width, size=count)
+    radii, levels = generator.randint(0, 4, size=count), generator.randint(50, 200, size=count)
+    for row, column, radius, level in zip(rows, columns, radii, levels):
+        strokes.disc(row, column, radius, level)
+    placed = [line.split()[1] for line in strokes.lines]
+    for number in sorted(generator.permutation(count)[:withdrawn]):
+        strokes.lines.append(f"withdraw {placed[number]}")
+    return mask, maxval, strokes
+
+
 def edited_cells(mask, every, generator):
     """Round cells, a stroke on one in `every`; then 100 strokes that are placed and withdrawn again, one by one."""
     height, width = mask.shape
@@ -294,14 +323,14 @@ def relief(width, height, generator):
 
 
 FAMILIES = {"cells": cells, "plates": plates, "map": height_lines,
-            "spiral": spiral, "maze": maze, "noise": noise,
+            "spiral": spiral, "maze": maze, "noise": noise, "rising": rising, "discs": discs,
             "few-lit": few_lit, "all-lit": all_lit, "lit-ground": lit_ground,
             "relief": relief}
 
 
-def make(family, width, height):
+def make(family, width, height, **choices):
     """The input of the program, as bytes."""
-    mask, maxval, strokes = FAMILIES[family](width, height, numpy.random.RandomState(SEED))
+    mask, maxval, strokes = FAMILIES[family](width, height, numpy.random.RandomState(SEED), **choices)
     edits = "".join(line + "\n" for line in strokes.lines)
     raster = mask.tobytes() if maxval < 256 else mask.astype(">u2").tobytes()
     return f"{edits}image\nP5\n{width} {height}\n{maxval}\n".encode() + raster
@@ -313,11 +342,14 @@ def main():
     parser.add_argument("family", choices=FAMILIES)
     parser.add_argument("sides", nargs="*", type=int, metavar="W H", help="width and height")
     parser.add_argument("--size", type=int, default=2048, help="width and height of a square (2048)")
+    parser.add_argument("--discs", type=int, default=30_000, metavar="N", help="discs of the family discs (30000)")
+    parser.add_argument("--withdrawn", type=int, default=0, metavar="K", help="how many of them are withdrawn (0)")
     words = parser.parse_args()
     if len(words.sides) not in (0, 2):
         parser.error("give both a width and a height, or --size")
     width, height = words.sides or (words.size, words.size)
-    sys.stdout.buffer.write(make(words.family, width, height))
+    choices = {"count": words.discs, "withdrawn": words.withdrawn} if words.family == "discs" else {}
+    sys.stdout.buffer.write(make(words.family, width, height, **choices))
 
 
 if __name__ == "__main__":

@@ -26,7 +26,7 @@ import tempfile
 
 HERE = pathlib.Path(__file__).resolve().parent
 KEPT = pathlib.Path(tempfile.gettempdir()) / f"seedpaint-bench-{os.getuid()}"
-FAMILIES = ["cells", "plates", "map", "spiral", "maze", "noise"]
+FAMILIES = ["cells", "plates", "map", "spiral", "maze", "noise", "rising"]
 CELL = 4  # bytes of a cell of Seedpaint's grids
 
 
@@ -45,15 +45,17 @@ def stop(text):
 class Input:
     """The files of one image: the program's input, and mask and marker by themselves."""
 
-    def __init__(self, family, side):
+    def __init__(self, family, side, **choices):
         self.family, self.side = family, side
         digest = hashlib.sha256((HERE / "images.py").read_bytes()).hexdigest()[:8]
-        self.path = KEPT / f"{family}-{side}-{digest}.txt"
+        chosen = "".join(f"-{name}-{value}" for name, value in choices.items())
+        self.path = KEPT / f"{family}-{side}{chosen}-{digest}.txt"
         self.mask = self.path.with_suffix(".mask.pgm")
         self.marker = self.path.with_suffix(".marker.pgm")
         if not self.path.exists():
             say(f"making {self.path}")
             script = [sys.executable, HERE / "images.py", family, "--size", str(side)]
+            script += [word for name, value in choices.items() for word in (f"--{name}", str(value))]
             write_once(self.path, script, subprocess.DEVNULL)
 
     def split(self, baseline):
