@@ -36,8 +36,3 @@ pub use source::Source;
 pub use std_sink::StdSink;
 pub use std_source::StdSource;
 pub use transfer::{MOST_PULLS, put_all, read_all};
-
-#[cfg(test)]
-mod device_tests;
-#[cfg(test)]
-mod response_tests;

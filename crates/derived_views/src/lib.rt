@@ -28,6 +28,3 @@ mod plateaus;
 pub use holes::fill;
 pub use maxima::h_maxima;
 pub use plateaus::regional_maxima;
-
-#[cfg(test)]
-mod tests;

@@ -42,6 +42,3 @@ pub use neighbourhood::{Neighbourhood, neighbours};
 pub use pixel::Pixel;
 pub use rect::Rect;
 pub use tiling::{MAX_TILE_SIDE, MIN_TILE_SIDE, Tiling, Touching, is_tile_side};
-
-#[cfg(test)]
-mod tests;

@@ -42,10 +42,3 @@ pub use plain_writing::write_plain;
 pub use reading::{every_text, one_fault, one_image, plain_text_is_read, raw_text_is_read, read};
 pub use transfer::{read_all, read_from, write_to};
 pub use writing::{put_samples, sample_len, write_raw};
-
-#[cfg(test)]
-mod device_tests;
-#[cfg(test)]
-mod plain_tests;
-#[cfg(test)]
-mod tests;

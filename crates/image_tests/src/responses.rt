@@ -1,7 +1,9 @@
-ghost use Rattle.std.specs.Prelude.{◌≡◌, ◌++◌, Contains, length};
-ghost use Rattle.byte_devices.specs.declared.response_tests.TwiceError.TheVariants as errors;
+//! Runs that read, answer and write.
 
-use super::*;
+ghost use Rattle.std.specs.Prelude.{◌≡◌, ◌++◌, Contains, length};
+ghost use Rattle.image_tests.specs.declared.responses.TwiceError.TheVariants as errors;
+
+use byte_devices::{MemorySink, MemorySource, Responder, ResponseError, TransferError, respond};
 use std::alloc::{AllocError, Global};
 use std::test::Fail;
 
@@ -74,39 +76,44 @@ impl Responder for Twice {
     }
 }
 
+// The text as a source.
+fn text(alloc: Global, bytes: &[u8]) -> Result<MemorySource, AllocError> {
+    Ok(MemorySource::new(bytes.to_vec(alloc)?))
+}
+
 #[test]
 fn an_input_is_answered(rt: HostRuntime) -> Result<(), Fail> {
-    let mut source = MemorySource::new(b"stroke".to_vec(rt.alloc())?).in_pieces(4);
+    let mut source = text(rt.alloc(), b"stroke")?.in_pieces(4);
     let mut sink = MemorySink::new(rt.alloc()).in_pieces(5);
-    let answer = respond(rt.alloc(), &Twice, &mut source, &mut sink);
-    assert_eq!(rt; answer, Ok(6));
-    assert_eq!(rt; sink.written(), b"strokestroke".as_slice());
-    assert_eq!(rt; (source.pulls(), source.ends(), sink.puts()), (3, 1, 3));
+    assert!(rt; respond(rt.alloc(), &Twice, &mut source, &mut sink) == Ok(6));
+    assert!(rt; sink.written() == b"strokestroke".as_slice());
+    assert!(rt; source.pulls() == 3 && source.ends() == 1 && sink.puts() == 3);
     Ok(())
 }
 
 #[test]
 fn an_input_is_refused_with_nothing_written(rt: HostRuntime) -> Result<(), Fail> {
-    let mut source = MemorySource::new(b"a\0b".to_vec(rt.alloc())?);
+    let mut source = text(rt.alloc(), b"a\0b")?;
     let mut sink = MemorySink::new(rt.alloc());
-    let answer = respond(rt.alloc(), &Twice, &mut source, &mut sink);
-    assert_eq!(rt; answer, Err(TwiceError::Zero));
-    assert_eq!(rt; (source.ends(), sink.puts()), (1, 0));
+    assert!(rt; respond(rt.alloc(), &Twice, &mut source, &mut sink) == Err(TwiceError::Zero));
+    assert!(rt; source.ends() == 1 && sink.puts() == 0);
     Ok(())
 }
 
 #[test]
-fn a_failing_device_is_told(rt: HostRuntime) -> Result<(), Fail> {
-    let mut source = MemorySource::new(b"ab".to_vec(rt.alloc())?).failing_at(2);
+fn a_failing_source_is_told(rt: HostRuntime) -> Result<(), Fail> {
+    let mut source = text(rt.alloc(), b"ab")?.failing_at(2);
     let mut sink = MemorySink::new(rt.alloc());
-    let answer = respond(rt.alloc(), &Twice, &mut source, &mut sink);
-    assert_eq!(rt; answer, Err(TwiceError::Device));
-    assert_eq!(rt; (source.failures(), sink.puts()), (1, 0));
+    assert!(rt; respond(rt.alloc(), &Twice, &mut source, &mut sink) == Err(TwiceError::Device));
+    assert!(rt; source.failures() == 1 && sink.puts() == 0);
+    Ok(())
+}
 
-    let mut source = MemorySource::new(b"ab".to_vec(rt.alloc())?);
+#[test]
+fn a_failing_sink_is_told(rt: HostRuntime) -> Result<(), Fail> {
+    let mut source = text(rt.alloc(), b"ab")?;
     let mut sink = MemorySink::new(rt.alloc()).in_pieces(3).failing_at(2);
-    let answer = respond(rt.alloc(), &Twice, &mut source, &mut sink);
-    assert_eq!(rt; answer, Err(TwiceError::Device));
-    assert_eq!(rt; sink.written(), b"aba".as_slice());
+    assert!(rt; respond(rt.alloc(), &Twice, &mut source, &mut sink) == Err(TwiceError::Device));
+    assert!(rt; sink.written() == b"aba".as_slice());
     Ok(())
 }
