@@ -1,26 +1,17 @@
 -- Open pairs that begin on a rectangle's border.
-use Rattle.std.proofs.Common.{◌≡◌, ℕ, ◌+◌, ◌-◌, ◌<◌, ◌⊎◌, Bool, true, false, List, [], length}
+use Rattle.std.proofs.Common.{◌≡◌, ℕ, ◌-◌, ◌<◌, ◌⊎◌, Bool, true, false, List, [], length}
 use Rattle.std.proofs.Common.{refl, ap, inl, inr, arith}
 use Rattle.std.specs.Prelude.{IsTrue}
 use Rattle.std.proofs.lemmas.Bool.{cases_lt}
 use Rattle.grid_core.specs.declared.conn.Conn.{Conn}
 use Rattle.grid_core.specs.declared.pixel.Pixel.{Pixel}
 use Rattle.grid_core.specs.declared.rect.Rect.{Rect}
-use Rattle.grid_core.specs.Raster.{Raster, IsInside, IsOnBorder}
-use Rattle.raster_sweeps.specs.Borders.{OpenPairsBeginOnBorder}
-use Rattle.raster_sweeps.specs.Growth.{AllWait, AreOpen, cell_of}
-use Rattle.raster_sweeps.specs.RowPairs.{HaveJoined, IsOpenCell, IsOpenFrom}
+use Rattle.grid_core.specs.Raster.{Raster, IsInside}
+use Rattle.raster_sweeps.specs.Growth.{AllWait, AreOpen, IsOpenIn, cell_of}
+use Rattle.raster_sweeps.specs.RowPairs.{HaveJoined, IsFromDown, IsFromTo, IsFromUp, IsOpenCell, IsOpenFrom}
 use Rattle.raster_sweeps.proofs.ImageRows.{rows_near}
 use Rattle.raster_sweeps.proofs.Joining.{joined_same, joined_both, joined_stopped}
-use Rattle.raster_sweeps.proofs.OpenRows.{IsFromTo, in_other_rows}
-
--- the first pixel lies in this row, and the second in the one above
-abbrev pub IsFromUp : ℕ → ℕ → ℕ → Type 0
-IsFromUp y a b = (a ≡ y) × (b + 1 ≡ y)
-
--- the first pixel lies in this row, and the second in the one below
-abbrev pub IsFromDown : ℕ → ℕ → ℕ → Type 0
-IsFromDown y a b = (a ≡ y) × (b ≡ y + 1)
+use Rattle.raster_sweeps.proofs.OpenRows.{in_other_rows}
 
 module _ (conn : Conn) (rect : Rect) (mask image : Raster) where
   -- the cell is that of the first pixel of an open pair of rows that are such
@@ -185,12 +176,12 @@ module _ (conn : Conn) (rect : Rect) (mask image : Raster) where
     | inr begins ↦ (begins.pixel, begins.other, begins.raises, begins.place)
   ]
 
-  -- where open pairs begin on the border alone, each waits
-  pub border_waits : (room : Bool) (old new : List ℕ) → IsTrue room
-      → HaveJoined (Begins (IsOnBorder rect.w rect.h)) room old new
-      → OpenPairsBeginOnBorder conn rect mask image
+  -- where each open pair begins at such a pixel, each waits
+  pub begun_wait : (IsFrom : Pixel → Type 0) (room : Bool) (old new : List ℕ) → IsTrue room
+      → HaveJoined (Begins IsFrom) room old new
+      → ((p q : Pixel) → IsOpenIn conn rect mask image p q → IsFrom p)
       → AllWait conn rect mask image new
-  border_waits room old new all joined begin p q raises =
+  begun_wait IsFrom room old new all joined begin p q raises =
       joined.every all (cell_of rect image.width p)
       (record {
         pixel = p;

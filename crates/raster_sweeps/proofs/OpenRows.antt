@@ -1,21 +1,18 @@
 -- Open pairs of a rectangle, row by row.
-use Rattle.std.proofs.Common.{◌≡◌, ℕ, ◌+◌, ◌*◌, ◌<◌, ◌≤◌, ◌⊎◌, Bool, true, false, List, [], length, min, refl, ap}
+use Rattle.std.proofs.Common.{◌≡◌, ℕ, ◌+◌, ◌*◌, ◌<◌, ◌≤◌, ◌⊎◌, Bool, true, false, List, min, refl, ap}
 use Rattle.std.proofs.Common.{inl, inr, arith}
 use Rattle.std.proofs.lemmas.Bool.{cases_lt}
 use Rattle.grid_core.specs.declared.conn.Conn.{Conn}
 use Rattle.grid_core.specs.declared.rect.Rect.{Rect}
 use Rattle.grid_core.specs.Neighbours.{apart, AreNeighbours}
-use Rattle.grid_core.specs.Raster.{Raster, value_at}
+use Rattle.grid_core.specs.Raster.{Raster, IsInside, value_at}
 use Rattle.grid_core.specs.Rects.{part, IsRowOf}
-use Rattle.raster_sweeps.specs.Growth.{AllWait, AreOpen, cell_of}
-use Rattle.raster_sweeps.specs.RowPairs.{AreAside, AreBeside, RaisesTo, IsOpenCell, HaveJoined}
+use Rattle.raster_sweeps.specs.Growth.{cell_of}
+use Rattle.raster_sweeps.specs.RowPairs.{AreAside, AreBeside, AreJoined, RaisesTo, IsOpenCell, HaveJoined, IsFromTo}
+use Rattle.raster_sweeps.specs.RowPairs.{IsOpenFrom, IsUpper}
 use Rattle.raster_sweeps.proofs.ImageRows.{value_in_row, rows_near, aside_in_row, neighbours_in_row, beside_in_rows}
 use Rattle.raster_sweeps.proofs.ImageRows.{neighbours_in_rows}
 use Rattle.raster_sweeps.proofs.Joining.{none_joined, joined_same, joined_both, joined_stopped}
-
--- the first pixel lies in the one row, and the second in the other
-abbrev pub IsFromTo : ℕ → ℕ → ℕ → ℕ → Type 0
-IsFromTo y z a b = (a ≡ y) × (b ≡ z)
 
 module _ (conn : Conn) (rect : Rect) (mask image : Raster) (y z first : ℕ) (from limits to : List ℕ)
     (of_from : IsRowOf rect.w (part rect (value_at image)) y from)
@@ -107,10 +104,6 @@ in_other_rows conn rect mask image AreRows AreOthers cell o others = record {
   rows = others;
   place = o.place;
 }
-
--- the upper of the two rows is this one
-abbrev pub IsUpper : ℕ → ℕ → ℕ → Type 0
-IsUpper y a b = min a b ≡ y
 
 -- the upper of the two rows lies above this one
 abbrev pub IsUpperAbove : ℕ → ℕ → ℕ → Type 0
@@ -214,26 +207,35 @@ module _ (conn : Conn) (rect : Rect) (mask image : Raster) (y : ℕ) where
       ])
       (joined_both (Opens (IsUpperAbove y)) (Opens (IsUpper y)) room old mid new before here)
 
-  -- what has joined an empty queue is of open pairs
-  pub joined_open : (room : Bool) (old new : List ℕ) → old ≡ [] → HaveJoined (Opens (IsUpperAbove y)) room old new
-      → AreOpen conn rect mask image new
-  joined_open room old new empty joined i there = elim (joined.each i there) [
-    | inl before ↦ absurd (omega (arith, before.1, ap length empty))
-    | inr o ↦ (o.pixel, o.other, o.raises, o.place)
-  ]
+  of_inside : (cell : ℕ) → Opens (IsUpperAbove y) cell → IsOpenFrom conn rect mask image (IsInside rect.w rect.h) cell
+  of_inside cell o = record {
+    pixel = o.pixel;
+    other = o.other;
+    raises = o.raises;
+    from = o.raises.from_inside;
+    place = o.place;
+  }
 
-  -- after all rows each open pair waits
-  pub joined_all : (old new : List ℕ) → rect.h ≤ y → HaveJoined (Opens (IsUpperAbove y)) true old new
-      → AllWait conn rect mask image new
-  joined_all old new all joined p q raises =
-      joined.every refl (cell_of rect image.width p)
-      (record {
-        pixel = p;
-        other = q;
-        raises = raises;
-        rows = omega (arith, raises.from_inside.1);
-        place = refl;
+  pub rows_stopped : (old new : List ℕ) → HaveJoined (Opens (IsUpperAbove y)) false old new
+      → AreJoined conn rect mask image (IsInside rect.w rect.h) false old new
+  rows_stopped old new joined =
+      joined_stopped (Opens (IsUpperAbove y)) (IsOpenFrom conn rect mask image (IsInside rect.w rect.h)) old new
+      of_inside joined
+
+  -- after all rows each open pair has joined
+  pub all_rows_joined : (old new : List ℕ) → rect.h ≤ y → HaveJoined (Opens (IsUpperAbove y)) true old new
+      → AreJoined conn rect mask image (IsInside rect.w rect.h) true old new
+  all_rows_joined old new all joined =
+      joined_same (Opens (IsUpperAbove y)) (IsOpenFrom conn rect mask image (IsInside rect.w rect.h)) true old new
+      of_inside
+      (λ cell begins. record {
+        pixel = begins.pixel;
+        other = begins.other;
+        raises = begins.raises;
+        rows = omega (arith, begins.raises.from_inside.1);
+        place = begins.place;
       })
+      joined
 
 pub no_rows_joined : (conn : Conn) (rect : Rect) (mask image : Raster) (waiting : List ℕ)
     → HaveJoined (IsOpenCell conn rect mask image (IsUpperAbove 0)) true waiting waiting

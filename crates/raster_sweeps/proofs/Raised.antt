@@ -6,7 +6,7 @@ use Rattle.std.proofs.lemmas.Bool.{cases_eq, cases_lt}
 use Rattle.std.proofs.lemmas.List.{length-set, get_or-set_same, get_or-set_other}
 use Rattle.std.proofs.lemmas.List.Elements.{Contains-append_left, Contains-push}
 use Rattle.raster_sweeps.specs.declared.neighbourhood.Span.{Span}
-use Rattle.raster_sweeps.specs.Spans.{InSpan, IsRaised, AreQueued}
+use Rattle.raster_sweeps.specs.Spans.{AreQueued, AreSpread, InSpan, IsRaised}
 
 -- no cell is raised
 pub raised_none : (at : ℕ → Type 0) (mask : List ℕ) (level : ℕ) (cells : List ℕ) → ((k : ℕ) → at k → ⊥)
@@ -140,6 +140,51 @@ queued_twice at other mask level before between old middle new raised first seco
       | inr rose ↦ second.kept k (first.added k rose.0 lower)
     ]
   ];
+}
+
+-- cells are raised and queued, and then others
+pub spread_twice : (at other : ℕ → Type 0) (mask : List ℕ) (level : ℕ) (before between after old middle new : List ℕ)
+    → (First Second : Type 0) → AreSpread at mask level before between old middle First
+    → AreSpread other mask level between after middle new Second
+    → AreSpread (λ k. at k ⊎ other k) mask level before after old new (First × Second)
+spread_twice at other mask level before between after old middle new First Second first second = record {
+  raised = raised_twice at other mask level before between after first.raised second.raised;
+  inside = λ i waits. elim (second.inside i waits) [
+    | inr here ↦ inr (inr here)
+    | inl earlier ↦ elim (first.inside i earlier) [ inl was ↦ inl was | inr here ↦ inr (inl here) ]
+  ];
+  queued = λ both.
+      queued_twice at other mask level before between old middle new first.raised (first.queued both.0)
+      (second.queued both.1);
+  count = λ both. omega (arith, first.count both.0, second.count both.1);
+  effort = λ both. omega (arith, first.effort both.0, second.effort both.1);
+  fell = elim first.fell [
+    | inr less ↦ inr (omega (arith, less, second.kept))
+    | inl one ↦ elim second.fell [ inr less ↦ inr (omega (arith, less, first.kept)) | inl two ↦ inl (one, two) ]
+  ];
+  kept = omega (arith, first.kept, second.kept);
+  less = λ k here lower. elim here [
+    | inl at_first ↦ omega (arith, first.less k at_first lower, second.kept)
+    | inr at_second ↦ elim (first.raised.each k) [
+      | inl same ↦ omega (arith, second.less k at_second (omega (arith, same, lower)), first.kept)
+      | inr rose ↦ omega (arith, first.less k rose.0 lower, second.kept)
+    ]
+  ];
+}
+
+-- the same, where there is room for all in another sense
+pub spread_with : (at : ℕ → Type 0) (mask : List ℕ) (level : ℕ) (before after old new : List ℕ) (Room Other : Type 0)
+    → (Other → Room) → (Room → Other) → AreSpread at mask level before after old new Room
+    → AreSpread at mask level before after old new Other
+spread_with at mask level before after old new Room Other from to spread = record {
+  raised = spread.raised;
+  inside = spread.inside;
+  queued = λ other. spread.queued (from other);
+  count = λ other. spread.count (from other);
+  effort = λ other. spread.effort (from other);
+  fell = elim spread.fell [ inl room ↦ inl (to room) | inr less ↦ inr less ];
+  kept = spread.kept;
+  less = spread.less;
 }
 
 -- the span up to the next cell has the cells of the span, and that cell

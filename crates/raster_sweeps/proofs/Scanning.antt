@@ -7,10 +7,9 @@ use Rattle.grid_core.specs.declared.conn.Conn.{Conn}
 use Rattle.grid_core.specs.declared.rect.Rect.{Rect}
 use Rattle.grid_core.specs.Raster.{Raster}
 use Rattle.raster_sweeps.specs.Growth.{IsOpenIn, WaitFrom, AllWait, AreInside, cell_of}
-use Rattle.raster_sweeps.specs.RowPairs.{IsOpenCell, HaveJoined}
+use Rattle.raster_sweeps.specs.RowPairs.{IsOpenCell, HaveJoined, IsUpper}
 use Rattle.raster_sweeps.specs.RowRaises.{IsRowGrown}
 use Rattle.raster_sweeps.proofs.Grown.{grown_twice}
-use Rattle.raster_sweeps.proofs.OpenRows.{IsUpper}
 
 -- a row that has grown twice
 pub row_grown_twice : (conn : Conn) (rect : Rect) (mask : Raster) (y : ℕ) (before between after : Raster)

@@ -1,12 +1,14 @@
 -- The first and the last column of a rectangle, and what can rise beside them. Only private functions have these words
 -- in their contracts.
 use Rattle.std.specs.Prelude.{◌≡◌, ◌≢◌, ◌↔◌, ℕ, ◌<◌, ◌≤◌, min}
+use Rattle.grid_core.specs.declared.conn.Conn.{Conn}
 use Rattle.grid_core.specs.declared.pixel.Pixel.{Pixel}
 use Rattle.grid_core.specs.declared.rect.Rect.{Rect}
 use Rattle.grid_core.specs.Neighbours.{apart}
 use Rattle.grid_core.specs.Raster.{Raster, IsInside, max_value, value_at}
 use Rattle.grid_core.specs.Rects.{part}
 use Rattle.raster_sweeps.specs.declared.border.Column.{Column}
+use Rattle.raster_sweeps.specs.RowPairs.{AreBeside}
 
 -- the rectangle has the column, and next to it no other than the one beside it
 pub record IsBorderColumn (rect : Rect) (column : Column) : Type 0 where
@@ -14,6 +16,14 @@ pub record IsBorderColumn (rect : Rect) (column : Column) : Type 0 where
   pub beside_within : column.beside < rect.w
   pub near : apart column.x column.beside ≤ 1
   pub alone : (x : ℕ) → x < rect.w → apart column.x x ≤ 1 → x ≢ column.x → x ≡ column.beside
+
+-- the pixel lies in this row, in the column or next to it
+abbrev pub IsNearIn : ℕ → ℕ → Pixel → Type 0
+IsNearIn x y q = (q.y ≡ y) × (apart x q.x ≤ 1)
+
+-- the pixel lies in this row, and a pixel of the column in a row that touches it is its neighbour
+abbrev pub IsBesideIn : Conn → ℕ → ℕ → Pixel → Type 0
+IsBesideIn conn x y q = (q.y ≡ y) × AreBeside conn x q.x
 
 -- a level raises one of such pixels of the rectangle, as far as the mask lets it, just where it is above this value
 abbrev pub IsLeastToRise : Rect → Raster → Raster → (Pixel → Type 0) → ℕ → Type 0

@@ -1,14 +1,29 @@
 -- Growing an image in place, inside a rectangle. Only private functions have these words in their contracts, but for
 -- open pairs, of which `specs/Borders.antt` speaks. What a reconstruction is stands in `specs/Reconstruction.antt` of
 -- `grid_core`, and what a rectangle is in `specs/Rects.antt` there.
-use Rattle.std.specs.Prelude.{◌≡◌, ℕ, ◌<◌, ◌≤◌, ◌⊎◌, Bool, IsTrue, List, length}
+use Rattle.std.specs.Prelude.{◌≡◌, ℕ, ◌+◌, ◌<◌, ◌≤◌, ◌⊎◌, Bool, IsTrue, List, [], ◌∷◌, length}
 use Rattle.std.specs.List.{Contains}
 use Rattle.grid_core.specs.declared.conn.Conn.{Conn}
 use Rattle.grid_core.specs.declared.pixel.Pixel.{Pixel}
 use Rattle.grid_core.specs.declared.rect.Rect.{Rect}
-use Rattle.grid_core.specs.Raster.{Raster, IsInside, IsBelow, headroom, index_of, value_at}
-use Rattle.grid_core.specs.Reconstruction.{IsLawful, IsOpen}
-use Rattle.grid_core.specs.Rects.{IsInRect, domain_in, in_image, part}
+use Rattle.grid_core.specs.Raster.{Raster, IsInside, IsBelow, IsFilled, headroom, index_of, value_at}
+use Rattle.grid_core.specs.Reconstruction.{IsClosed, IsLawful, IsOpen}
+use Rattle.grid_core.specs.Rects.{IsInRect, RectFits, domain_in, in_image, part}
+
+-- the image may grow inside the rectangle: it is below the mask, and the rectangle lies in it
+pub record CanGrow (rect : Rect) (mask image : Raster) : Type 0 where
+  pub below : IsBelow image mask
+  pub fits : RectFits mask.width mask.height rect
+
+-- and it has a value for each pixel
+pub record CanClose (rect : Rect) (mask image : Raster) : Type 0 where
+  pub filled : IsFilled image
+  pub below : IsBelow image mask
+  pub fits : RectFits mask.width mask.height rect
+
+-- no pixel of the rectangle raises a neighbour in it
+abbrev pub IsClosedIn : Conn → Rect → Raster → Raster → Type 0
+IsClosedIn conn rect mask image = IsClosed (domain_in rect conn) (part rect (value_at mask)) (part rect (value_at image))
 
 -- a pair of neighbours of the rectangle is open, both counted from its upper left corner
 abbrev pub IsOpenIn : Conn → Rect → Raster → Raster → Pixel → Pixel → Type 0
@@ -64,3 +79,30 @@ pub record IsQueueFilled (conn : Conn) (rect : Rect) (mask before after : Raster
   pub inside : AreInside rect after.width waiting
   pub waits : IsTrue room → AllWait conn rect mask after waiting
   pub rose : IsTrue room ⊎ (headroom after.cells < headroom before.cells)
+
+-- the image has grown inside the rectangle, and each open pair there waits, if there was room for all of them
+pub record IsScannedInto (conn : Conn) (rect : Rect) (mask before after : Raster) (room : Bool) (waiting : List ℕ)
+    : Type 0 where
+  pub grown : IsGrown conn rect mask before after
+  pub inside : AreInside rect after.width waiting
+  pub waits : IsTrue room → AllWait conn rect mask after waiting
+
+-- the cell has spread: the image has grown, and of its open pairs each that waited waits, if there was room for the
+-- cells that rose; with these the queue grew by no more than the headroom fell
+pub record CellHasSpread (conn : Conn) (rect : Rect) (mask before after : Raster) (cell : ℕ) (old new : List ℕ)
+    (room : Bool) : Type 0 where
+  pub grown : IsGrown conn rect mask before after
+  pub inside : AreInside rect after.width new
+  pub waits : IsTrue room → AllWait conn rect mask before (cell ∷ old) → AllWait conn rect mask after new
+  pub count : IsTrue room → length old ≤ length new
+  pub effort : IsTrue room → length new + headroom after.cells ≤ length old + headroom before.cells
+  pub fell : IsTrue room ⊎ (headroom after.cells < headroom before.cells)
+  pub rose : AreOpen conn rect mask before (cell ∷ []) → headroom after.cells < headroom before.cells
+
+-- the waiting cells have spread: the image has grown, and if the queue is done, and had each open pair, it is closed;
+-- else a cell has risen
+pub record IsDrained (conn : Conn) (rect : Rect) (mask before after : Raster) (waiting : List ℕ) (done : Bool)
+    : Type 0 where
+  pub grown : IsGrown conn rect mask before after
+  pub closed : IsTrue done → AllWait conn rect mask before waiting → IsClosedIn conn rect mask after
+  pub rose : IsTrue done ⊎ (headroom after.cells < headroom before.cells)

@@ -8,8 +8,76 @@ use Rattle.grid_core.specs.declared.pixel.Pixel.{Pixel}
 use Rattle.grid_core.specs.declared.rect.Rect.{Rect}
 use Rattle.grid_core.specs.Neighbours.{apart, AreNeighbours}
 use Rattle.grid_core.specs.Path.{Domain, Inside}
-use Rattle.grid_core.specs.Raster.{Raster}
+use Rattle.grid_core.specs.Raster.{Raster, IsBelow, max_pixels}
+use Rattle.grid_core.specs.Rects.{RectFits}
 use Rattle.raster_sweeps.specs.Growth.{IsOpenIn, cell_of}
+
+-- the image may grow inside the rectangle, which has this row
+pub record CanGrowRow (rect : Rect) (mask image : Raster) (y : ℕ) : Type 0 where
+  pub below : IsBelow image mask
+  pub fits : RectFits mask.width mask.height rect
+  pub row : y < rect.h
+
+-- the image may grow inside the rectangle, which has these two rows, and they touch
+pub record CanGrowAcross (rect : Rect) (mask image : Raster) (y z : ℕ) : Type 0 where
+  pub below : IsBelow image mask
+  pub fits : RectFits mask.width mask.height rect
+  pub from : y < rect.h
+  pub to : z < rect.h
+  pub touch : apart y z ≡ 1
+
+-- the rows are equally long
+pub record AreRows (raising limits raised : List ℕ) : Type 0 where
+  pub from : length raising ≡ length raised
+  pub mask : length limits ≡ length raised
+
+-- and not empty
+pub record AreFullRows (raising limits raised : List ℕ) : Type 0 where
+  pub some : 0 < length raised
+  pub from : length raising ≡ length raised
+  pub mask : length limits ≡ length raised
+
+-- the rows are equally long, and their cells begin at this one
+pub record AreRowsAt (first : ℕ) (raising limits raised : List ℕ) : Type 0 where
+  pub from : length raising ≡ length raised
+  pub mask : length limits ≡ length raised
+  pub cells : first + length raised ≤ max_pixels
+
+-- and not empty
+pub record AreFullRowsAt (first : ℕ) (raising limits raised : List ℕ) : Type 0 where
+  pub some : 0 < length raised
+  pub from : length raising ≡ length raised
+  pub mask : length limits ≡ length raised
+  pub cells : first + length raised ≤ max_pixels
+
+-- the cell is the first of the rectangle's row
+pub record IsFirstOfRow (rect : Rect) (width y cell : ℕ) : Type 0 where
+  pub place : cell ≡ cell_of rect width (record { x = 0; y = y })
+  pub within : cell + rect.w ≤ max_pixels
+
+-- the first pixel lies in the one row, and the second in the other
+abbrev pub IsFromTo : ℕ → ℕ → ℕ → ℕ → Type 0
+IsFromTo y z a b = (a ≡ y) × (b ≡ z)
+
+-- the first pixel lies in this row, and the second in the one above
+abbrev pub IsFromUp : ℕ → ℕ → ℕ → Type 0
+IsFromUp y a b = (a ≡ y) × (b + 1 ≡ y)
+
+-- the first pixel lies in this row, and the second in the one below
+abbrev pub IsFromDown : ℕ → ℕ → ℕ → Type 0
+IsFromDown y a b = (a ≡ y) × (b ≡ y + 1)
+
+-- the upper of the two rows is this one
+abbrev pub IsUpper : ℕ → ℕ → ℕ → Type 0
+IsUpper y a b = min a b ≡ y
+
+-- the pixel lies in the first or the last row of the rectangle
+abbrev pub IsInEndRow : Rect → Pixel → Type 0
+IsInEndRow rect p = (p.y ≡ 0) ⊎ (p.y + 1 ≡ rect.h)
+
+-- the pixel lies in its first or its last column
+abbrev pub IsInEndColumn : Rect → Pixel → Type 0
+IsInEndColumn rect p = (p.x ≡ 0) ⊎ (p.x + 1 ≡ rect.w)
 
 -- the pixels at these columns of two rows that touch are neighbours
 abbrev pub AreBeside : Conn → ℕ → ℕ → Type 0
@@ -81,3 +149,7 @@ pub record HaveJoined (IsSuch : ℕ → Type 0) (room : Bool) (old new : List �
   pub each : (i : ℕ) → Contains new i → Contains old i ⊎ IsSuch i
   pub every : IsTrue room → (i : ℕ) → IsSuch i → Contains new i
   pub full : IsTrue room ⊎ (0 < length new)
+
+-- the cells of the pixels of this kind that are the first of an open pair have joined the queue
+abbrev pub AreJoined : Conn → Rect → Raster → Raster → (Pixel → Type 0) → Bool → List ℕ → List ℕ → Type 0
+AreJoined conn rect mask image IsFrom room old new = HaveJoined (IsOpenFrom conn rect mask image IsFrom) room old new

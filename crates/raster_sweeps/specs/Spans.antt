@@ -1,12 +1,12 @@
 -- The cells around a cell, row by row, and what raising them by it does. Only private functions have these words in
 -- their contracts.
-use Rattle.std.specs.Prelude.{◌≡◌, ℕ, ◌<◌, ◌≤◌, ◌⊎◌, List, length, min, max, slice_index}
+use Rattle.std.specs.Prelude.{◌≡◌, ℕ, ◌+◌, ◌<◌, ◌≤◌, ◌⊎◌, List, length, min, max, slice_index}
 use Rattle.std.specs.List.{Contains}
 use Rattle.grid_core.specs.declared.conn.Conn.{Conn}
 use Rattle.grid_core.specs.declared.pixel.Pixel.{Pixel}
 use Rattle.grid_core.specs.declared.rect.Rect.{Rect}
 use Rattle.grid_core.specs.Neighbours.{AreNeighbours}
-use Rattle.grid_core.specs.Raster.{IsInside}
+use Rattle.grid_core.specs.Raster.{IsInside, headroom}
 use Rattle.raster_sweeps.specs.declared.neighbourhood.Span.{Span}
 use Rattle.raster_sweeps.specs.declared.neighbourhood.Spans.{Spans}
 use Rattle.raster_sweeps.specs.Growth.{cell_of}
@@ -36,3 +36,16 @@ pub record IsRaised (at : ℕ → Type 0) (mask : List ℕ) (level : ℕ) (befor
 pub record AreQueued (at : ℕ → Type 0) (mask : List ℕ) (level : ℕ) (before old new : List ℕ) : Type 0 where
   pub kept : (i : ℕ) → Contains old i → Contains new i
   pub added : (k : ℕ) → at k → slice_index before k < min level (slice_index mask k) → Contains new k
+
+-- the cells at these places are raised, and those that rise have joined the queue, if there was room for all of them;
+-- the queue grew by no more than the headroom fell
+pub record AreSpread (at : ℕ → Type 0) (mask : List ℕ) (level : ℕ) (before after old new : List ℕ) (Room : Type 0)
+    : Type 0 where
+  pub raised : IsRaised at mask level before after
+  pub inside : (i : ℕ) → Contains new i → Contains old i ⊎ at i
+  pub queued : Room → AreQueued at mask level before old new
+  pub count : Room → length old ≤ length new
+  pub effort : Room → length new + headroom after ≤ length old + headroom before
+  pub fell : Room ⊎ (headroom after < headroom before)
+  pub kept : headroom after ≤ headroom before
+  pub less : (k : ℕ) → at k → slice_index before k < min level (slice_index mask k) → headroom after < headroom before

@@ -3,12 +3,13 @@
 
 ghost use Rattle.std.specs.Prelude.{◌≡◌, ◌+◌, ◌<◌, ◌≤◌, ◌⊎◌, ◌↔◌, [], length, min, IsTrue};
 ghost use Rattle.grid_core.specs.Neighbours.{apart};
-ghost use Rattle.grid_core.specs.Raster.{IsBelow, max_value, value_at};
+ghost use Rattle.grid_core.specs.Raster.{IsBelow, IsOnBorder, max_value, value_at};
 ghost use Rattle.grid_core.specs.Rects.{RectFits, part};
-ghost use Rattle.raster_sweeps.specs.Borders.{OpenPairsBeginOnBorder};
-ghost use Rattle.raster_sweeps.specs.BorderColumns.{IsBorderColumn, IsLeastToRise};
-ghost use Rattle.raster_sweeps.specs.Growth.{AllWait, AreOpen};
-ghost use Rattle.raster_sweeps.specs.RowPairs.{AreBeside, HaveJoined, IsOpenCell, IsOpenFrom};
+ghost use Rattle.raster_sweeps.specs.RowPairs.{IsInEndColumn, IsInEndRow};
+ghost use Rattle.raster_sweeps.specs.BorderColumns.{IsBorderColumn, IsLeastToRise, IsBesideIn, IsNearIn};
+ghost use Rattle.raster_sweeps.specs.Growth.{AllWait, AreOpen, CanGrow};
+ghost use Rattle.raster_sweeps.specs.RowPairs.{AreBeside, HaveJoined, IsOpenCell, IsOpenFrom, AreJoined, IsFromUp};
+ghost use Rattle.raster_sweeps.specs.RowPairs.{CanGrowRow, IsFromDown};
 
 use crate::open_pairs::{first_cell, queue_between, queue_within};
 use crate::waiting::Waiting;
@@ -42,13 +43,8 @@ pub fn queue_border(
     conn: Conn,
     waiting: &mut Waiting,
 ) -> bool
-    requires below { IsBelow image.now mask.now }
-    requires fits { RectFits mask.now.width mask.now.height rect }
-    requires empty { waiting.old ≡ [] }
-    ensures open { AreOpen conn rect mask.now image.now waiting.new }
-    ensures waits { IsTrue result → OpenPairsBeginOnBorder conn rect mask.now image.now
-        → AllWait conn rect mask.now image.now waiting.new }
-    ensures full { IsTrue result ⊎ (0 < length waiting.new) }
+    requires { CanGrow rect mask.now image.now }
+    ensures { AreJoined conn rect mask.now image.now (IsOnBorder rect.w rect.h) result waiting.old waiting.new }
 {
     queue_border_rows(mask, image, rect, conn, waiting)
         && queue_border_columns(mask, image, rect, conn, waiting)
@@ -63,10 +59,8 @@ fn queue_border_rows(
     conn: Conn,
     waiting: &mut Waiting,
 ) -> bool
-    requires below { IsBelow image.now mask.now }
-    requires fits { RectFits mask.now.width mask.now.height rect }
-    ensures { HaveJoined (IsOpenFrom conn rect mask.now image.now (λ p. (p.y ≡ 0) ⊎ (p.y + 1 ≡ rect.h))) result
-        waiting.old waiting.new }
+    requires { CanGrow rect mask.now image.now }
+    ensures { AreJoined conn rect mask.now image.now (IsInEndRow rect) result waiting.old waiting.new }
 {
     queue_from_row(mask, image, rect, 0, conn, waiting)
         && queue_from_row(mask, image, rect, rect.h - 1, conn, waiting)
@@ -81,10 +75,8 @@ fn queue_border_columns(
     conn: Conn,
     waiting: &mut Waiting,
 ) -> bool
-    requires below { IsBelow image.now mask.now }
-    requires fits { RectFits mask.now.width mask.now.height rect }
-    ensures { HaveJoined (IsOpenFrom conn rect mask.now image.now (λ p. (p.x ≡ 0) ⊎ (p.x + 1 ≡ rect.w))) result
-        waiting.old waiting.new }
+    requires { CanGrow rect mask.now image.now }
+    ensures { AreJoined conn rect mask.now image.now (IsInEndColumn rect) result waiting.old waiting.new }
 {
     let last = rect.w - 1;
     let left = Column {
@@ -109,10 +101,8 @@ fn queue_from_row(
     conn: Conn,
     waiting: &mut Waiting,
 ) -> bool
-    requires below { IsBelow image.now mask.now }
-    requires fits { RectFits mask.now.width mask.now.height rect }
-    requires row { y < rect.h }
-    ensures { HaveJoined (IsOpenFrom conn rect mask.now image.now (λ p. p.y ≡ y)) result waiting.old waiting.new }
+    requires { CanGrowRow rect mask.now image.now y }
+    ensures { AreJoined conn rect mask.now image.now (λ p. p.y ≡ y) result waiting.old waiting.new }
 {
     if !queue_within(mask, image, rect, y, waiting) {
         return false;
@@ -131,11 +121,8 @@ fn queue_upwards(
     conn: Conn,
     waiting: &mut Waiting,
 ) -> bool
-    requires below { IsBelow image.now mask.now }
-    requires fits { RectFits mask.now.width mask.now.height rect }
-    requires row { y < rect.h }
-    ensures { HaveJoined (IsOpenCell conn rect mask.now image.now (λ a b. (a ≡ y) × (b + 1 ≡ y))) result
-        waiting.old waiting.new }
+    requires { CanGrowRow rect mask.now image.now y }
+    ensures { HaveJoined (IsOpenCell conn rect mask.now image.now (IsFromUp y)) result waiting.old waiting.new }
 {
     if y == 0 {
         return true;
@@ -153,11 +140,8 @@ fn queue_downwards(
     conn: Conn,
     waiting: &mut Waiting,
 ) -> bool
-    requires below { IsBelow image.now mask.now }
-    requires fits { RectFits mask.now.width mask.now.height rect }
-    requires row { y < rect.h }
-    ensures { HaveJoined (IsOpenCell conn rect mask.now image.now (λ a b. (a ≡ y) × (b ≡ y + 1))) result
-        waiting.old waiting.new }
+    requires { CanGrowRow rect mask.now image.now y }
+    ensures { HaveJoined (IsOpenCell conn rect mask.now image.now (IsFromDown y)) result waiting.old waiting.new }
 {
     if y + 1 == rect.h {
         return true;
@@ -175,11 +159,9 @@ fn queue_from_column(
     conn: Conn,
     waiting: &mut Waiting,
 ) -> bool
-    requires below { IsBelow image.now mask.now }
-    requires fits { RectFits mask.now.width mask.now.height rect }
+    requires grow { CanGrow rect mask.now image.now }
     requires column { IsBorderColumn rect column }
-    ensures { HaveJoined (IsOpenFrom conn rect mask.now image.now (λ p. p.x ≡ column.x)) result
-        waiting.old waiting.new }
+    ensures { AreJoined conn rect mask.now image.now (λ p. p.x ≡ column.x) result waiting.old waiting.new }
 {
     let mut above = u32::MAX;
     let mut here = least_in_row(mask, image, rect, column, conn, 0);
@@ -217,13 +199,11 @@ fn least_in_row(
     conn: Conn,
     y: u32,
 ) -> LeastInRow
-    requires below { IsBelow image.now mask.now }
-    requires fits { RectFits mask.now.width mask.now.height rect }
+    requires grow { CanGrow rect mask.now image.now }
     requires column { IsBorderColumn rect column }
     requires row { y ≤ rect.h }
-    ensures along { IsLeastToRise rect mask.now image.now (λ q. (q.y ≡ y) × (apart column.x q.x ≤ 1)) result.along }
-    ensures across { IsLeastToRise rect mask.now image.now (λ q. (q.y ≡ y) × AreBeside conn column.x q.x)
-        result.across }
+    ensures along { IsLeastToRise rect mask.now image.now (IsNearIn column.x y) result.along }
+    ensures across { IsLeastToRise rect mask.now image.now (IsBesideIn conn column.x y) result.across }
 {
     if y == rect.h {
         return LeastInRow {

@@ -5,6 +5,7 @@ ghost use Rattle.grid_core.specs.Path.{domain_of};
 ghost use Rattle.grid_core.specs.Raster.{value_at};
 ghost use Rattle.grid_core.specs.Reconstruction.{IsClosed};
 ghost use Rattle.grid_core.specs.Rects.{RectFits, domain_in, part};
+ghost use Rattle.raster_sweeps.specs.Growth.{IsClosedIn};
 ghost use Rattle.raster_sweeps.specs.RowPairs.{IsRowClosed};
 
 use crate::rows::{is_closed_aslant, is_closed_to};
@@ -29,8 +30,7 @@ pub fn is_closed(mask: &Grid, image: &Grid, conn: Conn) -> bool
 fn is_closed_in(mask: &Grid, image: &Grid, rect: Rect, conn: Conn) -> bool
     requires mask { RectFits mask.now.width mask.now.height rect }
     requires image { RectFits image.now.width image.now.height rect }
-    ensures { IsTrue result
-        ↔ IsClosed (domain_in rect conn) (part rect (value_at mask.now)) (part rect (value_at image.now)) }
+    ensures { IsTrue result ↔ IsClosedIn conn rect mask.now image.now }
 {
     for y in 0..rect.h {
         if !is_row_closed(mask, image, rect, y, conn) {

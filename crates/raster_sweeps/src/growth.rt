@@ -1,15 +1,16 @@
 //! Growing in place: until no pair of neighbours is open (Vincent, "Morphological Grayscale Reconstruction in Image
 //! Analysis", 1993).
 
-ghost use Rattle.std.specs.Prelude.{◌≡◌, ◌<◌, ◌⊎◌, [], length, IfOk, IsTrue, OnErr, OnOk};
+ghost use Rattle.std.specs.Prelude.{◌≡◌, ◌<◌, ◌⊎◌, [], length, IfOk, IsTrue, OnErr, OnOk, false};
 ghost use Rattle.grid_core.specs.Path.{domain_of};
 ghost use Rattle.grid_core.specs.Raster.{IsBelow, IsFilled, value_at, headroom};
 ghost use Rattle.grid_core.specs.Reconstruction.{IsClosed, IsReconstruction};
 ghost use Rattle.grid_core.specs.Rects.{RectFits, domain_in, part};
 ghost use Rattle.raster_sweeps.specs.declared.growth.Start.TheVariants as starts;
 ghost use Rattle.raster_sweeps.specs.Borders.{OpenPairsBeginOnBorder};
-ghost use Rattle.raster_sweeps.specs.Growth.{AreInside, AreOpen, IsGrown, IsQueueFilled};
+ghost use Rattle.raster_sweeps.specs.Growth.{AreInside, AreOpen, IsGrown, IsQueueFilled, CanClose, CanGrow};
 ghost use Rattle.raster_sweeps.specs.Regrowth.{IsRegrownIn};
+ghost use Rattle.raster_sweeps.specs.Growth.{IsClosedIn};
 
 use crate::border::queue_border;
 use crate::open_pairs::queue_open_pairs;
@@ -18,9 +19,6 @@ use crate::scans::{scan_down, scan_up};
 use crate::waiting::Waiting;
 use grid_core::{Conn, Grid, Memory, Rect};
 use std::alloc::Global;
-
-#[cfg(test)]
-mod tests;
 
 /// The memory that growing needs: room for the cells whose neighbours are still to be raised.
 ///
@@ -125,12 +123,10 @@ pub fn grow_in_place(alloc: Global, mask: &Grid, image: &mut Grid, conn: Conn) -
 
 // Raises the image inside the rectangle until no pair of neighbours there is open.
 fn close(mask: &Grid, image: &mut Grid, rect: Rect, conn: Conn, waiting: &mut Waiting, start: Start)
-    requires filled { IsFilled image.old }
-    requires below { IsBelow image.old mask.now }
-    requires fits { RectFits mask.now.width mask.now.height rect }
+    requires close { CanClose rect mask.now image.old }
     requires border { start ≡ starts.Border → OpenPairsBeginOnBorder conn rect mask.now image.old }
     ensures grown { IsGrown conn rect mask.now image.old image.new }
-    ensures closed { IsClosed (domain_in rect conn) (part rect (value_at mask.now)) (part rect (value_at image.new)) }
+    ensures closed { IsClosedIn conn rect mask.now image.new }
 {
     let mut next = start;
     'rounds: loop {
@@ -165,9 +161,7 @@ fn fill(
     waiting: &mut Waiting,
     start: Start,
 ) -> bool
-    requires filled { IsFilled image.old }
-    requires below { IsBelow image.old mask.now }
-    requires fits { RectFits mask.now.width mask.now.height rect }
+    requires close { CanClose rect mask.now image.old }
     requires border { start ≡ starts.Border → OpenPairsBeginOnBorder conn rect mask.now image.old }
     ensures { IsQueueFilled conn rect mask.now image.old image.new result waiting.new }
 {
@@ -181,9 +175,7 @@ fn fill(
 // Fills the queue by the raster and the anti-raster scan, and says whether there was room for all open pairs. Where
 // there was not, the rows are checked.
 fn scan(mask: &Grid, image: &mut Grid, rect: Rect, conn: Conn, waiting: &mut Waiting) -> bool
-    requires filled { IsFilled image.old }
-    requires below { IsBelow image.old mask.now }
-    requires fits { RectFits mask.now.width mask.now.height rect }
+    requires close { CanClose rect mask.now image.old }
     requires empty { waiting.old ≡ [] }
     ensures { IsQueueFilled conn rect mask.now image.old image.new result waiting.new }
 {
@@ -198,9 +190,7 @@ fn scan(mask: &Grid, image: &mut Grid, rect: Rect, conn: Conn, waiting: &mut Wai
 // Fills the queue by the check of each row, and says whether there was room for all open pairs. Where there was not,
 // the first cell has spread.
 fn check(mask: &Grid, image: &mut Grid, rect: Rect, conn: Conn, waiting: &mut Waiting) -> bool
-    requires filled { IsFilled image.old }
-    requires below { IsBelow image.old mask.now }
-    requires fits { RectFits mask.now.width mask.now.height rect }
+    requires close { CanClose rect mask.now image.old }
     requires empty { waiting.old ≡ [] }
     ensures { IsQueueFilled conn rect mask.now image.old image.new result waiting.new }
 {
@@ -220,9 +210,7 @@ fn check_border(
     conn: Conn,
     waiting: &mut Waiting,
 ) -> bool
-    requires filled { IsFilled image.old }
-    requires below { IsBelow image.old mask.now }
-    requires fits { RectFits mask.now.width mask.now.height rect }
+    requires close { CanClose rect mask.now image.old }
     requires border { OpenPairsBeginOnBorder conn rect mask.now image.old }
     requires empty { waiting.old ≡ [] }
     ensures { IsQueueFilled conn rect mask.now image.old image.new result waiting.new }
@@ -236,13 +224,10 @@ fn check_border(
 
 // Lets the first of some cells that can raise a neighbour spread.
 fn spread_first(mask: &Grid, image: &mut Grid, rect: Rect, conn: Conn, waiting: &mut Waiting)
-    requires below { IsBelow image.old mask.now }
-    requires fits { RectFits mask.now.width mask.now.height rect }
+    requires grow { CanGrow rect mask.now image.old }
     requires open { AreOpen conn rect mask.now image.old waiting.old }
     requires some { 0 < length waiting.old }
-    ensures grown { IsGrown conn rect mask.now image.old image.new }
-    ensures inside { AreInside rect image.new.width waiting.new }
-    ensures rose { headroom image.new.cells < headroom image.old.cells }
+    ensures { IsQueueFilled conn rect mask.now image.old image.new false waiting.new }
 {
     if let Some(cell) = waiting.pop() {
         let _room = spread(mask, image, rect, conn, waiting, cell);

@@ -43,6 +43,3 @@ mod waiting;
 pub use closed::is_closed;
 pub use growth::{Room, grow, grow_from_border, grow_in_place, grow_within};
 pub use thresholds::slow;
-
-#[cfg(test)]
-mod tests;

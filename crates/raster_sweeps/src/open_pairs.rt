@@ -4,10 +4,12 @@
 ghost use Rattle.std.specs.Prelude.{◌≡◌, ℕ, ◌+◌, ◌<◌, ◌≤◌, ◌⊎◌, [], length, min, IsTrue};
 ghost use Rattle.grid_core.specs.declared.conn.Conn.TheVariants as conns;
 ghost use Rattle.grid_core.specs.Neighbours.{apart};
-ghost use Rattle.grid_core.specs.Raster.{IsBelow, max_pixels};
+ghost use Rattle.grid_core.specs.Raster.{IsBelow, IsInside, max_pixels};
 ghost use Rattle.grid_core.specs.Rects.{RectFits};
-ghost use Rattle.raster_sweeps.specs.Growth.{AllWait, AreOpen, cell_of};
+ghost use Rattle.raster_sweeps.specs.Growth.{AllWait, AreOpen, cell_of, CanGrow};
 ghost use Rattle.raster_sweeps.specs.RowPairs.{AreAside, AreBeside, RaisesStraight, RaisesTo, IsOpenCell, HaveJoined};
+ghost use Rattle.raster_sweeps.specs.RowPairs.{AreFullRowsAt, AreJoined, AreRowsAt, CanGrowAcross, CanGrowRow};
+ghost use Rattle.raster_sweeps.specs.RowPairs.{IsFirstOfRow, IsFromTo, IsUpper};
 
 use crate::rows::{are_closed_crosswise, is_closed_straight};
 use crate::waiting::Waiting;
@@ -26,12 +28,8 @@ pub fn queue_open_pairs(
     conn: Conn,
     waiting: &mut Waiting,
 ) -> bool
-    requires below { IsBelow image.now mask.now }
-    requires fits { RectFits mask.now.width mask.now.height rect }
-    requires empty { waiting.old ≡ [] }
-    ensures open { AreOpen conn rect mask.now image.now waiting.new }
-    ensures waits { IsTrue result → AllWait conn rect mask.now image.now waiting.new }
-    ensures full { IsTrue result ⊎ (0 < length waiting.new) }
+    requires { CanGrow rect mask.now image.now }
+    ensures { AreJoined conn rect mask.now image.now (IsInside rect.w rect.h) result waiting.old waiting.new }
 {
     for y in 0..rect.h {
         if !queue_row(mask, image, rect, y, conn, waiting) {
@@ -52,11 +50,8 @@ pub fn queue_row(
     conn: Conn,
     waiting: &mut Waiting,
 ) -> bool
-    requires below { IsBelow image.now mask.now }
-    requires fits { RectFits mask.now.width mask.now.height rect }
-    requires row { y < rect.h }
-    ensures { HaveJoined (IsOpenCell conn rect mask.now image.now (λ a b. min a b ≡ y)) result
-        waiting.old waiting.new }
+    requires { CanGrowRow rect mask.now image.now y }
+    ensures { HaveJoined (IsOpenCell conn rect mask.now image.now (IsUpper y)) result waiting.old waiting.new }
 {
     if is_row_seen_closed(mask, image, rect, y, conn) {
         return true;
@@ -74,10 +69,8 @@ pub fn queue_row(
 // Whether it is seen at once that no pixel of the rectangle's row `y` raises a neighbour in it or below it, and none of
 // the row below one in it. With eight neighbours, and in the last row, it is not.
 fn is_row_seen_closed(mask: &Grid, image: &Grid, rect: Rect, y: u32, conn: Conn) -> bool
-    requires below { IsBelow image.now mask.now }
-    requires fits { RectFits mask.now.width mask.now.height rect }
-    requires row { y < rect.h }
-    ensures { IsTrue result → (cell : ℕ) → IsOpenCell conn rect mask.now image.now (λ a b. min a b ≡ y) cell → ⊥ }
+    requires { CanGrowRow rect mask.now image.now y }
+    ensures { IsTrue result → (cell : ℕ) → IsOpenCell conn rect mask.now image.now (IsUpper y) cell → ⊥ }
 {
     match conn {
         Conn::Four => is_row_seen_closed_crosswise(mask, image, rect, y),
@@ -88,11 +81,8 @@ fn is_row_seen_closed(mask: &Grid, image: &Grid, rect: Rect, y: u32, conn: Conn)
 // Whether no pixel of the rectangle's row `y` raises one beside or below it, and none of the row below the one above
 // it. Of the last row it answers that it is not so.
 fn is_row_seen_closed_crosswise(mask: &Grid, image: &Grid, rect: Rect, y: u32) -> bool
-    requires below { IsBelow image.now mask.now }
-    requires fits { RectFits mask.now.width mask.now.height rect }
-    requires row { y < rect.h }
-    ensures { IsTrue result → (cell : ℕ)
-        → IsOpenCell conns.Four rect mask.now image.now (λ a b. min a b ≡ y) cell → ⊥ }
+    requires { CanGrowRow rect mask.now image.now y }
+    ensures { IsTrue result → (cell : ℕ) → IsOpenCell conns.Four rect mask.now image.now (IsUpper y) cell → ⊥ }
 {
     if y + 1 == rect.h {
         return false;
@@ -107,10 +97,8 @@ fn is_row_seen_closed_crosswise(mask: &Grid, image: &Grid, rect: Rect, y: u32) -
 /// Puts the first pixels of the open pairs within a row into the queue. It answers whether there was room for all of
 /// them.
 pub fn queue_within(mask: &Grid, image: &Grid, rect: Rect, y: u32, waiting: &mut Waiting) -> bool
-    requires below { IsBelow image.now mask.now }
-    requires fits { RectFits mask.now.width mask.now.height rect }
-    requires row { y < rect.h }
-    ensures { (conn : _) → HaveJoined (IsOpenCell conn rect mask.now image.now (λ a b. (a ≡ y) × (b ≡ y))) result
+    requires { CanGrowRow rect mask.now image.now y }
+    ensures { (conn : _) → HaveJoined (IsOpenCell conn rect mask.now image.now (IsFromTo y y)) result
         waiting.old waiting.new }
 {
     let first = first_cell(image, rect, y);
@@ -130,13 +118,8 @@ pub fn queue_between(
     conn: Conn,
     waiting: &mut Waiting,
 ) -> bool
-    requires below { IsBelow image.now mask.now }
-    requires fits { RectFits mask.now.width mask.now.height rect }
-    requires from { from < rect.h }
-    requires to { to < rect.h }
-    requires touch { apart from to ≡ 1 }
-    ensures { HaveJoined (IsOpenCell conn rect mask.now image.now (λ a b. (a ≡ from) × (b ≡ to))) result
-        waiting.old waiting.new }
+    requires { CanGrowAcross rect mask.now image.now from to }
+    ensures { HaveJoined (IsOpenCell conn rect mask.now image.now (IsFromTo from to)) result waiting.old waiting.new }
 {
     let first = first_cell(image, rect, from);
     let raising = image.row_in(rect, from);
@@ -155,10 +138,7 @@ fn queue_to(
     conn: Conn,
     waiting: &mut Waiting,
 ) -> bool
-    requires some { 0 < length to.now }
-    requires from { length from.now ≡ length to.now }
-    requires mask { length mask.now ≡ length to.now }
-    requires cells { first + length to.now ≤ max_pixels }
+    requires { AreFullRowsAt first from.now mask.now to.now }
     ensures { HaveJoined (RaisesTo (AreBeside conn) first from.now mask.now to.now) result waiting.old waiting.new }
 {
     if !queue_straight(from, mask, to, first, waiting) {
@@ -173,10 +153,7 @@ fn queue_to(
 // Puts the cells of the row `from`, which begin at `first`, that raise one in the next column of the row `to`, to the
 // right or the left, into the queue. It answers whether there was room for all of them.
 fn queue_aslant(from: &[u32], mask: &[u32], to: &[u32], first: u32, waiting: &mut Waiting) -> bool
-    requires some { 0 < length to.now }
-    requires from { length from.now ≡ length to.now }
-    requires mask { length mask.now ≡ length to.now }
-    requires cells { first + length to.now ≤ max_pixels }
+    requires { AreFullRowsAt first from.now mask.now to.now }
     ensures { HaveJoined (RaisesTo AreAside first from.now mask.now to.now) result waiting.old waiting.new }
 {
     let last = to.len() - 1;
@@ -187,9 +164,7 @@ fn queue_aslant(from: &[u32], mask: &[u32], to: &[u32], first: u32, waiting: &mu
 // Puts the cells of the row `from`, which begin at `first`, that raise the one in the same column of the row `to` into
 // the queue. It answers whether there was room for all of them.
 fn queue_straight(from: &[u32], mask: &[u32], to: &[u32], first: u32, waiting: &mut Waiting) -> bool
-    requires from { length from.now ≡ length to.now }
-    requires mask { length mask.now ≡ length to.now }
-    requires cells { first + length to.now ≤ max_pixels }
+    requires { AreRowsAt first from.now mask.now to.now }
     ensures { HaveJoined (RaisesStraight first from.now mask.now to.now) result waiting.old waiting.new }
 {
     let mut start = 0;
@@ -212,9 +187,7 @@ fn queue_straight(from: &[u32], mask: &[u32], to: &[u32], first: u32, waiting: &
 
 // The same for a few columns, which are looked at one by one only where a pair is open.
 fn queue_strip(from: &[u32], mask: &[u32], to: &[u32], first: u32, waiting: &mut Waiting) -> bool
-    requires from { length from.now ≡ length to.now }
-    requires mask { length mask.now ≡ length to.now }
-    requires cells { first + length to.now ≤ max_pixels }
+    requires { AreRowsAt first from.now mask.now to.now }
     ensures { HaveJoined (RaisesStraight first from.now mask.now to.now) result waiting.old waiting.new }
 {
     if is_closed_straight(from, mask, to) {
@@ -232,8 +205,7 @@ fn queue_strip(from: &[u32], mask: &[u32], to: &[u32], first: u32, waiting: &mut
 pub fn first_cell(image: &Grid, rect: Rect, y: u32) -> u32
     requires fits { RectFits image.now.width image.now.height rect }
     requires row { y < rect.h }
-    ensures place { result ≡ cell_of rect image.now.width (record { x = 0; y = y }) }
-    ensures within { result + rect.w ≤ max_pixels }
+    ensures { IsFirstOfRow rect image.now.width y result }
 {
     let width = image.width();
     (rect.y + y) * width + rect.x

@@ -6,8 +6,9 @@ ghost use Rattle.grid_core.specs.Path.{domain_of};
 ghost use Rattle.grid_core.specs.Raster.{IsBelow, IsFilled, value_at, headroom};
 ghost use Rattle.grid_core.specs.Reconstruction.{IsClosed};
 ghost use Rattle.grid_core.specs.Rects.{RectFits, domain_in, part};
-ghost use Rattle.raster_sweeps.specs.Growth.{AllWait, AreInside, AreOpen, IsCellIn, IsGrown};
-ghost use Rattle.raster_sweeps.specs.Spans.{AreQueued, InSpan, IsAround, IsRaised};
+ghost use Rattle.raster_sweeps.specs.Growth.{AllWait, AreInside, AreOpen, IsCellIn, IsGrown, CanClose, CanGrow};
+ghost use Rattle.raster_sweeps.specs.Spans.{AreQueued, InSpan, IsAround, IsRaised, AreSpread};
+ghost use Rattle.raster_sweeps.specs.Growth.{CellHasSpread, IsDrained};
 
 use crate::neighbourhood::{Span, Spans, spans_around};
 use crate::waiting::Waiting;
@@ -25,15 +26,10 @@ pub fn drain(
     waiting: &mut Waiting,
     budget: usize,
 ) -> bool
-    requires filled { IsFilled image.old }
-    requires below { IsBelow image.old mask.now }
-    requires fits { RectFits mask.now.width mask.now.height rect }
+    requires close { CanClose rect mask.now image.old }
     requires inside { AreInside rect image.old.width waiting.old }
     requires some { 0 < budget }
-    ensures grown { IsGrown conn rect mask.now image.old image.new }
-    ensures closed { IsTrue result → AllWait conn rect mask.now image.old waiting.old
-        → IsClosed (domain_in rect conn) (part rect (value_at mask.now)) (part rect (value_at image.new)) }
-    ensures rose { IsTrue result ⊎ (headroom image.new.cells < headroom image.old.cells) }
+    ensures { IsDrained conn rect mask.now image.old image.new waiting.old result }
 {
     let mut left = budget;
     while let Some(cell) = waiting.pop() {
@@ -59,19 +55,9 @@ pub fn spread(
     waiting: &mut Waiting,
     cell: u32,
 ) -> bool
-    requires below { IsBelow image.old mask.now }
-    requires fits { RectFits mask.now.width mask.now.height rect }
+    requires grow { CanGrow rect mask.now image.old }
     requires inside { AreInside rect image.old.width (cell ∷ waiting.old) }
-    ensures grown { IsGrown conn rect mask.now image.old image.new }
-    ensures inside { AreInside rect image.new.width waiting.new }
-    ensures waits { IsTrue result → AllWait conn rect mask.now image.old (cell ∷ waiting.old)
-        → AllWait conn rect mask.now image.new waiting.new }
-    ensures count { IsTrue result → length waiting.old ≤ length waiting.new }
-    ensures effort { IsTrue result → length waiting.new + headroom image.new.cells
-        ≤ length waiting.old + headroom image.old.cells }
-    ensures fell { IsTrue result ⊎ (headroom image.new.cells < headroom image.old.cells) }
-    ensures rose { AreOpen conn rect mask.now image.old (cell ∷ [])
-        → headroom image.new.cells < headroom image.old.cells }
+    ensures { CellHasSpread conn rect mask.now image.old image.new cell waiting.old waiting.new result }
 {
     cells_given_back();
     let spans = spans_around(mask.width(), rect, conn, cell);
@@ -93,15 +79,7 @@ fn raise_around(
 ) -> bool
     requires within { (k : _) → IsAround spans k → k < length cells.old }
     requires same { length mask.now ≡ length cells.old }
-    ensures raised { IsRaised (IsAround spans) mask.now level cells.old cells.new }
-    ensures inside { (i : _) → Contains waiting.new i → Contains waiting.old i ⊎ IsAround spans i }
-    ensures queued { IsTrue result → AreQueued (IsAround spans) mask.now level cells.old waiting.old waiting.new }
-    ensures count { IsTrue result → length waiting.old ≤ length waiting.new }
-    ensures effort { IsTrue result
-        → length waiting.new + headroom cells.new ≤ length waiting.old + headroom cells.old }
-    ensures fell { IsTrue result ⊎ (headroom cells.new < headroom cells.old) }
-    ensures less { (k : _) → IsAround spans k → slice_index cells.old k < min level (slice_index mask.now k)
-        → headroom cells.new < headroom cells.old }
+    ensures { AreSpread (IsAround spans) mask.now level cells.old cells.new waiting.old waiting.new (IsTrue result) }
 {
     let above = raise(mask, cells, waiting, level, spans.above);
     let beside = raise(mask, cells, waiting, level, spans.beside);
@@ -115,14 +93,7 @@ fn raise_around(
 fn raise(mask: &[u32], cells: &mut [u32], waiting: &mut Waiting, level: u32, span: Span) -> bool
     requires within { (k : _) → InSpan span k → k < length cells.old }
     requires same { length mask.now ≡ length cells.old }
-    ensures raised { IsRaised (InSpan span) mask.now level cells.old cells.new }
-    ensures inside { (i : _) → Contains waiting.new i → Contains waiting.old i ⊎ InSpan span i }
-    ensures queued { IsTrue result → AreQueued (InSpan span) mask.now level cells.old waiting.old waiting.new }
-    ensures count { IsTrue result → length waiting.old ≤ length waiting.new }
-    ensures effort { IsTrue result
-        → length waiting.new + headroom cells.new ≤ length waiting.old + headroom cells.old }
-    ensures fell { IsTrue result ⊎ (headroom cells.new < headroom cells.old) }
-    ensures kept { headroom cells.new ≤ headroom cells.old }
+    ensures { AreSpread (InSpan span) mask.now level cells.old cells.new waiting.old waiting.new (IsTrue result) }
 {
     let mut room = true;
     for cell in span.first..span.end {

@@ -1,7 +1,7 @@
 //! How a scan raises a row: by another row that touches it, and along itself.
 
 ghost use Rattle.std.specs.Prelude.{◌≡◌, ◌<◌, length, IsTrue};
-ghost use Rattle.raster_sweeps.specs.RowPairs.{AreAside, AreBeside};
+ghost use Rattle.raster_sweeps.specs.RowPairs.{AreAside, AreBeside, AreFullRows, AreRows};
 ghost use Rattle.raster_sweeps.specs.RowRaises.{IsRaisedStraight, IsRaisedBy, IsRaisedFromLeft, IsRaisedFromRight};
 
 use crate::rows::is_closed_straight;
@@ -12,9 +12,7 @@ const STRIP: usize = 64;
 
 /// Raises each pixel of a row by its neighbours in a row that touches it, as far as the mask lets it.
 pub fn raise_by(mask: &[u32], by: &[u32], row: &mut [u32], conn: Conn)
-    requires some { 0 < length row.old }
-    requires mask { length mask.now ≡ length row.old }
-    requires by { length by.now ≡ length row.old }
+    requires { AreFullRows by.now mask.now row.old }
     ensures { IsRaisedBy (AreBeside conn) mask.now by.now row.old row.new }
 {
     raise_straight(mask, by, row);
@@ -25,9 +23,7 @@ pub fn raise_by(mask: &[u32], by: &[u32], row: &mut [u32], conn: Conn)
 
 // Raises each pixel of a row by those of another in the columns to its left and right, as far as the mask lets it.
 fn raise_aslant(mask: &[u32], by: &[u32], row: &mut [u32])
-    requires some { 0 < length row.old }
-    requires mask { length mask.now ≡ length row.old }
-    requires by { length by.now ≡ length row.old }
+    requires { AreFullRows by.now mask.now row.old }
     ensures { IsRaisedBy AreAside mask.now by.now row.old row.new }
 {
     let last = row.len() - 1;
@@ -40,8 +36,7 @@ fn raise_aslant(mask: &[u32], by: &[u32], row: &mut [u32])
 // Inside the loop over the rows it would not become vector code.
 #[inline(never)]
 fn raise_straight(mask: &[u32], by: &[u32], row: &mut [u32])
-    requires mask { length mask.now ≡ length row.old }
-    requires by { length by.now ≡ length row.old }
+    requires { AreRows by.now mask.now row.old }
     ensures { IsRaisedStraight mask.now by.now row.old row.new }
 {
     for i in 0..row.len() {

@@ -1,14 +1,14 @@
 //! What is asked of rows of pixels, as slices of equal length.
 
 ghost use Rattle.std.specs.Prelude.{◌≡◌, ◌<◌, ◌↔◌, length, IsTrue};
-ghost use Rattle.raster_sweeps.specs.RowPairs.{AreBeside, AreAside, IsClosedStraight, IsClosedTo};
+ghost use Rattle.raster_sweeps.specs.RowPairs.{AreBeside, AreAside, IsClosedStraight, IsClosedTo, AreFullRows};
+ghost use Rattle.raster_sweeps.specs.RowPairs.{AreRows};
 
 use grid_core::Conn;
 
 // Whether no pixel of the row `from` raises the one in the same column of the row `to`.
 pub fn is_closed_straight(from: &[u32], mask: &[u32], to: &[u32]) -> bool
-    requires from { length from.now ≡ length to.now }
-    requires mask { length mask.now ≡ length to.now }
+    requires { AreRows from.now mask.now to.now }
     ensures { IsTrue result ↔ IsClosedStraight from.now mask.now to.now }
 {
     let mut open = false;
@@ -20,9 +20,7 @@ pub fn is_closed_straight(from: &[u32], mask: &[u32], to: &[u32]) -> bool
 
 // Whether no pixel of the row `from` raises one in the next column, to the right or the left, of the row `to`.
 pub fn is_closed_aslant(from: &[u32], mask: &[u32], to: &[u32]) -> bool
-    requires some { 0 < length to.now }
-    requires from { length from.now ≡ length to.now }
-    requires mask { length mask.now ≡ length to.now }
+    requires { AreFullRows from.now mask.now to.now }
     ensures { IsTrue result ↔ IsClosedTo AreAside from.now mask.now to.now }
 {
     let last = to.len() - 1;
@@ -32,9 +30,7 @@ pub fn is_closed_aslant(from: &[u32], mask: &[u32], to: &[u32]) -> bool
 
 // Whether no pixel of the row `from` raises a neighbour in the row `to`, which touches it.
 pub fn is_closed_to(from: &[u32], mask: &[u32], to: &[u32], conn: Conn) -> bool
-    requires some { 0 < length to.now }
-    requires from { length from.now ≡ length to.now }
-    requires mask { length mask.now ≡ length to.now }
+    requires { AreFullRows from.now mask.now to.now }
     ensures { IsTrue result ↔ IsClosedTo (AreBeside conn) from.now mask.now to.now }
 {
     is_closed_straight(from, mask, to) && (conn == Conn::Four || is_closed_aslant(from, mask, to))
@@ -51,10 +47,8 @@ pub fn are_closed_crosswise(
     below: &[u32],
     limits_below: &[u32],
 ) -> bool
-    requires some { 0 < length row.now }
-    requires limits { length limits.now ≡ length row.now }
-    requires below { length below.now ≡ length row.now }
-    requires limits_below { length limits_below.now ≡ length row.now }
+    requires rows { AreFullRows below.now limits.now row.now }
+    requires below { length limits_below.now ≡ length row.now }
     ensures along { IsTrue result → IsClosedTo AreAside row.now limits.now row.now }
     ensures down { IsTrue result → IsClosedStraight row.now limits_below.now below.now }
     ensures up { IsTrue result → IsClosedStraight below.now limits.now row.now }

@@ -5,7 +5,8 @@ ghost use Rattle.std.specs.Prelude.{◌≡◌, ◌+◌, ◌<◌, ◌≤◌, ◌�
 ghost use Rattle.grid_core.specs.Neighbours.{apart};
 ghost use Rattle.grid_core.specs.Raster.{IsBelow};
 ghost use Rattle.grid_core.specs.Rects.{RectFits};
-ghost use Rattle.raster_sweeps.specs.Growth.{AllWait, AreInside, IsGrown};
+ghost use Rattle.raster_sweeps.specs.Growth.{AllWait, AreInside, IsGrown, CanGrow, IsScannedInto};
+ghost use Rattle.raster_sweeps.specs.RowPairs.{CanGrowAcross, CanGrowRow};
 ghost use Rattle.raster_sweeps.specs.RowRaises.{AreCellsRaised, IsRowGrown};
 
 use crate::open_pairs::queue_row;
@@ -17,8 +18,7 @@ use grid_core::{Conn, Grid, Rect};
 /// The raster scan: row by row from the top, each row from the left, each pixel of the rectangle is raised by its
 /// earlier neighbours there, as far as the mask lets it.
 pub fn scan_down(mask: &Grid, image: &mut Grid, rect: Rect, conn: Conn)
-    requires below { IsBelow image.old mask.now }
-    requires fits { RectFits mask.now.width mask.now.height rect }
+    requires { CanGrow rect mask.now image.old }
     ensures { IsGrown conn rect mask.now image.old image.new }
 {
     raise_row_from_left(mask, image, rect, 0);
@@ -33,12 +33,9 @@ pub fn scan_down(mask: &Grid, image: &mut Grid, rect: Rect, conn: Conn)
 ///
 /// It answers whether there was room for all of them. Where there was not, the rows above are raised and not checked.
 pub fn scan_up(mask: &Grid, image: &mut Grid, rect: Rect, conn: Conn, waiting: &mut Waiting) -> bool
-    requires below { IsBelow image.old mask.now }
-    requires fits { RectFits mask.now.width mask.now.height rect }
+    requires grow { CanGrow rect mask.now image.old }
     requires empty { waiting.old ≡ [] }
-    ensures grown { IsGrown conn rect mask.now image.old image.new }
-    ensures inside { AreInside rect image.new.width waiting.new }
-    ensures waits { IsTrue result → AllWait conn rect mask.now image.new waiting.new }
+    ensures { IsScannedInto conn rect mask.now image.old image.new result waiting.new }
 {
     let last = rect.h - 1;
     raise_row_from_right(mask, image, rect, last);
@@ -53,11 +50,7 @@ pub fn scan_up(mask: &Grid, image: &mut Grid, rect: Rect, conn: Conn, waiting: &
 
 // Raises the pixels of the rectangle's row `to` by their neighbours in the row `from`, which touches it.
 fn raise_row_by(mask: &Grid, image: &mut Grid, rect: Rect, from: u32, to: u32, conn: Conn)
-    requires below { IsBelow image.old mask.now }
-    requires fits { RectFits mask.now.width mask.now.height rect }
-    requires from { from < rect.h }
-    requires to { to < rect.h }
-    requires touch { apart from to ≡ 1 }
+    requires { CanGrowAcross rect mask.now image.old from to }
     ensures { IsRowGrown conn rect mask.now to image.old image.new }
 {
     cells_given_back();
@@ -98,9 +91,7 @@ fn raise_cells_by(limits: &[u32], cells: &mut [u32], source: usize, target: usiz
 
 // Raises the pixels of the rectangle's row `y`, from the left, by those to their left.
 fn raise_row_from_left(mask: &Grid, image: &mut Grid, rect: Rect, y: u32)
-    requires below { IsBelow image.old mask.now }
-    requires fits { RectFits mask.now.width mask.now.height rect }
-    requires row { y < rect.h }
+    requires { CanGrowRow rect mask.now image.old y }
     ensures { (conn : _) → IsRowGrown conn rect mask.now y image.old image.new }
 {
     cells_given_back();
@@ -113,9 +104,7 @@ fn raise_row_from_left(mask: &Grid, image: &mut Grid, rect: Rect, y: u32)
 
 // Raises the pixels of the rectangle's row `y`, from the right, by those to their right.
 fn raise_row_from_right(mask: &Grid, image: &mut Grid, rect: Rect, y: u32)
-    requires below { IsBelow image.old mask.now }
-    requires fits { RectFits mask.now.width mask.now.height rect }
-    requires row { y < rect.h }
+    requires { CanGrowRow rect mask.now image.old y }
     ensures { (conn : _) → IsRowGrown conn rect mask.now y image.old image.new }
 {
     cells_given_back();

@@ -11,9 +11,6 @@ ghost use Rattle.raster_sweeps.specs.Flood.{IsImageOn, IsLevelDone, IsSeeding, I
 use grid_core::{Conn, Grid, Memory, Pixel, neighbours};
 use std::alloc::Global;
 
-#[cfg(test)]
-mod tests;
-
 /// What is reconstructed: a mask and a marker of one size, and which pixels are neighbours.
 #[derive(Clone, Copy)]
 struct Reconstruction<'a> {

@@ -1,23 +1,25 @@
-use Rattle.std.proofs.Common.{refl, inl, inr}
+use Rattle.std.proofs.Common.{true, refl, inl}
+use Rattle.grid_core.specs.Raster.{IsInside}
+use Rattle.raster_sweeps.proofs.BorderPairs.{begun_open, begun_wait}
 use Rattle.raster_sweeps.proofs.Grown.{fits_below, grown_same, open_inside}
 use Rattle.raster_sweeps.proofs.growth.check.Goals as goal
 
 pub returns-then-queue_open_pairs : goal.returns-then-queue_open_pairs
 returns-then-queue_open_pairs c = record {
   grown =
-      grown_same c.args.conn c.args.rect c.args.mask.now c.args.image.now c.requires.filled c.requires.below
-      (fits_below c.args.rect c.args.mask.now c.args.image.now c.requires.below c.requires.fits);
+      grown_same c.args.conn c.args.rect c.args.mask.now c.args.image.now c.requires.close.filled c.requires.close.below
+      (fits_below c.args.rect c.args.mask.now c.args.image.now c.requires.close.below c.requires.close.fits);
   inside =
       open_inside c.args.conn c.args.rect c.args.mask.now c.args.image.now c.queue_open_pairs.new.waiting
-      c.queue_open_pairs.ensures.open;
-  waits = λ all. c.queue_open_pairs.ensures.waits c.if-queue_open_pairs.true;
+      (begun_open c.args.conn c.args.rect c.args.mask.now c.args.image.now
+      (IsInside c.args.rect.w c.args.rect.h) true c.args.waiting.now c.queue_open_pairs.new.waiting c.requires.empty c.if-queue_open_pairs.ensures);
+  waits = λ all.
+      begun_wait c.args.conn c.args.rect c.args.mask.now c.args.image.now (IsInside c.args.rect.w c.args.rect.h)
+      true c.args.waiting.now c.queue_open_pairs.new.waiting refl c.if-queue_open_pairs.ensures (λ p q raises. raises.from_inside);
   rose = inl refl;
 }
 
-pub returns : goal.returns
-returns c = record {
-  grown = c.spread_first.ensures.grown;
-  inside = c.spread_first.ensures.inside;
-  waits = λ all. absurd cc;
-  rose = inr c.spread_first.ensures.rose;
-}
+pub spread_first-requires-clause-open : goal.spread_first-requires-clause-open
+spread_first-requires-clause-open c =
+    begun_open c.args.conn c.args.rect c.args.mask.now c.args.image.now (IsInside c.args.rect.w c.args.rect.h)
+    c.queue_open_pairs.result c.args.waiting.now c.queue_open_pairs.new.waiting c.requires.empty c.queue_open_pairs.ensures

@@ -1,23 +1,25 @@
-use Rattle.std.proofs.Common.{refl, inl, inr}
+use Rattle.std.proofs.Common.{true, refl, inl}
+use Rattle.grid_core.specs.Raster.{IsOnBorder}
+use Rattle.raster_sweeps.proofs.BorderPairs.{begun_open, begun_wait}
 use Rattle.raster_sweeps.proofs.Grown.{fits_below, grown_same, open_inside}
 use Rattle.raster_sweeps.proofs.growth.check_border.Goals as goal
 
 pub returns-then-queue_border : goal.returns-then-queue_border
 returns-then-queue_border c = record {
   grown =
-      grown_same c.args.conn c.args.rect c.args.mask.now c.args.image.now c.requires.filled c.requires.below
-      (fits_below c.args.rect c.args.mask.now c.args.image.now c.requires.below c.requires.fits);
+      grown_same c.args.conn c.args.rect c.args.mask.now c.args.image.now c.requires.close.filled c.requires.close.below
+      (fits_below c.args.rect c.args.mask.now c.args.image.now c.requires.close.below c.requires.close.fits);
   inside =
       open_inside c.args.conn c.args.rect c.args.mask.now c.args.image.now c.queue_border.new.waiting
-      c.queue_border.ensures.open;
-  waits = λ all. c.queue_border.ensures.waits c.if-queue_border.true c.requires.border;
+      (begun_open c.args.conn c.args.rect c.args.mask.now c.args.image.now
+      (IsOnBorder c.args.rect.w c.args.rect.h) true c.args.waiting.now c.queue_border.new.waiting c.requires.empty c.if-queue_border.ensures);
+  waits = λ all.
+      begun_wait c.args.conn c.args.rect c.args.mask.now c.args.image.now (IsOnBorder c.args.rect.w c.args.rect.h)
+      true c.args.waiting.now c.queue_border.new.waiting refl c.if-queue_border.ensures c.requires.border;
   rose = inl refl;
 }
 
-pub returns : goal.returns
-returns c = record {
-  grown = c.spread_first.ensures.grown;
-  inside = c.spread_first.ensures.inside;
-  waits = λ all. absurd cc;
-  rose = inr c.spread_first.ensures.rose;
-}
+pub spread_first-requires-clause-open : goal.spread_first-requires-clause-open
+spread_first-requires-clause-open c =
+    begun_open c.args.conn c.args.rect c.args.mask.now c.args.image.now (IsOnBorder c.args.rect.w c.args.rect.h)
+    c.queue_border.result c.args.waiting.now c.queue_border.new.waiting c.requires.empty c.queue_border.ensures

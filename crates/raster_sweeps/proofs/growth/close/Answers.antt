@@ -9,8 +9,8 @@ use Rattle.raster_sweeps.proofs.growth.close.Goals.{else-all-via-then-all+else-d
 pub rounds-init : goal.rounds-init
 rounds-init c = record {
   grown =
-      grown_same c.args.conn c.args.rect c.args.mask.now c.args.image.now c.requires.filled c.requires.below
-      (fits_below c.args.rect c.args.mask.now c.args.image.now c.requires.below c.requires.fits);
+      grown_same c.args.conn c.args.rect c.args.mask.now c.args.image.now c.requires.close.filled c.requires.close.below
+      (fits_below c.args.rect c.args.mask.now c.args.image.now c.requires.close.below c.requires.close.fits);
   border = c.requires.border;
 }
 
@@ -31,7 +31,7 @@ returns-then-drain-clause-closed c =
 pub rounds-smaller : goal.rounds-smaller
 rounds-smaller c =
     let filled : IsFilled c.rounds.image =
-    grown_filled c.args.conn c.args.rect c.args.mask.now c.args.image.now c.rounds.image c.requires.filled
+    grown_filled c.args.conn c.args.rect c.args.mask.now c.args.image.now c.rounds.image c.requires.close.filled
     c.rounds.invariant.grown in
     let by_fill : headroom c.fill-all.new.image.cells ≤ headroom c.rounds.image.cells =
     grown_headroom c.args.conn c.args.rect c.args.mask.now c.rounds.image c.fill-all.new.image filled

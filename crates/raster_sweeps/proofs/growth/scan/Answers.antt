@@ -19,7 +19,7 @@ returns c =
     grown_twice c.args.conn c.args.rect c.args.mask.now c.args.image.now c.scan_down.new.image c.scan_up.new.image
     c.scan_down.ensures c.scan_up.ensures.grown in
     let before : headroom c.scan_up.new.image.cells ≤ headroom c.args.image.now.cells =
-    grown_headroom c.args.conn c.args.rect c.args.mask.now c.args.image.now c.scan_up.new.image c.requires.filled
+    grown_headroom c.args.conn c.args.rect c.args.mask.now c.args.image.now c.scan_up.new.image c.requires.close.filled
     scanned in
     record {
       grown =

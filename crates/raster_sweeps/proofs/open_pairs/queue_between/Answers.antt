@@ -1,6 +1,6 @@
-use Rattle.raster_sweeps.specs.RowPairs.{AreBeside, RaisesTo, IsOpenCell}
+use Rattle.raster_sweeps.specs.RowPairs.{AreBeside, IsFromTo, RaisesTo, IsOpenCell}
 use Rattle.raster_sweeps.proofs.Joining.{joined_same}
-use Rattle.raster_sweeps.proofs.OpenRows.{IsFromTo, beside_opens, open_beside}
+use Rattle.raster_sweeps.proofs.OpenRows.{beside_opens, open_beside}
 use Rattle.raster_sweeps.proofs.open_pairs.queue_between.Goals as goal
 
 pub returns : goal.returns

@@ -1,6 +1,6 @@
-use Rattle.raster_sweeps.specs.RowPairs.{IsOpenCell}
+use Rattle.raster_sweeps.specs.RowPairs.{IsOpenCell, IsUpper}
 use Rattle.raster_sweeps.proofs.Joining.{none_joined}
-use Rattle.raster_sweeps.proofs.OpenRows.{IsUpper, row_stopped, last_row_joined, row_down_stopped, row_joined}
+use Rattle.raster_sweeps.proofs.OpenRows.{row_stopped, last_row_joined, row_down_stopped, row_joined}
 use Rattle.raster_sweeps.proofs.open_pairs.queue_row.Goals as goal
 
 pub returns-then-not-queue_within : goal.returns-then-not-queue_within

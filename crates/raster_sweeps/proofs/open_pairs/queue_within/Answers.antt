@@ -1,7 +1,7 @@
 use Rattle.std.proofs.Common.{refl}
-use Rattle.raster_sweeps.specs.RowPairs.{AreAside, RaisesTo, IsOpenCell}
+use Rattle.raster_sweeps.specs.RowPairs.{AreAside, IsFromTo, RaisesTo, IsOpenCell}
 use Rattle.raster_sweeps.proofs.Joining.{joined_same}
-use Rattle.raster_sweeps.proofs.OpenRows.{IsFromTo, aside_opens, open_aside}
+use Rattle.raster_sweeps.proofs.OpenRows.{aside_opens, open_aside}
 use Rattle.raster_sweeps.proofs.open_pairs.queue_within.Goals as goal
 
 pub returns : goal.returns

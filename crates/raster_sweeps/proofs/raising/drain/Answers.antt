@@ -10,39 +10,41 @@ use Rattle.raster_sweeps.proofs.raising.drain.Goals.{then-not-room-via-else-not-
 pub loop-cell-init : goal.loop-cell-init
 loop-cell-init c = record {
   grown =
-      grown_same c.args.conn c.args.rect c.args.mask.now c.args.image.now c.requires.filled c.requires.below
-      (fits_below c.args.rect c.args.mask.now c.args.image.now c.requires.below c.requires.fits);
+      grown_same c.args.conn c.args.rect c.args.mask.now c.args.image.now c.requires.close.filled c.requires.close.below
+      (fits_below c.args.rect c.args.mask.now c.args.image.now c.requires.close.below c.requires.close.fits);
   inside = c.requires.inside;
   waits = λ waited. waited;
   some = c.requires.some;
 }
 
-pub returns-then-not-room-clause-grown : goal.returns-then-not-room-clause-grown
-returns-then-not-room-clause-grown c =
-    grown_twice c.args.conn c.args.rect c.args.mask.now c.args.image.now c.loop-cell.image c.spread-room.new.image
-    c.loop-cell.invariant.grown c.spread-room.ensures.grown
-
-pub returns-then-not-room-clause-rose : goal.returns-then-not-room-clause-rose
-returns-then-not-room-clause-rose c =
+pub returns-then-not-room : goal.returns-then-not-room
+returns-then-not-room c =
     let before : headroom c.loop-cell.image.cells ≤ headroom c.args.image.now.cells =
-    grown_headroom c.args.conn c.args.rect c.args.mask.now c.args.image.now c.loop-cell.image c.requires.filled
+    grown_headroom c.args.conn c.args.rect c.args.mask.now c.args.image.now c.loop-cell.image c.requires.close.filled
     c.loop-cell.invariant.grown in
-    elim c.then-not-room.branch [
-      | then-not-room-via-then-not-room w ↦ elim c.spread-room.ensures.fell [
-        | inl room ↦ absurd (false≢true (sym w.if-not-room.true ∙ room))
-        | inr less ↦ inr (omega (arith, less, before))
-      ]
-      | then-not-room-via-else-not-room+then-len-before w ↦
-          inr (omega (
-            arith,
-            c.spread-room.ensures.effort w.if-not-room.false,
-            w.if-len-before.true,
-            w.len.ensures,
-            c.len-before.ensures,
-            c.loop-cell.invariant.some,
-            before,
-          ))
-    ]
+    record {
+      grown =
+          grown_twice c.args.conn c.args.rect c.args.mask.now c.args.image.now c.loop-cell.image c.spread-room.new.image
+          c.loop-cell.invariant.grown c.spread-room.ensures.grown;
+      closed = λ done. absurd (false≢true done);
+      rose =
+          elim c.then-not-room.branch [
+            | then-not-room-via-then-not-room w ↦ elim c.spread-room.ensures.fell [
+              | inl room ↦ absurd (false≢true (sym w.if-not-room.true ∙ room))
+              | inr less ↦ inr (omega (arith, less, before))
+            ]
+            | then-not-room-via-else-not-room+then-len-before w ↦
+                inr (omega (
+                  arith,
+                  c.spread-room.ensures.effort w.if-not-room.false,
+                  w.if-len-before.true,
+                  w.len.ensures,
+                  c.len-before.ensures,
+                  c.loop-cell.invariant.some,
+                  before,
+                ))
+          ];
+    }
 
 pub loop-cell-preserved : goal.loop-cell-preserved
 loop-cell-preserved c = record {

@@ -5,10 +5,10 @@ use Rattle.std.specs.Prelude.{Contains, IsTrue}
 use Rattle.std.proofs.lemmas.Bool.{false≢true}
 use Rattle.std.proofs.lemmas.List.Elements.{Contains-push_cases}
 use Rattle.grid_core.specs.Raster.{headroom}
-use Rattle.raster_sweeps.specs.Spans.{InSpan}
-use Rattle.grid_core.proofs.Headroom.{headroom_set}
+use Rattle.raster_sweeps.specs.Spans.{InSpan, IsRaised}
+use Rattle.grid_core.proofs.Headroom.{headroom_less, headroom_set}
 use Rattle.raster_sweeps.proofs.Raised.{span_to, next_raised, next_not_raised, next_queued, next_not_queued}
-use Rattle.raster_sweeps.proofs.Raised.{raised_at}
+use Rattle.raster_sweeps.proofs.Raised.{queued_at, raised_at, raised_rises}
 use Rattle.raster_sweeps.proofs.raising.raise.Goals as goal
 use Rattle.raster_sweeps.proofs.raising.raise.Goals.{then-cells-at+then-push, then-cells-at+else-push, else-cells-at}
 
@@ -100,20 +100,38 @@ loop-cell-preserved c =
           }
     ]
 
-pub returns-clause-raised : goal.returns-clause-raised
-returns-clause-raised c =
+pub returns : goal.returns
+returns c =
+    let mask = c.args.mask.now in
+    let level = c.args.level in
+    let before = c.args.cells.now in
+    let after = c.loop-cell.cells in
     let first = c.args.span.first in
     let j = c.loop-cell.cell in
+    let held = c.loop-cell.invariant in
     let test : c.args.span.end ≤ j = c.loop-cell-test.false in
-    raised_at (InSpan (span_to first j)) (InSpan c.args.span) c.args.mask.now c.args.level c.args.cells.now
-    c.loop-cell.cells
-    (λ k here. (here.0, omega (arith, here.1, here.0, c.loop-cell.invariant.ends)))
+    let raised : IsRaised (InSpan c.args.span) mask level before after =
+    raised_at (InSpan (span_to first j)) (InSpan c.args.span) mask level before after
+    (λ k here. (here.0, omega (arith, here.1, here.0, held.ends)))
     (λ k here. (here.0, omega (arith, here.1, test)))
-    c.loop-cell.invariant.raised
-
-pub returns-clause-inside : goal.returns-clause-inside
-returns-clause-inside c = λ i waits.
-    elim (c.loop-cell.invariant.inside i waits) [
-      | inl earlier ↦ inl earlier
-      | inr here ↦ inr (here.0, omega (arith, here.1, here.0, c.loop-cell.invariant.ends))
-    ]
+    held.raised in
+    record {
+      raised = raised;
+      inside = λ i waits.
+          elim (held.inside i waits) [
+            | inl earlier ↦ inl earlier
+            | inr here ↦ inr (here.0, omega (arith, here.1, here.0, held.ends))
+          ];
+      queued = λ room.
+          queued_at (InSpan (span_to first j)) (InSpan c.args.span) mask level before c.args.waiting.now
+          c.loop-cell.waiting (λ k here. (here.0, omega (arith, here.1, test))) (held.queued room);
+      count = held.count;
+      effort = held.effort;
+      fell = held.fell;
+      kept = held.kept;
+      less = λ k here lower.
+          headroom_less before after k raised.filled
+          (λ i within. raised_rises (InSpan c.args.span) mask level before after raised i)
+          (c.requires.within k here) (omega (arith, raised.raised k here, lower))
+          (omega (arith, raised.raised k here, lower, c.ranges.level.fits));
+    }

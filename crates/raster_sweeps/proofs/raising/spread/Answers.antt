@@ -15,7 +15,7 @@ use Rattle.raster_sweeps.proofs.raising.spread.Goals as goal
 pub spans_around-spans-requires-clause-inside : goal.spans_around-spans-requires-clause-inside
 spans_around-spans-requires-clause-inside c =
     let width : c.args.image.now.width ≡ c.width.result =
-    c.requires.below.width ∙ sym c.width.ensures.value in
+    c.requires.grow.below.width ∙ sym c.width.ensures.value in
     subst (λ w. IsCellIn c.args.rect w c.args.cell) width
     (c.requires.inside c.args.cell
     (Contains-append_left (c.args.cell ∷ []) c.args.waiting.now c.args.cell (0, omega arith, refl)))
@@ -36,7 +36,7 @@ bounds-cells-cell c =
     c.requires.inside cell (Contains-append_left (cell ∷ []) c.args.waiting.now cell (0, omega arith, refl)) in
     omega (
       arith,
-      cell_in_image c.args.rect c.args.mask.now image cell c.requires.below c.requires.fits
+      cell_in_image c.args.rect c.args.mask.now image cell c.requires.grow.below c.requires.grow.fits
           c.cells_mut-cells.ensures.sized.filled found,
       ap length c.cells_mut-cells.ensures.values,
     )
@@ -46,7 +46,7 @@ raise_around-requires-clause-within c k here =
     let cell = c.args.cell in
     let image = c.args.image.now in
     let rect = c.args.rect in
-    let width : image.width ≡ c.width.result = c.requires.below.width ∙ sym c.width.ensures.value in
+    let width : image.width ≡ c.width.result = c.requires.grow.below.width ∙ sym c.width.ensures.value in
     let found : IsCellIn rect image.width cell =
     c.requires.inside cell (Contains-append_left (cell ∷ []) c.args.waiting.now cell (0, omega arith, refl)) in
     let spans : AreSpansOf c.args.conn rect c.width.result found.0 c.spans_around-spans.result =
@@ -57,7 +57,7 @@ raise_around-requires-clause-within c k here =
     (near.0, near.1, subst (λ w. cell_of rect w near.0 ≡ k) (sym width) near.2) in
     omega (
       arith,
-      cell_in_image rect c.args.mask.now image k c.requires.below c.requires.fits
+      cell_in_image rect c.args.mask.now image k c.requires.grow.below c.requires.grow.fits
           c.cells_mut-cells.ensures.sized.filled place,
       ap length c.cells_mut-cells.ensures.values,
     )
@@ -74,7 +74,7 @@ returns c =
     let after = c.raise_around.new.cells in
     let spans = c.spans_around-spans.result in
     let level : ℕ = get_or image.cells cell 0 in
-    let width : image.width ≡ c.width.result = c.requires.below.width ∙ sym c.width.ensures.value in
+    let width : image.width ≡ c.width.result = c.requires.grow.below.width ∙ sym c.width.ensures.value in
     let items : c.cells_mut-cells.result.now ≡ image.cells = c.cells_mut-cells.ensures.values in
     let limits : c.cells-limits.result.now ≡ mask.cells = c.cells-limits.ensures.values in
     let found : IsCellIn rect image.width cell =
@@ -88,8 +88,8 @@ returns c =
     let held : HasSpread conn rect mask image (with_cells image after) cell old waiting c.raise_around.result =
     subst (λ r. HasSpread conn rect mask image r cell old waiting c.raise_around.result) (sym drawn)
     (cell_spreads conn rect mask image cell level spans after old waiting c.raise_around.result
-    c.cells_mut-cells.ensures.sized.filled c.requires.below
-    (fits_below rect mask image c.requires.below c.requires.fits)
+    c.cells_mut-cells.ensures.sized.filled c.requires.grow.below
+    (fits_below rect mask image c.requires.grow.below c.requires.grow.fits)
     found
     (λ p inside place.
     subst (λ w. AreSpansOf conn rect w p spans) (sym width)

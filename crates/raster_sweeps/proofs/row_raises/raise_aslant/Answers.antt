@@ -25,7 +25,7 @@ returns c =
     let size_left : length left ≡ n = omega (arith, c.raise_straight-2.ensures.long, front.long) in
     let first : IsRaisedBy AreAside mask by xs ys =
     part_raised AreAside mask by xs ys (between 1 (length mask) mask) (take n by) (between 1 (length xs) xs) right 1 0 n
-    (λ s less. omega arith) c.requires.by (omega arith)
+    (λ s less. omega arith) c.requires.from (omega arith)
     (part_between mask 1 (length mask) n (omega arith) (omega arith)) (part_front by n (omega arith)) between_xs
     c.raise_straight.ensures middle in
     let second : IsRaisedBy AreAside mask by ys zs =

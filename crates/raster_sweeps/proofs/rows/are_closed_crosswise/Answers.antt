@@ -49,7 +49,7 @@ returns-clause-along c = λ closed.
     closed_along row c.args.limits.now c.args.below.now c.args.limits_below.now (length row - 1)
     (λ k less. others.right k (omega (arith, less, c.loop-i-test.false)))
     (λ k less. others.left k (omega (arith, less, c.loop-i-test.false)))
-    (omega (arith, c.requires.some))
+    (omega (arith, c.requires.rows.some))
 
 pub returns-clause-down : goal.returns-clause-down
 returns-clause-down c = λ closed.
@@ -60,7 +60,7 @@ returns-clause-down c = λ closed.
     let others = c.loop-i.invariant.others quiet in
     closed_straight row c.args.limits.now below limits_below (length row - 1) row limits_below below
     (λ k less. others.down k (omega (arith, less, c.loop-i-test.false))) (c.loop-i.invariant.down quiet)
-    (omega (arith, c.requires.some, c.requires.below))
+    (omega (arith, c.requires.rows.some, c.requires.below, c.requires.rows.from))
 
 pub returns-clause-up : goal.returns-clause-up
 returns-clause-up c = λ closed.
@@ -71,4 +71,4 @@ returns-clause-up c = λ closed.
     let others = c.loop-i.invariant.others quiet in
     closed_straight row limits below c.args.limits_below.now (length row - 1) below limits row
     (λ k less. others.up k (omega (arith, less, c.loop-i-test.false))) (c.loop-i.invariant.up quiet)
-    (omega (arith, c.requires.some))
+    (omega (arith, c.requires.rows.some))

@@ -6,11 +6,19 @@ use Rattle.raster_sweeps.proofs.Grown.{grown_twice}
 use Rattle.raster_sweeps.proofs.Scanning.{row_grown_twice, joined_inside, row_waits, none_below, none_inside}
 use Rattle.raster_sweeps.proofs.scans.scan_up.Goals as goal
 
-pub queue_row-all-requires-clause-below : goal.queue_row-all-requires-clause-below
-queue_row-all-requires-clause-below c = (c.raise_row_from_right.ensures c.args.conn).grown.below
+pub queue_row-all-requires : goal.queue_row-all-requires
+queue_row-all-requires c = record {
+  below = (c.raise_row_from_right.ensures c.args.conn).grown.below;
+  fits = c.requires.grow.fits;
+  row = omega (arith, c.requires.grow.fits.some_height);
+}
 
-pub queue_row-all-requires-then-all-clause-below : goal.queue_row-all-requires-then-all-clause-below
-queue_row-all-requires-then-all-clause-below c = (c.raise_row_from_right-in-loop-y.ensures c.args.conn).grown.below
+pub queue_row-all-requires-then-all : goal.queue_row-all-requires-then-all
+queue_row-all-requires-then-all c = record {
+  below = (c.raise_row_from_right-in-loop-y.ensures c.args.conn).grown.below;
+  fits = c.requires.grow.fits;
+  row = omega arith;
+}
 
 pub loop-y-init : goal.loop-y-init
 loop-y-init c =
