@@ -82,25 +82,6 @@ fn is_within_work(alloc: Global, first: u64, conn: Conn) -> Result<bool, Fail> {
 }
 
 #[test]
-fn an_abandoned_job_is_work_once_more(rt: HostRuntime) -> Result<(), Fail> {
-    let mut scene = Scene::on_row(rt.alloc(), &[4; 128])?;
-    scene.place(1, 4, 0, 0)?;
-    assert!(rt; scene.owed()? == 508);
-    assert!(rt; scene.dirty_tiles() == 1);
-    let account = scene.run(&[
-        Step::Take(0),
-        Step::Abandon(0),
-        Step::Take(0),
-        Step::Return(1),
-        Step::Return(0),
-        Step::Hand(1, 0),
-    ])?;
-    assert!(rt; account.counts(2, 1));
-    assert!(rt; scene.owed()? == 252);
-    Ok(())
-}
-
-#[test]
 fn no_schedule_takes_more_jobs_than_there_is_work(rt: HostRuntime) -> Result<(), Fail> {
     for round in 0..40_u64 {
         for conn in [Conn::Four, Conn::Eight] {

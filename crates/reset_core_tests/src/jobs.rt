@@ -1,162 +1,195 @@
 //! Jobs that are taken, given back and abandoned.
 
-use crate::scene::{Scene, grid_of};
+use crate::scene::Scene;
+use crate::script::{Line, Start, play, played};
 use grid_core::Conn;
 use reset_core::Back;
-use std::alloc::Global;
 use std::test::Fail;
 
-#[test]
-fn a_job_has_the_pixels_and_the_mask_of_its_tile(rt: HostRuntime) -> Result<(), Fail> {
-    let mask = [4, 4, 4, 4, 4, 4, 4, 4, 1, 2, 3];
-    let mut scene = Scene::on_tiled_row(rt.alloc(), &mask, 8)?;
-    scene.place(1, 3, 9, 10)?;
+// Whether tile 1 gives a job with the pixels and the mask of the last three, which is then out.
+fn gives_last_three(mut scene: Scene) -> Result<bool, Fail> {
     let job = scene.take(1)?;
-    assert!(rt; job.is_of(1, 0, 0));
-    assert!(rt; job.is_under(Conn::Four));
-    assert!(rt; job.has(&[0, 2, 3], &[1, 2, 3]));
-    assert!(rt; scene.has_ticket_out(1, 0, 0));
-    assert!(rt; scene.has_out(&[1]));
-    assert!(rt; !scene.is_dirty(1));
-    Ok(())
+    let is_so = job.is_of(1, 0, 0) && job.is_under(Conn::Four) && job.has(&[0, 2, 3], &[1, 2, 3]);
+    let is_out = scene.has_ticket_out(1, 0, 0) && scene.has_out(&[1]) && !scene.is_dirty(1);
+    Ok(is_so && is_out)
 }
 
 #[test]
-fn only_a_dirty_tile_of_which_no_job_is_out_gives_a_job(rt: HostRuntime) -> Result<(), Fail> {
-    let mut scene = Scene::on_row(rt.alloc(), &[4; 128])?;
-    assert!(rt; !scene.gives_job(0)?, "clean");
-    scene.place(1, 4, 0, 0)?;
-    assert!(rt; !scene.gives_job(1)?, "clean");
-    assert!(rt; !scene.gives_job(2)?, "no tile");
-    assert!(rt; scene.gives_job(0)?);
-    scene.place(2, 4, 5, 5)?;
-    assert!(rt; scene.is_dirty(0));
-    assert!(rt; scene.is_out(0));
-    assert!(rt; !scene.gives_job(0)?, "out");
+fn a_job_has_the_pixels_and_the_mask_of_its_tile(rt: HostRuntime) -> Result<(), Fail> {
+    let start = Start::Tiled(&[4, 4, 4, 4, 4, 4, 4, 4, 1, 2, 3], 8);
+    let scene = played(rt.alloc(), start, &[Line::Place(1, 3, 9, 10)])?;
+    assert!(rt; gives_last_three(scene)?);
     Ok(())
+}
+
+// A tile gives none where it is clean, is not there, or has a job out.
+#[test]
+fn only_a_dirty_tile_of_which_no_job_is_out_gives_a_job(rt: HostRuntime) -> Result<(), Fail> {
+    let lines = [
+        Line::NoJob(0),
+        Line::Place(1, 4, 0, 0),
+        Line::NoJob(1),
+        Line::NoJob(2),
+        Line::Take(0, 0, 0),
+        Line::Place(2, 4, 5, 5),
+        Line::Dirty(&[0]),
+        Line::Out(&[0]),
+        Line::NoJob(0),
+    ];
+    play(rt.alloc(), &[Start::Row(&[4; 128])], &lines)
 }
 
 #[test]
 fn a_result_from_before_a_reset_is_stale_each_time(rt: HostRuntime) -> Result<(), Fail> {
-    let mut scene = Scene::on_row(rt.alloc(), &[4; 128])?;
-    scene.place(1, 4, 0, 0)?;
-    let late = scene.take_and_sweep(0)?;
-    scene.withdraw(1)?;
-    assert!(rt; scene.give_back_copy(&late)? == Back::Stale);
-    assert!(rt; scene.give_back(late)? == Back::Stale);
-    assert!(rt; scene.shows(&[0; 128]));
-    let job = scene.take(0)?;
-    assert!(rt; job.ticket().generation == 1);
-    Ok(())
+    let lines = [
+        Line::Place(1, 4, 0, 0),
+        Line::Take(0, 0, 0),
+        Line::Withdraw(1),
+        Line::Return(0, Back::Stale),
+        Line::Return(0, Back::Stale),
+        Line::Image(&[0; 128]),
+        Line::Take(0, 1, 1),
+    ];
+    play(rt.alloc(), &[Start::Row(&[4; 128])], &lines)
 }
 
 #[test]
 fn a_result_that_comes_twice_is_stale(rt: HostRuntime) -> Result<(), Fail> {
-    let mut scene = Scene::on_row(rt.alloc(), &[4; 128])?;
-    scene.place(1, 4, 0, 0)?;
-    let once = scene.take_and_sweep(0)?;
-    assert!(rt; scene.give_back_copy(&once)? == Back::Joined);
-    assert!(rt; scene.give_back(once)? == Back::Stale);
-    assert!(rt; scene.waiting(1) == 1);
-    Ok(())
+    let lines = [
+        Line::Place(1, 4, 0, 0),
+        Line::Take(0, 0, 0),
+        Line::Return(0, Back::Joined),
+        Line::Return(0, Back::Stale),
+        Line::Waiting(1, 1),
+    ];
+    play(rt.alloc(), &[Start::Row(&[4; 128])], &lines)
 }
 
 #[test]
 fn a_result_is_joined_with_what_rose_meanwhile(rt: HostRuntime) -> Result<(), Fail> {
-    let mut scene = Scene::on_row(rt.alloc(), &[9, 9, 0, 9])?;
-    scene.place(1, 2, 0, 0)?;
-    let early = scene.take_and_sweep(0)?;
-    scene.place(2, 5, 1, 1)?;
-    assert!(rt; scene.give_back(early)? == Back::Again);
-    assert!(rt; scene.shows(&[2, 5, 0, 0]));
-    assert!(rt; scene.has_dirty(&[0]));
-    assert!(rt; scene.settle()?.jobs == 1);
-    assert!(rt; scene.shows(&[5, 5, 0, 0]));
-    Ok(())
+    let lines = [
+        Line::Place(1, 2, 0, 0),
+        Line::Take(0, 0, 0),
+        Line::Place(2, 5, 1, 1),
+        Line::Return(0, Back::Again),
+        Line::Image(&[2, 5, 0, 0]),
+        Line::Dirty(&[0]),
+        Line::SettleBy(1, 0),
+        Line::Image(&[5, 5, 0, 0]),
+    ];
+    play(rt.alloc(), &[Start::Row(&[9, 9, 0, 9])], &lines)
 }
 
-// A core on two pixels of 7 that touch at a corner, with a stroke of level 7 on the first.
-fn with_a_corner(alloc: Global, conn: Conn) -> Result<Scene, Fail> {
-    let mut scene = Scene::on(alloc, grid_of(alloc, 2, 2, &[7, 0, 0, 7])?, conn, 64)?;
-    scene.place(1, 7, 0, 0)?;
-    Ok(scene)
-}
-
+// Two pixels of 7 touch at a corner.
 #[test]
 fn a_result_of_the_other_connectivity_is_a_stranger(rt: HostRuntime) -> Result<(), Fail> {
-    let mut four = with_a_corner(rt.alloc(), Conn::Four)?;
-    let mut eight = with_a_corner(rt.alloc(), Conn::Eight)?;
-    let own = four.take_and_sweep(0)?;
-    let strange = eight.take_and_sweep(0)?;
-    assert!(rt; strange.shows(&[7, 0, 0, 7]));
-    assert!(rt; four.give_back(strange)? == Back::Stranger);
-    assert!(rt; four.has_out(&[0]));
-    assert!(rt; four.give_back(own)? == Back::Joined);
-    assert!(rt; four.shows(&[7, 0, 0, 0]));
-    Ok(())
+    let starts = [
+        Start::Columns(&[7, 0, 0, 7], Conn::Four),
+        Start::Columns(&[7, 0, 0, 7], Conn::Eight),
+    ];
+    let lines = [
+        Line::Place(1, 7, 0, 0),
+        Line::Take(0, 0, 0),
+        Line::On(1),
+        Line::Place(1, 7, 0, 0),
+        Line::Take(0, 0, 0),
+        Line::Result(1, &[7, 0, 0, 7]),
+        Line::On(0),
+        Line::Return(1, Back::Stranger),
+        Line::Out(&[0]),
+        Line::Return(0, Back::Joined),
+        Line::Image(&[7, 0, 0, 0]),
+    ];
+    play(rt.alloc(), &starts, &lines)
 }
 
 #[test]
 fn a_result_on_another_mask_is_a_stranger(rt: HostRuntime) -> Result<(), Fail> {
-    let mut scene = Scene::on_row(rt.alloc(), &[5, 5, 5])?;
-    let mut other = Scene::on_row(rt.alloc(), &[5, 5, 6])?;
-    scene.place(1, 5, 0, 0)?;
-    other.place(1, 5, 0, 0)?;
-    let own = scene.take_and_sweep(0)?;
-    assert!(rt; scene.give_back(other.take_and_sweep(0)?)? == Back::Stranger);
-    assert!(rt; scene.shows(&[5, 0, 0]));
-    assert!(rt; scene.give_back(own)? == Back::Joined);
-    Ok(())
+    let lines = [
+        Line::Place(1, 5, 0, 0),
+        Line::Take(0, 0, 0),
+        Line::On(1),
+        Line::Place(1, 5, 0, 0),
+        Line::Take(0, 0, 0),
+        Line::On(0),
+        Line::Return(1, Back::Stranger),
+        Line::Image(&[5, 0, 0]),
+        Line::Return(0, Back::Joined),
+    ];
+    let starts = [Start::Row(&[5, 5, 5]), Start::Row(&[5, 5, 6])];
+    play(rt.alloc(), &starts, &lines)
 }
 
 #[test]
-fn a_result_of_a_later_generation_or_no_tile_is_a_stranger(rt: HostRuntime) -> Result<(), Fail> {
-    let mut scene = Scene::on_row(rt.alloc(), &[4; 64])?;
-    let mut later = Scene::on_row(rt.alloc(), &[4; 64])?;
-    let mut wider = Scene::on_row(rt.alloc(), &[4; 128])?;
-    scene.place(1, 4, 0, 0)?;
-    later.place(1, 4, 0, 0)?;
-    later.withdraw(1)?;
-    wider.place(1, 4, 64, 64)?;
-    let own = scene.take_and_sweep(0)?;
-    assert!(rt; scene.give_back(later.take_and_sweep(0)?)? == Back::Stranger);
-    assert!(rt; scene.give_back(wider.take_and_sweep(1)?)? == Back::Stranger);
-    assert!(rt; scene.give_back(own)? == Back::Joined);
-    Ok(())
+fn a_result_of_a_later_generation_is_a_stranger(rt: HostRuntime) -> Result<(), Fail> {
+    let lines = [
+        Line::Place(1, 4, 0, 0),
+        Line::Take(0, 0, 0),
+        Line::On(1),
+        Line::Place(1, 4, 0, 0),
+        Line::Withdraw(1),
+        Line::Take(0, 1, 0),
+        Line::On(0),
+        Line::Return(1, Back::Stranger),
+        Line::Return(0, Back::Joined),
+    ];
+    let starts = [Start::Row(&[4; 64]), Start::Row(&[4; 64])];
+    play(rt.alloc(), &starts, &lines)
+}
+
+#[test]
+fn a_result_of_no_tile_is_a_stranger(rt: HostRuntime) -> Result<(), Fail> {
+    let lines = [
+        Line::Place(1, 4, 0, 0),
+        Line::Take(0, 0, 0),
+        Line::On(1),
+        Line::Place(1, 4, 64, 64),
+        Line::Take(1, 0, 0),
+        Line::On(0),
+        Line::Return(1, Back::Stranger),
+        Line::Return(0, Back::Joined),
+    ];
+    let starts = [Start::Row(&[4; 64]), Start::Row(&[4; 128])];
+    play(rt.alloc(), &starts, &lines)
 }
 
 #[test]
 fn a_result_with_another_base_is_a_stranger(rt: HostRuntime) -> Result<(), Fail> {
-    let mut scene = Scene::on_row(rt.alloc(), &[5; 4])?;
-    let mut other = Scene::on_row(rt.alloc(), &[5; 4])?;
-    scene.place(1, 3, 0, 0)?;
-    other.place(1, 5, 1, 1)?;
-    let own = scene.take_and_sweep(0)?;
-    let strange = other.take_and_sweep(0)?;
-    assert!(rt; strange.has_ticket_of(&own));
-    assert!(rt; scene.give_back_copy(&strange)? == Back::Stranger);
-    scene.place(2, 2, 3, 3)?;
-    assert!(rt; scene.give_back(strange)? == Back::Stranger);
-    assert!(rt; scene.shows(&[3, 0, 0, 2]));
-    assert!(rt; scene.give_back(own)? == Back::Again);
-    assert!(rt; scene.shows(&[3, 3, 3, 3]));
-    Ok(())
+    let lines = [
+        Line::Place(1, 3, 0, 0),
+        Line::Take(0, 0, 0),
+        Line::On(1),
+        Line::Place(1, 5, 1, 1),
+        Line::Take(0, 0, 0),
+        Line::SameTicket(0, 1),
+        Line::On(0),
+        Line::Return(1, Back::Stranger),
+        Line::Place(2, 2, 3, 3),
+        Line::Return(1, Back::Stranger),
+        Line::Image(&[3, 0, 0, 2]),
+        Line::Return(0, Back::Again),
+        Line::Image(&[3, 3, 3, 3]),
+    ];
+    play(
+        rt.alloc(),
+        &[Start::Row(&[5; 4]), Start::Row(&[5; 4])],
+        &lines,
+    )
 }
 
 #[test]
 fn an_abandoned_tile_gives_another_job(rt: HostRuntime) -> Result<(), Fail> {
-    let alloc = rt.alloc();
-    let mut scene = Scene::on_row(alloc, &[4; 128])?;
-    scene.place(1, 4, 0, 0)?;
-    let first = scene.take(0)?;
-    assert!(rt; scene.abandon(first.ticket()));
-    assert!(rt; scene.has_dirty(&[0]));
-    assert!(rt; !scene.is_out(0));
-    assert!(rt; !scene.abandon(first.ticket()), "it is not out any more");
-    let second = scene.take(0)?;
-    assert!(rt; second.ticket().serial == 1);
-    assert!(rt; !scene.abandon(first.ticket()), "another is out");
-    assert!(rt; scene.give_back(first.sweep(alloc)?)? == Back::Stale);
-    assert!(rt; scene.give_back(second.sweep(alloc)?)? == Back::Joined);
-    Ok(())
+    let lines = [
+        Line::Place(1, 4, 0, 0),
+        Line::Take(0, 0, 0),
+        Line::Abandon(0, true),
+        Line::Dirty(&[0]),
+        Line::Out(&[]),
+        Line::Abandon(0, false),
+        Line::Take(0, 0, 1),
+        Line::Abandon(0, false),
+        Line::Return(0, Back::Stale),
+        Line::Return(1, Back::Joined),
+    ];
+    play(rt.alloc(), &[Start::Row(&[4; 128])], &lines)
 }

@@ -28,4 +28,6 @@ mod scene;
 #[cfg(test)]
 mod schedules;
 #[cfg(test)]
+mod script;
+#[cfg(test)]
 mod settling;

@@ -3,7 +3,7 @@
 
 ghost use Rattle.std.specs.Prelude.{⊤};
 
-use grid_core::{Conn, Grid, Pixel};
+use grid_core::{Conn, Grid};
 use marker_tiles::marker;
 use pgm_codec::Image;
 use raster_sweeps::slow;
@@ -64,11 +64,17 @@ impl Edit {
         })
     }
 
-    /// The join of both.
-    pub fn and(self, alloc: Global, other: Edit) -> Result<Edit, Fail> {
-        let Edit { mut delta } = self;
-        delta.merge(alloc, &other.delta)?;
-        Ok(Edit { delta })
+    /// Nothing.
+    pub fn nothing(alloc: Global) -> Result<Edit, Fail> {
+        Ok(Edit {
+            delta: State::empty(alloc)?,
+        })
+    }
+
+    /// Joins another to it.
+    pub fn add(&mut self, alloc: Global, other: &Edit) -> Result<(), Fail> {
+        self.delta.merge(alloc, &other.delta)?;
+        Ok(())
     }
 
     /// The delta by itself.
@@ -97,9 +103,18 @@ impl Model for News {
 
 impl News {
     /// Whether exactly these tags became live, and these ceased to be.
-    pub fn is(&self, born: &[Tag], dead: &[Tag]) -> bool {
-        self.change.born() == born && self.change.dead() == dead
+    pub fn is(&self, born: &[u128], dead: &[u128]) -> bool {
+        are_tags(self.change.born(), born) && are_tags(self.change.dead(), dead)
     }
+}
+
+// Whether the tags have these numbers.
+fn are_tags(tags: &[Tag], numbers: &[u128]) -> bool {
+    tags.len() == numbers.len()
+        && tags
+            .iter()
+            .zip(numbers)
+            .all(|(tag, number)| tag.0 == *number)
 }
 
 // Whether the ticket has these numbers.
@@ -154,11 +169,6 @@ impl Model for Task {
 }
 
 impl Task {
-    /// Which job it is.
-    pub fn ticket(&self) -> Ticket {
-        self.job.ticket()
-    }
-
     /// Whether its ticket has these numbers.
     pub fn is_of(&self, tile: usize, generation: u64, serial: u64) -> bool {
         is_ticket(self.job.ticket(), tile, generation, serial)
@@ -200,6 +210,11 @@ impl Outcome {
     /// Which job it was.
     pub fn ticket(&self) -> Ticket {
         self.swept.ticket()
+    }
+
+    /// Whether the ticket of its job has these numbers.
+    pub fn is_of(&self, tile: usize, generation: u64, serial: u64) -> bool {
+        is_ticket(self.swept.ticket(), tile, generation, serial)
     }
 
     /// Whether it was of the same job as another, by their tickets.
@@ -266,15 +281,17 @@ impl Scene {
         Scene::of(alloc, core)
     }
 
-    /// A core on a mask of one row under four neighbours, with tiles of side 64.
-    pub fn on_row(alloc: Global, mask: &[u32]) -> Result<Scene, Fail> {
-        Scene::on_tiled_row(alloc, mask, 64)
-    }
-
-    /// A core on a mask of one row under four neighbours, with tiles of this side.
-    pub fn on_tiled_row(alloc: Global, mask: &[u32], side: u32) -> Result<Scene, Fail> {
-        let mask = grid_of(alloc, u32::try_from(mask.len())?, 1, mask)?;
-        Scene::on(alloc, mask, Conn::Four, side)
+    /// A core on a mask of these rows, with tiles of this side.
+    pub fn on_mask(
+        alloc: Global,
+        mask: &[u32],
+        height: usize,
+        conn: Conn,
+        side: u32,
+    ) -> Result<Scene, Fail> {
+        let width = mask.len().checked_div(height).unwrap_or(0);
+        let mask = grid_of(alloc, u32::try_from(width)?, u32::try_from(height)?, mask)?;
+        Scene::on(alloc, mask, conn, side)
     }
 
     /// A core on an image of one row, with tiles of the side that stands where none is named.
@@ -317,18 +334,9 @@ impl Scene {
         self.refusal(edit) == Some(why)
     }
 
-    /// Places a stroke of one run on the top row.
-    pub fn place(&mut self, tag: u128, level: u32, x0: u16, x1: u16) -> Result<(), Fail> {
-        let edit = Edit::place(self.alloc, tag, level, x0, x1)?;
-        self.merge(&edit)?;
-        Ok(())
-    }
-
-    /// Withdraws a stroke.
-    pub fn withdraw(&mut self, tag: u128) -> Result<(), Fail> {
-        let edit = Edit::withdraw(self.alloc, tag)?;
-        self.merge(&edit)?;
-        Ok(())
+    /// Whether the core takes a delta.
+    pub fn takes(&mut self, edit: &Edit) -> Result<bool, Fail> {
+        Ok(self.merge(edit).is_ok())
     }
 
     /// Takes a tile.
@@ -416,10 +424,10 @@ impl Scene {
         self.core.image().cells() == cells
     }
 
-    /// Whether the image has these cells from some place on.
-    pub fn shows_from(&self, start: usize, cells: &[u32]) -> bool {
-        match self.core.image().cells().get(start..) {
-            Some(rest) => rest.starts_with(cells),
+    /// Whether the image has this value everywhere from one pixel to before another.
+    pub fn is_filled(&self, start: usize, end: usize, value: u32) -> bool {
+        match self.core.image().cells().get(start..end) {
+            Some(cells) => cells.iter().all(|cell| *cell == value),
             None => false,
         }
     }
@@ -461,12 +469,6 @@ impl Scene {
         let grown = grown(self.alloc, self.core.mask(), strokes, self.core.conn())?;
         let is_grown = self.core.image().cells() == grown.cells();
         Ok(is_grown && self.core.state().is_same(strokes))
-    }
-
-    /// Whether the image has this value at a pixel.
-    pub fn has_pixel(&self, x: u32, y: u32, value: u32) -> bool {
-        let mask = self.core.mask();
-        x < mask.width() && y < mask.height() && self.core.pixel(Pixel { x, y }) == value
     }
 
     /// Whether pixels are neighbours so.
@@ -554,6 +556,16 @@ impl Scene {
             }
         }
         self.tiles() == generations.len()
+    }
+
+    /// Whether there are so many tiles, and each has this generation.
+    pub fn has_each_generation(&self, tiles: usize, generation: u64) -> bool {
+        for tile in 0..self.tiles() {
+            if !self.has_generation(tile, generation) {
+                return false;
+            }
+        }
+        self.tiles() == tiles
     }
 
     /// Whether exactly these tiles are to be swept.
