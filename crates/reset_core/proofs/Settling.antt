@@ -30,7 +30,8 @@ use Rattle.core_rules.specs.Counting.{IsWithinWork, Owes}
 use Rattle.core_rules.specs.Laws.{SettlingIsWithinWork}
 use Rattle.tile_work.specs.WorkTable.{HasJobOut}
 use Rattle.reset_core.specs.Telling.{burden}
-use Rattle.reset_core.specs.Settling.{waiting_count, AreAbandoned, IsFirstHandedOver, AreHanded, AreWorkedOff}
+use Rattle.reset_core.specs.Settling.{waiting_count, AreAbandoned, IsFirstHandedOver, IsOneWorkedOff, AreHanded}
+use Rattle.reset_core.specs.Settling.{AreWorkedOff}
 use Rattle.core_rules.proofs.Cores.{field_kept}
 use Rattle.reset_core.proofs.Sweeping.{let_go}
 use Rattle.core_rules.proofs.Running.{run_append}
@@ -285,20 +286,19 @@ one_more_handed before now next so_far first = record {
 
 -- one tile more is swept
 pub one_more_swept : (before now next : Core) (jobs : ℕ) → AreWorkedOff before now jobs
-    → ((log : List Entry) × IsWorkedOff now log next × (jobs_of log ≡ 1)) → NoneOut next
-    → ((u : ℕ) → HasHints next u → ⊥) → tiling next ≡ tiling now → burden next < burden now
-    → AreWorkedOff before next (jobs + 1)
-one_more_swept before now next jobs so_far (log, works, one) none_out no_hints same less = record {
-  log = so_far.log ++ log;
-  works = work_goes_on before now next so_far.log log so_far.works works;
+    → IsOneWorkedOff now next → tiling next ≡ tiling now → AreWorkedOff before next (jobs + 1)
+one_more_swept before now next jobs so_far one same = record {
+  log = so_far.log ++ one.log;
+  works = work_goes_on before now next so_far.log one.log so_far.works one.works;
   count =
-      let more = jobs_append so_far.log log in
+      let more = jobs_append so_far.log one.log in
       let count = so_far.count in
-      omega (arith, more, count, one);
-  none_out = none_out;
-  no_hints = no_hints;
+      let one_job = one.one_job in
+      omega (arith, more, count, one_job);
+  none_out = one.none_out;
+  no_hints = one.no_hints;
   tiling = same ∙ so_far.tiling;
-  spent = let spent = so_far.spent in omega (arith, spent, less);
+  spent = let spent = so_far.spent in let less = one.less in omega (arith, spent, less);
 }
 
 -- a core's burden is far below 2^64
@@ -327,11 +327,6 @@ bounded_burden core sized tiled count =
 
       All-of : {X : Type 0} {P : X → Type 0} → ((x : X) → P x) → (xs : List X) → All P xs
       All-of holds xs = λ k d within. holds (get_or xs k d)
-
-pub same_tiles : (a b : Core) → b.mask ≡ a.mask → b.side ≡ a.side → tiling b ≡ tiling a
-same_tiles a b mask side =
-    let tiles : Raster → ℕ → Tiles = λ m s. record { width = m.width; height = m.height; side = s } in
-    ap (λ m. tiles m b.side) mask ∙ ap (tiles a.mask) side
 
 -- a core at which no job is out, no hint waits and no tile is dirty is quiet
 pub quiet_from : (core : Core) → NoneOut core → ((u : ℕ) → HasHints core u → ⊥) → ((t : ℕ) → IsDirty core t → ⊥)

@@ -1,15 +1,14 @@
--- Rows of images compared, copied and raised one after the other.
-use Rattle.std.proofs.Common.{◌≡◌, ℕ, ◌+◌, ◌-◌, ◌*◌, ◌<◌, ◌≤◌, max, List, ◌++◌, length, length-append, get_or}
+-- Rows of images compared and raised one after the other.
+use Rattle.std.proofs.Common.{◌≡◌, ℕ, ◌+◌, ◌-◌, ◌*◌, ◌<◌, ◌≤◌, max, List, length, get_or}
 use Rattle.std.proofs.Common.{sym, ap, subst, ◌∙◌, arith, inl, inr}
 use Rattle.std.proofs.Math.Nat.{mul-le-mul_right}
 use Rattle.std.proofs.lemmas.Bool.{cases_lt}
-use Rattle.std.proofs.lemmas.List.{get_or_append_left, get_or-append_right}
 use Rattle.grid_core.specs.declared.pixel.Pixel.{Pixel}
 use Rattle.grid_core.specs.declared.rect.Rect.{Rect}
 use Rattle.grid_core.specs.Raster.{Raster, IsInside, index_of, value_at}
-use Rattle.grid_core.specs.Rects.{RectFits, in_image}
+use Rattle.grid_core.specs.Rects.{RectFits, IsRowOf, AreCellsChanged, in_image}
 use Rattle.core_rules.specs.Image.{IsJoinedWith}
-use Rattle.reset_core.specs.Parts.{IsRow, AreCellsRaised}
+use Rattle.reset_core.specs.Parts.{raised_from}
 
 -- ---- rows compared
 
@@ -21,14 +20,14 @@ AreAlike R width f g rows = (p : Pixel) → p.x < width → p.y < rows → R (f 
 abbrev pub AreRelated : (ℕ → ℕ → Type 0) → List ℕ → List ℕ → Type 0
 AreRelated R a b = (k : ℕ) → k < length a → R (get_or a k 0) (get_or b k 0)
 
-module _ (R : ℕ → ℕ → Type 0) (width : ℕ) (f g : Pixel → ℕ) (y : ℕ) (a b : List ℕ) (row_a : IsRow width f y a)
-    (row_b : IsRow width g y b) where
+module _ (R : ℕ → ℕ → Type 0) (width : ℕ) (f g : Pixel → ℕ) (y : ℕ) (a b : List ℕ) (row_a : IsRowOf width f y a)
+    (row_b : IsRowOf width g y b) where
   pub alike_more : AreAlike R width f g y → AreRelated R a b → AreAlike R width f g (y + 1)
   alike_more so_far related p column earlier = elim (cases_lt p.y y) [
     | inl before ↦ so_far p column before
     | inr not_before ↦
         let here : y ≡ p.y = omega arith in
-        let count = row_a.count in
+        let count = row_a.long in
         subst (λ v. R (f (record { x = p.x; y = v })) (g (record { x = p.x; y = v }))) here
         (subst (λ v. R v (g (record { x = p.x; y = y }))) (row_a.values p.x column)
         (subst (λ v. R (get_or a p.x 0) v) (row_b.values p.x column) (related p.x (omega (arith, count, column)))))
@@ -36,45 +35,16 @@ module _ (R : ℕ → ℕ → Type 0) (width : ℕ) (f g : Pixel → ℕ) (y : �
 
   pub related_row : (rows : ℕ) → AreAlike R width f g rows → y < rows → AreRelated R a b
   related_row rows alike within k below =
-      let count = row_a.count in
+      let count = row_a.long in
       let column : k < width = omega (arith, count, below) in
       subst (λ v. R v (get_or b k 0)) (sym (row_a.values k column))
       (subst (λ v. R (f (record { x = k; y = y })) v) (sym (row_b.values k column))
       (alike (record { x = k; y = y }) column within))
 
--- ---- rows copied
-
--- the cells are the first rows
-abbrev pub AreRows : ℕ → (Pixel → ℕ) → ℕ → List ℕ → Type 0
-AreRows width image rows cells =
-    (length cells ≡ rows * width)
-    × ((p : Pixel) → p.x < width → p.y < rows → get_or cells (p.y * width + p.x) 0 ≡ image p)
-
-pub rows_more : (width : ℕ) (image : Pixel → ℕ) (y : ℕ) (row old new : List ℕ) → AreRows width image y old
-    → IsRow width image y row → new ≡ old ++ row → AreRows width image (y + 1) new
-rows_more width image y row old new so_far is_row new_is =
-    let count = is_row.count in (
-      ap length new_is ∙ length-append old row ∙ (omega (arith, count, so_far.0)),
-      λ p column earlier. ap (λ cells. get_or cells (p.y * width + p.x) 0) new_is ∙ elim (cases_lt p.y y) [
-        | inl before ↦
-            let rows : (p.y + 1) * width ≤ y * width = mul-le-mul_right width (omega arith) in
-            let short : p.y * width + p.x < length old = omega (arith, rows, so_far.0) in
-            get_or_append_left old row 0 (p.y * width + p.x) short ∙ so_far.1 p column before
-        | inr not_before ↦
-            let here : p.y ≡ y = omega arith in
-            let place : p.y * width ≡ y * width = ap (λ k. k * width) here in
-            let past : y * width ≤ p.y * width + p.x = omega (arith, place) in
-            let at : p.y * width + p.x - y * width ≡ p.x = omega (arith, place) in
-            get_or-append_right old row (y * width) (p.y * width + p.x) 0 so_far.0 past
-            ∙ ap (λ k. get_or row k 0) at
-            ∙ is_row.values p.x column
-            ∙ ap (λ v. image (record { x = p.x; y = v })) (sym here)
-      ],
-    )
-
 -- ---- cells raised
 
-module _ (start : ℕ) (values : List ℕ) (old new : Raster) (raised : AreCellsRaised start values old new) where
+module _ (start : ℕ) (values : List ℕ) (old new : Raster)
+    (raised : AreCellsChanged start (start + length values) (raised_from start values old.cells) old new) where
   at_new : (p : Pixel) → value_at new p ≡ get_or new.cells (index_of old.width p) 0
   at_new p = ap (λ w. get_or new.cells (index_of w p) 0) raised.width
 
@@ -93,8 +63,10 @@ module _ (start : ℕ) (values : List ℕ) (old new : Raster) (raised : AreCells
   pub value_raised : (p : Pixel) (k : ℕ) → k < length values → start + k ≡ index_of old.width p
       → value_at new p ≡ max (value_at old p) (get_or values k 0)
   value_raised p k within place =
+      let back : start + k - start ≡ k = omega arith in
       at_new p ∙ subst (λ i. get_or new.cells i 0 ≡ max (get_or old.cells i 0) (get_or values k 0)) place
-      (raised.raised k within)
+      (raised.inside (start + k) (omega arith) (omega (arith, within))
+      ∙ ap (λ i. max (get_or old.cells (start + k) 0) (get_or values i 0)) back)
 
 -- ---- rows of a rectangle raised
 
@@ -106,8 +78,9 @@ place_before w x y row column earlier =
 
 module _ (rect : Rect) (piece old mid new : Raster) (y start : ℕ) (row : List ℕ)
     (fits : RectFits old.width old.height rect) (below : y < rect.h)
-    (is_row : IsRow rect.w (value_at piece) y row) (start_is : start ≡ (rect.y + y) * mid.width + rect.x)
-    (raised : AreCellsRaised start row mid new) (so_far : IsJoinedWith (record rect { h = y }) piece old mid) where
+    (is_row : IsRowOf rect.w (value_at piece) y row) (start_is : start ≡ (rect.y + y) * mid.width + rect.x)
+    (raised : AreCellsChanged start (start + length row) (raised_from start row mid.cells) mid new)
+    (so_far : IsJoinedWith (record rect { h = y }) piece old mid) where
   -- the place of a pixel of the image
   place_within : (q : Pixel) → IsInside old.width old.height q → index_of mid.width q < length mid.cells
   place_within q inside =
@@ -123,7 +96,7 @@ module _ (rect : Rect) (piece old mid new : Raster) (y start : ℕ) (row : List 
       → (rect.x ≤ q.x → q.x < rect.x + rect.w → q.y ≡ rect.y + y → ⊥) → value_at new q ≡ value_at mid q
   off_row q inside off =
       let width = so_far.size.width in
-      let count = is_row.count in
+      let count = is_row.long in
       let columns = fits.columns in
       beside_raised start row mid new raised q (place_within q inside) (λ k within same.
       elim (cases_lt q.y (rect.y + y)) [
@@ -148,7 +121,7 @@ module _ (rect : Rect) (piece old mid new : Raster) (y start : ℕ) (row : List 
   joined_more =
       let columns = fits.columns in
       let rows = fits.rows in
-      let count = is_row.count in
+      let count = is_row.long in
       let inside_old : (p : Pixel) → IsInside rect.w (y + 1) p → IsInside old.width old.height (in_image rect p) =
       λ p inside. (omega (arith, inside.0, columns), omega (arith, inside.1, below, rows)) in
       record {

@@ -10,14 +10,14 @@ use Rattle.std.proofs.lemmas.List.Elements.{filter-append}
 use Rattle.std.proofs.lemmas.Grind.{flat_map-append}
 use Rattle.std.proofs.lemmas.List.{take_more}
 use Rattle.std.proofs.lemmas.List.Sums.{sum_by-set}
-use Rattle.grid_core.specs.Raster.{IsInside, IsFilled, index_of, max_value, value_at, with_value}
+use Rattle.grid_core.specs.Raster.{Raster, IsInside, IsFilled, index_of, max_value, value_at, with_value}
 use Rattle.grid_core.specs.Tiles.{Tiles, tile_of}
 use Rattle.border_queues.specs.declared.hint.Hint.{Hint}
 use Rattle.border_queues.specs.OpenEdges.{IsOnTiling}
 use Rattle.grid_core.proofs.Headroom.{headroom_set}
 use Rattle.border_queues.specs.TileWork.{TileWork, idle, dirty_count}
 use Rattle.reset_core.specs.Telling.{ImageAndWork, burden_of, risen_by, handed, all_handed, hints_in}
-use Rattle.reset_core.specs.Telling.{AreHandedOver}
+use Rattle.reset_core.specs.Telling.{AreHandedOver, AreOfTiles, IsHandOver}
 
 -- ---- one hint
 
@@ -134,15 +134,19 @@ handed_more tiles xs ys a b c first second = record {
   burden = let less = first.burden in let more = second.burden in omega (arith, less, more);
 }
 
-pub still_on_tiling : (tiles : Tiles) (hints : List Hint) (a b : ImageAndWork) → AreHandedOver tiles hints a b
-    → IsOnTiling tiles a.image → IsOnTiling tiles b.image
-still_on_tiling tiles hints a b over on_tiling =
-    record { width = over.width ∙ on_tiling.width; height = over.height ∙ on_tiling.height }
-
-pub still_filled : (tiles : Tiles) (hints : List Hint) (a b : ImageAndWork) → AreHandedOver tiles hints a b
-    → IsFilled a.image → IsFilled b.image
-still_filled tiles hints a b over filled =
-    over.cells ∙ filled ∙ (λ i. sym over.width i * sym over.height i)
+-- the image is still cut into the tiles
+pub still_of_tiles : (tiles : Tiles) (hints : List Hint) (image : Raster) (work : List TileWork) (new : Raster)
+    (after : List TileWork) → IsHandOver tiles hints image work new after → AreOfTiles tiles image work
+    → AreOfTiles tiles new after
+still_of_tiles tiles hints image work new after over parts = record {
+  tiled = parts.tiled;
+  on_tiling = record {
+    width = over.width ∙ parts.on_tiling.width;
+    height = over.height ∙ parts.on_tiling.height;
+  };
+  filled = over.cells ∙ parts.filled ∙ (λ i. sym over.width i * sym over.height i);
+  count = parts.count ∙ sym over.count;
+}
 
 -- the next hint of a list, of those for one tile
 pub handed_next : (tiles : Tiles) (hints : List Hint) (t i : ℕ) (d : Hint) (a b c : ImageAndWork) → i < length hints

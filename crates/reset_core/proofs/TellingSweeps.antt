@@ -6,7 +6,7 @@ use Rattle.std.proofs.lemmas.Bool.{cases_eq}
 use Rattle.std.proofs.lemmas.List.{length-set, append-nil}
 use Rattle.std.proofs.lemmas.List.Sums.{sum_by-set}
 use Rattle.grid_core.specs.declared.pixel.Pixel.{Pixel}
-use Rattle.grid_core.specs.Raster.{Raster, IsInside, IsBelow, value_at}
+use Rattle.grid_core.specs.Raster.{Raster, IsInside, IsBelow, value_at, headroom}
 use Rattle.grid_core.specs.Path.{Inside}
 use Rattle.grid_core.specs.Reconstruction.{IsReconstruction}
 use Rattle.grid_core.specs.Rects.{IsInRect, in_image, domain_in, part}
@@ -27,7 +27,7 @@ use Rattle.core_rules.specs.Events.{Take, GiveBack, OfTake, OfGiveBack}
 use Rattle.core_rules.specs.Runs.{Entry, IsNext, IsWorkedOff, NoneOut, HasHints, jobs_of}
 use Rattle.core_rules.specs.Invariant.{IsSound}
 use Rattle.reset_core.specs.declared.replica.Core.TheInside.{Inside as Parts}
-use Rattle.reset_core.specs.Telling.{ImageAndWork, image_and_work, burden, burden_of, headroom, AreByTile}
+use Rattle.reset_core.specs.Telling.{ImageAndWork, image_and_work, burden, burden_of, AreByTile}
 use Rattle.reset_core.specs.Telling.{AreTold}
 use Rattle.core_rules.proofs.Cores.{work_there, work_elsewhere, field_kept}
 use Rattle.core_rules.proofs.Supporting.{reach_at_most}
@@ -35,6 +35,7 @@ use Rattle.core_rules.proofs.Running.{run_keeps_sound}
 use Rattle.core_rules.proofs.InPlaceSweeps.{in_place_is_worked_off, work_goes_on}
 use Rattle.core_rules.proofs.Running.{worked_is_run}
 use Rattle.reset_core.proofs.Telling.{telling, telling_count, telling_work, telling_same, none_for}
+use Rattle.reset_core.specs.Settling.{IsOneWorkedOff}
 use Rattle.reset_core.proofs.Telling.{with_image_and_work, AreToldAt, HandsOver, hands_over}
 use Rattle.reset_core.proofs.TellingOrder.{IsToldBy, told_by}
 
@@ -212,21 +213,13 @@ module _ (edges_open : EdgesAreOpen) (before : Core) (t : ℕ) (sound : IsSound 
   less_burden : burden_of (image_and_work (grown_core before t image)) < burden before
   less_burden = let room = less_headroom in let fewer = fewer_dirty in omega (arith, room, fewer)
 
--- one tile is worked off: the events take one job, no work is out or waits, and there is less to do than before
-pub record IsOneStep (before after : Core) : Type 0 where
-  pub log : List Entry
-  pub works : IsWorkedOff before log after
-  pub one_job : jobs_of log ≡ 1
-  pub none_out : NoneOut after
-  pub no_hints : (t : ℕ) → HasHints after t → ⊥
-  pub less : burden after < burden before
-  pub sound : IsSound after
-
+-- one tile is worked off, and the core is sound
 pub one_step : EdgesAreOpen → (before : Core) (t : ℕ) → IsSound before → IsNext before (Take t) → (image : Raster)
     → IsGrownAt before t image → (s : ImageAndWork)
     → AreTold (tiling before) (hints_of before (grown_core before t image) t)
     (image_and_work (grown_core before t image)) s
-    → IsOneStep before (with_image_and_work (grown_core before t image) s)
+    → IsOneWorkedOff before (with_image_and_work (grown_core before t image) s)
+    × IsSound (with_image_and_work (grown_core before t image) s)
 one_step edges_open before t sound next image grown s told =
     let middle = grown_core before t image in
     let hints = hints_of before middle t in
@@ -246,18 +239,18 @@ one_step edges_open before t sound next image grown s told =
     work_goes_on before (telling middle hints) final sweep off.log sweeps hands in
     let less : burden_of (image_and_work middle) < burden before =
     less_burden edges_open before t sound next image grown in
-    let kept = told.over.burden in
-    record {
-      log = sweep ++ off.log;
-      works = works;
-      one_job = ap (λ n. 1 + n) off.no_jobs;
-      none_out = off.none_out;
-      no_hints = λ u waits. waits.1 (off.none_wait u waits.0);
-      less = omega (arith, less, kept);
-      sound =
-          run_keeps_sound edges_open before final (sweep ++ off.log) sound
-          (worked_is_run before final (sweep ++ off.log) works);
-    }
+    let kept = told.over.burden in (
+      record {
+        log = sweep ++ off.log;
+        works = works;
+        one_job = ap (λ n. 1 + n) off.no_jobs;
+        none_out = off.none_out;
+        no_hints = λ u waits. waits.1 (off.none_wait u waits.0);
+        less = omega (arith, less, kept);
+      },
+      run_keeps_sound edges_open before final (sweep ++ off.log) sound
+          (worked_is_run before final (sweep ++ off.log) works),
+    )
 
 -- ---- cores as they are stored
 

@@ -1,10 +1,13 @@
 -- Which core the parts of a stored one are, and what is true of each stored core. Private functions cite it; the
 -- clauses of the core's looks hand it out.
-use Rattle.std.specs.Prelude.{◌≡◌, Bool, false, List, length, replicate}
+use Rattle.std.specs.Prelude.{◌≡◌, ℕ, Bool, false, List, length, replicate}
 use Rattle.grid_core.specs.declared.conn.Conn.{Conn}
+use Rattle.grid_core.specs.Raster.{Raster}
+use Rattle.stroke_lattice.specs.State.{nothing}
 use Rattle.marker_tiles.specs.Kept.{Kept, IsMarkerOf}
 use Rattle.core_rules.specs.Work.{Core}
-use Rattle.border_queues.specs.TileWork.{TileWork}
+use Rattle.core_rules.specs.Opening.{blank}
+use Rattle.border_queues.specs.TileWork.{TileWork, fresh}
 use Rattle.core_rules.specs.Invariant.{IsSound}
 use Rattle.reset_core.specs.declared.replica.Core.TheInside.{Inside as Parts}
 use Rattle.reset_core.specs.declared.replica.Beginning.{Beginning}
@@ -19,6 +22,17 @@ core_of parts = record {
   image = parts.image;
   tiles = parts.work;
   serial = parts.serial;
+}
+
+-- what a core begins with beside its markers: no strokes, an image of zeros of the mask's size, and so many tiles
+-- without work
+abbrev pub at_first : Raster → ℕ → ℕ → Beginning
+at_first mask count first = record {
+  state = nothing;
+  image = blank mask;
+  work = replicate count (fresh first);
+  marks = replicate count false;
+  queue = replicate count false;
 }
 
 -- the parts of a core that begins so

@@ -1,12 +1,12 @@
 -- What is kept while a schedule runs. Only private functions have these words in their contracts.
-use Rattle.std.specs.Prelude.{◌≡◌, ℕ, ◌+◌, ◌≤◌, List, length, take, vec_len, vec_capacity}
+use Rattle.std.specs.Prelude.{◌≡◌, ℕ, ◌+◌, ◌≤◌, List, [], ◌∷◌, ◌++◌, length, take, vec_len, vec_capacity}
 use Rattle.tile_generations.specs.Jobs.{Swept}
 use Rattle.core_rules.specs.declared.error.CoreError.{CoreError}
 use Rattle.reset_core.specs.declared.replica.scheduling.Tally.{Tally}
 use Rattle.core_rules.specs.declared.step.Step.{Step}
 use Rattle.core_rules.specs.Work.{Core}
 use Rattle.core_rules.specs.Runs.{jobs_of, abandons_of}
-use Rattle.core_rules.specs.Schedule.{Progress, started, IsStep, AreSteps}
+use Rattle.core_rules.specs.Schedule.{Progress, Ran, started, IsStep, AreSteps}
 
 -- what is kept of a schedule so far, beside the core: the results, the number of jobs that were abandoned, and the
 -- numbers of the edits that were accepted and refused
@@ -33,6 +33,30 @@ pub record HasRoom (tally : Tally) (n : ℕ) : Type 0 where
 abbrev pub KeepsRoom : ℕ → Tally → Tally → Type 0
 KeepsRoom places before after = (n : ℕ) → HasRoom before (places + n) → HasRoom after n
 
+-- so they do, and no job is abandoned
+pub record KeepsCount (places : ℕ) (before after : Tally) : Type 0 where
+  pub abandons : after.abandons ≡ before.abandons
+  pub room : KeepsRoom places before after
+
+-- what is kept, with one edit more that is accepted or refused, or with one result more
+abbrev pub with_accepted : Kept → ℕ → Kept
+with_accepted kept number = record kept { accepted = kept.accepted ++ number ∷ [] }
+
+abbrev pub with_refused : Kept → ℕ → CoreError → Kept
+with_refused kept number why = record kept { refused = kept.refused ++ (number, why) ∷ [] }
+
+abbrev pub with_result : Kept → Swept → Kept
+with_result kept swept = record kept { results = kept.results ++ swept ∷ [] }
+
+-- what a schedule did that left this
+abbrev pub account_of : Kept → Ran
+account_of kept = record {
+  jobs = length kept.results;
+  abandons = kept.abandons;
+  accepted = kept.accepted;
+  refused = kept.refused;
+}
+
 -- a schedule that has come so far, after so many steps, left this core, and this was kept
 pub record Agrees (now : Core) (kept : Kept) (steps : ℕ) (a : Progress) : Type 0 where
   pub core_is : a.core ≡ now
@@ -46,6 +70,10 @@ pub record Agrees (now : Core) (kept : Kept) (steps : ℕ) (a : Progress) : Type
 -- the step of this number leads from the one core to the other, and from what was kept before it to what is kept then
 pub record LeadsOn (step : Step) (n : ℕ) (before : Core) (kept : Kept) (after : Core) (more : Kept) : Type 0 where
   pub next : (a : Progress) → Agrees before kept n a → (b : Progress) × IsStep step a b × Agrees after more (n + 1) b
+
+-- so it leads from one tally to another
+abbrev pub StepLeads : Step → ℕ → Core → Tally → Core → Tally → Type 0
+StepLeads step n before tally after more = LeadsOn step n before (kept_of tally) after (kept_of more)
 
 -- so many steps of a schedule were made, and led to this core
 pub record HaveRun (start : Core) (all : List Step) (n : ℕ) (now : Core) (kept : Kept) : Type 0 where

@@ -1,10 +1,11 @@
 -- The steps of settling. Only private functions have these words in their contracts.
-use Rattle.std.specs.Prelude.{◌≡◌, ℕ, ◌+◌, ◌<◌, ◌≤◌, List, ◌++◌, length}
+use Rattle.std.specs.Prelude.{◌≡◌, ℕ, ◌+◌, ◌<◌, ◌≤◌, ◌⊎◌, Bool, true, false, List, [], ◌∷◌, ◌++◌, length}
 use Rattle.std.specs.List.{sum_by}
 use Rattle.tile_generations.specs.declared.ticket.Ticket.{Ticket}
 use Rattle.core_rules.specs.declared.answers.Handed.{Handed}
 use Rattle.core_rules.specs.Work.{Core, tiling}
 use Rattle.border_queues.specs.TileWork.{TileWork, IsLeast}
+use Rattle.core_rules.specs.Sweeps.{IsAbandoned}
 use Rattle.core_rules.specs.Hints.{IsHanded}
 use Rattle.core_rules.specs.Runs.{Entry, IsRun, IsWorkedOff, NoneOut, HasHints, jobs_of, abandoned, tickets_out}
 use Rattle.reset_core.specs.Telling.{burden}
@@ -15,6 +16,13 @@ pub record AreAbandoned (before now : Core) (abandons : ℕ) : Type 0 where
   pub clears : IsRun before (abandoned done) now
   pub parts : tickets_out 0 before.tiles ≡ done ++ tickets_out 0 now.tiles
   pub count : abandons ≡ length done
+
+-- the first job that is out is abandoned, where there is one
+abbrev pub IsFirstAbandoned : Core → Bool → Core → Type 0
+IsFirstAbandoned before was_one after =
+    ((was_one ≡ true) × ((ticket : Ticket) × (tickets_out 0 before.tiles ≡ ticket ∷ tickets_out 0 after.tiles)
+    × IsAbandoned before ticket true after))
+    ⊎ ((was_one ≡ false) × (after ≡ before) × (tickets_out 0 before.tiles ≡ []) × NoneOut before)
 
 -- how many hints wait, in all
 abbrev pub waiting_count : List TileWork → ℕ
@@ -30,6 +38,12 @@ pub record IsFirstHandedOver (before after : Core) : Type 0 where
   pub fewer : waiting_count after.tiles < waiting_count before.tiles
   pub tiling : tiling after ≡ tiling before
 
+-- the first hint that waits is handed over, where there is one
+abbrev pub IsFirstHanded : Core → Bool → Core → Type 0
+IsFirstHanded before was_one after =
+    ((was_one ≡ true) × IsFirstHandedOver before after)
+    ⊎ ((was_one ≡ false) × (after ≡ before) × ((u : ℕ) → HasHints before u → ⊥))
+
 -- some of the hints that waited are handed over
 pub record AreHanded (before now : Core) : Type 0 where
   pub log : List Entry
@@ -37,6 +51,20 @@ pub record AreHanded (before now : Core) : Type 0 where
   pub no_jobs : jobs_of log ≡ 0
   pub none_out : NoneOut now
   pub tiling : tiling now ≡ tiling before
+
+-- the next tile is worked off: it was swept and its hints were handed over, no job is out, no hint waits, and less work
+-- can be left
+pub record IsOneWorkedOff (before after : Core) : Type 0 where
+  pub log : List Entry
+  pub works : IsWorkedOff before log after
+  pub one_job : jobs_of log ≡ 1
+  pub none_out : NoneOut after
+  pub no_hints : (u : ℕ) → HasHints after u → ⊥
+  pub less : burden after < burden before
+
+-- events that take so many jobs bring the work to the second core
+abbrev pub IsWorkedOffBy : Core → ℕ → Core → Type 0
+IsWorkedOffBy before jobs after = (log : List Entry) × IsWorkedOff before log after × (jobs_of log ≡ jobs)
 
 -- so many tiles are swept, and no hint waits
 pub record AreWorkedOff (before now : Core) (jobs : ℕ) : Type 0 where

@@ -1,18 +1,15 @@
 -- Hints that are handed over as soon as they are told, and how much work a core can still have.
-use Rattle.std.specs.Prelude.{◌≡◌, ℕ, ◌+◌, ◌-◌, ◌≤◌, ◌==◌, true, nat_lt, if◌then◌else◌, List, [], ◌∷◌, length, filter}
+use Rattle.std.specs.Prelude.{◌≡◌, ℕ, ◌+◌, ◌≤◌, ◌==◌, true, nat_lt, if◌then◌else◌, List, [], ◌∷◌, length, filter}
 use Rattle.std.specs.Prelude.{◌<◌, slice_index_or, slice_set, Contains}
-use Rattle.std.specs.List.{sum_by}
-use Rattle.grid_core.specs.Raster.{Raster, value_at, with_value}
-use Rattle.grid_core.specs.Tiles.{Tiles, tile_of, count_of}
+use Rattle.grid_core.specs.Raster.{Raster, IsFilled, headroom, value_at, with_value}
+use Rattle.grid_core.specs.Tiles.{Tiles, IsTiled, tile_of, count_of}
 use Rattle.border_queues.specs.declared.hint.Hint.{Hint}
 use Rattle.core_rules.specs.Work.{Core}
+use Rattle.border_queues.specs.OpenEdges.{IsOnTiling}
 use Rattle.border_queues.specs.TileWork.{TileWork, idle, dirty_count}
+use Rattle.tile_work.specs.WorkTable.{IsToInside}
 
 -- ---- how much work a core can still have
-
--- how far the values lie below the greatest that a cell can have, in all
-abbrev pub headroom : List ℕ → ℕ
-headroom cells = sum_by (λ v. 4294967295 - v) cells
 
 -- an image, and the work that is left at each tile
 pub record ImageAndWork : Type 0 where
@@ -22,6 +19,9 @@ pub record ImageAndWork : Type 0 where
 -- how often a pixel can still rise or a tile be swept, at most
 abbrev pub burden_of : ImageAndWork → ℕ
 burden_of s = headroom s.image.cells + dirty_count s.rows
+
+abbrev pub both : Raster → List TileWork → ImageAndWork
+both image rows = record { image = image; rows = rows }
 
 abbrev pub image_and_work : Core → ImageAndWork
 image_and_work core = record { image = core.image; rows = core.tiles }
@@ -61,6 +61,21 @@ pub record AreHandedOver (tiles : Tiles) (hints : List Hint) (before after : Ima
   pub cells : length after.image.cells ≡ length before.image.cells
   pub count : length after.rows ≡ length before.rows
   pub burden : burden_of after ≤ burden_of before
+
+-- so they have, where image and work are stored apart
+abbrev pub IsHandOver : Tiles → List Hint → Raster → List TileWork → Raster → List TileWork → Type 0
+IsHandOver tiles hints old work new after = AreHandedOver tiles hints (both old work) (both new after)
+
+-- the image is cut into these tiles, and there is work at each of them
+pub record AreOfTiles (tiles : Tiles) (image : Raster) (work : List TileWork) : Type 0 where
+  pub tiled : IsTiled tiles
+  pub on_tiling : IsOnTiling tiles image
+  pub filled : IsFilled image
+  pub count : count_of tiles ≡ length work
+
+-- the pixel of each of the hints lies in the image
+abbrev pub AreToInside : Tiles → List Hint → Type 0
+AreToInside tiles hints = (hint : Hint) → Contains hints hint → IsToInside tiles hint
 
 -- no hint is for a tile before that of an earlier one
 abbrev pub AreInTileOrder : Tiles → List Hint → Type 0

@@ -2,9 +2,9 @@
 
 ghost use Rattle.std.specs.Prelude.{◌≡◌, ◌+◌, ◌<◌, ◌≤◌, ◌↔◌, length, max, slice_index, IsTrue, IfOk, EachIndex};
 ghost use Rattle.grid_core.specs.Raster.{value_at};
-ghost use Rattle.grid_core.specs.Rects.{RectFits, part};
+ghost use Rattle.grid_core.specs.Rects.{RectFits, IsRowOf, AreCellsChanged};
 ghost use Rattle.core_rules.specs.Image.{IsPart, IsAtMostPart, IsJoinedWith};
-ghost use Rattle.reset_core.specs.Parts.{IsRow, AreCellsRaised, IsRaisedPart};
+ghost use Rattle.reset_core.specs.Parts.{IsPieceFor, IsRaisedPart, raised_from};
 
 use grid_core::laws::cells_given_back;
 use grid_core::{Grid, Memory, Rect};
@@ -19,7 +19,7 @@ pub(crate) fn is_part(whole: &Grid, rect: Rect, piece: &Grid) -> bool
         return false;
     }
     for y in 0..rect.h {
-        if !is_equal(row(piece, y), row_within(whole, rect, y)) {
+        if !is_equal(row(piece, y), whole.row_in(rect, y)) {
             return false;
         }
     }
@@ -35,34 +35,16 @@ pub(crate) fn is_at_most_part(whole: &Grid, rect: Rect, piece: &Grid) -> bool
         return false;
     }
     for y in 0..rect.h {
-        if !is_at_most(row(piece, y), row_within(whole, rect, y)) {
+        if !is_at_most(row(piece, y), whole.row_in(rect, y)) {
             return false;
         }
     }
     true
 }
 
-/// The part of the whole image in the rectangle, as an image by itself.
-///
-/// Errors: out of memory.
-pub(crate) fn cut(alloc: Global, whole: &Grid, rect: Rect) -> Result<Grid, Memory>
-    requires { RectFits whole.now.width whole.now.height rect }
-    ensures { IfOk result (IsPart rect whole.now) }
-{
-    // For its clauses alone: the sides of an image are bounded.
-    let _ = whole.width();
-    let mut cells = Vec::with_capacity(alloc, rect.w as usize * rect.h as usize)?;
-    for y in 0..rect.h {
-        cells.extend_from_slice(row_within(whole, rect, y))?;
-    }
-    Ok(Grid::from_cells(rect.w, rect.h, cells))
-}
-
 /// Raises the part of the whole image in the rectangle to the piece. It takes no memory.
 pub(crate) fn raise_part(whole: &mut Grid, rect: Rect, piece: &Grid)
-    requires fits { RectFits whole.old.width whole.old.height rect }
-    requires width { piece.now.width ≡ rect.w }
-    requires height { piece.now.height ≡ rect.h }
+    requires { IsPieceFor rect whole.old piece.now }
     ensures { IsJoinedWith rect piece.now whole.old whole.new }
 {
     let width = whole.width() as usize;
@@ -81,12 +63,10 @@ pub(crate) fn raised_part(
     rect: Rect,
     piece: &Grid,
 ) -> Result<Grid, Memory>
-    requires fits { RectFits whole.now.width whole.now.height rect }
-    requires width { piece.now.width ≡ rect.w }
-    requires height { piece.now.height ≡ rect.h }
+    requires { IsPieceFor rect whole.now piece.now }
     ensures { IfOk result (IsRaisedPart rect whole.now piece.now) }
 {
-    let mut part = cut(alloc, whole, rect)?;
+    let mut part = whole.cut(alloc, rect)?;
     raise_cells(&mut part, 0, piece.cells());
     Ok(part)
 }
@@ -94,22 +74,11 @@ pub(crate) fn raised_part(
 // Row `y` of the image.
 fn row(image: &Grid, y: u32) -> &[u32]
     requires { y < image.now.height }
-    ensures { IsRow image.now.width (value_at image.now) y result.now }
+    ensures { IsRowOf image.now.width (value_at image.now) y result.now }
 {
     let width = image.width() as usize;
     let start = y as usize * width;
     &image.cells()[start..start + width]
-}
-
-// Row `y` of the part of the whole image in the rectangle.
-fn row_within(whole: &Grid, rect: Rect, y: u32) -> &[u32]
-    requires fits { RectFits whole.now.width whole.now.height rect }
-    requires row { y < rect.h }
-    ensures { IsRow rect.w (part rect (value_at whole.now)) y result.now }
-{
-    let width = whole.width() as usize;
-    let start = (rect.y + y) as usize * width + rect.x as usize;
-    &whole.cells()[start..start + rect.w as usize]
 }
 
 // Whether the rows are equal.
@@ -131,7 +100,8 @@ fn is_at_most(a: &[u32], b: &[u32]) -> bool
 // Raises the cells from a place on to these values.
 fn raise_cells(image: &mut Grid, start: usize, values: &[u32])
     requires { start + length values.now ≤ length image.old.cells }
-    ensures { AreCellsRaised start values.now image.old image.new }
+    ensures { AreCellsChanged start (start + length values.now) (raised_from start values.now image.old.cells) image.old
+        image.new }
 {
     cells_given_back();
     let cells = image.cells_mut();

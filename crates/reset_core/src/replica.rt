@@ -1,6 +1,6 @@
 //! The core.
 
-ghost use Rattle.std.specs.Prelude.{◌≡◌, ◌<◌, ◌≤◌, ◌↔◌, ◌⊎◌, ◌≢◌, length, replicate, false, None, IfOk, IfErr};
+ghost use Rattle.std.specs.Prelude.{◌≡◌, ◌<◌, ◌≤◌, ◌↔◌, ◌⊎◌, ◌≢◌, length, None, IfOk, IfErr};
 ghost use Rattle.std.specs.Prelude.{IsErr, IsErrOf, IsTrue};
 ghost use Rattle.grid_core.specs.Raster.{IsFilled, IsInside, IsSized, IsBelow, value_at};
 ghost use Rattle.grid_core.specs.Tiles.{IsTiled, IsTileSide, count_of};
@@ -9,10 +9,8 @@ ghost use Rattle.tile_generations.specs.Generations.{max_generation};
 ghost use Rattle.core_rules.specs.declared.error.CoreError.TheVariants as errors;
 ghost use Rattle.core_rules.specs.Work.{IsTile, IsQuiet, tiling, work_at};
 ghost use Rattle.core_rules.specs.Invariant.{IsSound, HasLawfulImage, HasReconstruction};
-ghost use Rattle.core_rules.specs.Opening.{blank, opened};
-ghost use Rattle.border_queues.specs.TileWork.{fresh};
-ghost use Rattle.reset_core.specs.Replica.{core_of, IsStored, begun};
-ghost use Rattle.stroke_lattice.specs.State.{nothing};
+ghost use Rattle.core_rules.specs.Opening.{opened};
+ghost use Rattle.reset_core.specs.Replica.{core_of, IsStored, at_first, begun};
 ghost use Rattle.core_rules.specs.Runs.{ticket_out};
 
 use core_rules::CoreError;
@@ -330,11 +328,7 @@ impl Beginning {
     // No strokes, an image of zeros of the mask's size, and so many tiles without work.
     fn new(alloc: Global, mask: &Grid, count: usize, first: u64) -> Result<Beginning, StateError>
         requires { first ≤ max_generation }
-        ensures state { IfOk result (λ b. b.state ≡ nothing) }
-        ensures image { IfOk result (λ b. b.image ≡ blank mask.now) }
-        ensures work { IfOk result (λ b. b.work ≡ replicate count (fresh first)) }
-        ensures marks { IfOk result (λ b. b.marks ≡ replicate count false) }
-        ensures queue { IfOk result (λ b. b.queue ≡ replicate count false) }
+        ensures value { IfOk result (λ b. b ≡ at_first mask.now count first) }
         ensures filled { IsFilled mask.now }
     {
         let cells = vec![in alloc; 0; mask.cells().len()]?;

@@ -1,11 +1,11 @@
 //! The one step of settling: a dirty tile is swept in place, and its hints are handed over at once.
 
-ghost use Rattle.std.specs.Prelude.{◌≡◌, ◌<◌, ◌≤◌, ℕ, [], ◌∷◌, List, Contains, IsTrue, true, length};
+ghost use Rattle.std.specs.Prelude.{◌≡◌, ◌<◌, ◌≤◌, ◌↔◌, [], ◌∷◌, Contains, IsTrue, true, length};
 ghost use Rattle.std.specs.Prelude.{slice_index_or, slice_set};
 ghost use Rattle.std.specs.List.{flat_map};
-ghost use Rattle.grid_core.specs.Raster.{IsBelow, IsInside, IsFilled, value_at};
+ghost use Rattle.grid_core.specs.Raster.{IsBelow, value_at};
 ghost use Rattle.grid_core.specs.Rects.{IsInRect, RectFits};
-ghost use Rattle.grid_core.specs.Tiles.{IsTiled, count_of, tile_of};
+ghost use Rattle.grid_core.specs.Tiles.{tile_of};
 ghost use Rattle.border_queues.specs.OpenEdges.{IsOnTiling, sender_by, room_for_edges, open_edges};
 ghost use Rattle.border_queues.specs.Waiting.{places};
 ghost use Rattle.raster_sweeps.specs.Borders.{OpenPairsBeginOnBorder};
@@ -13,9 +13,11 @@ ghost use Rattle.raster_sweeps.specs.Regrowth.{IsRegrownIn};
 ghost use Rattle.core_rules.specs.Work.{tiling};
 ghost use Rattle.border_queues.specs.TileWork.{idle};
 ghost use Rattle.core_rules.specs.Events.{Take};
-ghost use Rattle.core_rules.specs.Runs.{Entry, IsNext, IsWorkedOff, NoneOut, HasHints, jobs_of};
+ghost use Rattle.core_rules.specs.Runs.{IsNext};
 ghost use Rattle.reset_core.specs.Closing.{AreClosedInside};
-ghost use Rattle.reset_core.specs.Telling.{burden, hints_in, AreHandedOver, AreTold};
+ghost use Rattle.reset_core.specs.Settling.{IsOneWorkedOff};
+ghost use Rattle.reset_core.specs.Telling.{both, hints_in, AreOfTiles, AreToInside, AreTold, IsHandOver};
+ghost use Rattle.tile_work.specs.WorkTable.{IsToInside};
 
 use crate::replica::Core;
 use border_queues::laws::edges_are_open;
@@ -40,13 +42,8 @@ impl Core {
         requires next { IsNext self.old (Take tile) }
         requires enough { room_for_edges (tiling self.old) ≤ places told.old }
         requires closed { AreClosedInside self.old swept.old }
-        ensures works { (log : List Entry) × IsWorkedOff self.old log self.new × (jobs_of log ≡ 1) }
-        ensures none_out { NoneOut self.new }
-        ensures no_hints { (u : ℕ) → HasHints self.new u → ⊥ }
-        ensures less { burden self.new < burden self.old }
-        ensures mask { self.new.mask ≡ self.old.mask }
-        ensures side { self.new.side ≡ self.old.side }
-        ensures conn { self.new.conn ≡ self.old.conn }
+        ensures worked { IsOneWorkedOff self.old self.new }
+        ensures tiling { tiling self.new ≡ tiling self.old }
         ensures enough { room_for_edges (tiling self.new) ≤ places told.new }
         ensures closed { AreClosedInside self.new swept.new }
         ensures swept { swept.new ≡ slice_set swept.old tile true }
@@ -102,16 +99,12 @@ fn tell(
     conn: Conn,
     told: &mut Inbox,
 )
-    requires image { IsOnTiling tiling.now image.old }
-    requires filled { IsFilled image.old }
+    requires parts { AreOfTiles tiling.now image.old work.old }
     requires mask { IsOnTiling tiling.now mask.now }
-    requires tiled { IsTiled tiling.now }
-    requires count { count_of tiling.now ≡ length work.old }
     requires tile { tile < length work.old }
     requires enough { room_for_edges tiling.now ≤ places told.old }
     ensures hints { AreTold tiling.now (open_edges (sender_by tiling.now conn (value_at mask.now) (value_at image.old)
-        tile (slice_index_or work.old tile idle).generation))
-        (record { image = image.old; rows = work.old }) (record { image = image.new; rows = work.new }) }
+        tile (slice_index_or work.old tile idle).generation)) (both image.old work.old) (both image.new work.new) }
     ensures enough { places told.old ≤ places told.new }
 {
     edges_are_open();
@@ -136,14 +129,11 @@ fn hand_over(
     rect: Rect,
     hint: Hint,
 )
-    requires image { IsOnTiling tiling.now image.old }
-    requires filled { IsFilled image.old }
+    requires parts { AreOfTiles tiling.now image.old work.old }
     requires tile { tile < length work.old }
-    requires rect { IsInRect rect hint.to_pixel → tile_of tiling.now hint.to_pixel ≡ tile }
-    requires others { tile_of tiling.now hint.to_pixel ≡ tile → IsInRect rect hint.to_pixel }
-    requires inside { IsInside tiling.now.width tiling.now.height hint.to_pixel }
-    ensures { AreHandedOver tiling.now (hints_in tiling.now (hint ∷ []) tile)
-        (record { image = image.old; rows = work.old }) (record { image = image.new; rows = work.new }) }
+    requires rect { IsInRect rect hint.to_pixel ↔ (tile_of tiling.now hint.to_pixel ≡ tile) }
+    requires inside { IsToInside tiling.now hint }
+    ensures { IsHandOver tiling.now (hints_in tiling.now (hint ∷ []) tile) image.old work.old image.new work.new }
 {
     if rect.contains(hint.to_pixel) && image.get(hint.to_pixel) < hint.value {
         image.set(hint.to_pixel, hint.value);
@@ -159,15 +149,10 @@ fn hand_over_in(
     tile: usize,
     hints: &[Hint],
 )
-    requires image { IsOnTiling tiling.now image.old }
-    requires filled { IsFilled image.old }
-    requires tiled { IsTiled tiling.now }
-    requires count { count_of tiling.now ≡ length work.old }
+    requires parts { AreOfTiles tiling.now image.old work.old }
     requires tile { tile < length work.old }
-    requires inside { (hint : _) → Contains hints.now hint
-        → IsInside tiling.now.width tiling.now.height hint.to_pixel }
-    ensures { AreHandedOver tiling.now (hints_in tiling.now hints.now tile)
-        (record { image = image.old; rows = work.old }) (record { image = image.new; rows = work.new }) }
+    requires inside { AreToInside tiling.now hints.now }
+    ensures { IsHandOver tiling.now (hints_in tiling.now hints.now tile) image.old work.old image.new work.new }
 {
     each_pixel_in_one_tile();
     let rect = tiling.rect(tile);
@@ -184,15 +169,11 @@ fn hand_over_all(
     tiles: &[usize],
     hints: &[Hint],
 )
-    requires image { IsOnTiling tiling.now image.old }
-    requires filled { IsFilled image.old }
-    requires tiled { IsTiled tiling.now }
-    requires count { count_of tiling.now ≡ length work.old }
+    requires parts { AreOfTiles tiling.now image.old work.old }
     requires tiles { (tile : _) → Contains tiles.now tile → tile < length work.old }
-    requires inside { (hint : _) → Contains hints.now hint
-        → IsInside tiling.now.width tiling.now.height hint.to_pixel }
-    ensures { AreHandedOver tiling.now (flat_map (hints_in tiling.now hints.now) tiles.now)
-        (record { image = image.old; rows = work.old }) (record { image = image.new; rows = work.new }) }
+    requires inside { AreToInside tiling.now hints.now }
+    ensures { IsHandOver tiling.now (flat_map (hints_in tiling.now hints.now) tiles.now) image.old work.old image.new
+        work.new }
 {
     for tile in tiles {
         hand_over_in(image, work, tiling, *tile, hints);

@@ -1,6 +1,6 @@
 //! Schedules: lists of steps, of which each takes, gives back, abandons, hands over or edits.
 
-ghost use Rattle.std.specs.Prelude.{◌≡◌, ◌≢◌, ℕ, ◌+◌, ◌<◌, ◌≤◌, [], ◌∷◌, ◌++◌, length, IfOk, OnOk, OnErr};
+ghost use Rattle.std.specs.Prelude.{◌≡◌, ◌≢◌, ℕ, ◌+◌, ◌<◌, ◌≤◌, [], ◌∷◌, length, IfOk, OnOk, OnErr};
 ghost use Rattle.tile_generations.specs.Jobs.{Swept as Result, IsSwept};
 ghost use Rattle.core_rules.specs.declared.error.CoreError.TheVariants as errors;
 ghost use Rattle.core_rules.specs.declared.step.Step.TheVariants as steps;
@@ -8,7 +8,8 @@ ghost use Rattle.core_rules.specs.Merge.{IsAcceptable};
 ghost use Rattle.core_rules.specs.Sweeps.{IsReady};
 ghost use Rattle.core_rules.specs.Schedule.{Progress, started, AreSteps, IsStopped, IsCutOff, edits_of, ran_of};
 ghost use Rattle.core_rules.specs.Counting.{IsWithinWork};
-ghost use Rattle.reset_core.specs.Scheduling.{kept_of, LeadsOn, HasRoom, KeepsRoom};
+ghost use Rattle.reset_core.specs.Scheduling.{kept_of, account_of, with_accepted, with_refused, with_result};
+ghost use Rattle.reset_core.specs.Scheduling.{HasRoom, KeepsRoom, KeepsCount, StepLeads};
 
 use super::Core;
 use core_rules::laws::schedule_is_within_work;
@@ -111,7 +112,7 @@ impl Core {
     ) -> Result<(), Memory>
         requires few { tally.old.abandons < u64.MAX }
         requires room { HasRoom tally.old (edits_of (step.now ∷ [])) }
-        ensures step { OnOk result (LeadsOn step.now number self.old (kept_of tally.old) self.new (kept_of tally.new)) }
+        ensures step { OnOk result (StepLeads step.now number self.old tally.old self.new tally.new) }
         ensures few { tally.new.abandons ≤ tally.old.abandons + 1 }
         ensures room { KeepsRoom (edits_of (step.now ∷ [])) tally.old tally.new }
         ensures err { OnErr result (IsCutOff self.old tally.old.results.items step.now self.new) }
@@ -142,10 +143,8 @@ impl Core {
         delta: &Delta,
     ) -> Result<(), Memory>
         requires { HasRoom tally.old 1 }
-        ensures step { OnOk result (LeadsOn (steps.Edit delta.now) number self.old (kept_of tally.old) self.new
-            (kept_of tally.new)) }
-        ensures abandons { tally.new.abandons ≡ tally.old.abandons }
-        ensures room { KeepsRoom 1 tally.old tally.new }
+        ensures step { OnOk result (StepLeads (steps.Edit delta.now) number self.old tally.old self.new tally.new) }
+        ensures keeps { KeepsCount 1 tally.old tally.new }
         ensures memory { OnErr result (IsAcceptable self.old delta.now) }
         ensures err { OnErr result (self.new ≡ self.old) }
     {
@@ -167,10 +166,8 @@ impl Core {
         tally: &mut Tally,
         tile: usize,
     ) -> Result<(), Memory>
-        ensures step { OnOk result ((n : ℕ)
-            → LeadsOn (steps.Take tile) n self.old (kept_of tally.old) self.new (kept_of tally.new)) }
-        ensures abandons { tally.new.abandons ≡ tally.old.abandons }
-        ensures room { KeepsRoom 0 tally.old tally.new }
+        ensures step { OnOk result ((n : ℕ) → StepLeads (steps.Take tile) n self.old tally.old self.new tally.new) }
+        ensures keeps { KeepsCount 0 tally.old tally.new }
         ensures memory { OnErr result (IsReady self.old tile) }
         ensures err { OnErr result (self.new ≡ record self.old { serial = self.new.serial }) }
     {
@@ -191,8 +188,7 @@ impl Core {
     //
     // Errors: out of memory, where the core is as it was.
     fn give_back_copy(&mut self, alloc: Global, tally: &Tally, place: usize) -> Result<(), Memory>
-        ensures step { OnOk result ((n : ℕ)
-            → LeadsOn (steps.Return place) n self.old (kept_of tally.now) self.new (kept_of tally.now)) }
+        ensures step { OnOk result ((n : ℕ) → StepLeads (steps.Return place) n self.old tally.now self.new tally.now) }
         ensures memory { OnErr result (place < length tally.now.results.items) }
         ensures err { OnErr result (self.new ≡ self.old) }
     {
@@ -210,8 +206,7 @@ impl Core {
     // Abandons the job of the result at this place, if there is one.
     fn abandon_job_of(&mut self, tally: &mut Tally, place: usize)
         requires { tally.old.abandons < u64.MAX }
-        ensures step { (n : ℕ)
-            → LeadsOn (steps.Abandon place) n self.old (kept_of tally.old) self.new (kept_of tally.new) }
+        ensures step { (n : ℕ) → StepLeads (steps.Abandon place) n self.old tally.old self.new tally.new }
         ensures few { tally.new.abandons ≤ tally.old.abandons + 1 }
         ensures room { KeepsRoom 0 tally.old tally.new }
     {
@@ -255,10 +250,8 @@ impl Tally {
     // Lists that the edit of this number is accepted, in its place.
     fn accept(&mut self, number: usize)
         requires { HasRoom self.old 1 }
-        ensures listed { kept_of self.new
-            ≡ record (kept_of self.old) { accepted = self.old.accepted.items ++ number ∷ [] } }
-        ensures abandons { self.new.abandons ≡ self.old.abandons }
-        ensures room { KeepsRoom 1 self.old self.new }
+        ensures listed { kept_of self.new ≡ with_accepted (kept_of self.old) number }
+        ensures keeps { KeepsCount 1 self.old self.new }
     {
         self.accepted.push_reserved(number);
     }
@@ -268,12 +261,10 @@ impl Tally {
     // Errors: out of memory, as the reason.
     fn refuse(&mut self, number: usize, why: CoreError) -> Result<(), Memory>
         requires { HasRoom self.old 1 }
-        ensures listed { OnOk result (kept_of self.new
-            ≡ record (kept_of self.old) { refused = self.old.refused.items ++ (number, why) ∷ [] }) }
+        ensures listed { OnOk result (kept_of self.new ≡ with_refused (kept_of self.old) number why) }
         ensures reason { OnOk result (why ≢ errors.Memory) }
         ensures memory { OnErr result (why ≡ errors.Memory) }
-        ensures abandons { self.new.abandons ≡ self.old.abandons }
-        ensures room { KeepsRoom 1 self.old self.new }
+        ensures keeps { KeepsCount 1 self.old self.new }
     {
         match why {
             CoreError::Memory => Err(Memory),
@@ -288,10 +279,9 @@ impl Tally {
     //
     // Errors: out of memory.
     fn sweep(&mut self, alloc: Global, job: Job) -> Result<(), Memory>
-        ensures kept { OnOk result ((swept : Result) × IsSwept swept × (swept.job ≡ job) × (kept_of self.new
-            ≡ record (kept_of self.old) { results = self.old.results.items ++ swept ∷ [] })) }
-        ensures abandons { self.new.abandons ≡ self.old.abandons }
-        ensures room { KeepsRoom 0 self.old self.new }
+        ensures kept { OnOk result ((swept : Result) × IsSwept swept × (swept.job ≡ job)
+            × (kept_of self.new ≡ with_result (kept_of self.old) swept)) }
+        ensures keeps { KeepsCount 0 self.old self.new }
     {
         match job.sweep(alloc) {
             Ok(swept) => {
@@ -304,12 +294,7 @@ impl Tally {
 
     // What the schedule did.
     fn into_ran(self) -> Ran
-        ensures { result ≡ record {
-          jobs = length self.results.items;
-          abandons = self.abandons;
-          accepted = self.accepted.items;
-          refused = self.refused.items;
-        } }
+        ensures { result ≡ account_of (kept_of self) }
     {
         let Tally {
             results,

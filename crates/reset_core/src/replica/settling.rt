@@ -1,17 +1,14 @@
 //! Settling: working until nothing is left to do.
 
-ghost use Rattle.std.specs.Prelude.{◌≡◌, ◌⊎◌, ◌<◌, ◌≤◌, ℕ, true, false, List, [], ◌∷◌, length, IfOk, OnErr, OnOk};
+ghost use Rattle.std.specs.Prelude.{◌≡◌, ◌<◌, ◌≤◌, ℕ, List, length, IfOk, OnErr, OnOk};
 ghost use Rattle.border_queues.specs.OpenEdges.{room_for_edges};
 ghost use Rattle.border_queues.specs.Waiting.{places};
-ghost use Rattle.tile_generations.specs.declared.ticket.Ticket.{Ticket};
 ghost use Rattle.core_rules.specs.Work.{IsQuiet, tiling};
-ghost use Rattle.core_rules.specs.Sweeps.{IsAbandoned};
-ghost use Rattle.core_rules.specs.Runs.{Entry, IsRun, IsWorkedOff, IsSettled, IsCutShort, NoneOut, HasHints, IsDirty};
+ghost use Rattle.core_rules.specs.Runs.{Entry, IsRun, IsSettled, IsCutShort, NoneOut, HasHints, IsDirty};
 ghost use Rattle.core_rules.specs.Runs.{jobs_of, abandons_of, abandoned, tickets_out};
 ghost use Rattle.core_rules.specs.Counting.{IsWithinWork, Owes, tiles_out};
 ghost use Rattle.reset_core.specs.Closing.{AreClosedInside};
-ghost use Rattle.reset_core.specs.Telling.{burden};
-ghost use Rattle.reset_core.specs.Settling.{waiting_count, IsFirstHandedOver};
+ghost use Rattle.reset_core.specs.Settling.{AreHanded, IsFirstAbandoned, IsFirstHanded, IsWorkedOffBy};
 
 use super::Core;
 use border_queues::{Inbox, room_for_edges};
@@ -75,10 +72,7 @@ impl Core {
 
     // Abandons the first job that is out, and says whether there was one.
     fn abandon_first(&mut self) -> bool
-        ensures first { ((result ≡ true) × ((ticket : Ticket)
-            × (tickets_out 0 self.old.tiles ≡ ticket ∷ tickets_out 0 self.new.tiles)
-            × IsAbandoned self.old ticket true self.new))
-            ⊎ ((result ≡ false) × (self.new ≡ self.old) × (tickets_out 0 self.old.tiles ≡ []) × NoneOut self.old) }
+        ensures first { IsFirstAbandoned self.old result self.new }
         ensures few { length (tickets_out 0 self.old.tiles) ≤ length self.old.tiles }
     {
         match self.work.first_out() {
@@ -93,10 +87,8 @@ impl Core {
     // Hands over each waiting hint, tile by tile.
     fn hand_all(&mut self)
         requires { NoneOut self.old }
-        ensures works { (log : List Entry) × IsWorkedOff self.old log self.new × (jobs_of log ≡ 0) }
-        ensures none_out { NoneOut self.new }
+        ensures handed { AreHanded self.old self.new }
         ensures no_hints { (u : ℕ) → HasHints self.new u → ⊥ }
-        ensures tiling { tiling self.new ≡ tiling self.old }
     {
         while self.hand_first() {}
     }
@@ -104,8 +96,7 @@ impl Core {
     // Hands over the first hint of the first tile where one waits, and says whether there was one.
     fn hand_first(&mut self) -> bool
         requires { NoneOut self.old }
-        ensures { ((result ≡ true) × IsFirstHandedOver self.old self.new)
-            ⊎ ((result ≡ false) × (self.new ≡ self.old) × ((u : ℕ) → HasHints self.old u → ⊥)) }
+        ensures { IsFirstHanded self.old result self.new }
     {
         match self.work.first_waiting() {
             Some(tile) => {
@@ -122,8 +113,7 @@ impl Core {
     fn sweep_all(&mut self, alloc: Global) -> Result<u64, Memory>
         requires none_out { NoneOut self.old }
         requires no_hints { (u : ℕ) → HasHints self.old u → ⊥ }
-        ensures works { IfOk result (λ jobs. (log : List Entry) × IsWorkedOff self.old log self.new
-            × (jobs_of log ≡ jobs)) }
+        ensures works { IfOk result (λ jobs. IsWorkedOffBy self.old jobs self.new) }
         ensures quiet { OnOk result (IsQuiet self.new) }
         ensures dirty { OnErr result ((t : ℕ) × IsDirty self.old t) }
         ensures err { OnErr result (self.new ≡ self.old) }
@@ -146,7 +136,7 @@ impl Core {
         requires no_hints { (u : ℕ) → HasHints self.old u → ⊥ }
         requires enough { room_for_edges (tiling self.old) ≤ places told.old }
         requires closed { AreClosedInside self.old swept.old }
-        ensures works { (log : List Entry) × IsWorkedOff self.old log self.new × (jobs_of log ≡ result) }
+        ensures works { IsWorkedOffBy self.old result self.new }
         ensures quiet { IsQuiet self.new }
     {
         let _ = self.tiling();

@@ -10,7 +10,7 @@ ghost use Rattle.tile_work.specs.WorkTable.{IsToTouching};
 ghost use Rattle.grid_core.specs.Rects.{RectFits};
 
 use super::Core;
-use crate::parts::{cut, is_at_most_part, is_part, raise_part, raised_part};
+use crate::parts::{is_at_most_part, is_part, raise_part, raised_part};
 use border_queues::laws::{edges_are_open, same_image_same_edges};
 use border_queues::{Inbox, open_edges};
 use core_rules::Back;
@@ -86,8 +86,8 @@ impl Core {
         ensures { IfOk result (IsNextJob self.now tile) }
     {
         let rect = self.rect(tile);
-        let base = cut(alloc, &self.image, rect)?;
-        let mask = cut(alloc, self.markers.mask(), rect)?;
+        let base = self.image.cut(alloc, rect)?;
+        let mask = self.markers.mask().cut(alloc, rect)?;
         let ticket = Ticket {
             tile,
             generation: self.work.generation(tile),

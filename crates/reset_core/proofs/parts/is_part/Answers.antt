@@ -2,8 +2,7 @@
 use Rattle.std.proofs.Common.{◌≡◌, refl, subst, arith}
 use Rattle.std.proofs.lemmas.Bool.{false≢true}
 use Rattle.grid_core.specs.Raster.{value_at}
-use Rattle.grid_core.specs.Rects.{part}
-use Rattle.reset_core.specs.Parts.{IsRow}
+use Rattle.grid_core.specs.Rects.{IsRowOf, part}
 use Rattle.reset_core.proofs.SweepingRows.{alike_more, related_row}
 use Rattle.reset_core.proofs.parts.is_part.Goals as goal
 
@@ -15,11 +14,11 @@ returns-then-not-is_equal c =
     let whole = part rect (value_at c.args.whole.now) in (
       λ h. absurd (false≢true h),
       λ is_part.
-          let row : IsRow rect.w piece y c.row.result.now =
-          subst (λ w. IsRow w piece y c.row.result.now) is_part.width c.row.ensures in
+          let row : IsRowOf rect.w piece y c.row.result.now =
+          subst (λ w. IsRowOf w piece y c.row.result.now) is_part.width c.row.ensures in
           c.if-not-is_equal.ensures.1
-          (related_row (λ a b. a ≡ b) rect.w piece whole y c.row.result.now c.row_within.result.now row
-          c.row_within.ensures rect.h (λ p column below. is_part.values p (column, below)) c.loop-y-test.true),
+          (related_row (λ a b. a ≡ b) rect.w piece whole y c.row.result.now c.row_in.result.now row
+          c.row_in.ensures rect.h (λ p column below. is_part.values p (column, below)) c.loop-y-test.true),
     )
 
 pub loop-y-preserved : goal.loop-y-preserved
@@ -29,7 +28,7 @@ loop-y-preserved c =
     let piece = value_at c.args.piece.now in
     let whole = part rect (value_at c.args.whole.now) in
     let same : c.args.piece.now.width ≡ rect.w = omega (arith, c.width.ensures.value, c.if-width-rect.false) in
-    let row : IsRow rect.w piece y c.row.result.now =
-    subst (λ w. IsRow w piece y c.row.result.now) same c.row.ensures in
-    alike_more (λ a b. a ≡ b) rect.w piece whole y c.row.result.now c.row_within.result.now row c.row_within.ensures
+    let row : IsRowOf rect.w piece y c.row.result.now =
+    subst (λ w. IsRowOf w piece y c.row.result.now) same c.row.ensures in
+    alike_more (λ a b. a ≡ b) rect.w piece whole y c.row.result.now c.row_in.result.now row c.row_in.ensures
     c.loop-y.invariant (c.if-not-is_equal.ensures.0 refl)

@@ -1,7 +1,7 @@
 -- What the tactics leave open of `raise_part`.
 use Rattle.std.proofs.Common.{◌≡◌, ◌+◌, ◌*◌, subst, sym, ap, ◌∙◌}
 use Rattle.grid_core.specs.Raster.{value_at}
-use Rattle.reset_core.specs.Parts.{IsRow}
+use Rattle.grid_core.specs.Rects.{IsRowOf}
 use Rattle.reset_core.proofs.SweepingRows.{joined_more}
 use Rattle.reset_core.proofs.parts.raise_part.Goals as goal
 
@@ -12,8 +12,8 @@ loop-y-preserved c =
     let piece = c.args.piece.now in
     let width = c.width-width.result in
     let start = (rect.y + y) * width + rect.x in
-    let row : IsRow rect.w (value_at piece) y c.row.result.now =
-    subst (λ w. IsRow w (value_at piece) y c.row.result.now) c.requires.width c.row.ensures in
+    let row : IsRowOf rect.w (value_at piece) y c.row.result.now =
+    subst (λ w. IsRowOf w (value_at piece) y c.row.result.now) c.requires.width c.row.ensures in
     let same : width ≡ c.loop-y.whole.width = c.width-width.ensures.value ∙ sym c.loop-y.invariant.size.width in
     joined_more rect piece c.args.whole.now c.loop-y.whole c.raise_cells.new.image y start c.row.result.now
     c.requires.fits c.loop-y-test.true row (ap (λ w. (rect.y + y) * w + rect.x) same) c.raise_cells.ensures

@@ -1,6 +1,6 @@
-use Rattle.std.proofs.Common.{◌≡◌, [], refl, sym, ap, ◌∙◌, subst, inl, inr, true, false}
-use Rattle.core_rules.specs.Work.{tiling}
-use Rattle.core_rules.specs.Runs.{IsWorkedOff, NoneOut, HasHints}
+use Rattle.std.proofs.Common.{◌≡◌, [], refl, sym, ◌∙◌, subst, inl, inr, true, false}
+use Rattle.core_rules.specs.Runs.{HasHints}
+use Rattle.reset_core.specs.Settling.{AreHanded}
 use Rattle.reset_core.proofs.Settling.{one_more_handed}
 use Rattle.reset_core.proofs.replica.Core.hand_all.Goals as goal
 
@@ -23,30 +23,14 @@ loop-preserved c = elim c.hand_first.ensures [
   | inr (missing, same, none) ↦ let e : true ≡ false = sym c.loop-test.true ∙ missing in absurd cc
 ]
 
-pub returns-clause-works : goal.returns-clause-works
-returns-clause-works c = elim c.hand_first.ensures [
+pub returns-clause-handed : goal.returns-clause-handed
+returns-clause-handed c = elim c.hand_first.ensures [
   | inl (found, first) ↦ let e : true ≡ false = sym found ∙ c.loop-test.false in absurd cc
-  | inr (missing, same, none) ↦ (
-    c.loop.invariant.log,
-    subst (IsWorkedOff c.args.self.now c.loop.invariant.log) (sym same) c.loop.invariant.works,
-    c.loop.invariant.no_jobs,
-  )
-]
-
-pub returns-clause-none_out : goal.returns-clause-none_out
-returns-clause-none_out c = elim c.hand_first.ensures [
-  | inl (found, first) ↦ first.none_out
-  | inr (missing, same, none) ↦ subst NoneOut (sym same) c.loop.invariant.none_out
+  | inr (missing, same, none) ↦ subst (AreHanded c.args.self.now) (sym same) c.loop.invariant
 ]
 
 pub returns-clause-no_hints : goal.returns-clause-no_hints
 returns-clause-no_hints c = elim c.hand_first.ensures [
   | inl (found, first) ↦ let e : true ≡ false = sym found ∙ c.loop-test.false in absurd cc
   | inr (missing, same, none) ↦ subst (λ core. (u : _) → HasHints core u → ⊥) (sym same) none
-]
-
-pub returns-clause-tiling : goal.returns-clause-tiling
-returns-clause-tiling c = elim c.hand_first.ensures [
-  | inl (found, first) ↦ first.tiling ∙ c.loop.invariant.tiling
-  | inr (missing, same, none) ↦ ap tiling same ∙ c.loop.invariant.tiling
 ]

@@ -8,12 +8,12 @@ use Rattle.reset_core.proofs.replica.Core.run_step.Goals as goal
 pub returns-in-Edit-clause-room : goal.returns-in-Edit-clause-room
 returns-in-Edit-clause-room c =
     subst (λ (step : Step). KeepsRoom (edits_of (step ∷ [])) c.args.tally.now c.edit.new.tally) (sym c.in-Edit.is)
-    c.edit.ensures.room
+    c.edit.ensures.keeps.room
 
 pub returns-in-Take-clause-room : goal.returns-in-Take-clause-room
 returns-in-Take-clause-room c =
     subst (λ (step : Step). KeepsRoom (edits_of (step ∷ [])) c.args.tally.now c.take_and_sweep.new.tally)
-    (sym c.in-Take.is) c.take_and_sweep.ensures.room
+    (sym c.in-Take.is) c.take_and_sweep.ensures.keeps.room
 
 pub returns-in-Abandon-clause-room : goal.returns-in-Abandon-clause-room
 returns-in-Abandon-clause-room c =

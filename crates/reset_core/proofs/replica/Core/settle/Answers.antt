@@ -8,44 +8,49 @@ use Rattle.reset_core.proofs.replica.Core.settle.Goals as goal
 pub returns-in_err-jobs-clause-cut_short : goal.returns-in_err-jobs-clause-cut_short
 returns-in_err-jobs-clause-cut_short c =
     let cleared = c.abandon_all-abandons in
-    let handed = c.hand_all in
+    let handed = c.hand_all.ensures.handed in
     let failed = c.in_err-jobs.ensures in
     OnErr-always ((log : _) × IsCutShort c.args.self.now log c.sweep_all.new.self) c.from_residual.result
-    (cut_before_sweeps c.args.self.now cleared.new.self handed.new.self c.sweep_all.new.self cleared.ensures.clears
-    handed.ensures.works handed.ensures.none_out failed.dirty failed.err)
+    (cut_before_sweeps c.args.self.now cleared.new.self c.hand_all.new.self c.sweep_all.new.self cleared.ensures.clears
+    (handed.log, handed.works, handed.no_jobs) handed.none_out failed.dirty failed.err)
 
 pub returns-in_err-jobs-clause-some_work : goal.returns-in_err-jobs-clause-some_work
 returns-in_err-jobs-clause-some_work c =
     let cleared = c.abandon_all-abandons in
+    let handed = c.hand_all.ensures.handed in
     OnErr-always (IsQuiet c.args.self.now → ⊥) c.from_residual.result
     (some_work_before c.args.self.now cleared.new.self c.hand_all.new.self cleared.ensures.clears
-    c.hand_all.ensures.works c.in_err-jobs.ensures.dirty)
+    (handed.log, handed.works, handed.no_jobs) c.in_err-jobs.ensures.dirty)
 
 pub returns-clause-settled : goal.returns-clause-settled
 returns-clause-settled c =
     let cleared = c.abandon_all-abandons in
+    let handed = c.hand_all.ensures.handed in
     let worked = c.in_ok-jobs in
     settled_by c.args.self.now cleared.new.self c.hand_all.new.self c.sweep_all.new.self worked.jobs cleared.result
-    cleared.ensures.clears cleared.ensures.count c.hand_all.ensures.works worked.ensures.works worked.ensures.quiet
+    cleared.ensures.clears cleared.ensures.count (handed.log, handed.works, handed.no_jobs) worked.ensures.works
+    worked.ensures.quiet
 
 pub returns-clause-bound : goal.returns-clause-bound
 returns-clause-bound c =
     let cleared = c.abandon_all-abandons in
+    let handed = c.hand_all.ensures.handed in
     let worked = c.in_ok-jobs in
     (settled_within_work c.settling_is_within_work.ensures c.args.self.now c.sweep_all.new.self worked.jobs
     cleared.result c.soundness.ensures
     (settled_by c.args.self.now cleared.new.self c.hand_all.new.self c.sweep_all.new.self worked.jobs cleared.result
-    cleared.ensures.clears cleared.ensures.count c.hand_all.ensures.works worked.ensures.works
+    cleared.ensures.clears cleared.ensures.count (handed.log, handed.works, handed.no_jobs) worked.ensures.works
     worked.ensures.quiet)).0
 
 pub returns-clause-owes_nothing : goal.returns-clause-owes_nothing
 returns-clause-owes_nothing c =
     let cleared = c.abandon_all-abandons in
+    let handed = c.hand_all.ensures.handed in
     let worked = c.in_ok-jobs in
     (settled_within_work c.settling_is_within_work.ensures c.args.self.now c.sweep_all.new.self worked.jobs
     cleared.result c.soundness.ensures
     (settled_by c.args.self.now cleared.new.self c.hand_all.new.self c.sweep_all.new.self worked.jobs cleared.result
-    cleared.ensures.clears cleared.ensures.count c.hand_all.ensures.works worked.ensures.works
+    cleared.ensures.clears cleared.ensures.count (handed.log, handed.works, handed.no_jobs) worked.ensures.works
     worked.ensures.quiet)).1
 
 pub returns-clause-abandons : goal.returns-clause-abandons

@@ -2,7 +2,7 @@ use Rattle.std.proofs.Common.{arith, [], refl, subst}
 use Rattle.core_rules.specs.Work.{Core}
 use Rattle.core_rules.specs.Runs.{IsDirty}
 use Rattle.border_queues.specs.TileWork.{IsLeast}
-use Rattle.reset_core.proofs.Settling.{one_more_swept, bounded_burden, quiet_from, same_tiles}
+use Rattle.reset_core.proofs.Settling.{one_more_swept, bounded_burden, quiet_from}
 use Rattle.reset_core.proofs.replica.Core.work_all_off.Goals as goal
 
 pub loop-tile-init : goal.loop-tile-init
@@ -40,20 +40,19 @@ overflow_add-jobs c =
     let spent = c.loop-tile.invariant.0.spent in
     let most = bounded_burden c.args.self.now c.image.ensures.sized
     c.tiling.ensures.tiled c.tiling.ensures.count in
-    let less = c.work_off.ensures.less in
+    let less = c.work_off.ensures.worked.less in
     omega (arith, spent, most, less)
 
 pub loop-tile-smaller : goal.loop-tile-smaller
-loop-tile-smaller c = c.work_off.ensures.less
+loop-tile-smaller c = c.work_off.ensures.worked.less
 
 pub loop-tile-preserved : goal.loop-tile-preserved
-loop-tile-preserved c =
-    let same = same_tiles c.loop-tile.self c.work_off.new.self c.work_off.ensures.mask c.work_off.ensures.side in (
-      one_more_swept c.args.self.now c.loop-tile.self c.work_off.new.self c.loop-tile.jobs c.loop-tile.invariant.0
-          c.work_off.ensures.works c.work_off.ensures.none_out c.work_off.ensures.no_hints same c.work_off.ensures.less,
-      c.work_off.ensures.enough,
-      c.work_off.ensures.closed,
-    )
+loop-tile-preserved c = (
+  one_more_swept c.args.self.now c.loop-tile.self c.work_off.new.self c.loop-tile.jobs c.loop-tile.invariant.0
+      c.work_off.ensures.worked c.work_off.ensures.tiling,
+  c.work_off.ensures.enough,
+  c.work_off.ensures.closed,
+)
 
 pub returns-clause-works : goal.returns-clause-works
 returns-clause-works c =

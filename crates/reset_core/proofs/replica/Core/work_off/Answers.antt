@@ -12,15 +12,17 @@ use Rattle.core_rules.specs.Work.{Core, tiling, IsTile, work_at}
 use Rattle.border_queues.specs.TileWork.{TileWork, idle}
 use Rattle.core_rules.specs.Sweeps.{tile_rect, hints_of}
 use Rattle.core_rules.specs.Events.{Take}
-use Rattle.core_rules.specs.Runs.{Entry, IsNext, IsWorkedOff, jobs_of}
+use Rattle.core_rules.specs.Runs.{IsNext}
 use Rattle.reset_core.specs.declared.replica.Core.TheInside.{Inside as Parts}
 use Rattle.reset_core.specs.Replica.{core_of}
-use Rattle.reset_core.specs.Telling.{ImageAndWork, image_and_work, burden, AreTold}
+use Rattle.reset_core.specs.Telling.{ImageAndWork, image_and_work, AreTold}
 use Rattle.reset_core.specs.Closing.{AreClosedInside}
+use Rattle.reset_core.specs.Settling.{IsOneWorkedOff}
+use Rattle.core_rules.specs.Invariant.{IsSound}
 use Rattle.core_rules.proofs.Cores.{work_there}
 use Rattle.reset_core.proofs.Closing.{closed_in_rect, swept_are_closed}
 use Rattle.reset_core.proofs.Storing.{image_below_mask, stored_still}
-use Rattle.reset_core.proofs.TellingSweeps.{IsGrownAt, clean, grown_core, IsOneStep, one_step, worked_parts}
+use Rattle.reset_core.proofs.TellingSweeps.{IsGrownAt, clean, grown_core, one_step, worked_parts}
 use Rattle.reset_core.proofs.replica.Core.work_off.Goals as goal
 use Rattle.reset_core.proofs.replica.Core.work_off.Goals.{After-rect, After-tell}
 
@@ -63,7 +65,7 @@ sweep-requires-clause-border c = λ again.
 -- ---- the same, once the tile is swept
 
 abbrev early : After-tell → After-rect
-early c = (goal.at.returns-clause-works c).After-rect
+early c = (goal.at.returns-clause-worked c).After-rect
 
 abbrev parts : After-tell → Parts
 parts c = stored (early c)
@@ -145,7 +147,8 @@ told c =
     (subst (λ rows. to c.tiling-tiling.result c.mask-mask.result.now generation rows) (cleaned c)
     c.tell.ensures.hints)))
 
-step : (c : After-tell) → IsOneStep (before c) (core_of (worked_parts (parts c) (reached c)))
+step : (c : After-tell) → IsOneWorkedOff (before c) (core_of (worked_parts (parts c) (reached c)))
+    × IsSound (core_of (worked_parts (parts c) (reached c)))
 step c =
     one_step c.edges_are_open.ensures (before c) c.args.tile c.self.invariant.sound (is_next c)
     c.sweep.new.image (grown c) (reached c) (told c)
@@ -157,24 +160,15 @@ invariant_of-self c =
     let count : length c.tell.new.work ≡ length c.self.inside.work =
     (told c).over.count ∙ length-set c.self.inside.work c.args.tile (clean (before c) c.args.tile) in
     let after = worked_parts (parts c) (reached c) in
-    stored_still (parts c) after.image after.work after.serial c.self.invariant count (step c).sound
+    stored_still (parts c) after.image after.work after.serial c.self.invariant count (step c).1
 
-pub returns-clause-works : goal.returns-clause-works
-returns-clause-works c =
+pub returns-clause-worked : goal.returns-clause-worked
+returns-clause-worked c =
     let final = core_of (worked_parts (parts c) (reached c)) in
-    subst (λ core. (log : List Entry) × IsWorkedOff core log final × (jobs_of log ≡ 1)) c.self.view_is
-    ((step c).log, (step c).works, (step c).one_job)
+    subst (λ core. IsOneWorkedOff core final) c.self.view_is (step c).0
 
-pub returns-clause-none_out : goal.returns-clause-none_out
-returns-clause-none_out c = (step c).none_out
-
-pub returns-clause-no_hints : goal.returns-clause-no_hints
-returns-clause-no_hints c = (step c).no_hints
-
-pub returns-clause-less : goal.returns-clause-less
-returns-clause-less c =
-    let final = core_of (worked_parts (parts c) (reached c)) in
-    subst (λ core. burden final < burden core) c.self.view_is (step c).less
+pub returns-clause-tiling : goal.returns-clause-tiling
+returns-clause-tiling c = ap tiling c.self.view_is
 
 pub returns-clause-closed : goal.returns-clause-closed
 returns-clause-closed c =

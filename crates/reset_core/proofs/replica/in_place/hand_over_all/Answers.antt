@@ -1,6 +1,8 @@
-use Rattle.std.proofs.Common.{get_or, arith}
+use Rattle.std.proofs.Common.{get_or, take, arith}
+use Rattle.std.specs.List.{flat_map}
 use Rattle.std.proofs.lemmas.List.Elements.{Contains-get_or}
-use Rattle.reset_core.proofs.TellingHands.{tile_handed_next}
+use Rattle.reset_core.specs.Telling.{hints_in}
+use Rattle.reset_core.proofs.TellingHands.{tile_handed_next, still_of_tiles}
 use Rattle.reset_core.proofs.replica.in_place.hand_over_all.Goals as goal
 
 pub loop-tile-preserved : goal.loop-tile-preserved
@@ -18,3 +20,9 @@ hand_over_in-requires-clause-tile c =
     let within = c.requires.tiles (get_or tiles i 0) (Contains-get_or tiles i 0 c.loop-tile-test.true) in
     let same = c.loop-tile.invariant.count in
     omega (arith, within, same)
+
+pub hand_over_in-requires-clause-parts : goal.hand_over_in-requires-clause-parts
+hand_over_in-requires-clause-parts c =
+    still_of_tiles c.args.tiling.now
+    (flat_map (hints_in c.args.tiling.now c.args.hints.now) (take c.loop-tile.tile-index c.args.tiles.now))
+    c.args.image.now c.args.work.now c.loop-tile.image c.loop-tile.work c.loop-tile.invariant c.requires.parts

@@ -1,9 +1,11 @@
-use Rattle.std.proofs.Common.{◌<◌, get_or, sym, subst, arith}
+use Rattle.std.proofs.Common.{◌≡◌, ◌<◌, get_or, take, sym, subst, arith}
+use Rattle.std.specs.Prelude.{◌↔◌}
 use Rattle.std.proofs.lemmas.List.Elements.{Contains-get_or}
 use Rattle.grid_core.specs.Rects.{IsInRect}
-use Rattle.grid_core.specs.Tiles.{count_of}
+use Rattle.grid_core.specs.Tiles.{count_of, tile_of}
 use Rattle.border_queues.specs.declared.hint.Hint.{Hint}
-use Rattle.reset_core.proofs.TellingHands.{handed_next}
+use Rattle.reset_core.specs.Telling.{hints_in}
+use Rattle.reset_core.proofs.TellingHands.{handed_next, still_of_tiles}
 use Rattle.reset_core.proofs.replica.in_place.hand_over_in.Goals as goal
 
 abbrev none : Hint
@@ -22,13 +24,20 @@ loop-hint-preserved c =
     (record { image = c.hand_over.new.image; rows = c.hand_over.new.work }) c.loop-hint-test.true
     c.loop-hint.invariant c.hand_over.ensures
 
-pub hand_over-requires-clause-others : goal.hand_over-requires-clause-others
-hand_over-requires-clause-others c = λ here.
+pub hand_over-requires-clause-rect : goal.hand_over-requires-clause-rect
+hand_over-requires-clause-rect c =
     let i = c.loop-hint.hint-index in
     let hint = get_or c.args.hints.now i none in
     let inside = c.requires.inside hint (Contains-get_or c.args.hints.now i none c.loop-hint-test.true) in
-    let count = c.requires.count in
+    let count = c.requires.parts.count in
     let tile = c.requires.tile in
     let within : c.args.tile < count_of c.args.tiling.now = omega (arith, count, tile) in
-    let law = c.each_pixel_in_one_tile.ensures c.args.tiling.now hint.to_pixel c.requires.tiled inside in
-    subst (λ rect. IsInRect rect hint.to_pixel) (sym c.rect-rect.ensures.value) ((law.1 c.args.tile within).1 here)
+    let law = c.each_pixel_in_one_tile.ensures c.args.tiling.now hint.to_pixel c.requires.parts.tiled inside in
+    subst (λ rect. IsInRect rect hint.to_pixel ↔ (tile_of c.args.tiling.now hint.to_pixel ≡ c.args.tile))
+    (sym c.rect-rect.ensures.value) (law.1 c.args.tile within)
+
+pub hand_over-requires-clause-parts : goal.hand_over-requires-clause-parts
+hand_over-requires-clause-parts c =
+    still_of_tiles c.args.tiling.now
+    (hints_in c.args.tiling.now (take c.loop-hint.hint-index c.args.hints.now) c.args.tile)
+    c.args.image.now c.args.work.now c.loop-hint.image c.loop-hint.work c.loop-hint.invariant c.requires.parts
