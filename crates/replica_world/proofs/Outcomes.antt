@@ -5,7 +5,7 @@ use Rattle.std.proofs.lemmas.Option.{slice_get_within}
 use Rattle.stroke_lattice.specs.State.{State}
 use Rattle.stroke_lattice.specs.Pieces.{pieces_of}
 use Rattle.spd_codec.specs.declared.frame.Frame.{Frame}
-use Rattle.spd_codec.specs.Spelling.{Spells}
+use Rattle.spd_codec.specs.Spelling.{Spells, max_bytes}
 use Rattle.core_rules.specs.declared.error.CoreError.{CoreError}
 use Rattle.core_rules.specs.Merge.{IsRefused}
 use Rattle.core_rules.specs.Laws.{MergedIsAcceptable, RefusedIsNotAcceptable, OneRefusal}
@@ -14,12 +14,12 @@ use Rattle.replica_world.specs.declared.error.WorldError.TheVariants as errors
 use Rattle.replica_world.specs.declared.event.Event.{Event}
 use Rattle.replica_world.specs.declared.event.Event.TheVariants as events
 use Rattle.replica_world.specs.World.{World, core_at}
-use Rattle.replica_world.specs.Events.{IsNamed, Carries, IsDone, IsCoreRefusal, IsTurnedDown, max_packet}
+use Rattle.replica_world.specs.Events.{IsNamed, Carries, IsDone, IsCoreRefusal, IsTurnedDown}
 
 pub done_named : (before after : World) (event : Event) → IsDone before event after → IsNamed before event
 done_named before after (events.Edit r delta) (within, taken) = within
 done_named before after (events.Send r part) (within, (piece, there, same)) =
-    (within, slice_get_within (pieces_of max_packet (core_at before r).state) part piece there)
+    (within, slice_get_within (pieces_of max_bytes (core_at before r).state) part piece there)
 done_named before after (events.Deliver r k) (within, (delta, (packet, there, spelled), taken)) =
     (within, slice_get_within before.packets k packet there)
 done_named before after (events.Take r t) (within, tile, swept) = (within, tile)

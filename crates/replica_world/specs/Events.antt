@@ -4,7 +4,7 @@ use Rattle.stroke_lattice.specs.State.{State}
 use Rattle.stroke_lattice.specs.Change.{Turnover}
 use Rattle.stroke_lattice.specs.Pieces.{pieces_of}
 use Rattle.spd_codec.specs.declared.version.Version.TheVariants.{Second}
-use Rattle.spd_codec.specs.Spelling.{frame_text, Spells}
+use Rattle.spd_codec.specs.Spelling.{frame_text, Spells, max_bytes}
 use Rattle.tile_generations.specs.Jobs.{Job, Swept}
 use Rattle.core_rules.specs.declared.error.CoreError.{CoreError}
 use Rattle.core_rules.specs.declared.error.CoreError.TheVariants as core_errors
@@ -20,10 +20,6 @@ use Rattle.replica_world.specs.declared.event.Event.{Event}
 use Rattle.replica_world.specs.declared.event.Event.TheVariants as events
 use Rattle.replica_world.specs.World.{World, IsReplica, core_at, with_core, with_taken}
 
--- the greatest length of a packet, in bytes
-abbrev pub max_packet : ℕ
-max_packet = 1400
-
 -- ---- what an event names
 
 -- the packet of this number spells the delta, for the world's connectivity and mask
@@ -36,7 +32,7 @@ Carries world k delta =
 abbrev pub IsNamed : World → Event → Type 0
 IsNamed world (events.Edit r delta) = IsReplica world r
 IsNamed world (events.Send r part) =
-    IsReplica world r × (part < length (pieces_of max_packet (core_at world r).state))
+    IsReplica world r × (part < length (pieces_of max_bytes (core_at world r).state))
 IsNamed world (events.Deliver r k) = IsReplica world r × (k < length world.packets)
 IsNamed world (events.Take r t) = IsReplica world r × IsTile (core_at world r) t
 IsNamed world (events.Return r j) = IsReplica world r × (j < length world.results)
@@ -60,7 +56,7 @@ MovesCore before r event after =
 -- a packet is sent: the frame of this piece of the replica's strokes
 abbrev pub IsSent : World → ℕ → ℕ → World → Type 0
 IsSent before r part after =
-    (piece : State) × (slice_get (pieces_of max_packet (core_at before r).state) part ≡ Some piece)
+    (piece : State) × (slice_get (pieces_of max_bytes (core_at before r).state) part ≡ Some piece)
     × (after ≡ record before {
       packets = before.packets ++ frame_text Second before.conn before.print piece ∷ [];
     })

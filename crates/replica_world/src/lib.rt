@@ -32,4 +32,4 @@ mod world;
 
 pub use error::WorldError;
 pub use event::Event;
-pub use world::{MAX_PACKET, MAX_REPLICAS, World};
+pub use world::{MAX_REPLICAS, World};

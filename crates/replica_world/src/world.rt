@@ -6,8 +6,6 @@ ghost use Rattle.sha2.specs.Sha256.{sha256};
 ghost use Rattle.pgm_codec.specs.Writing.{raw_text};
 ghost use Rattle.stroke_lattice.specs.State.{IsJoinOf};
 ghost use Rattle.core_rules.specs.declared.error.CoreError.TheVariants as core_errors;
-ghost use Rattle.core_rules.specs.Invariant.{HasLawfulImage, HasReconstruction};
-ghost use Rattle.core_rules.specs.Work.{IsQuiet};
 ghost use Rattle.replica_world.specs.declared.error.WorldError.TheVariants as errors;
 ghost use Rattle.replica_world.specs.World.{IsReplica, replica_at, core_at};
 ghost use Rattle.replica_world.specs.Opening.{fresh_replica, opened_world};
@@ -32,8 +30,6 @@ mod handing;
 mod running;
 mod sending;
 mod taking;
-
-pub use sending::MAX_PACKET;
 
 /// The greatest number of replicas of a world.
 pub const MAX_REPLICAS: usize = 16;
@@ -135,11 +131,7 @@ impl World {
     pub fn core(&self, replica: usize) -> &Core
         requires { IsReplica self.now replica }
         ensures value { result.now ≡ core_at self.now replica }
-        ensures mask { (core_at self.now replica).mask ≡ self.now.mask }
-        ensures conn { (core_at self.now replica).conn ≡ self.now.conn }
-        ensures joined { IsJoinOf (replica_at self.now replica).took (core_at self.now replica).state }
-        ensures lawful { HasLawfulImage (core_at self.now replica) }
-        ensures quiet { IsQuiet (core_at self.now replica) → HasReconstruction (core_at self.now replica) }
+        ensures faithful { IsFaithful self.now (replica_at self.now replica) }
     {
         let core = self.replicas[replica].core();
         let _ = core.image();
@@ -160,7 +152,7 @@ impl World {
         requires { IsReplica self.now replica }
         ensures { IsFaithful self.now (replica_at self.now replica) }
     {
-        let _ = self.core(replica).image();
+        let _ = self.core(replica);
     }
 
     /// Two replicas that took the same strokes and withdrawals, in any order and with repeats, hold equal strokes, and

@@ -1,23 +1,19 @@
 //! Pieces of replicas that are sent.
 
 ghost use Rattle.std.specs.Prelude.{◌≡◌, ◌≤◌, [], ◌∷◌, ◌++◌, IfOk, IfErr, OnOk, OnErr};
-ghost use Rattle.stroke_lattice.specs.Pieces.{pieces_of, frame_length, AllFit};
+ghost use Rattle.stroke_lattice.specs.Pieces.{frame_length};
 ghost use Rattle.spd_codec.specs.declared.version.Version.TheVariants.{Second};
-ghost use Rattle.spd_codec.specs.Spelling.{frame_text};
+ghost use Rattle.spd_codec.specs.Spelling.{frame_text, max_bytes};
 ghost use Rattle.replica_world.specs.declared.event.Event.TheVariants as events;
-ghost use Rattle.replica_world.specs.World.{IsReplica, core_at};
-ghost use Rattle.replica_world.specs.Events.{IsDone, IsRefusal, max_packet};
+ghost use Rattle.replica_world.specs.Events.{IsDone, IsRefusal};
 
 use super::World;
 use crate::error::WorldError;
 use crate::packet::Packet;
 use grid_core::Memory;
-use spd_codec::{SpdError, encode};
+use spd_codec::{MAX_BYTES, SpdError, encode};
 use std::alloc::Global;
 use stroke_lattice::Delta;
-
-/// The greatest length of a packet, in bytes.
-pub const MAX_PACKET: usize = 1400;
 
 impl World {
     // Sends the frame of a piece of a replica's strokes: it is the next packet.
@@ -35,7 +31,7 @@ impl World {
         if replica >= self.replicas() {
             return Err(WorldError::NoSuch);
         }
-        let pieces = self.pieces(alloc, replica)?;
+        let pieces = self.core(replica).state().split(alloc, MAX_BYTES)?;
         if part >= pieces.len() {
             return Err(WorldError::NoSuch);
         }
@@ -43,22 +39,11 @@ impl World {
         Ok(())
     }
 
-    // The pieces of a replica's strokes.
-    //
-    // Errors: out of memory.
-    fn pieces(&self, alloc: Global, replica: usize) -> Result<Vec<Delta>, Memory>
-        requires { IsReplica self.now replica }
-        ensures pieces { IfOk result (λ pieces. pieces.items ≡ pieces_of max_packet (core_at self.now replica).state) }
-        ensures fit { IfOk result (λ pieces. AllFit max_packet pieces.items) }
-    {
-        self.core(replica).state().split(alloc, MAX_PACKET)
-    }
-
     // Keeps the frame of a delta as the next packet.
     //
     // Errors: out of memory.
     fn keep_frame(&mut self, alloc: Global, delta: &Delta) -> Result<(), Memory>
-        requires { frame_length delta.now ≤ max_packet }
+        requires { frame_length delta.now ≤ max_bytes }
         ensures kept { OnOk result (self.new ≡ record self.old {
           packets = self.old.packets ++ frame_text Second self.old.conn self.old.print delta.now ∷ [];
         }) }

@@ -1,7 +1,10 @@
-use Rattle.std.proofs.Common.{◌≡◌, ◌<◌, List, length, refl, subst, arith}
+use Rattle.std.proofs.Common.{◌≡◌, ◌<◌, ◌∙◌, List, length, refl, subst, ap, arith}
 use Rattle.std.specs.Prelude.{Some, slice_get}
 use Rattle.std.proofs.lemmas.Option.{slice_get_read}
 use Rattle.stroke_lattice.specs.State.{State}
+use Rattle.stroke_lattice.specs.Pieces.{pieces_of}
+use Rattle.spd_codec.specs.Spelling.{max_bytes}
+use Rattle.core_rules.specs.Work.{Core}
 use Rattle.replica_world.proofs.world.World.send.Goals as goal
 
 pub returns-clause-done : goal.returns-clause-done
@@ -10,11 +13,13 @@ returns-clause-done c =
     let piece = c.index.result.now in
     let within = subst (λ n. c.args.replica < n) c.replicas.ensures.value c.if-replica-replicas.false in
     let there : c.args.part < length items = omega (arith, c.if-part-len.false, c.len.ensures) in
+    let state = c.state.ensures ∙ ap (λ (k : Core). k.state) c.core.ensures.value in
+    let pieces = c.in_ok-pieces.ensures.pieces ∙ ap (pieces_of max_bytes) state in
     let read = slice_get_read items (length items) c.args.part piece refl there c.index.ensures in (
       within,
       (
         piece,
-        subst (λ (pieces : List State). slice_get pieces c.args.part ≡ Some piece) c.in_ok-pieces.ensures.pieces read,
+        subst (λ (pieces : List State). slice_get pieces c.args.part ≡ Some piece) pieces read,
         c.in_ok-keep_frame.ensures.kept,
       ),
     )
