@@ -1,5 +1,5 @@
 -- Images made on the way to a view. Only private functions have these words in their contracts.
-use Rattle.std.specs.Prelude.{◌≡◌, ℕ, ◌-◌, ◌⊎◌, map}
+use Rattle.std.specs.Prelude.{◌≡◌, ℕ, ◌-◌, ◌⊎◌, List, length, map, slice_index, EachIndex}
 use Rattle.grid_core.specs.declared.pixel.Pixel.{Pixel}
 use Rattle.grid_core.specs.Raster.{Raster, IsInside, IsFilled, value_at, IsOnBorder}
 
@@ -27,3 +27,27 @@ pub record IsPartOfBorder (image border : Raster) : Type 0 where
 abbrev pub KeepsAgreed : Raster → Raster → Raster → Type 0
 KeepsAgreed image old new =
     (p : Pixel) → IsInside image.width image.height p → AgreeAt image old p → AgreeAt image new p
+
+-- a border that has on the whole border the values of the image
+pub record IsBorderOf (image made : Raster) : Type 0 where
+  pub part : IsPartOfBorder image made
+  pub border : (p : Pixel) → IsInside image.width image.height p → IsOnBorder image.width image.height p
+      → AgreeAt image made p
+
+-- more of the border: the pixels of a kind agree with the image, and those that agreed still do
+pub record Copies (kind : Pixel → Type 0) (image old new : Raster) : Type 0 where
+  pub part : IsPartOfBorder image new
+  pub kept : KeepsAgreed image old new
+  pub copied : (p : Pixel) → IsInside image.width image.height p → kind p → AgreeAt image new p
+
+-- as many values, each that by which the upper one is greater than the old one
+pub record AreDifferences (upper : ℕ → ℕ) (old new : List ℕ) : Type 0 where
+  pub count : length new ≡ length old
+  pub values : EachIndex new (λ k. slice_index new k ≡ upper k - slice_index old k)
+
+-- an image of the same size, with such values
+pub record IsDifference (upper : ℕ → ℕ) (old new : Raster) : Type 0 where
+  pub width : new.width ≡ old.width
+  pub height : new.height ≡ old.height
+  pub filled : IsFilled new
+  pub values : EachIndex new.cells (λ k. slice_index new.cells k ≡ upper k - slice_index old.cells k)

@@ -3,12 +3,13 @@
 //! Upside down, a hole is a dome that no path of high values joins to the border. So the image is turned upside down,
 //! its border grows inwards, and what has grown is turned back.
 
-ghost use Rattle.std.specs.Prelude.{◌≡◌, ◌+◌, ◌-◌, ◌⊎◌, length, slice_index, EachIndex, IfOk};
+ghost use Rattle.std.specs.Prelude.{◌≡◌, ◌+◌, ◌⊎◌, IfOk};
 ghost use Rattle.grid_core.specs.Path.{domain_of};
-ghost use Rattle.grid_core.specs.Raster.{IsFilled, IsInside, value_at, IsOnBorder};
+ghost use Rattle.grid_core.specs.Raster.{IsInside, value_at, IsOnBorder};
 ghost use Rattle.pgm_codec.specs.Graymap.{IsGraymap};
 ghost use Rattle.derived_views.specs.Holes.{IsFill};
-ghost use Rattle.derived_views.specs.Rasters.{complement_of, AgreeAt, IsPartOfBorder, KeepsAgreed};
+ghost use Rattle.derived_views.specs.Rasters.{complement_of, IsPartOfBorder, IsBorderOf, Copies};
+ghost use Rattle.derived_views.specs.Rasters.{AreDifferences, IsDifference};
 
 use grid_core::{Conn, Grid, Memory, Pixel};
 use pgm_codec::Image;
@@ -50,10 +51,7 @@ fn complement(alloc: Global, grid: &Grid, top: u32) -> Result<Grid, Memory>
 
 // How far each value lies below the top, in the same memory.
 fn complemented(grid: Grid, top: u32) -> Grid
-    ensures width { result.width ≡ grid.width }
-    ensures height { result.height ≡ grid.height }
-    ensures filled { IsFilled result }
-    ensures values { EachIndex result.cells (λ k. slice_index result.cells k ≡ top - slice_index grid.cells k) }
+    ensures { IsDifference (λ _. top) grid result }
 {
     let w = grid.width();
     let h = grid.height();
@@ -64,8 +62,7 @@ fn complemented(grid: Grid, top: u32) -> Grid
 
 // Makes each value that by which the top is greater.
 fn subtract_from_top(values: &mut [u32], top: u32)
-    ensures len { length values.new ≡ length values.old }
-    ensures differences { EachIndex values.new (λ k. slice_index values.new k ≡ top - slice_index values.old k) }
+    ensures { AreDifferences (λ _. top) values.old values.new }
 {
     for i in 0..values.len() {
         values[i] = top.saturating_sub(values[i]);
@@ -74,9 +71,7 @@ fn subtract_from_top(values: &mut [u32], top: u32)
 
 // The values of the grid on its border, and 0 within.
 fn border_of(alloc: Global, grid: &Grid) -> Result<Grid, Memory>
-    ensures part { IfOk result (λ g. IsPartOfBorder grid.now g) }
-    ensures border { IfOk result (λ g. (p : _) → IsInside grid.now.width grid.now.height p
-        → IsOnBorder grid.now.width grid.now.height p → AgreeAt grid.now g p) }
+    ensures { IfOk result (IsBorderOf grid.now) }
 {
     let w = grid.width();
     let h = grid.height();
@@ -90,10 +85,7 @@ fn border_of(alloc: Global, grid: &Grid) -> Result<Grid, Memory>
 // Copies the first and the last column of the grid.
 fn copy_columns(grid: &Grid, border: &mut Grid)
     requires { IsPartOfBorder grid.now border.old }
-    ensures part { IsPartOfBorder grid.now border.new }
-    ensures kept { KeepsAgreed grid.now border.old border.new }
-    ensures columns { (p : _) → IsInside grid.now.width grid.now.height p
-        → (p.x ≡ 0) ⊎ (p.x + 1 ≡ grid.now.width) → AgreeAt grid.now border.new p }
+    ensures { Copies (λ p. (p.x ≡ 0) ⊎ (p.x + 1 ≡ grid.now.width)) grid.now border.old border.new }
 {
     let last = grid.width() - 1;
     for y in 0..grid.height() {
@@ -105,10 +97,7 @@ fn copy_columns(grid: &Grid, border: &mut Grid)
 // Copies the first and the last row of the grid.
 fn copy_rows(grid: &Grid, border: &mut Grid)
     requires { IsPartOfBorder grid.now border.old }
-    ensures part { IsPartOfBorder grid.now border.new }
-    ensures kept { KeepsAgreed grid.now border.old border.new }
-    ensures rows { (p : _) → IsInside grid.now.width grid.now.height p
-        → (p.y ≡ 0) ⊎ (p.y + 1 ≡ grid.now.height) → AgreeAt grid.now border.new p }
+    ensures { Copies (λ p. (p.y ≡ 0) ⊎ (p.y + 1 ≡ grid.now.height)) grid.now border.old border.new }
 {
     let last = grid.height() - 1;
     for x in 0..grid.width() {
@@ -122,9 +111,7 @@ fn copy_pixel(grid: &Grid, border: &mut Grid, p: Pixel)
     requires part { IsPartOfBorder grid.now border.old }
     requires inside { IsInside grid.now.width grid.now.height p }
     requires on_border { IsOnBorder grid.now.width grid.now.height p }
-    ensures part { IsPartOfBorder grid.now border.new }
-    ensures kept { KeepsAgreed grid.now border.old border.new }
-    ensures copied { AgreeAt grid.now border.new p }
+    ensures { Copies (λ q. q ≡ p) grid.now border.old border.new }
 {
     border.set(p, grid.get(p));
 }

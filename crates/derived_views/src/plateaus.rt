@@ -3,12 +3,12 @@
 //! The image grows inside the image raised by 1. A plateau rises there exactly where some pixel beside it is higher, so
 //! the regional maxima are what is left between the two. A cell has 32 bits: the greatest sample and 1 fit in.
 
-ghost use Rattle.std.specs.Prelude.{◌≡◌, ◌+◌, ◌-◌, length, map, min, slice_index, EachIndex, IfOk};
+ghost use Rattle.std.specs.Prelude.{◌≡◌, ◌+◌, length, map, min, slice_index, IfOk};
 ghost use Rattle.grid_core.specs.Path.{domain_of};
-ghost use Rattle.grid_core.specs.Raster.{IsFilled, max_value, value_at};
+ghost use Rattle.grid_core.specs.Raster.{max_value, value_at};
 ghost use Rattle.pgm_codec.specs.Graymap.{IsGraymap};
 ghost use Rattle.derived_views.specs.Plateaus.{IsRegionalMaxima};
-ghost use Rattle.derived_views.specs.Rasters.{mapped};
+ghost use Rattle.derived_views.specs.Rasters.{mapped, AreDifferences, IsDifference};
 
 use grid_core::{Conn, Grid, Memory};
 use pgm_codec::Image;
@@ -54,11 +54,7 @@ fn one_more(alloc: Global, values: &[u32]) -> Result<Vec<u32>, AllocError>
 fn left_between(upper: &Grid, lower: Grid) -> Grid
     requires width { lower.width ≡ upper.now.width }
     requires height { lower.height ≡ upper.now.height }
-    ensures width { result.width ≡ lower.width }
-    ensures height { result.height ≡ lower.height }
-    ensures filled { IsFilled result }
-    ensures values { EachIndex result.cells (λ k. slice_index result.cells k
-        ≡ slice_index upper.now.cells k - slice_index lower.cells k) }
+    ensures { IsDifference (λ k. slice_index upper.now.cells k) lower result }
 {
     let w = lower.width();
     let h = lower.height();
@@ -70,9 +66,7 @@ fn left_between(upper: &Grid, lower: Grid) -> Grid
 // Makes each value that by which the upper one is greater.
 fn subtract_from(upper: &[u32], values: &mut [u32])
     requires { length upper.now ≡ length values.old }
-    ensures len { length values.new ≡ length values.old }
-    ensures differences { EachIndex values.new (λ k. slice_index values.new k
-        ≡ slice_index upper.now k - slice_index values.old k) }
+    ensures { AreDifferences (λ k. slice_index upper.now k) values.old values.new }
 {
     for i in 0..values.len() {
         values[i] = upper[i].saturating_sub(values[i]);

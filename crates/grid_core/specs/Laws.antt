@@ -65,3 +65,21 @@ abbrev pub OwedNothing : Type 0
 OwedNothing =
     (d : Domain) (mask marker j : Pixel → ℕ) → IsLawful d mask marker j
     → IsOwed d mask marker j 0 ↔ IsReconstruction d mask marker j
+
+-- the levels that a pixel reaches go from 0 up, and end within the mask
+pub record LevelLaws : Type 0 where
+  pub reaches_level_zero : ReachesLevelZero
+  pub reaches_lower_levels : ReachesLowerLevels
+  pub reach_is_within_mask : ReachIsWithinMask
+
+-- lawful images rise by raises up to the reconstruction
+pub record LawfulLaws : Type 0 where
+  pub raise_keeps_lawful : RaiseKeepsLawful
+  pub lawful_lies_between : LawfulLiesBetween
+  pub closed_lawful_is_reconstruction : ClosedLawfulIsReconstruction
+
+-- one number is owed to a lawful image, and 0 to the reconstruction alone
+pub record OwedLaws : Type 0 where
+  pub at_most_one_owed : AtMostOneOwed
+  pub lawful_is_owed : LawfulIsOwed
+  pub owed_nothing : OwedNothing

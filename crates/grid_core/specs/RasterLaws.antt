@@ -40,3 +40,10 @@ NeighboursByRows =
     (conn : Conn) (width height : ℕ) (p : Pixel) → IsInside width height p
     → ((q : Pixel) → Contains (rows_around conn width height p) q ↔ (AreNeighbours conn p q × IsInside width height q))
     × IsInRasterOrder (rows_around conn width height p)
+
+-- images are known by their values at pixels
+pub record PixelLaws : Type 0 where
+  pub set_is_read : SetIsRead
+  pub set_keeps_others : SetKeepsOthers
+  pub below_at_each_pixel : BelowAtEachPixel
+  pub each_pixel_below : EachPixelBelow

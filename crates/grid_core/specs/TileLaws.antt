@@ -48,3 +48,9 @@ abbrev pub RectPixelsLieInside : Type 0
 RectPixelsLieInside =
     (width height : ℕ) (rect : Rect) (p : Pixel) → RectFits width height rect → IsInside rect.w rect.h p
     → IsInside width height (in_image rect p)
+
+-- what is so in the rectangle is so in the image
+pub record RectLaws : Type 0 where
+  pub rect_pixels_lie_inside : RectPixelsLieInside
+  pub tile_pixels : TilePixels
+  pub neighbours_in_rect : NeighboursInRect

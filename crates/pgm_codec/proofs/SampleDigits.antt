@@ -5,6 +5,7 @@ use Rattle.std.specs.Int.{from_bool}
 use Rattle.std.proofs.lemmas.Bool.{cond-true, cond-false, cases_lt, lt-ltb, le-ltb}
 use Rattle.std.proofs.lemmas.Fmt.{decimal_digit, decimal_step, length-decimal-le}
 use Rattle.pgm_codec.specs.Graymap.{max_maxval}
+use Rattle.pgm_codec.specs.PlainWriting.{last_digit}
 
 -- ---- how many
 
@@ -87,10 +88,6 @@ five_at_most n d small e =
     let fits = length-decimal-le 5 n (omega arith) (omega arith) (omega arith) in omega (arith, e, fits)
 
 -- ---- each
-
--- the last digit of a number that is not 0
-abbrev last_digit : ℕ → List ℕ
-last_digit k = if nat_lt 0 k then (48 + k % 10) ∷ [] else []
 
 -- all digits of a number that is not 0
 abbrev leading : ℕ → List ℕ

@@ -1,10 +1,15 @@
 -- The plain file of an image (Netpbm, pgm(5)), by its lines.
-use Rattle.std.specs.Prelude.{ℕ, zero, suc, ◌+◌, ◌/◌, List, [], ◌∷◌, ◌++◌, length, take, drop, decimal}
+use Rattle.std.specs.Prelude.{ℕ, zero, suc, ◌+◌, ◌/◌, ◌%◌, List, [], ◌∷◌, ◌++◌, length, take, drop, decimal, nat_lt}
+use Rattle.std.specs.Prelude.{if◌then◌else◌}
 use Rattle.std.specs.List.{flat_map, join_by}
 use Rattle.pgm_codec.specs.declared.grammar.Encoding.TheVariants.{Plain}
 use Rattle.pgm_codec.specs.Graymap.{Graymap}
 use Rattle.pgm_codec.specs.Spelling.{line_feed, blank}
 use Rattle.pgm_codec.specs.Writing.{file_header}
+
+-- the last digit of a number, and nothing for 0
+abbrev pub last_digit : ℕ → List ℕ
+last_digit n = if nat_lt 0 n then (48 + n % 10) ∷ [] else []
 
 -- a list cut from its front into so many parts of this size; the last may be shorter
 abbrev pub parts : ℕ → ℕ → List ℕ → List (List ℕ)

@@ -1,7 +1,7 @@
 -- Reading from left to right, with the first fault that is met. The contracts of private functions alone
 -- say this; public ones say what a text spells (Spelling) and its first fault (FirstFault).
 use Rattle.std.specs.Prelude.{◌≡◌, ℕ, zero, suc, ◌+◌, ◌*◌, Bool, true, false, List, slice_index, [], ◌∷◌, Option, Some}
-use Rattle.std.specs.Prelude.{None, Result, Ok, Err, nat_lt, min, ◌==◌, if◌then◌else◌, ◌⊎◌}
+use Rattle.std.specs.Prelude.{None, Result, Ok, Err, nat_lt, min, ◌==◌, if◌then◌else◌, ◌⊎◌, ◌<◌, ◌≤◌, length, All}
 use Rattle.std.specs.Char.{is_ascii_digit, digit_value}
 use Rattle.pgm_codec.specs.declared.error.PgmError.{PgmError}
 use Rattle.pgm_codec.specs.declared.error.PgmError.TheVariants as errors
@@ -90,6 +90,16 @@ sample_width true = 2
 abbrev pub raw_value : Bool → List ℕ → ℕ → ℕ
 raw_value false text k = slice_index text k
 raw_value true text k = slice_index text (k * 2) * 256 + slice_index text (k * 2 + 1)
+
+-- the first raw values of a text, so many
+pub record AreRawValues (wide : Bool) (count : ℕ) (text samples : List ℕ) : Type 0 where
+  pub length : length samples ≡ count
+  pub values : (k : ℕ) → k < count → slice_index samples k ≡ raw_value wide text k
+
+-- so many samples within maxval
+pub record AreSamples (maxval count : ℕ) (samples : List ℕ) : Type 0 where
+  pub length : length samples ≡ count
+  pub range : All (λ s. s ≤ maxval) samples
 
 -- a value within maxval, and what is behind it
 abbrev pub within : ℕ → (ℕ × List ℕ → Result (ℕ × List ℕ) PgmError) → ℕ × List ℕ → Result (ℕ × List ℕ) PgmError

@@ -11,7 +11,7 @@ use Rattle.pgm_codec.specs.declared.grammar.Encoding.{Encoding}
 use Rattle.pgm_codec.specs.declared.grammar.Encoding.TheVariants.{Plain, Raw}
 use Rattle.pgm_codec.specs.declared.grammar.Place.{Place}
 use Rattle.pgm_codec.specs.declared.grammar.Place.TheVariants.{Header, Raster}
-use Rattle.pgm_codec.specs.Graymap.{Graymap, max_maxval}
+use Rattle.pgm_codec.specs.Graymap.{Graymap, IsGraymap, max_maxval}
 
 -- ---- bytes
 
@@ -179,3 +179,8 @@ pub record PgmSpells (text : List ℕ) (image : Graymap) : Type 0 where
   pub samples : StartsSamples encoding image.maxval raster image.raster.cells rest
   pub count : length image.raster.cells ≡ image.raster.width * image.raster.height
   pub ended : IsEnd encoding rest
+
+-- the text of each image spells that image and no other
+pub record SpellsBack (text : Graymap → List ℕ) : Type 0 where
+  pub spelled : (image : Graymap) → IsGraymap image → PgmSpells (text image) image
+  pub only : (image other : Graymap) → IsGraymap image → PgmSpells (text image) other → other ≡ image

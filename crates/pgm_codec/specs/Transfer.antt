@@ -1,5 +1,8 @@
 -- What the calls on sources and sinks answer.
-use Rattle.std.specs.Prelude.{◌≡◌, ◌⊎◌, ℕ, List, Option, Result, Ok, IfOk, IfErr, IfSome, IsErrAnd}
+use Rattle.std.specs.Prelude.{◌≡◌, ◌⊎◌, ℕ, ◌<◌, List, Option, Result, Ok, OnOk, IfOk, IfErr, IfSome, IsErrOf, IsErrAnd}
+use Rattle.std.specs.Io.KnownBytes.{Appends}
+use Rattle.byte_devices.specs.Device.{SinkSeen, HasRisen}
+use Rattle.byte_devices.specs.Transfer.{AppendsFront}
 use Rattle.pgm_codec.specs.declared.error.PgmError.{PgmError}
 use Rattle.pgm_codec.specs.declared.error.PgmError.TheVariants.{Memory, Device}
 use Rattle.pgm_codec.specs.FirstFault.{PgmFault}
@@ -21,3 +24,14 @@ pub record ReadsImage (known : Option (List ℕ)) (result : Result Graymap PgmEr
   pub only : IfSome known (λ text. (image : Graymap) → PgmSpells text image
       → (result ≡ Ok image) ⊎ IsErrAnd result (λ e. IsOfMemory e ⊎ IsOfDevice e))
   pub fault : IfErr result (λ e. IsOfMemory e ⊎ IsOfDevice e ⊎ IfSome known (λ text. PgmFault text e))
+
+-- the file was put into a sink; or nothing was put, for want of memory; or the sink failed, and a front of the file was
+-- put; `seen` is what is seen of the sink
+pub record WritesFile {K : Type 0} (file : List ℕ) (result : Result (Unit {0}) PgmError) (seen : K → SinkSeen)
+    (old new : K) : Type 0 where
+  pub text : OnOk result (Appends (seen old).written (seen new).written file)
+  pub only : IfErr result (λ e. IsOfMemory e ⊎ IsOfDevice e)
+  pub untouched : IsErrOf result Memory → new ≡ old
+  pub device : IsErrOf result Device → HasRisen (seen old).failures (seen new).failures
+  pub front : IsErrOf result Device → AppendsFront (seen old).written (seen new).written file
+  pub failure : (seen old).failures < (seen new).failures → IsErrOf result Device

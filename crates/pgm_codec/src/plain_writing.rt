@@ -1,13 +1,13 @@
 //! Writing plain files.
-ghost use Rattle.std.specs.Prelude.{◌≡◌, ◌+◌, ◌*◌, ◌^◌, ◌/◌, ◌%◌, ◌<◌, ◌≤◌, ◌++◌, ◌∷◌, [], length, nat_lt};
-ghost use Rattle.std.specs.Prelude.{if◌then◌else◌, decimal, string_bytes, All, IfOk, OnOk, IsOkUnless};
+ghost use Rattle.std.specs.Prelude.{◌≡◌, ◌+◌, ◌*◌, ◌^◌, ◌<◌, ◌≤◌, ◌++◌, ◌∷◌, length};
+ghost use Rattle.std.specs.Prelude.{decimal, string_bytes, All, IfOk, OnOk, IsOkUnless};
 ghost use Rattle.std.specs.List.{flat_map, sum_by};
 ghost use Rattle.pgm_codec.specs.declared.error.PgmError.TheVariants as errors;
 ghost use Rattle.pgm_codec.specs.declared.grammar.Encoding.TheVariants.{Plain};
 ghost use Rattle.pgm_codec.specs.Graymap.{max_maxval};
 ghost use Rattle.pgm_codec.specs.Spelling.{blank};
 ghost use Rattle.pgm_codec.specs.Writing.{file_header};
-ghost use Rattle.pgm_codec.specs.PlainWriting.{parts, plain_line, plain_row, plain_text};
+ghost use Rattle.pgm_codec.specs.PlainWriting.{last_digit, parts, plain_line, plain_row, plain_text};
 
 use crate::error::PgmError;
 use crate::image::Image;
@@ -43,8 +43,7 @@ fn length_of(samples: &[u32]) -> usize
 
 // Puts the last digit of a number, unless the number is 0.
 fn put_last_digit(out: &mut Vec<u8>, number: u32) -> Result<(), AllocError>
-    ensures { OnOk result
-        (out.new.items ≡ out.old.items ++ (if nat_lt 0 number then (48 + number % 10) ∷ [] else [])) }
+    ensures { OnOk result (out.new.items ≡ out.old.items ++ last_digit number) }
 {
     if number > 0 {
         out.push(b'0' + (number % 10) as u8)?;
@@ -125,12 +124,11 @@ fn put_rows(
 }
 
 // The header of the plain file.
-fn header(alloc: Global, image: &Image) -> Result<String, PgmError>
-    ensures text { IfOk result (λ t. string_bytes t ≡ file_header Plain image.now) }
-    ensures only_memory { IsOkUnless result errors.Memory }
+fn header(alloc: Global, image: &Image) -> Result<String, AllocError>
+    ensures { IfOk result (λ t. string_bytes t ≡ file_header Plain image.now) }
 {
     let (width, height, maxval) = (image.width(), image.height(), image.maxval());
-    Ok(format!(in alloc; "P2\n{width} {height}\n{maxval}\n")?)
+    format!(in alloc; "P2\n{width} {height}\n{maxval}\n")
 }
 
 /// The plain file of an image, its text: `P2`, LF, width, blank, height, LF, maxval, LF, and the samples in

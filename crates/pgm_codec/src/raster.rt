@@ -1,8 +1,8 @@
 //! The samples of a file, in decimal numbers or in bytes.
-ghost use Rattle.std.specs.Prelude.{◌≡◌, ℕ, ◌*◌, ◌<◌, ◌≤◌, false, true, nat_lt, length, slice_index, All, IfOk};
-ghost use Rattle.std.specs.List.{list_any};
+ghost use Rattle.std.specs.Prelude.{◌≡◌, ◌*◌, ◌≤◌, true, length, IfOk};
 ghost use Rattle.pgm_codec.specs.declared.grammar.Encoding.TheVariants.{Plain, Raw};
-ghost use Rattle.pgm_codec.specs.Reading.{Gives, GivesOrMemory, sample_at, sample_width, raw_value, samples_at, end_at};
+ghost use Rattle.pgm_codec.specs.Reading.{Gives, GivesOrMemory, AreSamples, AreRawValues};
+ghost use Rattle.pgm_codec.specs.Reading.{sample_at, sample_width, samples_at, end_at};
 
 use crate::error::PgmError;
 use crate::grammar::{Encoding, Place};
@@ -34,8 +34,7 @@ fn plain_samples(
     count: usize,
 ) -> Result<(Vec<u32>, &[u8]), PgmError>
     ensures read { GivesOrMemory (λ x. (x.0.items, x.1.now)) result (samples_at Plain maxval count text.now) }
-    ensures length { IfOk result (λ x. length x.0.items ≡ count) }
-    ensures range { IfOk result (λ x. All (λ s. s ≤ maxval) x.0.items) }
+    ensures made { IfOk result (λ x. AreSamples maxval count x.0.items) }
 {
     // A sample takes two bytes, but for the last.
     let mut samples = Vec::with_capacity(alloc, count.min(text.len() / 2 + 1))?;
@@ -58,8 +57,7 @@ fn widened(alloc: Global, bytes: &[u8]) -> Result<Vec<u32>, AllocError>
 // The values of pairs of bytes, the more significant first.
 fn join(bytes: &[u8], samples: &mut [u32])
     requires { length samples.old * 2 ≤ length bytes.now }
-    ensures len { length samples.new ≡ length samples.old }
-    ensures values { (k : ℕ) → k < length samples.old → slice_index samples.new k ≡ raw_value true bytes.now k }
+    ensures { AreRawValues true (length samples.old) bytes.now samples.new }
 {
     for i in 0..samples.len() {
         samples[i] = u32::from(bytes[i * 2]) * 256 + u32::from(bytes[i * 2 + 1]);
@@ -76,8 +74,7 @@ fn sample_width(wide: bool) -> usize
 // The first values of a raw raster, of two bytes each or of one.
 fn raw_values(alloc: Global, text: &[u8], wide: bool, count: usize) -> Result<Vec<u32>, AllocError>
     requires { count * sample_width wide ≤ length text.now }
-    ensures length { IfOk result (λ v. length v.items ≡ count) }
-    ensures values { IfOk result (λ v. (k : ℕ) → k < count → slice_index v.items k ≡ raw_value wide text.now k) }
+    ensures { IfOk result (λ v. AreRawValues wide count text.now v.items) }
 {
     if !wide {
         return widened(alloc, &text[..count]);
@@ -96,8 +93,7 @@ fn raw_samples(
     count: usize,
 ) -> Result<(Vec<u32>, &[u8]), PgmError>
     ensures read { GivesOrMemory (λ x. (x.0.items, x.1.now)) result (samples_at Raw maxval count text.now) }
-    ensures length { IfOk result (λ x. length x.0.items ≡ count) }
-    ensures range { IfOk result (λ x. All (λ s. s ≤ maxval) x.0.items) }
+    ensures made { IfOk result (λ x. AreSamples maxval count x.0.items) }
 {
     let wide = maxval > 255;
     let width = sample_width(wide);
@@ -121,8 +117,7 @@ pub(crate) fn samples(
     count: usize,
 ) -> Result<(Vec<u32>, &[u8]), PgmError>
     ensures read { GivesOrMemory (λ x. (x.0.items, x.1.now)) result (samples_at encoding maxval count text.now) }
-    ensures length { IfOk result (λ x. length x.0.items ≡ count) }
-    ensures range { IfOk result (λ x. All (λ s. s ≤ maxval) x.0.items) }
+    ensures made { IfOk result (λ x. AreSamples maxval count x.0.items) }
 {
     match encoding {
         Encoding::Plain => plain_samples(alloc, text, maxval, count),

@@ -2,8 +2,8 @@
 ghost use Rattle.std.specs.Prelude.{◌≡◌, ◌⊎◌, List, ℕ, Ok, IfOk, IfErr, IsErrOf};
 ghost use Rattle.pgm_codec.specs.declared.error.PgmError.{PgmError};
 ghost use Rattle.pgm_codec.specs.declared.error.PgmError.TheVariants as errors;
-ghost use Rattle.pgm_codec.specs.Graymap.{Graymap, IsGraymap};
-ghost use Rattle.pgm_codec.specs.Spelling.{PgmSpells};
+ghost use Rattle.pgm_codec.specs.Graymap.{Graymap};
+ghost use Rattle.pgm_codec.specs.Spelling.{PgmSpells, SpellsBack};
 ghost use Rattle.pgm_codec.specs.FirstFault.{PgmFault};
 ghost use Rattle.pgm_codec.specs.Reading.{GivesOrMemory, image_at};
 ghost use Rattle.pgm_codec.specs.Writing.{raw_text};
@@ -30,7 +30,8 @@ fn image(alloc: Global, text: &[u8]) -> Result<Image, PgmError>
     Ok(Image::over(Grid::from_cells(w, h, samples), maxval))
 }
 
-/// The image that a text spells: one file (Netpbm, pgm(5)), all of the text.
+/// The image that a text spells: one file (Netpbm, pgm(5)), all of the text. What is read is spelled so, and what is
+/// spelled so is read, unless memory runs out.
 ///
 /// A header is the magic, `P2` for a plain raster or `P5` for a raw one, and width, height and maxval in
 /// decimal, leading zeros accepted. Before each number stands a whitespace byte (blank, TAB, CR or LF),
@@ -46,11 +47,8 @@ fn image(alloc: Global, text: &[u8]) -> Result<Image, PgmError>
 /// maxval, P8 for a byte that is no part of a plain sample, P9 for what follows the last one. P10 may stand
 /// in place of any answer.
 pub fn read(alloc: Global, text: &[u8]) -> Result<Image, PgmError>
-    // What is read is spelled so.
     ensures found { IfOk result (λ image. PgmSpells text.now image) }
-    // What is spelled so is read, unless memory runs out.
     ensures only { (image : Graymap) → PgmSpells text.now image → (result ≡ Ok image) ⊎ IsErrOf result errors.Memory }
-    // A refusal is the fault of the text, the first one, and never a device's.
     ensures device { IsErrOf result errors.Device → ⊥ }
     ensures fault { IfErr result (λ e. (e ≡ errors.Memory) ⊎ PgmFault text.now e) }
 {
@@ -79,13 +77,11 @@ pub fn every_text()
 /// The raw file of each image, as [`write_raw`](crate::write_raw) gives it, spells that image and no
 /// other. So reading gives back what was written.
 pub fn raw_text_is_read()
-    ensures spelled { (image : Graymap) → IsGraymap image → PgmSpells (raw_text image) image }
-    ensures only { (image other : Graymap) → IsGraymap image → PgmSpells (raw_text image) other → other ≡ image }
+    ensures { SpellsBack raw_text }
 {}
 
 /// The plain file of each image, as [`write_plain`](crate::write_plain) gives it, spells that image and no
 /// other. So reading gives back what was written.
 pub fn plain_text_is_read()
-    ensures spelled { (image : Graymap) → IsGraymap image → PgmSpells (plain_text image) image }
-    ensures only { (image other : Graymap) → IsGraymap image → PgmSpells (plain_text image) other → other ≡ image }
+    ensures { SpellsBack plain_text }
 {}

@@ -6,7 +6,7 @@ ghost use Rattle.pgm_codec.specs.Writing.{sample_bytes, sample_len, raw_header, 
 
 use crate::error::PgmError;
 use crate::image::Image;
-use std::alloc::Global;
+use std::alloc::{AllocError, Global};
 
 // Writes samples of one byte each behind the first `at` bytes.
 fn put_narrow(out: &mut [u8], at: usize, maxval: u16, samples: &[u32])
@@ -55,12 +55,11 @@ pub fn put_samples(out: &mut [u8], at: usize, maxval: u16, samples: &[u32])
 }
 
 // The header of the raw file.
-fn header(alloc: Global, image: &Image) -> Result<String, PgmError>
-    ensures text { IfOk result (λ t. string_bytes t ≡ raw_header image.now) }
-    ensures only_memory { IsOkUnless result errors.Memory }
+fn header(alloc: Global, image: &Image) -> Result<String, AllocError>
+    ensures { IfOk result (λ t. string_bytes t ≡ raw_header image.now) }
 {
     let (width, height, maxval) = (image.width(), image.height(), image.maxval());
-    Ok(format!(in alloc; "P5\n{width} {height}\n{maxval}\n")?)
+    format!(in alloc; "P5\n{width} {height}\n{maxval}\n")
 }
 
 /// The raw file of an image, its text: `P5`, LF, width, blank, height, LF, maxval, LF, and the

@@ -13,7 +13,10 @@ copy_columns-requires c =
     (record { width = c.width-w.result; height = c.height-h.result; cells = c.in_ok-cells.cells.items })
     c.width-w.ensures.value c.height-h.ensures.value zeros)
 
-pub returns-clause-border : goal.returns-clause-border
-returns-clause-border c =
-    whole_border c.args.grid.now c.copy_columns.new.border c.copy_rows.new.border c.copy_columns.ensures.columns
-    c.copy_rows.ensures.kept c.copy_rows.ensures.rows
+pub returns : goal.returns
+returns c = record {
+  part = c.copy_rows.ensures.part;
+  border =
+      whole_border c.args.grid.now c.copy_columns.new.border c.copy_rows.new.border c.copy_columns.ensures.copied
+      c.copy_rows.ensures.kept c.copy_rows.ensures.copied;
+}

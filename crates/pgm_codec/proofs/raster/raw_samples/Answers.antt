@@ -60,9 +60,14 @@ returns-clause-read c =
     ∙ ap (λ (n : ℕ). Ok (samples, drop (c.min-whole.result * n) c.args.text.now)) (sym c.sample_width-width.ensures)
     ∙ ap (λ (t : List ℕ). Ok (samples, t)) (sym (take_rest c.args.text.now behind))
 
-pub returns-clause-range : goal.returns-clause-range
-returns-clause-range c =
+pub returns-clause-made : goal.returns-clause-made
+returns-clause-made c =
     let m = c.args.maxval in
     let small : m ≤ max_maxval = omega (arith, c.ranges.maxval.fits) in
-    all_within m small c.in_ok-samples.samples.items
-    (ap (list_any (λ s. nat_lt m s)) (sym c.deref.ensures.value) ∙ sym c.is_any_above.ensures ∙ c.if-is_any_above.false)
+    let whole : c.args.count ≤ c.min-whole.result = c.if-whole-count.false in
+    record {
+      length = omega (arith, c.in_ok-samples.ensures.length, c.min-whole.ensures, whole);
+      range = all_within m small c.in_ok-samples.samples.items
+          (ap (list_any (λ s. nat_lt m s)) (sym c.deref.ensures.value) ∙ sym c.is_any_above.ensures
+          ∙ c.if-is_any_above.false);
+    }
