@@ -27,6 +27,3 @@ mod words;
 
 pub use error::EditError;
 pub use text::{one_meaning, parse};
-
-#[cfg(test)]
-mod tests;

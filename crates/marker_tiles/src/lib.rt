@@ -38,6 +38,3 @@ mod windows;
 pub use error::MarkersError;
 pub use from_state::marker;
 pub use mask_and_marker::Markers;
-
-#[cfg(test)]
-mod tests;

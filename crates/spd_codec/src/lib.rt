@@ -6,8 +6,8 @@
 //! first fault of the bytes, an [`SpdError`]. There are two versions of the format, told apart by their magic;
 //! both are read.
 //!
-//! [`encode`] writes the second version. A frame has at most [`MAX_BYTES`] bytes; a state that may be longer is kept as a
-//! state file, its pieces one after another ([`write_frames`], [`read_frames`]):
+//! [`encode`] writes the second version. A frame has at most [`MAX_BYTES`] bytes; a state that may be longer is kept
+//! as a state file, its pieces one after another ([`write_frames`], [`read_frames`]):
 //!
 //! ```text
 //! let print = print_of(&image);
@@ -44,10 +44,3 @@ pub use state_file::{
 };
 pub use version::Version;
 pub use writing::{MAX_BYTES, encode};
-
-#[cfg(test)]
-mod decoding_tests;
-#[cfg(test)]
-mod file_tests;
-#[cfg(test)]
-mod print_tests;

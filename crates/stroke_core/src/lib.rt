@@ -33,6 +33,3 @@ pub use run::Run;
 pub use span::Span;
 pub use stroke::{MAX_LEVEL, MAX_RADIUS, MAX_RUNS, Stroke, one_refusal, spans_cover};
 pub use tag::{Tag, text_parses_back};
-
-#[cfg(test)]
-mod tests;

@@ -50,6 +50,3 @@ pub use laws::{
 pub use live::Live;
 pub use split::{HEAD_BYTES, MIN_PIECE_BYTES, TOMBSTONE_BYTES};
 pub use state::{Delta, State};
-
-#[cfg(test)]
-mod tests;

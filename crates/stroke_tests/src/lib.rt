@@ -3,3 +3,30 @@
 //! crates.
 //!
 //! They stand in a crate of their own because tests are proved safe as well: a crate with tests is proved twice.
+
+#[cfg(test)]
+mod decoding;
+#[cfg(test)]
+mod edits;
+#[cfg(test)]
+mod files;
+#[cfg(test)]
+mod kept_markers;
+#[cfg(test)]
+mod markers;
+#[cfg(test)]
+mod merging;
+#[cfg(test)]
+mod pieces;
+#[cfg(test)]
+mod prints;
+#[cfg(test)]
+mod scene;
+#[cfg(test)]
+mod set;
+#[cfg(test)]
+mod spans;
+#[cfg(test)]
+mod strokes;
+#[cfg(test)]
+mod tags;

@@ -2,8 +2,8 @@
 
 ghost use Rattle.grid_core.specs.Tiles.{IsTileSide};
 
-use crate::{Markers, marker};
 use grid_core::{Grid, Pixel, Tiling};
+use marker_tiles::{Markers, MarkersError, marker};
 use std::alloc::Global;
 use std::marker::Model;
 use std::test::Fail;
@@ -58,11 +58,9 @@ impl Scene {
         &self.state
     }
 
-    /// The kept marker, without the rest.
-    pub fn into_marker(self) -> Grid {
-        let Scene { markers, .. } = self;
-        let (_, marker) = markers.into_grids();
-        marker
+    /// Whether the kept marker has these cells.
+    pub fn has(&self, cells: &[u32]) -> bool {
+        self.markers.marker().cells() == cells
     }
 
     /// The marker at a pixel, if the mask has it.
@@ -75,13 +73,19 @@ impl Scene {
         }
     }
 
-    /// The marker on a tile.
-    pub fn tile(&self, alloc: Global, tile: usize) -> Result<Grid, Fail> {
-        if tile < self.markers.tiling().count() {
-            Ok(self.markers.tile(alloc, tile)?)
-        } else {
-            Err(Fail::new("there is no such tile"))
+    /// Whether the marker on a tile has this width and these cells.
+    pub fn has_tile(
+        &self,
+        alloc: Global,
+        tile: usize,
+        width: u32,
+        cells: &[u32],
+    ) -> Result<bool, MarkersError> {
+        if tile >= self.markers.tiling().count() {
+            return Ok(false);
         }
+        let part = self.markers.tile(alloc, tile)?;
+        Ok(part.width() == width && part.cells() == cells)
     }
 
     /// Whether the kept marker is the one made anew.

@@ -2,12 +2,14 @@
 
 ghost use Rattle.std.specs.Prelude.{◌<◌};
 
-use crate::tests::scene::Scene;
-use crate::{Markers, MarkersError};
+use crate::scene::Scene;
+use crate::set::{Step, delta_of, disc, place_run};
+use crate::strokes::{line, run};
 use grid_core::{Grid, Tiling};
+use marker_tiles::{Markers, MarkersError};
 use std::alloc::Global;
 use std::test::Fail;
-use stroke_core::{Run, Stroke, Tag};
+use stroke_core::{RefusedRuns, Stroke, StrokeError, Tag};
 use stroke_lattice::State;
 
 const WIDTH: u32 = 21;
@@ -35,32 +37,23 @@ fn some_mask(alloc: Global, seed: &mut u64) -> Result<Grid, Fail> {
 }
 
 // A stroke of two runs.
-fn some_runs(alloc: Global, seed: &mut u64) -> Result<Stroke, Fail> {
+fn some_runs(alloc: Global, seed: &mut u64) -> Result<Stroke, RefusedRuns> {
     let level = 1 + draw(seed, 11);
     let y = draw(seed, HEIGHT - 1) as u16;
     let upper = draw(seed, WIDTH - 4) as u16;
     let lower = draw(seed, WIDTH - 7) as u16;
-    let runs = vec![in alloc;
-        Run {
-            y,
-            x0: upper,
-            x1: upper + draw(seed, 4) as u16
-        },
-        Run {
-            y: y + 1,
-            x0: lower,
-            x1: lower + draw(seed, 7) as u16
-        },
-    ]?;
-    Ok(Stroke::new(level, runs)?)
+    let upper_end = upper + draw(seed, 4) as u16;
+    let lower_end = lower + draw(seed, 7) as u16;
+    let runs = [run(y, upper, upper_end), run(y + 1, lower, lower_end)];
+    line(alloc, level, &runs)
 }
 
 // A disc, which may reach beyond the borders.
-fn some_disc(seed: &mut u64) -> Result<Stroke, Fail> {
+fn some_disc(seed: &mut u64) -> Result<Stroke, StrokeError> {
     let level = 1 + draw(seed, 11);
     let x = draw(seed, WIDTH) as u16;
     let y = draw(seed, HEIGHT) as u16;
-    Ok(Stroke::disc(level, x, y, draw(seed, 6))?)
+    Stroke::disc(level, x, y, draw(seed, 6))
 }
 
 // A stroke or a tombstone under one of ten tags.
@@ -85,16 +78,22 @@ fn some_merge(alloc: Global, seed: &mut u64) -> Result<State, Fail> {
     Ok(delta)
 }
 
+// The scene after a merge, if the states do not clash.
+fn merged(alloc: Global, scene: Scene, seed: &mut u64) -> Result<Scene, Fail> {
+    let delta = some_merge(alloc, seed)?;
+    match scene.state().clash(&delta) {
+        None => scene.merged(alloc, &delta),
+        Some(_) => Ok(scene),
+    }
+}
+
 // Whether the kept marker is the one made anew after each of thirty merges.
 fn is_kept(alloc: Global, mask: &Grid, seed: &mut u64) -> Result<bool, Fail> {
     let mut scene = Scene::open(alloc, mask, 8)?;
     for _ in 0..30 {
-        let delta = some_merge(alloc, seed)?;
-        if scene.state().clash(&delta).is_none() {
-            scene = scene.merged(alloc, &delta)?;
-            if !scene.is_right(alloc)? {
-                return Ok(false);
-            }
+        scene = merged(alloc, scene, seed)?;
+        if !scene.is_right(alloc)? {
+            return Ok(false);
         }
     }
     Ok(true)
@@ -111,35 +110,18 @@ fn kept_markers_are_those_made_anew(rt: HostRuntime) -> Result<(), Fail> {
     Ok(())
 }
 
-// A change of a state: a stroke of one run on the row 0, or a withdrawal.
-#[derive(Clone, Copy)]
-enum Step {
-    Place {
-        tag: u128,
-        level: u32,
-        x0: u16,
-        x1: u16,
-    },
-    Withdraw(u128),
-}
-
-fn delta_of(alloc: Global, step: Step) -> Result<State, Fail> {
-    match step {
-        Step::Place { tag, level, x0, x1 } => {
-            let stroke = Stroke::new(level, vec![in alloc; Run { y: 0, x0, x1 }]?)?;
-            Ok(State::placed(alloc, Tag(tag), stroke)?)
-        }
-        Step::Withdraw(tag) => Ok(State::withdrawn(alloc, Tag(tag))?),
-    }
-}
-
-// The kept marker on a mask of one row, after these steps.
-fn kept(alloc: Global, mask: &Grid, steps: &[Step]) -> Result<Vec<u32>, Fail> {
+// The scene on a mask after these steps.
+fn scene_of(alloc: Global, mask: &Grid, steps: &[Step]) -> Result<Scene, Fail> {
     let mut scene = Scene::open(alloc, mask, 8)?;
     for step in steps {
         scene = scene.merged(alloc, &delta_of(alloc, *step)?)?;
     }
-    Ok(scene.into_marker().into_cells())
+    Ok(scene)
+}
+
+// Whether the marker that is kept on the mask through these steps has these cells.
+fn keeps(alloc: Global, mask: &Grid, steps: &[Step], cells: &[u32]) -> Result<bool, Fail> {
+    Ok(scene_of(alloc, mask, steps)?.has(cells))
 }
 
 #[test]
@@ -147,30 +129,13 @@ fn a_second_stroke_under_a_withdrawn_one_stays(rt: HostRuntime) -> Result<(), Fa
     let alloc = rt.alloc();
     let mask = Grid::from_cells(6, 1, [9, 2, 9, 9, 9, 9].to_vec(alloc)?);
     let steps = [
-        Step::Place {
-            tag: 1,
-            level: 3,
-            x0: 0,
-            x1: 3,
-        },
-        Step::Place {
-            tag: 2,
-            level: 5,
-            x0: 1,
-            x1: 4,
-        },
-        Step::Place {
-            tag: 3,
-            level: 4,
-            x0: 2,
-            x1: 2,
-        },
+        place_run(1, 3, 0, 3),
+        place_run(2, 5, 1, 4),
+        place_run(3, 4, 2, 2),
         Step::Withdraw(2),
     ];
-    let all = kept(alloc, &mask, &steps[..3])?;
-    assert_eq!(rt; all.as_slice(), [3, 2, 5, 5, 5, 0].as_slice());
-    let two = kept(alloc, &mask, &steps)?;
-    assert_eq!(rt; two.as_slice(), [3, 2, 4, 3, 0, 0].as_slice());
+    assert!(rt; keeps(alloc, &mask, &steps[..3], &[3, 2, 5, 5, 5, 0])?);
+    assert!(rt; keeps(alloc, &mask, &steps, &[3, 2, 4, 3, 0, 0])?);
     Ok(())
 }
 
@@ -180,85 +145,79 @@ fn a_tombstone_before_its_stroke_keeps_it_away(rt: HostRuntime) -> Result<(), Fa
     let mask = Grid::from_cells(4, 1, [9, 9, 9, 9].to_vec(alloc)?);
     let steps = [
         Step::Withdraw(1),
-        Step::Place {
-            tag: 2,
-            level: 3,
-            x0: 0,
-            x1: 1,
-        },
-        Step::Place {
-            tag: 1,
-            level: 7,
-            x0: 1,
-            x1: 2,
-        },
+        place_run(2, 3, 0, 1),
+        place_run(1, 7, 1, 2),
     ];
-    let marker = kept(alloc, &mask, &steps)?;
-    assert_eq!(rt; marker.as_slice(), [3, 3, 0, 0].as_slice());
+    assert!(rt; keeps(alloc, &mask, &steps, &[3, 3, 0, 0])?);
     Ok(())
 }
 
 // A disc near the right and lower edges of a mask of 10 columns and 9 rows.
 fn disc_in_a_corner(alloc: Global) -> Result<Scene, Fail> {
     let mask = Grid::new(alloc, 10, 9, 9)?;
-    let disc = State::placed(alloc, Tag(1), Stroke::disc(6, 8, 7, 1)?)?;
-    Scene::open(alloc, &mask, 8)?.merged(alloc, &disc)
+    scene_of(alloc, &mask, &[disc(1, 6, 8, 7, 1)])
 }
 
-// Whether the marker on the tile has this width and these values.
-fn is_tile(
-    alloc: Global,
-    scene: &Scene,
-    tile: usize,
-    width: u32,
-    cells: &[u32],
-) -> Result<bool, Fail> {
-    let part = scene.tile(alloc, tile)?;
-    Ok(part.width() == width && part.cells() == cells)
+// Whether the marker of that scene has this width and these cells on a tile.
+fn corner_has(alloc: Global, tile: usize, width: u32, cells: &[u32]) -> Result<bool, Fail> {
+    Ok(disc_in_a_corner(alloc)?.has_tile(alloc, tile, width, cells)?)
 }
 
 #[test]
 fn tiles_are_cut_at_the_right_and_lower_edges(rt: HostRuntime) -> Result<(), Fail> {
     let alloc = rt.alloc();
-    let scene = disc_in_a_corner(alloc)?;
     let right = [
         0, 0, 0, 0, 0, 0, 0, 0, 0, 0, 0, 0, //
         6, 0, //
         6, 6,
     ];
-    assert!(rt; is_tile(alloc, &scene, 1, 2, &right)?);
-    assert!(rt; is_tile(alloc, &scene, 2, 8, &[0; 8])?);
-    assert!(rt; is_tile(alloc, &scene, 3, 2, &[6, 0])?);
+    assert!(rt; corner_has(alloc, 1, 2, &right)?);
+    assert!(rt; corner_has(alloc, 2, 8, &[0; 8])?);
+    assert!(rt; corner_has(alloc, 3, 2, &[6, 0])?);
     Ok(())
+}
+
+// Whether the scene's marker has these values at these pixels, and none where the mask has no pixel.
+fn has_at(scene: &Scene, values: &[(u32, u32, Option<u32>)]) -> bool {
+    values.iter().all(|v| scene.at(v.0, v.1) == v.2)
 }
 
 #[test]
 fn a_pixel_is_read_by_itself(rt: HostRuntime) -> Result<(), Fail> {
-    let scene = disc_in_a_corner(rt.alloc())?;
-    assert_eq!(rt; scene.at(9, 7), Some(6));
-    assert_eq!(rt; scene.at(9, 8), Some(0));
-    assert_eq!(rt; scene.at(10, 7), None);
+    let values = [(9, 7, Some(6)), (9, 8, Some(0)), (10, 7, None)];
+    assert!(rt; has_at(&disc_in_a_corner(rt.alloc())?, &values));
     Ok(())
+}
+
+// Whether the markers have this mask and this tiling, and give the mask back with a marker of zeros.
+fn gives_back(markers: Markers, mask: &[u32], tiling: Tiling) -> bool {
+    if markers.mask().cells() != mask || markers.tiling() != tiling {
+        return false;
+    }
+    let (given, marker) = markers.into_grids();
+    given.cells() == mask && marker.cells() == [0; 3].as_slice()
+}
+
+// Whether markers over a mask of one row of these cells have it, and give it back.
+fn is_given_back(alloc: Global, cells: [u32; 3]) -> Result<bool, Fail> {
+    let tiling = Tiling::new(3, 1, 8)?;
+    let mask = Grid::from_cells(3, 1, cells.to_vec(alloc)?);
+    match Markers::over(alloc, mask, tiling) {
+        Ok(markers) => Ok(gives_back(markers, &cells, tiling)),
+        Err((_, why)) => Err(Fail::new(why)),
+    }
 }
 
 #[test]
 fn the_mask_is_taken_over_and_given_back(rt: HostRuntime) -> Result<(), Fail> {
-    let alloc = rt.alloc();
-    let mask = Grid::from_cells(3, 1, [4, 7, 1].to_vec(alloc)?);
-    let tiling = Tiling::new(3, 1, 8)?;
-    let markers = Markers::over(alloc, mask, tiling).map_err(|(_, why)| why)?;
-    assert_eq!(rt; markers.mask().cells(), [4, 7, 1].as_slice());
-    assert_eq!(rt; markers.tiling(), tiling);
-    let (mask, marker) = markers.into_grids();
-    assert_eq!(rt; mask.cells(), [4, 7, 1].as_slice());
-    assert_eq!(rt; marker.cells(), [0; 3].as_slice());
+    assert!(rt; is_given_back(rt.alloc(), [4, 7, 1])?);
     Ok(())
 }
 
 #[test]
 fn want_of_memory_is_told_by_its_code(rt: HostRuntime) -> Result<(), Fail> {
-    assert_eq!(rt; MarkersError::Memory.code(), "K1");
     let text = format!(in rt.alloc(); "{}", MarkersError::Memory)?;
-    assert_eq!(rt; text.as_str(), "K1: out of memory");
+    assert!(rt; MarkersError::Memory.code() == "K1");
+    assert!(rt; text.as_str() == "K1: out of memory");
     Ok(())
 }
