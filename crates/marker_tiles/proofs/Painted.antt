@@ -79,7 +79,8 @@ row_before width x y row inside before =
 -- cells led over between two places of one row
 module _ (y first end from to : ℕ) (brush : Brush) (mask old new : Raster) (size : IsOfSize mask old)
     (columns : end ≤ mask.width) (from_is : from ≡ y * mask.width + first) (to_is : to ≡ y * mask.width + end)
-    (cells : AreCellsChanged from to (brushed_cells brush mask old) old new) (p : Pixel) (inside : IsInside mask.width mask.height p) where
+    (cells : AreCellsChanged from to (brushed_cells brush mask old) old new) (p : Pixel)
+    (inside : IsInside mask.width mask.height p) where
   old_at : value_at old p ≡ slice_index old.cells (index_of mask.width p)
   old_at = ap (λ w. slice_index old.cells (index_of w p)) size.width
 

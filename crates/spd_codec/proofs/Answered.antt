@@ -8,19 +8,21 @@ use Rattle.spd_codec.specs.Spelling.{max_bytes, Spells}
 use Rattle.spd_codec.specs.Faults.{IsFault}
 use Rattle.spd_codec.specs.Reading.{GivesOrMemory, frame_at}
 use Rattle.spd_codec.proofs.Fields.{IsBytes}
-use Rattle.spd_codec.proofs.Steps.{ok_is, err_is, done, failed}
+use Rattle.spd_codec.proofs.Steps.{ok_is, err_is, done, failed, no_error}
 use Rattle.spd_codec.proofs.FaultKinds.{too_many}
 use Rattle.spd_codec.proofs.Frames.{found, refused}
 use Rattle.spd_codec.proofs.FrameLaws.{again}
 
 -- what is found is spelled
-pub is_found : (bytes : List ℕ) (r : Result Frame SpdError) → IsBytes bytes → GivesOrMemory (λ frame. frame) r (frame_at bytes)
+pub is_found : (bytes : List ℕ) (r : Result Frame SpdError) → IsBytes bytes
+    → GivesOrMemory (λ frame. frame) r (frame_at bytes)
     → IfOk r (λ frame. Spells bytes frame.conn frame.print frame.delta)
 is_found bytes (Ok frame) small given = found bytes frame small given
 is_found bytes (Err e) small given = tt
 
 -- what is refused has the fault
-pub is_refused : (bytes : List ℕ) (r : Result Frame SpdError) → IsBytes bytes → GivesOrMemory (λ frame. frame) r (frame_at bytes)
+pub is_refused : (bytes : List ℕ) (r : Result Frame SpdError) → IsBytes bytes
+    → GivesOrMemory (λ frame. frame) r (frame_at bytes)
     → IfErr r (λ e. (e ≡ errors.Memory) ⊎ IsFault bytes e)
 is_refused bytes (Ok frame) small given = tt
 is_refused bytes (Err e) small (inl memory) = inl memory
@@ -35,13 +37,10 @@ is_too_long bytes (Err e) small (inl memory) is =
 is_too_long bytes (Err e) small (inr given) is = too_many bytes
     (subst (IsFault bytes) (err_is {A = Frame} e errors.TooLong is) (refused bytes e small given))
 
--- a value is no fault
-no_error : {A : Type 0} (x : A) (e : SpdError) → done x ≡ failed e → ⊥
-no_error x e h = absurd cc
-
 -- what is spelled is found
 pub is_only : (bytes : List ℕ) (r : Result Frame SpdError) → GivesOrMemory (λ frame. frame) r (frame_at bytes)
     → (frame : Frame) → Spells bytes frame.conn frame.print frame.delta → (r ≡ Ok frame) ⊎ IsErrOf r errors.Memory
-is_only bytes (Ok other) given frame h = inl (ap (λ (f : Frame). done f) (ok_is other frame (sym given ∙ again bytes frame h)))
+is_only bytes (Ok other) given frame h =
+    inl (ap (λ (f : Frame). done f) (ok_is other frame (sym given ∙ again bytes frame h)))
 is_only bytes (Err e) (inl memory) frame h = inr (ap (λ (d : SpdError). failed {A = Frame} d) memory)
 is_only bytes (Err e) (inr given) frame h = absurd (no_error frame e (sym (again bytes frame h) ∙ given))

@@ -13,10 +13,13 @@ use Rattle.spd_codec.specs.declared.version.Version.TheVariants.{First, Second}
 use Rattle.spd_codec.specs.declared.version.Kind.{Kind}
 use Rattle.spd_codec.specs.declared.version.Kind.TheVariants as kinds
 use Rattle.spd_codec.specs.Spelling.{max_bytes}
-use Rattle.spd_codec.specs.Faults.{Field, FieldFault, FaultIn, ManyFault, unless, IsFault, too_long, in_frame, FrameFault}
+use Rattle.spd_codec.specs.Faults.{Field, FieldFault, FaultIn, ManyFault, unless, IsFault, too_long, in_frame}
+use Rattle.spd_codec.specs.Faults.{FrameFault}
 use Rattle.spd_codec.specs.Faults.{FieldsFault, DeltaFault, StrokeFault, KindFault, SeedFault, ShapeFault}
-use Rattle.spd_codec.specs.Faults.{MagicFault, EndFault, FaultFrom, StartsGood, StartsKind, StartsStroke, StartsStrokes, StartsMagic}
-use Rattle.spd_codec.specs.Faults.{StartsConn, StartsFields, tag_field, run_field, count_field, number_field, radius_field}
+use Rattle.spd_codec.specs.Faults.{MagicFault, EndFault, FaultFrom, StartsGood, StartsKind, StartsStroke, StartsStrokes}
+use Rattle.spd_codec.specs.Faults.{StartsMagic}
+use Rattle.spd_codec.specs.Faults.{StartsConn, StartsFields, tag_field, run_field, count_field, number_field}
+use Rattle.spd_codec.specs.Faults.{radius_field}
 use Rattle.spd_codec.specs.Faults.{level_field, kind_field, magic_field, version_field, conn_field, print_field}
 
 -- whether a field may have this fault: all but two
@@ -43,7 +46,8 @@ unless_real true d e real h = absurd cc
 unless_real false d e real h = ap of_field (sym (some_is d e h)) ∙ real
 
 -- the faults of a field
-real_field : {X : Type 0} (field : Field X) → ((x : X) (e : SpdError) → field.fault x ≡ Some e → IsReal e) → AreReal (FieldFault field)
+real_field : {X : Type 0} (field : Field X) → ((x : X) (e : SpdError) → field.fault x ≡ Some e → IsReal e)
+    → AreReal (FieldFault field)
 real_field field judged text e (inl h) = ap of_field h.1
 real_field field judged text e (inr h) = judged h.0 e h.3
 
@@ -52,7 +56,8 @@ none_wrong : (e : SpdError) → None ≡ Some e → IsReal e
 none_wrong e h = absurd cc
 
 -- the faults of a part, and of what is behind it
-real_in : {X : Type 0} {Fault : List ℕ → SpdError → Type 0} (Begins : List ℕ → X → List ℕ → Type 0) {Next : X → List ℕ → SpdError → Type 0}
+real_in : {X : Type 0} {Fault : List ℕ → SpdError → Type 0} (Begins : List ℕ → X → List ℕ → Type 0) {Next : X → List ℕ
+    → SpdError → Type 0}
     → AreReal Fault → ((x : X) → AreReal (Next x)) → AreReal (FaultIn Fault Begins Next)
 real_in Begins a b text e (inl h) = a text e h
 real_in Begins a b text e (inr h) = b h.0 h.1 e h.3
@@ -64,8 +69,10 @@ real_from : {X : Type 0} (field : Field X) {Next : X → List ℕ → SpdError �
 real_from field judged b = real_in (StartsGood field) (real_field field judged) b
 
 -- the faults of so many
-real_many : {X K : Type 0} (key : X → K) (Begins : Option K → List ℕ → X → List ℕ → Type 0) (Fault : Option K → List ℕ → SpdError → Type 0)
-    → ((before : Option K) → AreReal (Fault before)) → (count : ℕ) (before : Option K) → AreReal (ManyFault key Begins Fault count before)
+real_many : {X K : Type 0} (key : X → K) (Begins : Option K → List ℕ → X → List ℕ → Type 0) (Fault : Option K → List ℕ
+    → SpdError → Type 0)
+    → ((before : Option K) → AreReal (Fault before)) → (count : ℕ) (before : Option K)
+    → AreReal (ManyFault key Begins Fault count before)
 real_many key Begins Fault each zero before text e h = absurd h
 real_many key Begins Fault each (suc count) before text e (inl h) = each before text e h
 real_many key Begins Fault each (suc count) before text e (inr h) =
@@ -88,7 +95,8 @@ stroke_real : (w : StrokeError) → IsReal (errors.BadStroke w)
 stroke_real w = refl
 
 -- the faults of a number of runs
-count_real : (a b : Bool) (e : SpdError) → cond a (Some (errors.BadStroke why.NoRuns)) (unless b (errors.BadStroke why.TooManyRuns)) ≡ Some e → IsReal e
+count_real : (a b : Bool) (e : SpdError)
+    → cond a (Some (errors.BadStroke why.NoRuns)) (unless b (errors.BadStroke why.TooManyRuns)) ≡ Some e → IsReal e
 count_real true b e h = ap of_field (sym (some_is (errors.BadStroke why.NoRuns) e h))
 count_real false b e h = unless_real b (errors.BadStroke why.TooManyRuns) e (stroke_real why.TooManyRuns) h
 
@@ -98,20 +106,24 @@ real_tag before = real_field (tag_field before) (λ tag e h. unless_real _ error
 
 -- of a run
 real_run : (before : Option Run) → AreReal (FieldFault (run_field before))
-real_run before = real_field (run_field before) (λ run e h. unless_real _ (errors.BadStroke why.RunOrder) e (stroke_real why.RunOrder) h)
+real_run before = real_field (run_field before)
+    (λ run e h. unless_real _ (errors.BadStroke why.RunOrder) e (stroke_real why.RunOrder) h)
 
 -- of a shape
 real_shape : (kind : Kind) → AreReal (ShapeFault kind)
 real_shape kinds.Runs = real_from count_field (λ n e h. count_real (n == 0) (nat_le n max_runs) e h)
     (λ count. real_many (λ run. run) (λ before. StartsGood (run_field before)) (λ before. FieldFault (run_field before))
     real_run count None)
-real_shape kinds.Disc = real_from number_field (λ x e h. none_wrong e h) (λ x. real_from number_field (λ y e h. none_wrong e h)
-    (λ y. real_field radius_field (λ r e h. unless_real _ (errors.BadStroke why.BadRadius) e (stroke_real why.BadRadius) h)))
+real_shape kinds.Disc = real_from number_field (λ x e h. none_wrong e h)
+    (λ x. real_from number_field (λ y e h. none_wrong e h)
+    (λ y. real_field radius_field (λ r e h.
+    unless_real _ (errors.BadStroke why.BadRadius) e (stroke_real why.BadRadius) h)))
 
 -- of a level and a shape
 real_seed : (kind : Kind) → AreReal (SeedFault kind)
 real_seed kind = real_from level_field
-    (λ level e h. unless_real _ (errors.BadStroke why.BadLevel) e (stroke_real why.BadLevel) h) (λ level. real_shape kind)
+    (λ level e h. unless_real _ (errors.BadStroke why.BadLevel) e (stroke_real why.BadLevel) h)
+    (λ level. real_shape kind)
 
 -- of a kind
 real_kind : (version : Version) → AreReal (KindFault version)
@@ -138,7 +150,8 @@ real_magic = real_from (magic_field 83) (real_letter 83) (λ s. real_from (magic
 real_delta : (version : Version) (strokes tombstones : ℕ) → AreReal (DeltaFault version strokes tombstones)
 real_delta version strokes tombstones = real_in (StartsStrokes version strokes)
     (real_many (λ entry. entry.0) (StartsStroke version) (StrokeFault version) (real_stroke version) strokes None)
-    (λ entries. real_many (λ tag. tag) (λ before. StartsGood (tag_field before)) (λ before. FieldFault (tag_field before))
+    (λ entries. real_many (λ tag. tag) (λ before. StartsGood (tag_field before))
+    (λ before. FieldFault (tag_field before))
     real_tag tombstones None)
 
 -- of the fields

@@ -1,5 +1,6 @@
 -- Reading state files frame by frame.
-use Rattle.std.proofs.Common.{◌≡◌, ℕ, zero, suc, nat_le, true, false, ◌+◌, ◌-◌, ◌*◌, ◌/◌, ◌%◌, ◌<◌, ◌≤◌, ◌^◌, List, [], ◌∷◌, ◌++◌, length, take, drop, slice_index, Fits, w8}
+use Rattle.std.proofs.Common.{◌≡◌, ℕ, zero, suc, nat_le, true, false, ◌+◌, ◌-◌, ◌*◌, ◌/◌, ◌%◌, ◌<◌, ◌≤◌, ◌^◌, List, []}
+use Rattle.std.proofs.Common.{◌∷◌, ◌++◌, length, take, drop, slice_index, Fits, w8}
 use Rattle.std.proofs.Common.{refl, sym, ap, subst, ◌∙◌, ◌⊎◌, inl, inr, append_assoc, arith}
 use Rattle.std.specs.Int.{w16, from_be_bytes}
 use Rattle.std.specs.List.{AllByRecursion}
@@ -23,7 +24,8 @@ use Rattle.spd_codec.specs.StateFile.{too_long, cut_short, in_frame, IsNextFault
 -- bytes begin with one number of two bytes at most, and leave the same
 short_once : (m n : ℕ) (xs ys : List ℕ) → m < 2 ^ 16 → n < 2 ^ 16 → short m ++ xs ≡ short n ++ ys → (m ≡ n) × (xs ≡ ys)
 short_once m n xs ys small fits e = (
-  sym (from_be_bytes-to_be_bytes_2 m small) ∙ ap (from_be_bytes w16) (ap (take 2) e) ∙ from_be_bytes-to_be_bytes_2 n fits,
+  sym (from_be_bytes-to_be_bytes_2 m small) ∙ ap (from_be_bytes w16) (ap (take 2) e)
+      ∙ from_be_bytes-to_be_bytes_2 n fits,
   ap (drop 2) e,
 )
 
@@ -148,7 +150,8 @@ all_written conn print pieces done out enough text spell =
 module _ (one_frame : (text : List ℕ) (f g : Frame) → Spells text f.conn f.print f.delta
     → Spells text g.conn g.print g.delta → f ≡ g)
     (one_fault : (text : List ℕ) (d e : SpdError) → IsFault text d → IsFault text e → d ≡ e)
-    (no_fault : (text : List ℕ) (f : Frame) (e : SpdError) → Spells text f.conn f.print f.delta → IsFault text e → ⊥) where
+    (no_fault : (text : List ℕ) (f : Frame) (e : SpdError) → Spells text f.conn f.print f.delta → IsFault text e
+    → ⊥) where
   -- bytes begin with one frame at most
   one_start : (bytes : List ℕ) (f g : Frame) (r q : List ℕ) → StartsFrame bytes f r → StartsFrame bytes g q
       → (f ≡ g) × (r ≡ q)
@@ -164,14 +167,16 @@ module _ (one_frame : (text : List ℕ) (f g : Frame) → Spells text f.conn f.p
       (one_frame b.text f g (subst (λ (t : List ℕ). Spells t f.conn f.print f.delta) texts a.spells) b.spells, rests)
 
   -- and then they have no fault there
-  no_next_fault : (bytes : List ℕ) (f : Frame) (r : List ℕ) (e : SpdError) → StartsFrame bytes f r → IsNextFault bytes e → ⊥
+  no_next_fault : (bytes : List ℕ) (f : Frame) (r : List ℕ) (e : SpdError) → StartsFrame bytes f r → IsNextFault bytes e
+      → ⊥
   no_next_fault bytes f r e start (in_length one is) =
       let n = ap length (behind bytes f r start) in omega arith
   no_next_fault bytes f r e start (behind_length long rest small parts body) =
       let lengths = short_once (length start.text) long (start.text ++ r) rest (short_length bytes f r start) small
       (sym (behind bytes f r start) ∙ parts) in
       let text : take long rest ≡ start.text =
-      ap (take long) (sym lengths.1) ∙ ap (λ n. take n (start.text ++ r)) (sym lengths.0) ∙ take-append_seam start.text r in
+      ap (take long) (sym lengths.1) ∙ ap (λ n. take n (start.text ++ r)) (sym lengths.0)
+      ∙ take-append_seam start.text r in
       let within = start.spells.within in
       let room = ap length lengths.1 in
       elim body [
@@ -181,7 +186,8 @@ module _ (one_frame : (text : List ℕ) (f g : Frame) → Spells text f.conn f.p
             (subst (λ (t : List ℕ). IsFault t e) text fault)
       ]
 
-  one_body_fault : (long : ℕ) (bytes : List ℕ) (d e : SpdError) → IsBodyFault long bytes d → IsBodyFault long bytes e → d ≡ e
+  one_body_fault : (long : ℕ) (bytes : List ℕ) (d e : SpdError) → IsBodyFault long bytes d → IsBodyFault long bytes e
+      → d ≡ e
   one_body_fault long bytes d e (too_long much is) (too_long much' also) = is ∙ sym also
   one_body_fault long bytes d e (too_long much is) (cut_short little short also) = absurd (omega arith)
   one_body_fault long bytes d e (too_long much is) (in_frame little enough fault) = absurd (omega arith)
@@ -201,7 +207,8 @@ module _ (one_frame : (text : List ℕ) (f g : Frame) → Spells text f.conn f.p
       absurd (let n = ap length parts in omega arith)
   one_next_fault bytes d e (behind_length m xs small parts body) (behind_length n ys small' parts' other) =
       let same = short_once m n xs ys small small' (sym parts ∙ parts') in
-      one_body_fault n ys d e (subst (λ (t : List ℕ). IsBodyFault n t d) same.1 (subst (λ k. IsBodyFault k xs d) same.0 body)) other
+      one_body_fault n ys d e (subst (λ (t : List ℕ). IsBodyFault n t d) same.1
+      (subst (λ k. IsBodyFault k xs d) same.0 body)) other
 
   none_at_end : (e : SpdError) → IsNextFault [] e → ⊥
   none_at_end e (in_length one is) = omega arith
@@ -209,15 +216,18 @@ module _ (one_frame : (text : List ℕ) (f g : Frame) → Spells text f.conn f.p
 
   pub one_file : (fs gs : List Frame) (bytes : List ℕ) → SpellsFile bytes fs → SpellsFile bytes gs → fs ≡ gs
   one_file [] [] bytes a b = refl
-  one_file [] (g ∷ gs) bytes a (q, start, others) = absurd (not_empty g q (subst (λ (t : List ℕ). StartsFrame t g q) a start))
-  one_file (f ∷ fs) [] bytes (r, start, others) b = absurd (not_empty f r (subst (λ (t : List ℕ). StartsFrame t f r) b start))
+  one_file [] (g ∷ gs) bytes a (q, start, others) =
+      absurd (not_empty g q (subst (λ (t : List ℕ). StartsFrame t g q) a start))
+  one_file (f ∷ fs) [] bytes (r, start, others) b =
+      absurd (not_empty f r (subst (λ (t : List ℕ). StartsFrame t f r) b start))
   one_file (f ∷ fs) (g ∷ gs) bytes (r, a, left) (q, b, right) =
       let same = one_start bytes f g r q a b in
       let rest = one_file fs gs q (subst (λ (t : List ℕ). SpellsFile t fs) same.1 left) right in
       ap (λ (x : Frame). x ∷ fs) same.0 ∙ ap (λ (xs : List Frame). g ∷ xs) rest
 
   -- frames, and a fault behind others
-  both_ways : (fs gs : List Frame) (bytes before rest : List ℕ) (e : SpdError) → SpellsFile bytes fs → SpellsFile before gs
+  both_ways : (fs gs : List Frame) (bytes before rest : List ℕ) (e : SpdError) → SpellsFile bytes fs
+      → SpellsFile before gs
       → bytes ≡ before ++ rest → IsNextFault rest e → ⊥
   both_ways [] [] bytes before rest e a b parts fault =
       none_at_end e (subst (λ (t : List ℕ). IsNextFault t e) (sym (parts ∙ ap (λ (t : List ℕ). t ++ rest) b) ∙ a) fault)
@@ -322,7 +332,8 @@ module _ (every_text : (text : List ℕ) → AllByRecursion (λ b. b < 256) text
     → ((f : Frame) × Spells text f.conn f.print f.delta) ⊎ ((e : SpdError) × IsFault text e)) where
   -- behind a length
   body : (bytes : List ℕ) (long : ℕ) (rest : List ℕ) → long < 2 ^ 16 → bytes ≡ short long ++ rest
-      → AllByRecursion (λ b. b < 256) rest → (AllByRecursion (λ b. b < 256) (drop long rest) → HasMeaning (drop long rest))
+      → AllByRecursion (λ b. b < 256) rest
+      → (AllByRecursion (λ b. b < 256) (drop long rest) → HasMeaning (drop long rest))
       → HasMeaning bytes
   body bytes long rest small parts fit further = elim (at_most long max_bytes) [
     | inr much ↦ inr (
@@ -356,7 +367,8 @@ module _ (every_text : (text : List ℕ) → AllByRecursion (λ b. b < 256) text
     ]
   ]
 
-  each_within : (most : ℕ) (bytes : List ℕ) → length bytes ≤ most → AllByRecursion (λ b. b < 256) bytes → HasMeaning bytes
+  each_within : (most : ℕ) (bytes : List ℕ) → length bytes ≤ most → AllByRecursion (λ b. b < 256) bytes
+      → HasMeaning bytes
   each_within most [] within fit = inl ([], refl)
   each_within most (a ∷ []) within fit =
       inr (errors.Truncated, fault_at_once (a ∷ []) errors.Truncated (in_length refl refl))

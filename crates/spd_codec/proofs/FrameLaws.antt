@@ -1,5 +1,6 @@
 -- The laws of frames: one reader answers each text.
-use Rattle.std.proofs.Common.{◌≡◌, ◌⊎◌, ℕ, zero, suc, ◌^◌, ◌<◌, ◌≤◌, List, [], ◌∷◌, ◌++◌, length, Result, Ok, Err, refl, sym, ap, ◌∙◌, append_assoc, arith, inl, inr}
+use Rattle.std.proofs.Common.{◌≡◌, ◌⊎◌, ℕ, zero, suc, ◌^◌, ◌<◌, ◌≤◌, List, [], ◌∷◌, ◌++◌, length, Result, Ok, Err, refl}
+use Rattle.std.proofs.Common.{sym, ap, ◌∙◌, append_assoc, arith, inl, inr}
 use Rattle.std.specs.List.{flat_map, AllByRecursion}
 use Rattle.std.proofs.lemmas.Bool.{le-ltb, lt-ltb}
 use Rattle.std.proofs.lemmas.List.{append-nil, length-append}
@@ -8,15 +9,17 @@ use Rattle.stroke_lattice.specs.Pieces.{strokes_of, tombstones_of}
 use Rattle.spd_codec.specs.declared.error.SpdError.{SpdError}
 use Rattle.spd_codec.specs.declared.frame.Frame.{Frame}
 use Rattle.spd_codec.specs.declared.version.Version.{Version}
-use Rattle.spd_codec.specs.Spelling.{magic, conn_byte, short, tag_text, stroke_text, frame_text, StrokeFits, Spells, max_bytes}
+use Rattle.spd_codec.specs.Spelling.{magic, conn_byte, short, tag_text, stroke_text, frame_text, StrokeFits, Spells}
+use Rattle.spd_codec.specs.Spelling.{max_bytes}
 use Rattle.spd_codec.specs.Faults.{StartsFields, EndFault, IsFault, too_long, in_frame}
 use Rattle.spd_codec.specs.Reading.{end_at, frame_at}
 use Rattle.spd_codec.proofs.Fields.{IsBytes}
-use Rattle.spd_codec.proofs.Steps.{done, failed, ok_is, err_is}
+use Rattle.spd_codec.proofs.Steps.{failed, ok_is, err_is, no_error}
 use Rattle.spd_codec.proofs.Frames.{reads_fields, found, refused}
 
 -- each stroke has a byte, and so has each tombstone
-as_many_strokes : (version : Version) (entries : List (ℕ × Seed)) → length entries ≤ length (flat_map (stroke_text version) entries)
+as_many_strokes : (version : Version) (entries : List (ℕ × Seed))
+    → length entries ≤ length (flat_map (stroke_text version) entries)
 as_many_strokes version [] = omega arith
 as_many_strokes version (entry ∷ entries) =
     let rest = as_many_strokes version entries in
@@ -33,22 +36,26 @@ as_many_tags (tag ∷ tags) =
     omega (arith, rest, both)
 
 -- a frame is longer than its strokes and its tombstones
-frame_is_longer : (front strokes tags : List ℕ) → (length strokes ≤ length (front ++ strokes ++ tags)) × (length tags ≤ length (front ++ strokes ++ tags))
+frame_is_longer : (front strokes tags : List ℕ)
+    → (length strokes ≤ length (front ++ strokes ++ tags)) × (length tags ≤ length (front ++ strokes ++ tags))
 frame_is_longer front strokes tags =
     let a = length-append (front ++ strokes) tags in
     let b = length-append front strokes in
     (omega (arith, a, b), omega (arith, a, b))
 
 -- what spells a frame begins with its fields, and nothing follows
-pub fields_of_spelled : (bytes : List ℕ) (frame : Frame) → Spells bytes frame.conn frame.print frame.delta → StartsFields bytes frame []
+pub fields_of_spelled : (bytes : List ℕ) (frame : Frame) → Spells bytes frame.conn frame.print frame.delta
+    → StartsFields bytes frame []
 unfolding frame_text
 fields_of_spelled bytes frame h =
     let version = h.version in
     let entries = strokes_of frame.delta in
     let tags = tombstones_of frame.delta in
-    let front = magic version ++ conn_byte frame.conn ∷ [] ++ frame.print ++ short (length entries) ++ short (length tags) in
+    let front = magic version ++ conn_byte frame.conn ∷ [] ++ frame.print ++ short (length entries) ++ short
+    (length tags) in
     let long = frame_is_longer front (flat_map (stroke_text version) entries) (flat_map tag_text tags) in
-    let len : length bytes ≡ length (front ++ flat_map (stroke_text version) entries ++ flat_map tag_text tags) = ap length h.text in
+    let len : length bytes ≡ length (front ++ flat_map (stroke_text version) entries ++ flat_map tag_text tags) =
+    ap length h.text in
     let within = h.within in
     let strokes = as_many_strokes version entries in
     let tombstones = as_many_tags tags in
@@ -63,7 +70,8 @@ fields_of_spelled bytes frame h =
     }
 
 -- what spells a frame is read
-pub again : (bytes : List ℕ) (frame : Frame) → Spells bytes frame.conn frame.print frame.delta → frame_at bytes ≡ Ok frame
+pub again : (bytes : List ℕ) (frame : Frame) → Spells bytes frame.conn frame.print frame.delta
+    → frame_at bytes ≡ Ok frame
 unfolding frame_at end_at
 again bytes frame h =
     let read = reads_fields.again bytes frame [] (fields_of_spelled bytes frame h) in
@@ -78,22 +86,20 @@ end_fails text e h = ap end_at h.2 ∙ ap (λ (d : SpdError). failed {A = Unit {
 pub fault_is : (bytes : List ℕ) (e : SpdError) → IsFault bytes e → frame_at bytes ≡ Err e
 unfolding frame_at
 fault_is bytes e (too_long long is) = rw (lt-ltb max_bytes (length bytes) long, is) refl
-fault_is bytes e (in_frame within (inl h)) = rw (le-ltb max_bytes (length bytes) within, reads_fields.fault bytes e h) refl
+fault_is bytes e (in_frame within (inl h)) =
+    rw (le-ltb max_bytes (length bytes) within, reads_fields.fault bytes e h) refl
 fault_is bytes e (in_frame within (inr h)) =
     rw (le-ltb max_bytes (length bytes) within, reads_fields.again bytes h.0 h.1 h.2, end_fails h.1 e h.3) refl
 
 -- ---- laws
-
--- a value is no fault
-no_error : {A : Type 0} (x : A) (e : SpdError) → done x ≡ failed e → ⊥
-no_error x e h = absurd cc
 
 -- equal faults
 failed_is : (a b : SpdError) → failed {A = Frame} a ≡ failed b → a ≡ b
 failed_is a b e = err_is {A = Frame} a b e
 
 -- bytes spell one frame
-pub one_frame : (bytes : List ℕ) (a b : Frame) → Spells bytes a.conn a.print a.delta → Spells bytes b.conn b.print b.delta → a ≡ b
+pub one_frame : (bytes : List ℕ) (a b : Frame) → Spells bytes a.conn a.print a.delta
+    → Spells bytes b.conn b.print b.delta → a ≡ b
 one_frame bytes a b h g = ok_is a b (sym (again bytes a h) ∙ again bytes b g)
 
 -- they have one fault
@@ -101,7 +107,8 @@ pub first_fault : (bytes : List ℕ) (a b : SpdError) → IsFault bytes a → Is
 first_fault bytes a b h g = failed_is a b (sym (fault_is bytes a h) ∙ fault_is bytes b g)
 
 -- and none where they spell a frame
-pub no_fault : (bytes : List ℕ) (frame : Frame) (e : SpdError) → Spells bytes frame.conn frame.print frame.delta → IsFault bytes e → ⊥
+pub no_fault : (bytes : List ℕ) (frame : Frame) (e : SpdError) → Spells bytes frame.conn frame.print frame.delta
+    → IsFault bytes e → ⊥
 no_fault bytes frame e h g = no_error frame e (sym (again bytes frame h) ∙ fault_is bytes e g)
 
 -- what the reader answers, by cases
@@ -111,14 +118,17 @@ answered bytes (Ok frame) is small = inl (frame, found bytes frame small is)
 answered bytes (Err e) is small = inr (e, refused bytes e small is)
 
 -- they spell a frame or have a fault
-pub every : (bytes : List ℕ) → IsBytes bytes → ((frame : Frame) × Spells bytes frame.conn frame.print frame.delta) ⊎ ((e : SpdError) × IsFault bytes e)
+pub every : (bytes : List ℕ) → IsBytes bytes
+    → ((frame : Frame) × Spells bytes frame.conn frame.print frame.delta) ⊎ ((e : SpdError) × IsFault bytes e)
 every bytes small = answered bytes (frame_at bytes) refl small
 
 -- bytes may follow what stands first
-fields_and_more : (bytes more : List ℕ) (frame : Frame) (rest : List ℕ) → StartsFields bytes frame rest → StartsFields (bytes ++ more) frame (rest ++ more)
+fields_and_more : (bytes more : List ℕ) (frame : Frame) (rest : List ℕ) → StartsFields bytes frame rest
+    → StartsFields (bytes ++ more) frame (rest ++ more)
 fields_and_more bytes more frame rest h = record {
   version = h.version;
-  parts = ap (λ (t : List ℕ). t ++ more) h.parts ∙ append_assoc (frame_text h.version frame.conn frame.print frame.delta) rest more;
+  parts = ap (λ (t : List ℕ). t ++ more) h.parts
+      ∙ append_assoc (frame_text h.version frame.conn frame.print frame.delta) rest more;
   print_length = h.print_length;
   stroke_count = h.stroke_count;
   tombstone_count = h.tombstone_count;
@@ -127,16 +137,19 @@ fields_and_more bytes more frame rest h = record {
 }
 
 -- no spelling begins another
-pub none_begins : (bytes more : List ℕ) (a b : Frame) → Spells bytes a.conn a.print a.delta → Spells (bytes ++ more) b.conn b.print b.delta
+pub none_begins : (bytes more : List ℕ) (a b : Frame) → Spells bytes a.conn a.print a.delta
+    → Spells (bytes ++ more) b.conn b.print b.delta
     → (more ≡ []) × (a ≡ b)
 none_begins bytes more a b h g =
-    let one = reads_fields.again (bytes ++ more) a more (fields_and_more bytes more a [] (fields_of_spelled bytes a h)) in
+    let one = reads_fields.again (bytes ++ more) a more (fields_and_more bytes more a [] (fields_of_spelled bytes a h))
+    in
     let two = reads_fields.again (bytes ++ more) b [] (fields_of_spelled (bytes ++ more) b g) in
     let is = ok_is (a, more) (b, []) (sym one ∙ two) in
     (ap (λ (p : Frame × List ℕ). p.1) is, ap (λ (p : Frame × List ℕ). p.0) is)
 
 -- a frame has one text in a version
-pub one_text : (a b : List ℕ) (frame : Frame) (h : Spells a frame.conn frame.print frame.delta) (g : Spells b frame.conn frame.print frame.delta)
+pub one_text : (a b : List ℕ) (frame : Frame) (h : Spells a frame.conn frame.print frame.delta)
+    (g : Spells b frame.conn frame.print frame.delta)
     → h.version ≡ g.version → a ≡ b
 one_text a b frame h g e = h.text ∙ ap (λ (v : Version). frame_text v frame.conn frame.print frame.delta) e ∙ sym g.text
 

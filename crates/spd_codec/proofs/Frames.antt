@@ -1,5 +1,6 @@
 -- The reader of frames.
-use Rattle.std.proofs.Common.{◌≡◌, ◌⊎◌, ℕ, ◌^◌, ◌<◌, Bool, true, false, cond, ltb, List, [], ◌∷◌, ◌++◌, length, Option, Some, None, Result, Ok, Err, refl, sym, ap, subst, ◌∙◌, append_assoc, inl, inr}
+use Rattle.std.proofs.Common.{◌≡◌, ◌⊎◌, ℕ, ◌^◌, ◌<◌, Bool, true, false, cond, ltb, List, [], ◌∷◌, ◌++◌, length, Option}
+use Rattle.std.proofs.Common.{Some, None, Result, Ok, Err, refl, sym, ap, subst, ◌∙◌, append_assoc, inl, inr}
 use Rattle.std.specs.List.{flat_map, AllByRecursion}
 use Rattle.std.proofs.lemmas.Bool.{ltb-true, ltb-false}
 use Rattle.std.proofs.lemmas.List.{append-nil}
@@ -11,19 +12,22 @@ use Rattle.spd_codec.specs.declared.error.SpdError.{SpdError}
 use Rattle.spd_codec.specs.declared.error.SpdError.TheVariants as errors
 use Rattle.spd_codec.specs.declared.frame.Frame.{Frame}
 use Rattle.spd_codec.specs.declared.version.Version.{Version}
-use Rattle.spd_codec.specs.Spelling.{magic, conn_byte, short, tag_text, stroke_text, frame_of, frame_text, StrokeFits, Spells, max_bytes}
+use Rattle.spd_codec.specs.Spelling.{magic, conn_byte, short, tag_text, stroke_text, frame_of, frame_text, StrokeFits}
+use Rattle.spd_codec.specs.Spelling.{Spells, max_bytes}
 use Rattle.spd_codec.specs.Faults.{StartsGood, StartsEach, StartsStroke, StartsStrokes, StrokesFault, StartsTombstones}
-use Rattle.spd_codec.specs.Faults.{TombstonesFault, DeltaFault, FieldsFault, StartsMagic, StartsConn, StartsFields, EndFault}
+use Rattle.spd_codec.specs.Faults.{TombstonesFault, DeltaFault, FieldsFault, StartsMagic, StartsConn, StartsFields}
+use Rattle.spd_codec.specs.Faults.{EndFault}
 use Rattle.spd_codec.specs.Faults.{IsFault, too_long, in_frame, tag_field, number_field, print_field}
 use Rattle.spd_codec.specs.Reading.{◌>>=◌, Read, onto, with_stroke, with_tombstone, strokes_at, tombstones_at, delta_at}
 use Rattle.spd_codec.specs.Reading.{fields_at, end_at, frame_at}
 use Rattle.spd_codec.proofs.Fields.{IsBytes, Reads}
-use Rattle.spd_codec.proofs.Steps.{bind_ok, bind_err, ok_is, err_is, done, failed}
+use Rattle.spd_codec.proofs.Steps.{bind_ok, bind_err, ok_is, err_is, done, no_error}
 use Rattle.spd_codec.proofs.Sequences.{Behind, SeenBy, reads_behind, reads_seen, reads_as, reads_same, reads_many}
 use Rattle.spd_codec.proofs.RunLists.{unless_none, unless_from}
 use Rattle.spd_codec.proofs.Values.{reads_short, reads_print, reads_tag, reads_conn, reads_magic}
 use Rattle.spd_codec.proofs.StrokeParts.{reads_stroke}
-use Rattle.spd_codec.proofs.RisingTags.{Rise, keys_of, state_of, strokes_made, tombstones_made, strokes_rise, tombstones_rise, state_made}
+use Rattle.spd_codec.proofs.RisingTags.{Rise, keys_of, state_of, strokes_made, tombstones_made, strokes_rise}
+use Rattle.spd_codec.proofs.RisingTags.{tombstones_rise, state_made}
 
 -- ---- strokes and tombstones
 
@@ -32,7 +36,8 @@ abbrev EachStroke : Version → Option ℕ → List ℕ → List (ℕ × Seed) �
 EachStroke version = StartsEach (λ entry. entry.0) (StartsStroke version)
 
 -- what stands there is the text of strokes that rise by tag
-record StrokesThere (version : Version) (before : Option ℕ) (text : List ℕ) (entries : List (ℕ × Seed)) (rest : List ℕ) : Type 0 where
+record StrokesThere (version : Version) (before : Option ℕ) (text : List ℕ) (entries : List (ℕ × Seed))
+    (rest : List ℕ) : Type 0 where
   parts : text ≡ flat_map (stroke_text version) entries ++ rest
   fit : AllByRecursion (StrokeFits version) entries
   rise : Rise before (keys_of entries)
@@ -45,7 +50,8 @@ strokes_there version before text (entry ∷ entries) rest h =
     let others = strokes_there version (Some entry.0) h.0 entries rest h.2 in
     let first = stroke_text version entry in
     record {
-      parts = h.1.parts ∙ ap (λ (t : List ℕ). first ++ t) others.parts ∙ sym (append_assoc first (flat_map (stroke_text version) entries) rest);
+      parts = h.1.parts ∙ ap (λ (t : List ℕ). first ++ t) others.parts
+          ∙ sym (append_assoc first (flat_map (stroke_text version) entries) rest);
       fit = (h.1.fits, others.fit);
       rise = (h.1.above, others.rise);
     }
@@ -57,7 +63,12 @@ strokes_back : (version : Version) (before : Option ℕ) (entries : List (ℕ ×
 strokes_back version before [] rest fit rise = refl
 strokes_back version before (entry ∷ entries) rest fit rise = (
   flat_map (stroke_text version) entries ++ rest,
-  record { fits = fit.0; above = rise.0; parts = append_assoc (stroke_text version entry) (flat_map (stroke_text version) entries) rest },
+  record {
+    fits = fit.0;
+    above = rise.0;
+    parts =
+        append_assoc (stroke_text version entry) (flat_map (stroke_text version) entries) rest;
+  },
   strokes_back version (Some entry.0) entries rest fit.1 rise.1,
 )
 
@@ -72,12 +83,14 @@ record TagsThere (before : Option ℕ) (text tags rest : List ℕ) : Type 0 wher
   rise : Rise before tags
 
 -- tags that were read
-tags_there : (before : Option ℕ) (text tags rest : List ℕ) → EachTag before text tags rest → TagsThere before text tags rest
+tags_there : (before : Option ℕ) (text tags rest : List ℕ) → EachTag before text tags rest
+    → TagsThere before text tags rest
 tags_there before text [] rest h = record { parts = h; fit = tt; rise = tt }
 tags_there before text (tag ∷ tags) rest h =
     let others = tags_there (Some tag) h.0 tags rest h.2 in
     record {
-      parts = h.1.0.1 ∙ ap (λ (t : List ℕ). tag_text tag ++ t) others.parts ∙ sym (append_assoc (tag_text tag) (flat_map tag_text tags) rest);
+      parts = h.1.0.1 ∙ ap (λ (t : List ℕ). tag_text tag ++ t) others.parts
+          ∙ sym (append_assoc (tag_text tag) (flat_map tag_text tags) rest);
       fit = (h.1.0.0, others.fit);
       rise = (unless_none _ _ h.1.1, others.rise);
     }
@@ -93,7 +106,8 @@ tags_back before (tag ∷ tags) rest fit rise = (
 )
 
 -- the reader of strokes
-reads_strokes : (version : Version) (count : ℕ) → Reads (strokes_at version count) (StartsStrokes version count) (StrokesFault version count)
+reads_strokes : (version : Version) (count : ℕ)
+    → Reads (strokes_at version count) (StartsStrokes version count) (StrokesFault version count)
 reads_strokes version count = reads_many (λ entry. entry.0) (reads_stroke version) count None
 
 -- that of tombstones
@@ -109,14 +123,17 @@ delta_is count (Err e) = refl
 
 -- strokes and tombstones stand first
 abbrev StartsDelta : Version → ℕ → ℕ → List ℕ → State → List ℕ → Type 0
-StartsDelta version strokes tombstones = Behind (StartsStrokes version strokes) (λ entries. SeenBy (state_of entries) (StartsTombstones tombstones))
+StartsDelta version strokes tombstones =
+    Behind (StartsStrokes version strokes) (λ entries. SeenBy (state_of entries) (StartsTombstones tombstones))
 
 -- the reader of both
 reads_delta : (version : Version) (strokes tombstones : ℕ)
-    → Reads (delta_at version strokes tombstones) (StartsDelta version strokes tombstones) (DeltaFault version strokes tombstones)
+    → Reads (delta_at version strokes tombstones) (StartsDelta version strokes tombstones)
+    (DeltaFault version strokes tombstones)
 unfolding delta_at
 reads_delta version strokes tombstones = reads_same (λ text. delta_is tombstones (strokes_at version strokes text))
-    (reads_behind (reads_strokes version strokes) (λ entries. reads_seen (state_of entries) (reads_tombstones tombstones)))
+    (reads_behind (reads_strokes version strokes)
+    (λ entries. reads_seen (state_of entries) (reads_tombstones tombstones)))
 
 -- ---- the fields
 
@@ -131,11 +148,13 @@ StartsAll = Behind StartsMagic (λ version. Behind StartsConn (λ conn. Behind (
     SeenBy (frame_with conn print) (StartsDelta version strokes tombstones))))))
 
 -- seven parts and a rest
-seven : (a b c d e f g rest : List ℕ) → (a ++ b ++ c ++ d ++ e ++ f ++ g) ++ rest ≡ a ++ (b ++ (c ++ (d ++ (e ++ (f ++ (g ++ rest))))))
+seven : (a b c d e f g rest : List ℕ)
+    → (a ++ b ++ c ++ d ++ e ++ f ++ g) ++ rest ≡ a ++ (b ++ (c ++ (d ++ (e ++ (f ++ (g ++ rest))))))
 seven a b c d e f g rest =
     append_assoc (a ++ b ++ c ++ d ++ e ++ f) g rest ∙ append_assoc (a ++ b ++ c ++ d ++ e) f (g ++ rest)
     ∙ append_assoc (a ++ b ++ c ++ d) e (f ++ (g ++ rest)) ∙ append_assoc (a ++ b ++ c) d (e ++ (f ++ (g ++ rest)))
-    ∙ append_assoc (a ++ b) c (d ++ (e ++ (f ++ (g ++ rest)))) ∙ append_assoc a b (c ++ (d ++ (e ++ (f ++ (g ++ rest)))))
+    ∙ append_assoc (a ++ b) c (d ++ (e ++ (f ++ (g ++ rest))))
+    ∙ append_assoc a b (c ++ (d ++ (e ++ (f ++ (g ++ rest)))))
 
 -- the text of a frame, part by part
 parts_of : (version : Version) (conn : Conn) (print : List ℕ) (entries : List (ℕ × Seed)) (tags rest : List ℕ)
@@ -168,7 +187,8 @@ fields_made version conn print entries tags text rest parts len few_entries few_
     }
 
 -- fields that were read
-fields_there : (text : List ℕ) (frame : Frame) (rest : List ℕ) → StartsAll text frame rest → StartsFields text frame rest
+fields_there : (text : List ℕ) (frame : Frame) (rest : List ℕ) → StartsAll text frame rest
+    → StartsFields text frame rest
 fields_there text frame rest h =
     let version = h.0 in
     let c = h.3 in
@@ -194,7 +214,8 @@ fields_there text frame rest h =
     ∙ ap (λ (t : List ℕ). short (length tags) ++ t) (es.parts
     ∙ ap (λ (t : List ℕ). flat_map (stroke_text version) entries ++ t) ts.parts)))))
     ∙ sym (parts_of version conn print entries tags rest) in
-    let made = fields_made version conn print entries tags text rest parts p.2.0.0 few_entries few_tags es.fit es.rise ts.fit ts.rise in
+    let made = fields_made version conn print entries tags text rest parts p.2.0.0 few_entries few_tags es.fit es.rise
+    ts.fit ts.rise in
     subst (λ (f : Frame). StartsFields text f rest) (ap (frame_with conn print) delta.3.2 ∙ d.2) made
 
 -- fields that stand there
@@ -234,7 +255,11 @@ fields_back text frame rest h =
                   entries,
                   after_strokes,
                   (refl, strokes_back version None entries after_strokes h.strokes (strokes_rise frame.delta)),
-                  (tags, (refl, tags_back None tags rest h.tombstones (tombstones_rise frame.delta)), state_made frame.delta),
+                  (
+                    tags,
+                    (refl, tags_back None tags rest h.tombstones (tombstones_rise frame.delta)),
+                    state_made frame.delta,
+                  ),
                 ),
                 refl,
               ),
@@ -247,15 +272,12 @@ fields_back text frame rest h =
 -- the reader of the fields
 pub reads_fields : Reads fields_at StartsFields FieldsFault
 unfolding fields_at
-reads_fields = reads_as (reads_behind reads_magic (λ version. reads_behind reads_conn (λ conn. reads_behind reads_print (λ print.
+reads_fields = reads_as (reads_behind reads_magic
+    (λ version. reads_behind reads_conn (λ conn. reads_behind reads_print (λ print.
     reads_behind reads_short (λ strokes. reads_behind reads_short (λ tombstones.
     reads_seen (frame_with conn print) (reads_delta version strokes tombstones))))))) fields_there fields_back
 
 -- ---- a whole frame
-
--- a value is no fault
-no_error : {A : Type 0} (x : A) (e : SpdError) → done x ≡ failed e → ⊥
-no_error x e h = absurd cc
 
 -- the end
 end_ok : (text : List ℕ) (u : Unit {0}) → end_at text ≡ Ok u → text ≡ []
@@ -274,7 +296,8 @@ abbrev ended : Frame × List ℕ → Result Frame SpdError
 ended frame = end_at frame.1 >>= λ _. Ok frame.0
 
 -- a frame that is not too long
-behind_ok : (long : Bool) (read : Read Frame) (frame : Frame) → cond long (Err errors.TooLong) (read >>= ended) ≡ Ok frame
+behind_ok : (long : Bool) (read : Read Frame) (frame : Frame)
+    → cond long (Err errors.TooLong) (read >>= ended) ≡ Ok frame
     → (long ≡ false) × ((rest : List ℕ) × (read ≡ Ok (frame, rest)) × (end_at rest ≡ Ok tt))
 behind_ok true read frame e = absurd cc
 behind_ok false read frame e =

@@ -1,5 +1,6 @@
 -- The lengths of frames and of their parts.
-use Rattle.std.proofs.Common.{◌≡◌, ℕ, ◌+◌, ◌*◌, ◌^◌, ◌<◌, ◌≤◌, List, [], ◌∷◌, ◌++◌, map, length, refl, sym, ap, ◌∙◌, append_assoc, arith}
+use Rattle.std.proofs.Common.{◌≡◌, ℕ, ◌+◌, ◌*◌, ◌^◌, ◌<◌, ◌≤◌, List, [], ◌∷◌, ◌++◌, map, length, refl, sym, ap, ◌∙◌}
+use Rattle.std.proofs.Common.{append_assoc, arith}
 use Rattle.std.specs.List.{flat_map, sum_by, AllByRecursion}
 use Rattle.std.proofs.lemmas.List.{length-append}
 use Rattle.std.proofs.lemmas.List.Sums.{sum_by-append, sum_by-cons}
@@ -61,10 +62,12 @@ runs_text_length (run ∷ runs) =
     omega (arith, length-append (run_text run) (flat_map run_text runs))
 
 stroke_text_length : (entry : ℕ × Seed) → length (stroke_text Second entry) ≡ byte_len_of entry.1.shape
-stroke_text_length (tag, seed) = elim seed.shape as (λ shape. length (stroke_text Second (tag, record { level = seed.level; shape = shape })) ≡ byte_len_of shape) [
-  | Runs runs ↦ let rest = runs_text_length runs in omega arith
-  | Disc x y r ↦ refl
-]
+stroke_text_length (tag, seed) =
+    elim seed.shape as (λ shape. length
+    (stroke_text Second (tag, record { level = seed.level; shape = shape })) ≡ byte_len_of shape) [
+      | Runs runs ↦ let rest = runs_text_length runs in omega arith
+      | Disc x y r ↦ refl
+    ]
 
 strokes_text_length : (es : List (ℕ × Seed)) → length (flat_map (stroke_text Second) es) ≡ strokes_length es
 strokes_text_length [] = refl

@@ -1,5 +1,6 @@
 -- Reading one after the other, as a loop does.
-use Rattle.std.proofs.Common.{◌≡◌, ℕ, suc, ◌-◌, ◌+◌, ◌≤◌, ◌<◌, List, [], ◌∷◌, ◌++◌, Option, Some, Ok, Err, refl, sym, ap, ◌∙◌, append_assoc, arith, inl, inr}
+use Rattle.std.proofs.Common.{◌≡◌, ℕ, suc, ◌-◌, ◌+◌, ◌≤◌, ◌<◌, List, [], ◌∷◌, ◌++◌, Option, Some, Ok, Err, refl, sym}
+use Rattle.std.proofs.Common.{ap, ◌∙◌, append_assoc, arith, inl, inr}
 use Rattle.std.proofs.lemmas.List.{append-nil}
 use Rattle.std.specs.Prelude.{◌⊎◌}
 use Rattle.spd_codec.specs.declared.error.SpdError.{SpdError}
@@ -60,7 +61,8 @@ is_done put key one all count i last text total le so_far =
     sym so_far ∙ step
 
 -- none was read yet
-pub starts : {X K : Type 0} (key : X → K) (one : Option K → List ℕ → Read X) (count : ℕ) (last : Option K) (text : List ℕ)
+pub starts : {X K : Type 0} (key : X → K) (one : Option K → List ℕ
+    → Read X) (count : ℕ) (last : Option K) (text : List ℕ)
     → onto push [] (many_at key one (count - 0) last text) ≡ many_at key one count last text
 starts key one count last text =
     let z : count - 0 ≡ count = omega arith in

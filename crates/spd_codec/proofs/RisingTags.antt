@@ -1,14 +1,13 @@
 -- Strokes and tombstones that rise by tag are those of the state that they make, in its order.
-use Rattle.std.proofs.Common.{◌≡◌, ℕ, ◌<◌, Bool, true, false, cond, ◌||◌, T, List, [], ◌∷◌, ◌++◌, map, Option, Some, None, refl, sym, ap, subst, ◌∙◌, append_assoc, arith, is_some, length}
+use Rattle.std.proofs.Common.{◌≡◌, ℕ, ◌<◌, Bool, true, false, cond, ◌||◌, T, List, [], ◌∷◌, ◌++◌, map, Option, Some}
+use Rattle.std.proofs.Common.{None, refl, sym, ap, subst, ◌∙◌, append_assoc, arith, is_some, length}
 use Rattle.std.specs.Prelude.{◌&&◌}
 use Rattle.std.specs.List.{AllByRecursion, list_any}
-use Rattle.std.specs.declared.cmp.Ordering.{Ordering}
-use Rattle.std.specs.declared.cmp.Ordering.TheVariants.{Greater}
 use Rattle.std.specs.Ordering.{nat_cmp, is_lt, eq_by_cmp}
 use Rattle.std.specs.Cmp.{nat_cmp_total}
 use Rattle.std.specs.FinMap as fin
 use Rattle.std.specs.FinMap.{FinMap, is_sorted, put}
-use Rattle.std.specs.FinMap.Entries.{below_all, by_order, is_some-find}
+use Rattle.std.specs.FinMap.Entries.{below_all, is_some-find}
 use Rattle.std.specs.FinSet as set
 use Rattle.std.proofs.lemmas.Bool.{ltb-true, lt-ltb}
 use Rattle.std.proofs.lemmas.Bool.Decides.{nat_tests}
@@ -16,6 +15,7 @@ use Rattle.std.proofs.lemmas.List.{append-nil}
 use Rattle.stroke_core.specs.Seed.{Seed}
 use Rattle.stroke_lattice.specs.State.{State, nothing}
 use Rattle.stroke_lattice.specs.Pieces.{strokes_of, tombstones_of}
+use Rattle.stroke_lattice.proofs.Items.{front, back, put_last}
 use Rattle.spd_codec.specs.Faults.{is_above}
 use Rattle.spd_codec.specs.Reading.{gathered, with_stroke, with_tombstone}
 
@@ -32,11 +32,7 @@ keys_of es = map (λ e. e.0) es
 abbrev pub state_of : List (ℕ × Seed) → List ℕ → State
 state_of es tags = gathered with_tombstone (gathered with_stroke nothing es) tags
 
--- the order of numbers, as it is named
-greater : (x y : ℕ) → y < x → nat_cmp x y ≡ Greater
-greater x y e = grind (arith, nat_tests)
-
--- and back
+-- the order of numbers, from its name
 less_from : (x y : ℕ) → is_lt (nat_cmp x y) ≡ true → x < y
 less_from x y e = grind (arith, nat_tests)
 
@@ -44,16 +40,6 @@ less_from x y e = grind (arith, nat_tests)
 holds : (b : Bool) → T b → b ≡ true
 holds true h = refl
 holds false h = absurd h
-
--- the first of two tests
-front : (a b : Bool) → T (a && b) → T a
-front true b h = tt
-front false b h = absurd h
-
--- the second of two tests
-back : (a b : Bool) → T (a && b) → T b
-back true b h = h
-back false b h = absurd h
 
 -- the order of tests does not matter
 swapped : (a b c : Bool) → (a || (b || c)) ≡ ((b || a) || c)
@@ -75,14 +61,7 @@ nil_of (x ∷ xs) e = absurd (omega arith)
 module _ {X : Type 0} where
   -- each key is below the number
   abbrev AreBelow : ℕ → List (ℕ × X) → Type 0
-  AreBelow n es = AllByRecursion (λ e. e.0 < n) es
-
-  -- a key above all others goes last
-  put_last : (k : ℕ) (v : X) (es : List (ℕ × X)) → AreBelow k es → put nat_cmp k v es ≡ es ++ (k, v) ∷ []
-  put_last k v [] below = refl
-  put_last k v (e ∷ es) below =
-      ap (λ (o : Ordering). by_order o ((k, v) ∷ e ∷ es) ((e.0, v) ∷ es) (e ∷ put nat_cmp k v es)) (greater k e.0 below.0)
-      ∙ ap (λ (l : List (ℕ × X)). e ∷ l) (put_last k v es below.1)
+  AreBelow n es = AllByRecursion (λ other. other < n) (keys_of es)
 
   -- a key above all others, and one more
   below_push : (n k : ℕ) (v : X) (es : List (ℕ × X)) → AreBelow k es → k < n → AreBelow n (es ++ (k, v) ∷ [])
@@ -98,19 +77,24 @@ module _ {X : Type 0} where
   IsUnder m before = (k : ℕ) → is_above before k ≡ true → AreBelow k (fin.entries m)
 
   -- entries that rise are put behind those before them
-  entries_after : (m : FinMap nat_cmp X) (es : List (ℕ × X)) (before : Option ℕ) → IsUnder m before → Rise before (keys_of es)
+  entries_after : (m : FinMap nat_cmp X) (es : List (ℕ × X)) (before : Option ℕ) → IsUnder m before
+      → Rise before (keys_of es)
       → fin.entries (gathered with_entry m es) ≡ fin.entries m ++ es
   entries_after m [] before under rise = sym (append-nil (fin.entries m))
   entries_after m (e ∷ es) before under rise =
       let below : AreBelow e.0 (fin.entries m) = under e.0 rise.0 in
-      let one : fin.entries (fin.insert m e.0 e.1) ≡ fin.entries m ++ e ∷ [] = fin.entries-insert nat_cmp_total m e.0 e.1 ∙ put_last e.0 e.1 (fin.entries m) below in
-      let next : IsUnder (fin.insert m e.0 e.1) (Some e.0) = λ k above. subst (λ (l : List (ℕ × X)). AreBelow k l) (sym one) (below_push k e.0 e.1 (fin.entries m) below (ltb-true e.0 k above)) in
+      let one : fin.entries (fin.insert m e.0 e.1) ≡ fin.entries m ++ e ∷ [] =
+      fin.entries-insert nat_cmp_total m e.0 e.1 ∙ put_last e.0 e.1 (fin.entries m) below in
+      let next : IsUnder (fin.insert m e.0 e.1) (Some e.0) =
+      λ k above. subst (λ (l : List (ℕ × X)). AreBelow k l) (sym one)
+      (below_push k e.0 e.1 (fin.entries m) below (ltb-true e.0 k above)) in
       entries_after (fin.insert m e.0 e.1) es (Some e.0) next rise.1
       ∙ ap (λ (l : List (ℕ × X)). l ++ es) one ∙ append_assoc (fin.entries m) (e ∷ []) es
 
   -- the empty map has none
   no_entries : fin.entries (fin.empty {X = X} {R = nat_cmp}) ≡ []
-  no_entries = nil_of (fin.entries (fin.empty {X = X} {R = nat_cmp})) (sym (fin.len-entries (fin.empty {X = X} {R = nat_cmp})) ∙ fin.len-empty nat_cmp X)
+  no_entries = nil_of (fin.entries (fin.empty {X = X} {R = nat_cmp}))
+      (sym (fin.len-entries (fin.empty {X = X} {R = nat_cmp})) ∙ fin.len-empty nat_cmp X)
 
   -- entries that rise are those of the map that they make
   entries_made : (es : List (ℕ × X)) → Rise None (keys_of es) → fin.entries (gathered with_entry fin.empty es) ≡ es
@@ -119,18 +103,23 @@ module _ {X : Type 0} where
       ∙ ap (λ (l : List (ℕ × X)). l ++ es) no_entries
 
   -- sorted entries behind a key rise
-  rise_behind : (k : ℕ) (es : List (ℕ × X)) → T (below_all nat_cmp k es) → T (is_sorted nat_cmp es) → Rise (Some k) (keys_of es)
+  rise_behind : (k : ℕ) (es : List (ℕ × X)) → T (below_all nat_cmp k es) → T (is_sorted nat_cmp es)
+      → Rise (Some k) (keys_of es)
   rise_behind k [] below sorted = tt
   rise_behind k (e ∷ es) below sorted = (
     lt-ltb k e.0 (less_from k e.0 (holds _ (front (is_lt (nat_cmp k e.0)) (below_all nat_cmp k es) below))),
-    rise_behind e.0 es (front (below_all nat_cmp e.0 es) (is_sorted nat_cmp es) sorted) (back (below_all nat_cmp e.0 es) (is_sorted nat_cmp es) sorted),
+    rise_behind e.0 es (front (below_all nat_cmp e.0 es) (is_sorted nat_cmp es) sorted)
+        (back (below_all nat_cmp e.0 es) (is_sorted nat_cmp es) sorted),
   )
 
   -- sorted entries rise
   rise_sorted : (es : List (ℕ × X)) → T (is_sorted nat_cmp es) → Rise None (keys_of es)
   rise_sorted [] sorted = tt
-  rise_sorted (e ∷ es) sorted =
-      (refl, rise_behind e.0 es (front (below_all nat_cmp e.0 es) (is_sorted nat_cmp es) sorted) (back (below_all nat_cmp e.0 es) (is_sorted nat_cmp es) sorted))
+  rise_sorted (e ∷ es) sorted = (
+    refl,
+    rise_behind e.0 es (front (below_all nat_cmp e.0 es) (is_sorted nat_cmp es) sorted)
+        (back (below_all nat_cmp e.0 es) (is_sorted nat_cmp es) sorted),
+  )
 
 -- ---- tombstones
 
@@ -181,19 +170,23 @@ as_map_empty = fin.same_map nat_cmp_total fin.nat_cmp-IsAntisymmetric _ _ (λ q.
     (test_of_tags set.empty q ∙ set.contains-empty nat_cmp q ∙ ap is_some (sym (fin.get-empty nat_cmp q))))
 
 -- and so for tags one after the other
-as_map_after : (s : set.FinSet nat_cmp) (tags : List ℕ) → as_map (gathered set.insert s tags) ≡ gathered with_entry (as_map s) (map alone tags)
+as_map_after : (s : set.FinSet nat_cmp) (tags : List ℕ)
+    → as_map (gathered set.insert s tags) ≡ gathered with_entry (as_map s) (map alone tags)
 as_map_after s [] = refl
-as_map_after s (tag ∷ tags) = as_map_after (set.insert s tag) tags ∙ ap (λ (m : FinMap nat_cmp (Unit {0})). gathered with_entry m (map alone tags)) (as_map_insert s tag)
+as_map_after s (tag ∷ tags) = as_map_after (set.insert s tag) tags
+    ∙ ap (λ (m : FinMap nat_cmp (Unit {0})). gathered with_entry m (map alone tags)) (as_map_insert s tag)
 
 -- ---- states
 
 -- only strokes are added
-strokes_alone : (s : State) (es : List (ℕ × Seed)) → gathered with_stroke s es ≡ record s { strokes = gathered with_entry s.strokes es }
+strokes_alone : (s : State) (es : List (ℕ × Seed))
+    → gathered with_stroke s es ≡ record s { strokes = gathered with_entry s.strokes es }
 strokes_alone s [] = refl
 strokes_alone s (e ∷ es) = strokes_alone (with_stroke s e) es
 
 -- only tombstones are added
-tombstones_alone : (s : State) (tags : List ℕ) → gathered with_tombstone s tags ≡ record s { tombstones = gathered set.insert s.tombstones tags }
+tombstones_alone : (s : State) (tags : List ℕ)
+    → gathered with_tombstone s tags ≡ record s { tombstones = gathered set.insert s.tombstones tags }
 tombstones_alone s [] = refl
 tombstones_alone s (tag ∷ tags) = tombstones_alone (with_tombstone s tag) tags
 
@@ -216,8 +209,10 @@ pub tombstones_made : (es : List (ℕ × Seed)) (tags : List ℕ) → Rise None 
 tombstones_made es tags rise =
     ap tombstones_of (state_is es tags)
     ∙ ap (λ (m : FinMap nat_cmp (Unit {0})). keys_of (fin.entries m))
-    (as_map_after set.empty tags ∙ ap (λ (m : FinMap nat_cmp (Unit {0})). gathered with_entry m (map alone tags)) as_map_empty)
-    ∙ ap (λ (l : List (ℕ × Unit {0})). keys_of l) (entries_made (map alone tags) (subst (Rise None) (sym (keys_of_alone tags)) rise))
+    (as_map_after set.empty tags ∙ ap (λ (m : FinMap nat_cmp (Unit {0})). gathered with_entry m (map alone tags))
+    as_map_empty)
+    ∙ ap (λ (l : List (ℕ × Unit {0})). keys_of l)
+    (entries_made (map alone tags) (subst (Rise None) (sym (keys_of_alone tags)) rise))
     ∙ keys_of_alone tags
 
 -- strokes and tombstones of a state rise
@@ -240,8 +235,10 @@ contains_after s (tag ∷ tags) q =
 -- and they make it
 pub state_made : (s : State) → state_of (strokes_of s) (tombstones_of s) ≡ s
 state_made s =
-    let strokes : gathered with_entry fin.empty (strokes_of s) ≡ s.strokes = fin.same_entries_map _ _ (entries_made (strokes_of s) (strokes_rise s)) in
-    let tombstones : gathered set.insert set.empty (tombstones_of s) ≡ s.tombstones = set.same_set nat_cmp_total fin.nat_cmp-IsAntisymmetric _ _ (λ q.
+    let strokes : gathered with_entry fin.empty (strokes_of s) ≡ s.strokes =
+    fin.same_entries_map _ _ (entries_made (strokes_of s) (strokes_rise s)) in
+    let tombstones : gathered set.insert set.empty (tombstones_of s) ≡ s.tombstones =
+    set.same_set nat_cmp_total fin.nat_cmp-IsAntisymmetric _ _ (λ q.
     contains_after set.empty (tombstones_of s) q
     ∙ ap (λ (b : Bool). list_any (eq_by_cmp nat_cmp q) (tombstones_of s) || b) (set.contains-empty nat_cmp q)
     ∙ or_false (list_any (eq_by_cmp nat_cmp q) (tombstones_of s))

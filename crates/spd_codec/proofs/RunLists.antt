@@ -1,7 +1,8 @@
 -- Runs of which each is behind the one before it are in order.
 use Rattle.std.proofs.Common.{◌≡◌, ◌⊎◌, ℕ, ◌≤◌, Bool, true, false, List, [], ◌∷◌, Option, Some, None, refl, inl, inr}
 use Rattle.std.specs.Prelude.{◌==◌, ◌||◌}
-use Rattle.std.proofs.lemmas.Bool.{eqb-true, eq-eqb, ltb-true, leb-true, lt-ltb, le-leb, and_parts, and_from, or_left, or_right}
+use Rattle.std.proofs.lemmas.Bool.{eqb-true, eq-eqb, ltb-true, leb-true, lt-ltb, le-leb, and_parts, and_from, or_left}
+use Rattle.std.proofs.lemmas.Bool.{or_right}
 use Rattle.stroke_core.specs.declared.run.Run.{Run}
 use Rattle.stroke_core.specs.Seed.{AreOrdered, IsBefore, AreInOrder}
 use Rattle.spd_codec.specs.declared.error.SpdError.{SpdError}

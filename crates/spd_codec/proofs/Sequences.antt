@@ -1,14 +1,11 @@
 -- Parts that follow one another.
-use Rattle.std.proofs.Common.{◌≡◌, ℕ, zero, suc, List, [], ◌∷◌, Option, Some, Ok, refl, sym, ap, subst, ◌∙◌, inl, inr, arith}
+use Rattle.std.proofs.Common.{◌≡◌, ℕ, zero, suc, List, [], ◌∷◌, Option, Some, Ok, refl, sym, ap, subst, ◌∙◌, inl, inr}
+use Rattle.std.proofs.Common.{arith}
 use Rattle.spd_codec.specs.declared.error.SpdError.{SpdError}
 use Rattle.spd_codec.specs.Faults.{FaultIn, StartsMany, ManyFault}
 use Rattle.spd_codec.specs.Reading.{◌>>=◌, Read, many_at}
-use Rattle.spd_codec.proofs.Steps.{bind_ok, bind_err, ok_is, done, failed}
+use Rattle.spd_codec.proofs.Steps.{bind_ok, bind_err, ok_is, done, no_error}
 use Rattle.spd_codec.proofs.Fields.{IsBytes, Reads}
-
--- what is done has not failed
-no_error : {A : Type 0} (x : A) (e : SpdError) → done x ≡ failed e → ⊥
-no_error x e h = absurd cc
 
 -- a part, and behind it another
 abbrev pub Behind : {X Z : Type 0} → (List ℕ → X → List ℕ → Type 0) → (X → List ℕ → Z → List ℕ → Type 0)
@@ -20,8 +17,10 @@ abbrev pub SeenBy : {X Z : Type 0} → (X → Z) → (List ℕ → X → List �
 SeenBy {X} f Begins text z rest = (x : X) × Begins text x rest × (f x ≡ z)
 
 -- a reader of a part, and behind it one of another
-pub reads_behind : {X Z : Type 0} {read : List ℕ → Read X} {next : X → List ℕ → Read Z} {Begins : List ℕ → X → List ℕ → Type 0}
-    {Next : X → List ℕ → Z → List ℕ → Type 0} {Fault : List ℕ → SpdError → Type 0} {NextFault : X → List ℕ → SpdError → Type 0}
+pub reads_behind : {X Z : Type 0} {read : List ℕ → Read X} {next : X → List ℕ → Read Z} {Begins : List ℕ → X → List ℕ
+    → Type 0}
+    {Next : X → List ℕ → Z → List ℕ → Type 0} {Fault : List ℕ → SpdError → Type 0} {NextFault : X → List ℕ → SpdError
+    → Type 0}
     → Reads read Begins Fault → ((x : X) → Reads (next x) (Next x) (NextFault x))
     → Reads (λ text. read text >>= λ x. next x.0 x.1) (Behind Begins Next) (FaultIn Fault Begins NextFault)
 reads_behind {X} {Z} {read} {next} {Begins} {Next} {Fault} {NextFault} a b = record {
@@ -46,7 +45,8 @@ reads_behind {X} {Z} {read} {next} {Begins} {Next} {Fault} {NextFault} a b = rec
 }
 
 -- a reader whose value is seen by a function
-pub reads_seen : {X Z : Type 0} (f : X → Z) {read : List ℕ → Read X} {Begins : List ℕ → X → List ℕ → Type 0} {Fault : List ℕ → SpdError → Type 0}
+pub reads_seen : {X Z : Type 0} (f : X → Z) {read : List ℕ → Read X} {Begins : List ℕ → X → List ℕ
+    → Type 0} {Fault : List ℕ → SpdError → Type 0}
     → Reads read Begins Fault → Reads (λ text. read text >>= λ x. Ok (f x.0, x.1)) (SeenBy f Begins) Fault
 reads_seen {X} {Z} f {read} {Begins} {Fault} a = record {
   ok = λ text z rest bytes e.
@@ -67,7 +67,8 @@ reads_seen {X} {Z} f {read} {Begins} {Fault} a = record {
 }
 
 -- other words for what stands first
-pub reads_as : {X : Type 0} {read : List ℕ → Read X} {Begins Other : List ℕ → X → List ℕ → Type 0} {Fault : List ℕ → SpdError → Type 0}
+pub reads_as : {X : Type 0} {read : List ℕ → Read X} {Begins Other : List ℕ → X → List ℕ → Type 0} {Fault : List ℕ
+    → SpdError → Type 0}
     → Reads read Begins Fault
     → ((text : List ℕ) (x : X) (rest : List ℕ) → Begins text x rest → Other text x rest)
     → ((text : List ℕ) (x : X) (rest : List ℕ) → Other text x rest → Begins text x rest) → Reads read Other Fault
@@ -79,7 +80,8 @@ reads_as a there back = record {
 }
 
 -- nothing is read
-pub reads_nothing : {Z : Type 0} (z : Z) → Reads (λ text. Ok (z, text)) (λ text y rest. (z ≡ y) × (text ≡ rest)) (λ text e. ⊥)
+pub reads_nothing : {Z : Type 0} (z : Z)
+    → Reads (λ text. Ok (z, text)) (λ text y rest. (z ≡ y) × (text ≡ rest)) (λ text e. ⊥)
 reads_nothing {Z} z = record {
   ok = λ text y rest bytes e.
       let is = ok_is (z, text) (y, rest) e in
@@ -91,7 +93,8 @@ reads_nothing {Z} z = record {
 }
 
 -- the same reader, in other words
-pub reads_same : {X : Type 0} {read other : List ℕ → Read X} {Begins : List ℕ → X → List ℕ → Type 0} {Fault : List ℕ → SpdError → Type 0}
+pub reads_same : {X : Type 0} {read other : List ℕ → Read X} {Begins : List ℕ → X → List ℕ → Type 0} {Fault : List ℕ
+    → SpdError → Type 0}
     → ((text : List ℕ) → other text ≡ read text) → Reads read Begins Fault → Reads other Begins Fault
 reads_same is a = record {
   ok = λ text x rest bytes e. a.ok text x rest bytes (sym (is text) ∙ e);
@@ -101,37 +104,45 @@ reads_same is a = record {
 }
 
 -- none was read
-none_there : {X K : Type 0} (key : X → K) (Begins : Option K → List ℕ → X → List ℕ → Type 0) (before : Option K) (text : List ℕ) (xs : List X) (rest : List ℕ)
+none_there : {X K : Type 0} (key : X → K) (Begins : Option K → List ℕ → X → List ℕ
+    → Type 0) (before : Option K) (text : List ℕ) (xs : List X) (rest : List ℕ)
     → ([] ≡ xs) × (text ≡ rest) → StartsMany key Begins 0 before text xs rest
 none_there key Begins before text [] rest h = (refl, h.1)
 none_there key Begins before text (x ∷ xs) rest h = absurd cc
 
 -- none stands there
-none_back : {X K : Type 0} (key : X → K) (Begins : Option K → List ℕ → X → List ℕ → Type 0) (before : Option K) (text : List ℕ) (xs : List X) (rest : List ℕ)
+none_back : {X K : Type 0} (key : X → K) (Begins : Option K → List ℕ → X → List ℕ
+    → Type 0) (before : Option K) (text : List ℕ) (xs : List X) (rest : List ℕ)
     → StartsMany key Begins 0 before text xs rest → ([] ≡ xs) × (text ≡ rest)
 none_back key Begins before text [] rest h = (refl, h.1)
 none_back key Begins before text (x ∷ xs) rest h = absurd (omega (arith, h.0))
 
 -- the first and the others were read
-some_there : {X K : Type 0} (key : X → K) (Begins : Option K → List ℕ → X → List ℕ → Type 0) (count : ℕ) (before : Option K) (text : List ℕ) (zs : List X) (rest : List ℕ)
+some_there : {X K : Type 0} (key : X → K) (Begins : Option K → List ℕ → X → List ℕ
+    → Type 0) (count : ℕ) (before : Option K) (text : List ℕ) (zs : List X) (rest : List ℕ)
     → Behind (Begins before) (λ x. SeenBy (λ xs. x ∷ xs) (StartsMany key Begins count (Some (key x)))) text zs rest
     → StartsMany key Begins (suc count) before text zs rest
 some_there {X} key Begins count before text zs rest h =
     let tail = h.3 in
-    subst (λ (l : List X). StartsMany key Begins (suc count) before text l rest) tail.2 (ap suc tail.1.0, (h.1, h.2, tail.1.1))
+    subst (λ (l : List X). StartsMany key Begins (suc count) before text l rest) tail.2
+    (ap suc tail.1.0, (h.1, h.2, tail.1.1))
 
 -- the first stands there, and the others behind it
-some_back : {X K : Type 0} (key : X → K) (Begins : Option K → List ℕ → X → List ℕ → Type 0) (count : ℕ) (before : Option K) (text : List ℕ) (zs : List X) (rest : List ℕ)
+some_back : {X K : Type 0} (key : X → K) (Begins : Option K → List ℕ → X → List ℕ
+    → Type 0) (count : ℕ) (before : Option K) (text : List ℕ) (zs : List X) (rest : List ℕ)
     → StartsMany key Begins (suc count) before text zs rest
     → Behind (Begins before) (λ x. SeenBy (λ xs. x ∷ xs) (StartsMany key Begins count (Some (key x)))) text zs rest
 some_back key Begins count before text [] rest h = absurd (omega (arith, h.0))
 some_back key Begins count before text (x ∷ xs) rest h = (x, h.1.0, h.1.1, (xs, (omega (arith, h.0), h.1.2), refl))
 
 -- so many, each judged by the one before it
-pub reads_many : {X K : Type 0} (key : X → K) {one : Option K → List ℕ → Read X} {Begins : Option K → List ℕ → X → List ℕ → Type 0}
-    {Fault : Option K → List ℕ → SpdError → Type 0} → ((before : Option K) → Reads (one before) (Begins before) (Fault before))
+pub reads_many : {X K : Type 0} (key : X → K) {one : Option K → List ℕ → Read X} {Begins : Option K → List ℕ → X
+    → List ℕ → Type 0}
+    {Fault : Option K → List ℕ → SpdError → Type 0}
+    → ((before : Option K) → Reads (one before) (Begins before) (Fault before))
     → (count : ℕ) (before : Option K)
-    → Reads (many_at key one count before) (StartsMany key Begins count before) (ManyFault key Begins Fault count before)
+    → Reads (many_at key one count before) (StartsMany key Begins count before)
+    (ManyFault key Begins Fault count before)
 unfolding many_at
 reads_many {X} {K} key {one} {Begins} {Fault} each zero before = reads_as (reads_nothing {Z = List X} [])
     (none_there key Begins before) (none_back key Begins before)

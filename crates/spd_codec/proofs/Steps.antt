@@ -20,6 +20,10 @@ ok_is x y e = cc
 pub err_is : {A : Type 0} (d e : SpdError) → failed {A = A} d ≡ failed e → d ≡ e
 err_is d e h = cc
 
+-- what is done has not failed
+pub no_error : {A : Type 0} (x : A) (e : SpdError) → done x ≡ failed e → ⊥
+no_error x e h = absurd cc
+
 -- a step that did not fail
 pub bind_ok : {A B : Type 0} (r : Result A SpdError) (f : A → Result B SpdError) (y : B) → (r >>= f) ≡ Ok y
     → (x : A) × (r ≡ Ok x) × (f x ≡ Ok y)
@@ -48,6 +52,7 @@ guard_ok true d x y e = absurd cc
 guard_ok false d x y e = (refl, ok_is x y e)
 
 -- a test that failed
-pub guard_err : {A : Type 0} (b : Bool) (d e : SpdError) (x : A) → cond b (failed d) (Ok x) ≡ failed e → (b ≡ true) × (d ≡ e)
+pub guard_err : {A : Type 0} (b : Bool) (d e : SpdError) (x : A) → cond b (failed d) (Ok x) ≡ failed e
+    → (b ≡ true) × (d ≡ e)
 guard_err {A} true d e x h = (refl, err_is {A = A} d e h)
 guard_err false d e x h = absurd cc

@@ -1,5 +1,6 @@
 -- The readers of strokes.
-use Rattle.std.proofs.Common.{◌≡◌, ℕ, zero, suc, ◌^◌, ◌<◌, ◌≤◌, Bool, true, false, cond, List, [], ◌∷◌, ◌++◌, length, Option, Some, None, Ok, refl, sym, ap, subst, ◌∙◌, append_assoc, arith}
+use Rattle.std.proofs.Common.{◌≡◌, ℕ, zero, suc, ◌^◌, ◌<◌, ◌≤◌, Bool, true, false, cond, List, [], ◌∷◌, ◌++◌, length}
+use Rattle.std.proofs.Common.{Option, Some, None, Ok, refl, sym, ap, subst, ◌∙◌, append_assoc, arith}
 use Rattle.std.specs.Prelude.{◌==◌, nat_le}
 use Rattle.std.specs.List.{flat_map, AllByRecursion}
 use Rattle.std.proofs.lemmas.Bool.{eqb-false, ne_eqb, leb-true, le-leb, ltb-true, lt-ltb}
@@ -13,7 +14,8 @@ use Rattle.spd_codec.specs.declared.version.Version.TheVariants.{First, Second}
 use Rattle.spd_codec.specs.declared.version.Kind.{Kind}
 use Rattle.spd_codec.specs.declared.version.Kind.TheVariants as kinds
 use Rattle.spd_codec.specs.Spelling.{short, tag_text, run_text, shape_text, kind_text, RunFits, ShapeFits}
-use Rattle.spd_codec.specs.Faults.{StartsGood, StartsEach, StartsMany, run_field, count_field, count_fault, radius_field}
+use Rattle.spd_codec.specs.Faults.{StartsGood, StartsEach, StartsMany, run_field, count_field, count_fault}
+use Rattle.spd_codec.specs.Faults.{radius_field}
 use Rattle.spd_codec.specs.Faults.{number_field, level_field, tag_field, unless, StartsKind, StartsStroke, ShapeFault}
 use Rattle.spd_codec.specs.Faults.{SeedFault, StrokeFault}
 use Rattle.spd_codec.specs.Reading.{◌>>=◌, many_at, run_at, runs_at, disc_at, shape_at, seed_at, stroke_at, short_value}
@@ -22,7 +24,8 @@ use Rattle.spd_codec.specs.Faults.{run_fault}
 use Rattle.spd_codec.proofs.Steps.{bind_ok, judged_ok, ok_is}
 use Rattle.spd_codec.proofs.Fields.{Reads, reads_field}
 use Rattle.spd_codec.proofs.Sequences.{Behind, SeenBy, reads_behind, reads_seen, reads_as, reads_many}
-use Rattle.spd_codec.proofs.RunLists.{unless_none, unless_from, AreBehind, run_good, good_run, in_order, one_behind_another}
+use Rattle.spd_codec.proofs.RunLists.{unless_none, unless_from, AreBehind, run_good, good_run, in_order}
+use Rattle.spd_codec.proofs.RunLists.{one_behind_another}
 use Rattle.spd_codec.proofs.Values.{short_is, reads_short, reads_tag, reads_level, reads_run, reads_kind}
 
 -- ---- runs
@@ -49,13 +52,15 @@ runs_there before text (run ∷ runs) rest h =
     let others = runs_there (Some run) h.0 runs rest h.2 in
     let good = run_good before run h.1.1 in
     record {
-      parts = h.1.0.1 ∙ ap (λ (t : List ℕ). run_text run ++ t) others.parts ∙ sym (append_assoc (run_text run) (flat_map run_text runs) rest);
+      parts = h.1.0.1 ∙ ap (λ (t : List ℕ). run_text run ++ t) others.parts
+          ∙ sym (append_assoc (run_text run) (flat_map run_text runs) rest);
       fit = (h.1.0.0, others.fit);
       behind = (good.0, good.1, others.behind);
     }
 
 -- runs that stand there
-runs_back : (before : Option Run) (runs : List Run) (rest : List ℕ) → AllByRecursion RunFits runs → AreBehind before runs
+runs_back : (before : Option Run) (runs : List Run) (rest : List ℕ) → AllByRecursion RunFits runs
+    → AreBehind before runs
     → EachRun before (flat_map run_text runs ++ rest) runs rest
 runs_back before [] rest fit behind = refl
 runs_back before (run ∷ runs) rest fit behind = (
@@ -132,7 +137,10 @@ runs_of_shape text (Runs runs) rest h =
     let few : length runs ≤ max_runs = h.canonical.1 in (
       length runs,
       flat_map run_text runs ++ rest,
-      ((omega (arith, few), h.parts ∙ append_assoc (short (length runs)) (flat_map run_text runs) rest), good_count (length runs) h.canonical.0 few),
+      (
+        (omega (arith, few), h.parts ∙ append_assoc (short (length runs)) (flat_map run_text runs) rest),
+        good_count (length runs) h.canonical.0 few,
+      ),
       (runs, (refl, runs_back None runs rest h.fits (one_behind_another runs h.canonical.2)), refl),
     )
 runs_of_shape text (Disc x y r) rest h = absurd (let e : kinds.Disc ≡ kinds.Runs = h.kind in cc)
@@ -145,10 +153,12 @@ reads_runs = reads_as (reads_behind (reads_field count_field short_value (short_
 
 -- x, y and radius stand first
 abbrev StartsDisc : List ℕ → Shape → List ℕ → Type 0
-StartsDisc = Behind (StartsGood number_field) (λ x. Behind (StartsGood number_field) (λ y. SeenBy (λ r. Disc x y r) (StartsGood radius_field)))
+StartsDisc = Behind (StartsGood number_field)
+    (λ x. Behind (StartsGood number_field) (λ y. SeenBy (λ r. Disc x y r) (StartsGood radius_field)))
 
 -- they are a disc
-shape_of_disc : (text : List ℕ) (shape : Shape) (rest : List ℕ) → StartsDisc text shape rest → StartsShape kinds.Disc text shape rest
+shape_of_disc : (text : List ℕ) (shape : Shape) (rest : List ℕ) → StartsDisc text shape rest
+    → StartsShape kinds.Disc text shape rest
 shape_of_disc text shape rest h =
     let x = h.0 in
     let y = h.3.0 in
@@ -162,7 +172,8 @@ shape_of_disc text shape rest h =
     })
 
 -- a shape that is a disc
-disc_of_shape : (text : List ℕ) (shape : Shape) (rest : List ℕ) → StartsShape kinds.Disc text shape rest → StartsDisc text shape rest
+disc_of_shape : (text : List ℕ) (shape : Shape) (rest : List ℕ) → StartsShape kinds.Disc text shape rest
+    → StartsDisc text shape rest
 disc_of_shape text (Runs runs) rest h = absurd (let e : kinds.Runs ≡ kinds.Disc = h.kind in cc)
 disc_of_shape text (Disc x y r) rest h =
     let small : r ≤ max_radius = h.canonical in (
@@ -181,7 +192,8 @@ disc_of_shape text (Disc x y r) rest h =
 reads_disc : Reads disc_at (StartsShape kinds.Disc) (ShapeFault kinds.Disc)
 unfolding disc_at
 reads_disc = reads_as (reads_behind reads_short (λ x. reads_behind reads_short
-    (λ y. reads_seen (λ r. Disc x y r) (reads_field radius_field short_value (short_is _))))) shape_of_disc disc_of_shape
+    (λ y. reads_seen (λ r. Disc x y r) (reads_field radius_field short_value (short_is _))))) shape_of_disc
+    disc_of_shape
 
 -- the reader of a shape
 reads_shape : (kind : Kind) → Reads (shape_at kind) (StartsShape kind) (ShapeFault kind)
@@ -207,21 +219,28 @@ abbrev StartsLevel : Kind → List ℕ → Seed → List ℕ → Type 0
 StartsLevel kind = Behind (StartsGood level_field) (λ level. SeenBy (seed_of level) (StartsShape kind))
 
 -- they are a canonical seed
-seed_there : (kind : Kind) (text : List ℕ) (seed : Seed) (rest : List ℕ) → StartsLevel kind text seed rest → StartsSeed kind text seed rest
+seed_there : (kind : Kind) (text : List ℕ) (seed : Seed) (rest : List ℕ) → StartsLevel kind text seed rest
+    → StartsSeed kind text seed rest
 seed_there kind text seed rest h =
     let level = h.0 in
     let shape = h.3.1 in
     let some : 0 < level = ltb-true 0 level (unless_none _ _ h.2.1) in
     let within : level < 2 ^ 16 = h.2.0.0 in
     subst (λ (s : Seed). StartsSeed kind text s rest) h.3.2 (record {
-      canonical = record { level_low = omega (arith, some); level_high = omega (arith, within); shape = shape.canonical };
+      canonical = record {
+        level_low = omega (arith, some);
+        level_high = omega (arith, within);
+        shape =
+            shape.canonical;
+      };
       fits = shape.fits;
       kind = shape.kind;
       parts = h.2.0.1 ∙ ap (λ (t : List ℕ). short level ++ t) shape.parts;
     })
 
 -- a canonical seed is a level and a shape
-seed_back : (kind : Kind) (text : List ℕ) (seed : Seed) (rest : List ℕ) → StartsSeed kind text seed rest → StartsLevel kind text seed rest
+seed_back : (kind : Kind) (text : List ℕ) (seed : Seed) (rest : List ℕ) → StartsSeed kind text seed rest
+    → StartsLevel kind text seed rest
 seed_back kind text seed rest h =
     let low = h.canonical.level_low in
     let high = h.canonical.level_high in (
@@ -234,12 +253,14 @@ seed_back kind text seed rest h =
 -- the reader of both
 reads_seed : (kind : Kind) → Reads (seed_at kind) (StartsSeed kind) (SeedFault kind)
 unfolding seed_at
-reads_seed kind = reads_as (reads_behind reads_level (λ level. reads_seen (seed_of level) (reads_shape kind))) (seed_there kind) (seed_back kind)
+reads_seed kind = reads_as (reads_behind reads_level (λ level. reads_seen (seed_of level) (reads_shape kind)))
+    (seed_there kind) (seed_back kind)
 
 -- ---- a stroke
 
 -- the kind, as the version spells it
-kind_there : (version : Version) (text : List ℕ) (kind : Kind) (shape : Shape) (rest : List ℕ) → StartsKind version text kind rest
+kind_there : (version : Version) (text : List ℕ) (kind : Kind) (shape : Shape) (rest : List ℕ)
+    → StartsKind version text kind rest
     → painted shape ≡ kind → ShapeFits Second shape → (text ≡ kind_text version shape ++ rest) × ShapeFits version shape
 kind_there First text kind (Runs runs) rest h e fits = (h.1, fits)
 kind_there First text kind (Disc x y r) rest h e fits = absurd (let g : kinds.Disc ≡ kinds.Runs = e ∙ h.0 in cc)
@@ -263,7 +284,8 @@ four a b c d rest =
 
 -- the parts of a stroke stand first
 abbrev StartsParts : Version → Option ℕ → List ℕ → ℕ × Seed → List ℕ → Type 0
-StartsParts version before = Behind (StartsGood (tag_field before)) (λ tag. Behind (StartsKind version) (λ kind. SeenBy (λ seed. (tag, seed)) (StartsSeed kind)))
+StartsParts version before = Behind (StartsGood (tag_field before))
+    (λ tag. Behind (StartsKind version) (λ kind. SeenBy (λ seed. (tag, seed)) (StartsSeed kind)))
 
 -- they are a stroke
 stroke_there : (version : Version) (before : Option ℕ) (text : List ℕ) (entry : ℕ × Seed) (rest : List ℕ)
@@ -276,7 +298,8 @@ stroke_there version before text entry rest h =
     subst (λ (e : ℕ × Seed). StartsStroke version before text e rest) h.3.3.2 (record {
       fits = record { tag = h.2.0.0; canonical = there.canonical; shape = kind.1 };
       above = unless_none _ _ h.2.1;
-      parts = h.2.0.1 ∙ ap (λ (t : List ℕ). tag_text tag ++ t) (kind.0 ∙ ap (λ (t : List ℕ). kind_text version seed.shape ++ t) there.parts)
+      parts = h.2.0.1 ∙ ap (λ (t : List ℕ). tag_text tag ++ t) (kind.0
+          ∙ ap (λ (t : List ℕ). kind_text version seed.shape ++ t) there.parts)
           ∙ sym (four (tag_text tag) (kind_text version seed.shape) (short seed.level) (shape_text seed.shape) rest);
     })
 
@@ -289,7 +312,14 @@ stroke_back version before text entry rest h =
     let kind = kind_back version seed.shape behind_kind h.fits.shape in (
       entry.0,
       kind_text version seed.shape ++ behind_kind,
-      ((h.fits.tag, h.parts ∙ four (tag_text entry.0) (kind_text version seed.shape) (short seed.level) (shape_text seed.shape) rest), unless_from _ _ h.above),
+      (
+        (
+          h.fits.tag,
+          h.parts ∙ four (tag_text entry.0) (kind_text version seed.shape) (short seed.level)
+              (shape_text seed.shape) rest,
+        ),
+        unless_from _ _ h.above,
+      ),
       (
         painted seed.shape,
         behind_kind,
@@ -299,10 +329,12 @@ stroke_back version before text entry rest h =
     )
 
 -- the reader of a stroke
-pub reads_stroke : (version : Version) (before : Option ℕ) → Reads (stroke_at version before) (StartsStroke version before) (StrokeFault version before)
+pub reads_stroke : (version : Version) (before : Option ℕ)
+    → Reads (stroke_at version before) (StartsStroke version before) (StrokeFault version before)
 unfolding stroke_at
 reads_stroke version before = reads_as (reads_behind (reads_tag before) (λ tag. reads_behind (reads_kind version)
-    (λ kind. reads_seen (λ seed. (tag, seed)) (reads_seed kind)))) (stroke_there version before) (stroke_back version before)
+    (λ kind. reads_seen (λ seed. (tag, seed)) (reads_seed kind)))) (stroke_there version before)
+    (stroke_back version before)
 
 -- ---- runs that were read make a canonical stroke
 
@@ -313,7 +345,8 @@ unfolding many_at run_at
 behind_read zero before text x e =
     subst (λ (y : List Run × List ℕ). (length y.0 ≡ 0) × AreBehind before y.0) (ok_is ([], text) x e) (refl, tt)
 behind_read (suc n) before text x e =
-    let a = bind_ok (run_at before text) (λ r. many_at (λ run. run) run_at n (Some r.0) r.1 >>= λ xs. Ok (r.0 ∷ xs.0, xs.1)) x e in
+    let a = bind_ok (run_at before text)
+    (λ r. many_at (λ run. run) run_at n (Some r.0) r.1 >>= λ xs. Ok (r.0 ∷ xs.0, xs.1)) x e in
     let b = bind_ok (many_at (λ run. run) run_at n (Some a.0.0) a.0.1) (λ xs. Ok (a.0.0 ∷ xs.0, xs.1)) x a.2 in
     let t = bind_ok (taken_at 6 run_value text) (λ y. judged (run_fault before y.0) y) a.0 a.1 in
     let j = judged_ok (run_fault before t.0.0) t.0 a.0 t.2 in

@@ -1,5 +1,6 @@
 -- The fields of fixed size, each by its value.
-use Rattle.std.proofs.Common.{◌≡◌, ◌⊎◌, ℕ, zero, suc, ◌^◌, ◌<◌, List, [], ◌∷◌, ◌++◌, length, take, drop, Option, None, Result, Ok, Err, refl, sym, ap, ◌∙◌, arith, inl, inr}
+use Rattle.std.proofs.Common.{◌≡◌, ◌⊎◌, ℕ, zero, suc, ◌^◌, ◌<◌, List, [], ◌∷◌, ◌++◌, length, take, drop, Option, None}
+use Rattle.std.proofs.Common.{Result, Ok, Err, refl, sym, ap, ◌∙◌, arith, inl, inr}
 use Rattle.std.specs.Prelude.{◌==◌}
 use Rattle.std.proofs.lemmas.Bool.{eqb-true}
 use Rattle.std.proofs.lemmas.Nat.{be_bytes_2, from_be_bytes-to_be_bytes_2}
@@ -13,11 +14,13 @@ use Rattle.spd_codec.specs.declared.version.Version.TheVariants.{First, Second}
 use Rattle.spd_codec.specs.declared.version.Kind.{Kind}
 use Rattle.spd_codec.specs.declared.version.Kind.TheVariants as kinds
 use Rattle.spd_codec.specs.Spelling.{short, run_text, magic, conn_byte}
-use Rattle.spd_codec.specs.Faults.{StartsGood, FieldFault, byte_field, short_field, number_field, tag_field, print_field}
+use Rattle.spd_codec.specs.Faults.{StartsGood, FieldFault, byte_field, short_field, number_field, tag_field}
+use Rattle.spd_codec.specs.Faults.{print_field}
 use Rattle.spd_codec.specs.Faults.{run_field, level_field, conn_field, kind_field, magic_field, version_field}
 use Rattle.spd_codec.specs.Faults.{StartsConn, StartsKind, KindFault, StartsMagic, MagicFault}
 use Rattle.spd_codec.specs.Reading.{◌>>=◌, judged, taken_at, byte_value, short_value, run_value, short_at, tag_at}
-use Rattle.spd_codec.specs.Reading.{print_at, level_at, run_at, conn_at, conn_of, kind_at, kind_of, magic_at, version_of}
+use Rattle.spd_codec.specs.Reading.{print_at, level_at, run_at, conn_at, conn_of, kind_at, kind_of, magic_at}
+use Rattle.spd_codec.specs.Reading.{version_of}
 use Rattle.spd_codec.proofs.SixteenBytes.{be_bytes_16, below_16}
 use Rattle.spd_codec.proofs.Fields.{IsBytes, IsBytes-take, IsBytes-drop, IsField, Reads, reads_field}
 use Rattle.spd_codec.proofs.Sequences.{Behind, SeenBy, reads_behind, reads_seen, reads_as, reads_same, reads_nothing}
@@ -53,7 +56,13 @@ short_is wrong = record {
 
 -- the fingerprint
 print_is : IsField print_field (λ print. print)
-print_is = record { len = λ print h. h; back = λ bytes len small. refl; fits = λ bytes len small. len; again = λ print h. refl }
+print_is = record {
+  len = λ print h. h;
+  back = λ bytes len small. refl;
+  fits = λ bytes len small. len;
+  again =
+      λ print h. refl;
+}
 
 -- two bytes
 pair_small : (a b : ℕ) → a < 256 → b < 256 → IsBytes (a ∷ b ∷ [])
@@ -105,15 +114,18 @@ undone (Err e) = refl
 -- the reader of a number
 pub reads_short : Reads short_at (StartsGood number_field) (FieldFault number_field)
 unfolding short_at
-reads_short = reads_same (λ text. undone (taken_at 2 short_value text)) (reads_field number_field short_value (short_is (λ n. None)))
+reads_short = reads_same (λ text. undone (taken_at 2 short_value text))
+    (reads_field number_field short_value (short_is (λ n. None)))
 
 -- that of a fingerprint
 pub reads_print : Reads print_at (StartsGood print_field) (FieldFault print_field)
 unfolding print_at
-reads_print = reads_same (λ text. undone (taken_at 32 (λ print. print) text)) (reads_field print_field (λ print. print) print_is)
+reads_print = reads_same (λ text. undone (taken_at 32 (λ print. print) text))
+    (reads_field print_field (λ print. print) print_is)
 
 -- that of a tag
-pub reads_tag : (before : Option ℕ) → Reads (tag_at before) (StartsGood (tag_field before)) (FieldFault (tag_field before))
+pub reads_tag : (before : Option ℕ)
+    → Reads (tag_at before) (StartsGood (tag_field before)) (FieldFault (tag_field before))
 unfolding tag_at
 reads_tag before = reads_field (tag_field before) _ (record {
   len = λ tag h. refl;
@@ -128,14 +140,16 @@ unfolding level_at
 reads_level = reads_field level_field short_value (short_is _)
 
 -- that of a run
-pub reads_run : (before : Option Run) → Reads (run_at before) (StartsGood (run_field before)) (FieldFault (run_field before))
+pub reads_run : (before : Option Run)
+    → Reads (run_at before) (StartsGood (run_field before)) (FieldFault (run_field before))
 unfolding run_at
 reads_run before = reads_field (run_field before) run_value (run_is before)
 
 -- ---- bytes that say something
 
 -- the byte says the connectivity
-conn_there : (text : List ℕ) (conn : Conn) (rest : List ℕ) → SeenBy conn_of (StartsGood conn_field) text conn rest → StartsConn text conn rest
+conn_there : (text : List ℕ) (conn : Conn) (rest : List ℕ) → SeenBy conn_of (StartsGood conn_field) text conn rest
+    → StartsConn text conn rest
 conn_there text conn rest h =
     let b = h.0 in
     let is : b ≡ conn_byte conn = elim (either (b == 4) (b == 8) (unless_none _ _ h.1.1)) [
@@ -145,7 +159,8 @@ conn_there text conn rest h =
     h.1.0.1 ∙ ap (λ (c : ℕ). c ∷ rest) is
 
 -- and is its byte
-conn_back : (text : List ℕ) (conn : Conn) (rest : List ℕ) → StartsConn text conn rest → SeenBy conn_of (StartsGood conn_field) text conn rest
+conn_back : (text : List ℕ) (conn : Conn) (rest : List ℕ) → StartsConn text conn rest
+    → SeenBy conn_of (StartsGood conn_field) text conn rest
 conn_back text Four rest h = (4, ((tt, h), refl), refl)
 conn_back text Eight rest h = (8, ((tt, h), refl), refl)
 
@@ -155,15 +170,19 @@ unfolding conn_at
 reads_conn = reads_as (reads_seen conn_of (reads_field conn_field byte_value (byte_is _))) conn_there conn_back
 
 -- the byte is that of the kind
-kind_says : (text : List ℕ) (b : ℕ) (kind : Kind) (rest : List ℕ) → text ≡ b ∷ rest → (b ≡ 0) ⊎ (b ≡ 1) → kind_of b ≡ kind
+kind_says : (text : List ℕ) (b : ℕ) (kind : Kind) (rest : List ℕ) → text ≡ b ∷ rest → (b ≡ 0) ⊎ (b ≡ 1)
+    → kind_of b ≡ kind
     → StartsKind Second text kind rest
 kind_says text b kinds.Runs rest e (inl nought) h = e ∙ ap (λ (c : ℕ). c ∷ rest) nought
-kind_says text b kinds.Runs rest e (inr one) h = absurd (let g : kinds.Disc ≡ kinds.Runs = sym (ap kind_of one) ∙ h in cc)
-kind_says text b kinds.Disc rest e (inl nought) h = absurd (let g : kinds.Runs ≡ kinds.Disc = sym (ap kind_of nought) ∙ h in cc)
+kind_says text b kinds.Runs rest e (inr one) h =
+    absurd (let g : kinds.Disc ≡ kinds.Runs = sym (ap kind_of one) ∙ h in cc)
+kind_says text b kinds.Disc rest e (inl nought) h =
+    absurd (let g : kinds.Runs ≡ kinds.Disc = sym (ap kind_of nought) ∙ h in cc)
 kind_says text b kinds.Disc rest e (inr one) h = e ∙ ap (λ (c : ℕ). c ∷ rest) one
 
 -- the byte says the kind
-kind_there : (text : List ℕ) (kind : Kind) (rest : List ℕ) → SeenBy kind_of (StartsGood kind_field) text kind rest → StartsKind Second text kind rest
+kind_there : (text : List ℕ) (kind : Kind) (rest : List ℕ) → SeenBy kind_of (StartsGood kind_field) text kind rest
+    → StartsKind Second text kind rest
 kind_there text kind rest h =
     let b = h.0 in
     let which : (b ≡ 0) ⊎ (b ≡ 1) = elim (either (b == 0) (b == 1) (unless_none _ _ h.1.1)) [
@@ -173,14 +192,16 @@ kind_there text kind rest h =
     kind_says text b kind rest h.1.0.1 which h.2
 
 -- and is its byte
-kind_back : (text : List ℕ) (kind : Kind) (rest : List ℕ) → StartsKind Second text kind rest → SeenBy kind_of (StartsGood kind_field) text kind rest
+kind_back : (text : List ℕ) (kind : Kind) (rest : List ℕ) → StartsKind Second text kind rest
+    → SeenBy kind_of (StartsGood kind_field) text kind rest
 kind_back text kinds.Runs rest h = (0, ((tt, h), refl), refl)
 kind_back text kinds.Disc rest h = (1, ((tt, h), refl), refl)
 
 -- the reader of a kind
 pub reads_kind : (version : Version) → Reads (kind_at version) (StartsKind version) (KindFault version)
 unfolding kind_at
-reads_kind First = reads_as (reads_nothing kinds.Runs) (λ text kind rest h. (sym h.0, h.1)) (λ text kind rest h. (sym h.0, h.1))
+reads_kind First = reads_as (reads_nothing kinds.Runs) (λ text kind rest h. (sym h.0, h.1))
+    (λ text kind rest h. (sym h.0, h.1))
 reads_kind Second = reads_as (reads_seen kind_of (reads_field kind_field byte_value (byte_is _))) kind_there kind_back
 
 -- ---- the magic
@@ -195,14 +216,17 @@ version_says text b Second rest e (inr two) h = ap (λ (t : List ℕ). 83 ∷ 80
 
 -- the letters of the magic, one behind the other
 abbrev StartsLetters : List ℕ → Version → List ℕ → Type 0
-StartsLetters = Behind (StartsGood (magic_field 83)) (λ s. Behind (StartsGood (magic_field 80)) (λ p. Behind (StartsGood (magic_field 68)) (λ d. SeenBy version_of (StartsGood version_field))))
+StartsLetters = Behind (StartsGood (magic_field 83))
+    (λ s. Behind (StartsGood (magic_field 80))
+    (λ p. Behind (StartsGood (magic_field 68)) (λ d. SeenBy version_of (StartsGood version_field))))
 
 -- a letter of the magic
 letter : (text : List ℕ) (l b : ℕ) (rest : List ℕ) → StartsGood (magic_field l) text b rest → text ≡ l ∷ rest
 letter text l b rest h = h.0.1 ∙ ap (λ (c : ℕ). c ∷ rest) (eqb-true b l (unless_none _ _ h.1))
 
 -- the letters are a magic
-magic_there : (text : List ℕ) (version : Version) (rest : List ℕ) → StartsLetters text version rest → StartsMagic text version rest
+magic_there : (text : List ℕ) (version : Version) (rest : List ℕ) → StartsLetters text version rest
+    → StartsMagic text version rest
 magic_there text version rest h =
     let p = h.3 in
     let d = p.3 in
@@ -219,11 +243,20 @@ magic_there text version rest h =
     ∙ last
 
 -- a magic is its letters
-magic_back : (text : List ℕ) (version : Version) (rest : List ℕ) → StartsMagic text version rest → StartsLetters text version rest
-magic_back text First rest h =
-    (83, 80 ∷ 68 ∷ 49 ∷ rest, ((tt, h), refl), (80, 68 ∷ 49 ∷ rest, ((tt, refl), refl), (68, 49 ∷ rest, ((tt, refl), refl), (49, ((tt, refl), refl), refl))))
-magic_back text Second rest h =
-    (83, 80 ∷ 68 ∷ 50 ∷ rest, ((tt, h), refl), (80, 68 ∷ 50 ∷ rest, ((tt, refl), refl), (68, 50 ∷ rest, ((tt, refl), refl), (50, ((tt, refl), refl), refl))))
+magic_back : (text : List ℕ) (version : Version) (rest : List ℕ) → StartsMagic text version rest
+    → StartsLetters text version rest
+magic_back text First rest h = (
+  83,
+  80 ∷ 68 ∷ 49 ∷ rest,
+  ((tt, h), refl),
+  (80, 68 ∷ 49 ∷ rest, ((tt, refl), refl), (68, 49 ∷ rest, ((tt, refl), refl), (49, ((tt, refl), refl), refl))),
+)
+magic_back text Second rest h = (
+  83,
+  80 ∷ 68 ∷ 50 ∷ rest,
+  ((tt, h), refl),
+  (80, 68 ∷ 50 ∷ rest, ((tt, refl), refl), (68, 50 ∷ rest, ((tt, refl), refl), (50, ((tt, refl), refl), refl))),
+)
 
 -- the reader of a magic
 pub reads_magic : Reads magic_at StartsMagic MagicFault

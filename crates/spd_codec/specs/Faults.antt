@@ -160,7 +160,8 @@ radius_field = short_field (λ r. unless (nat_le r max_radius) (BadStroke BadRad
 
 -- the runs of a stroke, so many
 abbrev pub RunsFault : ℕ → List ℕ → SpdError → Type 0
-RunsFault count = ManyFault (λ run. run) (λ before. StartsGood (run_field before)) (λ before. FieldFault (run_field before))
+RunsFault count = ManyFault (λ run. run) (λ before. StartsGood (run_field before))
+    (λ before. FieldFault (run_field before))
     count None
 
 -- behind the level: the number of runs and the runs, or x, y and radius of a disc
@@ -221,7 +222,8 @@ StartsStrokes version count = StartsMany (λ entry. entry.0) (StartsStroke versi
 -- so many tombstones
 abbrev pub TombstonesFault : ℕ → List ℕ → SpdError → Type 0
 TombstonesFault count =
-    ManyFault (λ tag. tag) (λ before. StartsGood (tag_field before)) (λ before. FieldFault (tag_field before)) count None
+    ManyFault (λ tag. tag) (λ before. StartsGood (tag_field before)) (λ before. FieldFault (tag_field before)) count
+    None
 
 -- a text begins with so many tombstones
 abbrev pub StartsTombstones : ℕ → List ℕ → List ℕ → List ℕ → Type 0

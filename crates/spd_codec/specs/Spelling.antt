@@ -9,6 +9,7 @@ use Rattle.stroke_core.specs.declared.run.Run.{Run}
 use Rattle.stroke_core.specs.Seed.{Seed, Shape, Runs, Disc, IsCanonical}
 use Rattle.stroke_lattice.specs.State.{State}
 use Rattle.stroke_lattice.specs.Pieces.{strokes_of, tombstones_of}
+use Rattle.spd_codec.specs.declared.frame.Frame.{Frame}
 use Rattle.spd_codec.specs.declared.version.Version.{Version}
 use Rattle.spd_codec.specs.declared.writing.TheConstants.{MAX_BYTES}
 use Rattle.spd_codec.specs.declared.version.Version.TheVariants.{First, Second}
@@ -100,3 +101,14 @@ pub record Spells (bytes : List ℕ) (conn : Conn) (print : List ℕ) (s : State
   pub print_length : length print ≡ 32
   pub strokes : AllByRecursion (StrokeFits version) (strokes_of s)
   pub tombstones : AllByRecursion (λ tag. tag < 2 ^ 128) (tombstones_of s)
+
+-- the bytes spell the frame
+abbrev pub SpellsFrame : List ℕ → Frame → Type 0
+SpellsFrame bytes f = Spells bytes f.conn f.print f.delta
+
+-- the frame has a text in the version: one that is not too long, and has each of the strokes
+pub record IsWritable (version : Version) (f : Frame) : Type 0 where
+  pub within : length (frame_text version f.conn f.print f.delta) ≤ max_bytes
+  pub print_length : length f.print ≡ 32
+  pub strokes : AllByRecursion (StrokeFits version) (strokes_of f.delta)
+  pub tombstones : AllByRecursion (λ tag. tag < 2 ^ 128) (tombstones_of f.delta)

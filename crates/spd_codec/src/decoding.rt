@@ -2,7 +2,7 @@
 ghost use Rattle.std.specs.Prelude.{◌≡◌, ◌⊎◌, ◌↔◌, ◌<◌, List, ℕ, Ok, IfOk, IfErr, IsErrOf, length};
 ghost use Rattle.spd_codec.specs.declared.error.SpdError.TheVariants as errors;
 ghost use Rattle.spd_codec.specs.declared.frame.Frame.{Frame as Read};
-ghost use Rattle.spd_codec.specs.Spelling.{max_bytes, Spells};
+ghost use Rattle.spd_codec.specs.Spelling.{max_bytes, SpellsFrame};
 ghost use Rattle.spd_codec.specs.Faults.{IsFault};
 ghost use Rattle.spd_codec.specs.Reading.{GivesOrMemory, fields_at, frame_at};
 
@@ -56,9 +56,9 @@ fn frame(alloc: Global, bytes: &[u8]) -> Result<Frame, SpdError>
 /// at a byte behind the last tombstone. M8 may stand in place of any answer but M6.
 pub fn decode(alloc: Global, bytes: &[u8]) -> Result<Frame, SpdError>
     // What is read is spelled so.
-    ensures found { IfOk result (λ f. Spells bytes.now f.conn f.print f.delta) }
+    ensures found { IfOk result (SpellsFrame bytes.now) }
     // What is spelled so is read, unless memory runs out.
-    ensures only { (f : Read) → Spells bytes.now f.conn f.print f.delta → (result ≡ Ok f) ⊎ IsErrOf result errors.Memory }
+    ensures only { (f : Read) → SpellsFrame bytes.now f → (result ≡ Ok f) ⊎ IsErrOf result errors.Memory }
     // Too many bytes are told before any memory is taken.
     ensures too_long { IsErrOf result errors.TooLong ↔ (max_bytes < length bytes.now) }
     // A refusal is the first fault of the bytes, unless memory runs out.

@@ -13,7 +13,8 @@ use Rattle.stroke_lattice.specs.Pieces.{Item, Placed, Withdrawn, items_of, frame
 use Rattle.stroke_lattice.specs.Pieces.{strokes_of, tombstones_of, if_any, filled, pieces_of, IsFullBefore, AreFull}
 use Rattle.stroke_lattice.specs.Filling.{AreInOrder}
 use Rattle.stroke_lattice.proofs.Lists.{first_or_later, later, here, none_in_nil}
-use Rattle.stroke_lattice.proofs.Items.{strokes_walk, tombstones_walk, items_of_longer, items_of_nothing, items_in_order}
+use Rattle.stroke_lattice.proofs.Items.{strokes_walk, tombstones_walk, items_of_longer, items_of_nothing}
+use Rattle.stroke_lattice.proofs.Items.{items_in_order}
 use Rattle.stroke_lattice.proofs.Items.{frame_length_of_nothing, before_next, order_behind, order_joined}
 use Rattle.stroke_lattice.proofs.Adding.{piece_of_some, piece_without_items, items_of_one, above}
 
@@ -269,7 +270,8 @@ full_filled max (item ∷ rest) piece order =
       | false ↦ λ e.
           let next = filled max (with_item nothing item) rest in
           let order_next = order_of_one piece item rest order in
-          let items : flat_map items_of next ≡ item ∷ rest = items_of_filled max rest (with_item nothing item) order_next
+          let items : flat_map items_of next ≡ item ∷ rest =
+          items_of_filled max rest (with_item nothing item) order_next
           ∙ ap (λ (l : List Item). l ++ rest) (items_of_one item) in
           full_if_any max piece (nat_lt 0 (length (items_of piece))) next
           (full_before max piece item rest next items (above (frame_length (with_item piece item)) max e))

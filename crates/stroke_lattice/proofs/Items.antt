@@ -81,11 +81,13 @@ module _ {X : Type 0} (key : X → ℕ) where
 
 -- ---- the entries of a map are in order
 
-front : (a b : Bool) → T (a && b) → T a
+-- the first of two tests
+pub front : (a b : Bool) → T (a && b) → T a
 front true b h = tt
 front false b h = absurd h
 
-back : (a b : Bool) → T (a && b) → T b
+-- the second of two tests
+pub back : (a b : Bool) → T (a && b) → T b
 back true b h = h
 back false b h = absurd h
 
@@ -98,7 +100,8 @@ greater : (x y : ℕ) → y < x → nat_cmp x y ≡ Greater
 greater x y e = grind (arith, nat_tests)
 
 module _ {X : Type 0} where
-  put_last : (k : ℕ) (v : X) (es : List (ℕ × X)) → AllByRecursion (λ other. other < k) (map (λ e. e.0) es)
+  -- a key above all others goes last
+  pub put_last : (k : ℕ) (v : X) (es : List (ℕ × X)) → AllByRecursion (λ other. other < k) (map (λ e. e.0) es)
       → put nat_cmp k v es ≡ es ++ (k, v) ∷ []
   put_last k v [] below = refl
   put_last k v (e ∷ es) below =
@@ -271,7 +274,8 @@ items_of_longer s (Withdrawn tag) before =
 pub frame_length_of_longer : (s : State) (item : Item) → AllBefore (items_of s) item
     → frame_length (with_item s item) ≡ frame_length s + item_length item
 frame_length_of_longer s item before =
-    let more : sum_by item_length (items_of (with_item s item)) ≡ sum_by item_length (items_of s) + (0 + item_length item) =
+    let more : sum_by item_length (items_of (with_item s item)) ≡ sum_by item_length
+    (items_of s) + (0 + item_length item) =
     ap (sum_by item_length) (items_of_longer s item before)
     ∙ sum_by-append item_length (items_of s) (item ∷ []) in
     omega arith

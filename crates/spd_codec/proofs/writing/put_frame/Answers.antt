@@ -27,7 +27,8 @@ returns-clause-text c =
     let tombstones = c.walks_give_one_list.ensures.tombstones s c.tombstones.result c.tombstones.ensures.tombstones in
     frame_put c.args.conn c.args.print.now s c.len.result c.len-2.result c.args.out.now.items c.put_head.new.out.items
     c.put_number.new.out.items c.put_number-2.new.out.items c.put_strokes.new.out.items c.put_tombstones.new.out.items
-    (c.len.ensures.value ∙ ap length strokes) (c.len-2.ensures.value ∙ ap length tombstones) c.in_ok-put_head.ensures.text
+    (c.len.ensures.value ∙ ap length strokes) (c.len-2.ensures.value ∙ ap length tombstones)
+    c.in_ok-put_head.ensures.text
     c.in_ok-put_number.ensures c.in_ok-put_number-2.ensures c.in_ok-put_strokes.ensures.text
     c.in_ok-put_tombstones.ensures.text
 

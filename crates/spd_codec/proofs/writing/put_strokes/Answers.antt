@@ -9,7 +9,8 @@ pub loop-tag-init : goal.loop-tag-init
 loop-tag-init c =
     let all : c.into_iter-tag-iterator.result ≡ strokes_of c.args.delta.now =
     c.into_iter-tag-iterator.ensures.into_iter_gives
-    ∙ c.walks_give_one_list.ensures.strokes c.args.delta.now c.strokes-tag-items.result c.strokes-tag-items.ensures.strokes in
+    ∙ c.walks_give_one_list.ensures.strokes c.args.delta.now c.strokes-tag-items.result
+    c.strokes-tag-items.ensures.strokes in
     record {
       text = ap (λ es. c.args.out.now.items ++ flat_map (stroke_text Second) es) all;
       fit = λ each. subst (AllByRecursion (StrokeFits Second)) all each;

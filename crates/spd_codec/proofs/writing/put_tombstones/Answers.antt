@@ -8,7 +8,8 @@ pub loop-tag-init : goal.loop-tag-init
 loop-tag-init c =
     let all : c.into_iter-tag-iterator.result ≡ tombstones_of c.args.delta.now =
     c.into_iter-tag-iterator.ensures.into_iter_gives
-    ∙ c.walks_give_one_list.ensures.tombstones c.args.delta.now c.tombstones-tag-items.result c.tombstones-tag-items.ensures.tombstones in
+    ∙ c.walks_give_one_list.ensures.tombstones c.args.delta.now c.tombstones-tag-items.result
+    c.tombstones-tag-items.ensures.tombstones in
     record {
       text = ap (λ (tags : List ℕ). c.args.out.now.items ++ flat_map tag_text tags) all;
       fit = λ each. subst (AllByRecursion (λ tag. tag < 2 ^ 128)) all each;

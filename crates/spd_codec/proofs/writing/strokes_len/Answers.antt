@@ -8,7 +8,8 @@ pub loop-stroke-init : goal.loop-stroke-init
 loop-stroke-init c =
     let all : c.into_iter-stroke-iterator.result ≡ strokes_of c.args.delta.now =
     c.into_iter-stroke-iterator.ensures.into_iter_gives
-    ∙ c.walks_give_one_list.ensures.strokes c.args.delta.now c.strokes-stroke-items.result c.strokes-stroke-items.ensures.strokes in
+    ∙ c.walks_give_one_list.ensures.strokes c.args.delta.now c.strokes-stroke-items.result
+    c.strokes-stroke-items.ensures.strokes in
     record {
       sum = ap (λ (es : List (ℕ × Seed)). 41 + sum_by (λ e. byte_len_of e.1.shape) es) all;
       within = omega arith;

@@ -14,5 +14,6 @@ strokes-requires c = λ tag some. nothing_has_no_stroke tag some.0
 pub tombstones-requires : goal.tombstones-requires
 tombstones-requires c = λ tag has. nothing_has_no_tombstone tag
     (ap (λ (s : set.FinSet nat_cmp). set.contains s tag) (sym (same_tombstones c.in-Ok.state
-    (strokes_at c.args.version c.args.strokes c.args.self.now.rest.now) (c.strokes.new.state, c.strokes.new.self.rest.now)
+    (strokes_at c.args.version c.args.strokes c.args.self.now.rest.now)
+    (c.strokes.new.state, c.strokes.new.self.rest.now)
     c.in_ok-strokes.ensures ∙ ap (λ (s : State). s.tombstones) c.in-Ok.ensures.value)) ∙ has)

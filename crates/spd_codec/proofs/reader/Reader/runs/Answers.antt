@@ -17,8 +17,10 @@ returns-in_err-run c =
 pub loop-preserved : goal.loop-preserved
 loop-preserved c =
     let all = many_at (λ run. run) run_at c.args.count None c.args.self.now.rest.now in
-    rw c.in_ok-push.ensures.items (goes_on push (λ run. run) run_at c.loop.runs.items c.args.count c.loop.counter c.loop.last
-    c.loop.self.rest.now c.in_ok-run.run' c.run.new.self.rest.now all c.loop-test.true c.in_ok-run.ensures c.loop.invariant)
+    rw c.in_ok-push.ensures.items (goes_on push (λ run. run) run_at c.loop.runs.items c.args.count c.loop.counter
+    c.loop.last
+    c.loop.self.rest.now c.in_ok-run.run' c.run.new.self.rest.now all c.loop-test.true c.in_ok-run.ensures
+    c.loop.invariant)
 
 pub returns : goal.returns
 returns c =

@@ -44,4 +44,5 @@ loop-preserved c =
 pub returns : goal.returns
 returns c =
     is_done with_tombstone (λ tag. tag) tag_at c.loop.state c.args.count c.loop.counter c.loop.last
-    c.loop.self.rest.now (all c.args.state.now c.args.count c.args.self.now.rest.now) c.loop-test.false c.loop.invariant.read
+    c.loop.self.rest.now (all c.args.state.now c.args.count c.args.self.now.rest.now) c.loop-test.false
+    c.loop.invariant.read

@@ -22,7 +22,8 @@ pub returns-clause-measured : goal.returns-clause-measured
 returns-clause-measured c =
     let item = Withdrawn c.args.tag in
     let last = c.make_room.new.self.last in
-    let before = before_in_room c.args.max_bytes (filling c.args.self.now) (filling c.make_room.new.self) TOMBSTONE_BYTES item
+    let before = before_in_room c.args.max_bytes (filling c.args.self.now) (filling c.make_room.new.self)
+    TOMBSTONE_BYTES item
     c.in_ok-make_room.ensures.room c.requires.before in
     let longer : frame_length c.bury.new.self ≡ frame_length last + item_length item =
     ap frame_length c.in_ok-bury.ensures.ok ∙ frame_length_of_longer last item before in
