@@ -1,5 +1,4 @@
 -- The lemmas of this crate, file by file.
-pub mod Answering
 pub mod Storing
 pub mod Settling
 pub mod Sweeping

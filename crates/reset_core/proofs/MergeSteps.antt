@@ -25,11 +25,10 @@ use Rattle.core_rules.specs.Merge.{HasRisen, IsReset, IsKept, IsMerged, IsRefuse
 use Rattle.core_rules.specs.Invariant.{IsSound}
 use Rattle.tile_work.specs.TileSet.{Has}
 use Rattle.tile_resets.specs.Renewing.{IsTileKept, TouchesMarked, IsUnder}
-use Rattle.tile_resets.specs.Renewing.{AreReset, IsRaisedUnder, IsDirtyIf}
+use Rattle.tile_resets.specs.Renewing.{AreMarkedReset, IsRaisedByTags}
 use Rattle.reset_core.specs.declared.replica.Core.TheInside.{Inside as Parts}
 use Rattle.reset_core.specs.Replica.{core_of, IsStored}
-use Rattle.reset_core.specs.MergeSteps.{IsMarked, HasSpentMark, IsGrown, AreMarkedReset, IsRaisedByBirths, IsRenewed}
-use Rattle.core_rules.specs.Image.{IsOfSize}
+use Rattle.reset_core.specs.MergeSteps.{IsMarked, HasSpentMark, IsGrown, IsRenewed}
 use Rattle.tile_resets.specs.Marks.{AreHits}
 use Rattle.reset_core.proofs.Storing.{empty_still}
 use Rattle.tile_resets.proofs.RenewingResets.{reset_stays}
@@ -117,7 +116,7 @@ module _ (before : Core) (delta : State) (turnover : Turnover) (marks : List Boo
     (marked : IsMarked before delta marks) (none_spent : HasSpentMark before marks → ⊥)
     (grown : IsGrown before delta turnover state marker)
     (reset : AreMarkedReset (tiling before) marks marker before.image middle before.tiles between)
-    (raised : IsRaisedByBirths (tiling before) turnover state marker middle new between after) where
+    (raised : IsRaisedByTags (tiling before) turnover.born state marker middle new between after) where
   is_new_marker : IsMarker (domain before) (mask_at before) state (value_at marker)
   is_new_marker = grown.marker_is before.conn
 
@@ -361,32 +360,19 @@ hits_are_marked before core tiles delta marks view tiles_are fits compatible cou
 
 module _ (tiles known : Tiles) (tiles_are : tiles ≡ known) (marker new_marker : Raster)
     (marker_is : marker ≡ new_marker) where
-  pub marked_are_reset : (marks : List Bool) (old new : Raster) (work after : List TileWork) → IsOfSize old new
-      → length after ≡ length work → AreReset tiles (Has marks) marker old new work after
-      → AreMarkedReset known marks new_marker old new work after
-  marked_are_reset marks old new work after size count each = record {
-    size = size;
-    count = count;
-    each =
-        subst (λ (ts : Tiles). AreReset ts (Has marks) new_marker old new work after) tiles_are
-        (subst (λ (m : Raster). AreReset tiles (Has marks) m old new work after) marker_is each);
-  }
+  pub marked_are_reset : (marks : List Bool) (old new : Raster) (work after : List TileWork)
+      → AreMarkedReset tiles marks marker old new work after → AreMarkedReset known marks new_marker old new work after
+  marked_are_reset marks old new work after reset =
+      subst (λ (ts : Tiles). AreMarkedReset ts marks new_marker old new work after) tiles_are
+      (subst (λ (m : Raster). AreMarkedReset tiles marks m old new work after) marker_is reset)
 
   pub births_are_raised : (turnover : Turnover) (state : State) (old new : Raster) (work after : List TileWork)
-      (born : List ℕ) → born ≡ turnover.born → IsOfSize old new → length after ≡ length work
-      → IsRaisedUnder state born marker old new
-      → ((t : ℕ) → t < length work → IsDirtyIf (HasRisen tiles t old new) (work_of work t) (work_of after t))
-      → IsRaisedByBirths known turnover state new_marker old new work after
-  births_are_raised turnover state old new work after born born_is size count values risen = record {
-    size = size;
-    count = count;
-    values =
-        subst (λ (m : Raster). IsRaisedUnder state turnover.born m old new) marker_is
-        (subst (λ (tags : List ℕ). IsRaisedUnder state tags marker old new) born_is values);
-    dirty =
-        subst (λ (ts : Tiles). (t : ℕ) → t < length work
-        → IsDirtyIf (HasRisen ts t old new) (work_of work t) (work_of after t)) tiles_are risen;
-  }
+      (born : List ℕ) → born ≡ turnover.born → IsRaisedByTags tiles born state marker old new work after
+      → IsRaisedByTags known turnover.born state new_marker old new work after
+  births_are_raised turnover state old new work after born born_is raised =
+      subst (λ (ts : Tiles). IsRaisedByTags ts turnover.born state new_marker old new work after) tiles_are
+      (subst (λ (m : Raster). IsRaisedByTags tiles turnover.born state m old new work after) marker_is
+      (subst (λ (tags : List ℕ). IsRaisedByTags tiles tags state marker old new work after) born_is raised))
 
 -- a refusal is the answer to each refusal
 pub exactly_this : {T : Type 0} (core : Core) (delta : State) (why : CoreError) → IsRefused core delta why

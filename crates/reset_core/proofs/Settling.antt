@@ -12,8 +12,8 @@ use Rattle.std.proofs.lemmas.Nat.{mul-le}
 use Rattle.std.proofs.lemmas.List.{append-nil, append_assoc, length-append, length-set, map-append}
 use Rattle.std.proofs.lemmas.List.Edits.{length-remove}
 use Rattle.std.proofs.lemmas.List.Sums.{sum_by-set, sum_by-le}
-use Rattle.grid_core.specs.Raster.{Raster, IsSized, max_value}
-use Rattle.grid_core.specs.Tiles.{Tiles, IsTiled, count_of, columns_of, rows_of}
+use Rattle.grid_core.specs.Raster.{IsSized, max_value}
+use Rattle.grid_core.specs.Tiles.{IsTiled, count_of, columns_of, rows_of}
 use Rattle.grid_core.proofs.Spans.{spans-le}
 use Rattle.tile_generations.specs.declared.ticket.Ticket.{Ticket}
 use Rattle.core_rules.specs.declared.answers.Handed.{Handed}

@@ -24,7 +24,7 @@ use Rattle.border_queues.specs.TileWork.{TileWork, idle, received, dirty_count}
 use Rattle.core_rules.specs.Sweeps.{tile_rect, sender_of, hints_of, hints_for}
 use Rattle.core_rules.specs.InPlace.{IsSweptInPlace}
 use Rattle.core_rules.specs.Events.{Take, GiveBack, OfTake, OfGiveBack}
-use Rattle.core_rules.specs.Runs.{Entry, IsNext, IsWorkedOff, NoneOut, HasHints, jobs_of}
+use Rattle.core_rules.specs.Runs.{Entry, IsNext, IsWorkedOff}
 use Rattle.core_rules.specs.Invariant.{IsSound}
 use Rattle.reset_core.specs.declared.replica.Core.TheInside.{Inside as Parts}
 use Rattle.reset_core.specs.Telling.{ImageAndWork, image_and_work, burden, burden_of, AreByTile}

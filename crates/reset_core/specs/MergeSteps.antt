@@ -1,20 +1,18 @@
 -- What a merge has done to the parts of a core, one call after the other.
-use Rattle.std.specs.Prelude.{◌≡◌, ℕ, ◌<◌, Bool, false, List, length, replicate}
+use Rattle.std.specs.Prelude.{◌≡◌, ℕ, Bool, false, List, length, replicate}
 use Rattle.grid_core.specs.Raster.{Raster}
 use Rattle.grid_core.specs.Tiles.{Tiles, count_of}
 use Rattle.stroke_lattice.specs.State.{State, StateFits, AreCompatible, IsJoin}
 use Rattle.stroke_lattice.specs.Change.{Turnover, IsChange}
 use Rattle.marker_tiles.specs.Kept.{IsMarkerOf}
 use Rattle.tile_generations.specs.Generations.{max_generation}
-use Rattle.core_rules.specs.Image.{IsOfSize}
 use Rattle.core_rules.specs.Work.{Core, tiling, work_at}
-use Rattle.border_queues.specs.TileWork.{TileWork, work_of}
+use Rattle.border_queues.specs.TileWork.{TileWork}
 use Rattle.tile_resets.specs.Marks.{AreHits}
 use Rattle.tile_work.specs.TileSet.{Has}
 use Rattle.reset_core.specs.declared.replica.Core.TheInside.{Inside as Parts}
 use Rattle.reset_core.specs.Replica.{core_of}
-use Rattle.tile_resets.specs.Renewing.{AreReset, IsRaisedUnder, IsDirtyIf}
-use Rattle.core_rules.specs.Merge.{HasRisen}
+use Rattle.tile_resets.specs.Renewing.{AreMarkedReset, IsRaisedByTags}
 
 -- the delta fits the core, and its hits are marked
 pub record IsMarked (core : Core) (delta : State) (marks : List Bool) : Type 0 where
@@ -34,29 +32,13 @@ pub record IsGrown (before : Core) (delta : State) (turnover : Turnover) (state 
   pub change : IsChange before.state state turnover
   pub marker_is : IsMarkerOf before.mask state marker
 
--- the marked tiles are reset
-pub record AreMarkedReset (tiles : Tiles) (marks : List Bool) (marker old new : Raster) (work after : List TileWork)
-    : Type 0 where
-  pub size : IsOfSize old new
-  pub count : length after ≡ length work
-  pub each : AreReset tiles (Has marks) marker old new work after
-
--- the image is raised to the marker where a stroke that was born lies
-pub record IsRaisedByBirths (tiles : Tiles) (turnover : Turnover) (state : State) (marker old new : Raster)
-    (work after : List TileWork) : Type 0 where
-  pub size : IsOfSize old new
-  pub count : length after ≡ length work
-  pub values : IsRaisedUnder state turnover.born marker old new
-  pub dirty : (t : ℕ) → t < length work
-      → IsDirtyIf (HasRisen tiles t old new) (work_of work t) (work_of after t)
-
 -- the marked tiles are reset, and then the image is raised where a stroke that was born lies
 pub record IsImageRenewed (tiles : Tiles) (marks : List Bool) (turnover : Turnover) (state : State)
     (marker old new : Raster) (work after : List TileWork) : Type 0 where
   pub middle : Raster
   pub between : List TileWork
   pub reset : AreMarkedReset tiles marks marker old middle work between
-  pub raised : IsRaisedByBirths tiles turnover state marker middle new between after
+  pub raised : IsRaisedByTags tiles turnover.born state marker middle new between after
 
 -- the parts that are stored before and after: the hits of the delta were marked and none of them had spent its
 -- generations, the strokes were joined, marker and image were renewed, and the marks were cleared

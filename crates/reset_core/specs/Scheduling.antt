@@ -38,10 +38,7 @@ pub record KeepsCount (places : ℕ) (before after : Tally) : Type 0 where
   pub abandons : after.abandons ≡ before.abandons
   pub room : KeepsRoom places before after
 
--- what is kept, with one edit more that is accepted or refused, or with one result more
-abbrev pub with_accepted : Kept → ℕ → Kept
-with_accepted kept number = record kept { accepted = kept.accepted ++ number ∷ [] }
-
+-- what is kept, with one edit more that is refused, or with one result more
 abbrev pub with_refused : Kept → ℕ → CoreError → Kept
 with_refused kept number why = record kept { refused = kept.refused ++ (number, why) ∷ [] }
 

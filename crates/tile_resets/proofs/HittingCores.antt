@@ -11,12 +11,12 @@ use Rattle.stroke_lattice.specs.State.{State, IsJoin}
 use Rattle.stroke_lattice.proofs.Joins.{join_is_union}
 use Rattle.core_rules.specs.Hits.{HoldsOne, LosesStroke, AreLinked, LeadFrom, IsReached}
 use Rattle.tile_work.specs.TileSet.{Has}
-use Rattle.tile_resets.specs.Marks.{AreHits, IsLost, Adds}
+use Rattle.tile_resets.specs.Marks.{AreHits, LosesStrokeTo, Adds}
 use Rattle.tile_resets.proofs.HittingMarks.{replicate_has_none}
 
 -- a stroke dies where the delta has a tombstone for it
 loses_is_lost : (state delta after : State) → IsJoin state delta after → (p : Pixel) → LosesStroke state after p
-    → IsLost state delta p
+    → LosesStrokeTo state delta p
 loses_is_lost state delta after join p loses =
     let union = join_is_union state delta after join in
     let tag = loses.tag in
@@ -35,7 +35,7 @@ loses_is_lost state delta after join p loses =
       ))
     ]
 
-lost_is_losing : (state delta after : State) → IsJoin state delta after → (p : Pixel) → IsLost state delta p
+lost_is_losing : (state delta after : State) → IsJoin state delta after → (p : Pixel) → LosesStrokeTo state delta p
     → LosesStroke state after p
 lost_is_losing state delta after join p (tag, buried, (seed, was, covered)) = record {
   tag = tag;
@@ -53,7 +53,7 @@ lead_from_same P R linked same (u ∷ before) t (lead, link) = (lead_from_same P
 
 -- what is reached from the marks of the tiles that lose a stroke, where none was marked before, is hit
 pub reached_is_hit : (tiles : Tiles) (image : Raster) (conn : Conn) (state delta : State) (n : ℕ)
-    (m q m1 q1 m2 : List Bool) → m ≡ replicate n false → Adds (HoldsOne tiles (IsLost state delta)) m q m1 q1
+    (m q m1 q1 m2 : List Bool) → m ≡ replicate n false → Adds (HoldsOne tiles (LosesStrokeTo state delta)) m q m1 q1
     → ((t : ℕ) → Has m2 t ↔ IsReached (Has m1) (AreLinked tiles image conn) t)
     → AreHits tiles image conn state delta m2
 reached_is_hit tiles image conn state delta n m q m1 q1 m2 empty adds reached after join t within =

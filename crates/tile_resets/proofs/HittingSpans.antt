@@ -21,7 +21,7 @@ use Rattle.stroke_lattice.proofs.Joins.{one_seed}
 use Rattle.stroke_lattice.proofs.Walking.{TombstonesLeft, tombstones_begin, tombstone_here, tombstone_step}
 use Rattle.stroke_lattice.proofs.Walking.{tombstones_end}
 use Rattle.tile_work.specs.TileSet.{Has}
-use Rattle.tile_resets.specs.Marks.{Grows, Adds, IsLost, IsLostAt}
+use Rattle.tile_resets.specs.Marks.{Grows, Adds, LosesStrokeTo, IsUnderLive}
 use Rattle.core_rules.specs.Hits.{IsInTile, HoldsOne}
 use Rattle.tile_resets.proofs.HittingMarks.{grows_none, grows_more, adds_none, adds_more, adds_same}
 
@@ -203,9 +203,9 @@ module _ (tiles : Tiles) (seed : Seed) where
 pub stroke_is_lost : (tiles : Tiles) (state : State) (tag : ℕ) (seed : Seed) (m q m1 q1 : List Bool)
     → HasStroke state tag seed → (HasTombstone state tag → ⊥)
     → Adds (HoldsOne tiles (λ p. IsTrue (covers seed p))) m q m1 q1
-    → Adds (HoldsOne tiles (IsLostAt state tag)) m q m1 q1
+    → Adds (HoldsOne tiles (IsUnderLive state tag)) m q m1 q1
 stroke_is_lost tiles state tag seed m q m1 q1 has live adds =
-    adds_same (HoldsOne tiles (λ p. IsTrue (covers seed p))) (HoldsOne tiles (IsLostAt state tag)) m q m1 q1 adds
+    adds_same (HoldsOne tiles (λ p. IsTrue (covers seed p))) (HoldsOne tiles (IsUnderLive state tag)) m q m1 q1 adds
     (λ t (p, in_tile, (other, was, held)). (
       p,
       in_tile,
@@ -216,8 +216,8 @@ stroke_is_lost tiles state tag seed m q m1 q1 has live adds =
 -- what the walk over the tombstones keeps
 pub record IsLosing (tiles : Tiles) (state delta : State) (m q m1 q1 : List Bool) (left : List ℕ) : Type 0 where
   pub grows : Grows m q m1 q1
-  pub sound : (t : ℕ) → Has m1 t → Has m t ⊎ HoldsOne tiles (IsLost state delta) t
-  pub left_over : TombstonesLeft (λ tag. (t : ℕ) → HoldsOne tiles (IsLostAt state tag) t → Has m1 t) delta left
+  pub sound : (t : ℕ) → Has m1 t → Has m t ⊎ HoldsOne tiles (LosesStrokeTo state delta) t
+  pub left_over : TombstonesLeft (λ tag. (t : ℕ) → HoldsOne tiles (IsUnderLive state tag) t → Has m1 t) delta left
 
 module _ (tiles : Tiles) (state delta : State) where
   pub losing_begins : (m q : List Bool) (tags before : List ℕ) → before ≡ tags → AreTombstones delta tags
@@ -225,16 +225,16 @@ module _ (tiles : Tiles) (state delta : State) where
   losing_begins m q tags before same walk = record {
     grows = grows_none m q;
     sound = λ t has. inl has;
-    left_over = tombstones_begin (λ tag. (t : ℕ) → HoldsOne tiles (IsLostAt state tag) t → Has m t) delta tags before
+    left_over = tombstones_begin (λ tag. (t : ℕ) → HoldsOne tiles (IsUnderLive state tag) t → Has m t) delta tags before
         same walk;
   }
 
   pub losing_goes_on : (m q m1 q1 m2 q2 : List Bool) (tag : ℕ) (before left : List ℕ) → before ≡ tag ∷ left
-      → IsLosing tiles state delta m q m1 q1 before → Adds (HoldsOne tiles (IsLostAt state tag)) m1 q1 m2 q2
+      → IsLosing tiles state delta m q m1 q1 before → Adds (HoldsOne tiles (IsUnderLive state tag)) m1 q1 m2 q2
       → IsLosing tiles state delta m q m2 q2 left
   losing_goes_on m q m1 q1 m2 q2 tag before left same losing adds =
-      let marked1 = λ (tag : ℕ). (t : ℕ) → HoldsOne tiles (IsLostAt state tag) t → Has m1 t in
-      let marked2 = λ (tag : ℕ). (t : ℕ) → HoldsOne tiles (IsLostAt state tag) t → Has m2 t in
+      let marked1 = λ (tag : ℕ). (t : ℕ) → HoldsOne tiles (IsUnderLive state tag) t → Has m1 t in
+      let marked2 = λ (tag : ℕ). (t : ℕ) → HoldsOne tiles (IsUnderLive state tag) t → Has m2 t in
       let buried = tombstone_here marked1 delta tag left (subst (TombstonesLeft marked1 delta) same losing.left_over) in
       record {
         grows = grows_more m q m1 q1 m2 q2 losing.grows adds.grows;
@@ -247,9 +247,9 @@ module _ (tiles : Tiles) (state delta : State) where
       }
 
   pub losing_ends : (m q m1 q1 : List Bool) (left : List ℕ) → left ≡ [] → IsLosing tiles state delta m q m1 q1 left
-      → Adds (HoldsOne tiles (IsLost state delta)) m q m1 q1
+      → Adds (HoldsOne tiles (LosesStrokeTo state delta)) m q m1 q1
   losing_ends m q m1 q1 left none losing =
-      let marked = λ (tag : ℕ). (t : ℕ) → HoldsOne tiles (IsLostAt state tag) t → Has m1 t in
+      let marked = λ (tag : ℕ). (t : ℕ) → HoldsOne tiles (IsUnderLive state tag) t → Has m1 t in
       let all = tombstones_end marked delta (subst (TombstonesLeft marked delta) none losing.left_over) in
       record {
         grows = losing.grows;

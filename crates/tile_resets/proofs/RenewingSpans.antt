@@ -9,10 +9,11 @@ use Rattle.std.proofs.lemmas.List.{get_or-take, get_or-drop, length-take}
 use Rattle.std.proofs.lemmas.Nat.{mul-add-lt}
 use Rattle.grid_core.specs.declared.pixel.Pixel.{Pixel}
 use Rattle.grid_core.specs.Raster.{Raster, IsInside, IsFilled, index_of, value_at}
+use Rattle.grid_core.specs.Rects.{AreCellsChanged}
 use Rattle.stroke_core.specs.declared.span.Span.{Span}
 use Rattle.stroke_core.specs.Spans.{span_has}
 use Rattle.core_rules.specs.Image.{IsOfSize}
-use Rattle.tile_resets.specs.Renewing.{marker_value, greater_value, made_if, IsMadeWhere, AreCellsMade, RisesWhere}
+use Rattle.tile_resets.specs.Renewing.{marker_value, greater_value, made_if, made_at, IsMadeWhere, RisesWhere}
 use Rattle.tile_resets.specs.Renewing.{SomeIsLess}
 
 -- a change that leaves what it left at first where it comes again
@@ -88,7 +89,8 @@ row_before width x y row inside before =
 -- cells that are changed between two places of one row
 module _ (s : Span) (from to : ℕ) (make : ℕ → ℕ → ℕ) (marker old new : Raster) (size : IsOfSize marker old)
     (columns : s.end ≤ marker.width) (from_is : from ≡ s.y * marker.width + s.first)
-    (to_is : to ≡ s.y * marker.width + s.end) (cells : AreCellsMade from to make marker old new) (p : Pixel)
+    (to_is : to ≡ s.y * marker.width + s.end)
+    (cells : AreCellsChanged from to (made_at make marker old) old new) (p : Pixel)
     (inside : IsInside old.width old.height p) where
   old_at : value_at old p ≡ slice_index old.cells (index_of marker.width p)
   old_at = ap (λ w. slice_index old.cells (index_of w p)) size.width
@@ -156,7 +158,7 @@ module _ (s : Span) (from to : ℕ) (make : ℕ → ℕ → ℕ) (marker old new
 -- cells that are changed between two places of one row are a changed span
 pub cells_are_span : (s : Span) (from to : ℕ) (make : ℕ → ℕ → ℕ) (marker old new : Raster) → IsOfSize marker old
     → s.end ≤ marker.width → from ≡ s.y * marker.width + s.first → to ≡ s.y * marker.width + s.end
-    → AreCellsMade from to make marker old new → IsMadeWhere (span_has s) make marker old new
+    → AreCellsChanged from to (made_at make marker old) old new → IsMadeWhere (span_has s) make marker old new
 cells_are_span s from to make marker old new size columns from_is to_is cells = record {
   size = record {
     width = cells.width;

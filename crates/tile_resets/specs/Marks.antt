@@ -9,7 +9,7 @@ use Rattle.grid_core.specs.Rects.{IsInRect}
 use Rattle.grid_core.specs.Tiles.{Tiles, count_of}
 use Rattle.stroke_core.specs.Seed.{Seed, covers}
 use Rattle.stroke_lattice.specs.State.{State, HasTombstone, IsLive, IsJoin}
-use Rattle.core_rules.specs.Hits.{IsHitIn}
+use Rattle.core_rules.specs.Hits.{IsHitIn, IsReached}
 use Rattle.tile_work.specs.TileSet.{Has}
 
 -- marked are just the tiles that are hit where the strokes take the delta
@@ -25,12 +25,12 @@ abbrev pub SomeIn : Rect → (Pixel → Type 0) → Type 0
 SomeIn rect P = (p : Pixel) × IsInRect rect p × P p
 
 -- the live stroke of the tag covers the pixel
-abbrev pub IsLostAt : State → ℕ → Pixel → Type 0
-IsLostAt state tag p = (seed : Seed) × IsLive state tag seed × IsTrue (covers seed p)
+abbrev pub IsUnderLive : State → ℕ → Pixel → Type 0
+IsUnderLive state tag p = (seed : Seed) × IsLive state tag seed × IsTrue (covers seed p)
 
 -- a live stroke for which the delta has a tombstone covers the pixel
-abbrev pub IsLost : State → State → Pixel → Type 0
-IsLost state delta p = (tag : ℕ) × HasTombstone delta tag × IsLostAt state tag p
+abbrev pub LosesStrokeTo : State → State → Pixel → Type 0
+LosesStrokeTo state delta p = (tag : ℕ) × HasTombstone delta tag × IsUnderLive state tag p
 
 -- the image is above 0 at the pixel
 abbrev pub IsLight : Raster → Pixel → Type 0
@@ -69,6 +69,13 @@ pub record Grows (marks queue new_marks new_queue : List Bool) : Type 0 where
 pub record AreMarks (tiles : Tiles) (marks queue : List Bool) : Type 0 where
   pub count : length marks ≡ count_of tiles
   pub queue_count : length queue ≡ length marks
+
+-- the tiles are marked to which links lead from the marked ones, and the queue is empty
+pub record IsSpread (linked : ℕ → ℕ → Type 0) (before waiting after left : List Bool) : Type 0 where
+  pub marks : (t : ℕ) → Has after t ↔ IsReached (Has before) linked t
+  pub count : length after ≡ length before
+  pub queue_count : length left ≡ length waiting
+  pub none : (t : ℕ) → Has left t → ⊥
 
 -- these tiles are marked, and those of them that were not are put into the queue
 pub record Adds (P : ℕ → Type 0) (marks queue new_marks new_queue : List Bool) : Type 0 where

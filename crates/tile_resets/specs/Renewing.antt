@@ -1,5 +1,5 @@
 -- What a merge does to the image and to the work at the tiles, once strokes and marker are the new ones.
-use Rattle.std.specs.Prelude.{◌≡◌, ℕ, ◌<◌, ◌≤◌, ◌⊎◌, ◌↔◌, Bool, max, if◌then◌else◌, IsTrue}
+use Rattle.std.specs.Prelude.{◌≡◌, ℕ, ◌+◌, ◌*◌, ◌/◌, ◌<◌, ◌≤◌, ◌⊎◌, ◌↔◌, Bool, max, if◌then◌else◌, IsTrue}
 use Rattle.std.specs.Prelude.{List, length, slice_index}
 use Rattle.std.specs.List.{Contains}
 use Rattle.grid_core.specs.declared.pixel.Pixel.{Pixel}
@@ -9,11 +9,13 @@ use Rattle.grid_core.specs.Rects.{IsInRect}
 use Rattle.grid_core.specs.Tiles.{Tiles, tile_of, count_of, AreTouching}
 use Rattle.border_queues.specs.OpenEdges.{IsOnTiling}
 use Rattle.stroke_core.specs.Seed.{Seed, covers}
+use Rattle.stroke_core.specs.declared.span.Span.{Span}
 use Rattle.stroke_lattice.specs.State.{State, HasStroke}
 use Rattle.core_rules.specs.Image.{IsOfSize}
 use Rattle.core_rules.specs.Hits.{IsInTile}
 use Rattle.core_rules.specs.Merge.{HasRisen, IsReset}
 use Rattle.border_queues.specs.TileWork.{TileWork, work_of, reset_work}
+use Rattle.tile_work.specs.TileSet.{Has}
 
 -- the work is dirty if it was or if the tile is hit, and nothing else of it changes
 pub record IsDirtyIf (is_hit : Type 0) (before after : TileWork) : Type 0 where
@@ -84,16 +86,15 @@ pub record IsCopiedIn (rect : Rect) (marker old new : Raster) : Type 0 where
   pub within : (p : Pixel) → IsInside old.width old.height p → IsInRect rect p → value_at new p ≡ value_at marker p
   pub beyond : (p : Pixel) → IsInside old.width old.height p → (IsInRect rect p → ⊥) → value_at new p ≡ value_at old p
 
--- the cells of the new image from the first place up to the second are made of the old ones and the marker's, and the
--- others are the old ones
-pub record AreCellsMade (from to : ℕ) (make : ℕ → ℕ → ℕ) (marker old new : Raster) : Type 0 where
-  pub width : new.width ≡ old.width
-  pub height : new.height ≡ old.height
-  pub count : length new.cells ≡ length old.cells
-  pub inside : (k : ℕ) → from ≤ k → k < to
-      → slice_index new.cells k ≡ make (slice_index old.cells k) (slice_index marker.cells k)
-  pub before : (k : ℕ) → k < from → slice_index new.cells k ≡ slice_index old.cells k
-  pub after : (k : ℕ) → to ≤ k → k < length old.cells → slice_index new.cells k ≡ slice_index old.cells k
+-- what a cell becomes that is made of the old one and the marker's
+abbrev pub made_at : (ℕ → ℕ → ℕ) → Raster → Raster → ℕ → ℕ
+made_at make marker old k = make (slice_index old.cells k) (slice_index marker.cells k)
+
+-- the image has cells from the first place up to the second, and the marker is of its size
+pub record HaveCells (from to : ℕ) (marker image : Raster) : Type 0 where
+  pub size : IsOfSize marker image
+  pub order : from ≤ to
+  pub within : to ≤ length image.cells
 
 -- one of the values from the first place up to the second is less than the marker's
 abbrev pub SomeIsLess : ℕ → ℕ → List ℕ → List ℕ → Type 0
@@ -108,6 +109,20 @@ pub record RisesWhere (test : Pixel → Bool) (old new : Raster) : Type 0 where
   pub rose : value_at old p < value_at new p
 
 -- ---- tiles that are raised
+
+-- marker and image are cut into these tiles, and there is work at each of them
+pub record AreCutAlike (tiles : Tiles) (marker image : Raster) (work : List TileWork) : Type 0 where
+  pub marker_is : IsOnTiling tiles marker
+  pub image_is : IsOnTiling tiles image
+  pub count : length work ≡ count_of tiles
+
+-- the span has a pixel, and lies in one tile of the image
+pub record IsPiece (tiles : Tiles) (span : Span) : Type 0 where
+  pub row : span.y < tiles.height
+  pub side : 0 < tiles.side
+  pub some : span.first < span.end
+  pub columns : span.end ≤ tiles.width
+  pub tile : span.end ≤ (span.first / tiles.side + 1) * tiles.side
 
 -- marker and image are of the size of the tiling, and there is work at each tile
 pub record AreAtHand (tiling : Tiles) (marker image : Raster) (work : List TileWork) : Type 0 where
@@ -134,3 +149,21 @@ pub record IsRaisedUnder (s : State) (tags : List ℕ) (marker old new : Raster)
   pub under : (p : Pixel) → IsInside old.width old.height p → IsUnder s tags p
       → value_at new p ≡ max (value_at old p) (value_at marker p)
   pub beyond : (p : Pixel) → IsInside old.width old.height p → (IsUnder s tags p → ⊥) → value_at new p ≡ value_at old p
+
+-- ---- what a merge does
+
+-- the marked tiles are reset
+pub record AreMarkedReset (tiles : Tiles) (marks : List Bool) (marker old new : Raster) (work after : List TileWork)
+    : Type 0 where
+  pub size : IsOfSize old new
+  pub count : length after ≡ length work
+  pub each : AreReset tiles (Has marks) marker old new work after
+
+-- the image is raised to the marker where a stroke under one of the tags lies
+pub record IsRaisedByTags (tiles : Tiles) (tags : List ℕ) (state : State) (marker old new : Raster)
+    (work after : List TileWork) : Type 0 where
+  pub size : IsOfSize old new
+  pub count : length after ≡ length work
+  pub values : IsRaisedUnder state tags marker old new
+  pub dirty : (t : ℕ) → t < length work
+      → IsDirtyIf (HasRisen tiles t old new) (work_of work t) (work_of after t)

@@ -8,7 +8,7 @@ ghost use Rattle.core_rules.specs.Merge.{IsAcceptable};
 ghost use Rattle.core_rules.specs.Sweeps.{IsReady};
 ghost use Rattle.core_rules.specs.Schedule.{Progress, started, AreSteps, IsStopped, IsCutOff, edits_of, ran_of};
 ghost use Rattle.core_rules.specs.Counting.{IsWithinWork};
-ghost use Rattle.reset_core.specs.Scheduling.{kept_of, account_of, with_accepted, with_refused, with_result};
+ghost use Rattle.reset_core.specs.Scheduling.{kept_of, account_of, with_refused, with_result};
 ghost use Rattle.reset_core.specs.Scheduling.{HasRoom, KeepsRoom, KeepsCount, StepLeads};
 
 use super::Core;
@@ -150,7 +150,7 @@ impl Core {
     {
         match self.merge(alloc, delta) {
             Ok(_change) => {
-                tally.accept(number);
+                tally.accepted.push_reserved(number);
                 Ok(())
             }
             Err(why) => tally.refuse(number, why),
@@ -245,15 +245,6 @@ impl Tally {
             accepted: Vec::with_capacity(alloc, edits)?,
             refused: Vec::with_capacity(alloc, edits)?,
         })
-    }
-
-    // Lists that the edit of this number is accepted, in its place.
-    fn accept(&mut self, number: usize)
-        requires { HasRoom self.old 1 }
-        ensures listed { kept_of self.new ≡ with_accepted (kept_of self.old) number }
-        ensures keeps { KeepsCount 1 self.old self.new }
-    {
-        self.accepted.push_reserved(number);
     }
 
     // Lists that the edit of this number is refused, in its place.

@@ -4,7 +4,7 @@ ghost use Rattle.std.specs.Prelude.{◌≡◌, length, IsTrue};
 ghost use Rattle.grid_core.specs.Tiles.{count_of};
 ghost use Rattle.stroke_core.specs.Seed.{covers};
 ghost use Rattle.stroke_core.specs.Spans.{span_has};
-ghost use Rattle.tile_resets.specs.Marks.{Adds, AreMarks, IsLost, IsLostAt};
+ghost use Rattle.tile_resets.specs.Marks.{Adds, AreMarks, LosesStrokeTo, IsUnderLive};
 ghost use Rattle.core_rules.specs.Hits.{HoldsOne};
 
 use crate::hits::marking::mark;
@@ -23,7 +23,7 @@ pub(super) fn mark_losses(
     delta: &Delta,
 )
     requires { AreMarks tiling.now marks.old queue.old }
-    ensures { Adds (HoldsOne tiling.now (IsLost state.now delta.now)) marks.old queue.old marks.new queue.new }
+    ensures { Adds (HoldsOne tiling.now (LosesStrokeTo state.now delta.now)) marks.old queue.old marks.new queue.new }
 {
     for tag in delta.tombstones() {
         mark_lost(marks, queue, tiling, state, *tag);
@@ -33,7 +33,7 @@ pub(super) fn mark_losses(
 // Marks each tile with a pixel that the stroke of the tag covers, if it is live.
 fn mark_lost(marks: &mut TileSet, queue: &mut TileSet, tiling: &Tiling, state: &State, tag: Tag)
     requires { AreMarks tiling.now marks.old queue.old }
-    ensures { Adds (HoldsOne tiling.now (IsLostAt state.now tag)) marks.old queue.old marks.new queue.new }
+    ensures { Adds (HoldsOne tiling.now (IsUnderLive state.now tag)) marks.old queue.old marks.new queue.new }
 {
     if state.has_tombstone(tag) {
         return;

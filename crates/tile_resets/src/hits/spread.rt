@@ -1,10 +1,9 @@
 //! The walk from marked tiles to those that are linked.
 
-ghost use Rattle.std.specs.Prelude.{◌≡◌, ◌↔◌, ℕ, length};
-ghost use Rattle.grid_core.specs.Tiles.{count_of};
+ghost use Rattle.std.specs.Prelude.{◌↔◌, ℕ};
 ghost use Rattle.border_queues.specs.OpenEdges.{IsOnTiling};
-ghost use Rattle.core_rules.specs.Hits.{AreLinked, IsReached};
-ghost use Rattle.tile_resets.specs.Marks.{AreMarks};
+ghost use Rattle.core_rules.specs.Hits.{AreLinked};
+ghost use Rattle.tile_resets.specs.Marks.{AreMarks, IsSpread};
 ghost use Rattle.tile_work.specs.TileSet.{Has};
 
 use crate::hits::links::Links;
@@ -15,11 +14,8 @@ pub(super) fn spread(links: &Links, marks: &mut TileSet, queue: &mut TileSet)
     requires on_tiling { IsOnTiling links.now.tiling links.now.image.now }
     requires marks { AreMarks links.now.tiling marks.old queue.old }
     requires waiting { (t : ℕ) → Has queue.old t ↔ Has marks.old t }
-    ensures marks { (t : ℕ) → Has marks.new t
-        ↔ IsReached (Has marks.old) (AreLinked links.now.tiling links.now.image.now links.now.conn) t }
-    ensures count { length marks.new ≡ length marks.old }
-    ensures queue_count { length queue.new ≡ length queue.old }
-    ensures none { (t : ℕ) → Has queue.new t → ⊥ }
+    ensures { IsSpread (AreLinked links.now.tiling links.now.image.now links.now.conn) marks.old queue.old marks.new
+        queue.new }
 {
     while let Some(tile) = queue.first_from(0) {
         queue.remove(tile);

@@ -1,10 +1,11 @@
 //! Values of an image that are taken over from the marker.
 
 ghost use Rattle.std.specs.Prelude.{◌≡◌, ◌<◌, ◌≤◌, ◌↔◌, IsTrue, length, slice_index, EachIndex};
+ghost use Rattle.grid_core.specs.Rects.{AreCellsChanged};
 ghost use Rattle.stroke_core.specs.Spans.{span_has};
 ghost use Rattle.core_rules.specs.Image.{IsOfSize};
-ghost use Rattle.tile_resets.specs.Renewing.{marker_value, greater_value, IsMadeWhere, AreCellsMade};
-ghost use Rattle.tile_resets.specs.Renewing.{RisesWhere, SomeIsLess};
+ghost use Rattle.tile_resets.specs.Renewing.{marker_value, greater_value, made_at, IsMadeWhere};
+ghost use Rattle.tile_resets.specs.Renewing.{HaveCells, RisesWhere, SomeIsLess};
 
 use grid_core::Grid;
 use grid_core::laws::cells_given_back;
@@ -30,10 +31,8 @@ pub(crate) fn raise_span(image: &mut Grid, marker: &Grid, span: Span) -> bool
 
 /// Copies the marker's cells from `from` up to `to`, which is left out, over the image's.
 pub(crate) fn copy_cells(image: &mut Grid, marker: &Grid, from: usize, to: usize)
-    requires size { IsOfSize marker.now image.old }
-    requires order { from ≤ to }
-    requires within { to ≤ length image.old.cells }
-    ensures { AreCellsMade from to marker_value marker.now image.old image.new }
+    requires { HaveCells from to marker.now image.old }
+    ensures { AreCellsChanged from to (made_at marker_value marker.now image.old) image.old image.new }
 {
     cells_given_back();
     let values = &marker.cells()[from..to];
@@ -43,10 +42,8 @@ pub(crate) fn copy_cells(image: &mut Grid, marker: &Grid, from: usize, to: usize
 
 // Raises the image's cells from `from` up to `to`, which is left out, to the marker's. Says whether one rose.
 fn raise_cells(image: &mut Grid, marker: &Grid, from: usize, to: usize) -> bool
-    requires size { IsOfSize marker.now image.old }
-    requires order { from ≤ to }
-    requires within { to ≤ length image.old.cells }
-    ensures values { AreCellsMade from to greater_value marker.now image.old image.new }
+    requires { HaveCells from to marker.now image.old }
+    ensures values { AreCellsChanged from to (made_at greater_value marker.now image.old) image.old image.new }
     ensures rose { IsTrue result ↔ SomeIsLess from to image.old.cells marker.now.cells }
 {
     cells_given_back();

@@ -1,15 +1,10 @@
 //! The image raised to the marker where strokes lie.
 
-ghost use Rattle.std.specs.Prelude.{◌≡◌, ℕ, ◌+◌, ◌*◌, ◌/◌, ◌<◌, ◌≤◌, length};
-ghost use Rattle.grid_core.specs.Tiles.{count_of};
+ghost use Rattle.std.specs.Prelude.{◌<◌, ◌≤◌};
 ghost use Rattle.stroke_core.specs.Seed.{covers};
 ghost use Rattle.stroke_core.specs.Spans.{span_has};
 ghost use Rattle.stroke_lattice.specs.State.{StateFits};
-ghost use Rattle.border_queues.specs.OpenEdges.{IsOnTiling};
-ghost use Rattle.core_rules.specs.Image.{IsOfSize};
-ghost use Rattle.tile_resets.specs.Renewing.{AreAtHand, IsRaisedWhere, IsRaisedUnder, IsDirtyIf};
-ghost use Rattle.core_rules.specs.Merge.{HasRisen};
-ghost use Rattle.border_queues.specs.TileWork.{work_of};
+ghost use Rattle.tile_resets.specs.Renewing.{AreAtHand, AreCutAlike, IsPiece, IsRaisedWhere, IsRaisedByTags};
 
 use crate::renewing::cells::raise_span;
 use grid_core::{Grid, Pixel, Tiling};
@@ -29,15 +24,9 @@ pub fn raise_to_marker(
     state: &State,
     tags: &[Tag],
 )
-    requires image { IsOnTiling tiling.now image.old }
-    requires marker { IsOnTiling tiling.now marker.now }
-    requires count { length work.old ≡ count_of tiling.now }
+    requires parts { AreCutAlike tiling.now marker.now image.old work.old }
     requires fits { StateFits tiling.now.width tiling.now.height state.now }
-    ensures size { IsOfSize image.old image.new }
-    ensures count { length work.new ≡ length work.old }
-    ensures values { IsRaisedUnder state.now tags.now marker.now image.old image.new }
-    ensures work { (t : ℕ) → t < length work.old
-        → IsDirtyIf (HasRisen tiling.now t image.old image.new) (work_of work.old t) (work_of work.new t) }
+    ensures { IsRaisedByTags tiling.now tags.now state.now marker.now image.old image.new work.old work.new }
 {
     prove!(image.width() == marker.width());
     for tag in tags {
@@ -102,11 +91,7 @@ fn raise_across(image: &mut Grid, marker: &Grid, tiling: &Tiling, work: &mut Wor
 // Raises the image on a span that lies in one tile.
 fn raise_piece(image: &mut Grid, marker: &Grid, tiling: &Tiling, work: &mut WorkTable, piece: Span)
     requires at_hand { AreAtHand tiling.now marker.now image.old work.old }
-    requires row { piece.y < tiling.now.height }
-    requires side { 0 < tiling.now.side }
-    requires some { piece.first < piece.end }
-    requires columns { piece.end ≤ tiling.now.width }
-    requires tile { piece.end ≤ (piece.first / tiling.now.side + 1) * tiling.now.side }
+    requires piece { IsPiece tiling.now piece }
     ensures { IsRaisedWhere tiling.now (span_has piece) marker.now image.old image.new work.old work.new }
 {
     if raise_span(image, marker, piece) {

@@ -3,11 +3,11 @@
 ghost use Rattle.std.specs.Prelude.{◌≡◌, ◌<◌, ℕ, false, length, replicate, slice_index, Contains};
 ghost use Rattle.grid_core.specs.Rects.{RectFits};
 ghost use Rattle.grid_core.specs.Tiles.{IsTiled, count_of};
-ghost use Rattle.border_queues.specs.OpenEdges.{IsOnTiling};
 ghost use Rattle.tile_generations.specs.Generations.{max_generation};
 ghost use Rattle.core_rules.specs.Image.{IsOfSize};
 ghost use Rattle.tile_work.specs.TileSet.{Has};
-ghost use Rattle.tile_resets.specs.Renewing.{AreAtHand, AreReset, IsOneReset, AreDirtyWhere, IsCopiedIn};
+ghost use Rattle.tile_resets.specs.Renewing.{AreAtHand, AreCutAlike, AreMarkedReset, IsOneReset};
+ghost use Rattle.tile_resets.specs.Renewing.{AreDirtyWhere, IsCopiedIn};
 ghost use Rattle.border_queues.specs.TileWork.{work_of};
 
 use crate::renewing::cells::copy_cells;
@@ -26,15 +26,11 @@ pub fn reset_marked(
     tiling: &Tiling,
     work: &mut WorkTable,
 )
-    requires image { IsOnTiling tiling.now image.old }
-    requires marker { IsOnTiling tiling.now marker.now }
-    requires count { length work.old ≡ count_of tiling.now }
+    requires parts { AreCutAlike tiling.now marker.now image.old work.old }
     requires marks { length marks.old ≡ count_of tiling.now }
     requires unspent { (t : ℕ) → Has marks.old t → (work_of work.old t).generation < max_generation }
     ensures marks { marks.new ≡ replicate (length marks.old) false }
-    ensures size { IsOfSize image.old image.new }
-    ensures count { length work.new ≡ length work.old }
-    ensures each { AreReset tiling.now (Has marks.old) marker.now image.old image.new work.old work.new }
+    ensures reset { AreMarkedReset tiling.now marks.old marker.now image.old image.new work.old work.new }
 {
     prove!(marks.len() == tiling.count());
     prove!(image.width() == marker.width());

@@ -1,7 +1,5 @@
 use Rattle.std.proofs.Common.{◌∙◌}
-use Rattle.core_rules.specs.Runs.{IsCutShort}
-use Rattle.reset_core.proofs.Answering.{OnErr-always}
-use Rattle.core_rules.specs.Work.{IsQuiet}
+use Rattle.reset_core.proofs.Scheduling.{on_err}
 use Rattle.reset_core.proofs.Settling.{cut_before_sweeps, some_work_before, settled_by, settled_within_work}
 use Rattle.reset_core.proofs.replica.Core.settle.Goals as goal
 
@@ -10,7 +8,7 @@ returns-in_err-jobs-clause-cut_short c =
     let cleared = c.abandon_all-abandons in
     let handed = c.hand_all.ensures.handed in
     let failed = c.in_err-jobs.ensures in
-    OnErr-always ((log : _) × IsCutShort c.args.self.now log c.sweep_all.new.self) c.from_residual.result
+    on_err c.from_residual.result
     (cut_before_sweeps c.args.self.now cleared.new.self c.hand_all.new.self c.sweep_all.new.self cleared.ensures.clears
     (handed.log, handed.works, handed.no_jobs) handed.none_out failed.dirty failed.err)
 
@@ -18,7 +16,7 @@ pub returns-in_err-jobs-clause-some_work : goal.returns-in_err-jobs-clause-some_
 returns-in_err-jobs-clause-some_work c =
     let cleared = c.abandon_all-abandons in
     let handed = c.hand_all.ensures.handed in
-    OnErr-always (IsQuiet c.args.self.now → ⊥) c.from_residual.result
+    on_err c.from_residual.result
     (some_work_before c.args.self.now cleared.new.self c.hand_all.new.self cleared.ensures.clears
     (handed.log, handed.works, handed.no_jobs) c.in_err-jobs.ensures.dirty)
 

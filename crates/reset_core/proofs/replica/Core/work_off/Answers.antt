@@ -1,5 +1,5 @@
 -- What the tactics leave open of `work_off`.
-use Rattle.std.proofs.Common.{◌≡◌, ℕ, ◌<◌, List, length, set, get_or, ◌∙◌, sym, ap, subst}
+use Rattle.std.proofs.Common.{◌≡◌, ℕ, List, length, set, get_or, ◌∙◌, sym, ap, subst}
 use Rattle.std.proofs.lemmas.List.{length-set}
 use Rattle.grid_core.specs.declared.pixel.Pixel.{Pixel}
 use Rattle.grid_core.specs.declared.rect.Rect.{Rect}

@@ -23,12 +23,10 @@ returns-clause-image c =
       reset =
           marked_are_reset c.tiling-tiling.result c.args.markers.now.tiling tiles c.marker-marker.result.now
           c.apply.new.self.marker marker c.args.marks.now c.args.image.now c.reset_marked.new.image c.args.work.now
-          c.reset_marked.new.work c.reset_marked.ensures.size c.reset_marked.ensures.count
-          c.reset_marked.ensures.each;
+          c.reset_marked.new.work c.reset_marked.ensures.reset;
       raised =
           births_are_raised c.tiling-tiling.result c.args.markers.now.tiling tiles c.marker-marker.result.now
           c.apply.new.self.marker marker c.args.change.now c.args.state.now c.reset_marked.new.image
           c.raise_to_marker.new.image c.reset_marked.new.work c.raise_to_marker.new.work c.born.result.now
-          c.born.ensures c.raise_to_marker.ensures.size c.raise_to_marker.ensures.count
-          c.raise_to_marker.ensures.values c.raise_to_marker.ensures.work;
+          c.born.ensures c.raise_to_marker.ensures;
     }

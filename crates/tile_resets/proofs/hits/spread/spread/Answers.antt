@@ -1,5 +1,5 @@
 -- What the tactics leave open of `spread`.
-use Rattle.std.proofs.Common.{Bool, List, length, subst, arith}
+use Rattle.std.proofs.Common.{Bool, List, length, subst, sym, ◌∙◌, arith}
 use Rattle.tile_work.specs.TileSet.{Has}
 use Rattle.tile_resets.specs.Marks.{Adds}
 use Rattle.core_rules.specs.Hits.{AreLinked}
@@ -30,8 +30,14 @@ loop-tile-preserved c =
     c.in-Some.ensures.has
     (subst (λ (taken : List Bool). Adds (linked tile) m taken m1 q1) c.remove.ensures c.mark_linked.ensures)
 
-pub returns-clause-marks : goal.returns-clause-marks
-returns-clause-marks c =
+pub returns : goal.returns
+returns c =
     let linked = AreLinked c.args.links.now.tiling c.args.links.now.image.now c.args.links.now.conn in
-    walk_ends (Has c.args.marks.now) linked (length c.args.marks.now) c.loop-tile.marks c.loop-tile.queue
-    c.loop-tile.invariant (λ t has. c.in_default.ensures t (omega arith) has)
+    record {
+      marks =
+          walk_ends (Has c.args.marks.now) linked (length c.args.marks.now) c.loop-tile.marks c.loop-tile.queue
+          c.loop-tile.invariant (λ t has. c.in_default.ensures t (omega arith) has);
+      count = c.loop-tile.invariant.count;
+      queue_count = c.loop-tile.invariant.queue_count ∙ sym c.requires.marks.queue_count;
+      none = λ t has. c.in_default.ensures t (omega arith) has;
+    }

@@ -1,5 +1,5 @@
 -- What the tactics leave open of `raise_span`.
-use Rattle.std.proofs.Common.{◌≡◌, ◌+◌, ◌*◌, ap}
+use Rattle.std.proofs.Common.{◌≡◌, ◌+◌, ◌*◌, ap, rules}
 use Rattle.stroke_core.specs.Spans.{span_has}
 use Rattle.tile_resets.specs.Renewing.{greater_value, IsMadeWhere}
 use Rattle.tile_resets.proofs.RenewingSpans.{cells_are_span, rises_by_cells}
@@ -19,6 +19,10 @@ made c =
     cells_are_span c.args.span (c.args.span.y * c.width.result + c.args.span.first)
     (c.args.span.y * c.width.result + c.args.span.end) greater_value c.args.marker.now c.args.image.now
     c.raise_cells.new.image c.requires.size c.requires.columns (from_is c) (to_is c) c.raise_cells.ensures.values
+
+pub raise_cells-requires : goal.raise_cells-requires
+raise_cells-requires c =
+    record { size = c.requires.size; order = search rules; within = search rules }
 
 pub returns-clause-values : goal.returns-clause-values
 returns-clause-values c = made c

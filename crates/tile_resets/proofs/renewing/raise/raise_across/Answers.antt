@@ -1,5 +1,5 @@
 -- What the tactics leave open of `raise_across`.
-use Rattle.std.proofs.Common.{◌<◌, ◌≤◌, arith, inl, inr, refl}
+use Rattle.std.proofs.Common.{◌+◌, ◌*◌, ◌/◌, ◌<◌, ◌≤◌, arith, inl, inr, refl, rules, subst}
 use Rattle.stroke_core.specs.Spans.{span_has}
 use Rattle.tile_resets.proofs.RenewingRises.{on_marker, raised_also, raised_nothing, raised_alike, next_tile}
 use Rattle.tile_resets.proofs.RenewingStrokes.{part_of, empty_part, part_more, whole_part}
@@ -13,6 +13,22 @@ loop-first-init c = (
       c.args.marker.now c.args.image.now c.args.work.now c.requires.at_hand.size.filled
       (λ p _. empty_part c.args.span p),
 )
+
+pub raise_piece-requires-clause-piece : goal.raise_piece-requires-clause-piece
+raise_piece-requires-clause-piece c =
+    let s = c.args.span in
+    let at = c.loop-first.first in
+    let next = c.min-end.result in
+    record {
+      row = c.requires.row;
+      side = search rules;
+      some =
+          next_tile c.args.tiling.now at s.end c.side-side.result next c.side-side.ensures.tiled
+          c.side-side.ensures.value c.loop-first-test.true c.min-end.ensures;
+      columns = omega (arith, c.min-end.ensures, c.requires.columns);
+      tile =
+          subst (λ w. next ≤ (at / w + 1) * w) c.side-side.ensures.value (omega (arith, c.min-end.ensures));
+    }
 
 pub loop-first-preserved : goal.loop-first-preserved
 loop-first-preserved c =

@@ -9,6 +9,6 @@ returns-then-raise_span c =
     piece_made_dirty c.args.tiling.now c.args.piece c.args.marker.now c.args.image.now c.raise_span.new.image
     c.args.work.now c.mark_dirty.new.self c.tile_of.result
     (on_marker c.args.tiling.now c.args.marker.now c.args.image.now given.marker_is given.size)
-    c.requires.side c.requires.tile c.tile_of.ensures.value
+    c.requires.piece.side c.requires.piece.tile c.tile_of.ensures.value
     (omega (arith, c.tile_of.ensures.within, c.tile_of.ensures.value, given.count)) c.mark_dirty.ensures
     c.raise_span.ensures.values (c.raise_span.ensures.rose.0 c.if-raise_span.true)

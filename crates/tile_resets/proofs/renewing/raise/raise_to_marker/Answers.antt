@@ -39,7 +39,7 @@ loop-tag-preserved c =
           (subst (λ (work : List TileWork). IsRaisedWhere tiling next marker old w.raise_stroke.new.image before work)
           (sym w.work-is)
           (raised_also tiling so_far (covers seed) next marker old c.loop-tag.image w.raise_stroke.new.image before
-          c.loop-tag.work w.raise_stroke.new.work c.requires.image c.loop-tag.invariant w.raise_stroke.ensures
+          c.loop-tag.work w.raise_stroke.new.work c.requires.parts.image_is c.loop-tag.invariant w.raise_stroke.ensures
           (λ p _. tag_with_stroke state tags i tag seed p within c.tag-item.is (sym w.in-Some.ensures))))
       | in_default w ↦
           subst (λ (image : Raster). IsRaisedWhere tiling next marker old image before c.match-stroke.work)
@@ -51,13 +51,19 @@ loop-tag-preserved c =
           (sym c.stroke.ensures ∙ nothing_there c.stroke.result w.in_default.not-Some))))
     ]
 
-pub returns-clause-values : goal.returns-clause-values
-returns-clause-values c =
+pub returns : goal.returns
+returns c =
     let tags = c.args.tags.now in
     let i = c.loop-tag.tag-index in
     let all : i ≡ length tags = omega (arith, c.loop-tag-test.false, c.loop-tag.auto.tag-index-end) in
     let is_all : take i tags ≡ tags = ap (λ n. take n tags) all ∙ take-length tags in
-    raised_under c.args.state.now tags c.args.marker.now c.args.image.now c.loop-tag.image
-    (made_alike (some_covers c.args.state.now (take i tags)) (some_covers c.args.state.now tags) greater_value
-    c.args.marker.now c.args.image.now c.loop-tag.image c.loop-tag.invariant.values
-    (λ p _. ap (λ l. some_covers c.args.state.now l p) (sym is_all)))
+    record {
+      size = c.loop-tag.invariant.values.size;
+      count = c.loop-tag.invariant.work.count;
+      values =
+          raised_under c.args.state.now tags c.args.marker.now c.args.image.now c.loop-tag.image
+          (made_alike (some_covers c.args.state.now (take i tags)) (some_covers c.args.state.now tags) greater_value
+          c.args.marker.now c.args.image.now c.loop-tag.image c.loop-tag.invariant.values
+          (λ p _. ap (λ l. some_covers c.args.state.now l p) (sym is_all)));
+      dirty = c.loop-tag.invariant.work.each;
+    }

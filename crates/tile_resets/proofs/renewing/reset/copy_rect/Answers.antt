@@ -1,10 +1,17 @@
 -- What the tactics leave open of `copy_rect`.
-use Rattle.std.proofs.Common.{◌≡◌, ◌+◌, ◌*◌, ap, arith}
+use Rattle.std.proofs.Common.{◌≡◌, ◌+◌, ◌*◌, ap, arith, rules}
 use Rattle.stroke_core.specs.Spans.{span_has}
 use Rattle.tile_resets.specs.Renewing.{marker_value}
 use Rattle.tile_resets.proofs.RenewingSpans.{copy_is_steady, sizes_join, made_also, cells_are_span}
 use Rattle.tile_resets.proofs.RenewingRects.{rect_above, rect_row, rect_row_more}
 use Rattle.tile_resets.proofs.renewing.reset.copy_rect.Goals as goal
+
+pub copy_cells-requires : goal.copy_cells-requires
+copy_cells-requires c = record {
+  size = sizes_join c.args.marker.now c.args.image.now c.loop-y.image c.requires.size c.loop-y.invariant.size;
+  order = search rules;
+  within = search rules;
+}
 
 pub loop-y-preserved : goal.loop-y-preserved
 loop-y-preserved c =

@@ -1,5 +1,5 @@
 -- What the tactics leave open of `reset_marked`.
-use Rattle.std.proofs.Common.{◌≡◌, refl, ◌∙◌, arith, inl, inr}
+use Rattle.std.proofs.Common.{◌≡◌, refl, sym, ◌∙◌, arith, inl, inr}
 use Rattle.std.proofs.lemmas.Bool.{cases_lt}
 use Rattle.tile_work.specs.TileSet.{Has}
 use Rattle.border_queues.specs.TileWork.{work_of}
@@ -18,12 +18,12 @@ loop-tile-init c = (
 pub reset_tile-requires-clause-at_hand : goal.reset_tile-requires-clause-at_hand
 reset_tile-requires-clause-at_hand c = record {
   size = record {
-    width = omega (arith, c.loop-tile.invariant.0.width, c.requires.image.width, c.requires.marker.width);
-    height = omega (arith, c.loop-tile.invariant.0.height, c.requires.image.height, c.requires.marker.height);
+    width = c.loop-tile.invariant.0.width ∙ c.requires.parts.image_is.width ∙ sym c.requires.parts.marker_is.width;
+    height = c.loop-tile.invariant.0.height ∙ c.requires.parts.image_is.height ∙ sym c.requires.parts.marker_is.height;
     filled = c.loop-tile.invariant.0.filled;
   };
-  marker_is = c.requires.marker;
-  count = c.loop-tile.invariant.1 ∙ c.requires.count;
+  marker_is = c.requires.parts.marker_is;
+  count = c.loop-tile.invariant.1 ∙ c.requires.parts.count;
 }
 
 pub reset_tile-requires-clause-unspent : goal.reset_tile-requires-clause-unspent
@@ -34,7 +34,7 @@ reset_tile-requires-clause-unspent c =
     let same : (work_of c.loop-tile.work tile).generation ≡ (work_of c.args.work.now tile).generation =
     same_generation c.args.tiling.now (IsMarkedBefore marks c.loop-tile.from) c.args.marker.now c.args.image.now
     c.loop-tile.image c.args.work.now c.loop-tile.work tile c.loop-tile.invariant.2
-    (omega (arith, first.has.0, c.requires.count, c.requires.marks))
+    (omega (arith, first.has.0, c.requires.parts.count, c.requires.marks))
     (λ marked. omega (arith, marked.1, first.from)) in
     omega (arith, same, c.requires.unspent tile first.has)
 
@@ -48,19 +48,23 @@ loop-tile-preserved c = (
       c.reset_tile.new.work c.loop-tile.invariant.1 c.in-Some.ensures c.loop-tile.invariant.2 c.reset_tile.ensures,
 )
 
-pub returns-clause-each : goal.returns-clause-each
-returns-clause-each c =
-    let marks = c.args.marks.now in
-    let from = c.loop-tile.from in
-    reset_alike c.args.tiling.now (IsMarkedBefore marks from) (Has marks) c.args.marker.now c.args.image.now
-    c.loop-tile.image c.args.work.now c.loop-tile.work
-    (λ t. (
-      λ marked. marked.0,
-      λ has. (
-        has,
-        elim (cases_lt t from) [
-          | inl below ↦ below
-          | inr above ↦ absurd (c.in_default.ensures t above has)
-        ],
-      ),
-    )) c.loop-tile.invariant.2
+pub returns-clause-reset : goal.returns-clause-reset
+returns-clause-reset c = record {
+  size = c.loop-tile.invariant.0;
+  count = c.loop-tile.invariant.1;
+  each =
+      let marks = c.args.marks.now in
+      let from = c.loop-tile.from in
+      reset_alike c.args.tiling.now (IsMarkedBefore marks from) (Has marks) c.args.marker.now c.args.image.now
+      c.loop-tile.image c.args.work.now c.loop-tile.work
+      (λ t. (
+        λ marked. marked.0,
+        λ has. (
+          has,
+          elim (cases_lt t from) [
+            | inl below ↦ below
+            | inr above ↦ absurd (c.in_default.ensures t above has)
+          ],
+        ),
+      )) c.loop-tile.invariant.2;
+}
