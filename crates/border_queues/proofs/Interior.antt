@@ -53,7 +53,7 @@ pub interior_tells_none : (b : Border) (p : Pixel) → IsBorder b → Neighbours
 interior_tells_none b p border by_rows interior =
     let s = sender_of b in
     let inside : IsInside b.tiling.width b.tiling.height p =
-    (omega (arith, interior.right, border.columns), omega (arith, interior.below, border.rows)) in
+    (omega (arith, interior.right, border.fits.columns), omega (arith, interior.below, border.fits.rows)) in
     let around = by_rows b.conn b.tiling.width b.tiling.height p inside in
     ap (map (hint_to s (s.image p))) (filter_none (is_open s (s.image p))
     (rows_around b.conn b.tiling.width b.tiling.height p) (λ q there.

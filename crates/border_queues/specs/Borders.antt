@@ -1,11 +1,14 @@
 -- A tile's border, as the private functions walk it.
-use Rattle.std.specs.Prelude.{◌≡◌, ◌+◌, ◌≤◌, ◌↔◌}
+use Rattle.std.specs.Prelude.{◌≡◌, ℕ, ◌+◌, ◌≤◌, ◌↔◌, Bool, true, if◌then◌else◌, List, []}
+use Rattle.std.specs.List.{flat_map}
 use Rattle.grid_core.specs.declared.pixel.Pixel.{Pixel}
 use Rattle.grid_core.specs.Raster.{IsInside, IsImageSize, value_at}
-use Rattle.grid_core.specs.Rects.{IsInRect}
+use Rattle.grid_core.specs.Rects.{IsInRect, RectFits}
+use Rattle.grid_core.specs.Rows.{row_around}
 use Rattle.grid_core.specs.Tiles.{IsTiled, tile_of, rect_of}
 use Rattle.border_queues.specs.declared.border.Border.{Border}
-use Rattle.border_queues.specs.OpenEdges.{Sender, IsOnTiling, with_tile}
+use Rattle.border_queues.specs.declared.hint.Hint.{Hint}
+use Rattle.border_queues.specs.OpenEdges.{Sender, IsOnTiling, hints_from, hints_to, pixels_of, row_of, with_tile}
 
 -- the pixel of `inside` where the tile's pixel stands that is p from the tile's corner
 abbrev pub moved : Pixel → Pixel → Pixel
@@ -22,6 +25,22 @@ sender_of b = record {
   generation = b.generation;
 }
 
+-- the hints of a pixel of this value to those of these neighbours that it can raise
+abbrev pub told_to : Border → ℕ → List Pixel → List Hint
+told_to b value qs = hints_to (sender_of b) value qs
+
+-- the pixels of row y around the column, if the row is wanted, with those at the sides, if they are too
+abbrev pub row_if : Border → Bool → ℕ → ℕ → Bool → List Pixel
+row_if b wanted x y sides = if wanted then row_around b.tiling.width x y sides true else []
+
+-- the hints of the open edges from the pixels of a row of the tile
+abbrev pub hints_of_row : Border → ℕ → List Hint
+hints_of_row b y = flat_map (hints_from (sender_of b)) (row_of b.rect y)
+
+-- and from all pixels of it
+abbrev pub hints_of_all : Border → List Hint
+hints_of_all b = flat_map (hints_from (sender_of b)) (pixels_of b.rect)
+
 -- what the walk rests on
 pub record IsBorder (b : Border) : Type 0 where
   pub tiled : IsTiled b.tiling
@@ -31,6 +50,5 @@ pub record IsBorder (b : Border) : Type 0 where
   pub inside : IsImageSize b.inside.now.width b.inside.now.height
   pub inside_columns : b.corner.x + b.rect.w ≤ b.inside.now.width
   pub inside_rows : b.corner.y + b.rect.h ≤ b.inside.now.height
-  pub columns : b.rect.x + b.rect.w ≤ b.tiling.width
-  pub rows : b.rect.y + b.rect.h ≤ b.tiling.height
+  pub fits : RectFits b.tiling.width b.tiling.height b.rect
   pub own : (p : Pixel) → IsInside b.tiling.width b.tiling.height p → IsInRect b.rect p ↔ (tile_of b.tiling p ≡ b.tile)

@@ -6,9 +6,9 @@ ghost use Rattle.std.specs.List.{flat_map};
 ghost use Rattle.grid_core.specs.Raster.{IsInside, value_at};
 ghost use Rattle.grid_core.specs.Rects.{IsInRect};
 ghost use Rattle.grid_core.specs.Rows.{has_diagonals, pixel_if, row_around};
-ghost use Rattle.border_queues.specs.Waiting.{places};
-ghost use Rattle.border_queues.specs.OpenEdges.{hints_to, hints_from, row_of, pixels_of};
-ghost use Rattle.border_queues.specs.Borders.{sender_of, IsBorder};
+ghost use Rattle.border_queues.specs.Waiting.{Adds, AddsWithin};
+ghost use Rattle.border_queues.specs.OpenEdges.{hints_from};
+ghost use Rattle.border_queues.specs.Borders.{hints_of_all, hints_of_row, row_if, sender_of, told_to, IsBorder};
 
 use crate::hint::Hint;
 use crate::inbox::Inbox;
@@ -52,9 +52,7 @@ impl Border<'_> {
         requires border { IsBorder self.now }
         requires inside { IsInside self.now.tiling.width self.now.tiling.height q }
         requires room { 0 < out.old.room }
-        ensures hints { out.new.hints ≡ out.old.hints ++ hints_to (sender_of self.now) value (q ∷ []) }
-        ensures room { out.old.room ≤ out.new.room + 1 }
-        ensures kept { places out.old ≤ places out.new }
+        ensures { AddsWithin out.old out.new (told_to self.now value (q ∷ [])) 1 }
     {
         if self.rect.contains(q) {
             return;
@@ -77,9 +75,7 @@ impl Border<'_> {
         requires column { IsTrue wanted → x < self.now.tiling.width }
         requires row { IsTrue wanted → y < self.now.tiling.height }
         requires room { 0 < out.old.room }
-        ensures hints { out.new.hints ≡ out.old.hints ++ hints_to (sender_of self.now) value (pixel_if wanted x y) }
-        ensures room { out.old.room ≤ out.new.room + 1 }
-        ensures kept { places out.old ≤ places out.new }
+        ensures { AddsWithin out.old out.new (told_to self.now value (pixel_if wanted x y)) 1 }
     {
         if wanted {
             self.push_open(value, Pixel { x, y }, out);
@@ -93,11 +89,7 @@ impl Border<'_> {
         requires column { x < self.now.tiling.width }
         requires row { IsTrue wanted → y < self.now.tiling.height }
         requires room { 3 ≤ out.old.room }
-        ensures hints { out.new.hints ≡ out.old.hints
-            ++ hints_to (sender_of self.now) value
-            (if wanted then row_around self.now.tiling.width x y sides true else []) }
-        ensures room { out.old.room ≤ out.new.room + 3 }
-        ensures kept { places out.old ≤ places out.new }
+        ensures { AddsWithin out.old out.new (told_to self.now value (row_if self.now wanted x y sides)) 3 }
     {
         if !wanted {
             return;
@@ -113,9 +105,7 @@ impl Border<'_> {
         requires border { IsBorder self.now }
         requires own { IsInRect self.now.rect (record { x = x; y = y }) }
         requires room { 8 ≤ out.old.room }
-        ensures hints { out.new.hints ≡ out.old.hints ++ hints_from (sender_of self.now) (record { x = x; y = y }) }
-        ensures room { out.old.room ≤ out.new.room + 8 }
-        ensures kept { places out.old ≤ places out.new }
+        ensures { AddsWithin out.old out.new (hints_from (sender_of self.now) (record { x = x; y = y })) 8 }
     {
         let value = self.value(Pixel { x, y });
         if value == 0 {
@@ -133,13 +123,9 @@ impl Border<'_> {
     // Tells the neighbours of all pixels of a row of the tile.
     fn push_line(&self, y: u32, out: &mut Inbox)
         requires border { IsBorder self.now }
-        requires above { self.now.rect.y ≤ y }
-        requires below { y < self.now.rect.y + self.now.rect.h }
+        requires row { (self.now.rect.y ≤ y) × (y < self.now.rect.y + self.now.rect.h) }
         requires room { 8 * self.now.rect.w ≤ out.old.room }
-        ensures hints { out.new.hints
-            ≡ out.old.hints ++ flat_map (hints_from (sender_of self.now)) (row_of self.now.rect y) }
-        ensures room { out.old.room ≤ out.new.room + 8 * self.now.rect.w }
-        ensures kept { places out.old ≤ places out.new }
+        ensures { AddsWithin out.old out.new (hints_of_row self.now y) (8 * self.now.rect.w) }
     {
         for i in 0..self.rect.w {
             self.push_from(self.rect.x + i, y, out);
@@ -150,14 +136,9 @@ impl Border<'_> {
     // last: those of the others lie in the tile.
     fn push_ends(&self, y: u32, out: &mut Inbox)
         requires border { IsBorder self.now }
-        requires above { self.now.rect.y < y }
-        requires below { y + 1 < self.now.rect.y + self.now.rect.h }
-        requires some { 0 < self.now.rect.w }
+        requires between { (self.now.rect.y < y) × (y + 1 < self.now.rect.y + self.now.rect.h) }
         requires room { 16 ≤ out.old.room }
-        ensures hints { out.new.hints
-            ≡ out.old.hints ++ flat_map (hints_from (sender_of self.now)) (row_of self.now.rect y) }
-        ensures room { out.old.room ≤ out.new.room + 16 }
-        ensures kept { places out.old ≤ places out.new }
+        ensures { AddsWithin out.old out.new (hints_of_row self.now y) 16 }
     {
         neighbours_by_rows();
         let last = self.rect.w - 1;
@@ -170,12 +151,8 @@ impl Border<'_> {
     // Tells the neighbours of all pixels of the tile.
     pub fn push_all(&self, out: &mut Inbox)
         requires border { IsBorder self.now }
-        requires columns { 0 < self.now.rect.w }
-        requires rows { 0 < self.now.rect.h }
         requires room { 16 * self.now.rect.w + 16 * self.now.rect.h ≤ out.old.room }
-        ensures hints { out.new.hints
-            ≡ out.old.hints ++ flat_map (hints_from (sender_of self.now)) (pixels_of self.now.rect) }
-        ensures kept { places out.old ≤ places out.new }
+        ensures { Adds out.old out.new (hints_of_all self.now) }
     {
         let last = self.rect.h - 1;
         self.push_line(self.rect.y, out);

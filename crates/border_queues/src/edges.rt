@@ -2,7 +2,6 @@
 
 ghost use Rattle.std.specs.Prelude.{◌≡◌, ◌+◌, ◌*◌, ◌<◌, ◌≤◌, ◌++◌, IsOk, OnOk, OnErr};
 ghost use Rattle.grid_core.specs.Raster.{value_at};
-ghost use Rattle.grid_core.specs.Rects.{RectFits};
 ghost use Rattle.grid_core.specs.Tiles.{count_of, rect_of};
 ghost use Rattle.border_queues.specs.Waiting.{places};
 ghost use Rattle.border_queues.specs.OpenEdges.{IsOnTiling, open_edges, sender_by, with_tile};
@@ -121,7 +120,6 @@ fn border_of<'a>(
     ensures sender { sender_of result ≡ sender_by tiling.now conn (value_at mask.now)
         (with_tile tiling.now tile (λ p. value_at inside.now (moved corner p)) (value_at image.now)) tile generation }
     ensures rect { result.rect ≡ rect_of tiling.now tile }
-    ensures fits { RectFits tiling.now.width tiling.now.height result.rect }
 {
     each_pixel_in_one_tile();
     // Side and width tell the prover that the tiling is one, and `inside` an image.

@@ -31,6 +31,3 @@ pub use edges::{open_edges, open_edges_in, room_for_edges};
 pub use error::QueueError;
 pub use hint::Hint;
 pub use inbox::Inbox;
-
-#[cfg(test)]
-mod tests;

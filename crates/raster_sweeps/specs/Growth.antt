@@ -23,7 +23,8 @@ pub record CanClose (rect : Rect) (mask image : Raster) : Type 0 where
 
 -- no pixel of the rectangle raises a neighbour in it
 abbrev pub IsClosedIn : Conn → Rect → Raster → Raster → Type 0
-IsClosedIn conn rect mask image = IsClosed (domain_in rect conn) (part rect (value_at mask)) (part rect (value_at image))
+IsClosedIn conn rect mask image =
+    IsClosed (domain_in rect conn) (part rect (value_at mask)) (part rect (value_at image))
 
 -- a pair of neighbours of the rectangle is open, both counted from its upper left corner
 abbrev pub IsOpenIn : Conn → Rect → Raster → Raster → Pixel → Pixel → Type 0

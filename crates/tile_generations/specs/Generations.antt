@@ -26,3 +26,9 @@ pub record HasSpent (marks : List Bool) (generations : List ℕ) : Type 0 where
 -- no generation is above the greatest
 abbrev pub AreGenerations : List ℕ → Type 0
 AreGenerations generations = (t : ℕ) → t < length generations → slice_index generations t ≤ max_generation
+
+-- there is a mark for each tile, and no marked tile has the greatest generation
+pub record CanAdvance (marks : List Bool) (generations : List ℕ) : Type 0 where
+  pub count : length marks ≡ length generations
+  pub bounded : AreGenerations generations
+  pub unspent : HasSpent marks generations → ⊥

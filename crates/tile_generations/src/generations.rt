@@ -3,7 +3,7 @@
 ghost use Rattle.std.specs.Prelude.{codes, ◌≡◌, ◌+◌, ◌<◌, ◌≤◌, ◌↔◌, length, replicate, slice_index, IsTrue, IfOk};
 ghost use Rattle.std.specs.Prelude.{IsErr, OnOk};
 ghost use Rattle.std.specs.Prelude.{OnErr};
-ghost use Rattle.tile_generations.specs.Generations.{max_generation, AreGenerations, IsAdvanced, HasSpent};
+ghost use Rattle.tile_generations.specs.Generations.{max_generation, AreGenerations, CanAdvance, IsAdvanced, HasSpent};
 
 use grid_core::Memory;
 use std::alloc::Global;
@@ -105,9 +105,7 @@ fn is_spent(generations: &[u64], marks: &[bool]) -> bool
 
 // Gives each marked tile the next generation.
 fn raise_marked(generations: &mut [u64], marks: &[bool])
-    requires length { length marks.now ≡ length generations.old }
-    requires bounded { AreGenerations generations.old }
-    requires unspent { HasSpent marks.now generations.old → ⊥ }
+    requires { CanAdvance marks.now generations.old }
     ensures { IsAdvanced marks.now generations.old generations.new }
 {
     for tile in 0..generations.len() {

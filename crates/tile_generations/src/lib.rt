@@ -20,6 +20,3 @@ pub use generations::{Generations, GenerationsSpent, MAX_GENERATION};
 pub use job::Job;
 pub use swept::Swept;
 pub use ticket::Ticket;
-
-#[cfg(test)]
-mod tests;

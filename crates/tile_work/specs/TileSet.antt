@@ -32,6 +32,10 @@ bit_of words place = bit_at (slice_index words (place / 64)) (place % 64)
 abbrev pub tiles_of : ℕ → List ℕ → List Bool
 tiles_of count words = map (λ t. bit_of words t == 1) (range_with_len 0 count)
 
+-- no bit is set from this place on
+abbrev pub AreZeroFrom : (ℕ → ℕ) → ℕ → Type 0
+AreZeroFrom bits start = (place : ℕ) → start ≤ place → bits place ≡ 0
+
 -- the place is the lowest one from this one on whose bit is set
 pub record IsLowestFrom (bits : ℕ → ℕ) (start place : ℕ) : Type 0 where
   pub bit : bits place ≡ 1

@@ -1,6 +1,6 @@
 -- The work that is left at each tile as the table of a core stores it, and what the table answers.
-use Rattle.std.specs.Prelude.{◌≡◌, ◌≢◌, ℕ, ◌<◌, ◌≤◌, Bool, true, false, List, [], ◌∷◌, map, length}
-use Rattle.std.specs.Prelude.{is_some, IsTrue, IsSome}
+use Rattle.std.specs.Prelude.{◌≡◌, ◌≢◌, ℕ, ◌+◌, ◌<◌, ◌≤◌, ◌==◌, Bool, true, false, if◌then◌else◌, List, [], ◌∷◌, map}
+use Rattle.std.specs.Prelude.{is_some, length, remove, slice_index, slice_set, IsTrue, IsSome, Some}
 use Rattle.grid_core.specs.Raster.{IsInside}
 use Rattle.grid_core.specs.Tiles.{Tiles, AreTouching, tile_of}
 use Rattle.border_queues.specs.declared.hint.Hint.{Hint}
@@ -36,6 +36,25 @@ pub record AreReceived (tiles : Tiles) (hints : List Hint) (old new : List TileW
   pub count : length new ≡ length old
   pub each : (t : ℕ) → t < length old → work_of new t ≡ received (work_of old t) (hints_at tiles t hints)
 
+-- the tile's job went out under this serial, and the tile is no longer dirty
+abbrev pub taken : TileWork → ℕ → TileWork
+taken work serial = record work { dirty = false; out = Some serial }
+
+-- the hint at this place was taken out
+abbrev pub without_hint : TileWork → ℕ → TileWork
+without_hint work place = record work { inbox = remove work.inbox place }
+
+-- how many of the hints go to each of these tiles
+abbrev pub AreCounts : Tiles → List ℕ → List Hint → List ℕ → Type 0
+AreCounts tiling tiles hints counts =
+    (k : ℕ) → k < length tiles → slice_index counts k ≡ length (hints_at tiling (slice_index tiles k) hints)
+
+-- one more was counted at each place where this tile stands
+abbrev pub IsCounted : List ℕ → ℕ → List ℕ → List ℕ → Type 0
+IsCounted tiles tile old new =
+    (k : ℕ) → k < length tiles
+    → slice_index new k ≡ slice_index old k + (if slice_index tiles k == tile then 1 else 0)
+
 -- ---- the stored form
 
 -- the work that a row stores
@@ -55,6 +74,16 @@ works_of rows = map as_work rows
 abbrev pub rooms_of : List TileRow → List ℕ
 rooms_of rows = map (λ row. row.inbox.room) rows
 
+-- each of these tiles has room for so many more hints
+abbrev pub HaveRooms : List ℕ → List ℕ → List TileRow → Type 0
+HaveRooms tiles counts rows =
+    (k : ℕ) → k < length tiles → slice_index counts k ≤ slice_index (rooms_of rows) (slice_index tiles k)
+
+-- each tile has room for those of the hints that go to it
+abbrev pub HaveRoomFor : Tiles → List Hint → List TileRow → Type 0
+HaveRoomFor tiles hints rows =
+    (t : ℕ) → t < length rows → length (hints_at tiles t hints) ≤ slice_index (rooms_of rows) t
+
 -- whether a hint is in the list
 abbrev pub is_some_hint : List Hint → Bool
 is_some_hint [] = false
@@ -71,6 +100,12 @@ out_bits works = map (λ work. is_some work.out) works
 -- at which tiles hints wait
 abbrev pub waiting_bits : List TileWork → List Bool
 waiting_bits works = map (λ work. is_some_hint work.inbox) works
+
+-- the tile got the hint, in one place of its room, and the set says where hints wait
+pub record IsDelivered (tile : ℕ) (hint : Hint) (old new : List TileRow) (waits : List Bool) : Type 0 where
+  pub works : works_of new ≡ slice_set (works_of old) tile (received (work_of (works_of old) tile) (hint ∷ []))
+  pub room : (t : ℕ) → slice_index (rooms_of old) t ≤ slice_index (rooms_of new) t + (if tile == t then 1 else 0)
+  pub waiting : waits ≡ waiting_bits (works_of new)
 
 -- the three sets say what the rows say, and no generation is above the greatest
 pub record AreInStep (works : List TileWork) (dirty out waiting : List Bool) : Type 0 where

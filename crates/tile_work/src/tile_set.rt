@@ -3,7 +3,7 @@
 ghost use Rattle.std.specs.Prelude.{◌≡◌, ℕ, ◌+◌, ◌*◌, ◌/◌, ◌^◌, ◌<◌, ◌≤◌, length, replicate, true, false, IfOk, IfSome};
 ghost use Rattle.std.specs.Prelude.{MatchOption, slice_index_or, slice_set};
 ghost use Rattle.std.specs.Int.{bit_at};
-ghost use Rattle.tile_work.specs.TileSet.{HasNoneFrom, IsFirstFrom, bit_of, IsLowestFrom, IsWritten};
+ghost use Rattle.tile_work.specs.TileSet.{AreZeroFrom, HasNoneFrom, IsFirstFrom, bit_of, IsLowestFrom, IsWritten};
 
 use grid_core::Memory;
 use std::alloc::Global;
@@ -124,7 +124,7 @@ fn clear_place(words: &mut [u64], place: usize)
 // The lowest bit that is set in the word, of those from `from` on.
 fn lowest_bit(word: u64, from: usize) -> Option<usize>
     requires { from < 64 }
-    ensures set { MatchOption result ((bit : ℕ) → from ≤ bit → bit_at word bit ≡ 0) (IsLowestFrom (bit_at word) from) }
+    ensures set { MatchOption result (AreZeroFrom (bit_at word) from) (IsLowestFrom (bit_at word) from) }
     ensures within { IfSome result (λ bit. bit < 64) }
 {
     let rest = word >> from;
@@ -138,8 +138,7 @@ fn lowest_bit(word: u64, from: usize) -> Option<usize>
 // The lowest place whose bit is set, of those from `start` on.
 fn lowest_place(words: &[u64], start: usize) -> Option<usize>
     requires { 64 * length words.now < 2 ^ 64 }
-    ensures { MatchOption result ((place : ℕ) → start ≤ place → bit_of words.now place ≡ 0)
-        (IsLowestFrom (bit_of words.now) start) }
+    ensures { MatchOption result (AreZeroFrom (bit_of words.now) start) (IsLowestFrom (bit_of words.now) start) }
 {
     let word = start / 64;
     if word >= words.len() {

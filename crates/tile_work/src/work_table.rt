@@ -8,7 +8,8 @@ ghost use Rattle.std.specs.Prelude.{slice_set, All, Some, None, MatchOption, IfO
 ghost use Rattle.grid_core.specs.Tiles.{count_of};
 ghost use Rattle.tile_generations.specs.Generations.{max_generation};
 ghost use Rattle.border_queues.specs.TileWork.{IsIdle, fresh, reset_work, IsLeast, work_of};
-ghost use Rattle.tile_work.specs.WorkTable.{IsDirtyTile, HasJobOut, HasHintsAt, IsToTouching, AreReceived};
+ghost use Rattle.tile_work.specs.WorkTable.{IsDirtyTile, HasJobOut, HasHintsAt, IsToTouching, AreReceived, taken};
+ghost use Rattle.tile_work.specs.WorkTable.{without_hint};
 
 use crate::tile_set::TileSet;
 use border_queues::Hint;
@@ -136,8 +137,7 @@ impl WorkTable {
     /// A job of the tile goes out under this serial, and the tile is no longer dirty.
     pub fn take(&mut self, tile: usize, serial: u64)
         requires { tile < length self.old }
-        ensures { self.new
-            ≡ slice_set self.old tile (record (work_of self.old tile) { dirty = false; out = Some serial }) }
+        ensures { self.new ≡ slice_set self.old tile (taken (work_of self.old tile) serial) }
     {
         let row = &mut self.rows[tile];
         row.dirty = false;
@@ -203,8 +203,7 @@ impl WorkTable {
     pub fn remove_hint(&mut self, tile: usize, place: usize)
         requires tile { tile < length self.old }
         requires place { place < length (work_of self.old tile).inbox }
-        ensures { let work = work_of self.old tile in
-            self.new ≡ slice_set self.old tile (record work { inbox = remove work.inbox place }) }
+        ensures { self.new ≡ slice_set self.old tile (without_hint (work_of self.old tile) place) }
     {
         if self.rows[tile].remove_hint(place) {
             self.waiting.remove(tile);

@@ -5,7 +5,7 @@ ghost use Rattle.std.specs.Prelude.{◌==◌, All, OnOk, IsOk, if◌then◌else�
 ghost use Rattle.grid_core.specs.Tiles.{count_of};
 ghost use Rattle.border_queues.specs.TileWork.{received, work_of, hints_at};
 ghost use Rattle.tile_work.specs.WorkTable.{works_of, rooms_of, waiting_bits, IsToInside};
-ghost use Rattle.tile_work.specs.WorkTable.{AreReceived};
+ghost use Rattle.tile_work.specs.WorkTable.{AreCounts, AreReceived, HaveRoomFor, HaveRooms, IsCounted, IsDelivered};
 
 use super::row::TileRow;
 use crate::tile_set::TileSet;
@@ -19,8 +19,7 @@ const MAX_TOUCHING: usize = 8;
 pub(super) fn counts_at(tiling: &Tiling, tiles: &[usize], hints: &[Hint]) -> [usize; MAX_TOUCHING]
     requires few { length tiles.now ≤ MAX_TOUCHING }
     requires inside { All (IsToInside tiling.now) hints.now }
-    ensures { (k : ℕ) → k < length tiles.now
-        → slice_index result k ≡ length (hints_at tiling.now (slice_index tiles.now k) hints.now) }
+    ensures { AreCounts tiling.now tiles.now hints.now result }
 {
     let mut counts = [0; MAX_TOUCHING];
     for hint in hints {
@@ -33,9 +32,7 @@ pub(super) fn counts_at(tiling: &Tiling, tiles: &[usize], hints: &[Hint]) -> [us
 fn count_at(counts: &mut [usize], tiles: &[usize], tile: usize)
     requires few { length tiles.now ≤ length counts.old }
     requires fits { (k : ℕ) → k < length tiles.now → slice_index counts.old k + 1 < 2 ^ 64 }
-    ensures { (k : ℕ) → k < length tiles.now
-        → slice_index counts.new k
-        ≡ slice_index counts.old k + (if slice_index tiles.now k == tile then 1 else 0) }
+    ensures { IsCounted tiles.now tile counts.old counts.new }
 {
     for (place, other) in tiles.iter().enumerate() {
         if *other == tile {
@@ -55,8 +52,7 @@ pub(super) fn make_room(
     requires few { length tiles.now ≤ length counts.now }
     requires tiles { All (λ t. t < length rows.old) tiles.now }
     ensures works { works_of rows.new ≡ works_of rows.old }
-    ensures room { OnOk result ((k : ℕ) → k < length tiles.now
-        → slice_index counts.now k ≤ slice_index (rooms_of rows.new) (slice_index tiles.now k)) }
+    ensures room { OnOk result (HaveRooms tiles.now counts.now rows.new) }
 {
     for (place, tile) in tiles.iter().enumerate() {
         if rows[*tile].inbox.reserve(counts[place]).is_err() {
@@ -70,8 +66,7 @@ pub(super) fn make_room(
 pub(super) fn deliver(rows: &mut [TileRow], waiting: &mut TileSet, tiling: &Tiling, hints: &[Hint])
     requires tiles { length rows.old ≡ count_of tiling.now }
     requires inside { All (IsToInside tiling.now) hints.now }
-    requires room { (t : ℕ) → t < length rows.old
-        → length (hints_at tiling.now t hints.now) ≤ slice_index (rooms_of rows.old) t }
+    requires room { HaveRoomFor tiling.now hints.now rows.old }
     requires waiting { waiting.old ≡ waiting_bits (works_of rows.old) }
     ensures works { AreReceived tiling.now hints.now (works_of rows.old) (works_of rows.new) }
     ensures waiting { waiting.new ≡ waiting_bits (works_of rows.new) }
@@ -86,11 +81,7 @@ fn deliver_one(rows: &mut [TileRow], waiting: &mut TileSet, tile: usize, hint: H
     requires tile { tile < length rows.old }
     requires room { 0 < slice_index (rooms_of rows.old) tile }
     requires waiting { waiting.old ≡ waiting_bits (works_of rows.old) }
-    ensures works { works_of rows.new
-        ≡ slice_set (works_of rows.old) tile (received (work_of (works_of rows.old) tile) (hint ∷ [])) }
-    ensures room { (t : ℕ) → slice_index (rooms_of rows.old) t
-        ≤ slice_index (rooms_of rows.new) t + (if tile == t then 1 else 0) }
-    ensures waiting { waiting.new ≡ waiting_bits (works_of rows.new) }
+    ensures { IsDelivered tile hint rows.old rows.new waiting.new }
 {
     rows[tile].push_hint(hint);
     waiting.insert(tile);

@@ -19,8 +19,7 @@ returns-clause-border c =
       inside = c.width.ensures.sized.size;
       inside_columns = rw same c.requires.columns;
       inside_rows = rw same c.requires.rows;
-      columns = fits.columns;
-      rows = fits.rows;
+      fits = fits;
       own = λ p inside. subst (λ (rect : Rect). IsInRect rect p ↔ (tile_of t p ≡ tile)) (sym same)
           ((c.each_pixel_in_one_tile.ensures t p c.side.ensures.tiled inside).1 tile c.requires.tile);
     }

@@ -24,6 +24,6 @@ returns-clause-hints c =
       generation = c.args.generation;
     } in
     let sender : sender_of border ≡ to_sender inside = c.border_of-border.ensures.sender ∙ ap to_sender unmoved in
-    c.push_all.ensures.hints
+    c.push_all.ensures.behind
     ∙ (λ i. c.reserve.ensures.hints i
     ++ flat_map (hints_from (sender i)) (pixels_of (c.border_of-border.ensures.rect i)))

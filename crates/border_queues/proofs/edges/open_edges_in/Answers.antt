@@ -30,7 +30,7 @@ returns-clause-hints c =
     c.same_image_same_edges.ensures s image tiled c.requires.tile (λ p inside.
     own_part t tile image corner p same same_top (λ there.
     ((c.each_pixel_in_one_tile.ensures t p tiled inside).1 tile c.requires.tile).1 there)) in
-    c.push_all.ensures.hints
+    c.push_all.ensures.behind
     ∙ (λ i. c.reserve.ensures.hints i
     ++ flat_map (hints_from (c.border_of-border.ensures.sender i)) (pixels_of (c.border_of-border.ensures.rect i)))
     ∙ ap (λ hs. c.args.out.now.hints ++ hs) itself

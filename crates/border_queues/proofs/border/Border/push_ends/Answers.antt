@@ -27,23 +27,31 @@ row_tells b y border by_rows above below wide =
     }))
     ∙ ap (λ k. f b.rect.x ++ f (b.rect.x + k)) last
 
-pub returns-then-last-gt0-clause-hints : goal.returns-then-last-gt0-clause-hints
-returns-then-last-gt0-clause-hints c =
+pub returns-then-last-gt0 : goal.returns-then-last-gt0
+returns-then-last-gt0 c =
     let b = c.args.self.now in
     let y = c.args.y in
     let first = hints_from (sender_of b) (record { x = b.rect.x; y = y }) in
     let last = hints_from (sender_of b) (record { x = b.rect.x + (b.rect.w - 1); y = y }) in
-    c.push_from-then-last-gt0.ensures.hints ∙ ap (λ hs. hs ++ last) c.push_from.ensures.hints
-    ∙ append_assoc c.args.out.now.hints first last
-    ∙ ap (λ hs. c.args.out.now.hints ++ hs) (sym (row_tells b y c.requires.border c.neighbours_by_rows.ensures
-    c.requires.above c.requires.below (omega arith)))
+    record {
+      behind = c.push_from-then-last-gt0.ensures.behind ∙ ap (λ hs. hs ++ last) c.push_from.ensures.behind
+          ∙ append_assoc c.args.out.now.hints first last
+          ∙ ap (λ hs. c.args.out.now.hints ++ hs) (sym (row_tells b y c.requires.border c.neighbours_by_rows.ensures
+          c.requires.between.0 c.requires.between.1 (omega arith)));
+      room = omega (arith, c.push_from.ensures.room, c.push_from-then-last-gt0.ensures.room);
+      kept = omega (arith, c.push_from.ensures.kept, c.push_from-then-last-gt0.ensures.kept);
+    }
 
-pub returns-else-last-gt0-clause-hints : goal.returns-else-last-gt0-clause-hints
-returns-else-last-gt0-clause-hints c =
+pub returns-else-last-gt0 : goal.returns-else-last-gt0
+returns-else-last-gt0 c =
     let b = c.args.self.now in
     let y = c.args.y in
     let f : ℕ → List Hint = λ x. hints_from (sender_of b) (record { x = x; y = y }) in
     let one : b.rect.w ≡ 1 = omega arith in
-    c.push_from.ensures.hints
-    ∙ ap (λ hs. c.args.out.now.hints ++ hs) (sym (by_columns (sender_of b) b.rect y
-    ∙ ap (λ w. flat_map f (range_with_len b.rect.x w)) one ∙ end_told f b.rect.x))
+    record {
+      behind = c.push_from.ensures.behind
+          ∙ ap (λ hs. c.args.out.now.hints ++ hs) (sym (by_columns (sender_of b) b.rect y
+          ∙ ap (λ w. flat_map f (range_with_len b.rect.x w)) one ∙ end_told f b.rect.x));
+      room = omega (arith, c.push_from.ensures.room);
+      kept = c.push_from.ensures.kept;
+    }

@@ -9,8 +9,8 @@ use Rattle.border_queues.proofs.Told.{told_around}
 use Rattle.border_queues.proofs.Interior.{zero_tells_none}
 use Rattle.border_queues.proofs.border.Border.push_from.Goals as goal
 
-pub returns-clause-hints : goal.returns-clause-hints
-returns-clause-hints c =
+pub returns : goal.returns
+returns c =
     let b = c.args.self.now in
     let p : Pixel = record { x = c.args.x; y = c.args.y } in
     let s = sender_of b in
@@ -36,15 +36,39 @@ returns-clause-hints c =
     then row_around b.tiling.width p.x (p.y + 1) (c.diagonals-sides.ensures i) true
     else []))
     in
-    c.push_row-2.ensures.hints
-    ∙ ap (λ hs. hs ++ to below) (c.push_if-2.ensures.hints
-    ∙ ap (λ hs. hs ++ to right) (c.push_if.ensures.hints ∙ ap (λ hs. hs ++ to left) c.push_row.ensures.hints))
-    ∙ told_around s c.value-value.result old above left right below
-    ∙ same
+    record {
+      behind =
+          c.push_row-2.ensures.behind
+          ∙ ap (λ hs. hs ++ to below) (c.push_if-2.ensures.behind
+          ∙ ap (λ hs. hs ++ to right) (c.push_if.ensures.behind ∙ ap (λ hs. hs ++ to left) c.push_row.ensures.behind))
+          ∙ told_around s c.value-value.result old above left right below
+          ∙ same;
+      room =
+          omega (
+            arith,
+            c.push_row.ensures.room,
+            c.push_if.ensures.room,
+            c.push_if-2.ensures.room,
+            c.push_row-2.ensures.room,
+          );
+      kept =
+          omega (
+            arith,
+            c.push_row.ensures.kept,
+            c.push_if.ensures.kept,
+            c.push_if-2.ensures.kept,
+            c.push_row-2.ensures.kept,
+          );
+    }
 
-pub returns-then-value-eq0-clause-hints : goal.returns-then-value-eq0-clause-hints
-returns-then-value-eq0-clause-hints c =
+pub returns-then-value-eq0 : goal.returns-then-value-eq0
+returns-then-value-eq0 c =
     let s = sender_of c.args.self.now in
     let p : Pixel = record { x = c.args.x; y = c.args.y } in
     let black : 0 ≡ s.image p = omega (arith, c.value-value.ensures) in
-    sym (ap (λ hs. c.args.out.now.hints ++ hs) (zero_tells_none s p black) ∙ append-nil c.args.out.now.hints)
+    record {
+      behind = sym (ap (λ hs. c.args.out.now.hints ++ hs) (zero_tells_none s p black)
+          ∙ append-nil c.args.out.now.hints);
+      room = omega arith;
+      kept = omega arith;
+    }

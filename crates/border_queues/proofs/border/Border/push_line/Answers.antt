@@ -10,7 +10,7 @@ loop-i-preserved c =
     let i = c.loop-i.i in
     let s = sender_of b in
     record {
-      hints = c.push_from.ensures.hints
+      hints = c.push_from.ensures.behind
           ∙ ap (λ hs. hs ++ hints_from s (record { x = b.rect.x + i; y = c.args.y })) c.loop-i.invariant.hints
           ∙ told_more s c.args.out.now.hints b.rect c.args.y i;
       room = omega (arith, c.push_from.ensures.room, c.loop-i.invariant.room);
