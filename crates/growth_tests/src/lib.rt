@@ -1,4 +1,18 @@
 #![tactic(auto)]
 //! Tests of sweeps, growth, border queues and tile generations, by the public calls of their crates.
 //!
-//! They stand in a crate of their own because tests are proved safe as well: a crate with tests is proved twice.
+//! They stand in a crate of their own because tests are proved safe as well: a crate with tests is proved twice. `grids`
+//! has the helpers, each of which answers bool.
+
+#[cfg(test)]
+mod borders;
+#[cfg(test)]
+mod closing;
+#[cfg(test)]
+mod grids;
+#[cfg(test)]
+mod growing;
+#[cfg(test)]
+mod hints;
+#[cfg(test)]
+mod jobs;
