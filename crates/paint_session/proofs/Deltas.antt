@@ -17,7 +17,7 @@ use Rattle.core_rules.specs.declared.error.CoreError.{CoreError}
 use Rattle.core_rules.specs.declared.error.CoreError.TheVariants.{OutOfImage, Conflict, GenerationsSpent, Memory}
 use Rattle.core_rules.specs.declared.error.CoreError.TheVariants.{BadSide}
 use Rattle.paint_session.specs.Merging.{AreMerged, IsRefusedBy, IsKeptOut, IsFirstRefusal, IsStop, LeadsOn, StopsBehind}
-use Rattle.paint_session.proofs.LowerLaws.{JoinLaw, EmptyJoinLaw, LongerJoinLaw}
+use Rattle.paint_session.specs.LowerLaws.{JoinLaw, EmptyJoinLaw, LongerJoinLaw}
 use Rattle.paint_session.proofs.Lists.{longer_front, same_parts, all_middle, all_push}
 
 -- ---- what stands among states

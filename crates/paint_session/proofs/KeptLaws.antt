@@ -1,13 +1,11 @@
 -- An input has one view over the old bytes of a state file, which leaves one file; it is refused for one reason, and
--- then
--- has no view.
+-- then has no view.
 use Rattle.std.proofs.Common.{◌≡◌, ℕ, List, ◌++◌, sym, ap, ◌∙◌, subst, inl, inr}
 use Rattle.std.specs.Prelude.{All}
 use Rattle.grid_core.specs.declared.conn.Conn.{Conn}
 use Rattle.pgm_codec.specs.Graymap.{Graymap}
 use Rattle.pgm_codec.specs.Writing.{raw_text}
 use Rattle.stroke_lattice.specs.State.{State, IsJoinOf}
-use Rattle.spd_codec.specs.StateFile.{SpellsFile, IsFileFault}
 use Rattle.spd_codec.specs.declared.frame.Frame.{Frame}
 use Rattle.spd_codec.specs.declared.error.SpdError.{SpdError}
 use Rattle.paint_session.specs.Kept.{print_of, deltas_of, kept_text, IsFrameFor, FileSpells, FileIsOfAnother}
@@ -15,18 +13,10 @@ use Rattle.paint_session.specs.Kept.{IsImageKept, IsKeptView, KeptIsRefused, Old
 use Rattle.paint_session.specs.View.{IsShown, DeltasAreRefused}
 use Rattle.paint_session.specs.declared.run_error.RunError.{RunError}
 use Rattle.paint_session.specs.declared.run_error.RunError.TheVariants.{Spd}
-use Rattle.paint_session.proofs.LowerLaws.{ReadingLaws, JoinLaw}
-use Rattle.paint_session.proofs.Shown.{ImageLaws, one_shown, one_spelling}
+use Rattle.paint_session.specs.LowerLaws.{FileLaws, ImageLaws, ReadingLaws, JoinLaw}
+use Rattle.paint_session.proofs.Shown.{one_shown, one_spelling}
 use Rattle.paint_session.proofs.Refusals.{OneReason, one_for_input, one_for_deltas, merged_or_refused}
 use Rattle.paint_session.proofs.Refusals.{spelled_or_refused}
-
--- a state file is read in one way
-pub record FileLaws : Type 0 where
-  pub one_file : (bytes : List ℕ) (frames others : List Frame) → SpellsFile bytes frames → SpellsFile bytes others
-      → frames ≡ others
-  pub no_fault : (bytes : List ℕ) (frames : List Frame) (e : SpdError) → SpellsFile bytes frames
-      → IsFileFault bytes e → ⊥
-  pub one_fault : (bytes : List ℕ) (d e : SpdError) → IsFileFault bytes d → IsFileFault bytes e → d ≡ e
 
 -- the bytes of a state file spell one list of deltas for an image
 one_kept : FileLaws → (conn : Conn) (print old : List ℕ) (kept others : List State) → FileSpells conn print old kept

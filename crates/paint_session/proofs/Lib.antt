@@ -1,6 +1,5 @@
 pub mod Results
 pub mod Lists
-pub mod LowerLaws
 pub mod ImageLines
 pub mod Splits
 pub mod Deltas

@@ -17,7 +17,7 @@ use Rattle.paint_session.specs.View.{DeltasAreRefused, DeltasHalt, InputIsRefuse
 use Rattle.paint_session.specs.RunError.{IsReadingFault}
 use Rattle.paint_session.specs.declared.run_error.RunError.{RunError}
 use Rattle.paint_session.specs.declared.run_error.RunError.TheVariants.{Edit, Pgm, Core}
-use Rattle.paint_session.proofs.LowerLaws.{ReadingLaws, JoinLaw}
+use Rattle.paint_session.specs.LowerLaws.{ReadingLaws, JoinLaw}
 use Rattle.paint_session.proofs.Deltas.{none_refused, one_first_refusal}
 use Rattle.paint_session.proofs.Splits.{one_split, splits_or_not}
 

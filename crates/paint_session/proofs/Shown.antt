@@ -10,20 +10,10 @@ use Rattle.pgm_codec.specs.Graymap.{Graymap}
 use Rattle.pgm_codec.specs.Spelling.{PgmSpells}
 use Rattle.pgm_codec.specs.Writing.{raw_text}
 use Rattle.stroke_lattice.specs.State.{State, IsJoinOf}
-use Rattle.grid_core.specs.Laws.{AtMostOneReconstruction, ReachRisesWithMarker}
-use Rattle.grid_core.specs.RasterLaws.{EqualPixelsEqualImages}
 use Rattle.marker_tiles.specs.Marker.{IsMarker}
-use Rattle.marker_tiles.specs.Laws.{AtMostOneMarker}
 use Rattle.paint_session.specs.View.{InputSpells, IsShown, IsView}
-use Rattle.paint_session.proofs.LowerLaws.{ReadingLaws, JoinLaw}
+use Rattle.paint_session.specs.LowerLaws.{ImageLaws, ReadingLaws, JoinLaw}
 use Rattle.paint_session.proofs.Splits.{one_split}
-
--- the laws of images and markers below
-pub record ImageLaws : Type 0 where
-  pub rises : ReachRisesWithMarker
-  pub one_marker : AtMostOneMarker
-  pub one_reconstruction : AtMostOneReconstruction
-  pub equal_images : EqualPixelsEqualImages
 
 module _ (images : ImageLaws) where
   -- a reconstruction from a marker is one from each marker that agrees with it

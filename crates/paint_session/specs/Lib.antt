@@ -17,3 +17,4 @@ pub mod Serving
 pub mod View
 pub mod Kept
 pub mod Derive
+pub mod LowerLaws

@@ -19,6 +19,4 @@ pub mod run_error;
 mod showing;
 pub mod store;
 pub mod stored;
-#[cfg(test)]
-mod tests;
 pub mod view;

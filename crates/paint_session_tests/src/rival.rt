@@ -51,31 +51,53 @@ impl Rival {
         Ok(())
     }
 
-    // The raw file of the image once the core has settled, with maxval 9.
-    fn settled(self, alloc: Global) -> Result<Vec<u8>, Fail> {
-        let Rival { mut core } = self;
-        core.settle(alloc)?;
-        let image = Image::from_grid(alloc, core.image(), 9)?;
-        Ok(write_raw(alloc, &image)?)
+    // Merges deltas, brings the work to its end, and gives the image, with maxval 9.
+    fn show(&mut self, alloc: Global, deltas: &[Delta]) -> Result<Image, Fail> {
+        self.merge_each(alloc, deltas)?;
+        let _ = self.core.settle(alloc)?;
+        Ok(Image::from_grid(alloc, self.core.image(), 9)?)
     }
 }
 
-/// The raw file that a core with tiles of this side shows of the edits on the mask, the text of a file of maxval 9.
-pub fn by_core(
+// The deltas of the edits.
+fn deltas_of(alloc: Global, edits: &str) -> Result<Vec<Delta>, Fail> {
+    match parse(alloc, edits.as_bytes()) {
+        Ok(deltas) => Ok(deltas),
+        Err(_) => Err(Fail::new("a line is refused")),
+    }
+}
+
+// What a core with tiles of this side shows of the deltas on the mask.
+fn image_of(
+    alloc: Global,
+    deltas: &[Delta],
+    mask: Image,
+    conn: Conn,
+    side: u32,
+) -> Result<Image, Fail> {
+    let mut rival = Rival::on(alloc, mask, conn, side)?;
+    rival.show(alloc, deltas)
+}
+
+// Whether this is the raw file of an image.
+fn is_file_of(alloc: Global, image: Image, file: &[u8]) -> Result<bool, Fail> {
+    let shown = write_raw(alloc, &image)?;
+    Ok(shown.as_slice() == file)
+}
+
+/// Whether a core with tiles of this side shows this raw file of the edits on the mask, the text of a file of maxval 9.
+pub fn does_core_show(
     alloc: Global,
     edits: &str,
     mask: &str,
     conn: Conn,
     side: u32,
-) -> Result<Vec<u8>, Fail> {
-    let deltas = match parse(alloc, edits.as_bytes()) {
-        Ok(deltas) => deltas,
-        Err(_) => return Err(Fail::new("a line is refused")),
-    };
+    file: &[u8],
+) -> Result<bool, Fail> {
+    let deltas = deltas_of(alloc, edits)?;
     let mask = read(alloc, mask.as_bytes())?;
-    let mut rival = Rival::on(alloc, mask, conn, side)?;
-    rival.merge_each(alloc, &deltas)?;
-    rival.settled(alloc)
+    let image = image_of(alloc, &deltas, mask, conn, side)?;
+    is_file_of(alloc, image, file)
 }
 
 /// The raw file that the view of an input gives.

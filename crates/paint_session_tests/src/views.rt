@@ -1,70 +1,206 @@
-//! Views beside a core.
+//! Views of inputs.
 
-use crate::chance::{draw, some_lines, some_mask};
-use crate::rival::{by_core, by_kept_view, by_view};
-use grid_core::Conn;
+use crate::calls::{
+    ROW, STORED, STORED_VIEW, does_view, fault_of, is_row, is_view, on_row, source_of, with_tags,
+};
+use byte_devices::{MemorySink, MemorySource};
+use edit_lang::EditError;
+use grid_core::{Conn, Memory};
+use paint_session::run_error::{RunError, status};
+use paint_session::view::view_run;
+use pgm_codec::PgmError;
 use std::alloc::Global;
 use std::test::Fail;
 
-const SIDES: [u32; 4] = [8, 9, 64, 256];
+const SQUARE: &str = "image\nP2\n5 5\n9\n9 9 9 9 9 9 9 9 9 9 9 9 9 9 9 9 9 9 9 9 9 9 9 9 9\n";
 
-// Whether a core shows these bytes of the edits on the mask, for each side of its tiles.
-fn does_core_show(
-    alloc: Global,
-    edits: &str,
-    mask: &str,
-    conn: Conn,
-    bytes: &[u8],
-) -> Result<bool, Fail> {
-    for side in SIDES {
-        let shown = by_core(alloc, edits, mask, conn, side)?;
-        if shown.as_slice() != bytes {
-            return Ok(false);
-        }
-    }
-    Ok(true)
+const DIAGONAL: &str =
+    "place 00000000-0000-0000-0000-000000000001 7 0:0-0\nimage\nP2\n2 2\n7\n7 0\n0 7\n";
+
+const RAW: &str =
+    "place 00000000-0000-0000-0000-000000000001 9 0:1-1\nimage\nP5\n# CREATOR: x\n5 1\n9\n\x03\x05\x02\x05\x04";
+
+const SHOWN: &str =
+    "place 00000000-0000-0000-0000-000000000001 9 0:1-1\nimage\nP5\n5 1\n9\n\x03\x05\x02\x02\x02";
+
+const DEVICE: Option<RunError> = Some(RunError::Pgm(PgmError::Device));
+
+// Whether the edits show these samples on the row.
+fn do_show(alloc: Global, edits: &str, samples: &[u8]) -> Result<bool, Memory> {
+    let input = on_row(alloc, edits)?;
+    let source = source_of(alloc, input.as_str())?;
+    Ok(is_row_shown(alloc, source, samples))
 }
 
-// Whether a view, and a view over what another kept, show what a core shows.
-fn are_all_the_same(alloc: Global, seed: &mut u64, conn: Conn) -> Result<bool, Fail> {
-    let w = draw(seed, 73).saturating_add(8);
-    let h = draw(seed, 73).saturating_add(8);
-    let behind = some_mask(alloc, seed, w, h)?;
-    let Some(mask) = behind.as_str().strip_prefix("image\n") else {
-        return Ok(false);
-    };
-    let first = some_lines(alloc, seed, 0, 20, w, h)?;
-    let second = some_lines(alloc, seed, 20, 40, w, h)?;
-    let edits = format!(in alloc; "{first}{second}")?;
-    let whole = format!(in alloc; "{edits}{behind}")?;
-    let viewed = by_view(alloc, whole.as_str(), conn)?;
-    let before = format!(in alloc; "{first}{behind}")?;
-    let (_, old) = by_kept_view(alloc, before.as_str(), b"".as_slice(), conn, 64)?;
-    let after = format!(in alloc; "{second}{behind}")?;
-    let (kept, _) = by_kept_view(alloc, after.as_str(), &old, conn, 8)?;
-    let is_same = does_core_show(alloc, edits.as_str(), mask, conn, &viewed)?;
-    Ok(is_same && kept == viewed)
-}
-
-// Whether it is so for each of the inputs that follow a seed.
-fn are_they_for_each(alloc: Global, seed: u64, conn: Conn) -> Result<bool, Fail> {
-    let mut seed = seed;
-    for _ in 0..12 {
-        if !are_all_the_same(alloc, &mut seed, conn)? {
-            return Ok(false);
-        }
-    }
-    Ok(true)
+fn is_row_shown(alloc: Global, source: MemorySource, samples: &[u8]) -> bool {
+    let (mut source, mut sink) = (source, MemorySink::new(alloc));
+    let outcome = view_run(alloc, &mut source, Conn::Four, &mut sink);
+    outcome.is_ok() && is_row(sink.written(), samples)
 }
 
 #[test]
-fn a_view_shows_what_a_core_shows_with_four_neighbours(rt: HostRuntime) -> Result<(), Fail> {
-    assert!(rt; are_they_for_each(rt.alloc(), 1, Conn::Four)?);
+fn worked_examples(rt: HostRuntime) -> Result<(), Fail> {
+    let alloc = rt.alloc();
+    let cases: [(&str, &[u8]); 6] = [
+        ("", &[0, 0, 0, 0, 0]),
+        ("place A 9 0:1-1\n", &[3, 5, 2, 2, 2]),
+        ("place A 9 0:1-1\nplace B 3 0:4-4\n", &[3, 5, 2, 3, 3]),
+        ("place A 9 0:1-1\nplace A 9 0:1-1\n", &[3, 5, 2, 2, 2]),
+        (
+            "place A 9 0:1-1\nplace B 3 0:4-4\nwithdraw A\n",
+            &[2, 2, 2, 3, 3],
+        ),
+        (
+            "withdraw A\nplace B 3 0:4-4\nplace A 9 0:1-1\n",
+            &[2, 2, 2, 3, 3],
+        ),
+    ];
+    for (edits, samples) in cases {
+        assert!(rt; do_show(alloc, edits, samples)?, "{edits}");
+    }
+    assert!(rt; is_view(alloc, Conn::Four, STORED, STORED_VIEW)?);
     Ok(())
 }
 
 #[test]
-fn a_view_shows_what_a_core_shows_with_eight_neighbours(rt: HostRuntime) -> Result<(), Fail> {
-    assert!(rt; are_they_for_each(rt.alloc(), 2, Conn::Eight)?);
+fn a_withdrawal_counts_in_either_order(rt: HostRuntime) -> Result<(), Fail> {
+    let alloc = rt.alloc();
+    for edits in [
+        "place A 9 0:1-1\nwithdraw A\n",
+        "withdraw A\nplace A 9 0:1-1\n",
+        "place A 9 0:1-1\nwithdraw A\nplace A 9 0:1-1\nwithdraw A\n",
+        "disc A 9 0:1+1\nwithdraw A\n",
+        "withdraw A\ndisc A 9 0:1+1\n",
+        "disc A 9 0:1+1\nwithdraw A\ndisc A 9 0:1+1\nwithdraw A\n",
+    ] {
+        assert!(rt; do_show(alloc, edits, &[0, 0, 0, 0, 0])?, "{edits}");
+    }
+    Ok(())
+}
+
+// Whether a disc of level 5 fills the square with its level.
+fn does_fill(alloc: Global, disc: &str) -> Result<bool, Memory> {
+    let mut input = with_tags(alloc, disc)?;
+    input.push_str(SQUARE)?;
+    let file =
+        b"P5\n5 5\n9\n\x05\x05\x05\x05\x05\x05\x05\x05\x05\x05\x05\x05\x05\x05\x05\x05\x05\x05\x05\x05\x05\x05\x05\x05\x05";
+    is_view(alloc, Conn::Four, input.as_str(), file)
+}
+
+#[test]
+fn a_disc_grows(rt: HostRuntime) -> Result<(), Fail> {
+    let alloc = rt.alloc();
+    for disc in [
+        "disc A 5 2:2+2\n",
+        "disc A 5 2:2+0\n",
+        "disc A 5 0:0+1\n",
+        "disc A 5 4:4+255\n",
+    ] {
+        assert!(rt; does_fill(alloc, disc)?, "{disc}");
+    }
+    Ok(())
+}
+
+// A raw file with a comment, and what was written read again.
+#[test]
+fn raw_files_are_read(rt: HostRuntime) -> Result<(), Fail> {
+    let alloc = rt.alloc();
+    for input in [RAW, SHOWN] {
+        assert!(rt;
+            is_view(
+                alloc,
+                Conn::Four,
+                input,
+                b"P5\n5 1\n9\n\x03\x05\x02\x02\x02"
+            )?
+        );
+    }
+    Ok(())
+}
+
+#[test]
+fn a_corner_joins_eight_neighbours_alone(rt: HostRuntime) -> Result<(), Fail> {
+    let alloc = rt.alloc();
+    assert!(rt; is_view(alloc, Conn::Four, DIAGONAL, b"P5\n2 2\n7\n\x07\x00\x00\x00")?);
+    assert!(rt;
+        is_view(
+            alloc,
+            Conn::Eight,
+            DIAGONAL,
+            b"P5\n2 2\n7\n\x07\x00\x00\x07"
+        )?
+    );
+    Ok(())
+}
+
+#[test]
+fn runs_with_a_pixel_between_are_accepted(rt: HostRuntime) -> Result<(), Fail> {
+    let edits = "place A 9 0:1-2,0:4-4\n";
+    assert!(rt; do_show(rt.alloc(), edits, &[3, 5, 2, 4, 4])?);
+    Ok(())
+}
+
+#[test]
+fn a_line_image_may_end_with_a_cr(rt: HostRuntime) -> Result<(), Fail> {
+    let input = "image\r\nP2\n2 1\n9\n3 5\n";
+    assert!(rt; is_view(rt.alloc(), Conn::Four, input, b"P5\n2 1\n9\n\x00\x00")?);
+    Ok(())
+}
+
+// In pieces of 7 bytes the 84 bytes take 12 pulls, and one more finds the end.
+#[test]
+fn each_pull_fails_in_turn(rt: HostRuntime) -> Result<(), Fail> {
+    let alloc = rt.alloc();
+    for k in 1..14u64 {
+        let source = source_of(alloc, STORED)?.in_pieces(7).failing_at(k);
+        let fault = fault_of(alloc, source, Conn::Four, MemorySink::new(alloc), b"");
+        assert!(rt; fault == DEVICE, "pull {k}");
+    }
+    for k in 14..20u64 {
+        let source = source_of(alloc, STORED)?.in_pieces(7).failing_at(k);
+        let sink = MemorySink::new(alloc);
+        assert!(rt;
+            does_view(alloc, source, Conn::Four, sink, STORED_VIEW),
+            "pull {k}"
+        );
+    }
+    assert!(rt; status(&RunError::Pgm(PgmError::Device)) == 3);
+    Ok(())
+}
+
+// The 23 bytes take 4 pulls, and one more finds the end. A device is met before the bad line.
+#[test]
+fn each_pull_of_a_refused_input_fails_in_turn(rt: HostRuntime) -> Result<(), Fail> {
+    let alloc = rt.alloc();
+    for k in 1..9u64 {
+        let source = source_of(alloc, "bogus\nimage\nP2\n1 1\n9\n5\n")?
+            .in_pieces(7)
+            .failing_at(k);
+        let fault = fault_of(alloc, source, Conn::Four, MemorySink::new(alloc), b"");
+        let bad_line = RunError::Edit(EditError::BadLine(1));
+        let wanted = if k <= 5 { DEVICE } else { Some(bad_line) };
+        assert!(rt; fault == wanted, "pull {k}");
+    }
+    Ok(())
+}
+
+// In pieces of 3 bytes the 16 bytes take 6 puts.
+#[test]
+fn each_put_fails_in_turn(rt: HostRuntime) -> Result<(), Fail> {
+    let alloc = rt.alloc();
+    for (k, taken) in [(1, 0), (2, 3), (3, 6), (4, 9), (5, 12), (6, 15)] {
+        let source = source_of(alloc, STORED)?;
+        let sink = MemorySink::new(alloc).in_pieces(3).failing_at(k);
+        let fault = fault_of(alloc, source, Conn::Four, sink, &STORED_VIEW[..taken]);
+        assert!(rt; fault == DEVICE, "put {k}");
+    }
+    for k in 7..10u64 {
+        let source = source_of(alloc, STORED)?;
+        let sink = MemorySink::new(alloc).in_pieces(3).failing_at(k);
+        assert!(rt;
+            does_view(alloc, source, Conn::Four, sink, STORED_VIEW),
+            "put {k}"
+        );
+    }
     Ok(())
 }

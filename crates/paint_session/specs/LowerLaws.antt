@@ -1,5 +1,8 @@
 -- The laws of the crates below, as the functions that have them for their contracts give them.
 use Rattle.std.specs.Prelude.{◌≡◌, ◌↔◌, ℕ, List, [], ◌∷◌, ◌++◌}
+use Rattle.grid_core.specs.Laws.{AtMostOneReconstruction, ReachRisesWithMarker}
+use Rattle.grid_core.specs.RasterLaws.{EqualPixelsEqualImages}
+use Rattle.marker_tiles.specs.Laws.{AtMostOneMarker}
 use Rattle.edit_lang.specs.Edit.{EditSpells, IsFirstFault}
 use Rattle.edit_lang.specs.declared.error.EditError.{EditError}
 use Rattle.pgm_codec.specs.Graymap.{Graymap}
@@ -7,6 +10,9 @@ use Rattle.pgm_codec.specs.Spelling.{PgmSpells}
 use Rattle.pgm_codec.specs.FirstFault.{PgmFault}
 use Rattle.pgm_codec.specs.declared.error.PgmError.{PgmError}
 use Rattle.stroke_lattice.specs.State.{State, nothing, IsJoin, IsJoinOf}
+use Rattle.spd_codec.specs.StateFile.{SpellsFile, IsFileFault}
+use Rattle.spd_codec.specs.declared.frame.Frame.{Frame}
+use Rattle.spd_codec.specs.declared.error.SpdError.{SpdError}
 
 -- a text is read in one way
 pub record ReadingLaws : Type 0 where
@@ -31,3 +37,18 @@ LongerJoinLaw = (states : List State) (s delta join : State) → IsJoinOf states
 -- no states have the state without strokes and tombstones for their join
 abbrev pub EmptyJoinLaw : Type 0
 EmptyJoinLaw = (join : State) → IsJoinOf [] join ↔ (join ≡ nothing)
+
+-- the laws of images and markers
+pub record ImageLaws : Type 0 where
+  pub rises : ReachRisesWithMarker
+  pub one_marker : AtMostOneMarker
+  pub one_reconstruction : AtMostOneReconstruction
+  pub equal_images : EqualPixelsEqualImages
+
+-- a state file is read in one way
+pub record FileLaws : Type 0 where
+  pub one_file : (bytes : List ℕ) (frames others : List Frame) → SpellsFile bytes frames → SpellsFile bytes others
+      → frames ≡ others
+  pub no_fault : (bytes : List ℕ) (frames : List Frame) (e : SpdError) → SpellsFile bytes frames
+      → IsFileFault bytes e → ⊥
+  pub one_fault : (bytes : List ℕ) (d e : SpdError) → IsFileFault bytes d → IsFileFault bytes e → d ≡ e
