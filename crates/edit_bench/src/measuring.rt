@@ -24,9 +24,14 @@ pub struct Cost {
 /// Errors: those of merging.
 pub fn merge_all(alloc: Global, core: &mut Core, edits: &[Delta]) -> Result<()> {
     for edit in edits {
-        core.merge(alloc, edit)?;
+        merge(alloc, core, edit)?;
     }
     Ok(())
+}
+
+// Merges the edit into a core.
+fn merge(alloc: Global, core: &mut Core, edit: &Delta) -> Result<Change> {
+    Ok(core.merge(alloc, edit)?)
 }
 
 /// Merges the edits into a core without work, settles it after each, and prints what each cost, where asked for with
@@ -60,7 +65,7 @@ pub fn measure_each(
 fn measure(rt: &(impl CpuClock + AllocGlobal), core: &mut Core, edit: &Delta) -> Result<Cost> {
     let before = sum_of_generations(core);
     let start = rt.thread_cpu_time()?;
-    let change = core.merge(rt.alloc(), edit)?;
+    let change = merge(rt.alloc(), core, edit)?;
     let count = core.settle(rt.alloc())?;
     let time = rt.thread_cpu_time()?.saturating_sub(start);
     Ok(Cost {
