@@ -41,4 +41,4 @@ pub use memory::Memory;
 pub use neighbourhood::{Neighbourhood, neighbours};
 pub use pixel::Pixel;
 pub use rect::Rect;
-pub use tiling::{MAX_TILE_SIDE, MIN_TILE_SIDE, Tiling, Touching, is_tile_side};
+pub use tiling::{MAX_TILE_SIDE, MIN_TILE_SIDE, TILE_SIDE, Tiling, Touching, is_tile_side};

@@ -22,6 +22,9 @@ pub const MIN_TILE_SIDE: u32 = 8;
 /// The greatest side of a tile.
 pub const MAX_TILE_SIDE: u32 = 256;
 
+/// The side of tiles where none is named.
+pub const TILE_SIDE: u32 = 64;
+
 /// Whether tiles may have this side: from [`MIN_TILE_SIDE`] to [`MAX_TILE_SIDE`].
 pub fn is_tile_side(side: u32) -> bool
     ensures { IsTrue result ↔ IsTileSide side }

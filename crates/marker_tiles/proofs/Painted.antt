@@ -8,7 +8,7 @@ use Rattle.std.proofs.lemmas.Bool.Decides.{nat_tests}
 use Rattle.grid_core.specs.declared.pixel.Pixel.{Pixel}
 use Rattle.grid_core.specs.Raster.{Raster, IsInside, index_of, value_at, IsOfSize}
 use Rattle.grid_core.specs.Rects.{AreCellsChanged}
-use Rattle.grid_core.proofs.Cells.{index_of-within}
+use Rattle.grid_core.proofs.Cells.{index_of-within, row_before}
 use Rattle.stroke_core.specs.Seed.{Seed, covers}
 use Rattle.marker_tiles.specs.declared.brush.Brush.{Brush}
 use Rattle.marker_tiles.specs.declared.brush.Brush.TheVariants.{Raise, Clear}
@@ -68,13 +68,6 @@ abbrev pub covered_in : List Window → Seed → Pixel → Bool
 covered_in ws seed p = in_some ws p && covers seed p
 
 -- ---- a span as cells
-
--- a place on an earlier row is before the start of a row
-row_before : (width x y row : ℕ) → x < width → y < row → y * width + x < row * width
-row_before width x y row inside before =
-    let next : y + 1 ≤ row = omega arith in
-    let rows : (y + 1) * width ≤ row * width = mul-le-mul_right width next in
-    omega (arith, rows)
 
 -- cells led over between two places of one row
 module _ (y first end from to : ℕ) (brush : Brush) (mask old new : Raster) (size : IsOfSize mask old)

@@ -25,4 +25,5 @@ mod parts;
 mod replica;
 
 pub use core_rules::{Back, CoreError, Handed, Step, laws};
-pub use replica::{Core, Count, Ran, RefusedMask, TILE_SIDE};
+pub use grid_core::TILE_SIDE;
+pub use replica::{Core, Count, Ran, RefusedMask};

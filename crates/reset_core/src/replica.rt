@@ -14,7 +14,7 @@ ghost use Rattle.reset_core.specs.Replica.{core_of, IsStored, at_first, begun};
 ghost use Rattle.core_rules.specs.Runs.{ticket_out};
 
 use core_rules::CoreError;
-use grid_core::{Conn, Grid, Pixel, Tiling, is_tile_side};
+use grid_core::{Conn, Grid, Pixel, TILE_SIDE, Tiling, is_tile_side};
 use marker_tiles::Markers;
 use pgm_codec::Image;
 use std::alloc::Global;
@@ -33,9 +33,6 @@ mod sweeping;
 
 pub use scheduling::Ran;
 pub use settling::Count;
-
-/// The side of the tiles of a core that names no other.
-pub const TILE_SIDE: u32 = 64;
 
 /// A mask of which no core was opened.
 #[derive(Debug, Drop)]

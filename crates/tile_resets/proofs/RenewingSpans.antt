@@ -10,6 +10,7 @@ use Rattle.std.proofs.lemmas.Nat.{mul-add-lt}
 use Rattle.grid_core.specs.declared.pixel.Pixel.{Pixel}
 use Rattle.grid_core.specs.Raster.{Raster, IsInside, IsFilled, index_of, value_at}
 use Rattle.grid_core.specs.Rects.{AreCellsChanged}
+use Rattle.grid_core.proofs.Cells.{row_before}
 use Rattle.stroke_core.specs.declared.span.Span.{Span}
 use Rattle.stroke_core.specs.Spans.{span_has}
 use Rattle.core_rules.specs.Image.{IsOfSize}
@@ -78,13 +79,6 @@ made_alike a b make marker old new made same = record {
 }
 
 -- ---- a span as cells
-
--- a place on an earlier row is before the start of a row
-row_before : (width x y row : ℕ) → x < width → y < row → y * width + x < row * width
-row_before width x y row inside before =
-    let next : y + 1 ≤ row = omega arith in
-    let rows : (y + 1) * width ≤ row * width = mul-le-mul_right width next in
-    omega (arith, rows)
 
 -- cells that are changed between two places of one row
 module _ (s : Span) (from to : ℕ) (make : ℕ → ℕ → ℕ) (marker old new : Raster) (size : IsOfSize marker old)
