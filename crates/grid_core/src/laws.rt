@@ -7,8 +7,8 @@ ghost use Rattle.grid_core.specs.TileLaws.{EachPixelInOneTile, TilesLieInside, N
 ghost use Rattle.grid_core.specs.TileLaws.{RectPixelsLieInRect, RectLaws};
 ghost use Rattle.grid_core.specs.RasterLaws.{PixelLaws, EqualPixelsEqualImages, NeighboursByRows};
 
-/// An image is known by its values at pixels: a new value is read back there, every other pixel stays, and images of one
-/// size are one below the other just where their values are.
+/// An image is known by its values at pixels: a new value is read back there, every other pixel stays, and of images of
+/// one size one is below the other just where its values are.
 pub fn pixel_laws()
     ensures { PixelLaws }
 {}

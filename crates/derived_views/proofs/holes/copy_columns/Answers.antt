@@ -20,7 +20,8 @@ loop-y-preserved c =
           second.kept p inside (first.kept p inside (c.loop-y.invariant.kept p inside agrees));
       columns =
           columns_more image c.loop-y.border c.copy_pixel.new.border c.copy_pixel-in-loop-y.new.border last c.loop-y.y
-          width first.kept second.kept (first.copied _ (some, below) refl) (second.copied _ (end, below) refl) c.loop-y.invariant.columns;
+          width first.kept second.kept (first.copied _ (some, below) refl)
+          (second.copied _ (end, below) refl) c.loop-y.invariant.columns;
     }
 
 pub returns : goal.returns
@@ -28,6 +29,8 @@ returns c = record {
   part = c.loop-y.invariant.part;
   kept = c.loop-y.invariant.kept;
   copied = λ p inside side.
-      let row : p.y < c.loop-y.y = omega (arith, inside.1, c.loop-y-test.false, c.loop-y.auto.y-end, c.height-y-end.ensures.value) in
+      let row : p.y < c.loop-y.y =
+      omega (arith, inside.1, c.loop-y-test.false, c.loop-y.auto.y-end, c.height-y-end.ensures.value)
+      in
       c.loop-y.invariant.columns p inside row side;
 }

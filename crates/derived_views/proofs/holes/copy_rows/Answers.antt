@@ -22,7 +22,8 @@ loop-x-preserved c =
           second.kept p inside (first.kept p inside (c.loop-x.invariant.kept p inside agrees));
       rows =
           rows_more image c.loop-x.border c.copy_pixel.new.border c.copy_pixel-in-loop-x.new.border last c.loop-x.x
-          height first.kept second.kept (first.copied _ (below, some) refl) (second.copied _ (below, end) refl) c.loop-x.invariant.rows;
+          height first.kept second.kept (first.copied _ (below, some) refl)
+          (second.copied _ (below, end) refl) c.loop-x.invariant.rows;
     }
 
 pub returns : goal.returns
@@ -30,6 +31,8 @@ returns c = record {
   part = c.loop-x.invariant.part;
   kept = c.loop-x.invariant.kept;
   copied = λ p inside side.
-      let column : p.x < c.loop-x.x = omega (arith, inside.0, c.loop-x-test.false, c.loop-x.auto.x-end, c.width-x-end.ensures.value) in
+      let column : p.x < c.loop-x.x =
+      omega (arith, inside.0, c.loop-x-test.false, c.loop-x.auto.x-end, c.width-x-end.ensures.value)
+      in
       c.loop-x.invariant.rows p inside column side;
 }

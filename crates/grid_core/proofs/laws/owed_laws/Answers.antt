@@ -1,4 +1,5 @@
-use Rattle.grid_core.proofs.Owed.{one_owed, lawful_is_owed, owed_nothing_is_reconstruction, reconstruction_is_owed_nothing}
+use Rattle.grid_core.proofs.Owed.{one_owed, lawful_is_owed, owed_nothing_is_reconstruction}
+use Rattle.grid_core.proofs.Owed.{reconstruction_is_owed_nothing}
 use Rattle.grid_core.proofs.laws.owed_laws.Goals as goal
 
 pub returns : goal.returns
