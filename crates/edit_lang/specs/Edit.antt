@@ -1,6 +1,6 @@
 -- What an edit text means: a state for each of its edits, or the fault of its first faulty line.
 use Rattle.std.specs.Prelude.{◌≡◌, ℕ, ◌+◌, List, [], ◌∷◌, ◌++◌, ◌⊎◌, if◌then◌else◌, codes, nat_eq, Option, Some}
-use Rattle.std.specs.Prelude.{None, option_to_list, Result, Ok, Err}
+use Rattle.std.specs.Prelude.{None, option_to_list, Result, Ok, Err, MatchResult}
 use Rattle.std.specs.List.{starts_with}
 use Rattle.std.specs.Str.{bytes_eq}
 use Rattle.stroke_core.specs.Seed.{Seed, Runs, IsCanonical, IsRefusal}
@@ -8,7 +8,7 @@ use Rattle.stroke_core.specs.Tag.{tag_of}
 use Rattle.stroke_core.specs.declared.error.StrokeError.{StrokeError}
 use Rattle.stroke_lattice.specs.State.{State, placed, withdrawn}
 use Rattle.edit_lang.specs.declared.error.EditError.{EditError}
-use Rattle.edit_lang.specs.declared.error.EditError.TheVariants.{BadLine, BadTag, BadStroke}
+use Rattle.edit_lang.specs.declared.error.EditError.TheVariants.{BadLine, BadTag, BadStroke, Memory}
 use Rattle.edit_lang.specs.Lines.{lines_of, words_of}
 use Rattle.edit_lang.specs.Numbers.{◌>>=◌, number_of}
 use Rattle.edit_lang.specs.Shapes.{runs_of, disc_of}
@@ -81,6 +81,11 @@ EditMeans n None r = r ≡ Err (BadLine n)
 EditMeans n (Some Nothing) r = r ≡ Ok None
 EditMeans n (Some (Place tag seed)) r = PlaceMeans n (tag_of tag) seed r
 EditMeans n (Some (Withdraw tag)) r = WithdrawMeans n (tag_of tag) r
+
+-- the answer to an edit on line n: the state that it means, or its fault, or that memory ran out
+abbrev pub AnswersEdit : ℕ → Option Edit → Result State EditError → Type 0
+AnswersEdit n edit r =
+    MatchResult r (λ delta. EditMeans n edit (Ok (Some delta))) (λ e. (e ≡ Memory) ⊎ EditMeans n edit (Err e))
 
 -- what line n means
 abbrev pub LineMeans : ℕ → List ℕ → Result (Option State) EditError → Type 0

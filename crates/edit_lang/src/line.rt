@@ -6,7 +6,7 @@ ghost use Rattle.edit_lang.specs.declared.error.EditError.TheVariants as errors;
 ghost use Rattle.stroke_lattice.specs.State.{placed};
 ghost use Rattle.edit_lang.specs.Lines.{words_of};
 ghost use Rattle.edit_lang.specs.Edit.{Place, Withdraw, three_of, runs_edit, disc_edit, withdrawal};
-ghost use Rattle.edit_lang.specs.Edit.{edit_named, EditMeans, LineMeans};
+ghost use Rattle.edit_lang.specs.Edit.{edit_named, AnswersEdit, LineMeans};
 
 use crate::error::EditError;
 use crate::number::parse_number;
@@ -42,9 +42,7 @@ pub(crate) fn parse_line(
 /// What a first word asks for with the words behind it.
 #[tactic(auto, unfolding(crate::specs::Edit::edit_named))]
 fn parse_edit(alloc: Global, number: u64, first: &[u8], others: &[u8]) -> Result<Delta, EditError>
-    ensures { MatchResult result
-        (λ delta. EditMeans number (edit_named first.now (words_of others.now)) (Ok (Some delta)))
-        (λ e. (e ≡ errors.Memory) ⊎ EditMeans number (edit_named first.now (words_of others.now)) (Err e)) }
+    ensures { AnswersEdit number (edit_named first.now (words_of others.now)) result }
 {
     if first == b"place".as_slice() {
         parse_placement(alloc, number, others)
@@ -59,8 +57,7 @@ fn parse_edit(alloc: Global, number: u64, first: &[u8], others: &[u8]) -> Result
 
 /// The delta of `TAG LEVEL RUNS`.
 fn parse_placement(alloc: Global, number: u64, words: &[u8]) -> Result<Delta, EditError>
-    ensures { MatchResult result (λ delta. EditMeans number (runs_edit (words_of words.now)) (Ok (Some delta)))
-        (λ e. (e ≡ errors.Memory) ⊎ EditMeans number (runs_edit (words_of words.now)) (Err e)) }
+    ensures { AnswersEdit number (runs_edit (words_of words.now)) result }
 {
     let Some((tag, level, runs)) = runs_words(alloc, words)? else {
         return Err(EditError::BadLine(number));
@@ -74,8 +71,7 @@ fn parse_placement(alloc: Global, number: u64, words: &[u8]) -> Result<Delta, Ed
 
 /// The delta of `TAG LEVEL DISC`.
 fn parse_disc_placement(alloc: Global, number: u64, words: &[u8]) -> Result<Delta, EditError>
-    ensures { MatchResult result (λ delta. EditMeans number (disc_edit (words_of words.now)) (Ok (Some delta)))
-        (λ e. (e ≡ errors.Memory) ⊎ EditMeans number (disc_edit (words_of words.now)) (Err e)) }
+    ensures { AnswersEdit number (disc_edit (words_of words.now)) result }
 {
     let Some((tag, level, disc)) = disc_words(words) else {
         return Err(EditError::BadLine(number));
@@ -90,8 +86,7 @@ fn parse_disc_placement(alloc: Global, number: u64, words: &[u8]) -> Result<Delt
 
 /// The delta of `TAG`.
 fn parse_withdrawal(alloc: Global, number: u64, words: &[u8]) -> Result<Delta, EditError>
-    ensures { MatchResult result (λ delta. EditMeans number (withdrawal (words_of words.now)) (Ok (Some delta)))
-        (λ e. (e ≡ errors.Memory) ⊎ EditMeans number (withdrawal (words_of words.now)) (Err e)) }
+    ensures { AnswersEdit number (withdrawal (words_of words.now)) result }
 {
     let Some(tag) = one_word(words) else {
         return Err(EditError::BadLine(number));

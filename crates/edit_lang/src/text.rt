@@ -65,12 +65,10 @@ fn parse_lines(alloc: Global, text: &[u8]) -> Result<Vec<Delta>, EditError>
 
 /// A text spells one list of deltas or has one first fault, and not both.
 pub fn one_meaning()
-    ensures one_list { (text : List ℕ) (deltas others : List Strokes)
-        → EditSpells text deltas → EditSpells text others → deltas ≡ others }
+    ensures one_list { (text : List ℕ) (a b : List Strokes) → EditSpells text a → EditSpells text b → a ≡ b }
     ensures no_fault { (text : List ℕ) (deltas : List Strokes) (e : error.EditError)
         → EditSpells text deltas → IsFirstFault text e → ⊥ }
-    ensures one_fault { (text : List ℕ) (d e : error.EditError)
-        → IsFirstFault text d → IsFirstFault text e → d ≡ e }
+    ensures one_fault { (text : List ℕ) (d e : error.EditError) → IsFirstFault text d → IsFirstFault text e → d ≡ e }
     ensures every_text { (text : List ℕ)
         → ((deltas : List Strokes) × EditSpells text deltas) ⊎ ((e : error.EditError) × IsFirstFault text e) }
 {

@@ -2,14 +2,13 @@
 use Rattle.std.proofs.Common.{◌≡◌, ℕ, Bool, true, false, min, max, List, [], ◌∷◌, ◌++◌, refl, sym, ap, subst, ◌∙◌}
 use Rattle.std.proofs.Common.{append_assoc, append-nil, arith}
 use Rattle.std.specs.Prelude.{◌&&◌, ◌||◌, IsTrue, if◌then◌else◌}
-use Rattle.std.proofs.lemmas.List.Elements.{Contains-append_right}
 use Rattle.grid_core.specs.declared.pixel.Pixel.{Pixel}
 use Rattle.grid_core.specs.declared.conn.Conn.{Conn}
 use Rattle.grid_core.specs.Path.{domain_of}
 use Rattle.grid_core.specs.Raster.{Raster, IsInside, IsBelow, value_at, IsOfSize}
 use Rattle.grid_core.proofs.Cells.{each_pixel_below}
-use Rattle.stroke_core.specs.Seed.{covers, Fits}
-use Rattle.stroke_lattice.specs.State.{State, StateFits}
+use Rattle.stroke_core.specs.Seed.{covers}
+use Rattle.stroke_lattice.specs.State.{State}
 use Rattle.stroke_lattice.specs.Walks.{AreLive}
 use Rattle.marker_tiles.specs.declared.brush.Brush.{Brush}
 use Rattle.marker_tiles.specs.declared.brush.Brush.TheVariants.{Raise}
@@ -18,7 +17,6 @@ use Rattle.marker_tiles.specs.Marker.{IsMarker}
 use Rattle.marker_tiles.specs.Painting.{IsPaintedBy, brushed_if, in_window, in_some}
 use Rattle.marker_tiles.specs.UnderTags.{IsBlankOn, IsRaisedByLive}
 use Rattle.marker_tiles.proofs.Levels.{Entry, top_level, top_level-push, top_of_live}
-use Rattle.grid_core.proofs.Common.{first}
 use Rattle.marker_tiles.proofs.Raising.{raised_to_level}
 
 -- the image is the old one, raised within the windows by the live strokes but for those that are left
@@ -56,12 +54,6 @@ module _ (s : State) (ws : List Window) (mask old image : Raster) (left rest : L
     (way : IsUnderWay s ws mask old image left) (next : left ≡ entry ∷ rest) where
   live_then : AreLive s (way.done ++ entry ∷ rest)
   live_then = subst (λ es. AreLive s (way.done ++ es)) next way.live
-
-  -- the next one fits where all do
-  pub next_fits : (width height : ℕ) → StateFits width height s → Fits width height entry.1
-  next_fits width height fits =
-      let member = Contains-append_right way.done (entry ∷ rest) (entry.0, entry.1) (first entry rest) in
-      fits entry.0 entry.1 ((live_then.each entry.0 entry.1).0 member).0
 
   -- it is painted, and one less is left
   pub under_way_next : (new : Raster) (brush : Brush) → brush ≡ Raise entry.1.level

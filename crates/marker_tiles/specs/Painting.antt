@@ -1,7 +1,7 @@
 -- What is painted on an image: runs and the rows of a disc, span by span, within a window. Private functions have it
 -- in their contracts.
 use Rattle.std.specs.Prelude.{◌≡◌, ℕ, ◌≤◌, ◌==◌, ◌&&◌, Bool, min, max, nat_le, nat_lt, if◌then◌else◌}
-use Rattle.std.specs.Prelude.{List, slice_index}
+use Rattle.std.specs.Prelude.{◌<◌, List, slice_index, EachIndex, IsTrue}
 use Rattle.std.specs.List.{list_any, AllByRecursion}
 use Rattle.grid_core.specs.declared.pixel.Pixel.{Pixel}
 use Rattle.grid_core.specs.Raster.{Raster, IsInside, IsOfSize, value_at}
@@ -21,6 +21,15 @@ in_window w p = (nat_le w.left p.x && nat_lt p.x w.right) && (nat_le w.top p.y &
 abbrev pub in_some : List Window → Pixel → Bool
 in_some windows p = list_any (λ w. in_window w p) windows
 
+-- the row is one of the window's
+abbrev pub HasRow : Window → ℕ → Type 0
+HasRow w y = (w.top ≤ y) × (y < w.bottom)
+
+-- on the image, the second has each pixel that the first has
+abbrev pub IncludesOn : Raster → (Pixel → Bool) → (Pixel → Bool) → Type 0
+IncludesOn image first second =
+    (p : Pixel) → IsInside image.width image.height p → IsTrue (first p) → IsTrue (second p)
+
 -- the window ends where an image of this width and height does, or before
 pub record WindowFits (width height : ℕ) (w : Window) : Type 0 where
   pub columns : w.right ≤ width
@@ -34,6 +43,11 @@ WindowsFit width height windows = AllByRecursion (λ w. WindowFits width height 
 abbrev pub brushed : Brush → ℕ → ℕ → ℕ
 brushed (Raise level) limit old = max old (min limit level)
 brushed Clear limit old = 0
+
+-- the new values are those that the brush leaves of the old ones, under these limits
+abbrev pub AreBrushed : Brush → List ℕ → List ℕ → List ℕ → Type 0
+AreBrushed brush limits old new =
+    EachIndex new (λ k. slice_index new k ≡ brushed brush (slice_index limits k) (slice_index old k))
 
 -- the value that the brush leaves where the test holds, else the old one
 abbrev pub brushed_if : Bool → Brush → ℕ → ℕ → ℕ

@@ -1,8 +1,8 @@
 //! What painting leaves on the values of a row.
 
-ghost use Rattle.std.specs.Prelude.{◌≡◌, length, slice_index, EachIndex, max, min};
+ghost use Rattle.std.specs.Prelude.{◌≡◌, length};
 ghost use Rattle.stroke_core.specs.Seed.{Seed};
-ghost use Rattle.marker_tiles.specs.Painting.{brushed};
+ghost use Rattle.marker_tiles.specs.Painting.{AreBrushed};
 ghost use Rattle.marker_tiles.specs.declared.brush.Brush.{Brush};
 
 use stroke_core::Stroke;
@@ -26,8 +26,7 @@ pub(crate) fn level_brush(stroke: &Stroke) -> Brush
 /// Leads the brush over a row of values, under the mask's values there.
 pub(crate) fn brush_row(row: &mut [u32], limits: &[u32], brush: Brush)
     requires { length limits.now ≡ length row.old }
-    ensures { EachIndex row.new (λ k. slice_index row.new k
-        ≡ brushed brush (slice_index limits.now k) (slice_index row.old k)) }
+    ensures { AreBrushed brush limits.now row.old row.new }
 {
     match brush {
         Brush::Raise(level) => raise_row(row, limits, level),
@@ -38,8 +37,7 @@ pub(crate) fn brush_row(row: &mut [u32], limits: &[u32], brush: Brush)
 // Raises each value to the level, as far as its limit lets it.
 fn raise_row(row: &mut [u32], limits: &[u32], level: u32)
     requires { length limits.now ≡ length row.old }
-    ensures { EachIndex row.new (λ k. slice_index row.new k
-        ≡ max (slice_index row.old k) (min (slice_index limits.now k) level)) }
+    ensures { AreBrushed (Brush.Raise level) limits.now row.old row.new }
 {
     for i in 0..row.len() {
         row[i] = row[i].max(limits[i].min(level));

@@ -1,9 +1,9 @@
 //! Painting one stroke onto an image.
 
 ghost use Rattle.std.specs.Prelude.{◌+◌, ◌*◌, ◌<◌, ◌≤◌, ◌&&◌, length};
-ghost use Rattle.stroke_core.specs.Seed.{Fits, covers};
+ghost use Rattle.stroke_core.specs.Seed.{covers};
 ghost use Rattle.stroke_core.specs.Spans.{span_has};
-ghost use Rattle.marker_tiles.specs.Painting.{WindowFits, WindowsFit, IsPaintedBy};
+ghost use Rattle.marker_tiles.specs.Painting.{WindowFits, WindowsFit, HasRow, IsPaintedBy};
 ghost use Rattle.grid_core.specs.Raster.{IsOfSize};
 ghost use Rattle.grid_core.specs.Rects.{AreCellsChanged};
 ghost use Rattle.marker_tiles.specs.Painting.{brushed_cells, in_window, in_some, is_between};
@@ -23,7 +23,6 @@ pub(crate) fn paint_within(
     brush: Brush,
 )
     requires size { IsOfSize mask.now marker.old }
-    requires fits { Fits mask.now.width mask.now.height stroke.now }
     requires windows { WindowsFit mask.now.width mask.now.height windows.now }
     ensures { IsPaintedBy (λ p. in_some windows.now p && covers stroke.now p) brush mask.now marker.old marker.new }
 {
@@ -35,7 +34,6 @@ pub(crate) fn paint_within(
 /// Leads the brush over each pixel of the window that the stroke covers.
 pub(crate) fn paint(marker: &mut Grid, mask: &Grid, stroke: &Stroke, window: Window, brush: Brush)
     requires size { IsOfSize mask.now marker.old }
-    requires fits { Fits mask.now.width mask.now.height stroke.now }
     requires window { WindowFits mask.now.width mask.now.height window }
     ensures { IsPaintedBy (λ p. in_window window p && covers stroke.now p) brush mask.now marker.old marker.new }
 {
@@ -50,8 +48,7 @@ pub(crate) fn paint(marker: &mut Grid, mask: &Grid, stroke: &Stroke, window: Win
 // Leads the brush over each pixel of the window that the span has. It lies on a row of the window.
 fn paint_span(marker: &mut Grid, mask: &Grid, span: Span, window: Window, brush: Brush)
     requires size { IsOfSize mask.now marker.old }
-    requires top { window.top ≤ span.y }
-    requires bottom { span.y < window.bottom }
+    requires row { HasRow window span.y }
     requires window { WindowFits mask.now.width mask.now.height window }
     ensures { IsPaintedBy (λ p. in_window window p && span_has span p) brush mask.now marker.old marker.new }
 {
@@ -63,8 +60,7 @@ fn paint_span(marker: &mut Grid, mask: &Grid, span: Span, window: Window, brush:
 // Leads the brush over the pixels of row `y` from column `first` up to column `end`, which is left out.
 fn paint_between(marker: &mut Grid, mask: &Grid, y: u32, first: u32, end: u32, brush: Brush)
     requires size { IsOfSize mask.now marker.old }
-    requires row { y < mask.now.height }
-    requires columns { end ≤ mask.now.width }
+    requires inside { (y < mask.now.height) × (end ≤ mask.now.width) }
     ensures { IsPaintedBy (is_between y first end) brush mask.now marker.old marker.new }
 {
     if first < end {
@@ -82,8 +78,7 @@ fn paint_between(marker: &mut Grid, mask: &Grid, y: u32, first: u32, end: u32, b
 // Leads the brush over the cells from `from` up to `to`, which is left out.
 fn paint_cells(marker: &mut Grid, mask: &Grid, from: usize, to: usize, brush: Brush)
     requires size { IsOfSize mask.now marker.old }
-    requires order { from ≤ to }
-    requires within { to ≤ length marker.old.cells }
+    requires within { (from ≤ to) × (to ≤ length marker.old.cells) }
     ensures { AreCellsChanged from to (brushed_cells brush mask.now marker.old) marker.old marker.new }
 {
     cells_given_back();

@@ -1,6 +1,5 @@
 //! The marker of a state after a change.
 
-ghost use Rattle.stroke_lattice.specs.State.{StateFits};
 ghost use Rattle.marker_tiles.specs.Kept.{IsMarkerOf, HasGrown};
 ghost use Rattle.grid_core.specs.Raster.{IsOfSize};
 
@@ -15,7 +14,6 @@ use stroke_lattice::State;
 /// windows round the cleared pixels: elsewhere nothing of theirs was lost.
 pub(crate) fn renew(marker: &mut Grid, mask: &Grid, state: &State, born: &[Tag], dead: &[Tag])
     requires size { IsOfSize mask.now marker.old }
-    requires fits { StateFits mask.now.width mask.now.height state.now }
     requires known { HasGrown mask.now marker.old state.now (record { born = born.now; dead = dead.now }) }
     ensures size { IsOfSize mask.now marker.new }
     ensures marks { IsMarkerOf mask.now state.now marker.new }

@@ -3,9 +3,8 @@
 ghost use Rattle.std.specs.Prelude.{IsTrue};
 ghost use Rattle.std.specs.FinMap as map;
 ghost use Rattle.grid_core.specs.declared.pixel.Pixel.{Pixel};
-ghost use Rattle.grid_core.specs.Raster.{IsInside, IsOfSize};
-ghost use Rattle.stroke_lattice.specs.State.{StateFits};
-ghost use Rattle.marker_tiles.specs.Painting.{WindowsFit, in_window, in_some};
+ghost use Rattle.grid_core.specs.Raster.{IsOfSize};
+ghost use Rattle.marker_tiles.specs.Painting.{WindowsFit, IncludesOn, in_window, in_some};
 ghost use Rattle.marker_tiles.specs.UnderTags.{IsRaisedBy, IsClearedOf, IsRaisedByLive, covers_if, some_covers};
 
 use crate::brush::{Brush, level_brush};
@@ -19,7 +18,6 @@ use stroke_lattice::State;
 /// Raises the image by the strokes under these tags, as far as the mask lets it.
 pub(crate) fn raise_by(image: &mut Grid, mask: &Grid, state: &State, tags: &[Tag])
     requires size { IsOfSize mask.now image.old }
-    requires fits { StateFits mask.now.width mask.now.height state.now }
     ensures { IsRaisedBy state.now tags.now mask.now image.old image.new }
 {
     let whole = Window::whole(mask);
@@ -33,7 +31,6 @@ pub(crate) fn raise_by(image: &mut Grid, mask: &Grid, state: &State, tags: &[Tag
 /// Makes the image 0 where a stroke under these tags covers it.
 pub(crate) fn clear_of(image: &mut Grid, mask: &Grid, state: &State, tags: &[Tag])
     requires size { IsOfSize mask.now image.old }
-    requires fits { StateFits mask.now.width mask.now.height state.now }
     ensures { IsClearedOf state.now tags.now mask.now image.old image.new }
 {
     let whole = Window::whole(mask);
@@ -47,7 +44,6 @@ pub(crate) fn clear_of(image: &mut Grid, mask: &Grid, state: &State, tags: &[Tag
 /// Raises the image within the windows by all live strokes, as far as the mask lets it.
 pub(crate) fn raise_by_live(image: &mut Grid, mask: &Grid, state: &State, windows: &[Window])
     requires size { IsOfSize mask.now image.old }
-    requires fits { StateFits mask.now.width mask.now.height state.now }
     requires windows { WindowsFit mask.now.width mask.now.height windows.now }
     ensures { IsRaisedByLive state.now windows.now mask.now image.old image.new }
 {
@@ -60,8 +56,7 @@ pub(crate) fn raise_by_live(image: &mut Grid, mask: &Grid, state: &State, window
 /// round all where they are more than [`MOST_WINDOWS`].
 pub(crate) fn windows_round(mask: &Grid, state: &State, tags: &[Tag]) -> Windows
     ensures fit { WindowsFit mask.now.width mask.now.height result }
-    ensures covered { (p : Pixel) → IsInside mask.now.width mask.now.height p
-        → IsTrue (some_covers state.now tags.now p) → IsTrue (in_some result p) }
+    ensures covered { IncludesOn mask.now (some_covers state.now tags.now) (in_some result) }
 {
     let mut windows = Windows::none();
     if tags.len() > MOST_WINDOWS {

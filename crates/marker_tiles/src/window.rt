@@ -1,11 +1,11 @@
 //! The part of an image that is painted.
 
-ghost use Rattle.std.specs.Prelude.{◌≤◌, IsTrue};
+ghost use Rattle.std.specs.Prelude.{IsTrue};
 ghost use Rattle.std.specs.List.{list_any};
 ghost use Rattle.grid_core.specs.declared.pixel.Pixel.{Pixel};
 ghost use Rattle.grid_core.specs.Raster.{IsInside};
-ghost use Rattle.stroke_core.specs.Seed.{covers, run_covers, disc_covers, max_radius};
-ghost use Rattle.marker_tiles.specs.Painting.{WindowFits, in_window};
+ghost use Rattle.stroke_core.specs.Seed.{covers, run_covers, disc_covers};
+ghost use Rattle.marker_tiles.specs.Painting.{WindowFits, IncludesOn, in_window};
 
 use grid_core::Grid;
 use stroke_core::{Kind, Run, Stroke};
@@ -60,8 +60,7 @@ impl Window {
     /// The window without what lies outside the image.
     pub(crate) fn cut_to(self, image: &Grid) -> Window
         ensures fits { WindowFits image.now.width image.now.height result }
-        ensures kept { (p : Pixel) → IsInside image.now.width image.now.height p → IsTrue (in_window self p)
-            → IsTrue (in_window result p) }
+        ensures kept { IncludesOn image.now (in_window self) (in_window result) }
     {
         Window {
             left: self.left,
@@ -77,7 +76,7 @@ impl Window {
     {
         match stroke.kind() {
             Kind::Runs => Window::round_runs(stroke.runs()),
-            Kind::Disc { x, y, r } => Window::round_disc(u32::from(x), u32::from(y), u32::from(r)),
+            Kind::Disc { x, y, r } => Window::round_disc(x, y, r),
         }
     }
 
@@ -106,12 +105,10 @@ impl Window {
     }
 
     // The least window with the pixels of the disc.
-    fn round_disc(x: u32, y: u32, r: u32) -> Window
-        requires column { x ≤ u16.MAX }
-        requires row { y ≤ u16.MAX }
-        requires radius { r ≤ max_radius }
+    fn round_disc(x: u16, y: u16, r: u8) -> Window
         ensures { (p : Pixel) → IsTrue (disc_covers x y r p) → IsTrue (in_window result p) }
     {
+        let (x, y, r) = (u32::from(x), u32::from(y), u32::from(r));
         Window {
             left: x.saturating_sub(r),
             right: x + r + 1,

@@ -13,9 +13,11 @@ use Rattle.std.specs.Option.{option_map}
 use Rattle.grid_core.specs.declared.pixel.Pixel.{Pixel}
 use Rattle.grid_core.specs.Neighbours.{apart}
 use Rattle.stroke_core.specs.declared.run.Run.{Run}
+use Rattle.stroke_core.specs.declared.span.Span.{Span}
 use Rattle.stroke_core.specs.Seed.{Shape, Runs, Disc, Seed, AreOrdered, run_covers, disc_covers, shape_covers, covers}
+use Rattle.stroke_core.specs.Seed.{ShapeFits}
 use Rattle.stroke_core.specs.Spans.{span_has, span_of_run, span_of_row, span_round, reach_up_to, half_width}
-use Rattle.stroke_core.specs.Spans.{spans_of_shape, spans_of}
+use Rattle.stroke_core.specs.Spans.{spans_of_shape, spans_of, SpanFits}
 use Rattle.stroke_core.proofs.SeedLemmas.{far_in_one_coordinate}
 
 -- ---- runs
@@ -191,18 +193,21 @@ span_of_row_at x y r i row within place =
 
 -- ---- where the span of a run lies
 
-some_same : (a b : Run) → Some a ≡ Some b → a ≡ b
+some_same : (a b : Span) → Some a ≡ Some b → a ≡ b
 some_same a b e = cc
 
-forward_at : (runs : List Run) (i : ℕ) (run : Run) → AreOrdered runs → slice_get runs i ≡ Some run → run.x0 ≤ run.x1
-forward_at [] i run order found = absurd cc
-forward_at (first ∷ rest) zero run order found =
-    subst (λ (r : Run). r.x0 ≤ r.x1) (some_same first run found) order.0
-forward_at (first ∷ rest) (suc i) run order found = forward_at rest i run order.2 found
-
 -- it has a pixel
-pub run_span_has_pixel : (runs : List Run) (i : ℕ) (run : Run) → i < length runs → run ≡ get_or runs i run
-    → AreOrdered runs → run.x0 < run.x1 + 1
-run_span_has_pixel runs i run within read order =
-    let forward = forward_at runs i run order (slice_get_read runs (length runs) i run refl within read) in
-    omega (arith, forward)
+pub run_span_has_pixel : (runs : List Run) (i : ℕ) (span : Span) → AreOrdered runs
+    → slice_get (spans_of_shape (Runs runs)) i ≡ Some span → span.first < span.end
+run_span_has_pixel [] i span order found = absurd cc
+run_span_has_pixel (run ∷ rest) zero span order found =
+    subst (λ (s : Span). s.first < s.end) (some_same (span_of_run run) span found) (omega (arith, order.0))
+run_span_has_pixel (run ∷ rest) (suc i) span order found = run_span_has_pixel rest i span order.2 found
+
+-- it lies where the runs do
+pub run_span_fits : (w h : ℕ) (runs : List Run) (i : ℕ) (span : Span) → ShapeFits w h (Runs runs)
+    → slice_get (spans_of_shape (Runs runs)) i ≡ Some span → SpanFits w h span
+run_span_fits w h [] i span fits found = absurd cc
+run_span_fits w h (run ∷ rest) zero span fits found =
+    subst (SpanFits w h) (some_same (span_of_run run) span found) (fits.0.0, omega (arith, fits.0.1))
+run_span_fits w h (run ∷ rest) (suc i) span fits found = run_span_fits w h rest i span fits.1 found

@@ -31,6 +31,10 @@ pub record Seed : Type 0 where
   pub level : ℕ
   pub shape : Shape
 
+-- the seed of a level and runs
+abbrev pub seed_of : ℕ → List Run → Seed
+seed_of level runs = record { level = level; shape = Runs runs }
+
 -- whether the run has the pixel
 abbrev pub run_covers : Run → Pixel → Bool
 run_covers run p = (run.y == p.y) && (nat_le run.x0 p.x && nat_le p.x run.x1)

@@ -1,7 +1,8 @@
 -- The pixels of a seed as spans, row by row.
 use Rattle.std.specs.Prelude.{ℕ, zero, suc, ◌+◌, ◌-◌, ◌*◌, ◌==◌, ◌&&◌, nat_le, nat_lt, min, Bool, List, map}
-use Rattle.std.specs.Prelude.{if◌then◌else◌}
+use Rattle.std.specs.Prelude.{◌<◌, ◌≤◌, if◌then◌else◌}
 use Rattle.std.specs.List.{range_with_len}
+use Rattle.std.specs.List.Sorted.{IsPartitionPoint}
 use Rattle.grid_core.specs.declared.pixel.Pixel.{Pixel}
 use Rattle.grid_core.specs.Neighbours.{apart}
 use Rattle.stroke_core.specs.declared.run.Run.{Run}
@@ -11,6 +12,14 @@ use Rattle.stroke_core.specs.Seed.{Shape, Runs, Disc, Seed}
 -- whether the span has the pixel
 abbrev pub span_has : Span → Pixel → Bool
 span_has s p = (p.y == s.y) && (nat_le s.first p.x && nat_lt p.x s.end)
+
+-- the span lies in an image of this width and height
+abbrev pub SpanFits : ℕ → ℕ → Span → Type 0
+SpanFits width height s = (s.y < height) × (s.end ≤ width)
+
+-- the spans before this number are above the row, and the others on it or below
+abbrev pub IsFirstFrom : ℕ → List Span → ℕ → Type 0
+IsFirstFrom row spans i = IsPartitionPoint (λ span. span.y < row) (λ span. row ≤ span.y) spans i
 
 -- the pixels of a run
 abbrev pub span_of_run : Run → Span

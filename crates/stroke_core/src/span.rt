@@ -1,6 +1,6 @@
-ghost use Rattle.std.specs.Prelude.{◌≡◌, ◌*◌, ◌+◌, ◌<◌, ◌≤◌, ◌-◌};
-ghost use Rattle.stroke_core.specs.Seed.{max_radius};
-ghost use Rattle.stroke_core.specs.Spans.{span_of_run, span_of_row, half_width};
+ghost use Rattle.std.specs.Prelude.{◌≡◌, ◌≤◌};
+ghost use Rattle.grid_core.specs.Neighbours.{apart};
+ghost use Rattle.stroke_core.specs.Spans.{span_of_run, span_of_row};
 
 use crate::run::Run;
 
@@ -26,29 +26,18 @@ impl Span {
     }
 
     // The pixels of a disc on the row `row`, which is at most `r` from the disc's centre.
-    pub(crate) fn of_row(x: u32, y: u32, r: u32, row: u32) -> Span
-        requires column { x ≤ u16.MAX }
-        requires radius { r ≤ max_radius }
-        requires above { y ≤ row + r }
-        requires below { row ≤ y + r }
+    #[tactic(auto, using(crate::proofs::SpanLemmas::is_half_width, crate::proofs::SpanLemmas::half_width_within))]
+    pub(crate) fn of_row(x: u16, y: u16, r: u8, row: u32) -> Span
+        requires { apart y row ≤ r }
         ensures { result ≡ span_of_row x y r row }
     {
-        let half = half_width(r, y.abs_diff(row));
+        let (x, r) = (u32::from(x), u32::from(r));
+        let dy = u32::from(y).abs_diff(row);
+        let half = (r * r - dy * dy).isqrt();
         Span {
             y: row,
             first: x.saturating_sub(half),
             end: x + half + 1,
         }
     }
-}
-
-// How far a disc reaches to either side of its centre, on a row so far from it.
-#[tactic(auto, using(crate::proofs::SpanLemmas::is_half_width, crate::proofs::SpanLemmas::half_width_within))]
-fn half_width(r: u32, dy: u32) -> u32
-    requires radius { r ≤ max_radius }
-    requires within { dy ≤ r }
-    ensures value { result ≡ half_width r dy }
-    ensures within { result ≤ r }
-{
-    (r * r - dy * dy).isqrt()
 }

@@ -1,12 +1,11 @@
 ghost use Rattle.std.specs.Prelude.{◌≡◌, ◌<◌, ◌≤◌, ◌↔◌, IsTrue, IsOk, IfOk, IfErr, MatchOption};
 ghost use Rattle.std.specs.Prelude.{ℕ, ◌+◌, length, min, slice_get};
 ghost use Rattle.std.specs.List.{list_any};
-ghost use Rattle.std.specs.List.Sorted.{IsPartitionPoint};
 ghost use Rattle.grid_core.specs.declared.pixel.Pixel.{Pixel};
 ghost use Rattle.stroke_core.specs.Seed.{Seed, Runs, Disc, AreOrdered, IsBefore, IsCanonical};
-ghost use Rattle.stroke_core.specs.Seed.{IsRefusal, Fits, ShapeFits, covers, shape_covers, kind_of, runs_of};
-ghost use Rattle.stroke_core.specs.Seed.{byte_len_of, max_level};
-ghost use Rattle.stroke_core.specs.Spans.{spans_of, spans_of_shape, span_has};
+ghost use Rattle.stroke_core.specs.Seed.{IsRefusal, Fits, covers, shape_covers, kind_of, runs_of};
+ghost use Rattle.stroke_core.specs.Seed.{byte_len_of, max_level, seed_of};
+ghost use Rattle.stroke_core.specs.Spans.{spans_of, spans_of_shape, span_has, SpanFits, IsFirstFrom};
 ghost use Rattle.stroke_core.specs.declared.error.StrokeError.{StrokeError};
 
 use crate::error::{RefusedRuns, StrokeError};
@@ -160,8 +159,7 @@ impl Stroke {
         ensures value { slice_get (spans_of self.now) i ≡ Some result }
         ensures nonempty { result.first < result.end }
         ensures starts { (w h : ℕ) → Fits w h self.now → result.first < w }
-        ensures inside { (w h : ℕ) → Fits w h self.now → kind_of self.now.shape ≡ Kind.Runs
-            → (result.y < h) × (result.end ≤ w) }
+        ensures inside { (w h : ℕ) → Fits w h self.now → kind_of self.now.shape ≡ Kind.Runs → SpanFits w h result }
     {
         match &self.shape {
             Shape::Runs(runs) => run_span(runs, i),
@@ -174,7 +172,7 @@ impl Stroke {
     #[tactic(auto, using(crate::proofs::SpanLemmas::run_count, crate::proofs::SpanLemmas::row_count))]
     pub fn first_span_from(&self, row: u32) -> usize
         ensures within { result ≤ length (spans_of self.now) }
-        ensures point { IsPartitionPoint (λ span. span.y < row) (λ span. row ≤ span.y) (spans_of self.now) result }
+        ensures point { IsFirstFrom row (spans_of self.now) result }
     {
         match &self.shape {
             Shape::Runs(runs) => first_run_from(runs, row),
@@ -265,11 +263,8 @@ fn is_in_disc(x: u16, y: u16, r: u8, p: Pixel) -> bool
 
 /// The span of one of the runs.
 fn run_span(runs: &[Run], i: usize) -> Span
-    requires order { AreOrdered runs.now }
-    requires within { i < length runs.now }
-    ensures value { slice_get (spans_of_shape (Runs runs.now)) i ≡ Some result }
-    ensures nonempty { result.first < result.end }
-    ensures inside { (w h : ℕ) → ShapeFits w h (Runs runs.now) → (result.y < h) × (result.end ≤ w) }
+    requires { i < length runs.now }
+    ensures { slice_get (spans_of_shape (Runs runs.now)) i ≡ Some result }
 {
     Span::of_run(runs[i])
 }
@@ -286,19 +281,17 @@ fn row_count(y: u16, r: u8) -> usize
 fn disc_span(x: u16, y: u16, r: u8, i: usize) -> Span
     requires { i < min y r + r + 1 }
     ensures value { slice_get (spans_of_shape (Disc x y r)) i ≡ Some result }
-    ensures nonempty { result.first < result.end }
-    ensures starts { result.first ≤ x }
+    ensures column { (result.first ≤ x) × (x < result.end) }
 {
-    let (x, y, r) = (u32::from(x), u32::from(y), u32::from(r));
-    Span::of_row(x, y, r, y.saturating_sub(r) + i as u32)
+    let top = u32::from(y).saturating_sub(u32::from(r));
+    Span::of_row(x, y, r, top + i as u32)
 }
 
 /// The number of the first run on this row or below it, or the number of runs where there is none.
 fn first_run_from(runs: &[Run], row: u32) -> usize
     requires { AreOrdered runs.now }
     ensures within { result ≤ length runs.now }
-    ensures point { IsPartitionPoint (λ span. span.y < row) (λ span. row ≤ span.y)
-        (spans_of_shape (Runs runs.now)) result }
+    ensures point { IsFirstFrom row (spans_of_shape (Runs runs.now)) result }
 {
     runs.partition_point(|run| u32::from(run.y) < row)
 }
@@ -306,8 +299,7 @@ fn first_run_from(runs: &[Run], row: u32) -> usize
 /// How many rows of a disc that are not above the image are above this row.
 fn first_row_from(x: u16, y: u16, r: u8, row: u32) -> usize
     ensures within { result ≤ min y r + r + 1 }
-    ensures point { IsPartitionPoint (λ span. span.y < row) (λ span. row ≤ span.y)
-        (spans_of_shape (Disc x y r)) result }
+    ensures point { IsFirstFrom row (spans_of_shape (Disc x y r)) result }
 {
     let top = u32::from(y).saturating_sub(u32::from(r));
     row_count(y, r).min(row.saturating_sub(top) as usize)
@@ -315,8 +307,7 @@ fn first_row_from(x: u16, y: u16, r: u8, row: u32) -> usize
 
 /// Why the level and the runs make no stroke, or `None` where they make one.
 fn refusal(level: u32, runs: &[Run]) -> Option<StrokeError>
-    ensures { MatchOption result (IsCanonical (record { level = level; shape = Runs runs.now }))
-        (IsRefusal (record { level = level; shape = Runs runs.now })) }
+    ensures { MatchOption result (IsCanonical (seed_of level runs.now)) (IsRefusal (seed_of level runs.now)) }
 {
     if !is_level(level) {
         Some(StrokeError::BadLevel)

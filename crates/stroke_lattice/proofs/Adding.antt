@@ -5,8 +5,8 @@ use Rattle.std.specs.Prelude.{nat_le, nat_lt, if◌then◌else◌}
 use Rattle.std.specs.List.{sum_by}
 use Rattle.std.proofs.lemmas.Bool.Decides.{nat_tests}
 use Rattle.std.proofs.lemmas.List.Sums.{sum_by-append}
-use Rattle.stroke_core.specs.Seed.{Shape, Runs, Disc, byte_len_of}
-use Rattle.stroke_lattice.specs.declared.split.TheConstants.{HEAD_BYTES}
+use Rattle.stroke_core.specs.Seed.{Shape, Runs, Disc, Seed, IsCanonicalShape, IsCanonical, byte_len_of}
+use Rattle.stroke_lattice.specs.declared.split.TheConstants.{HEAD_BYTES, MIN_PIECE_BYTES}
 use Rattle.stroke_lattice.specs.State.{State, nothing}
 use Rattle.stroke_lattice.specs.Pieces.{Item, Placed, Withdrawn, items_of, item_length, frame_length, with_item, fits}
 use Rattle.stroke_lattice.specs.Pieces.{if_any, filled, AllFit}
@@ -80,6 +80,15 @@ piece_without_items piece short = none (nat_lt 0 (length (items_of piece))) piec
     (is_not_below 0 (length (items_of piece)) (no_item (items_of piece) (omega arith)))
 
 -- ---- room for an item
+
+most_bytes : (shape : Shape) → IsCanonicalShape shape → byte_len_of shape ≤ 981
+most_bytes (Runs runs) canonical = omega (arith, canonical.1)
+most_bytes (Disc x y r) canonical = omega arith
+
+-- a stroke fits into an empty piece
+pub small_enough : (seed : Seed) (max : ℕ) → IsCanonical seed → MIN_PIECE_BYTES ≤ max
+    → HEAD_BYTES + byte_len_of seed.shape ≤ max
+small_enough seed max canonical least = omega (arith, most_bytes seed.shape canonical.shape)
 
 fits_in_either : (max : ℕ) (f : Filling) (bytes : ℕ) (b : Bool) → nat_le (frame_length f.last + bytes) max ≡ b
     → HEAD_BYTES + bytes ≤ max → frame_length (if b then f else turned f).last + bytes ≤ max

@@ -2,6 +2,7 @@
 use Rattle.std.specs.Prelude.{◌≡◌, ℕ, ◌+◌, ◌<◌, ◌≤◌, List, [], ◌∷◌, ◌++◌, nat_le, if◌then◌else◌}
 use Rattle.std.specs.List.{AllByRecursion}
 use Rattle.stroke_lattice.specs.declared.split.Pieces.{Pieces}
+use Rattle.stroke_lattice.specs.declared.split.TheConstants.{MIN_PIECE_BYTES}
 use Rattle.stroke_lattice.specs.State.{State, nothing}
 use Rattle.stroke_lattice.specs.Pieces.{Item, Placed, Withdrawn, items_of, frame_length, with_item, fits}
 use Rattle.stroke_lattice.specs.Pieces.{filled, pieces_of, AllFit}
@@ -57,3 +58,21 @@ filling p = record { full = p.full.items; last = p.last }
 -- the number that is kept is the length of the last piece's frame
 abbrev pub IsMeasured : Pieces → Type 0
 IsMeasured p = p.length ≡ frame_length p.last
+
+-- the pieces can take the item next: it goes after all items of the last one, whose frame is short enough
+pub record CanTake (max : ℕ) (p : Pieces) (item : Item) : Type 0 where
+  pub least : MIN_PIECE_BYTES ≤ max
+  pub measured : IsMeasured p
+  pub fits : frame_length p.last ≤ max
+  pub before : AllBefore (items_of p.last) item
+
+-- the new pieces are the old ones with the item
+pub record HasTaken (max : ℕ) (item : Item) (old new : Pieces) : Type 0 where
+  pub measured : IsMeasured new
+  pub added : filling new ≡ added max (filling old) item
+
+-- the pieces are those of the state, but for the items that are left
+pub record AreFilled (max : ℕ) (s : State) (p : Pieces) (left : List Item) : Type 0 where
+  pub least : MIN_PIECE_BYTES ≤ max
+  pub measured : IsMeasured p
+  pub so_far : IsFilling max s (filling p) left

@@ -37,6 +37,14 @@ pub record IsBelow (a b : State) : Type 0 where
   pub strokes : (tag : ℕ) (seed : Seed) → HasStroke a tag seed → HasStroke b tag seed
   pub tombstones : (tag : ℕ) → HasTombstone a tag → HasTombstone b tag
 
+-- each stroke of the first stands in the second
+abbrev pub HasStrokesOf : State → State → Type 0
+HasStrokesOf a b = (tag : ℕ) (seed : Seed) → HasStroke a tag seed → HasStroke b tag seed
+
+-- the state has another stroke than this under the tag
+abbrev pub HasOtherStroke : State → ℕ → Seed → Type 0
+HasOtherStroke s tag seed = (other : Seed) × HasStroke s tag other × (other ≡ seed → ⊥)
+
 -- the least state above both
 pub record IsJoin (a b join : State) : Type 0 where
   pub first : IsBelow a join

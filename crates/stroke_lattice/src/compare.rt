@@ -1,8 +1,7 @@
 //! How two states stand to each other, and a state to an image. None of these takes memory.
 
 ghost use Rattle.std.specs.Prelude.{◌≡◌, ℕ, ◌↔◌, IsTrue, MatchOption};
-ghost use Rattle.stroke_core.specs.Seed.{Seed};
-ghost use Rattle.stroke_lattice.specs.State.{HasStroke, HasTombstone, IsBelow};
+ghost use Rattle.stroke_lattice.specs.State.{HasStroke, HasTombstone, IsBelow, HasStrokesOf, HasOtherStroke};
 ghost use Rattle.stroke_lattice.specs.State.{IsLeastClash, AreCompatible, StateFits, IsLeastOutside};
 
 use crate::state::{Delta, State};
@@ -49,8 +48,7 @@ impl State {
     }
 
     fn strokes_are_in(&self, other: &State) -> bool
-        ensures { IsTrue result ↔ ((tag : ℕ) (seed : Seed)
-            → HasStroke self.now tag seed → HasStroke other.now tag seed) }
+        ensures { IsTrue result ↔ HasStrokesOf self.now other.now }
     {
         for (tag, stroke) in self.strokes() {
             if !other.has_same(*tag, stroke) {
@@ -81,8 +79,7 @@ impl State {
     }
 
     fn has_other(&self, tag: Tag, stroke: &Stroke) -> bool
-        ensures { IsTrue result ↔ ((other : Seed) × HasStroke self.now tag other
-            × (other ≡ stroke.now → ⊥)) }
+        ensures { IsTrue result ↔ HasOtherStroke self.now tag stroke.now }
     {
         match self.stroke(tag) {
             Some(held) => !held.is_same(stroke),

@@ -23,8 +23,7 @@ impl State {
     pub fn merge(&mut self, alloc: Global, delta: &Delta) -> Result<Change, StateError>
         ensures join { OnOk result (IsJoin self.old delta.now self.new) }
         ensures change { IfOk result (IsChange self.old self.new) }
-        ensures conflict { (tag : ℕ)
-            → IsErrOf result (StateError.Conflict tag) ↔ IsLeastClash self.old delta.now tag }
+        ensures conflict { (tag : ℕ) → IsErrOf result (StateError.Conflict tag) ↔ IsLeastClash self.old delta.now tag }
         ensures memory { IsErrOf result StateError.Memory → AreCompatible self.old delta.now }
         ensures err { OnErr result (self.new ≡ self.old) }
     {

@@ -3,7 +3,7 @@
 ghost use Rattle.std.specs.Prelude.{◌≡◌, ℕ, ◌+◌, ◌≤◌, [], ◌++◌, IfOk, OnOk};
 ghost use Rattle.stroke_core.specs.Seed.{byte_len_of};
 ghost use Rattle.stroke_lattice.specs.State.{nothing};
-ghost use Rattle.stroke_lattice.specs.Filling.{filling, IsMeasured, IsFilling, AllBefore, with_room, added};
+ghost use Rattle.stroke_lattice.specs.Filling.{filling, IsMeasured, with_room, CanTake, HasTaken, AreFilled};
 ghost use Rattle.stroke_lattice.specs.Pieces.{Placed, Withdrawn, items_of, tombstone_items, frame_length};
 ghost use Rattle.stroke_lattice.specs.Pieces.{pieces_of, if_any, AllFit};
 
@@ -48,12 +48,8 @@ impl State {
         max_bytes: usize,
         pieces: &mut Pieces,
     ) -> Result<(), Memory>
-        requires max { MIN_PIECE_BYTES ≤ max_bytes }
-        requires measured { IsMeasured pieces.old }
-        requires filling { IsFilling max_bytes self.now (filling pieces.old) (items_of self.now) }
-        ensures measured { OnOk result (IsMeasured pieces.new) }
-        ensures filling { OnOk result
-            (IsFilling max_bytes self.now (filling pieces.new) (tombstone_items self.now)) }
+        requires { AreFilled max_bytes self.now pieces.old (items_of self.now) }
+        ensures { OnOk result (AreFilled max_bytes self.now pieces.new (tombstone_items self.now)) }
     {
         for (tag, stroke) in self.strokes() {
             pieces.add_stroke(alloc, max_bytes, *tag, stroke)?;
@@ -68,11 +64,8 @@ impl State {
         max_bytes: usize,
         pieces: &mut Pieces,
     ) -> Result<(), Memory>
-        requires max { MIN_PIECE_BYTES ≤ max_bytes }
-        requires measured { IsMeasured pieces.old }
-        requires filling { IsFilling max_bytes self.now (filling pieces.old) (tombstone_items self.now) }
-        ensures measured { OnOk result (IsMeasured pieces.new) }
-        ensures filling { OnOk result (IsFilling max_bytes self.now (filling pieces.new) []) }
+        requires { AreFilled max_bytes self.now pieces.old (tombstone_items self.now) }
+        ensures { OnOk result (AreFilled max_bytes self.now pieces.new []) }
     {
         for tag in self.tombstones() {
             pieces.add_tombstone(alloc, max_bytes, *tag)?;
@@ -109,15 +102,12 @@ impl Pieces {
         tag: Tag,
         stroke: &Stroke,
     ) -> Result<(), Memory>
-        requires max { MIN_PIECE_BYTES ≤ max_bytes }
-        requires measured { IsMeasured self.old }
-        requires fits { frame_length self.old.last ≤ max_bytes }
-        requires before { AllBefore (items_of self.old.last) (Placed tag stroke.now) }
+        requires { CanTake max_bytes self.old (Placed tag stroke.now) }
         ensures small { HEAD_BYTES + byte_len_of stroke.now.shape ≤ max_bytes }
-        ensures measured { OnOk result (IsMeasured self.new) }
-        ensures added { OnOk result (filling self.new ≡ added max_bytes (filling self.old) (Placed tag stroke.now)) }
+        ensures taken { OnOk result (HasTaken max_bytes (Placed tag stroke.now) self.old self.new) }
     {
-        let bytes = stroke_bytes(stroke);
+        let _ = stroke.level();
+        let bytes = stroke.byte_len();
         self.make_room(alloc, max_bytes, bytes)?;
         self.last.insert(tag, stroke.copy(alloc)?)?;
         self.length += bytes;
@@ -126,12 +116,8 @@ impl Pieces {
 
     /// Puts the tombstone into the last piece, or into the next one where it does not fit.
     fn add_tombstone(&mut self, alloc: Global, max_bytes: usize, tag: Tag) -> Result<(), Memory>
-        requires max { MIN_PIECE_BYTES ≤ max_bytes }
-        requires measured { IsMeasured self.old }
-        requires fits { frame_length self.old.last ≤ max_bytes }
-        requires before { AllBefore (items_of self.old.last) (Withdrawn tag) }
-        ensures measured { OnOk result (IsMeasured self.new) }
-        ensures added { OnOk result (filling self.new ≡ added max_bytes (filling self.old) (Withdrawn tag)) }
+        requires { CanTake max_bytes self.old (Withdrawn tag) }
+        ensures { OnOk result (HasTaken max_bytes (Withdrawn tag) self.old self.new) }
     {
         self.make_room(alloc, max_bytes, TOMBSTONE_BYTES)?;
         self.last.bury(tag)?;
@@ -170,13 +156,4 @@ impl Pieces {
         full.push(last)?;
         Ok(full)
     }
-}
-
-/// How many bytes the stroke takes in a frame.
-fn stroke_bytes(stroke: &Stroke) -> usize
-    ensures value { result ≡ byte_len_of stroke.now.shape }
-    ensures most { result ≤ 981 }
-{
-    let _ = stroke.level();
-    stroke.byte_len()
 }

@@ -16,17 +16,15 @@ loop-i-init c =
     painted_nothing (span_of_some window (take from spans)) c.args.brush c.args.mask.now c.args.marker.now
     c.requires.size (λ p _. spans_above window spans from p c.first_span_from-from.ensures.point.0)
 
-pub paint_span-requires-clause-top : goal.paint_span-requires-clause-top
-paint_span-requires-clause-top c =
+pub paint_span-requires-clause-row : goal.paint_span-requires-clause-row
+paint_span-requires-clause-row c =
     let from = c.first_span_from-from in
-    span_between (λ (s : Span). c.args.window.top ≤ s.y) (spans_of c.args.stroke.now) from.result _ c.loop-i.i
-    c.span.result from.ensures.point.1 c.span.ensures.value (omega arith) (omega arith)
-
-pub paint_span-requires-clause-bottom : goal.paint_span-requires-clause-bottom
-paint_span-requires-clause-bottom c =
-    let end = c.first_span_from-end in
-    span_between (λ (s : Span). s.y < c.args.window.bottom) (spans_of c.args.stroke.now) 0 end.result c.loop-i.i
-    c.span.result end.ensures.point.0 c.span.ensures.value (omega arith) (omega arith)
+    let end = c.first_span_from-end in (
+      span_between (λ (s : Span). c.args.window.top ≤ s.y) (spans_of c.args.stroke.now) from.result _ c.loop-i.i
+          c.span.result from.ensures.point.1 c.span.ensures.value (omega arith) (omega arith),
+      span_between (λ (s : Span). s.y < c.args.window.bottom) (spans_of c.args.stroke.now) 0 end.result c.loop-i.i
+          c.span.result end.ensures.point.0 c.span.ensures.value (omega arith) (omega arith),
+    )
 
 pub loop-i-preserved : goal.loop-i-preserved
 loop-i-preserved c =

@@ -11,5 +11,5 @@ returns-then-first-end c =
     let to_is : y * width + c.args.end ≡ y * c.args.mask.now.width + c.args.end =
     ap (λ w. y * w + c.args.end) c.width.ensures.value in
     cells_are_span y c.args.first c.args.end (y * width + c.args.first) (y * width + c.args.end) c.args.brush
-    c.args.mask.now c.args.marker.now c.paint_cells.new.marker c.requires.size c.requires.columns from_is to_is
+    c.args.mask.now c.args.marker.now c.paint_cells.new.marker c.requires.size c.requires.inside.1 from_is to_is
     c.paint_cells.ensures

@@ -1,14 +1,6 @@
 use Rattle.marker_tiles.proofs.Levels.{Entry}
-use Rattle.marker_tiles.proofs.Marking.{next_fits, under_way_next, under_way_end}
+use Rattle.marker_tiles.proofs.Marking.{under_way_next, under_way_end}
 use Rattle.marker_tiles.proofs.strokes.raise_by_live.Goals as goal
-
-pub paint_within-requires-clause-fits : goal.paint_within-requires-clause-fits
-paint_within-requires-clause-fits c =
-    let mask = c.args.mask.now in
-    let left = c.loop-stroke.stroke-iterator in
-    let entry : Entry = (c.in-Some.field-0-0.now, c.in-Some.stroke.now) in
-    next_fits c.args.state.now c.args.windows.now mask c.args.image.now c.loop-stroke.image left c.next.new.self entry
-    c.loop-stroke.invariant c.in-Some.ensures.steps mask.width mask.height c.requires.fits
 
 pub loop-stroke-preserved : goal.loop-stroke-preserved
 loop-stroke-preserved c =

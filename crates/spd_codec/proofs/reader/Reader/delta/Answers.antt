@@ -1,7 +1,7 @@
-use Rattle.std.proofs.Common.{ℕ, ap, subst, sym, ◌∙◌}
+use Rattle.std.proofs.Common.{ap, subst, sym, ◌∙◌}
 use Rattle.std.specs.Ordering.{nat_cmp}
 use Rattle.std.specs.FinSet as set
-use Rattle.stroke_lattice.specs.State.{State, HasSomeStroke, nothing}
+use Rattle.stroke_lattice.specs.State.{State, HasSomeStroke}
 use Rattle.stroke_lattice.proofs.Shared.{nothing_has_no_stroke, nothing_has_no_tombstone}
 use Rattle.spd_codec.specs.Reading.{strokes_at}
 use Rattle.spd_codec.proofs.NewTags.{same_tombstones}

@@ -18,19 +18,17 @@ bury-requires c = new_tombstone c.make_room.new.self.last c.args.tag
     (before_in_room c.args.max_bytes (filling c.args.self.now) (filling c.make_room.new.self) TOMBSTONE_BYTES
     (Withdrawn c.args.tag) c.in_ok-make_room.ensures.room c.requires.before)
 
-pub returns-clause-measured : goal.returns-clause-measured
-returns-clause-measured c =
+pub returns : goal.returns
+returns c =
     let item = Withdrawn c.args.tag in
     let last = c.make_room.new.self.last in
     let before = before_in_room c.args.max_bytes (filling c.args.self.now) (filling c.make_room.new.self)
-    TOMBSTONE_BYTES item
-    c.in_ok-make_room.ensures.room c.requires.before in
+    TOMBSTONE_BYTES item c.in_ok-make_room.ensures.room c.requires.before in
     let longer : frame_length c.bury.new.self ≡ frame_length last + item_length item =
     ap frame_length c.in_ok-bury.ensures.ok ∙ frame_length_of_longer last item before in
-    omega (arith, longer, c.in_ok-make_room.ensures.measured)
-
-pub returns-clause-added : goal.returns-clause-added
-returns-clause-added c =
-    ap (λ (s : State). record { full = c.make_room.new.self.full.items; last = s }) c.in_ok-bury.ensures.ok
-    ∙ added_in_room c.args.max_bytes (filling c.args.self.now) (filling c.make_room.new.self) (Withdrawn c.args.tag)
-    c.in_ok-make_room.ensures.room c.requires.before
+    record {
+      measured = omega (arith, longer, c.in_ok-make_room.ensures.measured);
+      added = ap (λ (s : State). record { full = c.make_room.new.self.full.items; last = s }) c.in_ok-bury.ensures.ok
+          ∙ added_in_room c.args.max_bytes (filling c.args.self.now) (filling c.make_room.new.self) item
+          c.in_ok-make_room.ensures.room c.requires.before;
+    }

@@ -1,5 +1,5 @@
 use Rattle.stroke_lattice.specs.State.{State, HasSomeStroke}
-use Rattle.std.proofs.Common.{subst, sym}
+use Rattle.std.proofs.Common.{subst}
 use Rattle.stroke_lattice.proofs.Joins.{nothing_has_no_stroke}
 use Rattle.stroke_lattice.proofs.state.State.placed.Goals as goal
 

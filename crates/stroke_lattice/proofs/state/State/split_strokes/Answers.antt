@@ -1,4 +1,4 @@
-use Rattle.std.proofs.Common.{◌≡◌, ℕ, List, ◌∷◌, ◌++◌, map, sym, subst, ◌∙◌}
+use Rattle.std.proofs.Common.{rules, ◌≡◌, ℕ, List, ◌∷◌, ◌++◌, map, sym, subst, ◌∙◌}
 use Rattle.stroke_core.specs.Seed.{Seed}
 use Rattle.stroke_lattice.specs.State.{State}
 use Rattle.stroke_lattice.specs.Pieces.{Placed, items_of, tombstone_items}
@@ -15,7 +15,7 @@ loop-tag-init c =
     record {
       measured = c.requires.measured;
       filling = subst (λ (es : List (ℕ × Seed)). IsFilling c.args.max_bytes s (filling c.args.pieces.now)
-          (map (λ entry. Placed entry.0 entry.1) es ++ tombstone_items s)) (sym walked) c.requires.filling;
+          (map (λ entry. Placed entry.0 entry.1) es ++ tombstone_items s)) (sym walked) c.requires.so_far;
     }
 
 -- the stroke that the walk has come to is the next item
@@ -27,13 +27,18 @@ next_stroke max s f before left tag seed is now = subst
     (λ (es : List (ℕ × Seed)). IsFilling max s f (map (λ entry. Placed entry.0 entry.1) es ++ tombstone_items s)) is
     now
 
-pub add_stroke-requires-clause-before : goal.add_stroke-requires-clause-before
-add_stroke-requires-clause-before c =
+pub add_stroke-requires : goal.add_stroke-requires
+add_stroke-requires c =
     let s = c.args.self.now in
     let now = next_stroke c.args.max_bytes s (filling c.loop-tag.pieces) c.loop-tag.tag-iterator c.next.new.self
     c.in-Some.tag.now c.in-Some.stroke.now c.in-Some.ensures.steps c.loop-tag.invariant.filling in
-    before_next (items_of c.loop-tag.pieces.last) (Placed c.in-Some.tag.now c.in-Some.stroke.now)
-    (map (λ entry. Placed entry.0 entry.1) c.next.new.self ++ tombstone_items s) now.order
+    record {
+      least = c.requires.least;
+      measured = c.loop-tag.invariant.measured;
+      fits = now.last_fits;
+      before = before_next (items_of c.loop-tag.pieces.last) (Placed c.in-Some.tag.now c.in-Some.stroke.now)
+          (map (λ entry. Placed entry.0 entry.1) c.next.new.self ++ tombstone_items s) now.order;
+    }
 
 pub loop-tag-preserved : goal.loop-tag-preserved
 loop-tag-preserved c =
@@ -41,9 +46,16 @@ loop-tag-preserved c =
     let now = next_stroke c.args.max_bytes s (filling c.loop-tag.pieces) c.loop-tag.tag-iterator c.next.new.self
     c.in-Some.tag.now c.in-Some.stroke.now c.in-Some.ensures.steps c.loop-tag.invariant.filling in
     record {
-      measured = c.in_ok-add_stroke.ensures.measured;
+      measured = c.in_ok-add_stroke.ensures.taken.measured;
       filling = filling_after c.args.max_bytes s (filling c.loop-tag.pieces) (filling c.add_stroke.new.self)
           (Placed c.in-Some.tag.now c.in-Some.stroke.now)
           (map (λ entry. Placed entry.0 entry.1) c.next.new.self ++ tombstone_items s)
-          c.in_ok-add_stroke.ensures.added now c.in_ok-add_stroke.ensures.small;
+          c.in_ok-add_stroke.ensures.taken.added now c.in_ok-add_stroke.ensures.small;
     }
+
+pub returns : goal.returns
+returns c = record {
+  least = c.requires.least;
+  measured = c.loop-tag.invariant.measured;
+  so_far = search (rules, c.loop-tag.invariant.filling);
+}

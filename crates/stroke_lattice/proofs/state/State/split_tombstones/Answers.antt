@@ -1,4 +1,4 @@
-use Rattle.std.proofs.Common.{◌≡◌, ℕ, List, ◌∷◌, map, arith, sym, subst, ◌∙◌}
+use Rattle.std.proofs.Common.{rules, ◌≡◌, ℕ, List, ◌∷◌, map, arith, sym, subst, ◌∙◌}
 use Rattle.stroke_lattice.specs.State.{State}
 use Rattle.stroke_lattice.specs.Pieces.{Withdrawn, items_of}
 use Rattle.stroke_lattice.specs.Filling.{Filling, IsFilling, filling}
@@ -14,7 +14,7 @@ loop-tag-init c =
     record {
       measured = c.requires.measured;
       filling = subst (λ (tags : List ℕ). IsFilling c.args.max_bytes s (filling c.args.pieces.now)
-          (map (λ tag. Withdrawn tag) tags)) (sym walked) c.requires.filling;
+          (map (λ tag. Withdrawn tag) tags)) (sym walked) c.requires.so_far;
     }
 
 -- the tombstone that the walk has come to is the next item
@@ -24,12 +24,17 @@ next_tombstone : (max : ℕ) (s : State) (f : Filling) (before left : List ℕ) 
 next_tombstone max s f before left tag is now =
     subst (λ (tags : List ℕ). IsFilling max s f (map (λ t. Withdrawn t) tags)) is now
 
-pub add_tombstone-requires-clause-before : goal.add_tombstone-requires-clause-before
-add_tombstone-requires-clause-before c =
+pub add_tombstone-requires : goal.add_tombstone-requires
+add_tombstone-requires c =
     let now = next_tombstone c.args.max_bytes c.args.self.now (filling c.loop-tag.pieces) c.loop-tag.tag-iterator
     c.next.new.self c.in-Some.tag.now c.in-Some.ensures.steps c.loop-tag.invariant.filling in
-    before_next (items_of c.loop-tag.pieces.last) (Withdrawn c.in-Some.tag.now)
-    (map (λ tag. Withdrawn tag) c.next.new.self) now.order
+    record {
+      least = c.requires.least;
+      measured = c.loop-tag.invariant.measured;
+      fits = now.last_fits;
+      before = before_next (items_of c.loop-tag.pieces.last) (Withdrawn c.in-Some.tag.now)
+          (map (λ tag. Withdrawn tag) c.next.new.self) now.order;
+    }
 
 pub loop-tag-preserved : goal.loop-tag-preserved
 loop-tag-preserved c =
@@ -41,3 +46,10 @@ loop-tag-preserved c =
           (filling c.add_tombstone.new.self) (Withdrawn c.in-Some.tag.now) (map (λ tag. Withdrawn tag) c.next.new.self)
           c.in_ok-add_tombstone.ensures.added now (omega arith);
     }
+
+pub returns : goal.returns
+returns c = record {
+  least = c.requires.least;
+  measured = c.loop-tag.invariant.measured;
+  so_far = search (rules, c.loop-tag.invariant.filling);
+}

@@ -1,4 +1,4 @@
-use Rattle.std.proofs.Common.{subst, sym}
+use Rattle.std.proofs.Common.{subst}
 use Rattle.stroke_lattice.specs.State.{State, HasTombstone}
 use Rattle.stroke_lattice.proofs.Joins.{nothing_has_no_tombstone}
 use Rattle.stroke_lattice.proofs.state.State.withdrawn.Goals as goal
