@@ -7,4 +7,5 @@ pub use Rattle.paint_session.specs.View
 pub use Rattle.paint_session.specs.Kept
 pub use Rattle.paint_session.specs.Derive
 pub mod Words
+pub mod Examples
 pub mod Run

@@ -1,6 +1,6 @@
 //! The words of the command line, and the call that they say.
 
-ghost use Rattle.std.specs.Prelude.{◌≡◌, ◌≢◌, ◌<◌, ◌^◌, ◌⊎◌, ◌↔◌, decimal, IsTrue, [], ◌∷◌, codes, List, ℕ, Ok, Err};
+ghost use Rattle.std.specs.Prelude.{◌≡◌, ◌≢◌, ◌<◌, ◌^◌, ◌⊎◌, ◌↔◌, decimal, All, IsTrue, [], List, ℕ, Ok, Err};
 ghost use Rattle.std.specs.Prelude.{map, drop, option_map, string_bytes, false, IfOk, IfErr, IsOkAnd};
 ghost use Rattle.std.specs.IoError.{error_kind};
 ghost use Rattle.std.specs.Iterator.{Drains};
@@ -9,10 +9,10 @@ ghost use Rattle.std.specs.declared.io.ErrorKind.TheVariants.{OutOfMemory};
 ghost use Rattle.clap.specs.Words.{app_of, kind_of, fault_of, subcommand_of, subcommand_rows_of};
 ghost use Rattle.clap.specs.declared.builder.command.Command.TheViews.{out-Command};
 ghost use Rattle.clap.specs.declared.error.kind.ErrorKind.TheVariants as parse;
-ghost use Rattle.grid_core.specs.declared.conn.Conn.TheVariants.{Four, Eight};
+ghost use Rattle.grid_core.specs.declared.conn.Conn.TheVariants.{Four};
 ghost use Rattle.seedpaint.specs.Words.{program, view_command, derive_command, IsCall, Says, IsUsage, GivesWords};
+ghost use Rattle.seedpaint.specs.Examples.{IsSaidSo, of_a_view, of_a_derivation, of_no_call};
 ghost use Rattle.seedpaint.specs.Words.{ConnIs, NamesNoConn, SideIs, NamesNoSide, KindIs, NamesNoKind, HIs, NamesNoH};
-ghost use Rattle.paint_session.specs.declared.derive.Derivation.TheVariants.{Fill, HMax, RegMax};
 ghost use Rattle.seedpaint.specs.declared.words.Call.{Call};
 ghost use Rattle.seedpaint.specs.declared.words.Call.TheVariants as call;
 ghost use Rattle.paint_session.specs.declared.run_error.RunError.TheVariants as errors;
@@ -117,56 +117,18 @@ pub fn at_most_one_call()
 
 /// Words that say a view.
 pub fn words_of_a_view()
-    ensures alone { Says (codes "view" ∷ []) (call.View Four 64 None) }
-    ensures four { Says (codes "view" ∷ codes "--conn" ∷ codes "4" ∷ []) (call.View Four 64 None) }
-    ensures eight { Says (codes "view" ∷ codes "--conn" ∷ codes "8" ∷ []) (call.View Eight 64 None) }
-    ensures least { Says (codes "view" ∷ codes "--tile" ∷ codes "8" ∷ []) (call.View Four 8 None) }
-    ensures greatest { Says (codes "view" ∷ codes "--tile" ∷ codes "256" ∷ []) (call.View Four 256 None) }
-    ensures kept { Says (codes "view" ∷ codes "--state" ∷ codes "a" ∷ []) (call.View Four 64 (Some (codes "a"))) }
-    ensures both { Says (codes "view" ∷ codes "--conn" ∷ codes "8" ∷ codes "--tile" ∷ codes "16" ∷ [])
-        (call.View Eight 16 None) }
+    ensures { All IsSaidSo of_a_view }
 {}
 
 /// Words that say a derivation.
 pub fn words_of_a_derivation()
-    ensures fill { Says (codes "derive" ∷ codes "fill" ∷ []) (call.Derive Fill 1 Four) }
-    ensures h { Says (codes "derive" ∷ codes "hmax" ∷ codes "--h" ∷ codes "2" ∷ []) (call.Derive HMax 2 Four) }
-    ensures eight { Says (codes "derive" ∷ codes "regmax" ∷ codes "--conn" ∷ codes "8" ∷ [])
-        (call.Derive RegMax 1 Eight) }
-    ensures least { Says (codes "derive" ∷ codes "fill" ∷ codes "--h" ∷ codes "0" ∷ []) (call.Derive Fill 0 Four) }
-    ensures greatest { Says (codes "derive" ∷ codes "hmax" ∷ codes "--h" ∷ codes "65535" ∷ [])
-        (call.Derive HMax 65535 Four) }
-    ensures options_first { Says
-        (codes "derive" ∷ codes "--h" ∷ codes "2" ∷ codes "--conn" ∷ codes "8" ∷ codes "hmax" ∷ [])
-        (call.Derive HMax 2 Eight) }
+    ensures { All IsSaidSo of_a_derivation }
 {}
 
 /// Words that say no call: another value, no value or a second one, a word too many, an option of no or of another
 /// subcommand, help, another subcommand.
 pub fn words_of_no_call()
-    ensures five { IsUsage (codes "view" ∷ codes "--conn" ∷ codes "5" ∷ []) }
-    ensures too_small { IsUsage (codes "view" ∷ codes "--tile" ∷ codes "7" ∷ []) }
-    ensures too_great { IsUsage (codes "view" ∷ codes "--tile" ∷ codes "257" ∷ []) }
-    ensures leading_zero { IsUsage (codes "view" ∷ codes "--tile" ∷ codes "08" ∷ []) }
-    ensures no_value { IsUsage (codes "view" ∷ codes "--conn" ∷ []) }
-    ensures twice { IsUsage (codes "view" ∷ codes "--conn" ∷ codes "8" ∷ codes "--conn" ∷ codes "8" ∷ []) }
-    ensures one_more { IsUsage (codes "view" ∷ codes "x" ∷ []) }
-    ensures option { IsUsage (codes "--conn" ∷ codes "8" ∷ []) }
-    ensures help_flag { IsUsage (codes "--help" ∷ []) }
-    ensures help { IsUsage (codes "help" ∷ []) }
-    ensures other { IsUsage (codes "grow" ∷ []) }
-    ensures no_kind { IsUsage (codes "derive" ∷ []) }
-    ensures other_kind { IsUsage (codes "derive" ∷ codes "hmin" ∷ []) }
-    ensures second_kind { IsUsage (codes "derive" ∷ codes "fill" ∷ codes "hmax" ∷ []) }
-    ensures h_too_great { IsUsage (codes "derive" ∷ codes "hmax" ∷ codes "--h" ∷ codes "65536" ∷ []) }
-    ensures unused_h_too_great { IsUsage (codes "derive" ∷ codes "fill" ∷ codes "--h" ∷ codes "65536" ∷ []) }
-    ensures h_with_a_zero { IsUsage (codes "derive" ∷ codes "hmax" ∷ codes "--h" ∷ codes "02" ∷ []) }
-    ensures side_of_a_derivation { IsUsage (codes "derive" ∷ codes "fill" ∷ codes "--tile" ∷ codes "64" ∷ []) }
-    ensures no_file { IsUsage (codes "view" ∷ codes "--state" ∷ []) }
-    ensures two_files { IsUsage (codes "view" ∷ codes "--state" ∷ codes "a" ∷ codes "--state" ∷ codes "b" ∷ []) }
-    ensures file_of_a_derivation { IsUsage (codes "derive" ∷ codes "fill" ∷ codes "--state" ∷ codes "a" ∷ []) }
-    ensures h_of_a_view { IsUsage (codes "view" ∷ codes "--h" ∷ codes "2" ∷ []) }
-    ensures empty { IsUsage (codes "" ∷ []) }
+    ensures { All IsUsage of_no_call }
 {}
 
 // The program as `clap` parses its words.

@@ -1,92 +1,121 @@
-use super::source_of;
+use super::{source_of, words_of};
 use crate::process::run;
-use byte_devices::MemorySink;
+use byte_devices::{MemorySink, MemorySource};
+use grid_core::Memory;
 use paint_session::memory_store::MemoryStore;
-use paint_session::run_error::fault_line;
+use paint_session::run_error::RunError;
 use paint_session::store::StatePath;
+use pgm_codec::PgmError;
 use std::alloc::Global;
 use std::test::Fail;
 
-const ROW: &str = "image\nP2\n5 1\n9\n3 5 2 5 4\n";
+const PLACED: &str =
+    "place 00000000-0000-0000-0000-000000000001 9 0:1-1\nimage\nP2\n5 1\n9\n3 5 2 5 4\n";
 
-// The text with the tag 1 written out where it has A.
-fn with_tags(alloc: Global, text: &str) -> Result<String, Fail> {
-    let mut written = String::new(alloc);
-    for letter in text.chars() {
-        match letter {
-            'A' => written.push_str("00000000-0000-0000-0000-000000000001")?,
-            _ => written.push(letter)?,
-        }
+const WITHDRAWN: &str =
+    "withdraw 00000000-0000-0000-0000-000000000001\nimage\nP2\n5 1\n9\n3 5 2 5 4\n";
+
+const SHOWN: &[u8] = b"P5\n5 1\n9\n\x03\x05\x02\x02\x02";
+
+// Why a run over this store, from this source to this sink, ended with a fault, where it did, with these bytes written.
+fn fault_of(
+    alloc: Global,
+    words: Vec<String>,
+    source: MemorySource,
+    store: &mut MemoryStore,
+    sink: MemorySink,
+    written: &[u8],
+) -> Option<RunError> {
+    let (mut source, mut sink) = (source, sink);
+    match run(alloc, Ok(words.into_iter()), &mut source, store, &mut sink) {
+        Err(error) if sink.written() == written => Some(error),
+        _ => None,
     }
-    Ok(written)
 }
 
-fn is_row(file: &[u8], samples: &[u8]) -> bool {
-    file.len() == 14 && &file[..9] == b"P5\n5 1\n9\n".as_slice() && &file[9..] == samples
-}
-
-// The line of the fault that ends a run of the program with a state file, over this store; none where it ends well.
-fn line_of_run(
+// Why such a run with a state file did.
+fn fault_with_file(
     alloc: Global,
     store: &mut MemoryStore,
-    edits: &str,
-    sink: &mut MemorySink,
-) -> Result<String, Fail> {
-    let mut words = Vec::new(alloc);
-    for word in ["seedpaint", "view", "--state", "strokes"] {
-        words.push(String::from_str(alloc, word)?)?;
-    }
-    let edits = with_tags(alloc, edits)?;
-    let input = format!(in alloc; "{edits}{ROW}")?;
-    let mut source = source_of(alloc, input.as_str())?;
-    match run(alloc, Ok(words.into_iter()), &mut source, store, sink) {
-        Ok(()) => Ok(String::new(alloc)),
-        Err(error) => Ok(fault_line(alloc, &error)?),
-    }
+    sink: MemorySink,
+    written: &[u8],
+) -> Result<Option<RunError>, Memory> {
+    let source = source_of(alloc, PLACED)?;
+    let words = words_of(alloc, "seedpaint|view|--state|strokes")?;
+    Ok(fault_of(alloc, words, source, store, sink, written))
+}
+
+// Whether a run over this store ends well, with these bytes written.
+fn does_run(
+    alloc: Global,
+    words: Vec<String>,
+    source: MemorySource,
+    store: &mut MemoryStore,
+    written: &[u8],
+) -> bool {
+    let (mut source, mut sink) = (source, MemorySink::new(alloc));
+    let outcome = run(alloc, Ok(words.into_iter()), &mut source, store, &mut sink);
+    outcome.is_ok() && sink.written() == written
+}
+
+// Whether a run with a state file does so on this input.
+fn does_show(
+    alloc: Global,
+    input: &str,
+    store: &mut MemoryStore,
+    written: &[u8],
+) -> Result<bool, Memory> {
+    let source = source_of(alloc, input)?;
+    let words = words_of(alloc, "seedpaint|view|--state|strokes")?;
+    Ok(does_run(alloc, words, source, store, written))
+}
+
+// How many bytes the state file has.
+fn kept_bytes(alloc: Global, store: &MemoryStore) -> Result<usize, Memory> {
+    let strokes = StatePath::new(alloc, "strokes")?;
+    Ok(store.file(&strokes).len())
 }
 
 #[test]
 fn a_run_saves_its_state(rt: HostRuntime) -> Result<(), Fail> {
     let alloc = rt.alloc();
-    let strokes = StatePath::new(alloc, "strokes")?;
     let mut store = MemoryStore::new(alloc);
-    let mut sink = MemorySink::new(alloc);
-    let line = line_of_run(alloc, &mut store, "place A 9 0:1-1\n", &mut sink)?;
-    assert!(rt; line.is_empty());
-    assert!(rt; is_row(sink.written(), &[3, 5, 2, 2, 2]));
-    assert!(rt; store.file(&strokes).len() > 41);
-    let mut sink = MemorySink::new(alloc);
-    let line = line_of_run(alloc, &mut store, "withdraw A\n", &mut sink)?;
-    assert!(rt; line.is_empty());
-    assert!(rt; is_row(sink.written(), &[0, 0, 0, 0, 0]));
+    assert!(rt; does_show(alloc, PLACED, &mut store, SHOWN)?);
+    assert!(rt; kept_bytes(alloc, &store)? > 41);
+    let gone = b"P5\n5 1\n9\n\0\0\0\0\0";
+    assert!(rt; does_show(alloc, WITHDRAWN, &mut store, gone)?);
     Ok(())
+}
+
+// Why a run over a new store ended with a fault, where it did, with these bytes written and nothing kept.
+fn fault_of_new(
+    alloc: Global,
+    store: MemoryStore,
+    sink: MemorySink,
+    written: &[u8],
+) -> Result<Option<RunError>, Memory> {
+    let mut store = store;
+    let fault = fault_with_file(alloc, &mut store, sink, written)?;
+    let is_empty = kept_bytes(alloc, &store)? == 0;
+    Ok(if is_empty { fault } else { None })
 }
 
 #[test]
 fn a_store_that_fails_is_told(rt: HostRuntime) -> Result<(), Fail> {
     let alloc = rt.alloc();
-    let strokes = StatePath::new(alloc, "strokes")?;
-    let mut store = MemoryStore::new(alloc).failing_at(1);
-    let mut sink = MemorySink::new(alloc);
-    let line = line_of_run(alloc, &mut store, "place A 9 0:1-1\n", &mut sink)?;
-    assert!(rt; line.as_str() == "seedpaint: V2");
-    assert!(rt; sink.written().is_empty());
-    let mut store = MemoryStore::new(alloc).failing_at(2);
-    let line = line_of_run(alloc, &mut store, "place A 9 0:1-1\n", &mut sink)?;
-    assert!(rt; line.as_str() == "seedpaint: V2");
-    assert!(rt; is_row(sink.written(), &[3, 5, 2, 2, 2]));
-    assert!(rt; store.file(&strokes).is_empty());
+    for (call, written) in [(1, b"".as_slice()), (2, SHOWN)] {
+        let store = MemoryStore::new(alloc).failing_at(call);
+        let fault = fault_of_new(alloc, store, MemorySink::new(alloc), written)?;
+        assert!(rt; fault == Some(RunError::StateFile), "{call}");
+    }
     Ok(())
 }
 
 #[test]
 fn a_sink_that_fails_leaves_the_file(rt: HostRuntime) -> Result<(), Fail> {
     let alloc = rt.alloc();
-    let strokes = StatePath::new(alloc, "strokes")?;
-    let mut store = MemoryStore::new(alloc);
-    let mut sink = MemorySink::new(alloc).failing_at(1);
-    let line = line_of_run(alloc, &mut store, "place A 9 0:1-1\n", &mut sink)?;
-    assert!(rt; line.as_str() == "seedpaint: P11");
-    assert!(rt; store.file(&strokes).is_empty());
+    let sink = MemorySink::new(alloc).failing_at(1);
+    let fault = fault_of_new(alloc, MemoryStore::new(alloc), sink, b"")?;
+    assert!(rt; fault == Some(RunError::Pgm(PgmError::Device)));
     Ok(())
 }

@@ -1,6 +1,11 @@
 use Rattle.std.proofs.Common.{Some, refl, inr, codes, [], ◌∷◌, arith}
+use Rattle.std.proofs.lemmas.List.Elements.{All-from_recursion}
 use Rattle.clap.proofs.OnLiterals.{clap_on_literals}
-use Rattle.seedpaint.specs.Words.{HIs}
+use Rattle.seedpaint.specs.Examples.{IsSaidSo, of_a_derivation}
+use Rattle.seedpaint.specs.Words.{HIs, Says}
+use Rattle.seedpaint.specs.declared.words.Call.TheVariants.{Derive}
+use Rattle.grid_core.specs.declared.conn.Conn.TheVariants.{Four, Eight}
+use Rattle.paint_session.specs.declared.derive.Derivation.TheVariants.{Fill, HMax, RegMax}
 use Rattle.seedpaint.proofs.Subcommands.{names_h, option_row}
 use Rattle.seedpaint.proofs.words.words_of_a_derivation.Goals as goal
 
@@ -16,13 +21,13 @@ most =
     (omega arith)
     (λ zero. absurd (omega arith)) (omega arith)
 
-pub returns-clause-fill : goal.returns-clause-fill
+fill : Says (codes "derive" ∷ codes "fill" ∷ []) (Derive Fill 1 Four)
 unfolding clap_on_literals
-returns-clause-fill c = inr (refl, (option_row (codes "kind") (codes "fill") ∷ [], refl, refl, refl, refl))
+fill = inr (refl, (option_row (codes "kind") (codes "fill") ∷ [], refl, refl, refl, refl))
 
-pub returns-clause-h : goal.returns-clause-h
+less_h : Says (codes "derive" ∷ codes "hmax" ∷ codes "--h" ∷ codes "2" ∷ []) (Derive HMax 2 Four)
 unfolding clap_on_literals
-returns-clause-h c =
+less_h =
     inr (
       refl,
       (
@@ -34,9 +39,9 @@ returns-clause-h c =
       ),
     )
 
-pub returns-clause-eight : goal.returns-clause-eight
+eight : Says (codes "derive" ∷ codes "regmax" ∷ codes "--conn" ∷ codes "8" ∷ []) (Derive RegMax 1 Eight)
 unfolding clap_on_literals
-returns-clause-eight c =
+eight =
     inr (
       refl,
       (
@@ -48,9 +53,9 @@ returns-clause-eight c =
       ),
     )
 
-pub returns-clause-least : goal.returns-clause-least
+least : Says (codes "derive" ∷ codes "fill" ∷ codes "--h" ∷ codes "0" ∷ []) (Derive Fill 0 Four)
 unfolding clap_on_literals
-returns-clause-least c =
+least =
     inr (
       refl,
       (
@@ -62,9 +67,9 @@ returns-clause-least c =
       ),
     )
 
-pub returns-clause-greatest : goal.returns-clause-greatest
+greatest : Says (codes "derive" ∷ codes "hmax" ∷ codes "--h" ∷ codes "65535" ∷ []) (Derive HMax 65535 Four)
 unfolding clap_on_literals
-returns-clause-greatest c =
+greatest =
     inr (
       refl,
       (
@@ -76,9 +81,9 @@ returns-clause-greatest c =
       ),
     )
 
-pub returns-clause-options_first : goal.returns-clause-options_first
+options_first : Says (codes "derive" ∷ codes "--h" ∷ codes "2" ∷ codes "--conn" ∷ codes "8" ∷ codes "hmax" ∷ []) (Derive HMax 2 Eight)
 unfolding clap_on_literals
-returns-clause-options_first c = inr (
+options_first = inr (
   refl,
   (
     option_row (codes "h") (codes "2") ∷ option_row (codes "conn") (codes "8")
@@ -89,3 +94,8 @@ returns-clause-options_first c = inr (
     inr (refl, refl),
   ),
 )
+
+pub returns : goal.returns
+returns c =
+    All-from_recursion IsSaidSo of_a_derivation
+    (fill, (less_h, (eight, (least, (greatest, (options_first, tt))))))

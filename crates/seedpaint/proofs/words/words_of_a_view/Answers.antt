@@ -1,6 +1,10 @@
-use Rattle.std.proofs.Common.{Some, refl, inl, inr, codes, [], ◌∷◌, arith}
+use Rattle.std.proofs.Common.{Some, None, refl, inl, inr, codes, [], ◌∷◌, arith}
+use Rattle.std.proofs.lemmas.List.Elements.{All-from_recursion}
 use Rattle.clap.proofs.OnLiterals.{clap_on_literals}
-use Rattle.seedpaint.specs.Words.{SideIs}
+use Rattle.seedpaint.specs.Examples.{IsSaidSo, of_a_view}
+use Rattle.seedpaint.specs.Words.{SideIs, Says}
+use Rattle.seedpaint.specs.declared.words.Call.TheVariants.{View}
+use Rattle.grid_core.specs.declared.conn.Conn.TheVariants.{Four, Eight}
 use Rattle.seedpaint.proofs.Subcommands.{names_side, option_row}
 use Rattle.seedpaint.proofs.words.words_of_a_view.Goals as goal
 
@@ -20,31 +24,31 @@ many =
     (λ zero. absurd (omega arith))
     (record { at_least = omega arith; at_most = omega arith })
 
-pub returns-clause-alone : goal.returns-clause-alone
+alone : Says (codes "view" ∷ []) (View Four 64 None)
 unfolding clap_on_literals
-returns-clause-alone c = inr (refl, ([], refl, refl, refl, refl))
+alone = inr (refl, ([], refl, refl, refl, refl))
 
-pub returns-clause-four : goal.returns-clause-four
+four : Says (codes "view" ∷ codes "--conn" ∷ codes "4" ∷ []) (View Four 64 None)
 unfolding clap_on_literals
-returns-clause-four c = inr (refl, (option_row (codes "conn") (codes "4") ∷ [], refl, inl (refl, refl), refl, refl))
+four = inr (refl, (option_row (codes "conn") (codes "4") ∷ [], refl, inl (refl, refl), refl, refl))
 
-pub returns-clause-eight : goal.returns-clause-eight
+eight_words : Says (codes "view" ∷ codes "--conn" ∷ codes "8" ∷ []) (View Eight 64 None)
 unfolding clap_on_literals
-returns-clause-eight c = inr (refl, (option_row (codes "conn") (codes "8") ∷ [], refl, inr (refl, refl), refl, refl))
+eight_words = inr (refl, (option_row (codes "conn") (codes "8") ∷ [], refl, inr (refl, refl), refl, refl))
 
-pub returns-clause-least : goal.returns-clause-least
+least : Says (codes "view" ∷ codes "--tile" ∷ codes "8" ∷ []) (View Four 8 None)
 unfolding clap_on_literals
-returns-clause-least c =
+least =
     inr (refl, (option_row (codes "tile") (codes "8") ∷ [], refl, refl, eight, refl))
 
-pub returns-clause-greatest : goal.returns-clause-greatest
+greatest : Says (codes "view" ∷ codes "--tile" ∷ codes "256" ∷ []) (View Four 256 None)
 unfolding clap_on_literals
-returns-clause-greatest c =
+greatest =
     inr (refl, (option_row (codes "tile") (codes "256") ∷ [], refl, refl, many, refl))
 
-pub returns-clause-both : goal.returns-clause-both
+both : Says (codes "view" ∷ codes "--conn" ∷ codes "8" ∷ codes "--tile" ∷ codes "16" ∷ []) (View Eight 16 None)
 unfolding clap_on_literals
-returns-clause-both c = inr (
+both = inr (
   refl,
   (
     option_row (codes "conn") (codes "8") ∷ option_row (codes "tile") (codes "16") ∷ [],
@@ -55,6 +59,11 @@ returns-clause-both c = inr (
   ),
 )
 
-pub returns-clause-kept : goal.returns-clause-kept
+kept : Says (codes "view" ∷ codes "--state" ∷ codes "a" ∷ []) (View Four 64 (Some (codes "a")))
 unfolding clap_on_literals
-returns-clause-kept c = inr (refl, (option_row (codes "state") (codes "a") ∷ [], refl, refl, refl, refl))
+kept = inr (refl, (option_row (codes "state") (codes "a") ∷ [], refl, refl, refl, refl))
+
+pub returns : goal.returns
+returns c =
+    All-from_recursion IsSaidSo of_a_view
+    (alone, (four, (eight_words, (least, (greatest, (kept, (both, tt)))))))

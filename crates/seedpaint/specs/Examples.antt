@@ -1,0 +1,69 @@
+-- Words as examples: those that say a call, each beside its call, and those that say none.
+use Rattle.std.specs.Prelude.{[], ◌∷◌, List, Some, None, codes}
+use Rattle.clap.specs.Words.{Text}
+use Rattle.grid_core.specs.declared.conn.Conn.TheVariants.{Four, Eight}
+use Rattle.paint_session.specs.declared.derive.Derivation.TheVariants.{Fill, HMax, RegMax}
+use Rattle.seedpaint.specs.Words.{Says}
+use Rattle.seedpaint.specs.declared.words.Call.{Call}
+use Rattle.seedpaint.specs.declared.words.Call.TheVariants.{View, Derive}
+
+-- words, and the call that they are to say
+abbrev pub Example : Type 0
+Example = List Text × Call
+
+abbrev pub IsSaidSo : Example → Type 0
+IsSaidSo example = Says example.0 example.1
+
+-- a view: by itself, under each connectivity, with the least side and the greatest, with a state file, with two options
+abbrev pub of_a_view : List Example
+of_a_view =
+    (codes "view" ∷ [], View Four 64 None) ∷
+    (codes "view" ∷ codes "--conn" ∷ codes "4" ∷ [], View Four 64 None) ∷
+    (codes "view" ∷ codes "--conn" ∷ codes "8" ∷ [], View Eight 64 None) ∷
+    (codes "view" ∷ codes "--tile" ∷ codes "8" ∷ [], View Four 8 None) ∷
+    (codes "view" ∷ codes "--tile" ∷ codes "256" ∷ [], View Four 256 None) ∷
+    (codes "view" ∷ codes "--state" ∷ codes "a" ∷ [], View Four 64 (Some (codes "a"))) ∷
+    (codes "view" ∷ codes "--conn" ∷ codes "8" ∷ codes "--tile" ∷ codes "16" ∷ [], View Eight 16 None) ∷
+    []
+
+-- a derivation: of each kind, with the least h and the greatest, and with its options in front
+abbrev pub of_a_derivation : List Example
+of_a_derivation =
+    (codes "derive" ∷ codes "fill" ∷ [], Derive Fill 1 Four) ∷
+    (codes "derive" ∷ codes "hmax" ∷ codes "--h" ∷ codes "2" ∷ [], Derive HMax 2 Four) ∷
+    (codes "derive" ∷ codes "regmax" ∷ codes "--conn" ∷ codes "8" ∷ [], Derive RegMax 1 Eight) ∷
+    (codes "derive" ∷ codes "fill" ∷ codes "--h" ∷ codes "0" ∷ [], Derive Fill 0 Four) ∷
+    (codes "derive" ∷ codes "hmax" ∷ codes "--h" ∷ codes "65535" ∷ [], Derive HMax 65535 Four) ∷ (
+      codes "derive" ∷ codes "--h" ∷ codes "2" ∷ codes "--conn" ∷ codes "8" ∷ codes "hmax" ∷ [],
+      Derive HMax 2 Eight,
+    ) ∷
+    []
+
+-- no call: another value, no value or a second one, a word too many, an option of no or of another subcommand, help,
+-- another subcommand
+abbrev pub of_no_call : List (List Text)
+of_no_call =
+    (codes "view" ∷ codes "--conn" ∷ codes "5" ∷ []) ∷
+    (codes "view" ∷ codes "--tile" ∷ codes "7" ∷ []) ∷
+    (codes "view" ∷ codes "--tile" ∷ codes "257" ∷ []) ∷
+    (codes "view" ∷ codes "--tile" ∷ codes "08" ∷ []) ∷
+    (codes "view" ∷ codes "--conn" ∷ []) ∷
+    (codes "view" ∷ codes "--conn" ∷ codes "8" ∷ codes "--conn" ∷ codes "8" ∷ []) ∷
+    (codes "view" ∷ codes "x" ∷ []) ∷
+    (codes "--conn" ∷ codes "8" ∷ []) ∷
+    (codes "--help" ∷ []) ∷
+    (codes "help" ∷ []) ∷
+    (codes "grow" ∷ []) ∷
+    (codes "derive" ∷ []) ∷
+    (codes "derive" ∷ codes "hmin" ∷ []) ∷
+    (codes "derive" ∷ codes "fill" ∷ codes "hmax" ∷ []) ∷
+    (codes "derive" ∷ codes "hmax" ∷ codes "--h" ∷ codes "65536" ∷ []) ∷
+    (codes "derive" ∷ codes "fill" ∷ codes "--h" ∷ codes "65536" ∷ []) ∷
+    (codes "derive" ∷ codes "hmax" ∷ codes "--h" ∷ codes "02" ∷ []) ∷
+    (codes "derive" ∷ codes "fill" ∷ codes "--tile" ∷ codes "64" ∷ []) ∷
+    (codes "view" ∷ codes "--state" ∷ []) ∷
+    (codes "view" ∷ codes "--state" ∷ codes "a" ∷ codes "--state" ∷ codes "b" ∷ []) ∷
+    (codes "derive" ∷ codes "fill" ∷ codes "--state" ∷ codes "a" ∷ []) ∷
+    (codes "view" ∷ codes "--h" ∷ codes "2" ∷ []) ∷
+    (codes "" ∷ []) ∷
+    []
