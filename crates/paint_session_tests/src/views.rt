@@ -1,7 +1,7 @@
 //! Views of inputs.
 
 use crate::calls::{
-    ROW, STORED, STORED_VIEW, does_view, fault_of, is_row, is_view, on_row, source_of, with_tags,
+    STORED, STORED_VIEW, does_view, fault_of, is_row, is_view, on_row, source_of, with_tags,
 };
 use byte_devices::{MemorySink, MemorySource};
 use edit_lang::EditError;
@@ -147,22 +147,33 @@ fn a_line_image_may_end_with_a_cr(rt: HostRuntime) -> Result<(), Fail> {
     Ok(())
 }
 
+// Why a view in pieces of 7 bytes, whose pull of this number fails, ended before anything was written, if it did.
+fn fault_at_pull(alloc: Global, input: &str, pull: u64) -> Result<Option<RunError>, Memory> {
+    let source = source_of(alloc, input)?.in_pieces(7).failing_at(pull);
+    Ok(fault_of(alloc, source, Conn::Four, MemorySink::new(alloc), b""))
+}
+
+// Whether such a view of the stored input ends well.
+fn does_view_with_pull(alloc: Global, pull: u64) -> Result<bool, Memory> {
+    let source = source_of(alloc, STORED)?.in_pieces(7).failing_at(pull);
+    Ok(does_view(
+        alloc,
+        source,
+        Conn::Four,
+        MemorySink::new(alloc),
+        STORED_VIEW,
+    ))
+}
+
 // In pieces of 7 bytes the 84 bytes take 12 pulls, and one more finds the end.
 #[test]
 fn each_pull_fails_in_turn(rt: HostRuntime) -> Result<(), Fail> {
     let alloc = rt.alloc();
-    for k in 1..14u64 {
-        let source = source_of(alloc, STORED)?.in_pieces(7).failing_at(k);
-        let fault = fault_of(alloc, source, Conn::Four, MemorySink::new(alloc), b"");
-        assert!(rt; fault == DEVICE, "pull {k}");
+    for pull in 1..14 {
+        assert!(rt; fault_at_pull(alloc, STORED, pull)? == DEVICE, "{pull}");
     }
-    for k in 14..20u64 {
-        let source = source_of(alloc, STORED)?.in_pieces(7).failing_at(k);
-        let sink = MemorySink::new(alloc);
-        assert!(rt;
-            does_view(alloc, source, Conn::Four, sink, STORED_VIEW),
-            "pull {k}"
-        );
+    for pull in 14..20 {
+        assert!(rt; does_view_with_pull(alloc, pull)?, "{pull}");
     }
     assert!(rt; status(&RunError::Pgm(PgmError::Device)) == 3);
     Ok(())
@@ -172,35 +183,50 @@ fn each_pull_fails_in_turn(rt: HostRuntime) -> Result<(), Fail> {
 #[test]
 fn each_pull_of_a_refused_input_fails_in_turn(rt: HostRuntime) -> Result<(), Fail> {
     let alloc = rt.alloc();
-    for k in 1..9u64 {
-        let source = source_of(alloc, "bogus\nimage\nP2\n1 1\n9\n5\n")?
-            .in_pieces(7)
-            .failing_at(k);
-        let fault = fault_of(alloc, source, Conn::Four, MemorySink::new(alloc), b"");
-        let bad_line = RunError::Edit(EditError::BadLine(1));
-        let wanted = if k <= 5 { DEVICE } else { Some(bad_line) };
-        assert!(rt; fault == wanted, "pull {k}");
+    let input = "bogus\nimage\nP2\n1 1\n9\n5\n";
+    let bad_line = Some(RunError::Edit(EditError::BadLine(1)));
+    for pull in 1..6 {
+        assert!(rt; fault_at_pull(alloc, input, pull)? == DEVICE, "{pull}");
+    }
+    for pull in 6..9 {
+        assert!(rt; fault_at_pull(alloc, input, pull)? == bad_line, "{pull}");
     }
     Ok(())
+}
+
+// A sink in pieces of 3 bytes, whose put of this number fails.
+fn sink_of(alloc: Global, put: u64) -> MemorySink {
+    MemorySink::new(alloc).in_pieces(3).failing_at(put)
+}
+
+// Why a view to such a sink ended, where it did, with so many bytes written.
+fn fault_at_put(alloc: Global, put: u64, written: &[u8]) -> Result<Option<RunError>, Memory> {
+    let source = source_of(alloc, STORED)?;
+    Ok(fault_of(alloc, source, Conn::Four, sink_of(alloc, put), written))
+}
+
+// Whether a view to such a sink ends well.
+fn does_view_with_put(alloc: Global, put: u64) -> Result<bool, Memory> {
+    let source = source_of(alloc, STORED)?;
+    Ok(does_view(alloc, source, Conn::Four, sink_of(alloc, put), STORED_VIEW))
 }
 
 // In pieces of 3 bytes the 16 bytes take 6 puts.
 #[test]
 fn each_put_fails_in_turn(rt: HostRuntime) -> Result<(), Fail> {
     let alloc = rt.alloc();
-    for (k, taken) in [(1, 0), (2, 3), (3, 6), (4, 9), (5, 12), (6, 15)] {
-        let source = source_of(alloc, STORED)?;
-        let sink = MemorySink::new(alloc).in_pieces(3).failing_at(k);
-        let fault = fault_of(alloc, source, Conn::Four, sink, &STORED_VIEW[..taken]);
-        assert!(rt; fault == DEVICE, "put {k}");
+    for (put, written) in [
+        (1, b"".as_slice()),
+        (2, b"P5\n"),
+        (3, b"P5\n5 1"),
+        (4, b"P5\n5 1\n25"),
+        (5, b"P5\n5 1\n255\nC"),
+        (6, b"P5\n5 1\n255\nCEBB"),
+    ] {
+        assert!(rt; fault_at_put(alloc, put, written)? == DEVICE, "{put}");
     }
-    for k in 7..10u64 {
-        let source = source_of(alloc, STORED)?;
-        let sink = MemorySink::new(alloc).in_pieces(3).failing_at(k);
-        assert!(rt;
-            does_view(alloc, source, Conn::Four, sink, STORED_VIEW),
-            "put {k}"
-        );
+    for put in 7..10 {
+        assert!(rt; does_view_with_put(alloc, put)?, "{put}");
     }
     Ok(())
 }
