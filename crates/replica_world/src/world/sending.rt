@@ -1,6 +1,6 @@
 //! Pieces of replicas that are sent.
 
-ghost use Rattle.std.specs.Prelude.{◌≡◌, ◌≤◌, [], ◌∷◌, ◌++◌, IfOk, IfErr, OnOk, OnErr};
+ghost use Rattle.std.specs.Prelude.{◌≡◌, ◌≤◌, [], ◌∷◌, ◌++◌, IfErr, OnOk, OnErr};
 ghost use Rattle.stroke_lattice.specs.Pieces.{frame_length};
 ghost use Rattle.spd_codec.specs.declared.version.Version.TheVariants.{Second};
 ghost use Rattle.spd_codec.specs.Spelling.{frame_text, max_bytes};
