@@ -149,7 +149,7 @@ impl Picture {
     /// The fill: at each pixel the least of the values at which a path of no greater ones joins it to the border.
     pub fn fill(&self) -> [u32; 25] {
         let mut view = [u32::MAX; 25];
-        for level in &self.values {
+        for level in self.values.iter().take(self.count()) {
             let escaping = self.joined(self.border(), self.between(0, *level));
             for (p, least) in view.iter_mut().enumerate() {
                 if has(escaping, p) && *level < *least {
@@ -164,7 +164,7 @@ impl Picture {
     /// no lesser values joins it to a value of at least the level and `h`; or 0.
     pub fn domes(&self, h: u32) -> [u32; 25] {
         let mut view = [0; 25];
-        for value in &self.values {
+        for value in self.values.iter().take(self.count()) {
             for level in [*value, value.saturating_sub(h)] {
                 let above = self.between(level.saturating_add(h), u32::MAX);
                 let reached = self.joined(above, self.between(level, u32::MAX));
