@@ -126,19 +126,30 @@ fn frames_of_both_versions(rt: HostRuntime) -> Result<(), Fail> {
     Ok(())
 }
 
+// What is written for the frame of these bytes.
+fn written_again(alloc: Global, bytes: &[u8]) -> Result<Vec<u8>, SpdError> {
+    Read::of(alloc, bytes)?.written(alloc)
+}
+
+// Whether both bytes are frames for one image, with the same strokes and tombstones.
+fn are_read_alike(alloc: Global, one: &[u8], other: &[u8]) -> Result<bool, SpdError> {
+    let one = Read::of(alloc, one)?;
+    let other = Read::of(alloc, other)?;
+    Ok(one.is_same(&other))
+}
+
 #[test]
 fn a_frame_of_the_first_version_is_written_again_in_the_second(
     rt: HostRuntime,
 ) -> Result<(), Fail> {
-    let frame = Read::of(rt.alloc(), &RUNS)?;
-    let written = frame.written(rt.alloc())?;
+    let written = written_again(rt.alloc(), &RUNS)?;
     let bytes = written.as_slice();
     assert!(rt; bytes.len() == 68);
     assert!(rt; bytes.starts_with(b"SPD2"));
     assert!(rt; &bytes[4..57] == &RUNS[4..57]);
     assert!(rt; bytes[57] == 0);
     assert!(rt; &bytes[58..] == &RUNS[57..]);
-    assert!(rt; Read::of(rt.alloc(), bytes)?.is_same(&frame));
+    assert!(rt; are_read_alike(rt.alloc(), &RUNS, bytes)?);
     Ok(())
 }
 

@@ -115,15 +115,20 @@ fn is_file_of(
     Ok(frames.len() == count && join_of(alloc, &frames, conn)?.is_same(set))
 }
 
+// The state file of that set, eight-connected.
+fn long_file(alloc: Global) -> Result<Vec<u8>, Fail> {
+    let set = long_set(alloc)?;
+    Ok(write_frames(alloc, Conn::Eight, &zeros(), set.state())?)
+}
+
 #[test]
 fn a_state_in_two_pieces_is_written_and_read(rt: HostRuntime) -> Result<(), Fail> {
     let alloc = rt.alloc();
-    let set = long_set(alloc)?;
-    let file = write_frames(alloc, Conn::Eight, &zeros(), set.state())?;
+    let file = long_file(alloc)?;
     assert!(rt; file.len() == 2 + 1390 + 2 + 153);
     assert!(rt; file[0] == 5 && file[1] == 110);
     assert!(rt; file[1392] == 0 && file[1393] == 153);
-    assert!(rt; is_file_of(alloc, &file, Conn::Eight, 2, &set)?);
+    assert!(rt; is_file_of(alloc, &file, Conn::Eight, 2, &long_set(alloc)?)?);
     Ok(())
 }
 

@@ -10,9 +10,16 @@ const T1: Tag = Tag(1);
 
 const T2: Tag = Tag(2);
 
-// Whether the delta of a step changes nothing.
-fn is_known(alloc: Global, set: &mut Set, step: Step) -> Result<bool, Fail> {
-    Ok(set.changes(alloc, &Set::of(alloc, &[step])?, &[], &[]))
+// Whether the deltas of the steps, merged as one, make these tags live, and make these cease to be.
+fn changes(
+    alloc: Global,
+    set: &mut Set,
+    steps: &[Step],
+    born: &[Tag],
+    dead: &[Tag],
+) -> Result<bool, Fail> {
+    let delta = Set::of(alloc, steps)?;
+    Ok(set.changes(alloc, &delta, born, dead))
 }
 
 #[test]
@@ -21,8 +28,8 @@ fn a_withdrawal_wins_in_either_order(rt: HostRuntime) -> Result<(), Fail> {
     let a = Set::of(alloc, &[place(1, 9), Step::Withdraw(1)])?;
     let mut b = Set::of(alloc, &[Step::Withdraw(1), place(1, 9)])?;
     assert!(rt; a.is_same(&b));
-    assert!(rt; is_known(alloc, &mut b, place(1, 9))?);
-    assert!(rt; is_known(alloc, &mut b, Step::Withdraw(1))?);
+    assert!(rt; changes(alloc, &mut b, &[place(1, 9)], &[], &[])?);
+    assert!(rt; changes(alloc, &mut b, &[Step::Withdraw(1)], &[], &[])?);
     assert!(rt; a.is_same(&b));
     let state = b.state();
     assert!(rt; !state.is_live(T1) && state.has_tombstone(T1) && state.stroke(T1).is_some());
@@ -69,11 +76,10 @@ fn a_disc_and_runs_over_the_same_pixels_clash(rt: HostRuntime) -> Result<(), Fai
 fn changes_are_what_is_born_and_what_dies(rt: HostRuntime) -> Result<(), Fail> {
     let alloc = rt.alloc();
     let mut set = Set::of(alloc, &[Step::Withdraw(7)])?;
-    let strokes = Set::of(alloc, &[place(7, 2), place(2, 2), place(1, 2)])?;
-    assert!(rt; set.changes(alloc, &strokes, &[T1, T2], &[]));
-    let steps = [Step::Withdraw(8), Step::Withdraw(1), Step::Withdraw(7)];
-    let tombstones = Set::of(alloc, &steps)?;
-    assert!(rt; set.changes(alloc, &tombstones, &[], &[T1]));
+    let strokes = [place(7, 2), place(2, 2), place(1, 2)];
+    assert!(rt; changes(alloc, &mut set, &strokes, &[T1, T2], &[])?);
+    let tombstones = [Step::Withdraw(8), Step::Withdraw(1), Step::Withdraw(7)];
+    assert!(rt; changes(alloc, &mut set, &tombstones, &[], &[T1])?);
     assert!(rt; set.state().has_tombstone(Tag(8)));
     Ok(())
 }
@@ -137,14 +143,16 @@ fn walks_rise_by_tag(rt: HostRuntime) -> Result<(), Fail> {
     Ok(())
 }
 
+// Whether the first is below the second, and not the other way round.
+fn is_less(low: &Set, high: &Set) -> bool {
+    low.state().is_below(high.state()) && !high.state().is_below(low.state()) && !low.is_same(high)
+}
+
 #[test]
 fn states_against_others_and_images(rt: HostRuntime) -> Result<(), Fail> {
     let alloc = rt.alloc();
-    let low = Set::of(alloc, &[Step::Withdraw(2)])?;
     let high = Set::of(alloc, &[place(1, 2), Step::Withdraw(2)])?;
-    assert!(rt; low.state().is_below(high.state()));
-    assert!(rt; !high.state().is_below(low.state()));
-    assert!(rt; !low.is_same(&high));
+    assert!(rt; is_less(&Set::of(alloc, &[Step::Withdraw(2)])?, &high));
     assert!(rt; high.outside(2, 1) == None);
     assert!(rt; high.outside(1, 1) == Some(T1));
     Ok(())
