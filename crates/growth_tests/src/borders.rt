@@ -91,8 +91,8 @@ fn grow_and_raise(
     raise_pixels(mask, image, rect, pixels, value);
 }
 
-// Whether a grid that grows in the rectangle, and of which then pixels of the border rise, grows from the border into the
-// flood of what is cut out there, and elsewhere stays.
+// Whether a grid that grows in the rectangle, and of which then pixels of the border rise, grows from the border into
+// the flood of what is cut out there, and elsewhere stays.
 fn regrows(
     alloc: Global,
     mask: &Grid,

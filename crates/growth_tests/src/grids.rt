@@ -115,7 +115,8 @@ fn is_kept_outside(before: &Grid, after: &Grid, rect: Rect) -> bool {
     before.cells().len() == after.cells().len()
 }
 
-/// Whether the grid is in the rectangle the flood of what is cut out there of the one before, and elsewhere equal to it.
+/// Whether the grid is in the rectangle the flood of what is cut out there of the one before, and elsewhere equal to
+/// it.
 pub fn is_flood_within(
     alloc: Global,
     mask: &Grid,
