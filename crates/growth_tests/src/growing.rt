@@ -312,7 +312,7 @@ fn noise_grows(alloc: Global, w: u32, h: u32, seed: &mut u32) -> Result<bool, Fa
 #[test]
 fn a_small_room_serves_noise(rt: HostRuntime) -> Result<(), Fail> {
     let mut seed = 1993;
-    for side in [64, 200, 300] {
+    for side in [64, 100, 200] {
         assert!(rt; noise_grows(rt.alloc(), side, side, &mut seed)?, "{side}");
     }
     Ok(())
