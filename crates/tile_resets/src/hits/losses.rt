@@ -1,7 +1,6 @@
 //! The tiles in which a stroke dies.
 
-ghost use Rattle.std.specs.Prelude.{◌≡◌, length, IsTrue};
-ghost use Rattle.grid_core.specs.Tiles.{count_of};
+ghost use Rattle.std.specs.Prelude.{IsTrue};
 ghost use Rattle.stroke_core.specs.Seed.{covers};
 ghost use Rattle.stroke_core.specs.Spans.{span_has};
 ghost use Rattle.tile_resets.specs.Marks.{Adds, AreMarks, LosesStrokeTo, IsUnderLive};
