@@ -62,8 +62,12 @@ fn agree_after(alloc: Global, number: u64, events: usize, conn: Conn) -> Result<
     let mask = some_mask(&mut seed);
     let replicas = usize::from(draw(&mut seed, 3).saturating_add(2));
     let mut scene = Scene::on(alloc, 72, 3, &mask, conn, replicas)?;
+    do_agree_after(&mut scene, &mut seed, events)
+}
+
+fn do_agree_after(scene: &mut Scene, seed: &mut u64, events: usize) -> Result<bool, Fail> {
     for _event in 0..events {
-        let act = some_act(&mut seed, &scene, 72);
+        let act = some_act(seed, scene, 72);
         let _refused = scene.is_refused(act)?;
     }
     scene.exchange()?;

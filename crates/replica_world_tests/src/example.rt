@@ -1,6 +1,6 @@
 //! Two replicas that place a stroke each, and send it to each other.
 
-use crate::scene::{Act, Scene, Script};
+use crate::scene::{Act, Scene};
 use replica_world::WorldError;
 use std::test::Fail;
 
@@ -33,11 +33,9 @@ fn is_at_end(scene: &Scene) -> bool {
 
 #[test]
 fn both_show_both_strokes(rt: HostRuntime) -> Result<(), Fail> {
-    let alloc = rt.alloc();
-    let mut scene = Scene::on_row(alloc, &MASK, 2)?;
+    let mut scene = Scene::on_row(rt.alloc(), &MASK, 2)?;
     assert!(rt; scene.steps() == 0);
-    let refusals = scene.run(&ACTS)?;
-    assert!(rt; refusals.are(&[(12, WorldError::NoSuch)]));
+    assert!(rt; scene.does_run(&ACTS, &[(12, WorldError::NoSuch)])?);
     assert!(rt; is_at_end(&scene));
     assert!(rt; scene.steps() == 13);
     assert!(rt; scene.packets() == 2 && scene.results() == 2);
@@ -47,12 +45,10 @@ fn both_show_both_strokes(rt: HostRuntime) -> Result<(), Fail> {
 // The frame of one stroke of one run has 68 bytes.
 #[test]
 fn a_packet_is_the_frame_of_a_piece(rt: HostRuntime) -> Result<(), Fail> {
-    let alloc = rt.alloc();
-    let mut scene = Scene::on_row(alloc, &MASK, 2)?;
+    let mut scene = Scene::on_row(rt.alloc(), &MASK, 2)?;
     scene.act_all(&[Act::Place(0, 1, 9, 1), Act::Send(0, 0)])?;
     assert!(rt; scene.has_packet_of(0, 68));
-    assert!(rt; scene.names_nothing(Act::Send(0, 1))?);
-    assert!(rt; scene.names_nothing(Act::Send(1, 0))?);
+    assert!(rt; scene.names_all_nothing(&[Act::Send(0, 1), Act::Send(1, 0)])?);
     assert!(rt; scene.packets() == 1);
     Ok(())
 }
@@ -61,25 +57,25 @@ fn a_packet_is_the_frame_of_a_piece(rt: HostRuntime) -> Result<(), Fail> {
 // is the wish of whoever starts the test.
 #[test]
 fn a_run_goes_on_after_want_of_memory(rt: HostRuntime) -> Result<(), Fail> {
-    let alloc = rt.alloc();
-    let mut scene = Scene::on_row(alloc, &MASK, 2)?;
-    let script = Script::of(alloc, &ACTS)?;
-    scene.run_through(&script)?;
+    let mut scene = Scene::on_row(rt.alloc(), &MASK, 2)?;
+    scene.run_through(&ACTS)?;
     assert!(rt; is_at_end(&scene));
     Ok(())
 }
 
+// Whether a run of three events has three steps, also after an event by itself.
+fn has_three_steps(scene: &mut Scene) -> Result<bool, Fail> {
+    let acts = [Act::Place(0, 1, 9, 1), Act::Take(0, 0), Act::Take(0, 0)];
+    let is_run = scene.does_run(&acts, &[])? && scene.steps() == 3;
+    scene.act(Act::Return(0, 0))?;
+    Ok(is_run && scene.steps() == 3)
+}
+
 #[test]
 fn a_second_run_counts_its_own_steps(rt: HostRuntime) -> Result<(), Fail> {
-    let alloc = rt.alloc();
-    let mut scene = Scene::on_row(alloc, &MASK, 1)?;
-    let first = scene.run(&[Act::Place(0, 1, 9, 1), Act::Take(0, 0), Act::Take(0, 0)])?;
-    assert!(rt; first.are(&[]));
-    assert!(rt; scene.steps() == 3);
-    scene.act(Act::Return(0, 0))?;
-    assert!(rt; scene.steps() == 3);
-    let second = scene.run(&[Act::Return(0, 5)])?;
-    assert!(rt; second.are(&[(0, WorldError::NoSuch)]));
+    let mut scene = Scene::on_row(rt.alloc(), &MASK, 1)?;
+    assert!(rt; has_three_steps(&mut scene)?);
+    assert!(rt; scene.does_run(&[Act::Return(0, 5)], &[(0, WorldError::NoSuch)])?);
     assert!(rt; scene.steps() == 1);
     Ok(())
 }

@@ -18,10 +18,9 @@ fn a_world_has_1_to_16_replicas(rt: HostRuntime) -> Result<(), Fail> {
 
 #[test]
 fn no_other_number_names_a_replica(rt: HostRuntime) -> Result<(), Fail> {
-    let alloc = rt.alloc();
-    let mut scene = Scene::on_row(alloc, &[4, 4], 2)?;
+    let mut scene = Scene::on_row(rt.alloc(), &[4, 4], 2)?;
     scene.act_all(&[Act::Place(0, 1, 4, 0), Act::Send(0, 0), Act::Take(0, 0)])?;
-    for act in [
+    let acts = [
         Act::Place(2, 1, 4, 0),
         Act::Send(2, 0),
         Act::Deliver(2, 0),
@@ -29,17 +28,15 @@ fn no_other_number_names_a_replica(rt: HostRuntime) -> Result<(), Fail> {
         Act::Return(2, 0),
         Act::Abandon(2, 0),
         Act::Hand(2, 0, 0),
-    ] {
-        assert!(rt; scene.names_nothing(act)?);
-    }
+    ];
+    assert!(rt; scene.names_all_nothing(&acts)?);
     Ok(())
 }
 
 #[test]
 fn no_other_number_names_a_thing(rt: HostRuntime) -> Result<(), Fail> {
-    let alloc = rt.alloc();
-    let mut scene = Scene::on_row(alloc, &[4, 4], 1)?;
-    for act in [
+    let mut scene = Scene::on_row(rt.alloc(), &[4, 4], 1)?;
+    let acts = [
         Act::Send(0, 0),
         Act::Deliver(0, 0),
         Act::Take(0, 1),
@@ -47,9 +44,8 @@ fn no_other_number_names_a_thing(rt: HostRuntime) -> Result<(), Fail> {
         Act::Abandon(0, 0),
         Act::Hand(0, 0, 0),
         Act::Hand(0, 1, 0),
-    ] {
-        assert!(rt; scene.names_nothing(act)?);
-    }
+    ];
+    assert!(rt; scene.names_all_nothing(&acts)?);
     Ok(())
 }
 
@@ -74,21 +70,20 @@ fn what_does_nothing_is_not_refused(rt: HostRuntime) -> Result<(), Fail> {
 fn the_core_refuses_and_nothing_is_taken(rt: HostRuntime) -> Result<(), Fail> {
     let alloc = rt.alloc();
     let mut scene = Scene::on_row(alloc, &[4, 4], 2)?;
-    let refusals = scene.run(&[
+    let acts = [
         Act::Place(0, 1, 4, 0),
         Act::Place(0, 1, 3, 0),
         Act::Place(0, 2, 3, 2),
         Act::Place(1, 1, 3, 0),
         Act::Send(0, 0),
         Act::Deliver(1, 0),
-    ])?;
-    assert!(rt;
-        refusals.are(&[
-            (1, WorldError::Core(CoreError::Conflict(Tag(1)))),
-            (2, WorldError::Core(CoreError::OutOfImage(Tag(2)))),
-            (5, WorldError::Core(CoreError::Conflict(Tag(1)))),
-        ])
-    );
+    ];
+    let refusals = [
+        (1, WorldError::Core(CoreError::Conflict(Tag(1)))),
+        (2, WorldError::Core(CoreError::OutOfImage(Tag(2)))),
+        (5, WorldError::Core(CoreError::Conflict(Tag(1)))),
+    ];
+    assert!(rt; scene.does_run(&acts, &refusals)?);
     assert!(rt; scene.took(0) == 1 && scene.took(1) == 1);
     assert!(rt; scene.shows(0, &[4, 0]) && scene.shows(1, &[3, 0]));
     Ok(())

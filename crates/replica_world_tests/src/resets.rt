@@ -20,24 +20,33 @@ fn has_reset_near_tiles(scene: &Scene, r: usize) -> bool {
     generations && dirty && scene.shows_from(r, 182, 192, 3)
 }
 
-#[test]
-fn a_withdrawal_resets_its_own_tiles_at_each_replica(rt: HostRuntime) -> Result<(), Fail> {
-    let alloc = rt.alloc();
-    let mut scene = Scene::on_row(alloc, &two_islands(), 2)?;
+// Whether both replicas agree on a stroke of each, once each knows both and has settled.
+fn do_both_agree(scene: &mut Scene) -> Result<bool, Fail> {
     scene.act_all(&[Act::Place(0, 1, 4, 0), Act::Place(1, 2, 3, 191)])?;
     scene.exchange()?;
     scene.settle_all()?;
-    assert!(rt; scene.agree()?);
+    scene.agree()
+}
+
+// Whether a withdrawal resets near tiles alone at each replica, and leaves so many jobs to both.
+fn does_reset_near_tiles(scene: &mut Scene, jobs: usize) -> Result<bool, Fail> {
     let packet = scene.packets();
     scene.act_all(&[
         Act::Withdraw(0, 1),
         Act::Send(0, 0),
         Act::Deliver(1, packet),
     ])?;
-    assert!(rt; has_reset_near_tiles(&scene, 0) && has_reset_near_tiles(&scene, 1));
+    let is_reset = has_reset_near_tiles(scene, 0) && has_reset_near_tiles(scene, 1);
     let results = scene.results();
     scene.settle_all()?;
-    assert!(rt; scene.results() == results.saturating_add(4));
+    Ok(is_reset && scene.results() == results.saturating_add(jobs))
+}
+
+#[test]
+fn a_withdrawal_resets_its_own_tiles_at_each_replica(rt: HostRuntime) -> Result<(), Fail> {
+    let mut scene = Scene::on_row(rt.alloc(), &two_islands(), 2)?;
+    assert!(rt; do_both_agree(&mut scene)?);
+    assert!(rt; does_reset_near_tiles(&mut scene, 4)?);
     assert!(rt; scene.agree()?);
     Ok(())
 }

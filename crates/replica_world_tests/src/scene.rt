@@ -68,46 +68,13 @@ fn event_of(alloc: Global, act: Act) -> Result<Event, Fail> {
     }
 }
 
-/// A list of events.
-#[derive(Drop)]
-pub struct Script {
-    events: Vec<Event>,
-}
-
-impl Model for Script {
-    ghost Value = { ⊤ };
-
-    ghost view = { λ _. tt };
-}
-
-impl Script {
-    /// The events of these acts.
-    pub fn of(alloc: Global, acts: &[Act]) -> Result<Script, Fail> {
-        let mut events = Vec::new(alloc);
-        for act in acts {
-            events.push(event_of(alloc, *act)?)?;
-        }
-        Ok(Script { events })
+// The events of these acts.
+fn events_of(alloc: Global, acts: &[Act]) -> Result<Vec<Event>, Fail> {
+    let mut events = Vec::new(alloc);
+    for act in acts {
+        events.push(event_of(alloc, *act)?)?;
     }
-}
-
-/// The refusals of a run.
-#[derive(Drop)]
-pub struct Refusals {
-    list: Vec<(usize, WorldError)>,
-}
-
-impl Model for Refusals {
-    ghost Value = { ⊤ };
-
-    ghost view = { λ _. tt };
-}
-
-impl Refusals {
-    /// Whether it is exactly these events that were refused, for these reasons.
-    pub fn are(&self, refusals: &[(usize, WorldError)]) -> bool {
-        self.list.as_slice() == refusals
-    }
+    Ok(events)
 }
 
 /// A world.
@@ -183,6 +150,16 @@ impl Scene {
         Ok(self.world.step(self.alloc, &event).is_err())
     }
 
+    /// Whether each of these acts names nothing.
+    pub fn names_all_nothing(&mut self, acts: &[Act]) -> Result<bool, Fail> {
+        for act in acts {
+            if !self.names_nothing(*act)? {
+                return Ok(false);
+            }
+        }
+        Ok(true)
+    }
+
     /// Has an act happen.
     pub fn act(&mut self, act: Act) -> Result<(), Fail> {
         if self.is_refused(act)? {
@@ -199,28 +176,45 @@ impl Scene {
         Ok(())
     }
 
-    /// Runs the events of these acts.
-    pub fn run(&mut self, acts: &[Act]) -> Result<Refusals, Fail> {
-        let script = Script::of(self.alloc, acts)?;
-        let list = self.world.run(self.alloc, &script.events)?;
-        Ok(Refusals { list })
+    /// Whether it is exactly these events that a run of these acts refuses, for these reasons.
+    pub fn does_run(
+        &mut self,
+        acts: &[Act],
+        refusals: &[(usize, WorldError)],
+    ) -> Result<bool, Fail> {
+        let script = events_of(self.alloc, acts)?;
+        self.does_refuse(&script, refusals)
     }
 
-    /// Runs a list of events, and where memory runs out, the rest of it from there on, once.
-    pub fn run_through(&mut self, script: &Script) -> Result<(), Fail> {
-        if self.world.run(self.alloc, &script.events).is_ok() {
+    fn does_refuse(
+        &mut self,
+        events: &[Event],
+        refusals: &[(usize, WorldError)],
+    ) -> Result<bool, Fail> {
+        let list = self.world.run(self.alloc, events)?;
+        Ok(list.as_slice() == refusals)
+    }
+
+    /// Runs the events of these acts, and where memory runs out, the rest of them from there on, once.
+    pub fn run_through(&mut self, acts: &[Act]) -> Result<(), Fail> {
+        let script = events_of(self.alloc, acts)?;
+        self.run_all(&script)
+    }
+
+    fn run_all(&mut self, events: &[Event]) -> Result<(), Fail> {
+        if self.world.run(self.alloc, events).is_ok() {
             return Ok(());
         }
         let steps = self.world.steps();
-        if steps >= script.events.len() {
+        if steps >= events.len() {
             return Err(Fail::new("a run ended, and no event is left"));
         }
-        self.run_from(script, steps)
+        self.run_from(events, steps)
     }
 
     // Runs the events of a list from the one of this number on.
-    fn run_from(&mut self, script: &Script, start: usize) -> Result<(), Fail> {
-        match script.events.get(start..) {
+    fn run_from(&mut self, events: &[Event], start: usize) -> Result<(), Fail> {
+        match events.get(start..) {
             Some(rest) => {
                 let _ = self.world.run(self.alloc, rest)?;
                 Ok(())

@@ -47,17 +47,20 @@ fn so_it_does_of_a_disc(rt: HostRuntime) -> Result<(), Fail> {
     Ok(())
 }
 
+// Whether the first result, given back, leaves the image empty and tile 0 to be swept, of generation 1.
+fn is_result_stale(scene: &mut Scene) -> Result<bool, Fail> {
+    scene.act(Act::Return(0, 0))?;
+    let is_left = !scene.is_out(0, 0) && scene.is_dirty(0, 0) && scene.has_generation(0, 0, 1);
+    Ok(is_left && scene.shows_from(0, 0, 128, 0))
+}
+
 // The job of tile 0 is out when its stroke is withdrawn. Its result changes nothing then, however often it comes.
 #[test]
 fn a_result_of_before_a_withdrawal_is_stale(rt: HostRuntime) -> Result<(), Fail> {
-    let alloc = rt.alloc();
-    let mut scene = Scene::on_row(alloc, &[4; 128], 1)?;
+    let mut scene = Scene::on_row(rt.alloc(), &[4; 128], 1)?;
     scene.act_all(&[Act::Place(0, 1, 4, 0), Act::Take(0, 0), Act::Withdraw(0, 1)])?;
-    for _time in 0..3 {
-        scene.act(Act::Return(0, 0))?;
-        assert!(rt; scene.shows_from(0, 0, 128, 0));
-        assert!(rt; !scene.is_out(0, 0) && scene.is_dirty(0, 0));
-        assert!(rt; scene.has_generation(0, 0, 1));
+    for time in 0..3 {
+        assert!(rt; is_result_stale(&mut scene)?, "{time}");
     }
     assert!(rt; !scene.is_live(0, 1));
     scene.act(Act::Take(0, 0))?;
