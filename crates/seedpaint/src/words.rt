@@ -18,15 +18,12 @@ ghost use Rattle.seedpaint.specs.declared.words.Call.TheVariants as call;
 ghost use Rattle.paint_session.specs.declared.run_error.RunError.TheVariants as errors;
 
 use clap::{Arg, ArgMatches, Command};
-use grid_core::{Conn, Memory, is_tile_side};
+use grid_core::{Conn, Memory, TILE_SIDE, is_tile_side};
 use paint_session::derive::Derivation;
 use paint_session::run_error::RunError;
 use paint_session::store::StatePath;
 use std::alloc::Global;
 use std::{env, io};
-
-/// The side of the tiles where none is named.
-pub const TILE_SIDE: u32 = 64;
 
 /// What the program is called to do.
 #[derive(Debug, Drop)]
@@ -150,13 +147,10 @@ fn view_command<'a>(alloc: Global) -> Result<Command<'a>, Memory>
     ensures app { IfOk result (λ command. app_of command ≡ view_command) }
     ensures local { IfOk result (λ command. (out-Command command).has_globals ≡ false) }
 {
-    let conn = Arg::new(alloc, "conn").long("conn");
-    let tile = Arg::new(alloc, "tile").long("tile");
-    let state = Arg::new(alloc, "state").long("state");
     let view = Command::new(alloc, "view")
-        .arg(conn)?
-        .arg(tile)?
-        .arg(state)?;
+        .arg(Arg::new(alloc, "conn").long("conn"))?
+        .arg(Arg::new(alloc, "tile").long("tile"))?
+        .arg(Arg::new(alloc, "state").long("state"))?;
     Ok(view)
 }
 
@@ -165,10 +159,10 @@ fn derive_command<'a>(alloc: Global) -> Result<Command<'a>, Memory>
     ensures app { IfOk result (λ command. app_of command ≡ derive_command) }
     ensures local { IfOk result (λ command. (out-Command command).has_globals ≡ false) }
 {
-    let kind = Arg::new(alloc, "kind");
-    let h = Arg::new(alloc, "h").long("h");
-    let conn = Arg::new(alloc, "conn").long("conn");
-    let derive = Command::new(alloc, "derive").arg(kind)?.arg(h)?.arg(conn)?;
+    let derive = Command::new(alloc, "derive")
+        .arg(Arg::new(alloc, "kind"))?
+        .arg(Arg::new(alloc, "h").long("h"))?
+        .arg(Arg::new(alloc, "conn").long("conn"))?;
     Ok(derive)
 }
 
