@@ -84,8 +84,8 @@ fn a_result_is_joined_with_what_rose_meanwhile(rt: HostRuntime) -> Result<(), Fa
 #[test]
 fn a_result_of_the_other_connectivity_is_a_stranger(rt: HostRuntime) -> Result<(), Fail> {
     let starts = [
-        Start::Columns(&[7, 0, 0, 7], Conn::Four),
-        Start::Columns(&[7, 0, 0, 7], Conn::Eight),
+        Start::Square(&[7, 0, 0, 7], Conn::Four),
+        Start::Square(&[7, 0, 0, 7], Conn::Eight),
     ];
     let lines = [
         Line::Place(1, 7, 0, 0),

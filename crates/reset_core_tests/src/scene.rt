@@ -281,16 +281,16 @@ impl Scene {
         Scene::of(alloc, core)
     }
 
-    /// A core on a mask of these rows, with tiles of this side.
+    /// A core on a mask of these cells, row by row, with tiles of this side.
     pub fn on_mask(
         alloc: Global,
+        width: u32,
+        height: u32,
         mask: &[u32],
-        height: usize,
         conn: Conn,
         side: u32,
     ) -> Result<Scene, Fail> {
-        let width = mask.len().checked_div(height).unwrap_or(0);
-        let mask = grid_of(alloc, u32::try_from(width)?, u32::try_from(height)?, mask)?;
+        let mask = grid_of(alloc, width, height, mask)?;
         Scene::on(alloc, mask, conn, side)
     }
 
@@ -336,7 +336,7 @@ impl Scene {
 
     /// Whether the core takes a delta.
     pub fn takes(&mut self, edit: &Edit) -> Result<bool, Fail> {
-        Ok(self.merge(edit).is_ok())
+        Ok(self.refusal(edit).is_none())
     }
 
     /// Takes a tile.

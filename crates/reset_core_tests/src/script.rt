@@ -20,8 +20,8 @@ pub enum Start {
     /// On a mask of one row of 192 pixels, 4 at the ten on each end and 0 between, under four neighbours, with tiles of
     /// this side.
     Ends(u32),
-    /// On a mask of two columns, with tiles of side 64.
-    Columns(&'static [u32], Conn),
+    /// On a mask of two columns and two rows, with tiles of side 64.
+    Square(&'static [u32], Conn),
     /// On an image of one row, with tiles of the side that stands where none is named.
     Open(&'static [u32], Conn),
     /// On an image of one row under four neighbours, with generations that begin here.
@@ -261,13 +261,19 @@ fn two_ends() -> [u32; 192] {
     row
 }
 
+// A core on a mask of one row, with tiles of this side.
+fn on_row(alloc: Global, mask: &[u32], side: u32) -> Result<Scene, Fail> {
+    let width = u32::try_from(mask.len())?;
+    Scene::on_mask(alloc, width, 1, mask, Conn::Four, side)
+}
+
 // The core that is opened so.
 fn opened(alloc: Global, start: Start) -> Result<Scene, Fail> {
     match start {
-        Start::Row(mask) => Scene::on_mask(alloc, mask, 1, Conn::Four, 64),
-        Start::Tiled(mask, side) => Scene::on_mask(alloc, mask, 1, Conn::Four, side),
-        Start::Ends(side) => Scene::on_mask(alloc, &two_ends(), 1, Conn::Four, side),
-        Start::Columns(mask, conn) => Scene::on_mask(alloc, mask, mask.len() / 2, conn, 64),
+        Start::Row(mask) => on_row(alloc, mask, 64),
+        Start::Tiled(mask, side) => on_row(alloc, mask, side),
+        Start::Ends(side) => on_row(alloc, &two_ends(), side),
+        Start::Square(mask, conn) => Scene::on_mask(alloc, 2, 2, mask, conn, 64),
         Start::Open(row, conn) => Scene::open(alloc, row, conn),
         Start::OpenAt(row, first) => Scene::open_at(alloc, row, first),
         Start::OpenTiled(row, side) => Scene::open_tiled(alloc, row, side),
