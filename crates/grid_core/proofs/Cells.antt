@@ -2,7 +2,7 @@
 use Rattle.std.proofs.Common.{◌≡◌, ℕ, zero, suc, ◌+◌, ◌*◌, ◌/◌, ◌%◌, ◌<◌, ◌≤◌, length, sym, ◌∙◌, ap, subst, zero-mul}
 use Rattle.std.proofs.Common.{arith}
 use Rattle.std.specs.Prelude.{◌≢◌, slice_index}
-use Rattle.std.proofs.Math.Nat.{mod-lt, mod-add-div', mul-le-mul_right}
+use Rattle.std.proofs.Math.Nat.{mod-lt, mod-add-div'}
 use Rattle.std.proofs.lemmas.Nat.{mul-add-lt, same_from_place, div_below}
 use Rattle.std.proofs.lemmas.List.{get_or-set_same, get_or-set_other, ext_get_or}
 use Rattle.grid_core.specs.declared.pixel.Pixel.{Pixel}
@@ -13,13 +13,6 @@ use Rattle.grid_core.proofs.Pixels.{same_pixel}
 pub index_of-within : (r : Raster) (p : Pixel) → IsFilled r → IsInside r.width r.height p
     → index_of r.width p < length r.cells
 index_of-within r p filled inside = omega (arith, mul-add-lt p.y r.width p.x r.height inside.1 inside.0, filled)
-
--- a place on an earlier row is before the start of a row
-pub row_before : (width x y row : ℕ) → x < width → y < row → y * width + x < row * width
-row_before width x y row inside before =
-    let next : y + 1 ≤ row = omega arith in
-    let rows : (y + 1) * width ≤ row * width = mul-le-mul_right width next in
-    omega (arith, rows)
 
 -- pixels of one place are one pixel
 pub same_place : (width height : ℕ) (p q : Pixel) → IsInside width height p → IsInside width height q

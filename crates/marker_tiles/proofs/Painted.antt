@@ -5,10 +5,11 @@ use Rattle.std.specs.Prelude.{◌||◌, ◌&&◌, slice_index}
 use Rattle.std.proofs.Math.Nat.{mul-le-mul_right}
 use Rattle.std.proofs.lemmas.Bool.{cases_lt}
 use Rattle.std.proofs.lemmas.Bool.Decides.{nat_tests}
+use Rattle.std.proofs.lemmas.Nat.{mul-add-lt}
 use Rattle.grid_core.specs.declared.pixel.Pixel.{Pixel}
 use Rattle.grid_core.specs.Raster.{Raster, IsInside, index_of, value_at, IsOfSize}
 use Rattle.grid_core.specs.Rects.{AreCellsChanged}
-use Rattle.grid_core.proofs.Cells.{index_of-within, row_before}
+use Rattle.grid_core.proofs.Cells.{index_of-within}
 use Rattle.stroke_core.specs.Seed.{Seed, covers}
 use Rattle.marker_tiles.specs.declared.brush.Brush.{Brush}
 use Rattle.marker_tiles.specs.declared.brush.Brush.TheVariants.{Raise, Clear}
@@ -108,7 +109,7 @@ module _ (y first end from to : ℕ) (brush : Brush) (mask old new : Raster) (si
   pub cell_of_span : value_at new p ≡ brushed_if (is_between y first end p) brush (value_at mask p) (value_at old p)
   cell_of_span = elim (cases_lt p.y y) [
     | inl earlier ↦
-        let before : p.y * mask.width + p.x < y * mask.width = row_before mask.width p.x p.y y inside.0 earlier in
+        let before : p.y * mask.width + p.x < y * mask.width = mul-add-lt p.y mask.width p.x y earlier inside.0 in
         cell_beside (grind (arith, nat_tests)) (cells.before (index_of mask.width p) (omega arith))
     | inr not_earlier ↦ elim (cases_lt y p.y) [
       | inl later ↦

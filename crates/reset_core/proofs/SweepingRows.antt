@@ -1,7 +1,7 @@
 -- Rows of images compared and raised one after the other.
 use Rattle.std.proofs.Common.{◌≡◌, ℕ, ◌+◌, ◌-◌, ◌*◌, ◌<◌, ◌≤◌, max, List, length, get_or}
 use Rattle.std.proofs.Common.{sym, ap, subst, ◌∙◌, arith, inl, inr}
-use Rattle.std.proofs.Math.Nat.{mul-le-mul_right}
+use Rattle.std.proofs.lemmas.Nat.{mul-add-lt}
 use Rattle.std.proofs.lemmas.Bool.{cases_lt}
 use Rattle.grid_core.specs.declared.pixel.Pixel.{Pixel}
 use Rattle.grid_core.specs.declared.rect.Rect.{Rect}
@@ -70,12 +70,6 @@ module _ (start : ℕ) (values : List ℕ) (old new : Raster)
 
 -- ---- rows of a rectangle raised
 
--- a pixel of an earlier row stands before this row
-place_before : (w x y row : ℕ) → x < w → y < row → y * w + x < row * w
-place_before w x y row column earlier =
-    let rows : (y + 1) * w ≤ row * w = mul-le-mul_right w (omega arith) in
-    omega (arith, rows, column)
-
 module _ (rect : Rect) (piece old mid new : Raster) (y start : ℕ) (row : List ℕ)
     (fits : RectFits old.width old.height rect) (below : y < rect.h)
     (is_row : IsRowOf rect.w (value_at piece) y row) (start_is : start ≡ (rect.y + y) * mid.width + rect.x)
@@ -87,8 +81,9 @@ module _ (rect : Rect) (piece old mid new : Raster) (y start : ℕ) (row : List 
       let width = so_far.size.width in
       let height = so_far.size.height in
       let filled = so_far.size.filled in
-      let place = place_before mid.width q.x q.y mid.height (omega (arith, inside.0, width))
-      (omega (arith, inside.1, height)) in
+      let row = omega (arith, inside.1, height) in
+      let column = omega (arith, inside.0, width) in
+      let place = mul-add-lt q.y mid.width q.x mid.height row column in
       omega (arith, place, filled)
 
   -- the pixels that are not on this row of the rectangle keep their values
@@ -101,12 +96,12 @@ module _ (rect : Rect) (piece old mid new : Raster) (y start : ℕ) (row : List 
       beside_raised start row mid new raised q (place_within q inside) (λ k within same.
       elim (cases_lt q.y (rect.y + y)) [
         | inl above ↦
-            let place = place_before mid.width q.x q.y (rect.y + y) (omega (arith, inside.0, width)) above in
+            let place = mul-add-lt q.y mid.width q.x (rect.y + y) above (omega (arith, inside.0, width)) in
             omega (arith, place, same, start_is)
         | inr not_above ↦ elim (cases_lt (rect.y + y) q.y) [
           | inl under ↦
               let column : rect.x + k < mid.width = omega (arith, within, count, columns, width) in
-              let place = place_before mid.width (rect.x + k) (rect.y + y) q.y column under in
+              let place = mul-add-lt (rect.y + y) mid.width (rect.x + k) q.y under column in
               omega (arith, place, same, start_is)
           | inr not_under ↦
               let here : q.y ≡ rect.y + y = omega (arith, not_above, not_under) in

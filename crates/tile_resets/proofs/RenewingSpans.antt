@@ -10,7 +10,6 @@ use Rattle.std.proofs.lemmas.Nat.{mul-add-lt}
 use Rattle.grid_core.specs.declared.pixel.Pixel.{Pixel}
 use Rattle.grid_core.specs.Raster.{Raster, IsInside, IsFilled, index_of, value_at}
 use Rattle.grid_core.specs.Rects.{AreCellsChanged}
-use Rattle.grid_core.proofs.Cells.{row_before}
 use Rattle.stroke_core.specs.declared.span.Span.{Span}
 use Rattle.stroke_core.specs.Spans.{span_has}
 use Rattle.core_rules.specs.Image.{IsOfSize}
@@ -126,7 +125,7 @@ module _ (s : Span) (from to : ℕ) (make : ℕ → ℕ → ℕ) (marker old new
   cell_of_span = elim (cases_lt p.y s.y) [
     | inl earlier ↦
         let before : p.y * marker.width + p.x < s.y * marker.width =
-        row_before marker.width p.x p.y s.y across earlier in
+        mul-add-lt p.y marker.width p.x s.y earlier across in
         cell_beside (grind (arith, nat_tests)) (cells.before (index_of marker.width p) (omega arith))
     | inr not_earlier ↦ elim (cases_lt s.y p.y) [
       | inl later ↦
