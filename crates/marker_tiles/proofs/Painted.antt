@@ -109,7 +109,8 @@ module _ (y first end from to : ℕ) (brush : Brush) (mask old new : Raster) (si
   pub cell_of_span : value_at new p ≡ brushed_if (is_between y first end p) brush (value_at mask p) (value_at old p)
   cell_of_span = elim (cases_lt p.y y) [
     | inl earlier ↦
-        let before : p.y * mask.width + p.x < y * mask.width = mul-add-lt p.y mask.width p.x y earlier inside.0 in
+        let before : p.y * mask.width + p.x < y * mask.width =
+        omega (arith, mul-add-lt p.y mask.width p.x y earlier inside.0) in
         cell_beside (grind (arith, nat_tests)) (cells.before (index_of mask.width p) (omega arith))
     | inr not_earlier ↦ elim (cases_lt y p.y) [
       | inl later ↦

@@ -125,7 +125,7 @@ module _ (s : Span) (from to : ℕ) (make : ℕ → ℕ → ℕ) (marker old new
   cell_of_span = elim (cases_lt p.y s.y) [
     | inl earlier ↦
         let before : p.y * marker.width + p.x < s.y * marker.width =
-        mul-add-lt p.y marker.width p.x s.y earlier across in
+        omega (arith, mul-add-lt p.y marker.width p.x s.y earlier across) in
         cell_beside (grind (arith, nat_tests)) (cells.before (index_of marker.width p) (omega arith))
     | inr not_earlier ↦ elim (cases_lt s.y p.y) [
       | inl later ↦
