@@ -81,9 +81,9 @@ module _ (rect : Rect) (piece old mid new : Raster) (y start : ℕ) (row : List 
       let width = so_far.size.width in
       let height = so_far.size.height in
       let filled = so_far.size.filled in
-      let row = omega (arith, inside.1, height) in
-      let column = omega (arith, inside.0, width) in
-      let place = mul-add-lt q.y mid.width q.x mid.height row column in
+      let below_end : q.y < mid.height = omega (arith, inside.1, height) in
+      let across : q.x < mid.width = omega (arith, inside.0, width) in
+      let place = mul-add-lt q.y mid.width q.x mid.height below_end across in
       omega (arith, place, filled)
 
   -- the pixels that are not on this row of the rectangle keep their values
