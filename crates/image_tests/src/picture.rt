@@ -1,5 +1,6 @@
 //! The views of a small image, straight from their definitions: paths are followed one pixel after the other.
 
+use crate::grid::write_cells;
 use grid_core::{Conn, Grid};
 use pgm_codec::Image;
 use std::alloc::Global;
@@ -42,23 +43,25 @@ impl Picture {
         picture
     }
 
+    // The grid of the values.
+    fn grid(&self, alloc: Global) -> Option<Grid> {
+        let mut grid = Grid::new(alloc, self.w, self.h, 0).ok()?;
+        write_cells(&mut grid, 0, &self.values);
+        Some(grid)
+    }
+
     /// The image, with this maxval, if it can have it.
     pub fn image(&self, alloc: Global, maxval: u16) -> Option<Image> {
-        let mut grid = Grid::new(alloc, self.w, self.h, 0).ok()?;
-        for (cell, value) in grid.cells_mut().iter_mut().zip(&self.values) {
-            *cell = *value;
-        }
+        let grid = self.grid(alloc)?;
         Image::from_grid(alloc, &grid, maxval).ok()
     }
 
     /// Whether these are the first values of a view, as many as there are pixels.
     pub fn shows(&self, view: &[u32; 25], samples: &[u32]) -> bool {
-        for (value, sample) in view.iter().zip(samples) {
-            if value != sample {
-                return false;
-            }
+        match view.get(..self.count()) {
+            Some(values) => values == samples,
+            None => false,
         }
-        samples.len() == self.count()
     }
 
     fn count(&self) -> usize {

@@ -1,14 +1,14 @@
 //! Runs that read, answer and write.
 
-ghost use Rattle.std.specs.Prelude.{◌≡◌, ◌++◌, Contains, length};
+ghost use Rattle.std.specs.Prelude.{◌≡◌, ◌++◌, Contains, IfOk, length};
 ghost use Rattle.image_tests.specs.declared.responses.TwiceError.TheVariants as errors;
 
-use byte_devices::{MemorySink, MemorySource, Responder, ResponseError, TransferError, respond};
+use crate::devices::{counts, sink, source};
+use byte_devices::{Responder, ResponseError, TransferError, respond};
 use std::alloc::{AllocError, Global};
-use std::test::Fail;
 
 // Why no bytes are written twice.
-#[derive(Clone, Copy, Debug, PartialEq, Eq)]
+#[derive(Clone, Copy, PartialEq, Eq)]
 enum TwiceError {
     Memory,
     Device,
@@ -70,50 +70,84 @@ impl Responder for Twice {
         if input.contains(&0) {
             return Err(TwiceError::Zero);
         }
-        let mut text = input.to_vec(alloc)?;
-        text.extend_from_slice(input)?;
-        Ok((input.len(), text))
+        Ok((input.len(), doubled(alloc, input)?))
     }
 }
 
-// The text as a source.
-fn text(alloc: Global, bytes: &[u8]) -> Result<MemorySource, AllocError> {
-    Ok(MemorySource::new(bytes.to_vec(alloc)?))
+// The bytes twice.
+fn doubled(alloc: Global, bytes: &[u8]) -> Result<Vec<u8>, AllocError>
+    ensures { IfOk result (λ v. v.items ≡ bytes.now ++ bytes.now) }
+{
+    let mut text = bytes.to_vec(alloc)?;
+    text.extend_from_slice(bytes)?;
+    Ok(text)
+}
+
+// A source: its bytes, how many of them a pull gives at most, and the pull that fails. A sink: how many bytes a put
+// takes at most, and the put that fails. Then what a run answers, what it writes, the pulls, failures and ends of the
+// source, and the puts of the sink. A 0 chooses no piece, no pull and no put.
+type Run = (
+    (&'static [u8], usize, u64),
+    (usize, u64),
+    Result<usize, TwiceError>,
+    &'static [u8],
+    (u64, u64, u64),
+    u64,
+);
+
+const RUNS: &[Run] = &[
+    // An input is answered, or refused with nothing written.
+    (
+        (b"stroke", 4, 0),
+        (5, 0),
+        Ok(6),
+        b"strokestroke",
+        (3, 0, 1),
+        3,
+    ),
+    (
+        (b"a\0b", 0, 0),
+        (0, 0),
+        Err(TwiceError::Zero),
+        b"",
+        (2, 0, 1),
+        0,
+    ),
+    // A failing source is told, and a failing sink.
+    (
+        (b"ab", 0, 2),
+        (0, 0),
+        Err(TwiceError::Device),
+        b"",
+        (2, 1, 0),
+        0,
+    ),
+    (
+        (b"ab", 0, 0),
+        (3, 2),
+        Err(TwiceError::Device),
+        b"aba",
+        (2, 0, 1),
+        2,
+    ),
+];
+
+// Whether a run is so.
+fn is_run(alloc: Global, run: &Run) -> Result<bool, AllocError> {
+    let ((bytes, piece, failing), (room, refusing), answer, written, counted, puts) = run;
+    let mut source = source(alloc, bytes, *piece, *failing)?;
+    let mut sink = sink(alloc, *room, *refusing);
+    let is_answered = respond(alloc, &Twice, &mut source, &mut sink) == *answer;
+    let is_written = sink.written() == *written && sink.puts() == *puts;
+    Ok(is_answered && is_written && counts(&source, *counted))
+}
+
+// The first row of runs that are not so.
+fn wrong_run(alloc: Global) -> Option<usize> {
+    RUNS.iter().position(|run| is_run(alloc, run) != Ok(true))
 }
 
 #[test]
-fn an_input_is_answered(rt: HostRuntime) -> Result<(), Fail> {
-    let mut source = text(rt.alloc(), b"stroke")?.in_pieces(4);
-    let mut sink = MemorySink::new(rt.alloc()).in_pieces(5);
-    assert!(rt; respond(rt.alloc(), &Twice, &mut source, &mut sink) == Ok(6));
-    assert!(rt; sink.written() == b"strokestroke".as_slice());
-    assert!(rt; source.pulls() == 3 && source.ends() == 1 && sink.puts() == 3);
-    Ok(())
-}
-
-#[test]
-fn an_input_is_refused_with_nothing_written(rt: HostRuntime) -> Result<(), Fail> {
-    let mut source = text(rt.alloc(), b"a\0b")?;
-    let mut sink = MemorySink::new(rt.alloc());
-    assert!(rt; respond(rt.alloc(), &Twice, &mut source, &mut sink) == Err(TwiceError::Zero));
-    assert!(rt; source.ends() == 1 && sink.puts() == 0);
-    Ok(())
-}
-
-#[test]
-fn a_failing_source_is_told(rt: HostRuntime) -> Result<(), Fail> {
-    let mut source = text(rt.alloc(), b"ab")?.failing_at(2);
-    let mut sink = MemorySink::new(rt.alloc());
-    assert!(rt; respond(rt.alloc(), &Twice, &mut source, &mut sink) == Err(TwiceError::Device));
-    assert!(rt; source.failures() == 1 && sink.puts() == 0);
-    Ok(())
-}
-
-#[test]
-fn a_failing_sink_is_told(rt: HostRuntime) -> Result<(), Fail> {
-    let mut source = text(rt.alloc(), b"ab")?;
-    let mut sink = MemorySink::new(rt.alloc()).in_pieces(3).failing_at(2);
-    assert!(rt; respond(rt.alloc(), &Twice, &mut source, &mut sink) == Err(TwiceError::Device));
-    assert!(rt; sink.written() == b"aba".as_slice());
-    Ok(())
+fn runs_answer_inputs_and_tell_faults(rt: HostRuntime) {
+    assert_eq!(rt; wrong_run(rt.alloc()), None);
 }

@@ -1,77 +1,70 @@
 //! Images cut into tiles.
 
-use grid_core::{GridError, MAX_TILE_SIDE, MIN_TILE_SIDE, Pixel, Rect, Tiling, is_tile_side};
-use std::test::Fail;
+use grid_core::{MAX_TILE_SIDE, MIN_TILE_SIDE, Pixel, Rect, Tiling, is_tile_side};
 
 // The tiles of an image, if there can be such tiles.
-fn tiled(w: u32, h: u32, side: u32) -> Result<Tiling, Fail> {
-    if !is_tile_side(side) {
-        return Err(Fail::new("no such tiles"));
+fn tiled(w: u32, h: u32, side: u32) -> Option<Tiling> {
+    if is_tile_side(side) {
+        Tiling::new(w, h, side).ok()
+    } else {
+        None
     }
-    Ok(Tiling::new(w, h, side)?)
+}
+
+// Sides, and whether tiles may have them.
+const SIDES: &[(u32, bool)] = &[
+    (0, false),
+    (7, false),
+    (257, false),
+    (u32::MAX, false),
+    (8, true),
+    (9, true),
+    (64, true),
+    (255, true),
+    (256, true),
+];
+
+// The first row of sides that is wrong.
+fn wrong_side() -> Option<usize> {
+    for (row, (side, is_side)) in SIDES.iter().enumerate() {
+        if is_tile_side(*side) != *is_side {
+            return Some(row);
+        }
+    }
+    None
+}
+
+#[test]
+fn tiles_have_sides_from_8_to_256(rt: HostRuntime) {
+    assert_eq!(rt; wrong_side(), None);
+    assert!(rt; MIN_TILE_SIDE == 8 && MAX_TILE_SIDE == 256);
+}
+
+// What is told of the tiles of an image.
+enum Told {
+    // So many tiles.
+    Count(usize),
+    // The column and row of the first pixel, the width and the height of the tile of this number.
+    Rect(usize, (u32, u32, u32, u32)),
+    // The pixel in this column and row is one of the tile of this number.
+    TileOf((u32, u32), usize),
+    // These tiles touch the tile of this number.
+    Touching(usize, &'static [usize]),
+}
+
+// Whether this is so of the tiles.
+fn is_told(tiling: &Tiling, told: &Told) -> bool {
+    match told {
+        Told::Count(count) => tiling.count() == *count,
+        Told::Rect(tile, (x, y, w, h)) => has_rect(tiling, *tile, *x, *y, *w, *h),
+        Told::TileOf((x, y), tile) => lies_in(tiling, *x, *y, *tile),
+        Told::Touching(tile, tiles) => are_touching(tiling, *tile, tiles),
+    }
 }
 
 // Whether the tile of this number has this rectangle.
 fn has_rect(tiling: &Tiling, tile: usize, x: u32, y: u32, w: u32, h: u32) -> bool {
     tile < tiling.count() && tiling.rect(tile) == Rect { x, y, w, h }
-}
-
-#[test]
-fn tiles_have_sides_from_8_to_256(rt: HostRuntime) {
-    for side in [0, 7, 257, 4_294_967_295] {
-        assert!(rt; !is_tile_side(side), "{side}");
-    }
-    for side in [8, 9, 64, 255, 256] {
-        assert!(rt; is_tile_side(side), "{side}");
-    }
-    assert!(rt; MIN_TILE_SIDE == 8 && MAX_TILE_SIDE == 256);
-}
-
-// Whether no tiling of such an image is made, for this reason.
-fn is_refused(w: u32, h: u32, why: GridError) -> bool {
-    match Tiling::new(w, h, 8) {
-        Ok(_) => false,
-        Err(error) => error == why,
-    }
-}
-
-#[test]
-fn tilings_refuse_the_sides_that_grids_refuse(rt: HostRuntime) {
-    for (w, h) in [(0, 20_000), (20_000, 0), (0, 0), (0, 1), (1, 0)] {
-        assert!(rt; is_refused(w, h, GridError::ZeroSize), "{w} by {h}");
-    }
-    for (w, h) in [(16_385, 1), (1, 16_385), (16_384, 4097)] {
-        assert!(rt; is_refused(w, h, GridError::TooLarge), "{w} by {h}");
-    }
-}
-
-#[test]
-fn tiles_are_cut_at_the_right_and_lower_edges(rt: HostRuntime) -> Result<(), Fail> {
-    let tiling = tiled(20, 9, 8)?;
-    assert!(rt; tiling.width() == 20 && tiling.height() == 9 && tiling.side() == 8);
-    assert!(rt; tiling.count() == 6);
-    for (tile, x, y, w, h) in [
-        (0, 0, 0, 8, 8),
-        (1, 8, 0, 8, 8),
-        (2, 16, 0, 4, 8),
-        (3, 0, 8, 8, 1),
-        (4, 8, 8, 8, 1),
-        (5, 16, 8, 4, 1),
-    ] {
-        assert!(rt; has_rect(&tiling, tile, x, y, w, h), "tile {tile}");
-    }
-    Ok(())
-}
-
-#[test]
-fn a_side_may_be_a_multiple_of_the_tiles(rt: HostRuntime) -> Result<(), Fail> {
-    let tiling = tiled(16, 8, 8)?;
-    assert!(rt; tiling.count() == 2);
-    assert!(rt; has_rect(&tiling, 1, 8, 0, 8, 8));
-    let one = tiled(8, 8, 256)?;
-    assert!(rt; one.count() == 1);
-    assert!(rt; has_rect(&one, 0, 0, 0, 8, 8));
-    Ok(())
 }
 
 // Whether a pixel lies in the tile of this number.
@@ -80,42 +73,77 @@ fn lies_in(tiling: &Tiling, x: u32, y: u32, tile: usize) -> bool {
     is_inside && tiling.tile_of(Pixel { x, y }) == tile
 }
 
-#[test]
-fn a_border_parts_two_tiles(rt: HostRuntime) -> Result<(), Fail> {
-    let tiling = tiled(20, 9, 8)?;
-    for (x, y, tile) in [
-        (7, 7, 0),
-        (8, 7, 1),
-        (7, 8, 3),
-        (8, 8, 4),
-        (15, 0, 1),
-        (16, 0, 2),
-        (19, 8, 5),
-    ] {
-        assert!(rt; lies_in(&tiling, x, y, tile), "{x}, {y}");
-    }
-    Ok(())
-}
-
 // Whether just these tiles touch a tile.
 fn are_touching(tiling: &Tiling, tile: usize, tiles: &[usize]) -> bool {
     tile < tiling.count() && tiling.touching(tile).as_slice() == tiles
 }
 
-#[test]
-fn tiles_touch_by_edges_and_corners(rt: HostRuntime) -> Result<(), Fail> {
-    let tiling = tiled(24, 17, 8)?;
-    assert!(rt; tiling.count() == 9);
-    assert!(rt; are_touching(&tiling, 0, &[1, 3, 4]));
-    assert!(rt; are_touching(&tiling, 5, &[1, 2, 4, 7, 8]));
-    assert!(rt; are_touching(&tiling, 4, &[0, 1, 2, 3, 5, 6, 7, 8]));
-    assert!(rt; are_touching(&tiling, 8, &[4, 5, 7]));
-    Ok(())
+// The width and height of an image, the side of its tiles, and what is told of them.
+const TILINGS: &[(u32, u32, u32, &[Told])] = &[
+    // Tiles are cut at the right and lower edges, and a border parts two tiles.
+    (
+        20,
+        9,
+        8,
+        &[
+            Told::Count(6),
+            Told::Rect(0, (0, 0, 8, 8)),
+            Told::Rect(1, (8, 0, 8, 8)),
+            Told::Rect(2, (16, 0, 4, 8)),
+            Told::Rect(3, (0, 8, 8, 1)),
+            Told::Rect(4, (8, 8, 8, 1)),
+            Told::Rect(5, (16, 8, 4, 1)),
+            Told::TileOf((7, 7), 0),
+            Told::TileOf((8, 7), 1),
+            Told::TileOf((7, 8), 3),
+            Told::TileOf((8, 8), 4),
+            Told::TileOf((15, 0), 1),
+            Told::TileOf((16, 0), 2),
+            Told::TileOf((19, 8), 5),
+        ],
+    ),
+    // A side may be a multiple of the tiles'.
+    (16, 8, 8, &[Told::Count(2), Told::Rect(1, (8, 0, 8, 8))]),
+    (8, 8, 256, &[Told::Count(1), Told::Rect(0, (0, 0, 8, 8))]),
+    // Tiles touch by edges and corners, and a tile alone touches none.
+    (
+        24,
+        17,
+        8,
+        &[
+            Told::Count(9),
+            Told::Touching(0, &[1, 3, 4]),
+            Told::Touching(5, &[1, 2, 4, 7, 8]),
+            Told::Touching(4, &[0, 1, 2, 3, 5, 6, 7, 8]),
+            Told::Touching(8, &[4, 5, 7]),
+        ],
+    ),
+    (8, 8, 8, &[Told::Touching(0, &[])]),
+];
+
+// The first of these that is not so of the tiles.
+fn wrong_told(tiling: &Tiling, all: &[Told]) -> Option<usize> {
+    all.iter().position(|told| !is_told(tiling, told))
+}
+
+// The first row of tilings of which not all is so, and what is not so.
+fn wrong_tiling() -> Option<(usize, usize)> {
+    for (row, (w, h, side, all)) in TILINGS.iter().enumerate() {
+        let Some(tiling) = tiled(*w, *h, *side) else {
+            return Some((row, 0));
+        };
+        let is_made = tiling.width() == *w && tiling.height() == *h && tiling.side() == *side;
+        if !is_made {
+            return Some((row, 0));
+        }
+        if let Some(wrong) = wrong_told(&tiling, all) {
+            return Some((row, wrong));
+        }
+    }
+    None
 }
 
 #[test]
-fn a_tile_alone_touches_none(rt: HostRuntime) -> Result<(), Fail> {
-    let alone = tiled(8, 8, 8)?;
-    assert!(rt; are_touching(&alone, 0, &[]));
-    Ok(())
+fn tiles_cover_an_image_and_touch(rt: HostRuntime) {
+    assert_eq!(rt; wrong_tiling(), None);
 }

@@ -1,11 +1,11 @@
 //! The three views on worked examples.
 
+use crate::image_files::shows;
 use crate::picture::Picture;
 use derived_views::{fill, h_maxima, regional_maxima};
 use grid_core::{Conn, Memory};
 use pgm_codec::{Image, PgmError, read};
 use std::alloc::Global;
-use std::test::Fail;
 
 // A small image, three by three, by its number: its values are the digits to the base 3.
 fn numbered(number: u32, conn: Conn) -> Picture {
@@ -49,90 +49,124 @@ fn agree(alloc: Global, picture: &Picture, maxval: u16, h: u16) -> bool {
     is_filled && is_cut_down && is_view(regional_maxima(alloc, &image, conn), picture, &maxima)
 }
 
+// The number of the first small image whose views are not those by their definitions.
+fn wrong_small_image(alloc: Global, conn: Conn) -> Option<u32> {
+    for number in 0..19_683 {
+        if !agree(alloc, &numbered(number, conn), 2, 1) {
+            return Some(number);
+        }
+    }
+    None
+}
+
 #[test]
 fn every_small_image_agrees_under_four(rt: HostRuntime) {
-    for number in 0..19_683 {
-        assert!(rt;
-            agree(rt.alloc(), &numbered(number, Conn::Four), 2, 1),
-            "{number}"
-        );
-    }
+    assert_eq!(rt; wrong_small_image(rt.alloc(), Conn::Four), None);
 }
 
 #[test]
 fn every_small_image_agrees_under_eight(rt: HostRuntime) {
-    for number in 0..19_683 {
-        assert!(rt;
-            agree(rt.alloc(), &numbered(number, Conn::Eight), 2, 1),
-            "{number}"
-        );
-    }
+    assert_eq!(rt; wrong_small_image(rt.alloc(), Conn::Eight), None);
+}
+
+// Sides of images with random values, and the greatest value with the height by which domes are cut down.
+const RANDOM_SIDES: &[(u32, u32)] = &[(1, 1), (7, 1), (1, 5), (2, 2), (5, 5), (6, 4)];
+
+const RANDOM_LEVELS: &[(u16, u16)] = &[(65_535, 20_000), (300, 40), (3, 1)];
+
+// Whether random images of these sides and values agree under both ways to join pixels.
+fn do_random_images_agree(
+    alloc: Global,
+    w: u32,
+    h: u32,
+    level: (u16, u16),
+    seed: &mut u32,
+) -> bool {
+    let (most, lower) = level;
+    let four = random(w, h, most, Conn::Four, seed);
+    let eight = random(w, h, most, Conn::Eight, seed);
+    agree(alloc, &four, 65_535, lower) && agree(alloc, &eight, 65_535, lower)
 }
 
 #[test]
 fn random_images_agree_with_the_definitions(rt: HostRuntime) {
     let mut seed = 1;
-    for (w, h) in [(1, 1), (7, 1), (1, 5), (2, 2), (5, 5), (6, 4)] {
-        for (most, lower) in [(65_535, 20_000), (300, 40), (3, 1)] {
-            for conn in [Conn::Four, Conn::Eight] {
-                let picture = random(w, h, most, conn, &mut seed);
-                assert!(rt;
-                    agree(rt.alloc(), &picture, 65_535, lower),
-                    "{w} by {h}, {most}, {conn:?}"
-                );
-            }
+    for (w, h) in RANDOM_SIDES {
+        for level in RANDOM_LEVELS {
+            assert!(rt;
+                do_random_images_agree(rt.alloc(), *w, *h, *level, &mut seed),
+                "{w} by {h}, {level:?}"
+            );
         }
     }
 }
 
 // Whether a view was made that has this size, this maxval and these samples.
-fn shows(made: Result<Image, Memory>, w: u32, h: u32, maxval: u16, samples: &[u32]) -> bool {
+fn is_shown(made: Result<Image, Memory>, w: u32, h: u32, maxval: u16, samples: &[u32]) -> bool {
     match made {
-        Ok(image) => {
-            let is_size = image.width() == w && image.height() == h;
-            is_size && image.maxval() == maxval && image.samples() == samples
-        }
+        Ok(image) => shows(&image, w, h, maxval, samples),
         Err(_) => false,
     }
 }
 
+// Texts of images, their width and height, and their regional maxima, of maxval 1.
+const MAXIMA: &[(&[u8], u32, u32, &[u32])] = &[
+    (b"P2 2 2 9 0 0 0 0", 2, 2, &[1, 1, 1, 1]),
+    (b"P2 3 1 9 0 1 0", 3, 1, &[0, 1, 0]),
+    (b"P2 2 1 65535 65535 65534", 2, 1, &[1, 0]),
+];
+
 // Whether these are the regional maxima of the image of a text.
-fn has_maxima(
-    alloc: Global,
-    text: &[u8],
-    conn: Conn,
-    w: u32,
-    h: u32,
-    samples: &[u32],
-) -> Result<bool, PgmError> {
-    let image = read(alloc, text)?;
-    Ok(shows(regional_maxima(alloc, &image, conn), w, h, 1, samples))
-}
-
-#[test]
-fn regional_maxima_have_maxval_1(rt: HostRuntime) -> Result<(), Fail> {
-    for conn in [Conn::Four, Conn::Eight] {
-        assert!(rt; has_maxima(rt.alloc(), b"P2 2 2 9 0 0 0 0", conn, 2, 2, &[1, 1, 1, 1])?);
-        assert!(rt; has_maxima(rt.alloc(), b"P2 3 1 9 0 1 0", conn, 3, 1, &[0, 1, 0])?);
-        assert!(rt; has_maxima(rt.alloc(), b"P2 2 1 65535 65535 65534", conn, 2, 1, &[1, 0])?);
+fn has_maxima(alloc: Global, text: &[u8], conn: Conn, w: u32, h: u32, samples: &[u32]) -> bool {
+    match read(alloc, text) {
+        Ok(image) => is_shown(regional_maxima(alloc, &image, conn), w, h, 1, samples),
+        Err(_) => false,
     }
-    Ok(())
 }
 
-#[test]
-fn domes_are_cut_down(rt: HostRuntime) -> Result<(), Fail> {
-    let image = read(rt.alloc(), b"P2 5 1 9 1 4 3 5 1")?;
-    for conn in [Conn::Four, Conn::Eight] {
-        for (h, samples) in [
-            (2, [1, 3, 3, 3, 1]),
-            (0, [1, 4, 3, 5, 1]),
-            (65_535, [0, 0, 0, 0, 0]),
-        ] {
-            let maxima = h_maxima(rt.alloc(), &image, h, conn);
-            assert!(rt; shows(maxima, 5, 1, 9, &samples), "{h}, {conn:?}");
+// The first row of images that have other regional maxima.
+fn wrong_maxima(alloc: Global, conn: Conn) -> Option<usize> {
+    for (row, (text, w, h, samples)) in MAXIMA.iter().enumerate() {
+        if !has_maxima(alloc, text, conn, *w, *h, samples) {
+            return Some(row);
         }
     }
-    Ok(())
+    None
+}
+
+#[test]
+fn regional_maxima_have_maxval_1(rt: HostRuntime) {
+    assert_eq!(rt; wrong_maxima(rt.alloc(), Conn::Four), None);
+    assert_eq!(rt; wrong_maxima(rt.alloc(), Conn::Eight), None);
+}
+
+// Heights by which the domes of the values 1 4 3 5 1 are cut down, and what is left.
+const CUT_DOWN: &[(u16, &[u32])] = &[
+    (2, &[1, 3, 3, 3, 1]),
+    (0, &[1, 4, 3, 5, 1]),
+    (65_535, &[0, 0, 0, 0, 0]),
+];
+
+// The first row of heights by which the domes of an image are cut down to something else.
+fn wrong_cut_down(alloc: Global, image: &Image, conn: Conn) -> Option<usize> {
+    for (row, (h, samples)) in CUT_DOWN.iter().enumerate() {
+        if !is_shown(h_maxima(alloc, image, *h, conn), 5, 1, 9, samples) {
+            return Some(row);
+        }
+    }
+    None
+}
+
+// Whether the domes of the image are cut down as the rows say.
+fn are_domes_cut_down(alloc: Global, conn: Conn) -> Result<Option<usize>, PgmError> {
+    let image = read(alloc, b"P2 5 1 9 1 4 3 5 1")?;
+    Ok(wrong_cut_down(alloc, &image, conn))
+}
+
+#[test]
+fn domes_are_cut_down(rt: HostRuntime) {
+    assert_eq!(rt; are_domes_cut_down(rt.alloc(), Conn::Four), Ok(None));
+    assert_eq!(rt; are_domes_cut_down(rt.alloc(), Conn::Eight), Ok(None));
 }
 
 // A hole of 1 within a ring of 6, whose corners are another value.
@@ -151,20 +185,28 @@ fn is_filled_to(alloc: Global, corner: u32, conn: Conn, centre: u32) -> bool {
         return false;
     };
     picture.values[12] = centre;
-    shows(fill(alloc, &image, conn), 5, 5, 9, &picture.values)
+    is_shown(fill(alloc, &image, conn), 5, 5, 9, &picture.values)
+}
+
+// The value at the ring's corners, how pixels are joined, and the value to which the hole is filled up.
+const FILLED: &[(u32, Conn, u32)] = &[
+    (6, Conn::Four, 6),
+    (6, Conn::Eight, 6),
+    (0, Conn::Four, 6),
+    (0, Conn::Eight, 1),
+];
+
+// The first row of rings whose hole is filled otherwise.
+fn wrong_filled(alloc: Global) -> Option<usize> {
+    for (row, (corner, conn, centre)) in FILLED.iter().enumerate() {
+        if !is_filled_to(alloc, *corner, *conn, *centre) {
+            return Some(row);
+        }
+    }
+    None
 }
 
 #[test]
 fn a_hole_is_filled_to_its_lowest_way_out(rt: HostRuntime) {
-    for (corner, conn, centre) in [
-        (6, Conn::Four, 6),
-        (6, Conn::Eight, 6),
-        (0, Conn::Four, 6),
-        (0, Conn::Eight, 1),
-    ] {
-        assert!(rt;
-            is_filled_to(rt.alloc(), corner, conn, centre),
-            "{corner}, {conn:?}"
-        );
-    }
+    assert_eq!(rt; wrong_filled(rt.alloc()), None);
 }
