@@ -1,5 +1,5 @@
 -- Lemmas for the crates above: clauses on a `Result` that hold either way, and runs whose errors are told apart less.
-use Rattle.std.proofs.Common.{◌≡◌, ◌⊎◌, ℕ, List, Option, Result, Ok, Err, OnErr, inl, inr}
+use Rattle.std.proofs.Common.{ℕ, List, Option, Result, Ok, Err, OnErr, inl, inr}
 use Rattle.byte_devices.specs.Device.{SourceSeen, SinkSeen}
 use Rattle.byte_devices.specs.Response.{Responds, TellsDevices}
 

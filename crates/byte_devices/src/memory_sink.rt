@@ -1,7 +1,6 @@
 //! A sink in memory.
-ghost use Rattle.std.specs.Prelude.{◌≡◌, ◌<◌, ◌⊎◌, min, [], length, Some, None, IfOk, OnOk, IsErr};
-ghost use Rattle.byte_devices.specs.Device.{Puts, count_after, HasRisen};
-ghost use Rattle.byte_devices.specs.MemoryDevice.{output_seen};
+ghost use Rattle.std.specs.Prelude.{◌≡◌, ◌<◌, Some};
+ghost use Rattle.byte_devices.specs.MemoryDevice.{output_seen, fresh_output, PutsMemory};
 
 use crate::count::count_one;
 use crate::fault::Fault;
@@ -42,14 +41,7 @@ impl Model for MemorySink {
 impl MemorySink {
     /// An empty sink. A put takes all its bytes, and none is chosen to fail.
     pub fn new(alloc: Global) -> MemorySink
-        ensures { result ≡ record {
-          written = [];
-          piece = usize.MAX;
-          fails_at = None;
-          puts = 0;
-          failures = 0;
-          refused = 0;
-        } }
+        ensures { result ≡ fresh_output usize.MAX }
     {
         MemorySink {
             bytes: Vec::new(alloc),
@@ -115,18 +107,7 @@ impl Sink for MemorySink {
     ghost seen = { output_seen };
 
     fn put(&mut self, bytes: &[u8]) -> Result<usize, Fault>
-        ensures taken { Puts (output_seen self.old) (output_seen self.new) result bytes.now }
-
-        // As many as make a piece; the chosen put fails, and otherwise only one that finds no memory.
-        ensures count { IfOk result (λ n. n ≡ min self.old.piece (length bytes.now)) }
-        ensures chosen { self.old.fails_at ≡ Some self.new.puts → IsErr result }
-        ensures others { IsErr result
-            → (self.old.fails_at ≡ Some self.new.puts) ⊎ HasRisen self.old.refused self.new.refused }
-        ensures steady { OnOk result (self.new.refused ≡ self.old.refused) }
-        ensures not_refused { self.old.fails_at ≡ Some self.new.puts → self.new.refused ≡ self.old.refused }
-        ensures puts { self.new.puts ≡ count_after self.old.puts 1 }
-        ensures same_piece { self.new.piece ≡ self.old.piece }
-        ensures same_choice { self.new.fails_at ≡ self.old.fails_at }
+        ensures { PutsMemory self.old self.new result bytes.now }
     {
         count_one(&mut self.puts);
         let n = self.piece.min(bytes.len());

@@ -1,7 +1,6 @@
 //! Bytes in memory as a source.
-ghost use Rattle.std.specs.Prelude.{◌≡◌, ◌<◌, ◌↔◌, min, length, Some, None, IfOk, IsErr};
-ghost use Rattle.byte_devices.specs.Device.{Pulls};
-ghost use Rattle.byte_devices.specs.MemoryDevice.{input_seen};
+ghost use Rattle.std.specs.Prelude.{◌≡◌, ◌<◌, length, Some};
+ghost use Rattle.byte_devices.specs.MemoryDevice.{input_seen, fresh_input, PullsMemory};
 
 use crate::count::count_one;
 use crate::fault::Fault;
@@ -41,14 +40,7 @@ impl Model for MemorySource {
 impl MemorySource {
     /// These bytes as a source. A pull gives as many as fit, and none fails.
     pub fn new(bytes: Vec<u8>) -> MemorySource
-        ensures { result ≡ record {
-          left = bytes.items;
-          piece = usize.MAX;
-          fails_at = None;
-          pulls = 0;
-          failures = 0;
-          ends = 0;
-        } }
+        ensures { result ≡ fresh_input bytes.items usize.MAX }
     {
         MemorySource {
             bytes,
@@ -109,13 +101,7 @@ impl Source for MemorySource {
 
     fn pull(&mut self, buf: &mut [u8]) -> Result<usize, Fault>
         requires { 0 < length buf.old }
-        ensures pulls { Pulls (input_seen self.old) (input_seen self.new) result buf.new }
-
-        // As many as are left, fit and make a piece; and only the chosen pull fails.
-        ensures count { IfOk result (λ n. n ≡ min self.old.piece (min (length self.old.left) (length buf.old))) }
-        ensures chosen { IsErr result ↔ (self.old.fails_at ≡ Some self.new.pulls) }
-        ensures same_piece { self.new.piece ≡ self.old.piece }
-        ensures same_choice { self.new.fails_at ≡ self.old.fails_at }
+        ensures { PullsMemory self.old self.new result buf.old buf.new }
     {
         count_one(&mut self.pulls);
         if self.fails_at == Some(self.pulls) {
