@@ -1,11 +1,14 @@
 //! Growing from a rectangle's border, where pixels of it have risen since the rectangle was grown.
 
-ghost use Rattle.std.specs.Prelude.{◌≡◌, IsTrue};
+ghost use Rattle.std.specs.Prelude.{◌≡◌, ◌<◌, IsTrue};
 ghost use Rattle.grid_core.specs.Raster.{IsBelow, IsInside, IsOnBorder};
 ghost use Rattle.grid_core.specs.Rects.{RectFits};
 ghost use Rattle.raster_sweeps.specs.Borders.{OpenPairsBeginOnBorder};
 
-use super::grids::{fits, is_flood_within, next, random_below, random_grid, random_rect, whole};
+use super::grids::{
+    Picture, fits, grid_of, is_flood_within, is_picture, next, random_below, random_grid,
+    random_rect, whole,
+};
 use grid_core::{Conn, Grid, Pixel, Rect};
 use raster_sweeps::laws::{border_raise_keeps_border, reconstruction_begins_on_border};
 use raster_sweeps::{Room, grow_from_border, grow_within};
@@ -93,6 +96,46 @@ fn grow_and_raise(
 
 // Whether a grid that grows in the rectangle, and of which then pixels of the border rise, grows from the border into
 // the flood of what is cut out there, and elsewhere stays.
+fn regrows_in(
+    alloc: Global,
+    room: &mut Room,
+    mask: &Grid,
+    image: &mut Grid,
+    rect: Rect,
+    conn: Conn,
+    pixels: &[Pixel],
+    value: u32,
+) -> bool {
+    if !fits(mask, rect) || !image.is_below(mask) {
+        return false;
+    }
+    grow_and_raise(room, mask, image, rect, conn, pixels, value);
+    image.is_below(mask) && regrow(alloc, room, mask, image, rect, conn)
+}
+
+// Whether the image grows from the rectangle's border into the flood of what is cut out there, and elsewhere stays.
+fn regrow(
+    alloc: Global,
+    room: &mut Room,
+    mask: &Grid,
+    image: &mut Grid,
+    rect: Rect,
+    conn: Conn,
+) -> bool
+    requires below { IsBelow image.old mask.now }
+    requires fits { RectFits mask.now.width mask.now.height rect }
+    requires border { OpenPairsBeginOnBorder conn rect mask.now image.old }
+{
+    match image.copy(alloc) {
+        Ok(before) => {
+            grow_from_border(room, mask, image, rect, conn);
+            is_flood_within(alloc, mask, &before, image, rect, conn)
+        }
+        Err(_) => false,
+    }
+}
+
+// Whether the marker does, in the smallest room.
 fn regrows(
     alloc: Global,
     mask: &Grid,
@@ -101,18 +144,14 @@ fn regrows(
     conn: Conn,
     pixels: &[Pixel],
     value: u32,
-) -> Result<bool, Fail> {
-    if !fits(mask, rect) || !image.is_below(mask) {
-        return Ok(false);
+) -> bool {
+    match Room::new(alloc, 0) {
+        Ok(made) => {
+            let mut room = made;
+            regrows_in(alloc, &mut room, mask, image, rect, conn, pixels, value)
+        }
+        Err(_) => false,
     }
-    let mut room = Room::new(alloc, 0)?;
-    grow_and_raise(&mut room, mask, image, rect, conn, pixels, value);
-    if !image.is_below(mask) {
-        return Ok(false);
-    }
-    let before = image.copy(alloc)?;
-    grow_from_border(&mut room, mask, image, rect, conn);
-    is_flood_within(alloc, mask, &before, image, rect, conn)
 }
 
 // A pixel of the rectangle's border, counted from its upper left corner.
@@ -141,21 +180,19 @@ fn grows_from_six(
     rect: Rect,
     conn: Conn,
     seed: &mut u32,
-) -> Result<bool, Fail> {
+) -> bool {
     let mut pixels = [Pixel { x: 0, y: 0 }; 6];
-    for pixel in &mut pixels {
-        *pixel = border_pixel(rect, seed);
+    for i in 0..6 {
+        pixels[i] = border_pixel(rect, seed);
     }
-    let mut image = marker.copy(alloc)?;
-    regrows(
-        alloc,
-        mask,
-        &mut image,
-        rect,
-        conn,
-        &pixels,
-        next(seed) % 10,
-    )
+    match marker.copy(alloc) {
+        Ok(copy) => {
+            let mut image = copy;
+            let value = next(seed) % 10;
+            regrows(alloc, mask, &mut image, rect, conn, &pixels, value)
+        }
+        Err(_) => false,
+    }
 }
 
 // Whether a random grid does, with four neighbours and with eight.
@@ -167,142 +204,122 @@ fn random_grows(
     least: u32,
     rect: Rect,
     seed: &mut u32,
-) -> Result<bool, Fail> {
-    let mask = random_grid(alloc, w, h, most, seed)?;
-    let marker = random_below(alloc, &mask, least, seed)?;
-    Ok(
-        grows_from_six(alloc, &mask, &marker, rect, Conn::Four, seed)?
-            && grows_from_six(alloc, &mask, &marker, rect, Conn::Eight, seed)?,
-    )
+) -> bool {
+    let Ok(mask) = random_grid(alloc, w, h, most, seed) else {
+        return false;
+    };
+    match random_below(alloc, &mask, least, seed) {
+        Ok(marker) => {
+            grows_from_six(alloc, &mask, &marker, rect, Conn::Four, seed)
+                && grows_from_six(alloc, &mask, &marker, rect, Conn::Eight, seed)
+        }
+        Err(_) => false,
+    }
 }
 
 #[test]
-fn rectangles_grow_from_their_border(rt: HostRuntime) -> Result<(), Fail> {
+fn rectangles_grow_from_their_border(rt: HostRuntime) {
     let mut seed = 64;
     for round in 0..400 {
         let width = 1 + next(&mut seed) % 12;
         let height = 1 + next(&mut seed) % 12;
         let most = 1 + next(&mut seed) % 9;
         let rect = random_rect(width, height, &mut seed);
-        let holds = random_grows(rt.alloc(), width, height, most, most / 2, rect, &mut seed)?;
+        let holds = random_grows(rt.alloc(), width, height, most, most / 2, rect, &mut seed);
         assert!(rt; holds, "round {round}, {rect:?} of {width} by {height}");
     }
-    Ok(())
 }
 
 #[test]
-fn single_rows_and_columns_grow_from_their_border(rt: HostRuntime) -> Result<(), Fail> {
+fn single_rows_and_columns_grow_from_their_border(rt: HostRuntime) {
     let mut seed = 1;
     for (w, h) in [(1, 1), (1, 20), (20, 1), (2, 20), (20, 2), (20, 20)] {
         let rect = Rect { x: 1, y: 2, w, h };
-        let holds = random_grows(rt.alloc(), 22, 23, 9, 2, rect, &mut seed)?;
-        assert!(rt; holds, "{w} by {h}");
+        assert!(rt;
+            random_grows(rt.alloc(), 22, 23, 9, 2, rect, &mut seed),
+            "{w} by {h}"
+        );
     }
-    Ok(())
-}
-
-// Zeros but for 5 at two pixels.
-fn pair_of(alloc: Global, w: u32, h: u32, from: Pixel, to: Pixel) -> Result<Grid, Fail> {
-    let mut made = Grid::new(alloc, w, h, 0)?;
-    for p in [from, to] {
-        if p.x < made.width() && p.y < made.height() {
-            made.set(p, 5);
-        }
-    }
-    Ok(made)
 }
 
 // Whether zeros grow from these pixels of the border, which rise to 5, into this.
-fn grows_from(
-    alloc: Global,
-    mask: &Grid,
-    pixels: &[Pixel],
-    conn: Conn,
-    want: &Grid,
-) -> Result<bool, Fail> {
+fn grows_from(alloc: Global, mask: &Grid, pixels: &[Pixel], conn: Conn, want: Picture) -> bool {
     let rect = whole(mask.width(), mask.height());
-    let mut image = Grid::new(alloc, rect.w, rect.h, 0)?;
-    Ok(regrows(alloc, mask, &mut image, rect, conn, pixels, 5)? && image.cells() == want.cells())
+    match Grid::new(alloc, rect.w, rect.h, 0) {
+        Ok(made) => {
+            let mut image = made;
+            regrows(alloc, mask, &mut image, rect, conn, pixels, 5)
+                && is_picture(image.cells(), want)
+        }
+        Err(_) => false,
+    }
 }
 
-// Whether a pixel that rose to 5 raises another, if the pair is to be open, in a grid that is wall but for the two. If
+// Whether a cell that rose to 5 raises another, if the pair is to be open, in a grid that is wall but for the two. If
 // not, the other stays 0.
-fn opens(
-    alloc: Global,
-    w: u32,
-    h: u32,
-    from: Pixel,
-    to: Pixel,
-    conn: Conn,
-    open: bool,
-) -> Result<bool, Fail> {
-    let mask = pair_of(alloc, w, h, from, to)?;
-    let want = pair_of(alloc, w, h, from, if open { to } else { from })?;
-    grows_from(alloc, &mask, &[from], conn, &want)
+fn opens(alloc: Global, w: u32, h: u32, from: u32, to: u32, conn: Conn, open: bool) -> bool {
+    let risen = Pixel {
+        x: from % w.max(1),
+        y: from / w.max(1),
+    };
+    let (from, to) = (from as usize, to as usize);
+    let want = Picture::Spots(from, if open { to } else { from }, 5);
+    match grid_of(alloc, w, h, Picture::Spots(from, to, 5)) {
+        Ok(mask) => grows_from(alloc, &mask, &[risen], conn, want),
+        Err(_) => false,
+    }
 }
 
-// Whether the pair is open under eight, both ways, and under four just if it is told so.
-fn opens_both_ways(
-    alloc: Global,
-    w: u32,
-    h: u32,
-    a: Pixel,
-    b: Pixel,
-    four: bool,
-) -> Result<bool, Fail> {
-    for (from, to) in [(a, b), (b, a)] {
-        if !opens(alloc, w, h, from, to, Conn::Eight, true)? {
-            return Ok(false);
-        }
-        if !opens(alloc, w, h, from, to, Conn::Four, four)? {
-            return Ok(false);
-        }
-    }
-    Ok(true)
+// Whether the pair of cells is open under eight, both ways, and under four just if it is told so.
+fn opens_both_ways(alloc: Global, w: u32, h: u32, a: u32, b: u32, four: bool) -> bool {
+    opens(alloc, w, h, a, b, Conn::Eight, true)
+        && opens(alloc, w, h, b, a, Conn::Eight, true)
+        && opens(alloc, w, h, a, b, Conn::Four, four)
+        && opens(alloc, w, h, b, a, Conn::Four, four)
+}
+
+// Whether a pixel of the first of two rows of 200 and the next, the one below, and those aslant are open.
+fn strips_meet(alloc: Global, x: u32) -> bool
+    requires { x < 199 }
+{
+    let (below, beyond) = (x + 200, x + 201);
+    opens_both_ways(alloc, 200, 2, x, x + 1, true)
+        && opens_both_ways(alloc, 200, 2, x, below, true)
+        && opens_both_ways(alloc, 200, 2, x, beyond, false)
+        && opens_both_ways(alloc, 200, 2, x + 1, below, false)
 }
 
 #[test]
-fn strips_of_a_border_row_meet_without_a_gap(rt: HostRuntime) -> Result<(), Fail> {
+fn strips_of_a_border_row_meet_without_a_gap(rt: HostRuntime) {
     for x in 0..199 {
-        let left = Pixel { x, y: 0 };
-        let right = Pixel { x: x + 1, y: 0 };
-        let below = Pixel { x, y: 1 };
-        let beyond = Pixel { x: x + 1, y: 1 };
-        assert!(rt;
-            opens_both_ways(rt.alloc(), 200, 2, left, right, true)?,
-            "{x} and the next"
-        );
-        assert!(rt;
-            opens_both_ways(rt.alloc(), 200, 2, left, below, true)?,
-            "{x} and below"
-        );
-        assert!(rt;
-            opens_both_ways(rt.alloc(), 200, 2, left, beyond, false)?,
-            "{x} and aslant"
-        );
-        assert!(rt;
-            opens_both_ways(rt.alloc(), 200, 2, right, below, false)?,
-            "{x} and back"
-        );
+        assert!(rt; strips_meet(rt.alloc(), x), "{x}");
     }
-    Ok(())
 }
 
+// The width and height, the cell that is beside the first one, below it or aslant, and whether the two are open under
+// four.
+const PAIRS: [(u32, u32, u32, bool); 11] = [
+    (2, 2, 1, true),
+    (3, 3, 1, true),
+    (2, 5, 1, true),
+    (5, 2, 1, true),
+    (2, 2, 2, true),
+    (3, 3, 3, true),
+    (2, 5, 2, true),
+    (5, 2, 5, true),
+    (2, 2, 3, false),
+    (2, 5, 3, false),
+    (5, 2, 6, false),
+];
+
 #[test]
-fn each_pair_of_border_pixels_is_found(rt: HostRuntime) -> Result<(), Fail> {
-    for (bx, by, four) in [(1, 0, true), (0, 1, true), (1, 1, false)] {
-        for (w, h) in [(2, 2), (3, 3), (2, 5), (5, 2)] {
-            let a = Pixel { x: 0, y: 0 };
-            let b = Pixel { x: bx, y: by };
-            if bx == 0 || by == 0 || w == 2 || h == 2 {
-                assert!(rt;
-                    opens_both_ways(rt.alloc(), w, h, a, b, four)?,
-                    "{bx} {by}, {w} by {h}"
-                );
-            }
-        }
+fn each_pair_of_border_pixels_is_found(rt: HostRuntime) {
+    for (w, h, to, four) in PAIRS {
+        assert!(rt;
+            opens_both_ways(rt.alloc(), w, h, 0, to, four),
+            "{to} of {w} by {h}"
+        );
     }
-    Ok(())
 }
 
 // Each second pixel of a row.
@@ -316,12 +333,19 @@ fn each_second(alloc: Global, width: u32) -> Result<Vec<Pixel>, Fail> {
     Ok(pixels)
 }
 
-// Whether a row grows from its border where each second pixel has risen. Of 10,000 pixels 5,000 wait, and the smallest
-// room has a queue of 1,024.
+// Whether a row of 5 grows from its border where these pixels have risen.
+fn row_grows_from(alloc: Global, width: u32, pixels: &[Pixel]) -> bool {
+    match grid_of(alloc, width, 1, Picture::Plain(5)) {
+        Ok(mask) => grows_from(alloc, &mask, pixels, Conn::Four, Picture::Plain(5)),
+        Err(_) => false,
+    }
+}
+
+// Whether it does where each second pixel has risen. Of 10,000 pixels 5,000 wait, and the smallest room has a queue of
+// 1,024.
 fn grows_from_each_second(alloc: Global, width: u32) -> Result<bool, Fail> {
-    let mask = Grid::new(alloc, width, 1, 5)?;
     let pixels = each_second(alloc, width)?;
-    grows_from(alloc, &mask, &pixels, Conn::Four, &mask)
+    Ok(row_grows_from(alloc, width, &pixels))
 }
 
 #[test]

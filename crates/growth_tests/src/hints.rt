@@ -2,11 +2,10 @@
 
 ghost use Rattle.std.specs.Prelude.{◌≡◌, ◌<◌, IfOk};
 ghost use Rattle.grid_core.specs.Raster.{IsInside};
-ghost use Rattle.grid_core.specs.Tiles.{count_of};
 ghost use Rattle.border_queues.specs.OpenEdges.{IsOnTiling};
 
 use border_queues::{Hint, Inbox, QueueError, open_edges, open_edges_in};
-use grid_core::{Conn, Grid, Pixel, Tiling, neighbours};
+use grid_core::{Conn, Grid, GridError, Pixel, Rect, Tiling, neighbours};
 use std::alloc::Global;
 use std::test::Fail;
 
@@ -23,16 +22,49 @@ fn hint(value: u32) -> Hint {
     }
 }
 
-// Whether the hint at the place is taken out, and is this one, or none is there.
-fn takes(inbox: &mut Inbox, place: usize, value: Option<u32>) -> bool {
-    match (inbox.take_at(place), value) {
-        (Some(taken), Some(value)) => taken == hint(value),
-        (None, None) => true,
-        _ => false,
+// What is done with an inbox.
+#[derive(Clone, Copy)]
+enum Act {
+    Push(u32),
+    // Takes out the hint at the place, which has this value, or none where none is there.
+    Take(usize, Option<u32>),
+    Clear,
+}
+
+// Each act, and the hints that then wait.
+const ACTS: [(Act, &[u32]); 8] = [
+    (Act::Push(1), &[1]),
+    (Act::Push(2), &[1, 2]),
+    (Act::Push(3), &[1, 2, 3]),
+    (Act::Take(1, Some(2)), &[1, 3]),
+    (Act::Take(2, None), &[1, 3]),
+    (Act::Take(0, Some(1)), &[3]),
+    (Act::Clear, &[]),
+    (Act::Take(0, None), &[]),
+];
+
+// Whether the hint at the place is taken out, and is this one.
+fn takes(inbox: &mut Inbox, place: usize, want: Hint) -> bool {
+    match inbox.take_at(place) {
+        Some(taken) => taken == want,
+        None => false,
     }
 }
 
-// Whether the inbox has hints of these values, in this order.
+// Whether the act does what it says.
+fn does(inbox: &mut Inbox, act: Act) -> bool {
+    match act {
+        Act::Push(value) => inbox.push(hint(value)).is_ok(),
+        Act::Take(place, Some(value)) => takes(inbox, place, hint(value)),
+        Act::Take(place, None) => inbox.take_at(place).is_none(),
+        Act::Clear => {
+            inbox.clear();
+            true
+        }
+    }
+}
+
+// Whether the inbox has hints of these values, in this order, and places for three hints.
 fn holds(inbox: &Inbox, values: &[u32]) -> bool {
     for (told, value) in inbox.as_slice().iter().zip(values) {
         if *told != hint(*value) {
@@ -42,25 +74,23 @@ fn holds(inbox: &Inbox, values: &[u32]) -> bool {
     inbox.len() == values.len() && inbox.is_empty() == values.is_empty()
 }
 
+fn has_three_places(inbox: &Inbox) -> bool {
+    inbox.len() >= 3 || inbox.room() >= 3 - inbox.len()
+}
+
 #[test]
 fn an_inbox_hands_out_in_any_order(rt: HostRuntime) -> Result<(), Fail> {
     let mut inbox = Inbox::new(rt.alloc());
     assert!(rt; holds(&inbox, &[]));
     inbox.reserve(3)?;
-    assert!(rt; inbox.room() >= 3);
-    for value in [1, 2, 3] {
-        assert!(rt; inbox.push(hint(value)).is_ok());
+    assert!(rt; has_three_places(&inbox));
+    for (act, waiting) in ACTS {
+        assert!(rt;
+            does(&mut inbox, act) && holds(&inbox, waiting),
+            "{waiting:?}"
+        );
+        assert!(rt; has_three_places(&inbox), "{waiting:?}");
     }
-    assert!(rt; holds(&inbox, &[1, 2, 3]));
-    assert!(rt; takes(&mut inbox, 1, Some(2)));
-    assert!(rt; takes(&mut inbox, 2, None));
-    assert!(rt; holds(&inbox, &[1, 3]));
-    assert!(rt; takes(&mut inbox, 0, Some(1)));
-    assert!(rt; holds(&inbox, &[3]));
-    inbox.clear();
-    assert!(rt; holds(&inbox, &[]));
-    assert!(rt; inbox.room() >= 3);
-    assert!(rt; takes(&mut inbox, 0, None));
     Ok(())
 }
 
@@ -70,13 +100,6 @@ fn the_message_begins_with_the_code(rt: HostRuntime) -> Result<(), Fail> {
     assert!(rt; message.starts_with("Q1"));
     assert!(rt; QueueError::Memory.code() == "Q1");
     Ok(())
-}
-
-// An image with one value, of the tiling's width and height.
-fn plain(alloc: Global, tiling: &Tiling, value: u32) -> Result<Grid, Fail>
-    ensures { IfOk result (IsOnTiling tiling.now) }
-{
-    Ok(Grid::new(alloc, tiling.width(), tiling.height(), value)?)
 }
 
 // Gives a pixel of the image a value.
@@ -89,130 +112,219 @@ fn draw(image: &mut Grid, x: u32, y: u32, value: u32)
     }
 }
 
-// What a tile tells a pixel.
-fn told(from: usize, from_generation: u64, x: u32, y: u32, value: u32) -> Hint {
-    Hint {
-        from,
-        from_generation,
-        to_pixel: at(x, y),
-        value,
-    }
+// An image of the tiling's width and height with one value, and with another at two pixels.
+fn drawn(alloc: Global, tiling: &Tiling, value: u32, spots: [Spot; 2]) -> Result<Grid, GridError>
+    ensures { IfOk result (IsOnTiling tiling.now) }
+{
+    let mut made = Grid::new(alloc, tiling.width(), tiling.height(), value)?;
+    let [(x, y, value), (other_x, other_y, other)] = spots;
+    draw(&mut made, x, y, value);
+    draw(&mut made, other_x, other_y, other);
+    Ok(made)
 }
 
-// Whether a tile of the generation 5 tells this.
-fn tile_tells(
-    alloc: Global,
+// The column, the row and the value of a pixel.
+type Spot = (u32, u32, u32);
+
+// Outside each image.
+const NONE: Spot = (9999, 9999, 0);
+
+// Whether the hints are those that the tile of this generation tells these pixels, in this order.
+fn are_told(hints: &[Hint], tile: usize, generation: u64, want: &[Spot]) -> bool {
+    for (hint, (x, y, value)) in hints.iter().zip(want) {
+        let to_pixel = at(*x, *y);
+        let told = Hint {
+            from: tile,
+            from_generation: generation,
+            to_pixel,
+            value: *value,
+        };
+        if *hint != told {
+            return false;
+        }
+    }
+    hints.len() == want.len()
+}
+
+// Puts the hints of a tile's open edges into the inbox, and says whether there is such a tile and memory.
+fn tell(
     image: &Grid,
     mask: &Grid,
     tiling: &Tiling,
     tile: usize,
+    generation: u64,
     conn: Conn,
-    want: &[Hint],
-) -> Result<bool, Fail>
+    out: &mut Inbox,
+) -> bool
+    requires image { IsOnTiling tiling.now image.now }
+    requires mask { IsOnTiling tiling.now mask.now }
+{
+    tile < tiling.count() && open_edges_in(image, mask, tiling, tile, generation, conn, out).is_ok()
+}
+
+// An image and its mask, each of one value but for two pixels, and what a tile of it tells.
+#[derive(Clone, Copy)]
+struct Telling {
+    sides: (u32, u32),
+    tile_is_wide: bool,
+    image: (u32, [Spot; 2]),
+    mask: (u32, [Spot; 2]),
+    tile: usize,
+    conn: Conn,
+    want: &'static [Spot],
+}
+
+// Two tiles of one row, of 4 under a mask of 4.
+const CLOSED_ROW: Telling = Telling {
+    sides: (128, 1),
+    tile_is_wide: true,
+    image: (4, [NONE, NONE]),
+    mask: (4, [NONE, NONE]),
+    tile: 0,
+    conn: Conn::Four,
+    want: &[],
+};
+
+const CLOSED_ROW_UNDER_EIGHT: Telling = Telling {
+    conn: Conn::Eight,
+    ..CLOSED_ROW
+};
+
+const LOWER_AT_THE_RIGHT: Telling = Telling {
+    image: (4, [(64, 0, 2), NONE]),
+    want: &[(64, 0, 4)],
+    ..CLOSED_ROW
+};
+
+// A 6 of the left one of two tiles stands beside limits of 5 and 0.
+const BOUNDED: Telling = Telling {
+    sides: (16, 8),
+    tile_is_wide: false,
+    image: (0, [(7, 3, 6), NONE]),
+    mask: (9, [(8, 3, 5), (8, 4, 0)]),
+    tile: 0,
+    conn: Conn::Eight,
+    want: &[(8, 2, 6), (8, 3, 5)],
+};
+
+// The tile beside it is 0.
+const ZERO_BESIDE: Telling = Telling {
+    tile: 1,
+    want: &[],
+    ..BOUNDED
+};
+
+// Whether the tile, of the generation 5, tells what is wanted.
+fn tile_tells(alloc: Global, image: &Grid, mask: &Grid, tiling: &Tiling, row: Telling) -> bool
+    requires image { IsOnTiling tiling.now image.now }
+    requires mask { IsOnTiling tiling.now mask.now }
+{
+    let mut out = Inbox::new(alloc);
+    let is_told = tell(image, mask, tiling, row.tile, 5, row.conn, &mut out);
+    is_told && are_told(out.as_slice(), row.tile, 5, row.want)
+}
+
+fn holds_telling(alloc: Global, row: Telling) -> Result<bool, GridError> {
+    let (w, h) = row.sides;
+    let tiling = Tiling::new(w, h, if row.tile_is_wide { 64 } else { 8 })?;
+    let (limit, limits) = row.mask;
+    let mask = drawn(alloc, &tiling, limit, limits)?;
+    let (value, values) = row.image;
+    let image = drawn(alloc, &tiling, value, values)?;
+    Ok(tile_tells(alloc, &image, &mask, &tiling, row))
+}
+
+#[test]
+fn a_tile_tells_where_its_border_is_open(rt: HostRuntime) {
+    for (name, row) in [
+        ("a closed border tells nothing", CLOSED_ROW),
+        ("nor under eight", CLOSED_ROW_UNDER_EIGHT),
+        ("a lower pixel is told", LOWER_AT_THE_RIGHT),
+        ("the mask bounds a hint", BOUNDED),
+        ("a tile of zeros tells nothing", ZERO_BESIDE),
+    ] {
+        assert!(rt;
+            holds_telling(rt.alloc(), row).is_ok_and(|holds| holds),
+            "{name}"
+        );
+    }
+}
+
+// Puts the hints of the open edges of a tile of the generation 1, which is given apart, into the inbox.
+fn tell_apart(
+    inside: &Grid,
+    image: &Grid,
+    mask: &Grid,
+    tiling: &Tiling,
+    tile: usize,
+    out: &mut Inbox,
+) -> bool
     requires image { IsOnTiling tiling.now image.now }
     requires mask { IsOnTiling tiling.now mask.now }
 {
     if tile >= tiling.count() {
-        return Ok(false);
+        return false;
     }
+    let rect = tiling.rect(tile);
+    inside.width() == rect.w
+        && inside.height() == rect.h
+        && open_edges(inside, image, mask, tiling, tile, 1, Conn::Eight, out).is_ok()
+}
+
+// Whether a tile that is given apart tells this.
+fn inside_tells(
+    alloc: Global,
+    inside: &Grid,
+    tiling: &Tiling,
+    tile: usize,
+    want: &[Spot],
+) -> Result<bool, GridError> {
+    let mask = drawn(alloc, tiling, 9, [NONE, NONE])?;
+    let image = drawn(alloc, tiling, 1, [NONE, NONE])?;
     let mut out = Inbox::new(alloc);
-    open_edges_in(image, mask, tiling, tile, 5, conn, &mut out)?;
-    Ok(out.as_slice() == want)
+    let is_told = tell_apart(inside, &image, &mask, tiling, tile, &mut out);
+    Ok(is_told && are_told(out.as_slice(), tile, 1, want))
 }
 
-// Whether the left one of two tiles of one row, of 4 under a mask of 4, tells this where the right one begins with a
-// value.
-fn row_tells(alloc: Global, right: u32, conn: Conn, want: &[Hint]) -> Result<bool, Fail> {
-    let tiling = Tiling::new(128, 1, 64)?;
-    let mask = plain(alloc, &tiling, 4)?;
-    let mut image = plain(alloc, &tiling, 4)?;
-    draw(&mut image, 64, 0, right);
-    tile_tells(alloc, &image, &mask, &tiling, 0, conn, want)
-}
-
-#[test]
-fn a_closed_border_tells_nothing(rt: HostRuntime) -> Result<(), Fail> {
-    assert!(rt; row_tells(rt.alloc(), 4, Conn::Four, &[])?);
-    assert!(rt; row_tells(rt.alloc(), 4, Conn::Eight, &[])?);
-    assert!(rt; row_tells(rt.alloc(), 2, Conn::Four, &[told(0, 5, 64, 0, 4)])?);
-    Ok(())
-}
-
-// Whether one of two tiles tells this, where a 6 of the left one stands beside limits of 5 and 0.
-fn bounded_tells(alloc: Global, tile: usize, want: &[Hint]) -> Result<bool, Fail> {
-    let tiling = Tiling::new(16, 8, 8)?;
-    let mut mask = plain(alloc, &tiling, 9)?;
-    let mut image = plain(alloc, &tiling, 0)?;
-    draw(&mut image, 7, 3, 6);
-    draw(&mut mask, 8, 3, 5);
-    draw(&mut mask, 8, 4, 0);
-    tile_tells(alloc, &image, &mask, &tiling, tile, Conn::Eight, want)
-}
-
-#[test]
-fn the_mask_bounds_a_hint(rt: HostRuntime) -> Result<(), Fail> {
-    assert!(rt; bounded_tells(rt.alloc(), 0, &[told(0, 5, 8, 2, 6), told(0, 5, 8, 3, 5)])?);
-    assert!(rt;
-        bounded_tells(rt.alloc(), 1, &[])?,
-        "the tile beside it is 0"
-    );
-    Ok(())
-}
-
-// Whether a tile that is given apart, with one value but for another at its first pixel, tells this.
+// Whether the tile of ones but for a 4 at its first pixel, in an image of ones, tells this.
 fn apart_tells(
     alloc: Global,
     tiling: &Tiling,
-    tile: usize,
-    own: u32,
-    want: &[Hint],
-) -> Result<bool, Fail> {
-    if tile >= tiling.count() {
-        return Ok(false);
-    }
-    let mask = plain(alloc, tiling, 9)?;
-    let image = plain(alloc, tiling, 1)?;
-    let rect = tiling.rect(tile);
+    rect: Rect,
+    want: &[Spot],
+) -> Result<bool, GridError> {
     let mut inside = Grid::new(alloc, rect.w, rect.h, 1)?;
-    draw(&mut inside, 0, 0, own);
-    let mut out = Inbox::new(alloc);
-    open_edges(
-        &inside,
-        &image,
-        &mask,
-        tiling,
-        tile,
-        1,
-        Conn::Eight,
-        &mut out,
-    )?;
-    Ok(out.as_slice() == want)
+    draw(&mut inside, 0, 0, 4);
+    inside_tells(alloc, &inside, tiling, 5, want)
 }
 
 #[test]
 fn the_tile_may_be_given_apart(rt: HostRuntime) -> Result<(), Fail> {
     let tiling = Tiling::new(20, 9, 8)?;
     let rect = tiling.rect(5);
-    assert!(rt; rect.x == 16 && rect.y == 8 && rect.w == 4 && rect.h == 1);
-    let want = [
-        told(5, 1, 15, 7, 4),
-        told(5, 1, 16, 7, 4),
-        told(5, 1, 17, 7, 4),
-        told(5, 1, 15, 8, 4),
-    ];
-    assert!(rt; apart_tells(rt.alloc(), &tiling, 5, 4, &want)?);
+    assert!(rt;
+        rect == Rect {
+            x: 16,
+            y: 8,
+            w: 4,
+            h: 1
+        }
+    );
+    let want = [(15, 7, 4), (16, 7, 4), (17, 7, 4), (15, 8, 4)];
+    assert!(rt; apart_tells(rt.alloc(), &tiling, rect, &want)?);
     Ok(())
 }
 
-// Puts the hints of the open edges from a pixel behind the others, by a look at each neighbour.
-fn tell_from(
+// Whether the first hints, which are taken out, are those of the open edges from a pixel, as a look at each neighbour
+// finds them.
+fn takes_told_from(
     p: Pixel,
     image: &Grid,
     mask: &Grid,
     tiling: &Tiling,
     conn: Conn,
-    told: &mut Vec<Hint>,
-) -> Result<(), Fail>
+    out: &mut Inbox,
+) -> bool
     requires inside { IsInside tiling.now.width tiling.now.height p }
     requires image { IsOnTiling tiling.now image.now }
     requires mask { IsOnTiling tiling.now mask.now }
@@ -221,17 +333,41 @@ fn tell_from(
     for q in neighbours(width, height, conn, p).as_slice() {
         if q.x < width && q.y < height && tiling.tile_of(*q) != tiling.tile_of(p) {
             let value = image.get(p).min(mask.get(*q));
-            if image.get(*q) < value {
-                told.push(Hint {
-                    from: tiling.tile_of(p),
-                    from_generation: 9,
-                    to_pixel: *q,
-                    value,
-                })?;
+            let told = Hint {
+                from: tiling.tile_of(p),
+                from_generation: 9,
+                to_pixel: *q,
+                value,
+            };
+            if image.get(*q) < value && !takes(out, 0, told) {
+                return false;
             }
         }
     }
-    Ok(())
+    true
+}
+
+// Whether they are those from the tile's pixels of a row.
+fn takes_told_by_row(
+    y: u32,
+    image: &Grid,
+    mask: &Grid,
+    tiling: &Tiling,
+    tile: usize,
+    conn: Conn,
+    out: &mut Inbox,
+) -> bool
+    requires row { y < tiling.now.height }
+    requires image { IsOnTiling tiling.now image.now }
+    requires mask { IsOnTiling tiling.now mask.now }
+{
+    for x in 0..tiling.width() {
+        let p = Pixel { x, y };
+        if tiling.tile_of(p) == tile && !takes_told_from(p, image, mask, tiling, conn, out) {
+            return false;
+        }
+    }
+    true
 }
 
 // Whether the hints of a tile's open edges are those that are found by a look at each pixel of the tile.
@@ -242,52 +378,60 @@ fn tells_as_each_pixel(
     tiling: &Tiling,
     tile: usize,
     conn: Conn,
-) -> Result<bool, Fail>
-    requires tile { tile < count_of tiling.now }
+) -> bool
     requires image { IsOnTiling tiling.now image.now }
     requires mask { IsOnTiling tiling.now mask.now }
 {
-    let mut told = Vec::new(alloc);
+    let mut out = Inbox::new(alloc);
+    if !tell(image, mask, tiling, tile, 9, conn, &mut out) {
+        return false;
+    }
     for y in 0..tiling.height() {
-        for x in 0..tiling.width() {
-            if tiling.tile_of(Pixel { x, y }) == tile {
-                tell_from(Pixel { x, y }, image, mask, tiling, conn, &mut told)?;
-            }
+        if !takes_told_by_row(y, image, mask, tiling, tile, conn, &mut out) {
+            return false;
         }
     }
-    let mut out = Inbox::new(alloc);
-    open_edges_in(image, mask, tiling, tile, 9, conn, &mut out)?;
-    Ok(out.as_slice() == told.as_slice())
+    out.is_empty()
 }
 
 // Gives each cell a value from 0 to 3, which the seed determines.
-fn scatter(image: &mut Grid, seed: &mut u32)
-    ensures width { image.new.width ≡ image.old.width }
-    ensures height { image.new.height ≡ image.old.height }
-{
-    let mut next = *seed;
-    for cell in image.cells_mut() {
-        next = next.wrapping_mul(1_664_525).wrapping_add(1_013_904_223);
-        *cell = next >> 30;
+fn scatter(cells: &mut [u32], seed: &mut u32) {
+    for i in 0..cells.len() {
+        *seed = seed.wrapping_mul(1_664_525).wrapping_add(1_013_904_223);
+        cells[i] = *seed >> 30;
     }
-    *seed = next;
+}
+
+// An image of the tiling's width and height with scattered values.
+fn scattered(alloc: Global, tiling: &Tiling, seed: &mut u32) -> Result<Grid, GridError>
+    ensures { IfOk result (IsOnTiling tiling.now) }
+{
+    let mut made = Grid::new(alloc, tiling.width(), tiling.height(), 0)?;
+    scatter(made.cells_mut(), seed);
+    Ok(made)
+}
+
+// Whether each tile tells as each of its pixels does, with four neighbours and with eight.
+fn all_tell(alloc: Global, image: &Grid, mask: &Grid, tiling: &Tiling) -> bool
+    requires image { IsOnTiling tiling.now image.now }
+    requires mask { IsOnTiling tiling.now mask.now }
+{
+    for tile in 0..tiling.count() {
+        if !tells_as_each_pixel(alloc, image, mask, tiling, tile, Conn::Four)
+            || !tells_as_each_pixel(alloc, image, mask, tiling, tile, Conn::Eight)
+        {
+            return false;
+        }
+    }
+    true
 }
 
 // Whether each tile of a scattered image tells as each of its pixels does.
-fn tiles_tell(alloc: Global, w: u32, h: u32, seed: &mut u32) -> Result<bool, Fail> {
+fn tiles_tell(alloc: Global, w: u32, h: u32, seed: &mut u32) -> Result<bool, GridError> {
     let tiling = Tiling::new(w, h, 8)?;
-    let mut mask = plain(alloc, &tiling, 0)?;
-    let mut image = plain(alloc, &tiling, 0)?;
-    scatter(&mut mask, seed);
-    scatter(&mut image, seed);
-    for conn in [Conn::Four, Conn::Eight] {
-        for tile in 0..tiling.count() {
-            if !tells_as_each_pixel(alloc, &image, &mask, &tiling, tile, conn)? {
-                return Ok(false);
-            }
-        }
-    }
-    Ok(true)
+    let mask = scattered(alloc, &tiling, seed)?;
+    let image = scattered(alloc, &tiling, seed)?;
+    Ok(all_tell(alloc, &image, &mask, &tiling))
 }
 
 #[test]
