@@ -6,6 +6,7 @@ pub use Rattle.grid_core.specs.Rects
 pub mod BorderColumns
 pub mod Borders
 pub mod Flood
+pub mod Flooding
 pub mod Growth
 pub mod Laws
 pub mod Regrowth

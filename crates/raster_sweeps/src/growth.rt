@@ -1,15 +1,15 @@
 //! Growing in place: until no pair of neighbours is open (Vincent, "Morphological Grayscale Reconstruction in Image
 //! Analysis", 1993).
 
-ghost use Rattle.std.specs.Prelude.{◌≡◌, ◌<◌, ◌⊎◌, [], length, IfOk, IsTrue, OnErr, OnOk, false};
+ghost use Rattle.std.specs.Prelude.{◌≡◌, ◌<◌, [], length, IfOk, OnErr, OnOk, false};
 ghost use Rattle.grid_core.specs.Path.{domain_of};
-ghost use Rattle.grid_core.specs.Raster.{IsBelow, IsFilled, value_at, headroom};
-ghost use Rattle.grid_core.specs.Reconstruction.{IsClosed, IsReconstruction};
-ghost use Rattle.grid_core.specs.Rects.{RectFits, domain_in, part};
+ghost use Rattle.grid_core.specs.Raster.{IsBelow, IsFilled, value_at};
+ghost use Rattle.grid_core.specs.Reconstruction.{IsReconstruction};
+ghost use Rattle.grid_core.specs.Rects.{RectFits, part};
 ghost use Rattle.raster_sweeps.specs.declared.growth.Start.TheVariants as starts;
 ghost use Rattle.raster_sweeps.specs.Borders.{OpenPairsBeginOnBorder};
-ghost use Rattle.raster_sweeps.specs.Growth.{AreInside, AreOpen, IsGrown, IsQueueFilled, CanClose, CanGrow};
-ghost use Rattle.raster_sweeps.specs.Regrowth.{IsRegrownIn};
+ghost use Rattle.raster_sweeps.specs.Growth.{AreOpen, IsGrown, IsQueueFilled, CanClose, CanGrow};
+ghost use Rattle.raster_sweeps.specs.Regrowth.{IsRegrown, IsRegrownIn};
 ghost use Rattle.raster_sweeps.specs.Growth.{IsClosedIn};
 
 use crate::border::queue_border;
@@ -86,12 +86,7 @@ pub fn grow_from_border(room: &mut Room, mask: &Grid, image: &mut Grid, rect: Re
 /// Errors: out of memory.
 pub fn grow(alloc: Global, mask: &Grid, marker: &Grid, conn: Conn) -> Result<Grid, Memory>
     requires { IsBelow marker.now mask.now }
-    ensures filled { IfOk result IsFilled }
-    ensures width { IfOk result (λ image. image.width ≡ mask.now.width) }
-    ensures height { IfOk result (λ image. image.height ≡ mask.now.height) }
-    ensures below { IfOk result (λ image. IsBelow image mask.now) }
-    ensures reconstruction { IfOk result (λ image.
-        IsReconstruction (domain_of mask.now conn) (value_at mask.now) (value_at marker.now) (value_at image)) }
+    ensures { IfOk result (IsRegrown conn mask.now marker.now) }
 {
     let mut image = marker.copy(alloc)?;
     grow_in_place(alloc, mask, &mut image, conn)?;

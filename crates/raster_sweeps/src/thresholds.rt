@@ -3,10 +3,10 @@
 
 ghost use Rattle.std.specs.Prelude.{◌≡◌, ◌+◌, ◌-◌, ◌*◌, ◌<◌, ◌≤◌, [], ◌∷◌, ◌++◌};
 ghost use Rattle.std.specs.Prelude.{length, slice_index, EachIndex, OnOk, IfOk};
-ghost use Rattle.grid_core.specs.Path.{domain_of};
-ghost use Rattle.grid_core.specs.Raster.{IsInside, IsFilled, IsBelow, max_side, index_of, value_at, with_value};
-ghost use Rattle.grid_core.specs.Reconstruction.{IsReconstruction};
-ghost use Rattle.raster_sweeps.specs.Flood.{IsImageOn, IsLevelDone, IsSeeding, IsSeeded, missing};
+ghost use Rattle.grid_core.specs.Raster.{IsInside, IsBelow, max_side, index_of, with_value};
+ghost use Rattle.raster_sweeps.specs.Flooding.{IsFlooded, Floods, seeds_of};
+ghost use Rattle.raster_sweeps.specs.Flood.{missing};
+ghost use Rattle.raster_sweeps.specs.Regrowth.{IsRegrown};
 
 use grid_core::{Conn, Grid, Memory, Pixel, neighbours};
 use std::alloc::Global;
@@ -26,12 +26,7 @@ struct Reconstruction<'a> {
 /// Errors: out of memory.
 pub fn slow(alloc: Global, mask: &Grid, marker: &Grid, conn: Conn) -> Result<Grid, Memory>
     requires { IsBelow marker.now mask.now }
-    ensures filled { IfOk result IsFilled }
-    ensures width { IfOk result (λ image. image.width ≡ mask.now.width) }
-    ensures height { IfOk result (λ image. image.height ≡ mask.now.height) }
-    ensures below { IfOk result (λ image. IsBelow image mask.now) }
-    ensures reconstruction { IfOk result (λ image.
-        IsReconstruction (domain_of mask.now conn) (value_at mask.now) (value_at marker.now) (value_at image)) }
+    ensures { IfOk result (IsRegrown conn mask.now marker.now) }
 {
     let width = mask.width();
     let height = mask.height();
@@ -60,10 +55,8 @@ fn flood_level(
 ) -> Result<(), Memory>
     requires positive { 0 < level }
     requires below { IsBelow source.now.marker.now source.now.mask.now }
-    requires sized { IsImageOn (domain_of source.now.mask.now source.now.conn) image.old }
-    requires before { IsLevelDone source.now.conn source.now.mask.now source.now.marker.now (level - 1) image.old }
-    ensures sized { OnOk result (IsImageOn (domain_of source.now.mask.now source.now.conn) image.new) }
-    ensures done { OnOk result (IsLevelDone source.now.conn source.now.mask.now source.now.marker.now level image.new) }
+    requires before { IsFlooded source.now (level - 1) image.old }
+    ensures { OnOk result (IsFlooded source.now level image.new) }
 {
     let mut waiting = Vec::new(alloc);
     seed_level(source, image, &mut waiting, level)?;
@@ -81,12 +74,8 @@ fn seed_level(
     level: u32,
 ) -> Result<(), Memory>
     requires below { IsBelow source.now.marker.now source.now.mask.now }
-    requires sized { IsImageOn (domain_of source.now.mask.now source.now.conn) image.old }
-    requires begun { IsSeeding source.now.conn source.now.mask.now source.now.marker.now level 0
-        image.old waiting.old.items }
-    ensures sized { OnOk result (IsImageOn (domain_of source.now.mask.now source.now.conn) image.new) }
-    ensures seeded { OnOk result (IsSeeded source.now.conn source.now.mask.now source.now.marker.now level
-        image.new waiting.new.items) }
+    requires begun { Floods source.now level 0 image.old waiting.old.items }
+    ensures { OnOk result (Floods source.now level (seeds_of source.now) image.new waiting.new.items) }
 {
     let width = source.mask.width();
     for (i, value) in source.marker.cells().iter().enumerate() {
@@ -105,12 +94,8 @@ fn spread(
     level: u32,
     pixel: Pixel,
 ) -> Result<(), Memory>
-    requires sized { IsImageOn (domain_of source.now.mask.now source.now.conn) image.old }
-    requires seeded { IsSeeded source.now.conn source.now.mask.now source.now.marker.now level
-        image.old (pixel ∷ waiting.old.items) }
-    ensures sized { OnOk result (IsImageOn (domain_of source.now.mask.now source.now.conn) image.new) }
-    ensures seeded { OnOk result (IsSeeded source.now.conn source.now.mask.now source.now.marker.now level
-        image.new waiting.new.items) }
+    requires { Floods source.now level (seeds_of source.now) image.old (pixel ∷ waiting.old.items) }
+    ensures flooding { OnOk result (Floods source.now level (seeds_of source.now) image.new waiting.new.items) }
     ensures effort { OnOk result (length waiting.new.items + missing level image.new.cells
         ≤ length waiting.old.items + missing level image.old.cells) }
 {

@@ -4,8 +4,15 @@ use Rattle.grid_core.specs.Raster.{Raster, value_at}
 use Rattle.grid_core.specs.Reconstruction.{IsReconstruction}
 use Rattle.raster_sweeps.proofs.growth.grow.Goals as goal
 
-pub returns-clause-reconstruction : goal.returns-clause-reconstruction
-returns-clause-reconstruction c =
+pub returns : goal.returns
+returns c =
     let mask = c.args.mask.now in
-    subst (λ (r : Raster). IsReconstruction (domain_of mask c.args.conn) (value_at mask) (value_at r)
-    (value_at c.grow_in_place.new.image)) c.in_ok-image.ensures c.in_ok-grow_in_place.ensures.reconstruction
+    record {
+      filled = c.in_ok-grow_in_place.ensures.filled;
+      width = c.grow_in_place.ensures.below.width;
+      height = c.grow_in_place.ensures.below.height;
+      below = c.grow_in_place.ensures.below;
+      reconstruction =
+          subst (λ (r : Raster). IsReconstruction (domain_of mask c.args.conn) (value_at mask) (value_at r)
+          (value_at c.grow_in_place.new.image)) c.in_ok-image.ensures c.in_ok-grow_in_place.ensures.reconstruction;
+    }

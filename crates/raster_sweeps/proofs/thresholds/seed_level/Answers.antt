@@ -1,7 +1,7 @@
 use Rattle.std.proofs.Common.{◌≡◌, ◌*◌, ◌<◌, ◌≤◌, [], ◌∷◌, ◌++◌, length, get_or, subst, ap, arith, ◌∙◌}
 use Rattle.grid_core.specs.Path.{Inside, domain_of}
 use Rattle.grid_core.specs.Raster.{index_of, value_at, with_value}
-use Rattle.raster_sweeps.specs.Flood.{IsSeeding}
+use Rattle.raster_sweeps.specs.Flooding.{Floods}
 use Rattle.raster_sweeps.proofs.Flood.Cells.{written_sized}
 use Rattle.raster_sweeps.proofs.Flood.Seeding.{inside_from_index, seeding_marks, seeding_passes}
 use Rattle.raster_sweeps.proofs.thresholds.seed_level.Goals as goal
@@ -46,9 +46,9 @@ loop-i-preserved c =
           ap (λ v. v.items) w.waiting-is ∙ w.in_ok-mark.ensures.waiting in
           record {
             sized = rw drawn (written_sized d image q level c.loop-i.invariant.sized);
-            seeding =
+            flooding =
                 rw (drawn, listed) (seeding_marks conn mask marker level i image waiting below filled
-                c.loop-i.invariant.sized c.loop-i.invariant.seeding q inside place seed);
+                c.loop-i.invariant.sized c.loop-i.invariant.flooding q inside place seed);
           }
       | else-value-level w ↦
           let drawn : c.if-value-level.image ≡ image = w.image-is in
@@ -56,14 +56,14 @@ loop-i-preserved c =
           let low : get_or marker.cells i 0 < level = omega (arith, value, w.if-value-level.false) in
           record {
             sized = rw drawn c.loop-i.invariant.sized;
-            seeding =
+            flooding =
                 rw (drawn, listed) (seeding_passes conn mask marker level i image waiting below filled
-                c.loop-i.invariant.sized c.loop-i.invariant.seeding low);
+                c.loop-i.invariant.sized c.loop-i.invariant.flooding low);
           }
     ]
 
-pub returns-clause-seeded : goal.returns-clause-seeded
-returns-clause-seeded c =
+pub returns : goal.returns
+returns c =
     let mask = c.args.source.now.mask.now in
     let marker = c.args.source.now.marker.now in
     let below = c.requires.below in
@@ -77,5 +77,4 @@ returns-clause-seeded c =
       ap (λ v. v * marker.height) below.width,
       ap (λ v. mask.width * v) below.height,
     ) in
-    subst (λ n. IsSeeding c.args.source.now.conn mask marker c.args.level n c.loop-i.image c.loop-i.waiting.items) all
-    c.loop-i.invariant.seeding
+    subst (λ n. Floods c.args.source.now c.args.level n c.loop-i.image c.loop-i.waiting.items) all c.loop-i.invariant

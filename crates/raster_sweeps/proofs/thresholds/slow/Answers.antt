@@ -25,29 +25,34 @@ loop-done-init c =
 pub flood_level-requires-clause-before : goal.flood_level-requires-clause-before
 flood_level-requires-clause-before c =
     let before : c.loop-done.done ≡ c.loop-done.done + 1 - 1 = omega arith in
-    subst (λ n. IsLevelDone c.args.conn c.args.mask.now c.args.marker.now n c.loop-done.image) before
-    c.loop-done.invariant.done
+    record {
+      sized = c.loop-done.invariant.sized;
+      done =
+          subst (λ n. IsLevelDone c.args.conn c.args.mask.now c.args.marker.now n c.loop-done.image) before
+          c.loop-done.invariant.done;
+    }
 
 pub loop-done-preserved : goal.loop-done-preserved
 loop-done-preserved c = record { sized = c.in_ok-flood_level.ensures.sized; done = c.in_ok-flood_level.ensures.done }
 
-pub returns-clause-filled : goal.returns-clause-filled
-returns-clause-filled c =
-    filled_on (domain_of c.args.mask.now c.args.conn) c.loop-done.image c.loop-done.invariant.sized
-
-pub returns-clause-below : goal.returns-clause-below
-returns-clause-below c =
-    flooded_below c.args.conn c.args.mask.now (value_at c.args.marker.now) c.loop-done.done c.loop-done.image
-    c.loop-done.invariant.sized c.loop-done.invariant.done
-
-pub returns-clause-reconstruction : goal.returns-clause-reconstruction
-returns-clause-reconstruction c =
+pub returns : goal.returns
+returns c =
     let mask = c.args.mask.now in
     let marker = c.args.marker.now in
+    let d = domain_of mask c.args.conn in
     let top = c.greatest-done-end.result in
+    let sized = c.loop-done.invariant.sized in
     let all : c.loop-done.done ≡ top = omega (arith, c.loop-done-test.false, c.loop-done.auto.done-end) in
-    flood_is_reconstruction (domain_of mask c.args.conn) (value_at mask) (value_at marker) (value_at c.loop-done.image)
-    top
-    (marker_at_most c.args.conn mask marker c.cells.result.now top c.requires c.cells.ensures.sized.filled
-    c.cells.ensures.values c.greatest-done-end.ensures)
-    (subst (λ n. IsLevelDone c.args.conn mask marker n c.loop-done.image) all c.loop-done.invariant.done)
+    record {
+      filled = filled_on d c.loop-done.image sized;
+      width = sized.width;
+      height = sized.height;
+      below =
+          flooded_below c.args.conn mask (value_at marker) c.loop-done.done c.loop-done.image sized
+          c.loop-done.invariant.done;
+      reconstruction =
+          flood_is_reconstruction d (value_at mask) (value_at marker) (value_at c.loop-done.image) top
+          (marker_at_most c.args.conn mask marker c.cells.result.now top c.requires c.cells.ensures.sized.filled
+          c.cells.ensures.values c.greatest-done-end.ensures)
+          (subst (λ n. IsLevelDone c.args.conn mask marker n c.loop-done.image) all c.loop-done.invariant.done);
+    }

@@ -100,8 +100,8 @@ loop-beside-preserved c =
           rw (drawn, listed_now) passed
     ]
 
-pub returns-clause-seeded : goal.returns-clause-seeded
-returns-clause-seeded c =
+pub returns-clause-flooding : goal.returns-clause-flooding
+returns-clause-flooding c =
     let mask = c.args.source.now.mask.now in
     let conn = c.args.source.now.conn in
     let near = c.as_slice-beside-items.result.now in
@@ -109,6 +109,10 @@ returns-clause-seeded c =
     neighbours_listed (domain_of mask conn) c.args.pixel c.width.result c.height.result c.neighbours-near.result
     near c.width.ensures.value c.height.ensures.value c.as_slice-beside-items.ensures.pixels
     c.neighbours-near.ensures.members in
-    spreading_ends conn mask c.args.source.now.marker.now c.args.level c.args.pixel near
-    (length c.args.waiting.now.items + missing c.args.level c.args.image.now.cells) c.loop-beside.beside-index
-    c.loop-beside.image c.loop-beside.waiting.items listed c.loop-beside.invariant c.loop-beside-test.false
+    record {
+      sized = c.loop-beside.invariant.sized;
+      flooding =
+          spreading_ends conn mask c.args.source.now.marker.now c.args.level c.args.pixel near
+          (length c.args.waiting.now.items + missing c.args.level c.args.image.now.cells) c.loop-beside.beside-index
+          c.loop-beside.image c.loop-beside.waiting.items listed c.loop-beside.invariant c.loop-beside-test.false;
+    }
