@@ -10,7 +10,7 @@ use Rattle.grid_core.specs.declared.rect.Rect.{Rect}
 use Rattle.grid_core.specs.Raster.{Raster}
 use Rattle.grid_core.specs.Neighbours.{AreNeighbours}
 use Rattle.grid_core.specs.Rects.{IsInRect}
-use Rattle.tile_resets.specs.Marks.{SomeIn, IsLight, IsLightBeside, IsLinkedInto, IsNear}
+use Rattle.tile_resets.specs.Marks.{SomeIn, IsLight, IsLightBeside, IsLinkedInto, IsNear, pixels_upto}
 
 -- ---- answers
 
@@ -48,10 +48,6 @@ module _ (P : Pixel → Type 0) (rect : Rect) where
   pub some_in_row : (i : ℕ) → i < rect.h → SomeIn (row_at rect i) P → SomeIn rect P
   some_in_row i within (p, inside, has) =
       (p, (inside.0, inside.1, omega (arith, inside.2), omega (arith, inside.3, within)), has)
-
--- the first pixels of a row
-abbrev pub pixels_upto : ℕ → ℕ → ℕ → Rect
-pixels_upto x y n = record { x = x; y = y; w = n; h = 1 }
 
 at_pixel : (p : Pixel) (x y : ℕ) → p.x ≡ x → p.y ≡ y → p ≡ record { x = x; y = y }
 at_pixel p x y a b = λ i. record { x = a i; y = b i }

@@ -4,5 +4,6 @@ pub use Rattle.border_queues.specs.TileWork
 pub use Rattle.core_rules.specs.Hits
 pub use Rattle.core_rules.specs.Merge
 pub use Rattle.tile_work.specs.TileSet
+pub mod Linking
 pub mod Marks
 pub mod Renewing

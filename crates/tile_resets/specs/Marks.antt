@@ -10,6 +10,8 @@ use Rattle.grid_core.specs.Tiles.{Tiles, count_of}
 use Rattle.stroke_core.specs.Seed.{Seed, covers}
 use Rattle.stroke_lattice.specs.State.{State, HasTombstone, IsLive, IsJoin}
 use Rattle.core_rules.specs.Hits.{IsHitIn, IsReached}
+use Rattle.tile_generations.specs.Generations.{max_generation}
+use Rattle.border_queues.specs.TileWork.{TileWork, work_of}
 use Rattle.tile_work.specs.TileSet.{Has}
 
 -- marked are just the tiles that are hit where the strokes take the delta
@@ -18,11 +20,19 @@ AreHits tiles image conn state delta marks =
     (after : State) → IsJoin state delta after
     → (t : ℕ) → t < length marks → Has marks t ↔ IsHitIn tiles image conn state after t
 
+-- one of the marked tiles has the greatest generation
+abbrev pub IsOneSpent : List Bool → List TileWork → Type 0
+IsOneSpent marks work = (t : ℕ) × Has marks t × ((work_of work t).generation ≡ max_generation)
+
 -- ---- pixels of which something holds
 
 -- some pixel of the rectangle is one of these
 abbrev pub SomeIn : Rect → (Pixel → Type 0) → Type 0
 SomeIn rect P = (p : Pixel) × IsInRect rect p × P p
+
+-- so many pixels of a row, from this column on
+abbrev pub pixels_upto : ℕ → ℕ → ℕ → Rect
+pixels_upto x y w = record { x = x; y = y; w = w; h = 1 }
 
 -- the live stroke of the tag covers the pixel
 abbrev pub IsUnderLive : State → ℕ → Pixel → Type 0

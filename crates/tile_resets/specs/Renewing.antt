@@ -70,6 +70,10 @@ marker_value old marker = marker
 abbrev pub greater_value : ℕ → ℕ → ℕ
 greater_value old marker = max old marker
 
+-- the greater of the two values at this place
+abbrev pub greater_at : List ℕ → List ℕ → ℕ → ℕ
+greater_at values marker k = greater_value (slice_index values k) (slice_index marker k)
+
 -- the value that is made of the old one and the marker's where the test holds, else the old one
 abbrev pub made_if : Bool → (ℕ → ℕ → ℕ) → ℕ → ℕ → ℕ
 made_if b make old marker = if b then make old marker else old
@@ -115,6 +119,12 @@ pub record AreCutAlike (tiles : Tiles) (marker image : Raster) (work : List Tile
   pub marker_is : IsOnTiling tiles marker
   pub image_is : IsOnTiling tiles image
   pub count : length work ≡ count_of tiles
+
+-- the span, which may be empty, lies in the image
+pub record IsSpanIn (image : Raster) (span : Span) : Type 0 where
+  pub row : span.y < image.height
+  pub order : span.first ≤ span.end
+  pub columns : span.end ≤ image.width
 
 -- the span has a pixel, and lies in one tile of the image
 pub record IsPiece (tiles : Tiles) (span : Span) : Type 0 where

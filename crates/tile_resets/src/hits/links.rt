@@ -1,15 +1,15 @@
 //! Which tiles are linked: they hold neighbouring pixels at both of which the image is above 0.
 
-ghost use Rattle.std.specs.Prelude.{◌≡◌, ◌+◌, ◌<◌, ◌≤◌, ◌↔◌, IsTrue, length};
+ghost use Rattle.std.specs.Prelude.{◌≡◌, ◌+◌, ◌<◌, ◌≤◌, ◌↔◌, IsTrue};
 ghost use Rattle.grid_core.specs.declared.pixel.Pixel.{Pixel};
 ghost use Rattle.grid_core.specs.Raster.{IsInside, max_side, value_at};
 ghost use Rattle.grid_core.specs.Neighbours.{AreNeighbours};
 ghost use Rattle.grid_core.specs.Rects.{IsInRect, IsRowOf};
 ghost use Rattle.grid_core.specs.Tiles.{count_of};
 ghost use Rattle.border_queues.specs.OpenEdges.{IsOnTiling};
-ghost use Rattle.tile_resets.specs.Marks.{Adds, AreMarks, EndsWithin, IsLight, IsLightBeside, IsLinkedInto};
-ghost use Rattle.tile_resets.specs.Marks.{IsNear, SomeIn};
-ghost use Rattle.core_rules.specs.Hits.{AreLinked};
+ghost use Rattle.tile_resets.specs.Marks.{Adds, EndsWithin, IsLight, IsLightBeside, IsLinkedInto, IsNear, SomeIn};
+ghost use Rattle.tile_resets.specs.Marks.{pixels_upto};
+ghost use Rattle.tile_resets.specs.Linking.{CanMark, IsLinkedBy};
 ghost use Rattle.tile_work.specs.TileSet.{Has};
 
 use crate::hits::marking::mark;
@@ -29,11 +29,9 @@ impl Links<'_> {
     /// Marks the tiles that are linked with a tile, and puts those into the queue that were not marked. The tile
     /// itself is marked.
     pub(super) fn mark_linked(&self, marks: &mut TileSet, queue: &mut TileSet, tile: usize)
-        requires on_tiling { IsOnTiling self.now.tiling self.now.image.now }
-        requires marks { AreMarks self.now.tiling marks.old queue.old }
+        requires parts { CanMark self.now marks.old queue.old }
         requires tile { Has marks.old tile }
-        ensures { Adds (AreLinked self.now.tiling self.now.image.now self.now.conn tile)
-            marks.old queue.old marks.new queue.new }
+        ensures { Adds (IsLinkedBy self.now tile) marks.old queue.old marks.new queue.new }
     {
         each_pixel_in_one_tile();
         neighbours_lie_in_touching_tiles();
@@ -47,12 +45,10 @@ impl Links<'_> {
 
     // Marks a tile if it is linked with the first one.
     fn mark_if_linked(&self, marks: &mut TileSet, queue: &mut TileSet, tile: usize, other: usize)
-        requires on_tiling { IsOnTiling self.now.tiling self.now.image.now }
-        requires marks { AreMarks self.now.tiling marks.old queue.old }
+        requires parts { CanMark self.now marks.old queue.old }
         requires tile { tile < count_of self.now.tiling }
         requires other { other < count_of self.now.tiling }
-        ensures { Adds (λ t. (t ≡ other) × AreLinked self.now.tiling self.now.image.now self.now.conn tile t)
-            marks.old queue.old marks.new queue.new }
+        ensures { Adds (λ t. (t ≡ other) × IsLinkedBy self.now tile t) marks.old queue.old marks.new queue.new }
     {
         if !marks.contains(other) && self.are_linked(tile, other) {
             mark(marks, queue, other);
@@ -64,7 +60,7 @@ impl Links<'_> {
         requires on_tiling { IsOnTiling self.now.tiling self.now.image.now }
         requires tile { tile < count_of self.now.tiling }
         requires other { other < count_of self.now.tiling }
-        ensures { IsTrue result ↔ AreLinked self.now.tiling self.now.image.now self.now.conn tile other }
+        ensures { IsTrue result ↔ IsLinkedBy self.now tile other }
     {
         each_pixel_in_one_tile();
         // For its clause alone: the tiling is one of an image.
@@ -110,9 +106,8 @@ impl Links<'_> {
 
     // Whether the image is above 0 at one of `w` pixels from column `x` on of the row `y`.
     fn is_row_light(&self, x: u32, y: u32, w: u32) -> bool
-        requires column { x + w ≤ self.now.image.now.width }
-        requires row { y < self.now.image.now.height }
-        ensures { IsTrue result ↔ SomeIn (record { x = x; y = y; w = w; h = 1 }) (IsLight self.now.image.now) }
+        requires row { EndsWithin self.now.image.now.width self.now.image.now.height (pixels_upto x y w) }
+        ensures { IsTrue result ↔ SomeIn (pixels_upto x y w) (IsLight self.now.image.now) }
     {
         let row = self.row(x, y, w);
         for value in row {
@@ -125,8 +120,7 @@ impl Links<'_> {
 
     // The values of `w` pixels from column `x` on of the row `y`.
     fn row(&self, x: u32, y: u32, w: u32) -> &[u32]
-        requires column { x + w ≤ self.now.image.now.width }
-        requires row { y < self.now.image.now.height }
+        requires row { EndsWithin self.now.image.now.width self.now.image.now.height (pixels_upto x y w) }
         ensures { IsRowOf w (λ p. value_at self.now.image.now (record { x = x + p.x; y = p.y })) y result.now }
     {
         let width = self.image.width() as usize;
@@ -137,11 +131,9 @@ impl Links<'_> {
     // Whether the image is above 0 at one of `w` pixels from column `x` on of the row `y`, and at a neighbour of it
     // in the rectangle.
     fn is_row_linked(&self, x: u32, y: u32, w: u32, other: Rect) -> bool
-        requires column { x + w ≤ self.now.image.now.width }
-        requires row { y < self.now.image.now.height }
+        requires row { EndsWithin self.now.image.now.width self.now.image.now.height (pixels_upto x y w) }
         requires other { EndsWithin self.now.image.now.width self.now.image.now.height other }
-        ensures { IsTrue result ↔ SomeIn (record { x = x; y = y; w = w; h = 1 })
-            (IsLinkedInto self.now.image.now self.now.conn other) }
+        ensures { IsTrue result ↔ SomeIn (pixels_upto x y w) (IsLinkedInto self.now.image.now self.now.conn other) }
     {
         // For its clauses alone: the sides of an image are bounded.
         let _ = self.image.width();
@@ -181,10 +173,8 @@ impl Links<'_> {
     // `y`.
     fn is_row_light_beside(&self, p: Pixel, x: u32, y: u32, w: u32) -> bool
         requires inside { IsInside self.now.image.now.width self.now.image.now.height p }
-        requires column { x + w ≤ self.now.image.now.width }
-        requires row { y < self.now.image.now.height }
-        ensures { IsTrue result ↔ SomeIn (record { x = x; y = y; w = w; h = 1 })
-            (IsLightBeside self.now.image.now self.now.conn p) }
+        requires row { EndsWithin self.now.image.now.width self.now.image.now.height (pixels_upto x y w) }
+        ensures { IsTrue result ↔ SomeIn (pixels_upto x y w) (IsLightBeside self.now.image.now self.now.conn p) }
     {
         // For its clauses alone: the sides of an image are bounded.
         let _ = self.image.width();

@@ -1,9 +1,8 @@
 //! The walk from marked tiles to those that are linked.
 
 ghost use Rattle.std.specs.Prelude.{◌↔◌, ℕ};
-ghost use Rattle.border_queues.specs.OpenEdges.{IsOnTiling};
-ghost use Rattle.core_rules.specs.Hits.{AreLinked};
-ghost use Rattle.tile_resets.specs.Marks.{AreMarks, IsSpread};
+ghost use Rattle.tile_resets.specs.Linking.{CanMark, IsLinkedBy};
+ghost use Rattle.tile_resets.specs.Marks.{IsSpread};
 ghost use Rattle.tile_work.specs.TileSet.{Has};
 
 use crate::hits::links::Links;
@@ -11,11 +10,9 @@ use tile_work::TileSet;
 
 /// Marks the tiles to which links lead from the marked ones, which wait in the queue. The queue is empty then.
 pub(super) fn spread(links: &Links, marks: &mut TileSet, queue: &mut TileSet)
-    requires on_tiling { IsOnTiling links.now.tiling links.now.image.now }
-    requires marks { AreMarks links.now.tiling marks.old queue.old }
+    requires parts { CanMark links.now marks.old queue.old }
     requires waiting { (t : ℕ) → Has queue.old t ↔ Has marks.old t }
-    ensures { IsSpread (AreLinked links.now.tiling links.now.image.now links.now.conn) marks.old queue.old marks.new
-        queue.new }
+    ensures { IsSpread (IsLinkedBy links.now) marks.old queue.old marks.new queue.new }
 {
     while let Some(tile) = queue.first_from(0) {
         queue.remove(tile);

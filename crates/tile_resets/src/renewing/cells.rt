@@ -1,10 +1,10 @@
 //! Values of an image that are taken over from the marker.
 
-ghost use Rattle.std.specs.Prelude.{◌≡◌, ◌<◌, ◌≤◌, ◌↔◌, IsTrue, length, slice_index, EachIndex};
+ghost use Rattle.std.specs.Prelude.{◌≡◌, ◌<◌, ◌↔◌, IsTrue, length, slice_index, EachIndex};
 ghost use Rattle.grid_core.specs.Rects.{AreCellsChanged};
 ghost use Rattle.stroke_core.specs.Spans.{span_has};
 ghost use Rattle.core_rules.specs.Image.{IsOfSize};
-ghost use Rattle.tile_resets.specs.Renewing.{marker_value, greater_value, made_at, IsMadeWhere};
+ghost use Rattle.tile_resets.specs.Renewing.{marker_value, greater_at, greater_value, made_at, IsMadeWhere, IsSpanIn};
 ghost use Rattle.tile_resets.specs.Renewing.{HaveCells, RisesWhere, SomeIsLess};
 
 use grid_core::Grid;
@@ -14,9 +14,7 @@ use stroke_core::Span;
 /// Raises the image's values of a span to the marker's. Says whether one rose.
 pub(crate) fn raise_span(image: &mut Grid, marker: &Grid, span: Span) -> bool
     requires size { IsOfSize marker.now image.old }
-    requires row { span.y < marker.now.height }
-    requires order { span.first ≤ span.end }
-    requires columns { span.end ≤ marker.now.width }
+    requires span { IsSpanIn marker.now span }
     ensures values { IsMadeWhere (span_has span) greater_value marker.now image.old image.new }
     ensures rose { IsTrue result ↔ RisesWhere (span_has span) image.old image.new }
 {
@@ -55,8 +53,7 @@ fn raise_cells(image: &mut Grid, marker: &Grid, from: usize, to: usize) -> bool
 // Raises each value of a row to the marker's. Says whether one rose.
 fn raise_row(row: &mut [u32], marker: &[u32]) -> bool
     requires { length marker.now ≡ length row.old }
-    ensures values { EachIndex row.new (λ k. slice_index row.new k
-        ≡ greater_value (slice_index row.old k) (slice_index marker.now k)) }
+    ensures values { EachIndex row.new (λ k. slice_index row.new k ≡ greater_at row.old marker.now k) }
     ensures rose { IsTrue result ↔ SomeIsLess 0 (length row.old) row.old marker.now }
 {
     let mut rose = false;

@@ -38,6 +38,6 @@ returns c =
           walk_ends (Has c.args.marks.now) linked (length c.args.marks.now) c.loop-tile.marks c.loop-tile.queue
           c.loop-tile.invariant (λ t has. c.in_default.ensures t (omega arith) has);
       count = c.loop-tile.invariant.count;
-      queue_count = c.loop-tile.invariant.queue_count ∙ sym c.requires.marks.queue_count;
+      queue_count = c.loop-tile.invariant.queue_count ∙ sym c.requires.parts.each_tile.queue_count;
       none = λ t has. c.in_default.ensures t (omega arith) has;
     }

@@ -18,7 +18,7 @@ made : (c : goal.After-raise_cells)
 made c =
     cells_are_span c.args.span (c.args.span.y * c.width.result + c.args.span.first)
     (c.args.span.y * c.width.result + c.args.span.end) greater_value c.args.marker.now c.args.image.now
-    c.raise_cells.new.image c.requires.size c.requires.columns (from_is c) (to_is c) c.raise_cells.ensures.values
+    c.raise_cells.new.image c.requires.size c.requires.span.columns (from_is c) (to_is c) c.raise_cells.ensures.values
 
 pub raise_cells-requires : goal.raise_cells-requires
 raise_cells-requires c =
@@ -31,5 +31,5 @@ pub returns-clause-rose : goal.returns-clause-rose
 returns-clause-rose c =
     let cells = rises_by_cells c.args.span (c.args.span.y * c.width.result + c.args.span.first)
     (c.args.span.y * c.width.result + c.args.span.end) c.args.marker.now c.args.image.now
-    c.raise_cells.new.image c.requires.size c.requires.row c.requires.columns (from_is c) (to_is c) (made c) in
+    c.raise_cells.new.image c.requires.size c.requires.span.row c.requires.span.columns (from_is c) (to_is c) (made c) in
     (λ yes. cells.0 (c.raise_cells.ensures.rose.0 yes), λ r. c.raise_cells.ensures.rose.1 (cells.1 r))

@@ -1,8 +1,8 @@
 -- What the tactics leave open of `is_row_light`.
 use Rattle.std.proofs.Common.{◌+◌, ◌<◌, ◌≤◌, arith}
 use Rattle.grid_core.specs.Raster.{value_at}
-use Rattle.tile_resets.specs.Marks.{SomeIn, IsLight}
-use Rattle.tile_resets.proofs.HittingRects.{pixels_upto, yes_where, no_where, some_at_pixel}
+use Rattle.tile_resets.specs.Marks.{SomeIn, IsLight, pixels_upto}
+use Rattle.tile_resets.proofs.HittingRects.{yes_where, no_where, some_at_pixel}
 use Rattle.tile_resets.proofs.HittingRects.{none_in_more_pixels, none_in_all_pixels}
 use Rattle.tile_resets.proofs.hits.links.Links.is_row_light.Goals as goal
 

@@ -1,6 +1,5 @@
 -- What the loop of `is_row_light` keeps.
-use Rattle.tile_resets.specs.Marks.{SomeIn, IsLight}
-use Rattle.tile_resets.proofs.HittingRects.{pixels_upto}
+use Rattle.tile_resets.specs.Marks.{SomeIn, IsLight, pixels_upto}
 use Rattle.tile_resets.proofs.hits.links.Links.is_row_light.Given as goal
 
 -- none of the pixels so far

@@ -1,6 +1,5 @@
 -- What the loop of `is_row_linked` keeps.
-use Rattle.tile_resets.specs.Marks.{SomeIn, IsLinkedInto}
-use Rattle.tile_resets.proofs.HittingRects.{pixels_upto}
+use Rattle.tile_resets.specs.Marks.{SomeIn, IsLinkedInto, pixels_upto}
 use Rattle.tile_resets.proofs.hits.links.Links.is_row_linked.Given as goal
 
 -- none of the pixels so far
