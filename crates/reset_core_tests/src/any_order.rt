@@ -5,7 +5,7 @@ ghost use Rattle.std.specs.Prelude.{⊤};
 use crate::chance::{draw, some_delta, some_mask, some_step};
 use crate::replica::Replica;
 use crate::scene::{Account, Outcome};
-use grid_core::Conn;
+use grid_core::{Conn, Grid};
 use reset_core::{Back, Handed, Step};
 use std::alloc::Global;
 use std::marker::Model;
@@ -84,6 +84,16 @@ impl Model for Play {
     ghost view = { λ _. tt };
 }
 
+// Two replicas under each connectivity on one mask, and one on another.
+fn replicas_on(alloc: Global, mask: &Grid, other: &Grid, side: u16) -> Result<Vec<Replica>, Fail> {
+    let mut replicas = Vec::new(alloc);
+    for conn in [Conn::Four, Conn::Eight, Conn::Four, Conn::Eight] {
+        replicas.push(Replica::on(alloc, mask, conn, side)?)?;
+    }
+    replicas.push(Replica::on(alloc, other, Conn::Four, side)?)?;
+    Ok(replicas)
+}
+
 impl Play {
     // Two replicas under each connectivity on one mask, and one on another.
     fn begin(alloc: Global, first: u64, seen: Seen) -> Result<Play, Fail> {
@@ -91,15 +101,10 @@ impl Play {
         let mask = some_mask(alloc, &mut seed, WIDTH, HEIGHT)?;
         let other = some_mask(alloc, &mut seed, WIDTH, HEIGHT)?;
         let side = draw(&mut seed, 4).saturating_add(8);
-        let mut replicas = Vec::new(alloc);
-        for conn in [Conn::Four, Conn::Eight, Conn::Four, Conn::Eight] {
-            replicas.push(Replica::on(alloc, &mask, conn, side)?)?;
-        }
-        replicas.push(Replica::on(alloc, &other, Conn::Four, side)?)?;
         Ok(Play {
             alloc,
             seed,
-            replicas,
+            replicas: replicas_on(alloc, &mask, &other, side)?,
             results: Vec::new(alloc),
             seen,
         })
@@ -193,6 +198,25 @@ impl Play {
         Ok(true)
     }
 
+    // Lets 60 things happen.
+    fn steps(&mut self) -> Result<(), Fail> {
+        for _ in 0..60 {
+            self.step()?;
+        }
+        Ok(())
+    }
+
+    // Lets 240 things happen, and says whether each image lay between the marker and what grows from it after each 60.
+    fn stays_between(&mut self) -> Result<bool, Fail> {
+        for _ in 0..4 {
+            self.steps()?;
+            if !self.is_between()? {
+                return Ok(false);
+            }
+        }
+        Ok(true)
+    }
+
     // Whether each replica settles on what grows from its strokes.
     fn settles(&mut self) -> Result<bool, Fail> {
         for replica in &mut self.replicas {
@@ -209,12 +233,7 @@ fn each_core_settles_on_what_grows_from_its_strokes(rt: HostRuntime) -> Result<(
     let mut seen = Seen::none();
     for round in 0..30_u64 {
         let mut play = Play::begin(rt.alloc(), round, seen)?;
-        for _ in 0..4 {
-            for _ in 0..60 {
-                play.step()?;
-            }
-            assert!(rt; play.is_between()?, "{round}");
-        }
+        assert!(rt; play.stays_between()?, "{round}");
         assert!(rt; play.settles()?, "{round}");
         seen = play.seen();
     }
@@ -242,18 +261,33 @@ fn ran_so(
     Ok(account.lists(&accepted, &refused))
 }
 
+// A replica of a random mask.
+fn some_replica(alloc: Global, seed: &mut u64, conn: Conn) -> Result<Replica, Fail> {
+    let mask = some_mask(alloc, seed, WIDTH, HEIGHT)?;
+    Replica::on(alloc, &mask, conn, 8)
+}
+
+// A schedule of random steps.
+fn some_schedule(alloc: Global, seed: &mut u64) -> Result<Vec<Step>, Fail> {
+    let mut steps = Vec::new(alloc);
+    for _ in 0..120 {
+        steps.push(some_step(alloc, seed, WIDTH, HEIGHT)?)?;
+    }
+    Ok(steps)
+}
+
+// Whether the replica runs the steps as it should, and its image lies between the marker and what grows from it.
+fn runs(alloc: Global, replica: &mut Replica, steps: &[Step]) -> Result<bool, Fail> {
+    let account = replica.scene().run(steps)?;
+    Ok(ran_so(alloc, replica, steps, &account)? && replica.is_between()?)
+}
+
 // Whether a core that ran a schedule settles on what grows from its strokes.
 fn settles_after_schedule(alloc: Global, first: u64, conn: Conn) -> Result<bool, Fail> {
     let mut seed = first;
-    let mask = some_mask(alloc, &mut seed, WIDTH, HEIGHT)?;
-    let mut steps = Vec::new(alloc);
-    for _ in 0..120 {
-        steps.push(some_step(alloc, &mut seed, WIDTH, HEIGHT)?)?;
-    }
-    let mut replica = Replica::on(alloc, &mask, conn, 8)?;
-    let account = replica.scene().run(&steps)?;
-    let is_so = ran_so(alloc, &mut replica, &steps, &account)?;
-    Ok(is_so && replica.is_between()? && replica.settles()?)
+    let mut replica = some_replica(alloc, &mut seed, conn)?;
+    let steps = some_schedule(alloc, &mut seed)?;
+    Ok(runs(alloc, &mut replica, &steps)? && replica.settles()?)
 }
 
 #[test]

@@ -238,19 +238,17 @@ impl Outcome {
 /// Whether no core with tiles of this side is opened on a mask of one row, for its side, and the mask is handed back.
 pub fn is_row_handed_back(alloc: Global, row: &[u32], side: u32) -> Result<bool, Fail> {
     let mask = grid_of(alloc, u32::try_from(row.len())?, 1, row)?;
-    match Core::over(alloc, mask, Conn::Four, side, 0) {
-        Ok(_) => Ok(false),
-        Err(refused) => Ok(refused.why == CoreError::BadSide && refused.mask.cells() == row),
+    match Core::over(alloc, mask, Conn::Four, side, 0).err() {
+        Some(refused) => Ok(refused.why == CoreError::BadSide && refused.mask.cells() == row),
+        None => Ok(false),
     }
 }
 
 /// Whether no core with tiles of this side is opened on an image of one row, for its side.
 pub fn is_side_refused(alloc: Global, row: &[u32], side: u32) -> Result<bool, Fail> {
     let mask = row_of(alloc, row)?;
-    match Core::open_tiled(alloc, &mask, Conn::Four, side, 0) {
-        Ok(_) => Ok(false),
-        Err(why) => Ok(why == CoreError::BadSide),
-    }
+    let refusal = Core::open_tiled(alloc, &mask, Conn::Four, side, 0).err();
+    Ok(refusal == Some(CoreError::BadSide))
 }
 
 /// A core.
@@ -339,7 +337,7 @@ impl Scene {
         Ok(self.refusal(edit).is_none())
     }
 
-    /// Takes a tile.
+    /// Takes a tile, if it gives a job.
     pub fn try_take(&mut self, tile: usize) -> Result<Option<Task>, Fail> {
         match self.core.take(self.alloc, tile)? {
             Some(job) => Ok(Some(Task { job })),
@@ -353,26 +351,12 @@ impl Scene {
         Ok(task.is_some())
     }
 
-    /// Takes a tile that can be taken.
-    pub fn take(&mut self, tile: usize) -> Result<Task, Fail> {
-        match self.try_take(tile)? {
-            Some(task) => Ok(task),
-            None => Err(Fail::new("the tile gives no job")),
-        }
-    }
-
     /// Takes a tile, and sweeps its job, if it gives one.
     pub fn try_sweep(&mut self, tile: usize) -> Result<Option<Outcome>, Fail> {
         match self.try_take(tile)? {
             Some(task) => Ok(Some(task.sweep(self.alloc)?)),
             None => Ok(None),
         }
-    }
-
-    /// Takes a tile that can be taken, and sweeps its job.
-    pub fn take_and_sweep(&mut self, tile: usize) -> Result<Outcome, Fail> {
-        let task = self.take(tile)?;
-        task.sweep(self.alloc)
     }
 
     /// Gives back a swept tile.
@@ -390,10 +374,12 @@ impl Scene {
         self.give_back(copy)
     }
 
-    /// Takes a tile, sweeps its job and gives it back.
-    pub fn work(&mut self, tile: usize) -> Result<Back, Fail> {
-        let outcome = self.take_and_sweep(tile)?;
-        self.give_back(outcome)
+    /// Takes a tile, sweeps its job and gives it back, if it gives one.
+    pub fn work(&mut self, tile: usize) -> Result<Option<Back>, Fail> {
+        match self.try_sweep(tile)? {
+            Some(outcome) => Ok(Some(self.give_back(outcome)?)),
+            None => Ok(None),
+        }
     }
 
     /// Abandons a job.

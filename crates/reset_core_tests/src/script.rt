@@ -71,6 +71,17 @@ pub struct Ran {
     pub refused: &'static [(usize, Refusal)],
 }
 
+/// A case: what it shows, how its cores are opened, and what happens to them.
+#[derive(Clone, Copy)]
+pub struct Case {
+    /// What it shows.
+    pub name: &'static str,
+    /// How its cores are opened, core 0 first.
+    pub starts: &'static [Start],
+    /// What happens, line by line.
+    pub lines: &'static [Line],
+}
+
 /// A line of a script: what happens, with what is answered to it, or what is shown.
 #[derive(Clone, Copy)]
 pub enum Line {
@@ -88,6 +99,8 @@ pub enum Line {
     Take(usize, u64, u64),
     /// This tile gives no job.
     NoJob(usize),
+    /// This tile gives its first job, with these neighbours, these pixels and this mask. The job is lost.
+    Job(usize, Conn, &'static [u32], &'static [u32]),
     /// A copy of this result is given back.
     Return(usize, Back),
     /// This tile gives a job, whose result is given back.
@@ -132,12 +145,16 @@ pub enum Line {
     Dirty(&'static [usize]),
     /// The tiles of which a job is out.
     Out(&'static [usize]),
+    /// A job of this tile is out, of this generation and serial.
+    TicketOut(usize, u64, u64),
     /// So many hints wait for this tile.
     Waiting(usize, usize),
     /// Which pixels are neighbours.
     Under(Conn),
     /// The side of the tiles.
     Side(u32),
+    /// The last core is taken apart into this mask, this image, and the strokes of this edit alone.
+    Parts(&'static [u32], &'static [u32], Act),
 }
 
 // The delta of an act, if it is an edit.
@@ -193,6 +210,45 @@ fn runs(alloc: Global, scene: &mut Scene, acts: &[Act], want: Ran) -> Result<boo
     Ok(are_listed && account.counts(want.jobs, want.abandons))
 }
 
+// Whether a core takes an edit.
+fn takes(alloc: Global, scene: &mut Scene, act: Act) -> Result<bool, Fail> {
+    let edit = edit_of(alloc, act)?;
+    scene.takes(&edit)
+}
+
+// Whether a core refuses the join of these edits for this reason.
+fn refuses(alloc: Global, scene: &mut Scene, acts: &[Act], why: Refusal) -> Result<bool, Fail> {
+    let edit = join_of(alloc, acts)?;
+    Ok(scene.refuses(&edit, error_of(why)))
+}
+
+// Whether the strokes of a core are those of an edit alone.
+fn has_strokes_of(alloc: Global, scene: &Scene, act: Act) -> Result<bool, Fail> {
+    let edit = edit_of(alloc, act)?;
+    Ok(scene.has_strokes_of(&edit))
+}
+
+// Whether a tile gives no job.
+fn gives_none(scene: &mut Scene, tile: usize) -> Result<bool, Fail> {
+    Ok(!scene.gives_job(tile)?)
+}
+
+// Whether a tile gives a job, whose result is given back so.
+fn works(scene: &mut Scene, tile: usize, back: Back) -> Result<bool, Fail> {
+    Ok(scene.work(tile)? == Some(back))
+}
+
+// Whether so much of the reconstruction is lacking.
+fn owes(scene: &Scene, amount: u64) -> Result<bool, Fail> {
+    Ok(scene.owed()? == amount)
+}
+
+// Whether a core settles.
+fn does_settle(scene: &mut Scene) -> Result<bool, Fail> {
+    scene.settle()?;
+    Ok(true)
+}
+
 // Whether a core settles so.
 fn settles(scene: &mut Scene, jobs: u64, abandons: u64) -> Result<bool, Fail> {
     let count = scene.settle()?;
@@ -208,27 +264,42 @@ fn changes(
     dead: &[u128],
 ) -> Result<bool, Fail> {
     let edit = edit_of(alloc, act)?;
-    Ok(scene.merge(&edit)?.is(born, dead))
+    match scene.merge(&edit) {
+        Ok(news) => Ok(news.is(born, dead)),
+        Err(_) => Ok(false),
+    }
+}
+
+// Whether a tile gives its first job so.
+fn gives_job(
+    scene: &mut Scene,
+    tile: usize,
+    conn: Conn,
+    base: &[u32],
+    mask: &[u32],
+) -> Result<bool, Fail> {
+    match scene.try_take(tile)? {
+        Some(job) => Ok(job.is_of(tile, 0, 0) && job.is_under(conn) && job.has(base, mask)),
+        None => Ok(false),
+    }
 }
 
 // Whether what happens to a core by this line is answered so; or whether it shows this.
 fn is_so(alloc: Global, scene: &mut Scene, line: Line) -> Result<bool, Fail> {
     match line {
-        Line::Place(tag, level, x0, x1) => scene.takes(&Edit::place(alloc, tag, level, x0, x1)?),
-        Line::Withdraw(tag) => scene.takes(&Edit::withdraw(alloc, tag)?),
+        Line::Place(tag, level, x0, x1) => takes(alloc, scene, Act::Place(tag, level, x0, x1)),
+        Line::Withdraw(tag) => takes(alloc, scene, Act::Withdraw(tag)),
         Line::Change(act, born, dead) => changes(alloc, scene, act, born, dead),
-        Line::Refused(acts, why) => Ok(scene.refuses(&join_of(alloc, acts)?, error_of(why))),
-        Line::NoJob(tile) => Ok(!scene.gives_job(tile)?),
-        Line::Work(tile, back) => Ok(scene.work(tile)? == back),
+        Line::Refused(acts, why) => refuses(alloc, scene, acts, why),
+        Line::NoJob(tile) => gives_none(scene, tile),
+        Line::Job(tile, conn, base, mask) => gives_job(scene, tile, conn, base, mask),
+        Line::Work(tile, back) => works(scene, tile, back),
         Line::Hand(tile, place, handed) => Ok(scene.hand(tile, place) == handed),
-        Line::Settle => {
-            scene.settle()?;
-            Ok(true)
-        }
+        Line::Settle => does_settle(scene),
         Line::SettleBy(jobs, abandons) => settles(scene, jobs, abandons),
         Line::Run(acts, want) => runs(alloc, scene, acts, want),
-        Line::StrokesOf(act) => Ok(scene.has_strokes_of(&edit_of(alloc, act)?)),
-        Line::Owes(amount) => Ok(scene.owed()? == amount),
+        Line::StrokesOf(act) => has_strokes_of(alloc, scene, act),
+        Line::Owes(amount) => owes(scene, amount),
         _ => Ok(shows(scene, line)),
     }
 }
@@ -246,6 +317,7 @@ fn shows(scene: &Scene, line: Line) -> bool {
         Line::EachGeneration(tiles, generation) => scene.has_each_generation(tiles, generation),
         Line::Dirty(tiles) => scene.has_dirty(tiles),
         Line::Out(tiles) => scene.has_out(tiles),
+        Line::TicketOut(tile, generation, serial) => scene.has_ticket_out(tile, generation, serial),
         Line::Waiting(tile, count) => scene.waiting(tile) == count,
         Line::Under(conn) => scene.is_under(conn),
         Line::Side(side) => scene.side() == side,
@@ -280,17 +352,6 @@ fn opened(alloc: Global, start: Start) -> Result<Scene, Fail> {
     }
 }
 
-/// A core on which these lines were played.
-pub fn played(alloc: Global, start: Start, lines: &[Line]) -> Result<Scene, Fail> {
-    let mut scene = opened(alloc, start)?;
-    for line in lines {
-        if !is_so(alloc, &mut scene, *line)? {
-            return Err(Fail::new("a line is not so"));
-        }
-    }
-    Ok(scene)
-}
-
 // Some cores, and the results of their jobs.
 #[derive(Drop)]
 struct Stage {
@@ -312,7 +373,9 @@ impl Stage {
         let Some(scene) = self.scenes.get_mut(self.at) else {
             return Ok(false);
         };
-        let outcome = scene.take_and_sweep(tile)?;
+        let Some(outcome) = scene.try_sweep(tile)? else {
+            return Ok(false);
+        };
         let is_so = outcome.is_of(tile, generation, serial);
         self.results.push(outcome)?;
         Ok(is_so)
@@ -358,6 +421,15 @@ impl Stage {
         }
     }
 
+    // Whether the last core is taken apart into these.
+    fn falls_into(&mut self, mask: &[u32], image: &[u32], strokes: Act) -> Result<bool, Fail> {
+        let strokes = edit_of(self.alloc, strokes)?;
+        match self.scenes.pop() {
+            Some(scene) => Ok(scene.falls_into(mask, image, &strokes)),
+            None => Ok(false),
+        }
+    }
+
     // Whether the line is so.
     fn is_so(&mut self, line: Line) -> Result<bool, Fail> {
         match line {
@@ -371,6 +443,7 @@ impl Stage {
             Line::Result(place, pixels) => Ok(self.has_pixels(place, pixels)),
             Line::SameTicket(place, other) => Ok(self.have_same_ticket(place, other)),
             Line::StrokesAs(other) => Ok(self.has_strokes_as(other)),
+            Line::Parts(mask, image, strokes) => self.falls_into(mask, image, strokes),
             _ => match self.scenes.get_mut(self.at) {
                 Some(scene) => is_so(self.alloc, scene, line),
                 None => Ok(false),
@@ -379,22 +452,38 @@ impl Stage {
     }
 }
 
-/// Plays the lines on cores that are opened so. It fails at the first line that is not so.
-pub fn play(alloc: Global, starts: &[Start], lines: &[Line]) -> Result<(), Fail> {
+// The cores of a case, opened.
+fn stage_of(alloc: Global, starts: &[Start]) -> Result<Stage, Fail> {
     let mut scenes = Vec::new(alloc);
     for start in starts {
         scenes.push(opened(alloc, *start)?)?;
     }
-    let mut stage = Stage {
+    Ok(Stage {
         alloc,
         scenes,
         results: Vec::new(alloc),
         at: 0,
-    };
-    for (number, line) in lines.iter().enumerate() {
-        if !stage.is_so(*line)? {
-            return Err(Fail::new(format_args!("line {number}, from 0, is not so")));
+    })
+}
+
+impl Case {
+    // Plays the lines on the cores. It fails at the first line that is not so.
+    fn play(self, alloc: Global) -> Result<(), Fail> {
+        let name = self.name;
+        let mut stage = stage_of(alloc, self.starts)?;
+        for (number, line) in self.lines.iter().enumerate() {
+            if !stage.is_so(*line)? {
+                return Err(Fail::new(format_args!("{name}: line {number}, from 0, is not so")));
+            }
         }
+        Ok(())
+    }
+}
+
+/// Plays each case. It fails at the first line that is not so.
+pub fn play_all(alloc: Global, cases: &[Case]) -> Result<(), Fail> {
+    for case in cases {
+        case.play(alloc)?;
     }
     Ok(())
 }
