@@ -34,6 +34,13 @@ returns-then-is_err-clause-responds g c =
       untouched = λ no_failure. absurd (no_failure failure);
       written = λ _. inr (
         risen,
-        (c.deref.result.now, c.in_ok-value.text.items, c.in_ok-value.value, input, c.in_ok-value.ensures.answered, front),
+        (
+          c.deref.result.now,
+          c.in_ok-value.text.items,
+          c.in_ok-value.value,
+          input,
+          c.in_ok-value.ensures.answered,
+          front,
+        ),
       );
     }
