@@ -31,5 +31,6 @@ pub returns-clause-rose : goal.returns-clause-rose
 returns-clause-rose c =
     let cells = rises_by_cells c.args.span (c.args.span.y * c.width.result + c.args.span.first)
     (c.args.span.y * c.width.result + c.args.span.end) c.args.marker.now c.args.image.now
-    c.raise_cells.new.image c.requires.size c.requires.span.row c.requires.span.columns (from_is c) (to_is c) (made c) in
+    c.raise_cells.new.image c.requires.size c.requires.span.row c.requires.span.columns (from_is c) (to_is c)
+    (made c) in
     (λ yes. cells.0 (c.raise_cells.ensures.rose.0 yes), λ r. c.raise_cells.ensures.rose.1 (cells.1 r))
