@@ -1,14 +1,14 @@
 //! Two replicas that place a stroke each, and send it to each other.
 
-use crate::scene::{Act, Scene};
-use replica_world::WorldError;
+use crate::scene::{Act, Refusal};
+use crate::script::{Case, Line, Mask, Sight, play_all};
 use std::test::Fail;
 
-const MASK: [u32; 5] = [3, 5, 2, 5, 4];
+const MASK: Mask = Mask::Row(&[3, 5, 2, 5, 4]);
 
 // The first stroke at the first replica, the second at the other; each is sent, the second one comes twice; a job of
 // each, and its result to its own replica, and one to the other; and a packet that was never sent.
-const ACTS: [Act; 13] = [
+const ACTS: &[Act] = &[
     Act::Place(0, 1, 9, 1),
     Act::Send(0, 0),
     Act::Place(1, 2, 3, 4),
@@ -24,58 +24,78 @@ const ACTS: [Act; 13] = [
     Act::Deliver(0, 7),
 ];
 
-// Whether both replicas show the reconstruction from both strokes, and took what they took.
-fn is_at_end(scene: &Scene) -> bool {
-    let shown = scene.shows(0, &[3, 5, 2, 3, 3]) && scene.shows(1, &[3, 5, 2, 3, 3]);
-    let quiet = scene.is_quiet(0) && scene.is_quiet(1);
-    shown && quiet && scene.took(0) == 2 && scene.took(1) == 3
-}
+const CASES: &[Case] = &[
+    Case {
+        name: "both show both strokes",
+        mask: MASK,
+        replicas: 2,
+        lines: &[
+            Line::Steps(0),
+            Line::Run(ACTS, &[(12, Refusal::NoSuch)]),
+            Line::At(0, Sight::Image(&[3, 5, 2, 3, 3])),
+            Line::At(1, Sight::Image(&[3, 5, 2, 3, 3])),
+            Line::At(0, Sight::Quiet),
+            Line::At(1, Sight::Quiet),
+            Line::At(0, Sight::Took(2)),
+            Line::At(1, Sight::Took(3)),
+            Line::Steps(13),
+            Line::Packets(2),
+            Line::Results(2),
+        ],
+    },
+    // The frame of one stroke of one run has 68 bytes.
+    Case {
+        name: "a packet is the frame of a piece",
+        mask: MASK,
+        replicas: 2,
+        lines: &[
+            Line::Acts(&[Act::Place(0, 1, 9, 1), Act::Send(0, 0)]),
+            Line::Length(0, 68),
+            Line::NoSuch(&[Act::Send(0, 1), Act::Send(1, 0)]),
+            Line::Packets(1),
+        ],
+    },
+    Case {
+        name: "a second run counts its own steps",
+        mask: MASK,
+        replicas: 1,
+        lines: &[
+            Line::Run(
+                &[Act::Place(0, 1, 9, 1), Act::Take(0, 0), Act::Take(0, 0)],
+                &[],
+            ),
+            Line::Steps(3),
+            Line::Acts(&[Act::Return(0, 0)]),
+            Line::Steps(3),
+            Line::Run(&[Act::Return(0, 5)], &[(0, Refusal::NoSuch)]),
+            Line::Steps(1),
+        ],
+    },
+];
 
 #[test]
-fn both_show_both_strokes(rt: HostRuntime) -> Result<(), Fail> {
-    let mut scene = Scene::on_row(rt.alloc(), &MASK, 2)?;
-    assert!(rt; scene.steps() == 0);
-    assert!(rt; scene.does_run(&ACTS, &[(12, WorldError::NoSuch)])?);
-    assert!(rt; is_at_end(&scene));
-    assert!(rt; scene.steps() == 13);
-    assert!(rt; scene.packets() == 2 && scene.results() == 2);
-    Ok(())
-}
-
-// The frame of one stroke of one run has 68 bytes.
-#[test]
-fn a_packet_is_the_frame_of_a_piece(rt: HostRuntime) -> Result<(), Fail> {
-    let mut scene = Scene::on_row(rt.alloc(), &MASK, 2)?;
-    scene.act_all(&[Act::Place(0, 1, 9, 1), Act::Send(0, 0)])?;
-    assert!(rt; scene.has_packet_of(0, 68));
-    assert!(rt; scene.names_all_nothing(&[Act::Send(0, 1), Act::Send(1, 0)])?);
-    assert!(rt; scene.packets() == 1);
-    Ok(())
+fn two_replicas_tell_each_other(rt: HostRuntime) -> Result<(), Fail> {
+    play_all(rt.alloc(), CASES)
 }
 
 // With one allocation that is refused, whichever it is, the rest of the list leads to the same end. That one is refused
 // is the wish of whoever starts the test.
+const RUN_THROUGH: &[Case] = &[Case {
+    name: "a run goes on after want of memory",
+    mask: MASK,
+    replicas: 2,
+    lines: &[
+        Line::RunThrough(ACTS),
+        Line::At(0, Sight::Image(&[3, 5, 2, 3, 3])),
+        Line::At(1, Sight::Image(&[3, 5, 2, 3, 3])),
+        Line::At(0, Sight::Quiet),
+        Line::At(1, Sight::Quiet),
+        Line::At(0, Sight::Took(2)),
+        Line::At(1, Sight::Took(3)),
+    ],
+}];
+
 #[test]
 fn a_run_goes_on_after_want_of_memory(rt: HostRuntime) -> Result<(), Fail> {
-    let mut scene = Scene::on_row(rt.alloc(), &MASK, 2)?;
-    scene.run_through(&ACTS)?;
-    assert!(rt; is_at_end(&scene));
-    Ok(())
-}
-
-// Whether a run of three events has three steps, also after an event by itself.
-fn has_three_steps(scene: &mut Scene) -> Result<bool, Fail> {
-    let acts = [Act::Place(0, 1, 9, 1), Act::Take(0, 0), Act::Take(0, 0)];
-    let is_run = scene.does_run(&acts, &[])? && scene.steps() == 3;
-    scene.act(Act::Return(0, 0))?;
-    Ok(is_run && scene.steps() == 3)
-}
-
-#[test]
-fn a_second_run_counts_its_own_steps(rt: HostRuntime) -> Result<(), Fail> {
-    let mut scene = Scene::on_row(rt.alloc(), &MASK, 1)?;
-    assert!(rt; has_three_steps(&mut scene)?);
-    assert!(rt; scene.does_run(&[Act::Return(0, 5)], &[(0, WorldError::NoSuch)])?);
-    assert!(rt; scene.steps() == 1);
-    Ok(())
+    play_all(rt.alloc(), RUN_THROUGH)
 }

@@ -16,4 +16,6 @@ mod resets;
 #[cfg(test)]
 mod scene;
 #[cfg(test)]
+mod script;
+#[cfg(test)]
 mod withdrawals;

@@ -3,11 +3,13 @@
 
 ghost use Rattle.std.specs.Prelude.{⊤};
 
+use core_rules::CoreError;
 use grid_core::{Conn, Grid};
 use marker_tiles::marker;
 use pgm_codec::Image;
 use raster_sweeps::slow;
 use replica_world::{Event, World, WorldError};
+use reset_core::Core;
 use std::alloc::Global;
 use std::marker::Model;
 use std::test::Fail;
@@ -35,6 +37,38 @@ pub enum Act {
     Abandon(usize, usize),
     /// The hint at this place of this tile's inbox is handed over.
     Hand(usize, usize, usize),
+}
+
+/// Why an act is refused.
+#[derive(Clone, Copy)]
+pub enum Refusal {
+    /// One of its numbers names nothing.
+    NoSuch,
+    /// The stroke of this tag does not fit the image.
+    OutOfImage(u128),
+    /// There is another stroke of this tag.
+    Conflict(u128),
+}
+
+// The world's word for a refusal.
+fn error_of(refusal: Refusal) -> WorldError {
+    match refusal {
+        Refusal::NoSuch => WorldError::NoSuch,
+        Refusal::OutOfImage(tag) => WorldError::Core(CoreError::OutOfImage(Tag(tag))),
+        Refusal::Conflict(tag) => WorldError::Core(CoreError::Conflict(Tag(tag))),
+    }
+}
+
+// The world's words for refusals.
+fn errors_of(
+    alloc: Global,
+    refusals: &[(usize, Refusal)],
+) -> Result<Vec<(usize, WorldError)>, Fail> {
+    let mut errors = Vec::new(alloc);
+    for (number, refusal) in refusals {
+        errors.push((*number, error_of(*refusal)))?;
+    }
+    Ok(errors)
 }
 
 // A stroke of one pixel of the top row.
@@ -99,14 +133,11 @@ fn image_of(alloc: Global, width: u32, height: u32, samples: &[u32]) -> Result<I
     Ok(Image::from_grid(alloc, &grid, 9)?)
 }
 
-/// Why no world of so many replicas is opened on a mask of one row, if none is.
-pub fn refusal_of_count(
-    alloc: Global,
-    row: &[u32],
-    count: usize,
-) -> Result<Option<WorldError>, Fail> {
+/// Whether no world of so many replicas is opened on a mask of one row, for their number.
+pub fn is_count_refused(alloc: Global, row: &[u32], count: usize) -> Result<bool, Fail> {
     let mask = image_of(alloc, u32::try_from(row.len())?, 1, row)?;
-    Ok(World::open(alloc, &mask, Conn::Four, count).err())
+    let refusal = World::open(alloc, &mask, Conn::Four, count).err();
+    Ok(refusal == Some(WorldError::NoSuch))
 }
 
 impl Scene {
@@ -138,88 +169,64 @@ impl Scene {
         Ok(self.world.step(self.alloc, &event).err())
     }
 
-    /// Whether an act names nothing.
-    pub fn names_nothing(&mut self, act: Act) -> Result<bool, Fail> {
-        let refusal = self.refusal(act)?;
-        Ok(refusal == Some(WorldError::NoSuch))
-    }
-
     /// Whether an act is refused.
     pub fn is_refused(&mut self, act: Act) -> Result<bool, Fail> {
         let event = event_of(self.alloc, act)?;
         Ok(self.world.step(self.alloc, &event).is_err())
     }
 
-    /// Whether each of these acts names nothing.
-    pub fn names_all_nothing(&mut self, acts: &[Act]) -> Result<bool, Fail> {
-        for act in acts {
-            if !self.names_nothing(*act)? {
-                return Ok(false);
-            }
-        }
-        Ok(true)
-    }
-
     /// Has an act happen.
-    pub fn act(&mut self, act: Act) -> Result<(), Fail> {
+    fn act(&mut self, act: Act) -> Result<(), Fail> {
         if self.is_refused(act)? {
             return Err(Fail::new("an event is refused"));
         }
         Ok(())
     }
 
-    /// Has these acts happen, of which none is refused.
-    pub fn act_all(&mut self, acts: &[Act]) -> Result<(), Fail> {
+    /// Whether none of these acts is refused.
+    pub fn do_happen(&mut self, acts: &[Act]) -> Result<bool, Fail> {
         for act in acts {
-            self.act(*act)?;
+            if self.is_refused(*act)? {
+                return Ok(false);
+            }
         }
-        Ok(())
+        Ok(true)
+    }
+
+    /// Whether each of these acts names nothing.
+    pub fn name_nothing(&mut self, acts: &[Act]) -> Result<bool, Fail> {
+        for act in acts {
+            if self.refusal(*act)? != Some(WorldError::NoSuch) {
+                return Ok(false);
+            }
+        }
+        Ok(true)
+    }
+
+    // Runs events, and says whether these are refused, for these reasons, or nothing where memory ran out.
+    fn does_refuse(&mut self, events: &[Event], refusals: &[(usize, WorldError)]) -> Option<bool> {
+        match self.world.run(self.alloc, events) {
+            Ok(list) => Some(list.as_slice() == refusals),
+            Err(_) => None,
+        }
     }
 
     /// Whether it is exactly these events that a run of these acts refuses, for these reasons.
-    pub fn does_run(
-        &mut self,
-        acts: &[Act],
-        refusals: &[(usize, WorldError)],
-    ) -> Result<bool, Fail> {
-        let script = events_of(self.alloc, acts)?;
-        self.does_refuse(&script, refusals)
-    }
-
-    fn does_refuse(
-        &mut self,
-        events: &[Event],
-        refusals: &[(usize, WorldError)],
-    ) -> Result<bool, Fail> {
-        let list = self.world.run(self.alloc, events)?;
-        Ok(list.as_slice() == refusals)
+    pub fn does_run(&mut self, acts: &[Act], refusals: &[(usize, Refusal)]) -> Result<bool, Fail> {
+        let events = events_of(self.alloc, acts)?;
+        let errors = errors_of(self.alloc, refusals)?;
+        Ok(self.does_refuse(&events, &errors) == Some(true))
     }
 
     /// Runs the events of these acts, and where memory runs out, the rest of them from there on, once.
-    pub fn run_through(&mut self, acts: &[Act]) -> Result<(), Fail> {
-        let script = events_of(self.alloc, acts)?;
-        self.run_all(&script)
-    }
-
-    fn run_all(&mut self, events: &[Event]) -> Result<(), Fail> {
-        if self.world.run(self.alloc, events).is_ok() {
-            return Ok(());
+    pub fn run_through(&mut self, acts: &[Act]) -> Result<bool, Fail> {
+        let events = events_of(self.alloc, acts)?;
+        if self.does_refuse(&events, &[]).is_some() {
+            return Ok(true);
         }
-        let steps = self.world.steps();
-        if steps >= events.len() {
-            return Err(Fail::new("a run ended, and no event is left"));
-        }
-        self.run_from(events, steps)
-    }
-
-    // Runs the events of a list from the one of this number on.
-    fn run_from(&mut self, events: &[Event], start: usize) -> Result<(), Fail> {
-        match events.get(start..) {
-            Some(rest) => {
-                let _ = self.world.run(self.alloc, rest)?;
-                Ok(())
-            }
-            None => Err(Fail::new("there is no such event")),
+        match events.get(self.world.steps()..) {
+            Some(rest) => Ok(!rest.is_empty() && self.does_refuse(rest, &[]).is_some()),
+            None => Ok(false),
         }
     }
 }
@@ -248,13 +255,9 @@ impl Scene {
         }
     }
 
-    /// How many deltas the replica took, or none where it is not there.
-    pub fn took(&self, r: usize) -> usize {
-        if r < self.world.replicas() {
-            self.world.took(r).len()
-        } else {
-            0
-        }
+    /// Whether a packet is as long as this.
+    pub fn has_packet_of(&self, packet: usize, length: usize) -> bool {
+        packet < self.world.packets() && self.world.packet(packet).len() == length
     }
 
     /// How many replicas there are.
@@ -262,88 +265,57 @@ impl Scene {
         self.world.replicas()
     }
 
+    /// Whether a replica took so many deltas.
+    pub fn has_taken(&self, r: usize, deltas: usize) -> bool {
+        r < self.world.replicas() && self.world.took(r).len() == deltas
+    }
+
+    /// The core of a replica, where there is one.
+    pub fn core(&self, r: usize) -> Option<&Core> {
+        if r < self.world.replicas() {
+            Some(self.world.core(r))
+        } else {
+            None
+        }
+    }
+
     /// How many tiles a replica has.
     pub fn tiles(&self, r: usize) -> usize {
-        if r < self.world.replicas() {
-            self.world.core(r).tiles()
-        } else {
-            0
+        match self.core(r) {
+            Some(core) => core.tiles(),
+            None => 0,
         }
     }
 
-    /// Whether a packet is as long as this.
-    pub fn has_packet_of(&self, packet: usize, length: usize) -> bool {
-        packet < self.world.packets() && self.world.packet(packet).len() == length
-    }
-
-    /// Whether the replica's image has these cells, row by row.
-    pub fn shows(&self, r: usize, cells: &[u32]) -> bool {
-        r < self.world.replicas() && self.world.core(r).image().cells() == cells
-    }
-
-    /// Whether the replica's image has this value everywhere from `start` to before `end`.
-    pub fn shows_from(&self, r: usize, start: usize, end: usize, value: u32) -> bool {
-        if r >= self.world.replicas() {
-            return false;
-        }
-        match self.world.core(r).image().cells().get(start..end) {
-            Some(cells) => cells.iter().all(|cell| *cell == value),
+    // Whether no work is left at the replica.
+    fn is_quiet(&self, r: usize) -> bool {
+        match self.core(r) {
+            Some(core) => core.is_quiet(),
             None => false,
         }
     }
 
-    /// Whether no work is left at the replica.
-    pub fn is_quiet(&self, r: usize) -> bool {
-        r < self.world.replicas() && self.world.core(r).is_quiet()
-    }
-
-    /// Whether the tile of the replica is to be swept.
-    pub fn is_dirty(&self, r: usize, tile: usize) -> bool {
-        r < self.world.replicas()
-            && tile < self.world.core(r).tiles()
-            && self.world.core(r).is_dirty(tile)
-    }
-
-    /// Whether a job of the replica's tile is out.
-    pub fn is_out(&self, r: usize, tile: usize) -> bool {
-        r < self.world.replicas()
-            && tile < self.world.core(r).tiles()
-            && self.world.core(r).is_out(tile)
-    }
-
-    /// Whether the tile of the replica has this generation.
-    pub fn has_generation(&self, r: usize, tile: usize, generation: u64) -> bool {
-        r < self.world.replicas()
-            && tile < self.world.core(r).tiles()
-            && self.world.core(r).generation(tile) == generation
-    }
-
-    /// Whether the stroke of a tag is live at the replica.
-    pub fn is_live(&self, r: usize, tag: u128) -> bool {
-        r < self.world.replicas() && self.world.core(r).state().is_live(Tag(tag))
-    }
-
     /// Whether both replicas hold the same strokes and tombstones.
     pub fn have_same_strokes(&self, r: usize, s: usize) -> bool {
-        let count = self.world.replicas();
-        r < count
-            && s < count
-            && self
-                .world
-                .core(r)
-                .state()
-                .is_same(self.world.core(s).state())
+        match (self.core(r), self.core(s)) {
+            (Some(core), Some(other)) => core.state().is_same(other.state()),
+            _ => false,
+        }
     }
 
-    /// Whether the replica's image is what grows from its strokes.
-    pub fn is_grown(&self, r: usize) -> Result<bool, Fail> {
-        if r >= self.world.replicas() {
-            return Ok(false);
+    // Whether the replica is quiet, and its image is what grows from its strokes.
+    fn is_grown(&self, r: usize) -> Result<bool, Fail> {
+        match self.core(r) {
+            Some(core) => Ok(core.is_quiet() && is_image_grown(self.alloc, core)?),
+            None => Ok(false),
         }
-        let core = self.world.core(r);
-        let grown = grown(self.alloc, core.mask(), core.state(), core.conn())?;
-        Ok(core.image().cells() == grown.cells())
     }
+}
+
+// Whether the image of a core is what grows from its strokes.
+fn is_image_grown(alloc: Global, core: &Core) -> Result<bool, Fail> {
+    let grown = grown(alloc, core.mask(), core.state(), core.conn())?;
+    Ok(core.image().cells() == grown.cells())
 }
 
 // The reconstruction of a mask from the marker of a state, threshold by threshold.
@@ -396,8 +368,8 @@ impl Scene {
         Ok(())
     }
 
-    /// Brings the work of a replica to its end, by events.
-    pub fn settle(&mut self, r: usize) -> Result<(), Fail> {
+    // Brings the work of a replica to its end, by events.
+    fn settle(&mut self, r: usize) -> Result<(), Fail> {
         self.abandon_all(r)?;
         for _round in 0..1000 {
             if self.is_quiet(r) {
@@ -449,7 +421,7 @@ impl Scene {
     /// Whether all replicas hold the same strokes, are quiet, and show what grows from them.
     pub fn agree(&self) -> Result<bool, Fail> {
         for r in 0..self.replicas() {
-            if !self.have_same_strokes(0, r) || !self.is_quiet(r) || !self.is_grown(r)? {
+            if !self.have_same_strokes(0, r) || !self.is_grown(r)? {
                 return Ok(false);
             }
         }
