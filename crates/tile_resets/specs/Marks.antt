@@ -10,8 +10,6 @@ use Rattle.grid_core.specs.Tiles.{Tiles, count_of}
 use Rattle.stroke_core.specs.Seed.{Seed, covers}
 use Rattle.stroke_lattice.specs.State.{State, HasTombstone, IsLive, IsJoin}
 use Rattle.core_rules.specs.Hits.{IsHitIn, IsReached}
-use Rattle.tile_generations.specs.Generations.{max_generation}
-use Rattle.border_queues.specs.TileWork.{TileWork, work_of}
 use Rattle.tile_work.specs.TileSet.{Has}
 
 -- marked are just the tiles that are hit where the strokes take the delta
@@ -19,10 +17,6 @@ abbrev pub AreHits : Tiles → Raster → Conn → State → State → List Bool
 AreHits tiles image conn state delta marks =
     (after : State) → IsJoin state delta after
     → (t : ℕ) → t < length marks → Has marks t ↔ IsHitIn tiles image conn state after t
-
--- one of the marked tiles has the greatest generation
-abbrev pub IsOneSpent : List Bool → List TileWork → Type 0
-IsOneSpent marks work = (t : ℕ) × Has marks t × ((work_of work t).generation ≡ max_generation)
 
 -- ---- pixels of which something holds
 

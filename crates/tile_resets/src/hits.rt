@@ -1,9 +1,12 @@
 //! The tiles that taking a delta resets.
 
-ghost use Rattle.std.specs.Prelude.{◌≡◌, ◌↔◌, false, length, replicate, IsTrue};
+ghost use Rattle.std.specs.Prelude.{◌≡◌, ◌↔◌, ℕ, false, length, replicate, IsTrue};
 ghost use Rattle.grid_core.specs.Tiles.{count_of};
+ghost use Rattle.tile_generations.specs.Generations.{max_generation};
 ghost use Rattle.border_queues.specs.OpenEdges.{IsOnTiling};
-ghost use Rattle.tile_resets.specs.Marks.{AreHits, IsOneSpent};
+ghost use Rattle.border_queues.specs.TileWork.{work_of};
+ghost use Rattle.tile_resets.specs.Marks.{AreHits};
+ghost use Rattle.tile_work.specs.TileSet.{Has};
 
 mod links;
 mod losses;
@@ -51,7 +54,8 @@ pub fn mark_hits(
 /// Whether one of the marked tiles has spent its generations.
 pub fn is_one_spent(marks: &TileSet, work: &WorkTable) -> bool
     requires { length marks.now ≡ length work.now }
-    ensures { IsTrue result ↔ IsOneSpent marks.now work.now }
+    ensures { IsTrue result
+        ↔ ((t : ℕ) × Has marks.now t × ((work_of work.now t).generation ≡ max_generation)) }
 {
     // For its clause alone: the number of tiles is a usize.
     let _ = marks.len();
