@@ -2,28 +2,27 @@
 
 use crate::script::{Act, Case, Line, Refusal, Start, play_all};
 use reset_core::CoreError;
+use std::alloc::Global;
 use std::test::Fail;
 use stroke_core::Tag;
 use tile_generations::MAX_GENERATION;
 
 const ROW: Start = Start::Row(&[3, 5, 2, 5, 4]);
 
+// Whether an error has this code, and its message begins with it.
+fn begins_with(alloc: Global, error: CoreError, code: &str) -> Result<bool, Fail> {
+    let message = format!(in alloc; "{error}")?;
+    Ok(error.code() == code && message.starts_with(code))
+}
+
 #[test]
 fn the_message_of_a_refusal_begins_with_its_code(rt: HostRuntime) -> Result<(), Fail> {
-    let errors = [
-        (CoreError::OutOfImage(Tag(1)), "C1"),
-        (CoreError::Conflict(Tag(1)), "C2"),
-        (CoreError::GenerationsSpent, "C3"),
-        (CoreError::Memory, "C4"),
-        (CoreError::BadSide, "C5"),
-    ];
-    for (error, code) in errors {
-        let message = format!(in rt.alloc(); "{error}")?;
-        assert!(rt;
-            error.code() == code && message.starts_with(code),
-            "{message}"
-        );
-    }
+    let alloc = rt.alloc();
+    assert!(rt; begins_with(alloc, CoreError::OutOfImage(Tag(1)), "C1")?);
+    assert!(rt; begins_with(alloc, CoreError::Conflict(Tag(1)), "C2")?);
+    assert!(rt; begins_with(alloc, CoreError::GenerationsSpent, "C3")?);
+    assert!(rt; begins_with(alloc, CoreError::Memory, "C4")?);
+    assert!(rt; begins_with(alloc, CoreError::BadSide, "C5")?);
     Ok(())
 }
 

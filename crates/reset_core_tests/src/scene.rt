@@ -267,9 +267,9 @@ impl Model for Scene {
 impl Scene {
     // The core. It lies in a box, so that a test drops it by one call, which keeps proofs small as well.
     fn of(alloc: Global, core: Core) -> Result<Scene, Fail> {
-        match Box::new(alloc, core) {
-            Ok(core) => Ok(Scene { alloc, core }),
-            Err(_) => Err(Fail::new("out of memory")),
+        match Box::new(alloc, core).ok() {
+            Some(core) => Ok(Scene { alloc, core }),
+            None => Err(Fail::new("out of memory")),
         }
     }
 
