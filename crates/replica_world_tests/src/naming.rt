@@ -1,6 +1,6 @@
 //! Numbers that name nothing, and what the core refuses.
 
-use crate::scene::{Act, Refusal, is_count_refused};
+use crate::scene::{Act, Refusal, is_count_judged};
 use crate::script::{Case, Line, Mask, Sight, play_all};
 use std::test::Fail;
 
@@ -8,7 +8,7 @@ use std::test::Fail;
 fn a_world_has_1_to_16_replicas(rt: HostRuntime) -> Result<(), Fail> {
     for (count, is_refused) in [(0, true), (1, false), (16, false), (17, true)] {
         assert!(rt;
-            is_count_refused(rt.alloc(), &[4], count)? == is_refused,
+            is_count_judged(rt.alloc(), &[4], count, is_refused)?,
             "{count}"
         );
     }

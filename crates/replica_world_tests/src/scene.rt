@@ -133,11 +133,22 @@ fn image_of(alloc: Global, width: u32, height: u32, samples: &[u32]) -> Result<I
     Ok(Image::from_grid(alloc, &grid, 9)?)
 }
 
-/// Whether no world of so many replicas is opened on a mask of one row, for their number.
-pub fn is_count_refused(alloc: Global, row: &[u32], count: usize) -> Result<bool, Fail> {
+/// Whether a world of so many replicas is refused for their number on a mask of one row, where it is to be refused, and
+/// else is opened.
+pub fn is_count_judged(
+    alloc: Global,
+    row: &[u32],
+    count: usize,
+    is_refused: bool,
+) -> Result<bool, Fail> {
     let mask = image_of(alloc, u32::try_from(row.len())?, 1, row)?;
     let refusal = World::open(alloc, &mask, Conn::Four, count).err();
-    Ok(refusal == Some(WorldError::NoSuch))
+    let wanted = if is_refused {
+        Some(WorldError::NoSuch)
+    } else {
+        None
+    };
+    Ok(refusal == wanted)
 }
 
 impl Scene {
