@@ -1,13 +1,13 @@
 -- What a merge has done to the parts of a core, one call after the other.
-use Rattle.std.specs.Prelude.{◌≡◌, ℕ, Bool, false, List, length, replicate}
+use Rattle.std.specs.Prelude.{◌≡◌, ◌<◌, ℕ, Bool, false, List, length, replicate}
 use Rattle.grid_core.specs.Raster.{Raster}
 use Rattle.grid_core.specs.Tiles.{Tiles, count_of}
 use Rattle.stroke_lattice.specs.State.{State, StateFits, AreCompatible, IsJoin}
 use Rattle.stroke_lattice.specs.Change.{Turnover, IsChange}
-use Rattle.marker_tiles.specs.Kept.{IsMarkerOf}
+use Rattle.marker_tiles.specs.Kept.{Kept, IsMarkerOf}
 use Rattle.tile_generations.specs.Generations.{max_generation}
 use Rattle.core_rules.specs.Work.{Core, tiling, work_at}
-use Rattle.border_queues.specs.TileWork.{TileWork}
+use Rattle.border_queues.specs.TileWork.{TileWork, work_of}
 use Rattle.tile_resets.specs.Marks.{AreHits}
 use Rattle.tile_work.specs.TileSet.{Has}
 use Rattle.reset_core.specs.declared.replica.Core.TheInside.{Inside as Parts}
@@ -31,6 +31,18 @@ pub record IsGrown (before : Core) (delta : State) (turnover : Turnover) (state 
   pub join : IsJoin before.state delta state
   pub change : IsChange before.state state turnover
   pub marker_is : IsMarkerOf before.mask state marker
+
+-- each tile has work, and a mark or none, and no marked tile has spent its generations
+pub record AreUnspent (tiles : Tiles) (marks : List Bool) (work : List TileWork) : Type 0 where
+  pub works : length work ≡ count_of tiles
+  pub marked : length marks ≡ count_of tiles
+  pub unspent : (t : ℕ) → Has marks t → (work_of work t).generation < max_generation
+
+-- the marker is that of the strokes, of the same mask and in the same tiles
+pub record IsMarkerRenewed (old : Kept) (state : State) (new : Kept) : Type 0 where
+  pub mask : new.mask ≡ old.mask
+  pub tiling : new.tiling ≡ old.tiling
+  pub marker : IsMarkerOf new.mask state new.marker
 
 -- the marked tiles are reset, and then the image is raised where a stroke that was born lies
 pub record IsImageRenewed (tiles : Tiles) (marks : List Bool) (turnover : Turnover) (state : State)

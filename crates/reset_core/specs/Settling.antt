@@ -52,6 +52,11 @@ pub record AreHanded (before now : Core) : Type 0 where
   pub none_out : NoneOut now
   pub tiling : tiling now ≡ tiling before
 
+-- no job is out and no hint waits, so that all that is left is to sweep dirty tiles
+pub record HasOnlySweeps (core : Core) : Type 0 where
+  pub none_out : NoneOut core
+  pub no_hints : (u : ℕ) → HasHints core u → ⊥
+
 -- the next tile is worked off: it was swept and its hints were handed over, no job is out, no hint waits, and less work
 -- can be left
 pub record IsOneWorkedOff (before after : Core) : Type 0 where

@@ -1,13 +1,9 @@
 //! Deltas that are merged.
 
-ghost use Rattle.std.specs.Prelude.{◌≡◌, ◌<◌, ◌⊎◌, ℕ, false, length, replicate, IfOk, IfErr, IsErrOf, OnOk, OnErr};
-ghost use Rattle.grid_core.specs.Tiles.{count_of};
-ghost use Rattle.marker_tiles.specs.Kept.{IsMarkerOf, HasGrown};
+ghost use Rattle.std.specs.Prelude.{◌≡◌, ◌⊎◌, false, length, replicate, IfOk, IfErr, IsErrOf, OnOk, OnErr};
+ghost use Rattle.marker_tiles.specs.Kept.{HasGrown};
 ghost use Rattle.border_queues.specs.OpenEdges.{IsOnTiling};
-ghost use Rattle.tile_generations.specs.Generations.{max_generation};
-ghost use Rattle.tile_work.specs.TileSet.{Has};
-ghost use Rattle.border_queues.specs.TileWork.{work_of};
-ghost use Rattle.reset_core.specs.MergeSteps.{IsImageRenewed};
+ghost use Rattle.reset_core.specs.MergeSteps.{AreUnspent, IsMarkerRenewed, IsImageRenewed};
 ghost use Rattle.core_rules.specs.declared.error.CoreError.{CoreError};
 ghost use Rattle.core_rules.specs.declared.error.CoreError.TheVariants as errors;
 ghost use Rattle.stroke_lattice.specs.State.{StateFits, AreCompatible};
@@ -105,12 +101,8 @@ fn renew(
     requires fits { StateFits markers.old.mask.width markers.old.mask.height state.now }
     requires known { HasGrown markers.old.mask markers.old.marker state.now change.now }
     requires image { IsOnTiling markers.old.tiling image.old }
-    requires work { length work.old ≡ count_of markers.old.tiling }
-    requires marks { length marks.old ≡ count_of markers.old.tiling }
-    requires unspent { (t : ℕ) → Has marks.old t → (work_of work.old t).generation < max_generation }
-    ensures mask { markers.new.mask ≡ markers.old.mask }
-    ensures tiling { markers.new.tiling ≡ markers.old.tiling }
-    ensures marker { IsMarkerOf markers.new.mask state.now markers.new.marker }
+    requires marks { AreUnspent markers.old.tiling marks.old work.old }
+    ensures marker { IsMarkerRenewed markers.old state.now markers.new }
     ensures marks { marks.new ≡ replicate (length marks.old) false }
     ensures image { IsImageRenewed markers.old.tiling marks.old change.now state.now markers.new.marker
         image.old image.new work.old work.new }

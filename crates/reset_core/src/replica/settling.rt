@@ -8,7 +8,7 @@ ghost use Rattle.core_rules.specs.Runs.{Entry, IsRun, IsSettled, IsCutShort, Non
 ghost use Rattle.core_rules.specs.Runs.{jobs_of, abandons_of, abandoned, tickets_out};
 ghost use Rattle.core_rules.specs.Counting.{IsWithinWork, Owes, tiles_out};
 ghost use Rattle.reset_core.specs.Closing.{AreClosedInside};
-ghost use Rattle.reset_core.specs.Settling.{AreHanded, IsFirstAbandoned, IsFirstHanded, IsWorkedOffBy};
+ghost use Rattle.reset_core.specs.Settling.{AreHanded, IsFirstAbandoned, IsFirstHanded, IsWorkedOffBy, HasOnlySweeps};
 
 use super::Core;
 use border_queues::{Inbox, room_for_edges};
@@ -111,8 +111,7 @@ impl Core {
     //
     // Errors: out of memory, where a tile is dirty, and the core is as it was.
     fn sweep_all(&mut self, alloc: Global) -> Result<u64, Memory>
-        requires none_out { NoneOut self.old }
-        requires no_hints { (u : ℕ) → HasHints self.old u → ⊥ }
+        requires { HasOnlySweeps self.old }
         ensures works { IfOk result (λ jobs. IsWorkedOffBy self.old jobs self.new) }
         ensures quiet { OnOk result (IsQuiet self.new) }
         ensures dirty { OnErr result ((t : ℕ) × IsDirty self.old t) }
@@ -132,8 +131,7 @@ impl Core {
     // Sweeps the first dirty tile in place until none is dirty, and says how often. In the tiles of `swept` nothing is
     // left to grow but from their borders.
     fn work_all_off(&mut self, room: &mut Room, told: &mut Inbox, swept: &mut TileSet) -> u64
-        requires none_out { NoneOut self.old }
-        requires no_hints { (u : ℕ) → HasHints self.old u → ⊥ }
+        requires left { HasOnlySweeps self.old }
         requires enough { room_for_edges (tiling self.old) ≤ places told.old }
         requires closed { AreClosedInside self.old swept.old }
         ensures works { IsWorkedOffBy self.old result self.new }

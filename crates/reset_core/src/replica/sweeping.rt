@@ -1,12 +1,10 @@
 //! Jobs that are taken, given back and abandoned.
 
-ghost use Rattle.std.specs.Prelude.{◌≡◌, ◌⊎◌, ◌↔◌, All, IfOk, IfErr, OnOk, OnErr, IsTrue};
-ghost use Rattle.core_rules.specs.Image.{IsJoinedWith};
-ghost use Rattle.core_rules.specs.Work.{Core as Replica, IsTile, tiling};
+ghost use Rattle.std.specs.Prelude.{◌≡◌, ◌⊎◌, ◌↔◌, IfOk, IfErr, OnOk, OnErr, IsTrue};
+ghost use Rattle.core_rules.specs.Work.{IsTile};
 ghost use Rattle.core_rules.specs.Sweeps.{IsReady, IsNextJob, IsTaken, IsKnown, IsOut, IsUnchanged, HasOnlyRisen};
-ghost use Rattle.core_rules.specs.Sweeps.{IsJoined, IsGivenBack, IsAbandoned, hints_of, tile_rect};
-ghost use Rattle.reset_core.specs.Sweeping.{IsJudged};
-ghost use Rattle.tile_work.specs.WorkTable.{IsToTouching};
+ghost use Rattle.core_rules.specs.Sweeps.{IsJoined, IsGivenBack, IsAbandoned, tile_rect};
+ghost use Rattle.reset_core.specs.Sweeping.{IsJudged, AreHintsOnceJoined};
 ghost use Rattle.grid_core.specs.Rects.{RectFits};
 
 use super::Core;
@@ -174,11 +172,7 @@ impl Core {
     // Errors: out of memory.
     fn hints_once_joined(&self, alloc: Global, swept: &Swept) -> Result<Inbox, Memory>
         requires { IsKnown self.now swept.now.job }
-        ensures hints { IfOk result (λ inbox. (after : Replica)
-            → IsJoinedWith (tile_rect self.now swept.now.job.ticket.tile) swept.now.pixels self.now.image after.image
-            → inbox.hints ≡ hints_of self.now after swept.now.job.ticket.tile) }
-        ensures touching { IfOk result (λ inbox.
-            All (IsToTouching (tiling self.now) swept.now.job.ticket.tile) inbox.hints) }
+        ensures { IfOk result (λ inbox. AreHintsOnceJoined self.now swept.now inbox.hints) }
     {
         edges_are_open();
         same_image_same_edges();

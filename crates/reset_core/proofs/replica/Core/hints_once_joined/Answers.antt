@@ -12,8 +12,8 @@ use Rattle.tile_work.specs.WorkTable.{IsToTouching}
 use Rattle.reset_core.proofs.Sweeping.{told_are_edges, hints_once_joined, edges_touch, stored_raised}
 use Rattle.reset_core.proofs.replica.Core.hints_once_joined.Goals as goal
 
-pub returns-in-Ok-clause-hints : goal.returns-in-Ok-clause-hints
-returns-in-Ok-clause-hints c =
+pub returns-in-Ok : goal.returns-in-Ok
+returns-in-Ok c =
     let parts = c.self.inside in
     let core = c.args.self.now in
     let tile = c.ticket-tile.result.tile in
@@ -29,28 +29,16 @@ returns-in-Ok-clause-hints c =
     let is_raised =
     stored_raised parts core t tile c.rect.result c.args.swept.now.pixels c.pixels.result.now raised c.self.view_is
     tile_is c.rect.ensures.rect c.pixels.ensures.value c.in_ok-raised.ensures in
-    λ after joined.
-    told
-    ∙ hints_once_joined core after t c.args.swept.now.pixels raised sound c.requires.is_tile is_raised joined
-    c.same_image_same_edges.ensures
-
-pub returns-in-Ok-clause-touching : goal.returns-in-Ok-clause-touching
-returns-in-Ok-clause-touching c =
-    let parts = c.self.inside in
-    let core = c.args.self.now in
-    let tile = c.ticket-tile.result.tile in
-    let t = c.args.swept.now.job.ticket.tile in
-    let raised = c.in_ok-raised.raised in
-    let tile_is = ap (λ (k : Ticket). k.tile) c.ticket-tile.ensures in
-    let tiling = c.tiling-tiling.ensures in
-    let told =
-    told_are_edges parts core c.tiling-tiling.result c.self.view_is tiling.value tiling.width tiling.height t tile
-    c.generation-generation.result c.mask-mask.result.now raised c.new-inbox.result.hints c.open_edges.new.out.hints
-    c.mask-mask.ensures.value tile_is c.generation-generation.ensures.value c.new-inbox.ensures c.in-Ok.ensures.hints in
-    let sound = subst IsSound c.self.view_is c.self.invariant.sound in
     let count = sound.shape.tiles in
     let within : t < count_of (work.tiling core) = omega (arith, c.requires.is_tile, count) in
-    subst (λ hs. All (IsToTouching (work.tiling core) t) hs) (sym told)
-    (edges_touch c.edges_are_open.ensures
-    (record (sender_of core t) { image = with_tile (work.tiling core) t (value_at raised) (work.image_at core) })
-    sound.shape.tiled within)
+    record {
+      hints = λ after joined.
+          told
+          ∙ hints_once_joined core after t c.args.swept.now.pixels raised sound c.requires.is_tile is_raised joined
+          c.same_image_same_edges.ensures;
+      touching =
+          subst (λ hs. All (IsToTouching (work.tiling core) t) hs) (sym told)
+          (edges_touch c.edges_are_open.ensures
+          (record (sender_of core t) { image = with_tile (work.tiling core) t (value_at raised) (work.image_at core) })
+          sound.shape.tiled within);
+    }

@@ -1,7 +1,7 @@
 -- What the tactics leave open of `judge`.
 use Rattle.std.proofs.Common.{◌≡◌, true, false, refl, sym, ◌∙◌, subst}
 use Rattle.core_rules.specs.declared.error.CoreError.TheVariants as errors
-use Rattle.core_rules.specs.Work.{Core, tiling}
+use Rattle.core_rules.specs.Work.{Core}
 use Rattle.core_rules.specs.Merge.{IsRefused, IsAcceptable}
 use Rattle.reset_core.specs.declared.replica.Core.TheInside.{Inside as Parts}
 use Rattle.reset_core.specs.Replica.{core_of}

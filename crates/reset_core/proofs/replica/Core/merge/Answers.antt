@@ -1,6 +1,7 @@
 -- What the tactics leave open of `merge`.
 use Rattle.std.proofs.Common.{◌≡◌, true, false, refl, sym, ap, ◌∙◌, subst, inl, inr, replicate}
 use Rattle.std.proofs.lemmas.Result.{err_from_is_err_and}
+use Rattle.grid_core.specs.Tiles.{count_of}
 use Rattle.marker_tiles.specs.Kept.{IsMarkerOf}
 use Rattle.core_rules.specs.declared.error.CoreError.TheVariants as errors
 use Rattle.core_rules.specs.Work.{Core, tiling}
@@ -11,7 +12,7 @@ use Rattle.reset_core.specs.Replica.{core_of, IsStored}
 use Rattle.reset_core.proofs.Storing.{unmarked_is_stored}
 use Rattle.reset_core.specs.MergeSteps.{IsMarked, IsImageRenewed, IsRenewed}
 use Rattle.reset_core.proofs.MergeSteps.{hits_are_marked, join_fits, exactly_this}
-use Rattle.reset_core.proofs.MergeSteps.{spent_is_refused, unspent_is_acceptable}
+use Rattle.reset_core.proofs.MergeSteps.{spent_is_refused, unspent_is_acceptable, marked_are_unspent}
 use Rattle.reset_core.proofs.MergeSteps.{renewed_is_merged, renewed_is_stored}
 use Rattle.core_rules.proofs.Resets.{refused_is_not_acceptable}
 use Rattle.reset_core.proofs.Sweeping.{tiling_is}
@@ -99,6 +100,19 @@ renew-requires-clause-fits c =
     join_fits (core_of (parts_before at)) c.args.delta.now c.join.new.self c.self.invariant.sound (is_marked at).fits
     c.in-Ok.ensures.join
 
+pub renew-requires-clause-marks : goal.renew-requires-clause-marks
+renew-requires-clause-marks c =
+    let at = (goal.at.renew-requires-clause-marks c).After-mark_hits in
+    let tiles = ap count_of (sym (tiles_are at) ∙ c.tiling-tiling.ensures.value) in
+    record {
+      works = c.self.invariant.sound.shape.tiles ∙ tiles;
+      marked = (is_marked at).count ∙ tiles;
+      unspent =
+          marked_are_unspent (core_of (parts_before at)) c.args.delta.now c.mark_hits.new.marks c.self.invariant.sound
+          (is_marked at)
+          (λ spent. let no : true ≡ false = sym (c.is_one_spent.ensures.1 spent) ∙ c.if-is_one_spent.false in cc);
+    }
+
 -- ---- what is merged
 
 abbrev parts_after : After-renew → Parts
@@ -125,8 +139,8 @@ is_renewed c =
         join = c.in-Ok.ensures.join;
         change = c.in-Ok.ensures.change;
         marker_is =
-            subst (λ mask. IsMarkerOf mask c.join.new.self c.renew.new.markers.marker) c.renew.ensures.mask
-            c.renew.ensures.marker;
+            subst (λ mask. IsMarkerOf mask c.join.new.self c.renew.new.markers.marker) c.renew.ensures.marker.mask
+            c.renew.ensures.marker.marker;
       };
       image =
           subst (λ tiles. IsImageRenewed tiles c.mark_hits.new.marks c.in-Ok.change c.join.new.self
@@ -134,8 +148,8 @@ is_renewed c =
           (sym c.tiling-tiling.ensures.value ∙ tiles_are at) c.renew.ensures.image;
       cleared = c.renew.ensures.marks;
       queue = c.mark_hits.ensures.queue;
-      mask = c.renew.ensures.mask;
-      tiling_is = c.renew.ensures.tiling;
+      mask = c.renew.ensures.marker.mask;
+      tiling_is = c.renew.ensures.marker.tiling;
       conn = refl;
       serial = refl;
     }

@@ -1,4 +1,4 @@
-use Rattle.std.proofs.Common.{◌<◌, ◌+◌, [], ◌∷◌, length, drop, refl, sym, subst, arith, inl}
+use Rattle.std.proofs.Common.{◌+◌, [], ◌∷◌, drop, refl, subst, arith, inl}
 use Rattle.std.proofs.lemmas.List.{take_all}
 use Rattle.core_rules.specs.Schedule.{edits_of}
 use Rattle.reset_core.specs.Scheduling.{kept_of, HasRoom}

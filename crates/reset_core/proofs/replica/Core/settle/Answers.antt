@@ -3,6 +3,12 @@ use Rattle.reset_core.proofs.Scheduling.{on_err}
 use Rattle.reset_core.proofs.Settling.{cut_before_sweeps, some_work_before, settled_by, settled_within_work}
 use Rattle.reset_core.proofs.replica.Core.settle.Goals as goal
 
+pub sweep_all-requires : goal.sweep_all-requires
+sweep_all-requires c = record {
+  none_out = c.hand_all.ensures.handed.none_out;
+  no_hints = c.hand_all.ensures.no_hints;
+}
+
 pub returns-in_err-jobs-clause-cut_short : goal.returns-in_err-jobs-clause-cut_short
 returns-in_err-jobs-clause-cut_short c =
     let cleared = c.abandon_all-abandons in

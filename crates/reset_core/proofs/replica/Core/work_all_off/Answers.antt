@@ -11,8 +11,8 @@ loop-tile-init c = (
     log = [];
     works = refl;
     count = refl;
-    none_out = c.requires.none_out;
-    no_hints = c.requires.no_hints;
+    none_out = c.requires.left.none_out;
+    no_hints = c.requires.left.no_hints;
     tiling = refl;
     spent = omega arith;
   },

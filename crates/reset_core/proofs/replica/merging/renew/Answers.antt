@@ -13,6 +13,13 @@ raise_to_marker-requires-clause-fits c =
     subst (λ h. StateFits c.tiling-tiling.result.width h c.args.state.now) (sym height)
     (subst (λ w. StateFits w c.args.markers.now.mask.height c.args.state.now) (sym width) c.requires.fits)
 
+pub returns-clause-marker : goal.returns-clause-marker
+returns-clause-marker c = record {
+  mask = c.apply.ensures.mask;
+  tiling = c.apply.ensures.tiling;
+  marker = c.apply.ensures.marks;
+}
+
 pub returns-clause-image : goal.returns-clause-image
 returns-clause-image c =
     let tiles = c.tiling-tiling.ensures.value in
