@@ -1,7 +1,8 @@
 -- Tiles of which, but for their border, nothing is left to grow. Only private functions have these words in their
 -- contracts.
-use Rattle.std.specs.Prelude.{◌≡◌, ℕ, Bool, List, length}
+use Rattle.std.specs.Prelude.{◌≡◌, ◌≤◌, ℕ, Bool, List, length}
 use Rattle.grid_core.specs.Tiles.{count_of}
+use Rattle.border_queues.specs.OpenEdges.{room_for_edges}
 use Rattle.raster_sweeps.specs.Borders.{OpenPairsBeginOnBorder}
 use Rattle.core_rules.specs.Work.{Core, tiling}
 use Rattle.core_rules.specs.Sweeps.{tile_rect}
@@ -15,3 +16,9 @@ IsClosedInside core t = OpenPairsBeginOnBorder core.conn (tile_rect core t) core
 pub record AreClosedInside (core : Core) (tiles : List Bool) : Type 0 where
   pub count : length tiles ≡ count_of (tiling core)
   pub each : (t : ℕ) → Has tiles t → IsClosedInside core t
+
+-- tiles can be swept in place: there is room for the hints of one, and the set has only tiles of which nothing is left
+-- to grow but from their borders
+pub record CanSweepInPlace (core : Core) (room : ℕ) (swept : List Bool) : Type 0 where
+  pub enough : room_for_edges (tiling core) ≤ room
+  pub closed : AreClosedInside core swept

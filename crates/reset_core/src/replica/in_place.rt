@@ -14,7 +14,7 @@ ghost use Rattle.core_rules.specs.Work.{tiling};
 ghost use Rattle.border_queues.specs.TileWork.{idle};
 ghost use Rattle.core_rules.specs.Events.{Take};
 ghost use Rattle.core_rules.specs.Runs.{IsNext};
-ghost use Rattle.reset_core.specs.Closing.{AreClosedInside};
+ghost use Rattle.reset_core.specs.Closing.{CanSweepInPlace};
 ghost use Rattle.reset_core.specs.Settling.{IsOneWorkedOff};
 ghost use Rattle.reset_core.specs.Telling.{both, hints_in, AreOfTiles, AreToInside, AreTold, IsHandOver};
 ghost use Rattle.tile_work.specs.WorkTable.{IsToInside};
@@ -40,12 +40,10 @@ impl Core {
         swept: &mut TileSet,
     )
         requires next { IsNext self.old (Take tile) }
-        requires enough { room_for_edges (tiling self.old) ≤ places told.old }
-        requires closed { AreClosedInside self.old swept.old }
+        requires ready { CanSweepInPlace self.old (places told.old) swept.old }
         ensures worked { IsOneWorkedOff self.old self.new }
         ensures tiling { tiling self.new ≡ tiling self.old }
-        ensures enough { room_for_edges (tiling self.new) ≤ places told.new }
-        ensures closed { AreClosedInside self.new swept.new }
+        ensures ready { CanSweepInPlace self.new (places told.new) swept.new }
         ensures swept { swept.new ≡ slice_set swept.old tile true }
     {
         edges_are_open();

@@ -1,13 +1,12 @@
 //! Settling: working until nothing is left to do.
 
 ghost use Rattle.std.specs.Prelude.{◌≡◌, ◌<◌, ◌≤◌, ℕ, List, length, IfOk, OnErr, OnOk};
-ghost use Rattle.border_queues.specs.OpenEdges.{room_for_edges};
 ghost use Rattle.border_queues.specs.Waiting.{places};
-ghost use Rattle.core_rules.specs.Work.{IsQuiet, tiling};
+ghost use Rattle.core_rules.specs.Work.{IsQuiet};
 ghost use Rattle.core_rules.specs.Runs.{Entry, IsRun, IsSettled, IsCutShort, NoneOut, HasHints, IsDirty};
 ghost use Rattle.core_rules.specs.Runs.{jobs_of, abandons_of, abandoned, tickets_out};
 ghost use Rattle.core_rules.specs.Counting.{IsWithinWork, Owes, tiles_out};
-ghost use Rattle.reset_core.specs.Closing.{AreClosedInside};
+ghost use Rattle.reset_core.specs.Closing.{CanSweepInPlace};
 ghost use Rattle.reset_core.specs.Settling.{AreHanded, IsFirstAbandoned, IsFirstHanded, IsWorkedOffBy, HasOnlySweeps};
 
 use super::Core;
@@ -132,8 +131,7 @@ impl Core {
     // left to grow but from their borders.
     fn work_all_off(&mut self, room: &mut Room, told: &mut Inbox, swept: &mut TileSet) -> u64
         requires left { HasOnlySweeps self.old }
-        requires enough { room_for_edges (tiling self.old) ≤ places told.old }
-        requires closed { AreClosedInside self.old swept.old }
+        requires ready { CanSweepInPlace self.old (places told.old) swept.old }
         ensures works { IsWorkedOffBy self.old result self.new }
         ensures quiet { IsQuiet self.new }
     {

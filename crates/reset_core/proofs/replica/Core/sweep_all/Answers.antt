@@ -1,4 +1,5 @@
-use Rattle.std.proofs.Common.{[], refl, sym, ap, ◌∙◌, subst}
+use Rattle.std.proofs.Common.{[], refl, sym, ap, ◌∙◌, subst, arith}
+use Rattle.std.proofs.lemmas.Grind.{common_steps}
 use Rattle.grid_core.specs.Tiles.{count_of}
 use Rattle.core_rules.specs.Work.{Core}
 use Rattle.core_rules.specs.Runs.{IsDirty}
@@ -15,7 +16,10 @@ returns-in_default-clause-quiet c =
     let none = subst (λ (core : Core). (t : _) → IsDirty core t → ⊥) c.self.view_is c.in_default.ensures in
     quiet_from c.args.self.now c.requires.none_out c.requires.no_hints none
 
-pub work_all_off-requires-clause-closed : goal.work_all_off-requires-clause-closed
-work_all_off-requires-clause-closed c =
-    subst (AreClosedInside c.args.self.now) (sym c.in_ok-swept.ensures)
-    (none_swept c.args.self.now c.count.result (c.count.ensures.value ∙ ap count_of c.tiling-tiling.ensures.value))
+pub work_all_off-requires-clause-ready : goal.work_all_off-requires-clause-ready
+work_all_off-requires-clause-ready c = record {
+  enough = grind (arith, common_steps);
+  closed =
+      subst (AreClosedInside c.args.self.now) (sym c.in_ok-swept.ensures)
+      (none_swept c.args.self.now c.count.result (c.count.ensures.value ∙ ap count_of c.tiling-tiling.ensures.value));
+}

@@ -16,8 +16,7 @@ loop-tile-init c = (
     tiling = refl;
     spent = omega arith;
   },
-  c.requires.enough,
-  c.requires.closed,
+  c.requires.ready,
 )
 
 pub work_off-requires-clause-next : goal.work_off-requires-clause-next
@@ -29,11 +28,8 @@ work_off-requires-clause-next c =
       least,
     )
 
-pub work_off-requires-clause-enough : goal.work_off-requires-clause-enough
-work_off-requires-clause-enough c = c.loop-tile.invariant.1
-
-pub work_off-requires-clause-closed : goal.work_off-requires-clause-closed
-work_off-requires-clause-closed c = c.loop-tile.invariant.2
+pub work_off-requires-clause-ready : goal.work_off-requires-clause-ready
+work_off-requires-clause-ready c = c.loop-tile.invariant.1
 
 pub overflow_add-jobs : goal.overflow_add-jobs
 overflow_add-jobs c =
@@ -50,8 +46,7 @@ pub loop-tile-preserved : goal.loop-tile-preserved
 loop-tile-preserved c = (
   one_more_swept c.args.self.now c.loop-tile.self c.work_off.new.self c.loop-tile.jobs c.loop-tile.invariant.0
       c.work_off.ensures.worked c.work_off.ensures.tiling,
-  c.work_off.ensures.enough,
-  c.work_off.ensures.closed,
+  c.work_off.ensures.ready,
 )
 
 pub returns-clause-works : goal.returns-clause-works

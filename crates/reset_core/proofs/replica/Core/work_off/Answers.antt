@@ -1,5 +1,5 @@
 -- What the tactics leave open of `work_off`.
-use Rattle.std.proofs.Common.{◌≡◌, ℕ, List, length, set, get_or, ◌∙◌, sym, ap, subst}
+use Rattle.std.proofs.Common.{◌≡◌, ◌≤◌, arith, ℕ, List, length, set, get_or, ◌∙◌, sym, ap, subst}
 use Rattle.std.proofs.lemmas.List.{length-set}
 use Rattle.grid_core.specs.declared.pixel.Pixel.{Pixel}
 use Rattle.grid_core.specs.declared.rect.Rect.{Rect}
@@ -7,7 +7,8 @@ use Rattle.grid_core.specs.Raster.{Raster, IsInside, IsBelow, value_at}
 use Rattle.grid_core.specs.Reconstruction.{IsReconstruction}
 use Rattle.grid_core.specs.Rects.{IsInRect, domain_in, part}
 use Rattle.grid_core.specs.Tiles.{Tiles, rect_of}
-use Rattle.border_queues.specs.OpenEdges.{open_edges}
+use Rattle.border_queues.specs.OpenEdges.{open_edges, room_for_edges}
+use Rattle.border_queues.specs.Waiting.{places}
 use Rattle.core_rules.specs.Work.{Core, tiling, IsTile, work_at}
 use Rattle.border_queues.specs.TileWork.{TileWork, idle}
 use Rattle.core_rules.specs.Sweeps.{tile_rect, hints_of}
@@ -47,7 +48,7 @@ rect_of_tile : (c : After-rect) → c.rect.result ≡ tile_rect (core_of (stored
 rect_of_tile c = c.rect.ensures.value ∙ ap (λ (t : Tiles). rect_of t c.args.tile) (tiling_of c)
 
 closed_before : (c : After-rect) → AreClosedInside (core_of (stored c)) c.args.swept.now
-closed_before c = subst (λ core. AreClosedInside core c.args.swept.now) (sym c.self.view_is) c.requires.closed
+closed_before c = subst (λ core. AreClosedInside core c.args.swept.now) (sym c.self.view_is) c.requires.ready.closed
 
 pub sweep-requires-clause-below : goal.sweep-requires-clause-below
 sweep-requires-clause-below c =
@@ -170,9 +171,17 @@ returns-clause-worked c =
 pub returns-clause-tiling : goal.returns-clause-tiling
 returns-clause-tiling c = ap tiling c.self.view_is
 
-pub returns-clause-closed : goal.returns-clause-closed
-returns-clause-closed c =
+pub returns-clause-ready : goal.returns-clause-ready
+returns-clause-ready c =
     let final = core_of (worked_parts (parts c) (reached c)) in
-    subst (AreClosedInside final) (sym c.insert.ensures)
-    (swept_are_closed (before c) c.args.tile c.self.invariant.sound (is_tile c) c.sweep.new.image (grown c)
-    c.edges_are_open.ensures (reached c) (told c) c.args.swept.now (closed_before (early c)))
+    let enough = c.requires.ready.enough in
+    let kept = c.tell.ensures.enough in
+    record {
+      enough =
+          subst (λ tiles. room_for_edges tiles ≤ places c.tell.new.told) (sym (ap tiling c.self.view_is))
+          (omega (arith, enough, kept));
+      closed =
+          subst (AreClosedInside final) (sym c.insert.ensures)
+          (swept_are_closed (before c) c.args.tile c.self.invariant.sound (is_tile c) c.sweep.new.image (grown c)
+          c.edges_are_open.ensures (reached c) (told c) c.args.swept.now (closed_before (early c)));
+    }
