@@ -1,155 +1,76 @@
 //! State files: worked bytes, pieces and faults.
 
-use crate::set::{Set, Step, disc, place};
+use crate::frames::{FIRST_VERSION, LONG, ONE_STROKE, zeros};
+use crate::set::Step::{self, Place};
+use crate::set::state_of;
 use grid_core::Conn;
-use spd_codec::{Frame, Print, SpdError, encode, read_frames, write_frames};
+use spd_codec::{Frame, read_frames, write_frames};
 use std::alloc::{AllocError, Global};
 use std::test::Fail;
+use stroke_lattice::State;
 
-// The frame of tag 1, level 9 and the run 0:1-1, four-connected, with a fingerprint of zeros.
-const ONE_STROKE: &[u8] = b"SPD2\x04\
-    \0\0\0\0\0\0\0\0\0\0\0\0\0\0\0\0\0\0\0\0\0\0\0\0\0\0\0\0\0\0\0\0\0\x01\0\0\
-    \0\0\0\0\0\0\0\0\0\0\0\0\0\0\0\x01\0\0\x09\0\x01\0\0\0\x01\0\x01";
+// The length of the frame of one stroke in the second version, as it stands before it.
+const LENGTH: &[u8] = b"\0\x44";
 
-// The same in the first version.
-const FIRST_VERSION: &[u8] = b"SPD1\x04\
-    \0\0\0\0\0\0\0\0\0\0\0\0\0\0\0\0\0\0\0\0\0\0\0\0\0\0\0\0\0\0\0\0\0\x01\0\0\
-    \0\0\0\0\0\0\0\0\0\0\0\0\0\0\0\x01\0\x09\0\x01\0\0\0\x01\0\x01";
+// A file of the frame in both versions.
+const BOTH_VERSIONS: &[&[u8]] = &[b"\0\x43", FIRST_VERSION, LENGTH, ONE_STROKE];
 
-// The disc of level 5 round the pixel in column 2 and row 3 with radius 255, under the greatest tag, and
-// the tombstones 7 and 258, eight-connected, with a fingerprint of zeros.
-const ONE_DISC: &[u8] = b"SPD2\x08\
-    \0\0\0\0\0\0\0\0\0\0\0\0\0\0\0\0\0\0\0\0\0\0\0\0\0\0\0\0\0\0\0\0\0\x01\0\x02\
-    \xff\xff\xff\xff\xff\xff\xff\xff\xff\xff\xff\xff\xff\xff\xff\xff\x01\0\x05\0\x02\0\x03\0\xff\
-    \0\0\0\0\0\0\0\0\0\0\0\0\0\0\0\x07\0\0\0\0\0\0\0\0\0\0\0\0\0\0\x01\x02";
-
-fn zeros() -> Print {
-    Print::from_bytes([0; 32])
-}
-
-// Whether the frame is of these bytes.
-fn encodes(alloc: Global, conn: Conn, set: &Set, bytes: &[u8]) -> bool {
-    match encode(alloc, conn, &zeros(), set.state()) {
-        Ok(frame) => frame.as_slice() == bytes,
-        Err(_) => false,
-    }
-}
-
-#[test]
-fn frames_byte_by_byte(rt: HostRuntime) -> Result<(), Fail> {
-    let alloc = rt.alloc();
-    assert!(rt; ONE_STROKE.len() == 68);
-    assert!(rt;
-        encodes(
-            alloc,
-            Conn::Four,
-            &Set::of(alloc, &[place(1, 9)])?,
-            ONE_STROKE
-        )
-    );
-    assert!(rt; ONE_DISC.len() == 66 + 32);
-    let great = disc(u128::MAX, 5, 2, 3, 255);
-    let set = Set::of(alloc, &[great, Step::Withdraw(258), Step::Withdraw(7)])?;
-    assert!(rt; encodes(alloc, Conn::Eight, &set, ONE_DISC));
-    Ok(())
-}
-
-// One stroke of as many runs as a stroke has, and thirty tombstones.
-fn long_set(alloc: Global) -> Result<Set, Fail> {
-    let (tag, runs, x) = (40, 160, 300);
-    let mut set = Set::of(alloc, &[Step::Column { tag, runs, x }])?;
-    set.withdraw_each(alloc, 0, 30)?;
-    Ok(set)
-}
-
-// Whether the set is too long for a frame.
-fn is_too_long(alloc: Global, set: &Set) -> bool {
-    match encode(alloc, Conn::Four, &zeros(), set.state()) {
-        Ok(_) => false,
-        Err(e) => e.code() == "M6",
-    }
-}
-
-#[test]
-fn a_state_too_long_for_a_frame(rt: HostRuntime) -> Result<(), Fail> {
-    assert!(rt; is_too_long(rt.alloc(), &long_set(rt.alloc())?));
-    Ok(())
-}
-
-// A file of two frames.
-fn joined(alloc: Global, first: &[u8], second: &[u8]) -> Result<Vec<u8>, AllocError> {
+// The file of these parts, one behind the other.
+fn file_of(alloc: Global, parts: &[&[u8]]) -> Result<Vec<u8>, AllocError> {
     let mut file = Vec::new(alloc);
-    for frame in [first, second] {
-        file.extend_from_slice(&frame.len().to_be_bytes()[6..])?;
-        file.extend_from_slice(frame)?;
+    for part in parts {
+        file.extend_from_slice(part)?;
     }
     Ok(file)
 }
 
-// Merges the delta of a frame, which has to be for this image.
-fn take(alloc: Global, set: &mut Set, frame: &Frame, conn: Conn) -> Result<(), Fail> {
-    if !frame.is_for(conn, &zeros()) {
-        return Err("another image".into());
-    }
-    set.merge(alloc, &frame.delta)
-}
-
 // The join of the deltas of these frames, if each is for this image.
-fn join_of(alloc: Global, frames: &[Frame], conn: Conn) -> Result<Set, Fail> {
-    let mut set = Set::of(alloc, &[])?;
+fn join_of(alloc: Global, frames: &[Frame], conn: Conn) -> Result<State, Fail> {
+    let mut state = State::empty(alloc)?;
     for frame in frames {
-        take(alloc, &mut set, frame, conn)?;
+        if !frame.is_for(conn, &zeros()) {
+            return Err("another image".into());
+        }
+        state.merge(alloc, &frame.delta)?;
     }
-    Ok(set)
+    Ok(state)
 }
 
-// Whether the file has so many frames for this image, whose join is this set.
+// Whether the file has so many frames for this image, whose join is the state of these steps.
 fn is_file_of(
     alloc: Global,
     file: &[u8],
     conn: Conn,
     count: usize,
-    set: &Set,
+    steps: &[Step],
 ) -> Result<bool, Fail> {
     let frames = read_frames(alloc, file)?;
-    Ok(frames.len() == count && join_of(alloc, &frames, conn)?.is_same(set))
+    let joined = join_of(alloc, &frames, conn)?;
+    Ok(frames.len() == count && joined.is_same(&state_of(alloc, steps)?))
 }
 
-// The state file of that set, eight-connected.
-fn long_file(alloc: Global) -> Result<Vec<u8>, Fail> {
-    let set = long_set(alloc)?;
-    Ok(write_frames(alloc, Conn::Eight, &zeros(), set.state())?)
+// The state file of these steps, eight-connected.
+fn written(alloc: Global, steps: &[Step]) -> Result<Vec<u8>, Fail> {
+    let state = state_of(alloc, steps)?;
+    Ok(write_frames(alloc, Conn::Eight, &zeros(), &state)?)
 }
 
 #[test]
 fn a_state_in_two_pieces_is_written_and_read(rt: HostRuntime) -> Result<(), Fail> {
-    let alloc = rt.alloc();
-    let file = long_file(alloc)?;
+    let file = written(rt.alloc(), LONG)?;
     assert!(rt; file.len() == 2 + 1390 + 2 + 153);
     assert!(rt; file[0] == 5 && file[1] == 110);
     assert!(rt; file[1392] == 0 && file[1393] == 153);
-    assert!(rt; is_file_of(alloc, &file, Conn::Eight, 2, &long_set(alloc)?)?);
-    Ok(())
-}
-
-// Whether the state file of the set is empty, and has no frame.
-fn has_empty_file(alloc: Global, set: &Set) -> Result<bool, SpdError> {
-    let file = write_frames(alloc, Conn::Four, &zeros(), set.state())?;
-    Ok(file.is_empty() && read_frames(alloc, &file)?.is_empty())
-}
-
-#[test]
-fn the_empty_state_has_an_empty_file(rt: HostRuntime) -> Result<(), Fail> {
-    assert!(rt; has_empty_file(rt.alloc(), &Set::of(rt.alloc(), &[])?)?);
+    assert!(rt; is_file_of(rt.alloc(), &file, Conn::Eight, 2, LONG)?);
     Ok(())
 }
 
 #[test]
-fn a_file_of_both_versions(rt: HostRuntime) -> Result<(), Fail> {
-    let alloc = rt.alloc();
-    let file = joined(alloc, FIRST_VERSION, ONE_STROKE)?;
-    let set = Set::of(alloc, &[place(1, 9)])?;
-    assert!(rt; is_file_of(alloc, &file, Conn::Four, 2, &set)?);
+fn files_of_no_frame_and_of_both_versions(rt: HostRuntime) -> Result<(), Fail> {
+    assert!(rt; written(rt.alloc(), &[])?.is_empty());
+    assert!(rt; is_file_of(rt.alloc(), &[], Conn::Four, 0, &[])?);
+    let file = file_of(rt.alloc(), BOTH_VERSIONS)?;
+    assert!(rt; is_file_of(rt.alloc(), &file, Conn::Four, 2, &[Place(1, 9)])?);
     Ok(())
 }
 
@@ -161,39 +82,29 @@ fn is_refused(alloc: Global, file: &[u8], code: &str) -> bool {
     }
 }
 
-// Whether a good frame, and these bytes behind it, are refused so.
-fn is_refused_behind(alloc: Global, behind: &[u8], code: &str) -> Result<bool, AllocError> {
-    let mut file = Vec::from_slice(alloc, b"\0\x44")?;
-    file.extend_from_slice(ONE_STROKE)?;
-    file.extend_from_slice(behind)?;
-    Ok(is_refused(alloc, &file, code))
-}
+// The parts of files, and their faults.
+const FAULTS: [(&[&[u8]], &str); 9] = [
+    (&[LENGTH, ONE_STROKE, b"\0"], "M3"),
+    (&[LENGTH, ONE_STROKE, b"\x05\x79"], "M6"),
+    (&[LENGTH, ONE_STROKE, b"\x05\x78"], "M3"),
+    (&[LENGTH, ONE_STROKE, b"\0\x04XXX"], "M3"),
+    (&[LENGTH, ONE_STROKE, b"\0\0"], "M3"),
+    (&[LENGTH, ONE_STROKE, b"\0\x01X\0\x05"], "M1"),
+    (&[LENGTH, ONE_STROKE, b"\0\x05SPD2\x05"], "M2"),
+    // A byte too many, and one too few.
+    (&[LENGTH, ONE_STROKE, b"\0\x45", ONE_STROKE, b"\0"], "M7"),
+    (&[b"\0\x43", ONE_STROKE, LENGTH, ONE_STROKE], "M3"),
+];
 
 #[test]
-fn faults_behind_a_good_frame(rt: HostRuntime) -> Result<(), Fail> {
-    for (behind, code) in [
-        (b"\0".as_slice(), "M3"),
-        (b"\x05\x79".as_slice(), "M6"),
-        (b"\x05\x78".as_slice(), "M3"),
-        (b"\0\x04XXX".as_slice(), "M3"),
-        (b"\0\0".as_slice(), "M3"),
-        (b"\0\x01X\0\x05".as_slice(), "M1"),
-        (b"\0\x05SPD2\x05".as_slice(), "M2"),
-    ] {
+fn faults_of_files(rt: HostRuntime) -> Result<(), Fail> {
+    for (parts, code) in &FAULTS {
+        let file = file_of(rt.alloc(), parts)?;
         assert!(rt;
-            is_refused_behind(rt.alloc(), behind, code)?,
-            "{behind:?}: {code}"
+            is_refused(rt.alloc(), &file, code),
+            "{code} of {} bytes",
+            file.len()
         );
     }
-    Ok(())
-}
-
-#[test]
-fn a_frame_fills_its_length(rt: HostRuntime) -> Result<(), Fail> {
-    let alloc = rt.alloc();
-    let mut longer = Vec::from_slice(alloc, ONE_STROKE)?;
-    longer.push(0)?;
-    assert!(rt; is_refused(alloc, &joined(alloc, ONE_STROKE, &longer)?, "M7"));
-    assert!(rt; is_refused(alloc, &joined(alloc, &ONE_STROKE[..67], ONE_STROKE)?, "M3"));
     Ok(())
 }

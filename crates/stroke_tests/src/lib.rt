@@ -5,13 +5,11 @@
 //! They stand in a crate of their own because tests are proved safe as well: a crate with tests is proved twice.
 
 #[cfg(test)]
-mod decoding;
-#[cfg(test)]
 mod edits;
 #[cfg(test)]
 mod files;
 #[cfg(test)]
-mod kept_markers;
+mod frames;
 #[cfg(test)]
 mod markers;
 #[cfg(test)]
@@ -24,8 +22,6 @@ mod prints;
 mod scene;
 #[cfg(test)]
 mod set;
-#[cfg(test)]
-mod spans;
 #[cfg(test)]
 mod strokes;
 #[cfg(test)]

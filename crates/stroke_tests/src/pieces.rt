@@ -1,18 +1,17 @@
 //! Pieces of states, and their lengths.
 
-use crate::set::{Set, Step, disc};
-use grid_core::Memory;
+use crate::set::Step::{self, Paint, WithdrawEach};
+use crate::set::{state_of, take};
+use crate::strokes::Form::{Column, Disc};
 use std::alloc::Global;
 use std::test::Fail;
 use stroke_lattice::{HEAD_BYTES, MIN_PIECE_BYTES, State, TOMBSTONE_BYTES};
 
-// A stroke of so many runs, one below the other.
-const fn column(tag: u128, runs: u16) -> Step {
-    Step::Column { tag, runs, x: 1 }
-}
-
 // The numbers of strokes and of tombstones, and the length of the frame in bytes.
-fn measured(state: &State) -> (u64, u64, usize) {
+type Measure = (u64, u64, usize);
+
+// Whether the state measures this.
+fn measures(state: &State, measure: Measure) -> bool {
     let mut strokes: u64 = 0;
     let mut length: usize = HEAD_BYTES;
     for (_, stroke) in state.strokes() {
@@ -24,97 +23,109 @@ fn measured(state: &State) -> (u64, u64, usize) {
         tombstones = tombstones.saturating_add(1);
         length = length.saturating_add(TOMBSTONE_BYTES);
     }
-    (strokes, tombstones, length)
+    strokes == measure.0 && tombstones == measure.1 && length == measure.2
 }
 
-// Whether the pieces of the state measure this.
-fn has_pieces(
-    alloc: Global,
-    state: &State,
-    max_bytes: u16,
-    want: &[(u64, u64, usize)],
-) -> Result<bool, Memory> {
-    let max_bytes = usize::from(max_bytes).max(MIN_PIECE_BYTES);
-    let pieces = state.split(alloc, max_bytes)?;
-    Ok(
-        pieces.len() == want.len()
-            && pieces
-                .iter()
-                .zip(want)
-                .all(|(piece, want)| measured(piece) == *want),
-    )
+// Whether the pieces measure this, one after another.
+fn all_measure(pieces: &[State], measures_of: &[Measure]) -> bool {
+    for (piece, measure) in pieces.iter().zip(measures_of) {
+        if !measures(piece, *measure) {
+            return false;
+        }
+    }
+    pieces.len() == measures_of.len()
 }
 
-// The same of the state of these steps, and of tombstones under the tags from 100 up to the end, which is left out.
-fn steps_have_pieces(
+// Whether the pieces of the state of these steps measure this.
+fn is_split(
     alloc: Global,
     steps: &[Step],
-    end: u128,
-    max_bytes: u16,
-    want: &[(u64, u64, usize)],
+    max_bytes: usize,
+    measures_of: &[Measure],
 ) -> Result<bool, Fail> {
-    let mut set = Set::of(alloc, steps)?;
-    set.withdraw_each(alloc, 100, end)?;
-    Ok(has_pieces(alloc, set.state(), max_bytes, want)?)
+    let state = state_of(alloc, steps)?;
+    let pieces = state.split(alloc, max_bytes.max(MIN_PIECE_BYTES))?;
+    Ok(all_measure(&pieces, measures_of))
 }
 
-#[test]
-fn tombstones_fill_the_piece_of_a_great_stroke(rt: HostRuntime) -> Result<(), Fail> {
-    let want = [(1, 23, 1390), (0, 7, 153)];
-    assert!(rt; steps_have_pieces(rt.alloc(), &[column(5, 160)], 130, 1400, &want)?);
-    Ok(())
-}
+// A name, the steps of a state, the greatest length of a piece in bytes, and what the pieces measure.
+type Case = (&'static str, &'static [Step], usize, &'static [Measure]);
+
+const CASES: [Case; 6] = [
+    (
+        "tombstones fill the piece of a great stroke",
+        &[Paint(5, 9, Column(160)), WithdrawEach(100, 130)],
+        1400,
+        &[(1, 23, 1390), (0, 7, 153)],
+    ),
+    (
+        "what does not fit closes the piece for good",
+        &[
+            Paint(1, 9, Column(100)),
+            Paint(2, 9, Column(160)),
+            Paint(3, 9, Column(2)),
+        ],
+        1400,
+        &[(1, 0, 662), (2, 0, 1055)],
+    ),
+    (
+        "a piece of tombstones is exactly full",
+        &[WithdrawEach(100, 163)],
+        1049,
+        &[(0, 63, 1049)],
+    ),
+    (
+        "a piece of tombstones has one byte too few",
+        &[WithdrawEach(100, 163)],
+        1048,
+        &[(0, 62, 1033), (0, 1, 57)],
+    ),
+    (
+        "a piece of one stroke is exactly full",
+        &[Paint(1, 9, Column(160))],
+        1022,
+        &[(1, 0, 1022)],
+    ),
+    ("the empty state has no piece", &[], 1022, &[]),
+];
 
 #[test]
-fn what_does_not_fit_closes_the_piece_for_good(rt: HostRuntime) -> Result<(), Fail> {
-    let steps = [column(1, 100), column(2, 160), column(3, 2)];
-    let want = [(1, 0, 662), (2, 0, 1055)];
-    assert!(rt; steps_have_pieces(rt.alloc(), &steps, 100, 1400, &want)?);
-    Ok(())
-}
-
-#[test]
-fn a_piece_may_be_exactly_full(rt: HostRuntime) -> Result<(), Fail> {
-    let alloc = rt.alloc();
-    assert!(rt; steps_have_pieces(alloc, &[], 163, 1049, &[(0, 63, 1049)])?);
-    assert!(rt; steps_have_pieces(alloc, &[], 163, 1048, &[(0, 62, 1033), (0, 1, 57)])?);
-    assert!(rt; steps_have_pieces(alloc, &[column(1, 160)], 100, 1022, &[(1, 0, 1022)])?);
-    Ok(())
-}
-
-#[test]
-fn the_empty_state_has_no_piece(rt: HostRuntime) -> Result<(), Fail> {
-    assert!(rt; steps_have_pieces(rt.alloc(), &[], 100, 1022, &[])?);
+fn pieces_and_their_lengths(rt: HostRuntime) -> Result<(), Fail> {
+    for (name, steps, max_bytes, measures_of) in &CASES {
+        assert!(rt;
+            is_split(rt.alloc(), steps, *max_bytes, measures_of)?,
+            "{name}"
+        );
+    }
     Ok(())
 }
 
 // Discs and columns, by turns, and tombstones of some of them.
-fn many(alloc: Global) -> Result<Set, Fail> {
-    let mut set = Set::of(alloc, &[])?;
+fn many(alloc: Global) -> Result<State, Fail> {
+    let mut state = State::empty(alloc)?;
     for i in 0..150u64 {
         let tag = 2 * u128::from(i);
-        set.take(alloc, disc(tag, 7, 3, 4, 5))?;
-        set.take(alloc, column(tag + 1, 3))?;
+        take(alloc, &mut state, &Paint(tag, 7, Disc(3, 4, 5)))?;
+        take(alloc, &mut state, &Paint(tag + 1, 9, Column(3)))?;
     }
-    set.withdraw_each(alloc, 100, 200)?;
-    Ok(set)
+    take(alloc, &mut state, &WithdrawEach(100, 200))?;
+    Ok(state)
 }
 
 // The join of these states.
-fn joined(alloc: Global, states: &[State]) -> Result<Set, Fail> {
-    let mut set = Set::of(alloc, &[])?;
+fn joined(alloc: Global, states: &[State]) -> Result<State, Fail> {
+    let mut joined = State::empty(alloc)?;
     for state in states {
-        set.merge(alloc, state)?;
+        joined.merge(alloc, state)?;
     }
-    Ok(set)
+    Ok(joined)
 }
 
 #[test]
 fn merging_the_pieces_gives_the_state(rt: HostRuntime) -> Result<(), Fail> {
-    let alloc = rt.alloc();
-    let set = many(alloc)?;
-    let pieces = set.state().split(alloc, 1400)?;
+    let state = many(rt.alloc())?;
+    let pieces = state.split(rt.alloc(), 1400)?;
     assert!(rt; pieces.len() == 9);
-    assert!(rt; joined(alloc, &pieces)?.is_same(&set));
+    assert!(rt; joined(rt.alloc(), &pieces)?.is_same(&state));
     Ok(())
 }

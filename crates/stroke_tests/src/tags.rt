@@ -24,22 +24,19 @@ fn tags_in_text(rt: HostRuntime) {
     }
 }
 
-// Whether the bytes are refused as no tag.
-fn is_no_tag(text: &[u8]) -> bool {
-    Tag::parse_ascii(text) == Err(StrokeError::BadTag)
-}
-
 // Whether this is the tag's text.
 fn has_text(alloc: Global, tag: Tag, text: &str) -> bool {
-    tag.text(alloc)
-        .is_ok_and(|written| written.as_str() == text)
+    match tag.text(alloc) {
+        Ok(written) => written.as_str() == text,
+        Err(_) => false,
+    }
 }
 
 #[test]
 fn texts_of_tags(rt: HostRuntime) {
     assert!(rt; Tag::parse("zz") == Err(StrokeError::BadTag));
+    assert!(rt; Tag::parse_ascii(&[255; 32]) == Err(StrokeError::BadTag));
     assert!(rt; StrokeError::BadTag.code() == "S5");
-    assert!(rt; is_no_tag(&[255; 32]));
     assert!(rt; Tag(1) < TAG);
     assert!(rt; has_text(rt.alloc(), Tag(1), "00000000-0000-0000-0000-000000000001"));
 }
