@@ -1,12 +1,14 @@
 -- What the words of the command line say.
-use Rattle.std.specs.Prelude.{◌≡◌, ◌≤◌, ◌⊎◌, ℕ, [], List, Option, Some, None, String, map, drop, codes, true}
+use Rattle.std.specs.Prelude.{◌≡◌, ◌≤◌, ◌⊎◌, ℕ, [], List, Option, Some, None, String, map, drop, codes, true, false}
 use Rattle.std.specs.Prelude.{string_bytes, decimal}
 use Rattle.std.specs.Iterator.{Drains}
 use Rattle.std.specs.Vec.Iter.{into_iter_steps}
 use Rattle.std.specs.declared.vec.IntoIter.{IntoIter}
-use Rattle.clap.specs.Words.{App, Row, Rule, Text, first_of, fault_of, new_app, new_rule, subcommand_of, with_rule}
+use Rattle.clap.specs.Words.{App, Row, Rule, Text, app_of, first_of, fault_of, new_app, new_rule, subcommand_of, with_rule}
 use Rattle.clap.specs.Words.{with_subcommand}
 use Rattle.clap.specs.Simple.{on_top}
+use Rattle.clap.specs.declared.builder.command.Command.{Command}
+use Rattle.clap.specs.declared.builder.command.Command.TheViews.{out-Command}
 use Rattle.grid_core.specs.declared.conn.Conn.{Conn}
 use Rattle.grid_core.specs.declared.conn.Conn.TheVariants.{Four, Eight}
 use Rattle.grid_core.specs.Tiles.{IsTileSide}
@@ -15,33 +17,19 @@ use Rattle.seedpaint.specs.declared.words.Call.TheVariants.{View, Derive}
 use Rattle.paint_session.specs.declared.derive.Derivation.{Derivation as Kind}
 use Rattle.paint_session.specs.declared.derive.Derivation.TheVariants.{Fill, HMax, RegMax}
 
--- the option `--conn`, which takes one value
-abbrev pub conn_option : Rule
-conn_option = record (new_rule (codes "conn")) { long = Some (codes "conn") }
-
--- the option `--tile`, which takes one value
-abbrev pub tile_option : Rule
-tile_option = record (new_rule (codes "tile")) { long = Some (codes "tile") }
-
--- the option `--state`, which takes one value
-abbrev pub state_option : Rule
-state_option = record (new_rule (codes "state")) { long = Some (codes "state") }
+-- an option `--name`, which takes one value
+abbrev pub option_of : Text → Rule
+option_of name = record (new_rule name) { long = Some name }
 
 -- the subcommand `view`, with these options alone
 abbrev pub view_command : App
-view_command = with_rule (with_rule (with_rule (new_app (codes "view")) conn_option) tile_option) state_option
+view_command = with_rule (with_rule (with_rule (new_app (codes "view")) (option_of (codes "conn")))
+    (option_of (codes "tile"))) (option_of (codes "state"))
 
--- the word behind `derive`
-abbrev pub kind_word : Rule
-kind_word = new_rule (codes "kind")
-
--- the option `--h`, which takes one value
-abbrev pub h_option : Rule
-h_option = record (new_rule (codes "h")) { long = Some (codes "h") }
-
--- the subcommand `derive`, with that word and these options alone
+-- the subcommand `derive`, with the word behind it and these options alone
 abbrev pub derive_command : App
-derive_command = with_rule (with_rule (with_rule (new_app (codes "derive")) kind_word) h_option) conn_option
+derive_command = with_rule (with_rule (with_rule (new_app (codes "derive")) (new_rule (codes "kind")))
+    (option_of (codes "h"))) (option_of (codes "conn"))
 
 -- the program: its words begin behind its name, they have to name a subcommand, and they can ask for no help
 abbrev pub program : App
@@ -51,6 +39,14 @@ program = with_subcommand (with_subcommand (on_top (λ top. record top {
   disable_help_subcommand = true;
   subcommand_required = true;
 }) (new_app (codes "seedpaint"))) view_command.top) derive_command.top
+
+-- what clap knows of the command is this, and none of its arguments is one of its subcommands too
+abbrev pub IsLocal : App → Command → Type 0
+IsLocal app command = (app_of command ≡ app) × ((out-Command command).has_globals ≡ false)
+
+-- whatever clap knows of the one command, the other is that with an option of this name more
+abbrev pub AddsOption : Command → Text → Command → Type 0
+AddsOption old name new = (app : App) → IsLocal app old → IsLocal (with_rule app (option_of name)) new
 
 -- the value of `--conn` names this connectivity; where there is none, it is that of four neighbours
 abbrev pub ConnIs : Option Text → Conn → Type 0

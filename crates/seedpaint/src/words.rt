@@ -7,10 +7,10 @@ ghost use Rattle.std.specs.Iterator.{Drains};
 ghost use Rattle.std.specs.Vec.Iter.{into_iter_steps};
 ghost use Rattle.std.specs.declared.io.ErrorKind.TheVariants.{OutOfMemory};
 ghost use Rattle.clap.specs.Words.{app_of, kind_of, fault_of, subcommand_of, subcommand_rows_of};
-ghost use Rattle.clap.specs.declared.builder.command.Command.TheViews.{out-Command};
 ghost use Rattle.clap.specs.declared.error.kind.ErrorKind.TheVariants as parse;
 ghost use Rattle.grid_core.specs.declared.conn.Conn.TheVariants.{Four};
 ghost use Rattle.seedpaint.specs.Words.{program, view_command, derive_command, IsCall, Says, IsUsage, GivesWords};
+ghost use Rattle.seedpaint.specs.Words.{AddsOption, IsLocal};
 ghost use Rattle.seedpaint.specs.Examples.{IsSaidSo, of_a_view, of_a_derivation, of_no_call};
 ghost use Rattle.seedpaint.specs.Words.{ConnIs, NamesNoConn, SideIs, NamesNoSide, KindIs, NamesNoKind, HIs, NamesNoH};
 ghost use Rattle.seedpaint.specs.declared.words.Call.{Call};
@@ -144,26 +144,35 @@ fn program<'a>(alloc: Global) -> Result<Command<'a>, Memory>
 
 // The subcommand `view`.
 fn view_command<'a>(alloc: Global) -> Result<Command<'a>, Memory>
-    ensures app { IfOk result (λ command. app_of command ≡ view_command) }
-    ensures local { IfOk result (λ command. (out-Command command).has_globals ≡ false) }
+    ensures { IfOk result (IsLocal view_command) }
 {
-    let view = Command::new(alloc, "view")
-        .arg(Arg::new(alloc, "conn").long("conn"))?
-        .arg(Arg::new(alloc, "tile").long("tile"))?
-        .arg(Arg::new(alloc, "state").long("state"))?;
+    let view = with_option(alloc, Command::new(alloc, "view"), "conn")?;
+    let view = with_option(alloc, view, "tile")?;
+    let view = with_option(alloc, view, "state")?;
     Ok(view)
 }
 
 // The subcommand `derive`.
 fn derive_command<'a>(alloc: Global) -> Result<Command<'a>, Memory>
-    ensures app { IfOk result (λ command. app_of command ≡ derive_command) }
-    ensures local { IfOk result (λ command. (out-Command command).has_globals ≡ false) }
+    ensures { IfOk result (IsLocal derive_command) }
 {
-    let derive = Command::new(alloc, "derive")
-        .arg(Arg::new(alloc, "kind"))?
-        .arg(Arg::new(alloc, "h").long("h"))?
-        .arg(Arg::new(alloc, "conn").long("conn"))?;
+    let kind = Arg::new(alloc, "kind");
+    let derive = Command::new(alloc, "derive").arg(kind)?;
+    let derive = with_option(alloc, derive, "h")?;
+    let derive = with_option(alloc, derive, "conn")?;
     Ok(derive)
+}
+
+// The command with one more option, which takes one value.
+fn with_option<'a>(
+    alloc: Global,
+    command: Command<'a>,
+    name: &'a str,
+) -> Result<Command<'a>, Memory>
+    ensures { IfOk result (AddsOption command.entry name.entry.now) }
+{
+    let added = command.arg(Arg::new(alloc, name).long(name))?;
+    Ok(added)
 }
 
 // What `clap` reads in the words.

@@ -26,7 +26,7 @@ returns c =
     ap app_of_fields c.disable_help_subcommand.ensures ∙ ap without_help flag_is in
     let top_is : app_of c.subcommand_required.result ≡ required (without_help (without_flag bare)) =
     ap app_of_fields c.subcommand_required.ensures ∙ ap required help_is in
-    let with_view = c.in_ok-subcommand.ensures.shape c.in_ok-view_command.ensures.local
-    ∙ ap₂ with_subcommand top_is (ap (λ (a : App). a.top) c.in_ok-view_command.ensures.app) in
-    c.in_ok-seedpaint.ensures.shape c.in_ok-derive_command.ensures.local
-    ∙ ap₂ with_subcommand with_view (ap (λ (a : App). a.top) c.in_ok-derive_command.ensures.app)
+    let with_view = c.in_ok-subcommand.ensures.shape c.in_ok-view_command.ensures.1
+    ∙ ap₂ with_subcommand top_is (ap (λ (a : App). a.top) c.in_ok-view_command.ensures.0) in
+    c.in_ok-seedpaint.ensures.shape c.in_ok-derive_command.ensures.1
+    ∙ ap₂ with_subcommand with_view (ap (λ (a : App). a.top) c.in_ok-derive_command.ensures.0)

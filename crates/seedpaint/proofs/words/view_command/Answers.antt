@@ -1,0 +1,12 @@
+use Rattle.std.proofs.Common.{codes}
+use Rattle.clap.specs.Words.{App, new_app, with_rule}
+use Rattle.seedpaint.specs.Words.{option_of}
+use Rattle.seedpaint.proofs.words.view_command.Goals as goal
+
+pub returns : goal.returns
+returns c =
+    let bare : App = new_app (codes "view") in
+    let joined : App = with_rule bare (option_of (codes "conn")) in
+    let tiled : App = with_rule joined (option_of (codes "tile")) in
+    c.in_ok-view-3.ensures tiled (c.in_ok-view-2.ensures joined
+    (c.in_ok-view.ensures bare (c.new.ensures.app, c.new.ensures.local)))

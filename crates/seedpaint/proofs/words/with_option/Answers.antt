@@ -1,0 +1,18 @@
+use Rattle.std.proofs.Common.{ap, ap₂, ◌∙◌, ◌≡◌, ◌||◌, false, Some}
+use Rattle.clap.specs.Words.{Rule, rule_of, with_rule}
+use Rattle.clap.specs.declared.builder.arg.Arg.{Arg}
+use Rattle.seedpaint.specs.Words.{option_of}
+use Rattle.seedpaint.proofs.words.with_option.Goals as goal
+
+pub returns : goal.returns
+returns c =
+    let name = c.args.name.now in
+    let long : Arg = record c.new.result { long = Some c.args.name } in
+    let local : c.long.result.global ≡ false =
+    ap (λ (a : Arg). a.global) {y = long} c.long.ensures ∙ c.new.ensures.optional.1 in
+    let rule : rule_of c.long.result ≡ option_of name =
+    ap rule_of {y = long} c.long.ensures ∙ ap (λ (r : Rule). record r { long = Some name }) c.new.ensures.rule in
+    λ app is. (
+      c.in_ok-added.ensures.shape local ∙ ap₂ with_rule is.0 rule,
+      c.in_ok-added.ensures.globals ∙ ap₂ (λ a b. a || b) is.1 local,
+    )
