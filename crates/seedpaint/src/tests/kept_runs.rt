@@ -1,6 +1,5 @@
-use super::{source_of, words_of};
-use crate::process::run;
-use byte_devices::{MemorySink, MemorySource};
+use super::{does_run, fault_of, source_of, words_of};
+use byte_devices::MemorySink;
 use grid_core::Memory;
 use paint_session::memory_store::MemoryStore;
 use paint_session::run_error::RunError;
@@ -17,23 +16,7 @@ const WITHDRAWN: &str =
 
 const SHOWN: &[u8] = b"P5\n5 1\n9\n\x03\x05\x02\x02\x02";
 
-// Why a run over this store, from this source to this sink, ended with a fault, where it did, with these bytes written.
-fn fault_of(
-    alloc: Global,
-    words: Vec<String>,
-    source: MemorySource,
-    store: &mut MemoryStore,
-    sink: MemorySink,
-    written: &[u8],
-) -> Option<RunError> {
-    let (mut source, mut sink) = (source, sink);
-    match run(alloc, Ok(words.into_iter()), &mut source, store, &mut sink) {
-        Err(error) if sink.written() == written => Some(error),
-        _ => None,
-    }
-}
-
-// Why such a run with a state file did.
+// Why a run with a state file ended with a fault, where it did, with these bytes written.
 fn fault_with_file(
     alloc: Global,
     store: &mut MemoryStore,
@@ -45,20 +28,7 @@ fn fault_with_file(
     Ok(fault_of(alloc, words, source, store, sink, written))
 }
 
-// Whether a run over this store ends well, with these bytes written.
-fn does_run(
-    alloc: Global,
-    words: Vec<String>,
-    source: MemorySource,
-    store: &mut MemoryStore,
-    written: &[u8],
-) -> bool {
-    let (mut source, mut sink) = (source, MemorySink::new(alloc));
-    let outcome = run(alloc, Ok(words.into_iter()), &mut source, store, &mut sink);
-    outcome.is_ok() && sink.written() == written
-}
-
-// Whether a run with a state file does so on this input.
+// Whether a run with a state file ends well on this input, with these bytes written.
 fn does_show(
     alloc: Global,
     input: &str,
