@@ -1,236 +1,298 @@
 //! What a state file keeps, from one view to the next.
 
-use crate::calls::{ROW, is_row, is_told, on_row, source_of};
-use byte_devices::{MemorySink, MemorySource};
+use crate::calls::{ROW, source_behind, source_of, view_file};
 use core_rules::CoreError;
 use grid_core::{Conn, Memory};
 use paint_session::run_error::RunError;
-use paint_session::view::view_kept;
 use std::alloc::Global;
 use std::test::Fail;
 
 const OTHER_ROW: &str = "image\nP2\n5 1\n9\n3 5 2 5 5\n";
 
-// The bytes that a view leaves over none, if it is not refused.
-fn left_over_none(alloc: Global, source: MemorySource) -> Option<Vec<u8>> {
-    let (mut source, mut sink) = (source, MemorySink::new(alloc));
-    view_kept(alloc, &mut source, b"", Conn::Four, 64, &mut sink).ok()
+const ONE: &str = "place A 9 0:1-1\n";
+
+const OTHER: &str = "place B 3 0:4-4\n";
+
+const BOTH: &str = "place A 9 0:1-1\nplace B 3 0:4-4\n";
+
+const ONE_GONE: &str = "place A 9 0:1-1\nplace B 3 0:4-4\nwithdraw A\n";
+
+// What stands in a state file behind what edits on the row leave.
+#[derive(Clone, Copy)]
+enum Behind {
+    Nothing,
+    // What these edits leave.
+    Edits(&'static str),
+    // The frame of B with level 3 at x = 4, in the first version.
+    FirstVersion,
+    // The frame of a disc beside the image.
+    DiscOutside,
+    // One byte 0.
+    Zero,
 }
 
 // The bytes that edits on the row leave.
 fn bytes_of(alloc: Global, edits: &str) -> Result<Vec<u8>, Fail> {
-    let input = on_row(alloc, edits)?;
-    let source = source_of(alloc, input.as_str())?;
-    match left_over_none(alloc, source) {
-        Some(bytes) => Ok(bytes),
-        None => Err(Fail::new("the view is refused")),
+    let source = source_behind(alloc, edits, ROW)?;
+    let mut file = Vec::new(alloc);
+    if view_file(alloc, source, &mut file, Conn::Four, 64).is_well() {
+        Ok(file)
+    } else {
+        Err(Fail::new("the view is refused"))
     }
 }
 
-// Whether a view over old bytes shows these samples of the row, and leaves these bytes.
-fn does_keep(alloc: Global, source: MemorySource, old: &[u8], samples: &[u8], new: &[u8]) -> bool {
-    let (mut source, mut sink) = (source, MemorySink::new(alloc));
-    match view_kept(alloc, &mut source, old, Conn::Four, 64, &mut sink) {
-        Ok(bytes) => is_row(sink.written(), samples) && bytes.as_slice() == new,
-        Err(_) => false,
-    }
+fn push_bytes_of(alloc: Global, file: &mut Vec<u8>, edits: &str) -> Result<(), Fail> {
+    let bytes = bytes_of(alloc, edits)?;
+    Ok(file.extend_from_slice(&bytes)?)
 }
 
-// Whether edits show these samples on the row over old bytes, and leave what all edits together leave over none.
+// The frame has the fingerprint of a file for the same image.
+fn push_first_version(alloc: Global, file: &mut Vec<u8>) -> Result<(), Fail> {
+    let placed = bytes_of(alloc, OTHER)?;
+    let Some(print) = placed.get(7..39) else {
+        return Err(Fail::new("the file has no fingerprint"));
+    };
+    file.extend_from_slice(b"\x00\x43SPD1\x04".as_slice())?;
+    file.extend_from_slice(print)?;
+    file.extend_from_slice(b"\x00\x01\x00\x00".as_slice())?;
+    file.extend_from_slice(b"\0\0\0\0\0\0\0\0\0\0\0\0\0\0\0\x02".as_slice())?;
+    file.extend_from_slice(b"\x00\x03\x00\x01\x00\x00\x00\x04\x00\x04".as_slice())?;
+    Ok(())
+}
+
+// The frame of a disc on the last column is made one of a disc beside the image: byte 63 of the 68 is the column of its
+// centre.
+fn push_disc_outside(alloc: Global, file: &mut Vec<u8>) -> Result<(), Fail> {
+    let mut disc = bytes_of(alloc, "disc A 9 0:4+0\n")?;
+    if disc.len() != 68 || disc[63] != 4 {
+        return Err(Fail::new("the frame of a disc has another layout"));
+    }
+    disc[63] = 5;
+    file.extend_from_slice(&disc)?;
+    Ok(())
+}
+
+// A state file: what edits on the row leave, and what stands behind it.
+fn file_of(alloc: Global, edits: &str, behind: Behind) -> Result<Vec<u8>, Fail> {
+    let mut file = bytes_of(alloc, edits)?;
+    match behind {
+        Behind::Nothing => {}
+        Behind::Edits(others) => push_bytes_of(alloc, &mut file, others)?,
+        Behind::FirstVersion => push_first_version(alloc, &mut file)?,
+        Behind::DiscOutside => push_disc_outside(alloc, &mut file)?,
+        Behind::Zero => file.push(0)?,
+    }
+    Ok(file)
+}
+
+// Whether edits show these samples of the row over a state file, which is changed.
+fn do_show(alloc: Global, file: &mut Vec<u8>, edits: &str, samples: &[u8]) -> Result<bool, Memory> {
+    let source = source_behind(alloc, edits, ROW)?;
+    Ok(view_file(alloc, source, file, Conn::Four, 64).is_row(samples))
+}
+
+fn is_left_by(alloc: Global, file: &[u8], edits: &str) -> Result<bool, Fail> {
+    let bytes = bytes_of(alloc, edits)?;
+    Ok(bytes.as_slice() == file)
+}
+
+// Whether edits show these samples of the row over a state file, and leave what all edits together leave over none.
 fn do_continue(
     alloc: Global,
-    old: Vec<u8>,
+    file: Vec<u8>,
     edits: &str,
     samples: &[u8],
     all: &str,
 ) -> Result<bool, Fail> {
-    let input = on_row(alloc, edits)?;
-    let source = source_of(alloc, input.as_str())?;
-    let new = bytes_of(alloc, all)?;
-    Ok(does_keep(alloc, source, &old, samples, &new))
+    let mut file = file;
+    let are_shown = do_show(alloc, &mut file, edits, samples)?;
+    Ok(are_shown && is_left_by(alloc, &file, all)?)
 }
 
-// Why a view over old bytes is refused before anything is written, if it is.
-fn refusal_of(
-    alloc: Global,
-    source: MemorySource,
-    old: &[u8],
-    conn: Conn,
-    side: u32,
-) -> Option<RunError> {
-    let (mut source, mut sink) = (source, MemorySink::new(alloc));
-    let fault = view_kept(alloc, &mut source, old, conn, side, &mut sink).err();
-    if sink.written().is_empty() {
-        fault
-    } else {
-        None
-    }
-}
+// A state file in two parts, edits over it, what they show of the row, and edits that leave the new file over none.
+type Continued = (
+    &'static str,
+    Behind,
+    &'static str,
+    &'static [u8],
+    &'static str,
+);
 
-// Whether an input over old bytes is refused with this line and the status 1, and nothing is written.
-fn is_refused(
-    alloc: Global,
-    old: &[u8],
-    conn: Conn,
-    input: &str,
-    line: &str,
-) -> Result<bool, Memory> {
-    let source = source_of(alloc, input)?;
-    match refusal_of(alloc, source, old, conn, 64) {
-        Some(error) => is_told(alloc, &error, 1, line),
-        None => Ok(false),
+const CONTINUED: [Continued; 8] = [
+    ("", Behind::Nothing, "", &[0, 0, 0, 0, 0], ""),
+    ("", Behind::Nothing, ONE, &[3, 5, 2, 2, 2], ONE),
+    (ONE, Behind::Nothing, "", &[3, 5, 2, 2, 2], ONE),
+    (ONE, Behind::Nothing, OTHER, &[3, 5, 2, 3, 3], BOTH),
+    (
+        BOTH,
+        Behind::Nothing,
+        "withdraw A\n",
+        &[2, 2, 2, 3, 3],
+        ONE_GONE,
+    ),
+    // Files that are joined show the join.
+    (
+        BOTH,
+        Behind::Edits("withdraw A\n"),
+        "",
+        &[2, 2, 2, 3, 3],
+        ONE_GONE,
+    ),
+    // A file may mix both versions, and the first is written again in the second.
+    (
+        ONE,
+        Behind::FirstVersion,
+        "",
+        &[3, 5, 2, 3, 3],
+        "place B 3 0:4-4\nplace A 9 0:1-1\n",
+    ),
+    ("", Behind::FirstVersion, "", &[2, 2, 2, 3, 3], OTHER),
+];
+
+// The number of the first row that is not so, if there is one.
+fn first_not_continued(alloc: Global, cases: &[Continued]) -> Result<Option<usize>, Fail> {
+    for (row, (before, behind, edits, samples, all)) in cases.iter().enumerate() {
+        let file = file_of(alloc, before, *behind)?;
+        if !do_continue(alloc, file, edits, samples, all)? {
+            return Ok(Some(row));
+        }
     }
+    Ok(None)
 }
 
 #[test]
 fn a_kept_state_is_continued(rt: HostRuntime) -> Result<(), Fail> {
-    let alloc = rt.alloc();
-    let one = "place A 9 0:1-1\n";
-    let both = "place A 9 0:1-1\nplace B 3 0:4-4\n";
-    let gone = "place A 9 0:1-1\nplace B 3 0:4-4\nwithdraw A\n";
-    let cases: [(&str, &str, &[u8], &str); 4] = [
-        ("", one, &[3, 5, 2, 2, 2], one),
-        (one, "", &[3, 5, 2, 2, 2], one),
-        (one, "place B 3 0:4-4\n", &[3, 5, 2, 3, 3], both),
-        (both, "withdraw A\n", &[2, 2, 2, 3, 3], gone),
-    ];
-    for (before, edits, samples, all) in cases {
-        let old = bytes_of(alloc, before)?;
-        assert!(rt; do_continue(alloc, old, edits, samples, all)?, "{edits}");
-    }
+    assert_eq!(rt; first_not_continued(rt.alloc(), &CONTINUED)?, None);
     Ok(())
 }
 
 #[test]
 fn no_strokes_are_kept_in_no_bytes(rt: HostRuntime) -> Result<(), Fail> {
-    let alloc = rt.alloc();
-    let source = source_of(alloc, ROW)?;
-    assert!(rt; does_keep(alloc, source, b"", &[0, 0, 0, 0, 0], b""));
+    assert!(rt; bytes_of(rt.alloc(), "")?.is_empty());
     Ok(())
 }
 
-// The frame of B with level 3 at x = 4, in the first version, for the image that these bytes of a file are for.
-fn first_version(alloc: Global, file: &[u8]) -> Result<Vec<u8>, Fail> {
-    let Some(print) = file.get(7..39) else {
-        return Err(Fail::new("the file has no fingerprint"));
-    };
-    let mut frame = Vec::from_slice(alloc, b"\x00\x43SPD1\x04".as_slice())?;
-    frame.extend_from_slice(print)?;
-    frame.extend_from_slice(b"\x00\x01\x00\x00".as_slice())?;
-    frame.extend_from_slice(b"\0\0\0\0\0\0\0\0\0\0\0\0\0\0\0\x02".as_slice())?;
-    frame.extend_from_slice(b"\x00\x03\x00\x01\x00\x00\x00\x04\x00\x04".as_slice())?;
-    Ok(frame)
+// A state file in two parts, a connectivity, edits and what stands behind them, and the line with which they are
+// refused over the file.
+type Refused = (
+    &'static str,
+    Behind,
+    Conn,
+    &'static str,
+    &'static str,
+    &'static str,
+);
+
+const REFUSED: [Refused; 9] = [
+    // A file of another image.
+    (
+        ONE,
+        Behind::Nothing,
+        Conn::Four,
+        "",
+        OTHER_ROW,
+        "seedpaint: D1",
+    ),
+    (ONE, Behind::Nothing, Conn::Eight, "", ROW, "seedpaint: D1"),
+    // A fault is met where those before it are mended: the edits, the image file, the frames, the image they are for.
+    (
+        ONE,
+        Behind::Zero,
+        Conn::Four,
+        "bogus\n",
+        "",
+        "seedpaint: V1",
+    ),
+    (
+        ONE,
+        Behind::Zero,
+        Conn::Four,
+        "bogus\n",
+        "image\nP2\n5 1\n",
+        "seedpaint: E1 1",
+    ),
+    (
+        ONE,
+        Behind::Zero,
+        Conn::Four,
+        "",
+        "image\nP2\n5 1\n",
+        "seedpaint: P6",
+    ),
+    (
+        ONE,
+        Behind::Zero,
+        Conn::Four,
+        "",
+        OTHER_ROW,
+        "seedpaint: M3",
+    ),
+    (ONE, Behind::Zero, Conn::Four, "", ROW, "seedpaint: M3"),
+    // A stroke of the file meets one of the edits.
+    (
+        ONE,
+        Behind::Nothing,
+        Conn::Four,
+        "place A 8 0:1-1\n",
+        ROW,
+        "seedpaint: C2 A",
+    ),
+    // A stroke of the file has to fit.
+    (
+        "",
+        Behind::DiscOutside,
+        Conn::Four,
+        "",
+        ROW,
+        "seedpaint: C1 A",
+    ),
+];
+
+// Whether edits and what stands behind them are refused over a state file with this line and the status 1, and nothing
+// is written.
+fn are_refused(
+    alloc: Global,
+    file: Vec<u8>,
+    conn: Conn,
+    edits: &str,
+    behind: &str,
+    line: &str,
+) -> Result<bool, Memory> {
+    let mut file = file;
+    let source = source_behind(alloc, edits, behind)?;
+    view_file(alloc, source, &mut file, conn, 64).is_refusal(alloc, line)
 }
 
-// The bytes of a file, and others behind them.
-fn joined(file: Vec<u8>, others: &[u8]) -> Result<Vec<u8>, Fail> {
-    let mut joined = file;
-    joined.extend_from_slice(others)?;
-    Ok(joined)
-}
-
-// A file with a frame of each version.
-fn mixed_file(alloc: Global) -> Result<Vec<u8>, Fail> {
-    let placed = bytes_of(alloc, "place A 9 0:1-1\n")?;
-    let frame = first_version(alloc, &placed)?;
-    joined(placed, &frame)
-}
-
-#[test]
-fn a_file_may_mix_both_versions(rt: HostRuntime) -> Result<(), Fail> {
-    let alloc = rt.alloc();
-    let old = mixed_file(alloc)?;
-    let both = "place B 3 0:4-4\nplace A 9 0:1-1\n";
-    assert!(rt; do_continue(alloc, old, "", &[3, 5, 2, 3, 3], both)?);
-    Ok(())
-}
-
-// A file of two strokes, and behind it one of a withdrawal.
-fn joined_file(alloc: Global) -> Result<Vec<u8>, Fail> {
-    let withdrawn = bytes_of(alloc, "withdraw A\n")?;
-    let placed = bytes_of(alloc, "place A 9 0:1-1\nplace B 3 0:4-4\n")?;
-    joined(placed, &withdrawn)
-}
-
-#[test]
-fn files_joined_show_the_join(rt: HostRuntime) -> Result<(), Fail> {
-    let alloc = rt.alloc();
-    let old = joined_file(alloc)?;
-    let all = "place A 9 0:1-1\nplace B 3 0:4-4\nwithdraw A\n";
-    assert!(rt; do_continue(alloc, old, "", &[2, 2, 2, 3, 3], all)?);
-    Ok(())
-}
-
-#[test]
-fn a_file_of_another_image_is_refused(rt: HostRuntime) -> Result<(), Fail> {
-    let alloc = rt.alloc();
-    let old = bytes_of(alloc, "place A 9 0:1-1\n")?;
-    for (conn, input) in [(Conn::Four, OTHER_ROW), (Conn::Eight, ROW)] {
-        assert!(rt;
-            is_refused(alloc, &old, conn, input, "seedpaint: D1")?,
-            "{input}"
-        );
+// The number of the first row that is not so, if there is one.
+fn first_not_refused(alloc: Global, cases: &[Refused]) -> Result<Option<usize>, Fail> {
+    for (row, (before, second, conn, edits, behind, line)) in cases.iter().enumerate() {
+        let file = file_of(alloc, before, *second)?;
+        if !are_refused(alloc, file, *conn, edits, behind, line)? {
+            return Ok(Some(row));
+        }
     }
-    Ok(())
-}
-
-// Each fault is met where those before it are mended: the edits, the image file, the frames, the image they are for.
-#[test]
-fn faults_come_in_their_order(rt: HostRuntime) -> Result<(), Fail> {
-    let alloc = rt.alloc();
-    let old = joined(bytes_of(alloc, "place A 9 0:1-1\n")?, b"\0")?;
-    let cases = [
-        ("bogus\n", "seedpaint: V1"),
-        ("bogus\nimage\nP2\n5 1\n", "seedpaint: E1 1"),
-        ("image\nP2\n5 1\n", "seedpaint: P6"),
-        (OTHER_ROW, "seedpaint: M3"),
-        (ROW, "seedpaint: M3"),
-    ];
-    for (input, line) in cases {
-        assert!(rt; is_refused(alloc, &old, Conn::Four, input, line)?, "{line}");
-    }
-    Ok(())
+    Ok(None)
 }
 
 #[test]
-fn a_stroke_of_the_file_meets_one_of_the_edits(rt: HostRuntime) -> Result<(), Fail> {
-    let alloc = rt.alloc();
-    let input = on_row(alloc, "place A 8 0:1-1\n")?;
-    let old = bytes_of(alloc, "place A 9 0:1-1\n")?;
-    assert!(rt; is_refused(alloc, &old, Conn::Four, input.as_str(), "seedpaint: C2 A")?);
+fn edits_may_be_refused_over_a_state_file(rt: HostRuntime) -> Result<(), Fail> {
+    assert_eq!(rt; first_not_refused(rt.alloc(), &REFUSED)?, None);
     Ok(())
 }
 
-// The frame of a disc on the last column, with another byte in the place of its centre's column.
-fn moved_disc(alloc: Global, x: u8) -> Result<Vec<u8>, Fail> {
-    let mut file = bytes_of(alloc, "disc A 9 0:4+0\n")?;
-    if file.len() != 68 || file[63] != 4 {
-        return Err(Fail::new("the frame of a disc has another layout"));
-    }
-    file[63] = x;
-    Ok(file)
-}
-
-// The frame of a disc on the last column is made one of a disc beside the image.
-#[test]
-fn a_stroke_of_the_file_has_to_fit(rt: HostRuntime) -> Result<(), Fail> {
-    let alloc = rt.alloc();
-    let old = moved_disc(alloc, 5)?;
-    assert!(rt; is_refused(alloc, &old, Conn::Four, ROW, "seedpaint: C1 A")?);
-    Ok(())
+// Whether tiles have no such side: nothing is read or written.
+fn is_side_refused(alloc: Global, side: u32) -> Result<bool, Fail> {
+    let mut file = bytes_of(alloc, ONE)?;
+    let source = source_of(alloc, ROW)?.failing_at(1);
+    let fault = Some(RunError::Core(CoreError::BadSide));
+    Ok(view_file(alloc, source, &mut file, Conn::Four, side).is(fault, b""))
 }
 
 #[test]
 fn tiles_of_no_such_side_are_refused_over_a_state_file(rt: HostRuntime) -> Result<(), Fail> {
-    let alloc = rt.alloc();
-    let old = bytes_of(alloc, "place A 9 0:1-1\n")?;
     for side in [7, 257] {
-        let source = source_of(alloc, ROW)?.failing_at(1);
-        let refusal = refusal_of(alloc, source, &old, Conn::Four, side);
-        assert!(rt;
-            refusal == Some(RunError::Core(CoreError::BadSide)),
-            "{side}"
-        );
+        assert!(rt; is_side_refused(rt.alloc(), side)?, "{side}");
     }
     Ok(())
 }
@@ -243,13 +305,10 @@ fn has_layout(file: &[u8]) -> bool {
         && file.get(43..) == Some(strokes.as_slice())
 }
 
-// A frame of the first version, 67 bytes, is written again in the second, with one byte more for the kind.
+// A frame of the first version has 67 bytes, and one of the second has one more for the kind.
 #[test]
-fn the_first_version_is_written_again_in_the_second(rt: HostRuntime) -> Result<(), Fail> {
-    let alloc = rt.alloc();
-    let placed = bytes_of(alloc, "place B 3 0:4-4\n")?;
-    let old = first_version(alloc, &placed)?;
-    assert!(rt; old.len() == 2 + 67 && has_layout(&placed));
-    assert!(rt; do_continue(alloc, old, "", &[2, 2, 2, 3, 3], "place B 3 0:4-4\n")?);
+fn frames_have_their_layout(rt: HostRuntime) -> Result<(), Fail> {
+    assert!(rt; file_of(rt.alloc(), "", Behind::FirstVersion)?.len() == 2 + 67);
+    assert!(rt; has_layout(&bytes_of(rt.alloc(), OTHER)?));
     Ok(())
 }
