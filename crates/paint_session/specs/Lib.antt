@@ -12,6 +12,7 @@ pub use Rattle.derived_views.specs.Plateaus
 pub mod Input
 pub mod Merging
 pub mod RunError
+pub mod Answering
 pub mod Store
 pub mod Serving
 pub mod View

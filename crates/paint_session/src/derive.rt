@@ -1,10 +1,9 @@
 //! An image derived from one image file: from bytes in to bytes out.
 
 ghost use Rattle.std.specs.Prelude.{◌≡◌, ℕ, List, IfOk};
-ghost use Rattle.byte_devices.specs.Response.{Responds, TellsDevices};
 ghost use Rattle.grid_core.specs.declared.conn.Conn.{Conn};
+ghost use Rattle.paint_session.specs.Answering.{Answers};
 ghost use Rattle.paint_session.specs.Derive.{DerivationStops, FileIsRefused, IsDerivation, IsDerived};
-ghost use Rattle.paint_session.specs.RunError.{IsReadingFault, IsTransferFault};
 ghost use Rattle.paint_session.specs.declared.derive.Derivation.{Derivation};
 ghost use Rattle.paint_session.specs.declared.run_error.RunError.{RunError};
 
@@ -43,10 +42,8 @@ pub fn derive_run<S: Source, K: Sink>(
     conn: Conn,
     sink: &mut K,
 ) -> Result<(), RunError>
-    ensures responds { Responds (λ input _ text. IsDerivation kind h conn input text) DerivationStops
-        IsReadingFault IsTransferFault result (S.seen source.old).remaining K.seen sink.old sink.new }
-    ensures devices { TellsDevices IsReadingFault IsTransferFault result
-        (S.seen source.old) (S.seen source.new) (K.seen sink.old) (K.seen sink.new) }
+    ensures { Answers (λ input _ text. IsDerivation kind h conn input text) DerivationStops
+        result S.seen source.old source.new K.seen sink.old sink.new }
 {
     respond(alloc, &Deriver { kind, h, conn }, source, sink)
 }

@@ -1,12 +1,8 @@
 //! The view of an input: from bytes in to bytes out.
 
-ghost use Rattle.std.specs.Prelude.{◌≡◌, IsErrOf};
-ghost use Rattle.byte_devices.specs.Response.{Responds, TellsDevices};
-ghost use Rattle.grid_core.specs.Tiles.{IsTileSide};
-ghost use Rattle.core_rules.specs.declared.error.CoreError.TheVariants as core;
 ghost use Rattle.stroke_lattice.specs.State.{State, nothing};
 ghost use Rattle.paint_session.specs.Kept.{IsKeptView, KeptStops};
-ghost use Rattle.paint_session.specs.RunError.{IsReadingFault, IsTransferFault};
+ghost use Rattle.paint_session.specs.Answering.{Answers, AnswersForSide};
 ghost use Rattle.paint_session.specs.View.{IsView, InputStops};
 
 use crate::run_error::RunError;
@@ -33,11 +29,8 @@ pub fn view_run<S: Source, K: Sink>(
     conn: Conn,
     sink: &mut K,
 ) -> Result<(), RunError>
-    ensures responds { Responds (λ input _ text. (state : State) × IsView conn nothing input state text)
-        (InputStops nothing) IsReadingFault IsTransferFault result
-        (S.seen source.old).remaining K.seen sink.old sink.new }
-    ensures devices { TellsDevices IsReadingFault IsTransferFault result
-        (S.seen source.old) (S.seen source.new) (K.seen sink.old) (K.seen sink.new) }
+    ensures { Answers (λ input _ text. (state : State) × IsView conn nothing input state text) (InputStops nothing)
+        result S.seen source.old source.new K.seen sink.old sink.new }
 {
     respond(alloc, &FirstView { conn }, source, sink)
 }
@@ -53,10 +46,8 @@ pub fn view_from<S: Source, K: Sink>(
     conn: Conn,
     sink: &mut K,
 ) -> Result<State, RunError>
-    ensures responds { Responds (λ input state text. IsView conn old.now input state text) (InputStops old.now)
-        IsReadingFault IsTransferFault result (S.seen source.old).remaining K.seen sink.old sink.new }
-    ensures devices { TellsDevices IsReadingFault IsTransferFault result
-        (S.seen source.old) (S.seen source.new) (K.seen sink.old) (K.seen sink.new) }
+    ensures { Answers (λ input state text. IsView conn old.now input state text) (InputStops old.now)
+        result S.seen source.old source.new K.seen sink.old sink.new }
 {
     respond(alloc, &ViewBehind { old, conn }, source, sink)
 }
@@ -72,15 +63,8 @@ pub fn view_tiled<S: Source, K: Sink>(
     side: u32,
     sink: &mut K,
 ) -> Result<State, RunError>
-    // Where tiles have no such side, nothing is read or written.
-    ensures side { (IsTileSide side → ⊥) → IsErrOf result (RunError.Core core.BadSide) }
-    ensures unread { (IsTileSide side → ⊥) → (source.new ≡ source.old) × (sink.new ≡ sink.old) }
-
-    ensures responds { IsTileSide side → Responds (λ input state text. IsView conn old.now input state text)
-        (InputStops old.now) IsReadingFault IsTransferFault result
-        (S.seen source.old).remaining K.seen sink.old sink.new }
-    ensures devices { IsTileSide side → TellsDevices IsReadingFault IsTransferFault result
-        (S.seen source.old) (S.seen source.new) (K.seen sink.old) (K.seen sink.new) }
+    ensures { AnswersForSide side (λ input state text. IsView conn old.now input state text) (InputStops old.now)
+        result S.seen source.old source.new K.seen sink.old sink.new }
 {
     if !is_tile_side(side) {
         return Err(RunError::Core(CoreError::BadSide));
@@ -106,15 +90,8 @@ pub fn view_kept<S: Source, K: Sink>(
     side: u32,
     sink: &mut K,
 ) -> Result<Vec<u8>, RunError>
-    // Where tiles have no such side, nothing is read or written.
-    ensures side { (IsTileSide side → ⊥) → IsErrOf result (RunError.Core core.BadSide) }
-    ensures unread { (IsTileSide side → ⊥) → (source.new ≡ source.old) × (sink.new ≡ sink.old) }
-
-    ensures responds { IsTileSide side → Responds (λ input new text. IsKeptView conn old.now input text new.items)
-        (KeptStops conn old.now) IsReadingFault IsTransferFault result
-        (S.seen source.old).remaining K.seen sink.old sink.new }
-    ensures devices { IsTileSide side → TellsDevices IsReadingFault IsTransferFault result
-        (S.seen source.old) (S.seen source.new) (K.seen sink.old) (K.seen sink.new) }
+    ensures { AnswersForSide side (λ input new text. IsKeptView conn old.now input text new.items)
+        (KeptStops conn old.now) result S.seen source.old source.new K.seen sink.old sink.new }
 {
     if !is_tile_side(side) {
         return Err(RunError::Core(CoreError::BadSide));
