@@ -25,7 +25,10 @@ impl Call {
         let mut words = env::args(rt)?.skip(1);
         let count = words.next().context(USAGE)?.parse::<usize>()?;
         let side = words.next().context(USAGE)?.parse::<u32>()?;
-        let with_times = words.next().is_some_and(|word| word.as_str() == "--times");
+        let with_times = match words.next() {
+            Some(word) => word.as_str() == "--times",
+            None => false,
+        };
         Ok(Call {
             count,
             side,

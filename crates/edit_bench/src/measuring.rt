@@ -89,7 +89,9 @@ fn kind(change: &Change) -> &'static str {
 
 // The sum of the generations of all tiles, which each reset of a tile raises by 1.
 fn sum_of_generations(core: &Core) -> u64 {
-    (0..core.tiles()).fold(0, |sum: u64, tile| {
-        sum.wrapping_add(core.generation(tile))
-    })
+    let mut sum: u64 = 0;
+    for tile in 0..core.tiles() {
+        sum = sum.wrapping_add(core.generation(tile));
+    }
+    sum
 }
