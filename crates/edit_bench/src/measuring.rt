@@ -1,7 +1,7 @@
 //! Edits on a core, and what each of them costs.
 
 use anyhow::Result;
-use reset_core::Core;
+use reset_core::{Core, CoreError};
 use std::alloc::Global;
 use std::time::{CpuClock, Duration};
 use stroke_lattice::{Change, Delta};
@@ -29,9 +29,9 @@ pub fn merge_all(alloc: Global, core: &mut Core, edits: &[Delta]) -> Result<()> 
     Ok(())
 }
 
-// Merges the edit into a core.
-fn merge(alloc: Global, core: &mut Core, edit: &Delta) -> Result<Change> {
-    Ok(core.merge(alloc, edit)?)
+// Merges the edit into a core. Its error is that of the core, which the callers carry up.
+fn merge(alloc: Global, core: &mut Core, edit: &Delta) -> Result<Change, CoreError> {
+    core.merge(alloc, edit)
 }
 
 /// Merges the edits into a core without work, settles it after each, and prints what each cost, where asked for with
