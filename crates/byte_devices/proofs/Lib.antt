@@ -1,2 +1,3 @@
+mod Stopped
 pub mod Pieces
 pub mod Shared

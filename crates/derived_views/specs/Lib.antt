@@ -7,5 +7,6 @@ pub use Rattle.pgm_codec.specs.Graymap
 pub mod Holes
 pub mod HMaxima
 pub mod Plateaus
+pub mod Views
 pub mod Laws
 pub mod Rasters

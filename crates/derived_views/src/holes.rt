@@ -5,11 +5,11 @@
 
 ghost use Rattle.std.specs.Prelude.{◌≡◌, ◌+◌, ◌⊎◌, IfOk};
 ghost use Rattle.grid_core.specs.Path.{domain_of};
-ghost use Rattle.grid_core.specs.Raster.{IsInside, value_at, IsOnBorder};
-ghost use Rattle.pgm_codec.specs.Graymap.{IsGraymap};
+ghost use Rattle.grid_core.specs.Raster.{IsInside, IsOnBorder};
 ghost use Rattle.derived_views.specs.Holes.{IsFill};
 ghost use Rattle.derived_views.specs.Rasters.{complement_of, IsPartOfBorder, IsBorderOf, Copies};
 ghost use Rattle.derived_views.specs.Rasters.{AreDifferences, IsDifference};
+ghost use Rattle.derived_views.specs.Views.{IsView};
 
 use grid_core::{Conn, Grid, Memory, Pixel};
 use pgm_codec::Image;
@@ -21,12 +21,7 @@ use std::alloc::Global;
 ///
 /// Errors: out of memory.
 pub fn fill(alloc: Global, image: &Image, conn: Conn) -> Result<Image, Memory>
-    ensures graymap { IfOk result IsGraymap }
-    ensures width { IfOk result (λ filled. filled.raster.width ≡ image.now.raster.width) }
-    ensures height { IfOk result (λ filled. filled.raster.height ≡ image.now.raster.height) }
-    ensures maxval { IfOk result (λ filled. filled.maxval ≡ image.now.maxval) }
-    ensures fill { IfOk result (λ filled.
-        IsFill (domain_of image.now.raster conn) (value_at image.now.raster) (value_at filled.raster)) }
+    ensures { IfOk result (IsView image.now image.now.maxval (IsFill (domain_of image.now.raster conn))) }
 {
     let maxval = image.maxval();
     let top = u32::from(maxval);

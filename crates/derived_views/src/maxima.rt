@@ -2,10 +2,9 @@
 
 ghost use Rattle.std.specs.Prelude.{◌≡◌, ◌-◌, IfOk};
 ghost use Rattle.grid_core.specs.Path.{domain_of};
-ghost use Rattle.grid_core.specs.Raster.{value_at};
-ghost use Rattle.pgm_codec.specs.Graymap.{IsGraymap};
 ghost use Rattle.derived_views.specs.HMaxima.{IsHMaxima};
 ghost use Rattle.derived_views.specs.Rasters.{mapped};
+ghost use Rattle.derived_views.specs.Views.{IsView};
 
 use grid_core::{Conn, Grid, Memory};
 use pgm_codec::{Image, below_keeps_maxval};
@@ -17,12 +16,7 @@ use std::alloc::Global;
 ///
 /// Errors: out of memory.
 pub fn h_maxima(alloc: Global, image: &Image, h: u16, conn: Conn) -> Result<Image, Memory>
-    ensures graymap { IfOk result IsGraymap }
-    ensures width { IfOk result (λ maxima. maxima.raster.width ≡ image.now.raster.width) }
-    ensures height { IfOk result (λ maxima. maxima.raster.height ≡ image.now.raster.height) }
-    ensures maxval { IfOk result (λ maxima. maxima.maxval ≡ image.now.maxval) }
-    ensures h_maxima { IfOk result (λ maxima.
-        IsHMaxima (domain_of image.now.raster conn) h (value_at image.now.raster) (value_at maxima.raster)) }
+    ensures { IfOk result (IsView image.now image.now.maxval (IsHMaxima (domain_of image.now.raster conn) h)) }
 {
     let mut grown = lowered(alloc, image.grid(), u32::from(h))?;
     grow_in_place(alloc, image.grid(), &mut grown, conn)?;

@@ -5,10 +5,10 @@
 
 ghost use Rattle.std.specs.Prelude.{◌≡◌, ◌+◌, length, map, min, slice_index, IfOk};
 ghost use Rattle.grid_core.specs.Path.{domain_of};
-ghost use Rattle.grid_core.specs.Raster.{max_value, value_at};
-ghost use Rattle.pgm_codec.specs.Graymap.{IsGraymap};
+ghost use Rattle.grid_core.specs.Raster.{max_value};
 ghost use Rattle.derived_views.specs.Plateaus.{IsRegionalMaxima};
 ghost use Rattle.derived_views.specs.Rasters.{mapped, AreDifferences, IsDifference};
+ghost use Rattle.derived_views.specs.Views.{IsView};
 
 use grid_core::{Conn, Grid, Memory};
 use pgm_codec::Image;
@@ -21,12 +21,7 @@ use std::alloc::{AllocError, Global};
 ///
 /// Errors: out of memory.
 pub fn regional_maxima(alloc: Global, image: &Image, conn: Conn) -> Result<Image, Memory>
-    ensures graymap { IfOk result IsGraymap }
-    ensures width { IfOk result (λ maxima. maxima.raster.width ≡ image.now.raster.width) }
-    ensures height { IfOk result (λ maxima. maxima.raster.height ≡ image.now.raster.height) }
-    ensures maxval { IfOk result (λ maxima. maxima.maxval ≡ 1) }
-    ensures regional_maxima { IfOk result (λ maxima.
-        IsRegionalMaxima (domain_of image.now.raster conn) (value_at image.now.raster) (value_at maxima.raster)) }
+    ensures { IfOk result (IsView image.now 1 (IsRegionalMaxima (domain_of image.now.raster conn))) }
 {
     let mask = raised(alloc, image)?;
     let mut grown = image.grid().copy(alloc)?;

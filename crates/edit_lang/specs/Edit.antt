@@ -3,7 +3,8 @@ use Rattle.std.specs.Prelude.{◌≡◌, ℕ, ◌+◌, List, [], ◌∷◌, ◌+
 use Rattle.std.specs.Prelude.{None, option_to_list, Result, Ok, Err, MatchResult}
 use Rattle.std.specs.List.{starts_with}
 use Rattle.std.specs.Str.{bytes_eq}
-use Rattle.stroke_core.specs.Seed.{Seed, Runs, IsCanonical, IsRefusal}
+use Rattle.stroke_core.specs.Seed.{Seed, Runs, Disc, IsCanonical, IsRefusal}
+use Rattle.stroke_core.specs.declared.run.Run.{Run}
 use Rattle.stroke_core.specs.Tag.{tag_of}
 use Rattle.stroke_core.specs.declared.error.StrokeError.{StrokeError}
 use Rattle.stroke_lattice.specs.State.{State, placed, withdrawn}
@@ -25,13 +26,21 @@ unfoldable pub three_of : List (List ℕ) → Option (List ℕ × List ℕ × Li
 three_of (tag ∷ level ∷ shape ∷ []) = Some (tag, level, shape)
 three_of _ = None
 
+-- to place these runs at this level under a tag
+abbrev pub runs_placement : List ℕ → ℕ → List Run → Edit
+runs_placement tag level runs = Place tag (record { level = level; shape = Runs runs })
+
+-- to place the disc round this pixel at this level under a tag
+abbrev pub disc_placement : List ℕ → ℕ → ℕ → ℕ → ℕ → Edit
+disc_placement tag level x y r = Place tag (record { level = level; shape = Disc x y r })
+
 -- TAG LEVEL RUNS
 unfoldable pub runs_edit : List (List ℕ) → Option Edit
 runs_edit words = do
   (tag, level, runs) ← three_of words
   number ← number_of level
   rows ← runs_of runs
-  Some (Place tag (record { level = number; shape = Runs rows }))
+  Some (runs_placement tag number rows)
 
 -- TAG LEVEL DISC
 unfoldable pub disc_edit : List (List ℕ) → Option Edit
@@ -91,6 +100,11 @@ AnswersEdit n edit r =
 abbrev pub LineMeans : ℕ → List ℕ → Result (Option State) EditError → Type 0
 LineMeans n line r = EditMeans n (edit_of (words_of line)) r
 
+-- the answer to line n: what it means, or its fault, or that memory ran out
+abbrev pub AnswersLine : ℕ → List ℕ → Result (Option State) EditError → Type 0
+AnswersLine n line r =
+    MatchResult r (λ found. LineMeans n line (Ok found)) (λ e. (e ≡ Memory) ⊎ LineMeans n line (Err e))
+
 -- the lines from number n on mean these states, in order, or the fault of the first faulty one
 abbrev pub LinesMean : ℕ → List (List ℕ) → Result (List State) EditError → Type 0
 LinesMean n [] r = r ≡ Ok []
@@ -107,3 +121,12 @@ EditSpells text deltas = LinesMean 1 (lines_of text) (Ok deltas)
 -- the fault of the first line that has one
 abbrev pub IsFirstFault : List ℕ → EditError → Type 0
 IsFirstFault text e = LinesMean 1 (lines_of text) (Err e)
+
+-- each text spells one list of states or has one first fault, and not both
+pub record OneMeaning : Type 0 where
+  pub one_list : (text : List ℕ) (a b : List State) → EditSpells text a → EditSpells text b → a ≡ b
+  pub no_fault : (text : List ℕ) (deltas : List State) (e : EditError) → EditSpells text deltas → IsFirstFault text e
+      → ⊥
+  pub one_fault : (text : List ℕ) (d e : EditError) → IsFirstFault text d → IsFirstFault text e → d ≡ e
+  pub every_text : (text : List ℕ)
+      → ((deltas : List State) × EditSpells text deltas) ⊎ ((e : EditError) × IsFirstFault text e)

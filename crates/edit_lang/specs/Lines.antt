@@ -1,5 +1,5 @@
 -- The lines of a text, the words of a line, and the parts of a word.
-use Rattle.std.specs.Prelude.{ℕ, ◌+◌, Bool, List, [], ◌∷◌, ◌==◌, ◌||◌, if◌then◌else◌, length, map, filter, take}
+use Rattle.std.specs.Prelude.{◌≡◌, ℕ, ◌+◌, Bool, List, [], ◌∷◌, ◌==◌, ◌||◌, if◌then◌else◌, length, map, filter, take}
 use Rattle.std.specs.Prelude.{drop, position, nat_lt, Option, option_map}
 use Rattle.std.specs.List.{slice_split, onto_first}
 use Rattle.std.specs.Str.Lines.{strip_carriage_return}
@@ -32,6 +32,10 @@ is_blank b = (b == blank) || (b == tab)
 -- the words of a line: its longest runs of bytes other than blank and TAB
 unfoldable pub words_of : List ℕ → List (List ℕ)
 words_of line = filter (λ word. nat_lt 0 (length word)) (slice_split is_blank line)
+
+-- the line begins with the word, and has those of the rest behind it
+abbrev pub BeginsWith : List ℕ → List ℕ → List ℕ → Type 0
+BeginsWith line word rest = words_of line ≡ word ∷ words_of rest
 
 -- what stands before the first such byte and what stands after it, or None where there is none
 unfoldable pub cut_at : ℕ → List ℕ → Option (List ℕ × List ℕ)

@@ -1,12 +1,11 @@
 //! Lines: from the words of a line to its delta.
 
 ghost use Rattle.std.specs.Prelude.{◌≡◌, ◌⊎◌, Ok, Err, Some, IfOk, MatchResult, option_map};
-ghost use Rattle.stroke_core.specs.Seed.{Runs, Disc};
 ghost use Rattle.edit_lang.specs.declared.error.EditError.TheVariants as errors;
 ghost use Rattle.stroke_lattice.specs.State.{placed};
 ghost use Rattle.edit_lang.specs.Lines.{words_of};
-ghost use Rattle.edit_lang.specs.Edit.{Place, Withdraw, three_of, runs_edit, disc_edit, withdrawal};
-ghost use Rattle.edit_lang.specs.Edit.{edit_named, AnswersEdit, LineMeans};
+ghost use Rattle.edit_lang.specs.Edit.{Withdraw, three_of, runs_edit, disc_edit, withdrawal};
+ghost use Rattle.edit_lang.specs.Edit.{runs_placement, disc_placement, edit_named, AnswersEdit, AnswersLine};
 
 use crate::error::EditError;
 use crate::number::parse_number;
@@ -26,8 +25,7 @@ pub(crate) fn parse_line(
     number: u64,
     line: &[u8],
 ) -> Result<Option<Delta>, EditError>
-    ensures { MatchResult result (λ found. LineMeans number line.now (Ok found))
-        (λ e. (e ≡ errors.Memory) ⊎ LineMeans number line.now (Err e)) }
+    ensures { AnswersLine number line.now result }
 {
     let Some((first, others)) = first_word(line) else {
         return Ok(None);
@@ -118,8 +116,7 @@ fn place(alloc: Global, tag: Tag, stroke: Stroke) -> Result<Delta, EditError>
 #[tactic(auto, unfolding(crate::specs::Edit::runs_edit))]
 fn runs_words(alloc: Global, words: &[u8]) -> Result<Option<(&[u8], u32, Vec<Run>)>, AllocError>
     ensures { IfOk result (λ found.
-        option_map (λ p. Place p.0.now (record { level = p.1; shape = Runs p.2.items })) found
-        ≡ runs_edit (words_of words.now)) }
+        option_map (λ p. runs_placement p.0.now p.1 p.2.items) found ≡ runs_edit (words_of words.now)) }
 {
     let Some((tag, level, runs)) = three_words(words) else {
         return Ok(None);
@@ -136,8 +133,7 @@ fn runs_words(alloc: Global, words: &[u8]) -> Result<Option<(&[u8], u32, Vec<Run
 /// The word of the tag, the level and the disc, or `None` where the words are others.
 #[tactic(auto, unfolding(crate::specs::Edit::disc_edit))]
 fn disc_words(words: &[u8]) -> Option<(&[u8], u32, Circle)>
-    ensures { option_map (λ p. Place p.0.now (record { level = p.1; shape = Disc p.2.x p.2.y p.2.r })) result
-        ≡ disc_edit (words_of words.now) }
+    ensures { option_map (λ p. disc_placement p.0.now p.1 p.2.x p.2.y p.2.r) result ≡ disc_edit (words_of words.now) }
 {
     let (tag, level, disc) = three_words(words)?;
     let level = parse_number(level)?;

@@ -1,10 +1,9 @@
 //! Texts: line after line, each with its number.
 
-ghost use Rattle.std.specs.Prelude.{◌≡◌, ℕ, List, ◌⊎◌, IfOk, IfErr, MatchResult};
-ghost use Rattle.edit_lang.specs.declared.error.EditError as error;
+ghost use Rattle.std.specs.Prelude.{◌≡◌, List, ◌⊎◌, IfOk, IfErr, MatchResult};
 ghost use Rattle.edit_lang.specs.declared.error.EditError.TheVariants as errors;
 ghost use Rattle.stroke_lattice.specs.State.{State as Strokes};
-ghost use Rattle.edit_lang.specs.Edit.{EditSpells, IsFirstFault};
+ghost use Rattle.edit_lang.specs.Edit.{EditSpells, IsFirstFault, OneMeaning};
 
 use crate::error::EditError;
 use crate::line::parse_line;
@@ -28,15 +27,13 @@ use stroke_lattice::Delta;
 /// Errors, those of the first line that has one, counted from 1: E1 where the line has another form, else
 /// E2 where the tag is no UUID, else E3 with the reason for which the level and the runs or the disc make no
 /// stroke (S1, S3, S4 or S7). E4 where a growth was refused, in place of any.
+///
+/// What is read is what the lines spell, and what they spell is read, unless memory runs out. An error is that of the
+/// first faulty line, unless memory runs out.
 pub fn parse(alloc: Global, text: &[u8]) -> Result<Vec<Delta>, EditError>
-    // What is read is what the lines spell.
     ensures spelled { IfOk result (λ deltas. EditSpells text.now deltas.items) }
-
-    // What the lines spell is read, unless memory runs out.
     ensures only { (deltas : List Strokes) → EditSpells text.now deltas
         → MatchResult result (λ found. found.items ≡ deltas) (λ e. e ≡ errors.Memory) }
-
-    // An error is that of the first faulty line, unless memory runs out.
     ensures refused { IfErr result (λ e. (e ≡ errors.Memory) ⊎ IsFirstFault text.now e) }
 {
     // What is read is all that the text spells.
@@ -65,12 +62,7 @@ fn parse_lines(alloc: Global, text: &[u8]) -> Result<Vec<Delta>, EditError>
 
 /// A text spells one list of deltas or has one first fault, and not both.
 pub fn one_meaning()
-    ensures one_list { (text : List ℕ) (a b : List Strokes) → EditSpells text a → EditSpells text b → a ≡ b }
-    ensures no_fault { (text : List ℕ) (deltas : List Strokes) (e : error.EditError)
-        → EditSpells text deltas → IsFirstFault text e → ⊥ }
-    ensures one_fault { (text : List ℕ) (d e : error.EditError) → IsFirstFault text d → IsFirstFault text e → d ≡ e }
-    ensures every_text { (text : List ℕ)
-        → ((deltas : List Strokes) × EditSpells text deltas) ⊎ ((e : error.EditError) × IsFirstFault text e) }
+    ensures { OneMeaning }
 {
     one_refusal();
 }

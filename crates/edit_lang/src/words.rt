@@ -3,7 +3,7 @@
 ghost use Rattle.std.specs.Prelude.{◌≡◌, ◌<◌, [], ◌∷◌, length, position, ◌==◌, option_map, IfSome, MatchOption};
 ghost use Rattle.std.specs.List.{position_or_len};
 ghost use Rattle.std.specs.Str.Lines.{strip_carriage_return};
-ghost use Rattle.edit_lang.specs.Lines.{lines_of, words_of, is_blank, cut_at};
+ghost use Rattle.edit_lang.specs.Lines.{lines_of, words_of, is_blank, cut_at, BeginsWith};
 
 /// What stands before the first such byte and what stands after it, or `None` where there is none.
 #[tactic(auto, unfolding(crate::specs::Lines::cut_at))]
@@ -44,8 +44,7 @@ fn without_return(line: &[u8]) -> &[u8]
 
 /// The first word of a line and what stands after it, or `None` where the line has no word.
 pub(crate) fn first_word(line: &[u8]) -> Option<(&[u8], &[u8])>
-    ensures { MatchOption result (words_of line.now ≡ [])
-        (λ parts. words_of line.now ≡ parts.0.now ∷ words_of parts.1.now) }
+    ensures { MatchOption result (words_of line.now ≡ []) (λ found. BeginsWith line.now found.0.now found.1.now) }
 {
     let rest = without_blanks(line);
     if rest.is_empty() {

@@ -1,9 +1,10 @@
 -- A marker that is kept up to date while the state changes.
+use Rattle.std.specs.Prelude.{◌≡◌}
 use Rattle.grid_core.specs.declared.conn.Conn.{Conn}
 use Rattle.grid_core.specs.Path.{domain_of}
 use Rattle.grid_core.specs.Raster.{Raster, value_at}
 use Rattle.grid_core.specs.Tiles.{Tiles}
-use Rattle.stroke_lattice.specs.State.{State, IsBelow}
+use Rattle.stroke_lattice.specs.State.{State, IsBelow, nothing}
 use Rattle.stroke_lattice.specs.Change.{Turnover, IsChange}
 use Rattle.marker_tiles.specs.Marker.{IsMarker}
 
@@ -23,3 +24,15 @@ pub record HasGrown (mask image : Raster) (after : State) (change : Turnover) : 
   pub was : IsMarkerOf mask before image
   pub rises : IsBelow before after
   pub changed : IsChange before after change
+
+-- the marker of the image as mask, cut into these tiles, and of the state without strokes
+pub record AreFresh (image : Raster) (tiles : Tiles) (made : Kept) : Type 0 where
+  pub mask : made.mask ≡ image
+  pub tiling : made.tiling ≡ tiles
+  pub marks : IsMarkerOf made.mask nothing made.marker
+
+-- the marker of the same mask, cut into the same tiles, and of this state
+pub record AreRenewed (s : State) (old new : Kept) : Type 0 where
+  pub marks : IsMarkerOf new.mask s new.marker
+  pub mask : new.mask ≡ old.mask
+  pub tiling : new.tiling ≡ old.tiling

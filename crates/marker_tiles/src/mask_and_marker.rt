@@ -1,11 +1,11 @@
 //! A mask, and its marker kept up to date.
 
-ghost use Rattle.std.specs.Prelude.{◌≡◌, ◌<◌, IfOk, IfErr};
+ghost use Rattle.std.specs.Prelude.{◌≡◌, ◌<◌, IfOk, IfErr, MatchResult};
 ghost use Rattle.grid_core.specs.Raster.{IsInside, IsSized, IsBelow, value_at};
 ghost use Rattle.grid_core.specs.Rects.{IsPart};
 ghost use Rattle.grid_core.specs.Tiles.{count_of, rect_of};
-ghost use Rattle.stroke_lattice.specs.State.{StateFits, nothing};
-ghost use Rattle.marker_tiles.specs.Kept.{IsMarkerOf, HasGrown};
+ghost use Rattle.stroke_lattice.specs.State.{StateFits};
+ghost use Rattle.marker_tiles.specs.Kept.{HasGrown, AreFresh, AreRenewed};
 ghost use Rattle.marker_tiles.specs.declared.error.MarkersError.TheVariants as errors;
 
 use crate::error::MarkersError;
@@ -46,10 +46,7 @@ impl Markers {
     pub fn new(alloc: Global, mask: &Grid, tiling: &Tiling) -> Result<Markers, MarkersError>
         requires width { tiling.now.width ≡ mask.now.width }
         requires height { tiling.now.height ≡ mask.now.height }
-        ensures mask { IfOk result (λ m. m.mask ≡ mask.now) }
-        ensures tiling { IfOk result (λ m. m.tiling ≡ tiling.now) }
-        ensures marks { IfOk result (λ m. IsMarkerOf m.mask nothing m.marker) }
-        ensures memory { IfErr result (λ e. e ≡ errors.Memory) }
+        ensures { MatchResult result (AreFresh mask.now tiling.now) (λ e. e ≡ errors.Memory) }
     {
         let mask = mask.copy(alloc)?;
         match Markers::over(alloc, mask, *tiling) {
@@ -64,11 +61,7 @@ impl Markers {
     pub fn over(alloc: Global, mask: Grid, tiling: Tiling) -> Result<Markers, (Grid, MarkersError)>
         requires width { tiling.width ≡ mask.width }
         requires height { tiling.height ≡ mask.height }
-        ensures mask { IfOk result (λ m. m.mask ≡ mask) }
-        ensures tiling { IfOk result (λ m. m.tiling ≡ tiling) }
-        ensures marks { IfOk result (λ m. IsMarkerOf m.mask nothing m.marker) }
-        ensures memory { IfErr result (λ e. e.1 ≡ errors.Memory) }
-        ensures returned { IfErr result (λ e. e.0 ≡ mask) }
+        ensures { MatchResult result (AreFresh mask tiling) (λ e. (e.0 ≡ mask) × (e.1 ≡ errors.Memory)) }
     {
         contents_of_nothing();
         match blank(alloc, &mask) {
@@ -93,9 +86,7 @@ impl Markers {
     pub fn apply(&mut self, state: &State, change: &Change)
         requires fits { StateFits self.old.mask.width self.old.mask.height state.now }
         requires known { HasGrown self.old.mask self.old.marker state.now change.now }
-        ensures marks { IsMarkerOf self.new.mask state.now self.new.marker }
-        ensures mask { self.new.mask ≡ self.old.mask }
-        ensures tiling { self.new.tiling ≡ self.old.tiling }
+        ensures { AreRenewed state.now self.old self.new }
     {
         renew(
             &mut self.marker,

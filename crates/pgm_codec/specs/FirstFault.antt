@@ -5,14 +5,15 @@ use Rattle.std.specs.Char.{is_ascii_digit}
 use Rattle.std.specs.Str.Parse.{digits_value}
 use Rattle.pgm_codec.specs.declared.error.PgmError.{PgmError}
 use Rattle.pgm_codec.specs.declared.error.PgmError.TheVariants.{BadMagic, BadHeader, Truncated, SampleRange, BadSample}
-use Rattle.pgm_codec.specs.declared.error.PgmError.TheVariants.{Trailing}
+use Rattle.pgm_codec.specs.declared.error.PgmError.TheVariants.{Trailing, Memory, Device}
 use Rattle.pgm_codec.specs.declared.grammar.Encoding.{Encoding}
 use Rattle.pgm_codec.specs.declared.grammar.Encoding.TheVariants.{Plain, Raw}
 use Rattle.pgm_codec.specs.declared.grammar.Place.{Place}
 use Rattle.pgm_codec.specs.declared.grammar.Place.TheVariants.{Header, Raster}
 use Rattle.pgm_codec.specs.Spelling.{is_white, opens_comment, IsOpenComment, IsGap, StartsNumber, StartsField}
 use Rattle.pgm_codec.specs.Spelling.{StartsGoodField, magic, StartsMagic, StartsHeader, is_wide, StartsBytes}
-use Rattle.pgm_codec.specs.Spelling.{StartsSamples, width_fault, height_fault, maxval_fault}
+use Rattle.pgm_codec.specs.Spelling.{StartsSamples, width_fault, height_fault, maxval_fault, PgmSpells}
+use Rattle.pgm_codec.specs.Graymap.{Graymap}
 
 -- nothing but a gap stands there, or a gap and a comment that the end cuts off
 abbrev pub EndsInGap : Place → List ℕ → Type 0
@@ -97,3 +98,11 @@ pub data PgmFault (text : List ℕ) (code : PgmError) : Type 0 where
       → StartsGoodField (height_fault w) b h c → GoodFieldFault maxval_fault c code → PgmFault text code
   in_raster : (k : Encoding) (rest : List ℕ) (w h m : ℕ) → StartsHeader text k w h m rest
       → RasterFault k m (w * h) rest code → PgmFault text code
+
+-- a text has at most one fault, the first, and none where it spells an image. Want of memory and a device's failure are
+-- no faults of a text
+pub record TextsHaveOneFault : Type 0 where
+  pub memory : (text : List ℕ) → PgmFault text Memory → ⊥
+  pub device : (text : List ℕ) → PgmFault text Device → ⊥
+  pub first : (text : List ℕ) (a b : PgmError) → PgmFault text a → PgmFault text b → a ≡ b
+  pub none : (text : List ℕ) (image : Graymap) (e : PgmError) → PgmSpells text image → PgmFault text e → ⊥

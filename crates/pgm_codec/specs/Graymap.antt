@@ -1,6 +1,6 @@
 -- A greyscale image as plain data, and what every one keeps.
 use Rattle.std.specs.Prelude.{ℕ, ◌<◌, ◌≤◌, slice_index, EachIndex}
-use Rattle.grid_core.specs.Raster.{Raster, IsSized}
+use Rattle.grid_core.specs.Raster.{Raster, IsSized, IsFilled, IsBelow}
 
 -- an image of samples from 0 to the greatest, maxval
 pub record Graymap : Type 0 where
@@ -18,3 +18,9 @@ pub record IsGraymap (g : Graymap) : Type 0 where
   pub some_maxval : 0 < g.maxval
   pub maxval_within : g.maxval ≤ max_maxval
   pub samples_within : EachIndex g.raster.cells (λ k. slice_index g.raster.cells k ≤ g.maxval)
+
+-- a grid that is nowhere above the samples of an image keeps the image's maxval
+abbrev pub BelowKeepsMaxval : Type 0
+BelowKeepsMaxval =
+    (image : Graymap) (grid : Raster) → IsGraymap image → IsFilled grid → IsBelow grid image.raster
+    → IsGraymap (record { raster = grid; maxval = image.maxval })

@@ -65,8 +65,7 @@ pub(crate) fn width(text: &[u8]) -> Result<(u32, &[u8]), PgmError>
 // The height behind the width `w`, and the text behind it.
 #[tactic(auto, unfolding(crate::specs::Reading::good_field_at))]
 pub(crate) fn height(text: &[u8], w: u32) -> Result<(u32, &[u8]), PgmError>
-    requires some_width { 0 < w }
-    requires width_within { w ≤ max_side }
+    requires { (0 < w) × (w ≤ max_side) }
     ensures read { Gives (λ x. (x.0, x.1.now)) result (good_field_at (height_fault w) text.now) }
     ensures size { IfOk result (λ x. IsImageSize w x.0) }
 {

@@ -1,8 +1,7 @@
 //! Greyscale images.
 ghost use Rattle.std.specs.Prelude.{◌≡◌, ◌<◌, ◌↔◌, ◌⊎◌, Any, IfOk, IfErr, IsErrOf, IsOkUnless};
-ghost use Rattle.grid_core.specs.Raster.{Raster, IsFilled, IsBelow};
 ghost use Rattle.pgm_codec.specs.declared.error.PgmError.TheVariants as errors;
-ghost use Rattle.pgm_codec.specs.Graymap.{Graymap, IsGraymap};
+ghost use Rattle.pgm_codec.specs.Graymap.{IsGraymap, BelowKeepsMaxval};
 
 use crate::error::PgmError;
 use crate::samples::is_any_above;
@@ -120,6 +119,5 @@ impl Image {
 
 /// A grid that is nowhere above the samples of an image keeps the image's maxval, as [`Image::over`] asks.
 pub fn below_keeps_maxval()
-    ensures { (image : Graymap) (grid : Raster) → IsGraymap image → IsFilled grid → IsBelow grid image.raster
-        → IsGraymap (record { raster = grid; maxval = image.maxval }) }
+    ensures { BelowKeepsMaxval }
 {}

@@ -4,7 +4,7 @@ ghost use Rattle.pgm_codec.specs.declared.error.PgmError.{PgmError};
 ghost use Rattle.pgm_codec.specs.declared.error.PgmError.TheVariants as errors;
 ghost use Rattle.pgm_codec.specs.Graymap.{Graymap};
 ghost use Rattle.pgm_codec.specs.Spelling.{PgmSpells, SpellsBack};
-ghost use Rattle.pgm_codec.specs.FirstFault.{PgmFault};
+ghost use Rattle.pgm_codec.specs.FirstFault.{PgmFault, TextsHaveOneFault};
 ghost use Rattle.pgm_codec.specs.Reading.{GivesOrMemory, image_at};
 ghost use Rattle.pgm_codec.specs.Writing.{raw_text};
 ghost use Rattle.pgm_codec.specs.PlainWriting.{plain_text};
@@ -58,10 +58,7 @@ pub fn read(alloc: Global, text: &[u8]) -> Result<Image, PgmError>
 /// A text has at most one fault, the first, and none where it spells an image. Want of memory and a
 /// device's failure are no faults of a text.
 pub fn one_fault()
-    ensures memory { (text : List ℕ) → PgmFault text errors.Memory → ⊥ }
-    ensures device { (text : List ℕ) → PgmFault text errors.Device → ⊥ }
-    ensures first { (text : List ℕ) (a b : PgmError) → PgmFault text a → PgmFault text b → a ≡ b }
-    ensures none { (text : List ℕ) (image : Graymap) (e : PgmError) → PgmSpells text image → PgmFault text e → ⊥ }
+    ensures { TextsHaveOneFault }
 {}
 
 /// A text spells at most one image.

@@ -67,7 +67,6 @@ fn header(alloc: Global, image: &Image) -> Result<String, AllocError>
 /// two, the more significant first. Memory of its exact length is taken.
 ///
 /// Errors: P10.
-#[tactic(auto, unfolding(crate::specs::Writing::raw_text))]
 pub fn write_raw(alloc: Global, image: &Image) -> Result<Vec<u8>, PgmError>
     ensures text { IfOk result (λ v. v.items ≡ raw_text image.now) }
     ensures only_memory { IsOkUnless result errors.Memory }

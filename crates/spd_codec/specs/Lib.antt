@@ -6,3 +6,6 @@ pub mod Spelling
 pub mod Faults
 pub mod Reading
 pub mod StateFile
+pub mod Laws
+pub mod Putting
+pub mod Hashing

@@ -40,6 +40,14 @@ GivesOrMemory view (Err e) read = (e ≡ errors.Memory) ⊎ (read ≡ Err e)
 abbrev pub Read : Type 0 → Type 0
 Read X = Result (X × List ℕ) SpdError
 
+-- what a call answered, and the bytes that are then left, are what reading gives
+abbrev pub Reads : {X : Type 0} → Result X SpdError → List ℕ → Read X → Type 0
+Reads result rest read = Gives (λ x. (x, rest)) result read
+
+-- the same, unless memory ran out
+abbrev pub ReadsOrMemory : {X : Type 0} → Result X SpdError → List ℕ → Read X → Type 0
+ReadsOrMemory result rest read = GivesOrMemory (λ x. (x, rest)) result read
+
 -- ---- fields of a fixed size
 
 -- the value of so many bytes
@@ -114,8 +122,12 @@ level_at text = field_at level_field short_value text
 unfoldable pub run_at : Option Run → List ℕ → Read Run
 run_at before text = field_at (run_field before) run_value text
 
+-- so many runs
+abbrev pub run_list_at : ℕ → List ℕ → Read (List Run)
+run_list_at count text = many_at (λ run. run) run_at count None text
+
 unfoldable pub runs_at : List ℕ → Read Shape
-runs_at text = field_at count_field short_value text >>= λ n. many_at (λ run. run) run_at n.0 None n.1
+runs_at text = field_at count_field short_value text >>= λ n. run_list_at n.0 n.1
     >>= λ runs. Ok (Runs runs.0, runs.1)
 
 unfoldable pub disc_at : List ℕ → Read Shape

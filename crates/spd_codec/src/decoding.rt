@@ -4,7 +4,7 @@ ghost use Rattle.spd_codec.specs.declared.error.SpdError.TheVariants as errors;
 ghost use Rattle.spd_codec.specs.declared.frame.Frame.{Frame as Read};
 ghost use Rattle.spd_codec.specs.Spelling.{max_bytes, SpellsFrame};
 ghost use Rattle.spd_codec.specs.Faults.{IsFault};
-ghost use Rattle.spd_codec.specs.Reading.{GivesOrMemory, fields_at, frame_at};
+ghost use Rattle.spd_codec.specs.Reading.{GivesOrMemory, ReadsOrMemory, fields_at, frame_at};
 
 use crate::error::SpdError;
 use crate::frame::Frame;
@@ -15,7 +15,7 @@ use std::alloc::Global;
 // The fields of a frame.
 #[tactic(auto, unfolding(crate::specs::Reading::fields_at))]
 fn fields(alloc: Global, reader: &mut Reader<'_>) -> Result<Frame, SpdError>
-    ensures { GivesOrMemory (λ frame. (frame, reader.new.rest.now)) result (fields_at reader.old.rest.now) }
+    ensures { ReadsOrMemory result reader.new.rest.now (fields_at reader.old.rest.now) }
 {
     let version = reader.magic()?;
     let conn = reader.conn()?;
@@ -54,14 +54,13 @@ fn frame(alloc: Global, bytes: &[u8]) -> Result<Frame, SpdError>
 /// that is not above the one before it in its list, M5 at a value of a stroke that is refused, with its
 /// reason (S8 at a kind, S1 at a level, S2 and S3 at a number of runs, S4 at a run, S7 at a radius), and M7
 /// at a byte behind the last tombstone. M8 may stand in place of any answer but M6.
+///
+/// What is read is spelled so, and what is spelled so is read, unless memory runs out. Too many bytes are told before
+/// any memory is taken. A refusal is the first fault of the bytes, unless memory runs out.
 pub fn decode(alloc: Global, bytes: &[u8]) -> Result<Frame, SpdError>
-    // What is read is spelled so.
     ensures found { IfOk result (SpellsFrame bytes.now) }
-    // What is spelled so is read, unless memory runs out.
     ensures only { (f : Read) → SpellsFrame bytes.now f → (result ≡ Ok f) ⊎ IsErrOf result errors.Memory }
-    // Too many bytes are told before any memory is taken.
     ensures too_long { IsErrOf result errors.TooLong ↔ (max_bytes < length bytes.now) }
-    // A refusal is the first fault of the bytes, unless memory runs out.
     ensures fault { IfErr result (λ e. (e ≡ errors.Memory) ⊎ IsFault bytes.now e) }
 {
     frame(alloc, bytes)

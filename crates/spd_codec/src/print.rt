@@ -1,9 +1,9 @@
 //! Fingerprints of images.
-ghost use Rattle.std.specs.Prelude.{◌≡◌, ℕ, List, ◌*◌, ◌≤◌, ◌++◌, ◌↔◌, length, All, IsTrue};
+ghost use Rattle.std.specs.Prelude.{◌≡◌, ◌*◌, ◌≤◌, ◌↔◌, length, All, IsTrue};
 ghost use Rattle.std.specs.List.{flat_map};
-ghost use Rattle.sha2.specs.Hashers.{Holds256};
 ghost use Rattle.sha2.specs.Sha256.{sha256};
 ghost use Rattle.pgm_codec.specs.Writing.{sample_bytes, sample_len, raw_header, raw_text};
+ghost use Rattle.spd_codec.specs.Hashing.{HoldsMore};
 
 use itoa::Buffer;
 use pgm_codec::{Image, put_samples, sample_len};
@@ -67,7 +67,7 @@ pub fn print_of(image: &Image) -> Print
 
 // Adds the header of the raw file.
 fn add_header(hasher: &mut Sha256, image: &Image)
-    ensures { (m : List ℕ) → Holds256 hasher.old m → Holds256 hasher.new (m ++ raw_header image.now) }
+    ensures { HoldsMore hasher.old hasher.new (raw_header image.now) }
 {
     let mut number = Buffer::new();
     hasher.update(b"P5\n".as_slice());
@@ -82,8 +82,7 @@ fn add_header(hasher: &mut Sha256, image: &Image)
 // Adds the samples, as many at a time as fill a block.
 fn add_samples(hasher: &mut Sha256, maxval: u16, samples: &[u32])
     requires { All (λ s. s ≤ maxval) samples.now }
-    ensures { (m : List ℕ) → Holds256 hasher.old m
-        → Holds256 hasher.new (m ++ flat_map (sample_bytes maxval) samples.now) }
+    ensures { HoldsMore hasher.old hasher.new (flat_map (sample_bytes maxval) samples.now) }
 {
     let mut block = [0; BLOCK];
     let width = sample_len(maxval);
@@ -99,8 +98,7 @@ fn add_samples(hasher: &mut Sha256, maxval: u16, samples: &[u32])
 fn add_part(hasher: &mut Sha256, block: &mut [u8], maxval: u16, samples: &[u32])
     requires within { All (λ s. s ≤ maxval) samples.now }
     requires room { length samples.now * sample_len maxval ≡ length block.old }
-    ensures { (m : List ℕ) → Holds256 hasher.old m
-        → Holds256 hasher.new (m ++ flat_map (sample_bytes maxval) samples.now) }
+    ensures { HoldsMore hasher.old hasher.new (flat_map (sample_bytes maxval) samples.now) }
 {
     put_samples(block, 0, maxval, samples);
     hasher.update(&*block);

@@ -1,7 +1,7 @@
 //! Fields of a fixed size, read from left to right.
 ghost use Rattle.std.specs.Prelude.{◌≡◌};
-ghost use Rattle.spd_codec.specs.Reading.{Gives, byte_value, taken_at, short_at, tag_at, conn_at, print_at, magic_at};
-ghost use Rattle.spd_codec.specs.Reading.{kind_at, end_at};
+ghost use Rattle.spd_codec.specs.Reading.{Gives, Reads, byte_value, taken_at, short_at, tag_at, conn_at, print_at};
+ghost use Rattle.spd_codec.specs.Reading.{magic_at, kind_at, end_at};
 
 use crate::error::SpdError;
 use crate::print::Print;
@@ -21,7 +21,7 @@ impl<'a> Reader<'a> {
     //
     // Errors: M3.
     fn byte(&mut self) -> Result<u8, SpdError>
-        ensures { Gives (λ b. (b, self.new.rest.now)) result (taken_at 1 byte_value self.old.rest.now) }
+        ensures { Reads result self.new.rest.now (taken_at 1 byte_value self.old.rest.now) }
     {
         match self.rest {
             [] => Err(SpdError::Truncated),
@@ -37,7 +37,7 @@ impl<'a> Reader<'a> {
     // Errors: M3.
     #[tactic(auto, unfolding(crate::specs::Reading::short_at))]
     pub(crate) fn short(&mut self) -> Result<u16, SpdError>
-        ensures { Gives (λ n. (n, self.new.rest.now)) result (short_at self.old.rest.now) }
+        ensures { Reads result self.new.rest.now (short_at self.old.rest.now) }
     {
         let Some((front, rest)) = self.rest.split_first_chunk::<2>() else {
             return Err(SpdError::Truncated);
@@ -51,7 +51,7 @@ impl<'a> Reader<'a> {
     // Errors: M3, M4.
     #[tactic(auto, unfolding(crate::specs::Reading::tag_at))]
     pub(crate) fn tag(&mut self, before: Option<Tag>) -> Result<Tag, SpdError>
-        ensures { Gives (λ tag. (tag, self.new.rest.now)) result (tag_at before self.old.rest.now) }
+        ensures { Reads result self.new.rest.now (tag_at before self.old.rest.now) }
     {
         let Some((front, rest)) = self.rest.split_first_chunk::<16>() else {
             return Err(SpdError::Truncated);
@@ -69,7 +69,7 @@ impl<'a> Reader<'a> {
     // Errors: M1, M3.
     #[tactic(auto, unfolding(crate::specs::Reading::magic_at))]
     pub(crate) fn magic(&mut self) -> Result<Version, SpdError>
-        ensures { Gives (λ version. (version, self.new.rest.now)) result (magic_at self.old.rest.now) }
+        ensures { Reads result self.new.rest.now (magic_at self.old.rest.now) }
     {
         let (version, rest) = match self.rest {
             [b'S', b'P', b'D', b'1', rest @ ..] => (Version::First, rest),
@@ -86,7 +86,7 @@ impl<'a> Reader<'a> {
     // Errors: M2, M3.
     #[tactic(auto, unfolding(crate::specs::Reading::conn_at))]
     pub(crate) fn conn(&mut self) -> Result<Conn, SpdError>
-        ensures { Gives (λ conn. (conn, self.new.rest.now)) result (conn_at self.old.rest.now) }
+        ensures { Reads result self.new.rest.now (conn_at self.old.rest.now) }
     {
         match self.byte()? {
             4 => Ok(Conn::Four),
@@ -100,7 +100,7 @@ impl<'a> Reader<'a> {
     // Errors: M3.
     #[tactic(auto, unfolding(crate::specs::Reading::print_at))]
     pub(crate) fn print(&mut self) -> Result<Print, SpdError>
-        ensures { Gives (λ print. (print, self.new.rest.now)) result (print_at self.old.rest.now) }
+        ensures { Reads result self.new.rest.now (print_at self.old.rest.now) }
     {
         let Some((front, rest)) = self.rest.split_first_chunk::<32>() else {
             return Err(SpdError::Truncated);
@@ -114,7 +114,7 @@ impl<'a> Reader<'a> {
     // Errors: M3, M5 with S8.
     #[tactic(auto, unfolding(crate::specs::Reading::kind_at))]
     pub(crate) fn kind(&mut self, version: Version) -> Result<Kind, SpdError>
-        ensures { Gives (λ kind. (kind, self.new.rest.now)) result (kind_at version self.old.rest.now) }
+        ensures { Reads result self.new.rest.now (kind_at version self.old.rest.now) }
     {
         if version == Version::First {
             return Ok(Kind::Runs);

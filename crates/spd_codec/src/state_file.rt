@@ -1,12 +1,11 @@
 //! State files: frames one after another, each behind its length.
-ghost use Rattle.std.specs.Prelude.{◌≡◌, ℕ, List, [], ◌∷◌, ◌++◌, ◌<◌, ◌≤◌, ◌⊎◌, IfOk, IfErr, OnOk, MatchResult, length};
-ghost use Rattle.std.specs.List.{AllByRecursion};
+ghost use Rattle.std.specs.Prelude.{◌≡◌, ℕ, List, ◌<◌, ◌≤◌, ◌⊎◌, IfOk, IfErr, OnOk, MatchResult, length};
 ghost use Rattle.stroke_lattice.specs.Pieces.{frame_length, pieces_of};
-ghost use Rattle.spd_codec.specs.declared.error.SpdError.{SpdError as Error};
 ghost use Rattle.spd_codec.specs.declared.error.SpdError.TheVariants as errors;
 ghost use Rattle.spd_codec.specs.declared.frame.Frame.{Frame as Read};
-ghost use Rattle.spd_codec.specs.declared.version.Version.TheVariants.{Second};
-ghost use Rattle.spd_codec.specs.Spelling.{max_bytes, frame_text, Spells};
+ghost use Rattle.spd_codec.specs.Spelling.{max_bytes};
+ghost use Rattle.spd_codec.specs.Laws.{HaveOneFault, SpellOrHaveFault, JoinedFilesSpellBoth};
+ghost use Rattle.spd_codec.specs.Putting.{PutsFrame};
 ghost use Rattle.spd_codec.specs.StateFile.{with_length, file_text, frames_of, StartsFrame, SpellsFile};
 ghost use Rattle.spd_codec.specs.StateFile.{IsNextFault, IsFileFault};
 
@@ -22,7 +21,7 @@ use stroke_lattice::{Delta, State};
 
 /// The state file of a state: the frames of its pieces, each with its length in two bytes before it. The
 /// pieces are those of [`State::split`] at [`MAX_BYTES`], so that the file of the state without strokes and
-/// tombstones is empty. It takes a time of about the state's size.
+/// tombstones is empty. It spells their frames. It takes a time of about the state's size.
 ///
 /// Errors: M8.
 pub fn write_frames(
@@ -31,12 +30,8 @@ pub fn write_frames(
     print: &Print,
     state: &State,
 ) -> Result<Vec<u8>, SpdError>
-    // The file is that of the state's pieces.
     ensures text { IfOk result (λ v. v.items ≡ file_text conn print.now (pieces_of max_bytes state.now)) }
-
-    // It spells their frames.
     ensures spells { IfOk result (λ v. SpellsFile v.items (frames_of conn print.now (pieces_of max_bytes state.now))) }
-
     ensures memory { IfErr result (λ e. e ≡ errors.Memory) }
 {
     let pieces = state.split(alloc, MAX_BYTES)?;
@@ -50,9 +45,7 @@ pub fn write_frames(
 // Puts the frame of a piece behind its length.
 fn put_piece(out: &mut Vec<u8>, conn: Conn, print: &Print, piece: &Delta) -> Result<(), AllocError>
     requires short { frame_length piece.now ≤ max_bytes }
-    ensures text { OnOk result
-        (out.new.items ≡ out.old.items ++ with_length (frame_text Second conn print.now piece.now)) }
-    ensures spells { OnOk result (Spells (frame_text Second conn print.now piece.now) conn print.now piece.now) }
+    ensures { OnOk result (PutsFrame conn print.now piece.now with_length out.old.items out.new.items) }
 {
     put_number(out, frame_len(piece) as u16)?;
     put_frame(out, conn, print, piece)?;
@@ -66,15 +59,13 @@ fn put_piece(out: &mut Vec<u8>, conn: Conn, print: &Print, piece: &Delta) -> Res
 /// ends inside the two bytes of its length, else M6 where the length is above [`MAX_BYTES`], else M3 where the file
 /// ends inside the frame, else what [`decode`] answers to the bytes of that length. M8 where a growth was
 /// refused, in place of any.
+///
+/// What is read is spelled so, and what is spelled so is read, unless memory runs out. An error is the first fault,
+/// unless memory runs out.
 pub fn read_frames(alloc: Global, bytes: &[u8]) -> Result<Vec<Frame>, SpdError>
-    // What is read is spelled so.
     ensures found { IfOk result (λ frames. SpellsFile bytes.now frames.items) }
-
-    // What is spelled is read, unless memory runs out.
     ensures only { (frames : List Read) → SpellsFile bytes.now frames
         → MatchResult result (λ found. found.items ≡ frames) (λ e. e ≡ errors.Memory) }
-
-    // An error is the first fault, unless memory runs out.
     ensures fault { IfErr result (λ e. (e ≡ errors.Memory) ⊎ IsFileFault bytes.now e) }
 {
     // What is read is all that the bytes spell.
@@ -121,14 +112,12 @@ fn next_frame(alloc: Global, bytes: &[u8]) -> Result<(Frame, &[u8]), SpdError>
 
 /// The bytes of two state files, one behind the other, are a state file of the frames of both.
 pub fn joined_files_spell_both()
-    ensures { (a b : List ℕ) (frames others : List Read) → SpellsFile a frames → SpellsFile b others
-        → SpellsFile (a ++ b) (frames ++ others) }
+    ensures { JoinedFilesSpellBoth }
 {}
 
 /// The bytes of a state file spell one list of frames at most.
 pub fn one_file()
-    ensures { (bytes : List ℕ) (frames others : List Read) → SpellsFile bytes frames → SpellsFile bytes others
-        → frames ≡ others }
+    ensures { (bytes : List ℕ) (a b : List Read) → SpellsFile bytes a → SpellsFile bytes b → a ≡ b }
 {
     at_most_one_frame();
     one_fault();
@@ -137,10 +126,7 @@ pub fn one_file()
 /// The bytes of a state file have one first fault at most, and none where they spell frames. Want of memory is no
 /// fault of theirs.
 pub fn one_file_fault()
-    ensures memory { (bytes : List ℕ) → IsFileFault bytes errors.Memory → ⊥ }
-    ensures first { (bytes : List ℕ) (d e : Error) → IsFileFault bytes d → IsFileFault bytes e → d ≡ e }
-    ensures none { (bytes : List ℕ) (frames : List Read) (e : Error) → SpellsFile bytes frames
-        → IsFileFault bytes e → ⊥ }
+    ensures { HaveOneFault SpellsFile IsFileFault }
 {
     at_most_one_frame();
     one_fault();
@@ -148,8 +134,7 @@ pub fn one_file_fault()
 
 /// Bytes spell the frames of a state file, or have a first fault.
 pub fn every_file()
-    ensures { (bytes : List ℕ) → AllByRecursion (λ b. b < 256) bytes
-        → ((frames : List Read) × SpellsFile bytes frames) ⊎ ((e : Error) × IsFileFault bytes e) }
+    ensures { SpellOrHaveFault SpellsFile IsFileFault }
 {
     every_text();
 }

@@ -1,9 +1,10 @@
 //! Strokes and tombstones, read from left to right, each behind the tag of the one before it.
-ghost use Rattle.std.specs.Prelude.{◌≡◌, ℕ, ◌≤◌, ◌<◌, None, IfOk};
+ghost use Rattle.std.specs.Prelude.{◌≡◌, ℕ, ◌≤◌, ◌<◌, IfOk};
 ghost use Rattle.stroke_core.specs.Seed.{max_runs};
 ghost use Rattle.stroke_lattice.specs.State.{HasSomeStroke, HasTombstone, nothing};
 ghost use Rattle.spd_codec.specs.Faults.{is_behind, count_field};
-ghost use Rattle.spd_codec.specs.Reading.{Gives, GivesOrMemory, field_at, short_value, level_at, run_at, many_at};
+ghost use Rattle.spd_codec.specs.Reading.{GivesOrMemory, Reads, ReadsOrMemory, field_at, short_value, level_at};
+ghost use Rattle.spd_codec.specs.Reading.{run_at, run_list_at};
 ghost use Rattle.spd_codec.specs.Reading.{with_level, disc_at, runs_at, seed_at, stroke_at, strokes_at, tombstones_at};
 ghost use Rattle.spd_codec.specs.Reading.{onto, with_stroke, with_tombstone, delta_at};
 
@@ -32,7 +33,7 @@ impl<'a> Reader<'a> {
     // Errors: M3, M5 with S4.
     #[tactic(auto, unfolding(crate::specs::Reading::run_at))]
     fn run(&mut self, before: Option<Run>) -> Result<Run, SpdError>
-        ensures { Gives (λ run. (run, self.new.rest.now)) result (run_at before self.old.rest.now) }
+        ensures { Reads result self.new.rest.now (run_at before self.old.rest.now) }
     {
         let Some(([y0, y1, a0, a1, b0, b1], rest)) = self.rest.split_first_chunk::<6>() else {
             return Err(SpdError::Truncated);
@@ -54,8 +55,7 @@ impl<'a> Reader<'a> {
     //
     // Errors: M3, M5 with S4, M8.
     fn runs(&mut self, alloc: Global, count: u16) -> Result<Vec<Run>, SpdError>
-        ensures { GivesOrMemory (λ runs. (runs.items, self.new.rest.now)) result
-            (many_at (λ run. run) run_at count None self.old.rest.now) }
+        ensures { GivesOrMemory (λ runs. (runs.items, self.new.rest.now)) result (run_list_at count self.old.rest.now) }
     {
         let mut runs = Vec::with_capacity(alloc, usize::from(count))?;
         let mut last = None;
@@ -72,7 +72,7 @@ impl<'a> Reader<'a> {
     // Errors: M3, M5 with S2 or S3.
     #[tactic(auto, unfolding(crate::specs::Reading::short_at))]
     fn run_count(&mut self) -> Result<u16, SpdError>
-        ensures read { Gives (λ n. (n, self.new.rest.now)) result (field_at count_field short_value self.old.rest.now) }
+        ensures read { Reads result self.new.rest.now (field_at count_field short_value self.old.rest.now) }
         ensures range { IfOk result (λ n. (0 < n) × (n ≤ max_runs)) }
     {
         let count = self.short()?;
@@ -90,7 +90,7 @@ impl<'a> Reader<'a> {
     // Errors: M3, M5 with S1.
     #[tactic(auto, unfolding(crate::specs::Reading::level_at, crate::specs::Reading::short_at))]
     fn level(&mut self) -> Result<u16, SpdError>
-        ensures read { Gives (λ level. (level, self.new.rest.now)) result (level_at self.old.rest.now) }
+        ensures read { Reads result self.new.rest.now (level_at self.old.rest.now) }
         ensures range { IfOk result (λ level. 0 < level) }
     {
         let level = self.short()?;
@@ -106,8 +106,7 @@ impl<'a> Reader<'a> {
     #[tactic(auto, unfolding(crate::specs::Reading::runs_at))]
     fn stroke_of_runs(&mut self, alloc: Global, level: u16) -> Result<Stroke, SpdError>
         requires { 0 < level }
-        ensures { GivesOrMemory (λ stroke. (stroke, self.new.rest.now)) result
-            (with_level level (runs_at self.old.rest.now)) }
+        ensures { ReadsOrMemory result self.new.rest.now (with_level level (runs_at self.old.rest.now)) }
     {
         let count = self.run_count()?;
         let runs = self.runs(alloc, count)?;
@@ -123,8 +122,7 @@ impl<'a> Reader<'a> {
     #[tactic(auto, unfolding(crate::specs::Reading::disc_at, crate::specs::Reading::short_at))]
     fn stroke_of_disc(&mut self, level: u16) -> Result<Stroke, SpdError>
         requires { 0 < level }
-        ensures { Gives (λ stroke. (stroke, self.new.rest.now)) result
-            (with_level level (disc_at self.old.rest.now)) }
+        ensures { Reads result self.new.rest.now (with_level level (disc_at self.old.rest.now)) }
     {
         let x = self.short()?;
         let y = self.short()?;
@@ -140,7 +138,7 @@ impl<'a> Reader<'a> {
     // Errors: M3, M5 with S1 to S4 or S7, M8.
     #[tactic(auto, unfolding(crate::specs::Reading::seed_at, crate::specs::Reading::shape_at))]
     fn stroke_of_kind(&mut self, alloc: Global, kind: Kind) -> Result<Stroke, SpdError>
-        ensures { GivesOrMemory (λ stroke. (stroke, self.new.rest.now)) result (seed_at kind self.old.rest.now) }
+        ensures { ReadsOrMemory result self.new.rest.now (seed_at kind self.old.rest.now) }
     {
         let level = self.level()?;
         match kind {
@@ -159,8 +157,7 @@ impl<'a> Reader<'a> {
         version: Version,
         before: Option<Tag>,
     ) -> Result<(Tag, Stroke), SpdError>
-        ensures { GivesOrMemory (λ entry. (entry, self.new.rest.now)) result
-            (stroke_at version before self.old.rest.now) }
+        ensures { ReadsOrMemory result self.new.rest.now (stroke_at version before self.old.rest.now) }
     {
         let tag = self.tag(before)?;
         let kind = self.kind(version)?;
@@ -219,8 +216,7 @@ impl<'a> Reader<'a> {
         strokes: u16,
         tombstones: u16,
     ) -> Result<State, SpdError>
-        ensures { GivesOrMemory (λ state. (state, self.new.rest.now)) result
-            (delta_at version strokes tombstones self.old.rest.now) }
+        ensures { ReadsOrMemory result self.new.rest.now (delta_at version strokes tombstones self.old.rest.now) }
     {
         let Ok(mut state) = State::empty(alloc) else {
             return Err(SpdError::Memory);

@@ -1,5 +1,5 @@
 //! Writing frames.
-ghost use Rattle.std.specs.Prelude.{◌≡◌, ℕ, [], ◌∷◌, ◌+◌, ◌^◌, ◌<◌, ◌≤◌, ◌++◌, ◌⊎◌, ◌↔◌, List, length, min};
+ghost use Rattle.std.specs.Prelude.{◌≡◌, [], ◌∷◌, ◌+◌, ◌<◌, ◌≤◌, ◌++◌, ◌⊎◌, ◌↔◌, length, min};
 ghost use Rattle.std.specs.Prelude.{IfOk, IfErr, OnOk, IsErrOf, IsOk};
 ghost use Rattle.std.specs.List.{flat_map, sum_by, AllByRecursion};
 ghost use Rattle.stroke_core.specs.declared.run.Run.{Run};
@@ -9,6 +9,7 @@ ghost use Rattle.spd_codec.specs.declared.error.SpdError.TheVariants as errors;
 ghost use Rattle.spd_codec.specs.declared.version.Version.TheVariants.{Second};
 ghost use Rattle.spd_codec.specs.Spelling.{short, tag_text, run_text, stroke_text, frame_text, magic, conn_byte};
 ghost use Rattle.spd_codec.specs.Spelling.{max_bytes, RunFits, StrokeFits, Spells};
+ghost use Rattle.spd_codec.specs.Putting.{TagFits, PutsEach, PutsFrame};
 
 use crate::error::SpdError;
 use crate::print::Print;
@@ -71,8 +72,7 @@ pub(crate) fn put_frame(
     delta: &Delta,
 ) -> Result<(), AllocError>
     requires short { frame_length delta.now ≤ max_bytes }
-    ensures text { OnOk result (out.new.items ≡ out.old.items ++ frame_text Second conn print.now delta.now) }
-    ensures spells { OnOk result (Spells (frame_text Second conn print.now delta.now) conn print.now delta.now) }
+    ensures { OnOk result (PutsFrame conn print.now delta.now (λ frame. frame) out.old.items out.new.items) }
 {
     walks_give_one_list();
     put_head(out, conn, print)?;
@@ -105,9 +105,8 @@ pub(crate) fn put_number(out: &mut Vec<u8>, number: u16) -> Result<(), AllocErro
 
 // Puts the strokes of a delta, rising by tag.
 fn put_strokes(out: &mut Vec<u8>, delta: &Delta) -> Result<(), AllocError>
-    ensures text { OnOk result
-        (out.new.items ≡ out.old.items ++ flat_map (stroke_text Second) (strokes_of delta.now)) }
-    ensures fit { OnOk result (AllByRecursion (StrokeFits Second) (strokes_of delta.now)) }
+    ensures { OnOk result
+        (PutsEach (stroke_text Second) (StrokeFits Second) (strokes_of delta.now) out.old.items out.new.items) }
 {
     walks_give_one_list();
     for (tag, stroke) in delta.strokes() {
@@ -118,9 +117,7 @@ fn put_strokes(out: &mut Vec<u8>, delta: &Delta) -> Result<(), AllocError>
 
 // Puts the tombstones of a delta, rising.
 fn put_tombstones(out: &mut Vec<u8>, delta: &Delta) -> Result<(), AllocError>
-    ensures text { OnOk result
-        (out.new.items ≡ out.old.items ++ flat_map tag_text (tombstones_of delta.now)) }
-    ensures fit { OnOk result (AllByRecursion (λ tag. tag < 2 ^ 128) (tombstones_of delta.now)) }
+    ensures { OnOk result (PutsEach tag_text TagFits (tombstones_of delta.now) out.old.items out.new.items) }
 {
     walks_give_one_list();
     for tag in delta.tombstones() {
@@ -132,7 +129,7 @@ fn put_tombstones(out: &mut Vec<u8>, delta: &Delta) -> Result<(), AllocError>
 // Puts a tag.
 fn put_tag(out: &mut Vec<u8>, tag: Tag) -> Result<(), AllocError>
     ensures text { OnOk result (out.new.items ≡ out.old.items ++ tag_text tag) }
-    ensures fits { tag < 2 ^ 128 }
+    ensures fits { TagFits tag }
 {
     out.extend_from_slice(&tag.0.to_be_bytes())
 }

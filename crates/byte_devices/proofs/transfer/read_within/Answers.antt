@@ -1,7 +1,9 @@
-use Rattle.std.proofs.Common.{◌≡◌, ◌+◌, take, sym, ap, ◌∙◌, subst, arith, rules, length-drop}
+use Rattle.std.proofs.Common.{◌≡◌, ◌+◌, take, sym, ap, ◌∙◌, subst, inl, inr, refl, arith, rules, length-drop}
+use Rattle.std.proofs.lemmas.Result.{err_from_is_err_and}
 use Rattle.std.specs.Io.KnownBytes.{Consumes}
 use Rattle.std.proofs.KnownBytes.{Consumes-trans}
 use Rattle.std.proofs.lemmas.List.{places, with_items_is}
+use Rattle.std.proofs.lemmas.Grind.{common_steps}
 use Rattle.byte_devices.proofs.Pieces.{filled_more}
 use Rattle.byte_devices.proofs.transfer.read_within.Goals as goal
 
@@ -28,3 +30,20 @@ loop-pull-preserved g c =
       filled = omega (arith, pulled.pulls.bound.0, length-drop filled now, pulled.len, len, room);
       room = omega (arith, room);
     }
+
+pub overflow_add-filled : goal.overflow_add-filled
+overflow_add-filled g c = grind (arith, common_steps)
+
+pub returns-in_err-n-clause-to_end : goal.returns-in_err-n-clause-to_end
+returns-in_err-n-clause-to_end g c =
+    let p = err_from_is_err_and c.from_residual-in_err-n.result c.from_residual-in_err-n.ensures.1 in
+    let before = c.loop-pull.invariant in
+    let pulled = c.in_err-n.ensures.pulls in
+    rw (p.1, p.2) (record {
+      at_end = inr (inl refl);
+      ended = inr (inl refl);
+      steady = tt;
+      in_time = omega (arith, before.at_most, pulled.pulls);
+      device = λ _. inl (omega (arith, before.failures, pulled.failures));
+      failure = λ _. refl;
+    })

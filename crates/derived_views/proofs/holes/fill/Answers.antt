@@ -1,4 +1,4 @@
-use Rattle.std.proofs.Common.{◌≡◌, ◌≤◌, ◌∙◌, ap, sym, subst, arith}
+use Rattle.std.proofs.Common.{◌≡◌, ◌≤◌, ◌∙◌, ap, sym, subst, arith, rules}
 use Rattle.std.specs.Prelude.{slice_index, EachIndex}
 use Rattle.grid_core.specs.Path.{domain_of}
 use Rattle.grid_core.specs.Raster.{value_at}
@@ -22,18 +22,17 @@ over-requires c =
     c.in_ok-mask.ensures ∙ ap (λ r. complement_of c.from-top.result r) c.grid.ensures.value
     in
     let turned = c.complemented-filled.ensures in
-    let grown = c.in_ok-grow_in_place.ensures in
-    let part = c.in_ok-grown.ensures.part in
+    let grown = c.in_ok-grow_in_place.ensures.grown in
     graymap_from image c.complemented-filled.result c.maxval-maxval.result is
     (omega (arith, maxval, is.some_maxval))
     (omega (arith, maxval, is.maxval_within))
-    (turned.width ∙ grown.width ∙ part.width ∙ ap (λ r. r.width) mask)
-    (turned.height ∙ grown.height ∙ part.height ∙ ap (λ r. r.height) mask)
+    (turned.width ∙ grown.width ∙ ap (λ r. r.width) mask)
+    (turned.height ∙ grown.height ∙ ap (λ r. r.height) mask)
     turned.filled
     (λ k within. omega (arith, turned.values k within, top))
 
-pub returns-clause-fill : goal.returns-clause-fill
-returns-clause-fill c =
+pub returns : goal.returns
+returns c =
     let image = c.args.image.now in
     let is = c.maxval-maxval.ensures.is_graymap in
     let d = domain_of image.raster c.args.conn in
@@ -45,9 +44,18 @@ returns-clause-fill c =
     λ k within. omega (arith, is.samples_within k within, top)
     in
     let turned = c.complemented-filled.ensures in
-    let grown = c.in_ok-grow_in_place.ensures in
+    let grown = c.in_ok-grow_in_place.ensures.grown in
+    let part = c.in_ok-grown.ensures.part in
+    let shown =
     subst (λ (g : Graymap). IsFill d (value_at image.raster) (value_at g.raster)) (sym c.over.ensures)
     (fill_from c.args.conn c.from-top.result image.raster c.in_ok-mask.mask c.in_ok-grown.grown
     c.grow_in_place.new.image c.complemented-filled.result mask is.sized.filled turned.filled bound
-    c.in_ok-grown.ensures.part c.in_ok-grown.ensures.border grown.width turned.width grown.height turned.height
-    turned.values grown.reconstruction)
+    part c.in_ok-grown.ensures.border (grown.width ∙ sym part.width) turned.width (grown.height ∙ sym part.height)
+    turned.height turned.values grown.reconstruction) in
+    record {
+      graymap = search rules;
+      width = search rules;
+      height = search rules;
+      maxval = search rules;
+      values = shown;
+    }

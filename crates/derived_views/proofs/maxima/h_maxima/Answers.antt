@@ -1,4 +1,4 @@
-use Rattle.std.proofs.Common.{◌≡◌, ◌-◌, ◌∙◌, ap, sym, subst}
+use Rattle.std.proofs.Common.{◌≡◌, ◌-◌, ◌∙◌, ap, sym, subst, rules}
 use Rattle.grid_core.specs.Path.{domain_of}
 use Rattle.grid_core.specs.Raster.{value_at}
 use Rattle.pgm_codec.specs.Graymap.{Graymap}
@@ -7,14 +7,22 @@ use Rattle.derived_views.specs.Rasters.{mapped}
 use Rattle.derived_views.proofs.Growing.{h_maxima_from}
 use Rattle.derived_views.proofs.maxima.h_maxima.Goals as goal
 
-pub returns-clause-h_maxima : goal.returns-clause-h_maxima
-returns-clause-h_maxima c =
+pub returns : goal.returns
+returns c =
     let image = c.args.image.now.raster in
     let d = domain_of image c.args.conn in
     let low : c.in_ok-grown.grown ≡ mapped (λ v. v - c.args.h) c.grid.result.now =
     c.in_ok-grown.ensures ∙ ap (λ n. mapped (λ v. v - n) c.grid.result.now) c.from.ensures
     in
+    let shown =
     subst (λ (g : Graymap). IsHMaxima d c.args.h (value_at image) (value_at g.raster)) (sym c.over.ensures)
     (h_maxima_from c.args.conn c.args.h image c.grid.result.now c.grid-2.result.now c.in_ok-grown.grown
     c.grow_in_place.new.image c.grid.ensures.value c.grid-2.ensures.value low
-    c.in_ok-grow_in_place.ensures.reconstruction)
+    c.in_ok-grow_in_place.ensures.grown.reconstruction) in
+    record {
+      graymap = search rules;
+      width = search rules;
+      height = search rules;
+      maxval = search rules;
+      values = shown;
+    }

@@ -20,19 +20,18 @@ overflow_cast-len-2 c =
     let whole = frame_length_is s in
     omega (arith, c.requires.short)
 
-pub returns-clause-text : goal.returns-clause-text
-returns-clause-text c =
+pub returns : goal.returns
+returns c =
     let s = c.args.delta.now in
     let strokes = c.walks_give_one_list.ensures.strokes s c.strokes.result c.strokes.ensures.strokes in
     let tombstones = c.walks_give_one_list.ensures.tombstones s c.tombstones.result c.tombstones.ensures.tombstones in
-    frame_put c.args.conn c.args.print.now s c.len.result c.len-2.result c.args.out.now.items c.put_head.new.out.items
-    c.put_number.new.out.items c.put_number-2.new.out.items c.put_strokes.new.out.items c.put_tombstones.new.out.items
-    (c.len.ensures.value ∙ ap length strokes) (c.len-2.ensures.value ∙ ap length tombstones)
-    c.in_ok-put_head.ensures.text
-    c.in_ok-put_number.ensures c.in_ok-put_number-2.ensures c.in_ok-put_strokes.ensures.text
-    c.in_ok-put_tombstones.ensures.text
-
-pub returns-clause-spells : goal.returns-clause-spells
-returns-clause-spells c =
-    frame_spells c.args.conn c.args.print.now c.args.delta.now c.in_ok-put_head.ensures.print c.requires.short
-    c.in_ok-put_strokes.ensures.fit c.in_ok-put_tombstones.ensures.fit
+    record {
+      text = frame_put c.args.conn c.args.print.now s c.len.result c.len-2.result c.args.out.now.items
+          c.put_head.new.out.items c.put_number.new.out.items c.put_number-2.new.out.items c.put_strokes.new.out.items
+          c.put_tombstones.new.out.items (c.len.ensures.value ∙ ap length strokes)
+          (c.len-2.ensures.value ∙ ap length tombstones) c.in_ok-put_head.ensures.text
+          c.in_ok-put_number.ensures c.in_ok-put_number-2.ensures c.in_ok-put_strokes.ensures.text
+          c.in_ok-put_tombstones.ensures.text;
+      spells = frame_spells c.args.conn c.args.print.now s c.in_ok-put_head.ensures.print c.requires.short
+          c.in_ok-put_strokes.ensures.fits c.in_ok-put_tombstones.ensures.fits;
+    }

@@ -1,3 +1,4 @@
+use Rattle.std.proofs.Common.{refl}
 use Rattle.stroke_lattice.specs.State.{nothing}
 use Rattle.marker_tiles.specs.Kept.{IsMarkerOf}
 use Rattle.marker_tiles.proofs.Keeping.{blank_marks_nothing, kept_is_in_order}
@@ -12,7 +13,10 @@ invariant_of-result c =
     kept_is_in_order mask marker c.args.tiling nothing c.blank.ensures.sized c.in-Ok.ensures.blank.size marks
     c.requires.width c.requires.height
 
-pub returns-in-Ok-clause-marks : goal.returns-in-Ok-clause-marks
-returns-in-Ok-clause-marks c =
-    blank_marks_nothing c.args.mask c.in-Ok.marker nothing c.contents_of_nothing.ensures.strokes
-    c.in-Ok.ensures.blank
+pub returns-in-Ok : goal.returns-in-Ok
+returns-in-Ok c = record {
+  mask = refl;
+  tiling = refl;
+  marks = blank_marks_nothing c.args.mask c.in-Ok.marker nothing c.contents_of_nothing.ensures.strokes
+      c.in-Ok.ensures.blank;
+}
