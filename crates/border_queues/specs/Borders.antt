@@ -8,6 +8,7 @@ use Rattle.grid_core.specs.Rows.{row_around}
 use Rattle.grid_core.specs.Tiles.{IsTiled, tile_of, rect_of}
 use Rattle.border_queues.specs.declared.border.Border.{Border}
 use Rattle.border_queues.specs.declared.hint.Hint.{Hint}
+use Rattle.border_queues.specs.Waiting.{Waiting}
 use Rattle.border_queues.specs.OpenEdges.{Sender, IsOnTiling, hints_from, hints_to, pixels_of, row_of, with_tile}
 
 -- the pixel of `inside` where the tile's pixel stands that is p from the tile's corner
@@ -52,3 +53,8 @@ pub record IsBorder (b : Border) : Type 0 where
   pub inside_rows : b.corner.y + b.rect.h ≤ b.inside.now.height
   pub fits : RectFits b.tiling.width b.tiling.height b.rect
   pub own : (p : Pixel) → IsInside b.tiling.width b.tiling.height p → IsInRect b.rect p ↔ (tile_of b.tiling p ≡ b.tile)
+
+-- the walk can go on, with room for so many hints
+pub record CanTell (b : Border) (inbox : Waiting) (hints : ℕ) : Type 0 where
+  pub border : IsBorder b
+  pub room : hints ≤ inbox.room

@@ -8,13 +8,24 @@ use Rattle.grid_core.specs.declared.rect.Rect.{Rect}
 use Rattle.grid_core.specs.Raster.{Raster, IsInside}
 use Rattle.grid_core.specs.Neighbours.{AreNeighbours}
 use Rattle.grid_core.specs.Rows.{rows_around}
-use Rattle.grid_core.specs.Tiles.{Tiles, tile_of, rect_of}
+use Rattle.grid_core.specs.Tiles.{Tiles, count_of, tile_of, rect_of}
 use Rattle.border_queues.specs.declared.hint.Hint.{Hint}
 
 -- the image has the tiling's width and height
 pub record IsOnTiling (tiles : Tiles) (image : Raster) : Type 0 where
   pub width : image.width ≡ tiles.width
   pub height : image.height ≡ tiles.height
+
+-- image and mask have the tiling's width and height, and it has the tile
+pub record HaveTile (tiles : Tiles) (image mask : Raster) (t : ℕ) : Type 0 where
+  pub tile : t < count_of tiles
+  pub image_fits : IsOnTiling tiles image
+  pub mask_fits : IsOnTiling tiles mask
+
+-- the image has the width and the height of the tile
+pub record HasTileSize (tiles : Tiles) (t : ℕ) (image : Raster) : Type 0 where
+  pub width : image.width ≡ (rect_of tiles t).w
+  pub height : image.height ≡ (rect_of tiles t).h
 
 -- a tile that tells others: the tiling, which pixels are neighbours, mask and image, the tile and its generation
 pub record Sender : Type 0 where

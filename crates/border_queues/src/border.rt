@@ -8,7 +8,8 @@ ghost use Rattle.grid_core.specs.Rects.{IsInRect};
 ghost use Rattle.grid_core.specs.Rows.{has_diagonals, pixel_if, row_around};
 ghost use Rattle.border_queues.specs.Waiting.{Adds, AddsWithin};
 ghost use Rattle.border_queues.specs.OpenEdges.{hints_from};
-ghost use Rattle.border_queues.specs.Borders.{hints_of_all, hints_of_row, row_if, sender_of, told_to, IsBorder};
+ghost use Rattle.border_queues.specs.Borders.{hints_of_all, hints_of_row, row_if, sender_of, told_to};
+ghost use Rattle.border_queues.specs.Borders.{CanTell, IsBorder};
 
 use crate::hint::Hint;
 use crate::inbox::Inbox;
@@ -49,9 +50,8 @@ impl Border<'_> {
     // Tells a neighbour of a pixel of this value, if it lies in another tile and can rise.
     #[inline(always)]
     fn push_open(&self, value: u32, q: Pixel, out: &mut Inbox)
-        requires border { IsBorder self.now }
+        requires ready { CanTell self.now out.old 1 }
         requires inside { IsInside self.now.tiling.width self.now.tiling.height q }
-        requires room { 0 < out.old.room }
         ensures { AddsWithin out.old out.new (told_to self.now value (q ∷ [])) 1 }
     {
         if self.rect.contains(q) {
@@ -71,10 +71,8 @@ impl Border<'_> {
     // Tells the pixel at `x` and `y`, where it is wanted.
     #[inline(always)]
     fn push_if(&self, wanted: bool, value: u32, x: u32, y: u32, out: &mut Inbox)
-        requires border { IsBorder self.now }
-        requires column { IsTrue wanted → x < self.now.tiling.width }
-        requires row { IsTrue wanted → y < self.now.tiling.height }
-        requires room { 0 < out.old.room }
+        requires ready { CanTell self.now out.old 1 }
+        requires at { IsTrue wanted → IsInside self.now.tiling.width self.now.tiling.height (record { x = x; y = y }) }
         ensures { AddsWithin out.old out.new (told_to self.now value (pixel_if wanted x y)) 1 }
     {
         if wanted {
@@ -85,10 +83,9 @@ impl Border<'_> {
     // Tells the pixel at `x` of row `y`, where the row is wanted, and those at its sides, if `sides`.
     #[inline(always)]
     fn push_row(&self, wanted: bool, value: u32, x: u32, y: u32, sides: bool, out: &mut Inbox)
-        requires border { IsBorder self.now }
+        requires ready { CanTell self.now out.old 3 }
         requires column { x < self.now.tiling.width }
         requires row { IsTrue wanted → y < self.now.tiling.height }
-        requires room { 3 ≤ out.old.room }
         ensures { AddsWithin out.old out.new (told_to self.now value (row_if self.now wanted x y sides)) 3 }
     {
         if !wanted {
@@ -102,9 +99,8 @@ impl Border<'_> {
     // Tells the neighbours of the pixel of the tile at `x` and `y`.
     #[inline(always)]
     fn push_from(&self, x: u32, y: u32, out: &mut Inbox)
-        requires border { IsBorder self.now }
+        requires ready { CanTell self.now out.old 8 }
         requires own { IsInRect self.now.rect (record { x = x; y = y }) }
-        requires room { 8 ≤ out.old.room }
         ensures { AddsWithin out.old out.new (hints_from (sender_of self.now) (record { x = x; y = y })) 8 }
     {
         let value = self.value(Pixel { x, y });
@@ -122,9 +118,8 @@ impl Border<'_> {
 
     // Tells the neighbours of all pixels of a row of the tile.
     fn push_line(&self, y: u32, out: &mut Inbox)
-        requires border { IsBorder self.now }
+        requires ready { CanTell self.now out.old (8 * self.now.rect.w) }
         requires row { (self.now.rect.y ≤ y) × (y < self.now.rect.y + self.now.rect.h) }
-        requires room { 8 * self.now.rect.w ≤ out.old.room }
         ensures { AddsWithin out.old out.new (hints_of_row self.now y) (8 * self.now.rect.w) }
     {
         for i in 0..self.rect.w {
@@ -135,9 +130,8 @@ impl Border<'_> {
     // Tells the neighbours of the first and the last pixel of a row of the tile that is neither the first nor the
     // last: those of the others lie in the tile.
     fn push_ends(&self, y: u32, out: &mut Inbox)
-        requires border { IsBorder self.now }
+        requires ready { CanTell self.now out.old 16 }
         requires between { (self.now.rect.y < y) × (y + 1 < self.now.rect.y + self.now.rect.h) }
-        requires room { 16 ≤ out.old.room }
         ensures { AddsWithin out.old out.new (hints_of_row self.now y) 16 }
     {
         neighbours_by_rows();
@@ -150,8 +144,7 @@ impl Border<'_> {
 
     // Tells the neighbours of all pixels of the tile.
     pub fn push_all(&self, out: &mut Inbox)
-        requires border { IsBorder self.now }
-        requires room { 16 * self.now.rect.w + 16 * self.now.rect.h ≤ out.old.room }
+        requires { CanTell self.now out.old (16 * self.now.rect.w + 16 * self.now.rect.h) }
         ensures { Adds out.old out.new (hints_of_all self.now) }
     {
         let last = self.rect.h - 1;

@@ -1,11 +1,10 @@
 //! The hints of a tile's open edges.
 
-ghost use Rattle.std.specs.Prelude.{◌≡◌, ◌+◌, ◌*◌, ◌<◌, ◌≤◌, ◌++◌, IsOk, OnOk, OnErr};
+ghost use Rattle.std.specs.Prelude.{◌≡◌, ◌+◌, ◌≤◌};
 ghost use Rattle.grid_core.specs.Raster.{value_at};
-ghost use Rattle.grid_core.specs.Tiles.{count_of, rect_of};
-ghost use Rattle.border_queues.specs.Waiting.{places};
-ghost use Rattle.border_queues.specs.OpenEdges.{IsOnTiling, open_edges, sender_by, with_tile};
-ghost use Rattle.border_queues.specs.OpenEdges.{room_for_edges};
+ghost use Rattle.grid_core.specs.Tiles.{rect_of};
+ghost use Rattle.border_queues.specs.Waiting.{AddsOrFails};
+ghost use Rattle.border_queues.specs.OpenEdges.{HasTileSize, HaveTile, open_edges, room_for_edges, sender_by, with_tile};
 ghost use Rattle.border_queues.specs.Borders.{moved, sender_of, IsBorder};
 
 use crate::border::Border;
@@ -38,16 +37,10 @@ pub fn open_edges(
     conn: Conn,
     out: &mut Inbox,
 ) -> Result<(), QueueError>
-    requires tile { tile < count_of tiling.now }
-    requires inside_width { inside.now.width ≡ (rect_of tiling.now tile).w }
-    requires inside_height { inside.now.height ≡ (rect_of tiling.now tile).h }
-    requires image { IsOnTiling tiling.now image.now }
-    requires mask { IsOnTiling tiling.now mask.now }
-    ensures hints { OnOk result (out.new.hints ≡ out.old.hints ++ open_edges (sender_by tiling.now conn
-        (value_at mask.now) (with_tile tiling.now tile (value_at inside.now) (value_at image.now)) tile generation)) }
-    ensures enough { room_for_edges tiling.now ≤ out.old.room → IsOk result }
-    ensures kept { places out.old ≤ places out.new }
-    ensures err { OnErr result (out.new.hints ≡ out.old.hints) }
+    requires parts { HaveTile tiling.now image.now mask.now tile }
+    requires size { HasTileSize tiling.now tile inside.now }
+    ensures { AddsOrFails out.old out.new (open_edges (sender_by tiling.now conn (value_at mask.now) (with_tile
+        tiling.now tile (value_at inside.now) (value_at image.now)) tile generation)) (room_for_edges tiling.now) result }
 {
     out.reserve(room_for_edges(tiling))?;
     let border = border_of(
@@ -76,14 +69,9 @@ pub fn open_edges_in(
     conn: Conn,
     out: &mut Inbox,
 ) -> Result<(), QueueError>
-    requires tile { tile < count_of tiling.now }
-    requires image { IsOnTiling tiling.now image.now }
-    requires mask { IsOnTiling tiling.now mask.now }
-    ensures hints { OnOk result (out.new.hints ≡ out.old.hints
-        ++ open_edges (sender_by tiling.now conn (value_at mask.now) (value_at image.now) tile generation)) }
-    ensures enough { room_for_edges tiling.now ≤ out.old.room → IsOk result }
-    ensures kept { places out.old ≤ places out.new }
-    ensures err { OnErr result (out.new.hints ≡ out.old.hints) }
+    requires { HaveTile tiling.now image.now mask.now tile }
+    ensures { AddsOrFails out.old out.new (open_edges (sender_by tiling.now conn (value_at mask.now)
+        (value_at image.now) tile generation)) (room_for_edges tiling.now) result }
 {
     each_pixel_in_one_tile();
     same_image_same_edges();
@@ -111,15 +99,12 @@ fn border_of<'a>(
     generation: u64,
     conn: Conn,
 ) -> Border<'a>
-    requires tile { tile < count_of tiling.now }
+    requires parts { HaveTile tiling.now image.now mask.now tile }
     requires columns { corner.x + (rect_of tiling.now tile).w ≤ inside.now.width }
     requires rows { corner.y + (rect_of tiling.now tile).h ≤ inside.now.height }
-    requires image { IsOnTiling tiling.now image.now }
-    requires mask { IsOnTiling tiling.now mask.now }
     ensures border { IsBorder result }
     ensures sender { sender_of result ≡ sender_by tiling.now conn (value_at mask.now)
         (with_tile tiling.now tile (λ p. value_at inside.now (moved corner p)) (value_at image.now)) tile generation }
-    ensures rect { result.rect ≡ rect_of tiling.now tile }
 {
     each_pixel_in_one_tile();
     // Side and width tell the prover that the tiling is one, and `inside` an image.

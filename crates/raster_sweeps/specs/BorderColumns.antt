@@ -8,6 +8,8 @@ use Rattle.grid_core.specs.Neighbours.{apart}
 use Rattle.grid_core.specs.Raster.{Raster, IsInside, max_value, value_at}
 use Rattle.grid_core.specs.Rects.{part}
 use Rattle.raster_sweeps.specs.declared.border.Column.{Column}
+use Rattle.raster_sweeps.specs.declared.border.LeastInRow.{LeastInRow}
+use Rattle.raster_sweeps.specs.Growth.{CanGrow}
 use Rattle.raster_sweeps.specs.RowPairs.{AreBeside}
 
 -- the rectangle has the column, and next to it no other than the one beside it
@@ -16,6 +18,11 @@ pub record IsBorderColumn (rect : Rect) (column : Column) : Type 0 where
   pub beside_within : column.beside < rect.w
   pub near : apart column.x column.beside ≤ 1
   pub alone : (x : ℕ) → x < rect.w → apart column.x x ≤ 1 → x ≢ column.x → x ≡ column.beside
+
+-- the image may grow inside the rectangle, which has the column
+pub record CanWalkColumn (rect : Rect) (mask image : Raster) (column : Column) : Type 0 where
+  pub grow : CanGrow rect mask image
+  pub column_is : IsBorderColumn rect column
 
 -- the pixel lies in this row, in the column or next to it
 abbrev pub IsNearIn : ℕ → ℕ → Pixel → Type 0
@@ -32,3 +39,9 @@ IsLeastToRise rect mask image IsSuch least =
     → (least < level)
     ↔ ((q : Pixel) × IsInside rect.w rect.h q × IsSuch q
     × (part rect (value_at image) q < min level (part rect (value_at mask) q)))
+
+-- a level raises a pixel of this row in the column or next to it just where it is above the one value, and one of the
+-- neighbours, in this row, of a pixel of the column in a row that touches it just where it is above the other
+pub record AreLeastInRow (conn : Conn) (rect : Rect) (mask image : Raster) (x y : ℕ) (least : LeastInRow) : Type 0 where
+  pub along : IsLeastToRise rect mask image (IsNearIn x y) least.along
+  pub across : IsLeastToRise rect mask image (IsBesideIn conn x y) least.across

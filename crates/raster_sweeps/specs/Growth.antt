@@ -15,7 +15,12 @@ pub record CanGrow (rect : Rect) (mask image : Raster) : Type 0 where
   pub below : IsBelow image mask
   pub fits : RectFits mask.width mask.height rect
 
--- and it has a value for each pixel
+-- the rectangle lies in both images
+pub record FitsBoth (rect : Rect) (mask image : Raster) : Type 0 where
+  pub mask_fits : RectFits mask.width mask.height rect
+  pub image_fits : RectFits image.width image.height rect
+
+-- the image may grow inside the rectangle, and has a value for each pixel
 pub record CanClose (rect : Rect) (mask image : Raster) : Type 0 where
   pub filled : IsFilled image
   pub below : IsBelow image mask
@@ -71,6 +76,16 @@ abbrev pub AreOpen : Conn → Rect → Raster → Raster → List ℕ → Type 0
 AreOpen conn rect mask image waiting =
     (i : ℕ) → Contains waiting i
     → (p : Pixel) × (q : Pixel) × IsOpenIn conn rect mask image p q × (cell_of rect image.width p ≡ i)
+
+-- so it is, and there is such a cell
+pub record AreSomeOpen (conn : Conn) (rect : Rect) (mask image : Raster) (waiting : List ℕ) : Type 0 where
+  pub each : AreOpen conn rect mask image waiting
+  pub some : 0 < length waiting
+
+-- the image has grown inside the rectangle until no pixel there can raise a neighbour
+pub record IsGrownUp (conn : Conn) (rect : Rect) (mask before after : Raster) : Type 0 where
+  pub grown : IsGrown conn rect mask before after
+  pub closed : IsClosedIn conn rect mask after
 
 -- the image has grown inside the rectangle. The queue has cells of the rectangle alone, and if there was room for all,
 -- the first pixel of each of its open pairs; where there was not, a cell has risen

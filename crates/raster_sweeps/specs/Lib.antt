@@ -13,3 +13,4 @@ pub mod Regrowth
 pub mod RowPairs
 pub mod RowRaises
 pub mod Spans
+pub mod Starting

@@ -8,8 +8,8 @@ use Rattle.grid_core.specs.declared.pixel.Pixel.{Pixel}
 use Rattle.grid_core.specs.declared.rect.Rect.{Rect}
 use Rattle.grid_core.specs.Neighbours.{apart, AreNeighbours}
 use Rattle.grid_core.specs.Path.{Domain, Inside}
-use Rattle.grid_core.specs.Raster.{Raster, IsBelow, max_pixels}
-use Rattle.grid_core.specs.Rects.{RectFits}
+use Rattle.grid_core.specs.Raster.{Raster, IsBelow, max_pixels, value_at}
+use Rattle.grid_core.specs.Rects.{RectFits, domain_in, part}
 use Rattle.raster_sweeps.specs.Growth.{IsOpenIn, cell_of}
 
 -- the image may grow inside the rectangle, which has this row
@@ -99,10 +99,21 @@ IsClosedTo IsBeside from mask to =
     (a b : ℕ) → a < length to → b < length to → IsBeside a b
     → min (slice_index from a) (slice_index mask b) ≤ slice_index to b
 
+-- no pixel of a row raises one beside it or the one below it, and none of the row below the one above it
+pub record AreClosedCrosswise (row limits below limits_below : List ℕ) : Type 0 where
+  pub along : IsClosedTo AreAside row limits row
+  pub down : IsClosedStraight row limits_below below
+  pub up : IsClosedStraight below limits row
+
 -- no pixel raises a neighbour, of the pairs whose upper pixel, or both, lie in this row
 abbrev pub IsRowClosed : Domain → (Pixel → ℕ) → (Pixel → ℕ) → ℕ → Type 0
 IsRowClosed d mask j y =
     (p q : Pixel) → Inside d p → Inside d q → AreNeighbours d.conn p q → min p.y q.y ≡ y → min (j p) (mask q) ≤ j q
+
+-- so it is in the rectangle, with its rows counted from its top
+abbrev pub IsRowClosedIn : Conn → Rect → Raster → Raster → ℕ → Type 0
+IsRowClosedIn conn rect mask image =
+    IsRowClosed (domain_in rect conn) (part rect (value_at mask)) (part rect (value_at image))
 
 -- the cell is that of a pixel of the first row, whose cells begin at `first`, that raises the one in the same column of
 -- the other, as far as the other's mask lets it

@@ -37,6 +37,13 @@ pub record IsRaisedFromRight (mask before after : List ℕ) : Type 0 where
   pub raised : (k : ℕ) → k + 1 < length before
       → slice_index after k ≡ max (slice_index before k) (min (slice_index after (k + 1)) (slice_index mask k))
 
+-- two rows of so many cells, which begin at these places, lie in a list of cells, and have none in common
+pub record AreApart (size source target cells : ℕ) : Type 0 where
+  pub some : 0 < size
+  pub source_within : source + size ≤ cells
+  pub target_within : target + size ≤ cells
+  pub apart : (source + size ≤ target) ⊎ (target + size ≤ source)
+
 -- of a list of cells, as many from `target` on as the mask has are raised by as many from `source` on, and the others
 -- stay
 pub record AreCellsRaised (conn : Conn) (mask : List ℕ) (source target : ℕ) (before after : List ℕ) : Type 0 where

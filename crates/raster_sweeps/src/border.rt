@@ -3,10 +3,10 @@
 
 ghost use Rattle.std.specs.Prelude.{◌≡◌, ◌+◌, ◌<◌, ◌≤◌, ◌⊎◌, ◌↔◌, [], length, min, IsTrue};
 ghost use Rattle.grid_core.specs.Neighbours.{apart};
-ghost use Rattle.grid_core.specs.Raster.{IsBelow, IsOnBorder, max_value, value_at};
+ghost use Rattle.grid_core.specs.Raster.{IsBelow, IsInside, IsOnBorder, max_value, value_at};
 ghost use Rattle.grid_core.specs.Rects.{RectFits, part};
 ghost use Rattle.raster_sweeps.specs.RowPairs.{IsInEndColumn, IsInEndRow};
-ghost use Rattle.raster_sweeps.specs.BorderColumns.{IsBorderColumn, IsLeastToRise, IsBesideIn, IsNearIn};
+ghost use Rattle.raster_sweeps.specs.BorderColumns.{AreLeastInRow, CanWalkColumn};
 ghost use Rattle.raster_sweeps.specs.Growth.{AllWait, AreOpen, CanGrow};
 ghost use Rattle.raster_sweeps.specs.RowPairs.{AreBeside, HaveJoined, IsOpenCell, IsOpenFrom, AreJoined, IsFromUp};
 ghost use Rattle.raster_sweeps.specs.RowPairs.{CanGrowRow, IsFromDown};
@@ -159,8 +159,7 @@ fn queue_from_column(
     conn: Conn,
     waiting: &mut Waiting,
 ) -> bool
-    requires grow { CanGrow rect mask.now image.now }
-    requires column { IsBorderColumn rect column }
+    requires { CanWalkColumn rect mask.now image.now column }
     ensures { AreJoined conn rect mask.now image.now (λ p. p.x ≡ column.x) result waiting.old waiting.new }
 {
     let mut above = u32::MAX;
@@ -182,8 +181,7 @@ fn queue_from_column(
 #[inline(always)]
 fn value_in(image: &Grid, rect: Rect, x: u32, y: u32) -> u32
     requires fits { RectFits image.now.width image.now.height rect }
-    requires column { x < rect.w }
-    requires row { y < rect.h }
+    requires inside { IsInside rect.w rect.h (record { x = x; y = y }) }
     ensures { result ≡ part rect (value_at image.now) (record { x = x; y = y }) }
 {
     image.row_in(rect, y)[x as usize]
@@ -199,11 +197,9 @@ fn least_in_row(
     conn: Conn,
     y: u32,
 ) -> LeastInRow
-    requires grow { CanGrow rect mask.now image.now }
-    requires column { IsBorderColumn rect column }
+    requires walk { CanWalkColumn rect mask.now image.now column }
     requires row { y ≤ rect.h }
-    ensures along { IsLeastToRise rect mask.now image.now (IsNearIn column.x y) result.along }
-    ensures across { IsLeastToRise rect mask.now image.now (IsBesideIn conn column.x y) result.across }
+    ensures { AreLeastInRow conn rect mask.now image.now column.x y result }
 {
     if y == rect.h {
         return LeastInRow {

@@ -4,9 +4,8 @@ ghost use Rattle.std.specs.Prelude.{◌≡◌, ◌<◌, ◌↔◌, IsTrue};
 ghost use Rattle.grid_core.specs.Path.{domain_of};
 ghost use Rattle.grid_core.specs.Raster.{value_at};
 ghost use Rattle.grid_core.specs.Reconstruction.{IsClosed};
-ghost use Rattle.grid_core.specs.Rects.{RectFits, domain_in, part};
-ghost use Rattle.raster_sweeps.specs.Growth.{IsClosedIn};
-ghost use Rattle.raster_sweeps.specs.RowPairs.{IsRowClosed};
+ghost use Rattle.raster_sweeps.specs.Growth.{FitsBoth, IsClosedIn};
+ghost use Rattle.raster_sweeps.specs.RowPairs.{IsRowClosedIn};
 
 use crate::rows::{is_closed_aslant, is_closed_to};
 use grid_core::{Conn, Grid, Rect};
@@ -28,8 +27,7 @@ pub fn is_closed(mask: &Grid, image: &Grid, conn: Conn) -> bool
 
 // Whether no pixel of the rectangle can raise a neighbour in it.
 fn is_closed_in(mask: &Grid, image: &Grid, rect: Rect, conn: Conn) -> bool
-    requires mask { RectFits mask.now.width mask.now.height rect }
-    requires image { RectFits image.now.width image.now.height rect }
+    requires { FitsBoth rect mask.now image.now }
     ensures { IsTrue result ↔ IsClosedIn conn rect mask.now image.now }
 {
     for y in 0..rect.h {
@@ -43,11 +41,9 @@ fn is_closed_in(mask: &Grid, image: &Grid, rect: Rect, conn: Conn) -> bool
 // Whether no pixel of the rectangle's row `y`, counted from its top, can raise a neighbour in it or in the row
 // below, and none of the row below one in it.
 fn is_row_closed(mask: &Grid, image: &Grid, rect: Rect, y: u32, conn: Conn) -> bool
-    requires mask { RectFits mask.now.width mask.now.height rect }
-    requires image { RectFits image.now.width image.now.height rect }
+    requires fits { FitsBoth rect mask.now image.now }
     requires row { y < rect.h }
-    ensures { IsTrue result
-        ↔ IsRowClosed (domain_in rect conn) (part rect (value_at mask.now)) (part rect (value_at image.now)) y }
+    ensures { IsTrue result ↔ IsRowClosedIn conn rect mask.now image.now y }
 {
     let mask_row = mask.row_in(rect, y);
     let row = image.row_in(rect, y);

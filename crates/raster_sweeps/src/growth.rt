@@ -1,16 +1,13 @@
 //! Growing in place: until no pair of neighbours is open (Vincent, "Morphological Grayscale Reconstruction in Image
 //! Analysis", 1993).
 
-ghost use Rattle.std.specs.Prelude.{◌≡◌, ◌<◌, [], length, IfOk, OnErr, OnOk, false};
-ghost use Rattle.grid_core.specs.Path.{domain_of};
-ghost use Rattle.grid_core.specs.Raster.{IsBelow, IsFilled, value_at};
-ghost use Rattle.grid_core.specs.Reconstruction.{IsReconstruction};
-ghost use Rattle.grid_core.specs.Rects.{RectFits, part};
+ghost use Rattle.std.specs.Prelude.{◌≡◌, ◌<◌, [], IfOk, OnErr, OnOk, false};
+ghost use Rattle.grid_core.specs.Raster.{IsBelow};
 ghost use Rattle.raster_sweeps.specs.declared.growth.Start.TheVariants as starts;
 ghost use Rattle.raster_sweeps.specs.Borders.{OpenPairsBeginOnBorder};
-ghost use Rattle.raster_sweeps.specs.Growth.{AreOpen, IsGrown, IsQueueFilled, CanClose, CanGrow};
+ghost use Rattle.raster_sweeps.specs.Growth.{AreSomeOpen, IsGrownUp, IsQueueFilled, CanClose, CanGrow};
 ghost use Rattle.raster_sweeps.specs.Regrowth.{IsRegrown, IsRegrownIn};
-ghost use Rattle.raster_sweeps.specs.Growth.{IsClosedIn};
+ghost use Rattle.raster_sweeps.specs.Starting.{CanBegin};
 
 use crate::border::queue_border;
 use crate::open_pairs::queue_open_pairs;
@@ -53,8 +50,7 @@ impl Room {
 ///
 /// A raster scan, an anti-raster scan that fills a queue, and then the queue (Vincent 1993). It takes no memory.
 pub fn grow_within(room: &mut Room, mask: &Grid, image: &mut Grid, rect: Rect, conn: Conn)
-    requires below { IsBelow image.old mask.now }
-    requires fits { RectFits mask.now.width mask.now.height rect }
+    requires { CanGrow rect mask.now image.old }
     ensures { IsRegrownIn conn rect mask.now image.old image.new }
 {
     // The width tells the prover that the image has a cell for each pixel.
@@ -69,8 +65,7 @@ pub fn grow_within(room: &mut Room, mask: &Grid, image: &mut Grid, rect: Rect, c
 /// The pixels on the border are checked, and no others; then a queue spreads from these, and where many pixels rise, a
 /// raster and an anti-raster scan come between. It takes no memory.
 pub fn grow_from_border(room: &mut Room, mask: &Grid, image: &mut Grid, rect: Rect, conn: Conn)
-    requires below { IsBelow image.old mask.now }
-    requires fits { RectFits mask.now.width mask.now.height rect }
+    requires grow { CanGrow rect mask.now image.old }
     requires border { OpenPairsBeginOnBorder conn rect mask.now image.old }
     ensures { IsRegrownIn conn rect mask.now image.old image.new }
 {
@@ -100,12 +95,7 @@ pub fn grow(alloc: Global, mask: &Grid, marker: &Grid, conn: Conn) -> Result<Gri
 /// Errors: out of memory; the image is then as it was.
 pub fn grow_in_place(alloc: Global, mask: &Grid, image: &mut Grid, conn: Conn) -> Result<(), Memory>
     requires { IsBelow image.old mask.now }
-    ensures width { image.new.width ≡ image.old.width }
-    ensures height { image.new.height ≡ image.old.height }
-    ensures filled { OnOk result (IsFilled image.new) }
-    ensures below { IsBelow image.new mask.now }
-    ensures reconstruction { OnOk result (IsReconstruction (domain_of mask.now conn) (value_at mask.now)
-        (value_at image.old) (value_at image.new)) }
+    ensures grown { OnOk result (IsRegrown conn mask.now image.old image.new) }
     ensures untouched { OnErr result (image.new ≡ image.old) }
 {
     let w = image.width();
@@ -118,10 +108,8 @@ pub fn grow_in_place(alloc: Global, mask: &Grid, image: &mut Grid, conn: Conn) -
 
 // Raises the image inside the rectangle until no pair of neighbours there is open.
 fn close(mask: &Grid, image: &mut Grid, rect: Rect, conn: Conn, waiting: &mut Waiting, start: Start)
-    requires close { CanClose rect mask.now image.old }
-    requires border { start ≡ starts.Border → OpenPairsBeginOnBorder conn rect mask.now image.old }
-    ensures grown { IsGrown conn rect mask.now image.old image.new }
-    ensures closed { IsClosedIn conn rect mask.now image.new }
+    requires { CanBegin conn rect mask.now image.old start }
+    ensures { IsGrownUp conn rect mask.now image.old image.new }
 {
     let mut next = start;
     'rounds: loop {
@@ -156,8 +144,7 @@ fn fill(
     waiting: &mut Waiting,
     start: Start,
 ) -> bool
-    requires close { CanClose rect mask.now image.old }
-    requires border { start ≡ starts.Border → OpenPairsBeginOnBorder conn rect mask.now image.old }
+    requires { CanBegin conn rect mask.now image.old start }
     ensures { IsQueueFilled conn rect mask.now image.old image.new result waiting.new }
 {
     waiting.clear();
@@ -205,8 +192,7 @@ fn check_border(
     conn: Conn,
     waiting: &mut Waiting,
 ) -> bool
-    requires close { CanClose rect mask.now image.old }
-    requires border { OpenPairsBeginOnBorder conn rect mask.now image.old }
+    requires begin { CanBegin conn rect mask.now image.old starts.Border }
     requires empty { waiting.old ≡ [] }
     ensures { IsQueueFilled conn rect mask.now image.old image.new result waiting.new }
 {
@@ -220,8 +206,7 @@ fn check_border(
 // Lets the first of some cells that can raise a neighbour spread.
 fn spread_first(mask: &Grid, image: &mut Grid, rect: Rect, conn: Conn, waiting: &mut Waiting)
     requires grow { CanGrow rect mask.now image.old }
-    requires open { AreOpen conn rect mask.now image.old waiting.old }
-    requires some { 0 < length waiting.old }
+    requires open { AreSomeOpen conn rect mask.now image.old waiting.old }
     ensures { IsQueueFilled conn rect mask.now image.old image.new false waiting.new }
 {
     if let Some(cell) = waiting.pop() {

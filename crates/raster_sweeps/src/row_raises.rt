@@ -59,8 +59,7 @@ pub fn raise_from_left(mask: &[u32], row: &mut [u32])
 
 // Raises each pixel of a strip but the first, from the left, where there is one to be raised.
 fn raise_strip_from_left(mask: &[u32], strip: &mut [u32])
-    requires some { 0 < length strip.old }
-    requires mask { length mask.now ≡ length strip.old }
+    requires { (0 < length strip.old) × (length mask.now ≡ length strip.old) }
     ensures { IsRaisedFromLeft mask.now strip.old strip.new }
 {
     if !is_raised_from_left(mask, strip) {
@@ -95,8 +94,7 @@ pub fn raise_from_right(mask: &[u32], row: &mut [u32])
 
 // Raises each pixel of a strip but the last, from the right, where there is one to be raised.
 fn raise_strip_from_right(mask: &[u32], strip: &mut [u32])
-    requires some { 0 < length strip.old }
-    requires mask { length mask.now ≡ length strip.old }
+    requires { (0 < length strip.old) × (length mask.now ≡ length strip.old) }
     ensures { IsRaisedFromRight mask.now strip.old strip.new }
 {
     if !is_raised_from_right(mask, strip) {
@@ -118,8 +116,7 @@ fn run_from_right(mask: &[u32], row: &mut [u32])
 
 // Whether no pixel of a row raises the one to its right.
 fn is_raised_from_left(mask: &[u32], row: &[u32]) -> bool
-    requires some { 0 < length row.now }
-    requires mask { length mask.now ≡ length row.now }
+    requires { (0 < length row.now) × (length mask.now ≡ length row.now) }
     ensures { IsTrue result → IsRaisedFromLeft mask.now row.now row.now }
 {
     let last = row.len() - 1;
@@ -128,8 +125,7 @@ fn is_raised_from_left(mask: &[u32], row: &[u32]) -> bool
 
 // Whether no pixel of a row raises the one to its left.
 fn is_raised_from_right(mask: &[u32], row: &[u32]) -> bool
-    requires some { 0 < length row.now }
-    requires mask { length mask.now ≡ length row.now }
+    requires { (0 < length row.now) × (length mask.now ≡ length row.now) }
     ensures { IsTrue result → IsRaisedFromRight mask.now row.now row.now }
 {
     let last = row.len() - 1;

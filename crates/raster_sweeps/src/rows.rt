@@ -1,8 +1,8 @@
 //! What is asked of rows of pixels, as slices of equal length.
 
 ghost use Rattle.std.specs.Prelude.{◌≡◌, ◌<◌, ◌↔◌, length, IsTrue};
-ghost use Rattle.raster_sweeps.specs.RowPairs.{AreBeside, AreAside, IsClosedStraight, IsClosedTo, AreFullRows};
-ghost use Rattle.raster_sweeps.specs.RowPairs.{AreRows};
+ghost use Rattle.raster_sweeps.specs.RowPairs.{AreBeside, AreAside, AreClosedCrosswise, IsClosedStraight};
+ghost use Rattle.raster_sweeps.specs.RowPairs.{AreFullRows, AreRows, IsClosedTo};
 
 use grid_core::Conn;
 
@@ -49,9 +49,7 @@ pub fn are_closed_crosswise(
 ) -> bool
     requires rows { AreFullRows below.now limits.now row.now }
     requires below { length limits_below.now ≡ length row.now }
-    ensures along { IsTrue result → IsClosedTo AreAside row.now limits.now row.now }
-    ensures down { IsTrue result → IsClosedStraight row.now limits_below.now below.now }
-    ensures up { IsTrue result → IsClosedStraight below.now limits.now row.now }
+    ensures { IsTrue result → AreClosedCrosswise row.now limits.now below.now limits_below.now }
 {
     let last = row.len() - 1;
     let last_up = below[last].min(limits[last]);

@@ -1,13 +1,13 @@
 //! The raster and the anti-raster scan of a rectangle (Vincent, "Morphological Grayscale Reconstruction in Image
 //! Analysis", 1993).
 
-ghost use Rattle.std.specs.Prelude.{◌≡◌, ◌+◌, ◌<◌, ◌≤◌, ◌⊎◌, [], length, IsTrue};
+ghost use Rattle.std.specs.Prelude.{◌≡◌, [], length};
 ghost use Rattle.grid_core.specs.Neighbours.{apart};
 ghost use Rattle.grid_core.specs.Raster.{IsBelow};
 ghost use Rattle.grid_core.specs.Rects.{RectFits};
 ghost use Rattle.raster_sweeps.specs.Growth.{AllWait, AreInside, IsGrown, CanGrow, IsScannedInto};
 ghost use Rattle.raster_sweeps.specs.RowPairs.{CanGrowAcross, CanGrowRow};
-ghost use Rattle.raster_sweeps.specs.RowRaises.{AreCellsRaised, IsRowGrown};
+ghost use Rattle.raster_sweeps.specs.RowRaises.{AreApart, AreCellsRaised, IsRowGrown};
 
 use crate::open_pairs::queue_row;
 use crate::row_raises::{raise_by, raise_from_left, raise_from_right};
@@ -63,10 +63,7 @@ fn raise_row_by(mask: &Grid, image: &mut Grid, rect: Rect, from: u32, to: u32, c
 
 // Raises the row of cells that begins at `target` by the row that begins at `source`, above or below it.
 fn raise_cells_by(limits: &[u32], cells: &mut [u32], source: usize, target: usize, conn: Conn)
-    requires some { 0 < length limits.now }
-    requires source { source + length limits.now ≤ length cells.old }
-    requires target { target + length limits.now ≤ length cells.old }
-    requires touch { (source + length limits.now ≤ target) ⊎ (target + length limits.now ≤ source) }
+    requires { AreApart (length limits.now) source target (length cells.old) }
     ensures { AreCellsRaised conn limits.now source target cells.old cells.new }
 {
     let size = limits.len();

@@ -54,7 +54,6 @@ fn flood_level(
     level: u32,
 ) -> Result<(), Memory>
     requires positive { 0 < level }
-    requires below { IsBelow source.now.marker.now source.now.mask.now }
     requires before { IsFlooded source.now (level - 1) image.old }
     ensures { OnOk result (IsFlooded source.now level image.new) }
 {
@@ -73,8 +72,7 @@ fn seed_level(
     waiting: &mut Vec<Pixel>,
     level: u32,
 ) -> Result<(), Memory>
-    requires below { IsBelow source.now.marker.now source.now.mask.now }
-    requires begun { Floods source.now level 0 image.old waiting.old.items }
+    requires { Floods source.now level 0 image.old waiting.old.items }
     ensures { OnOk result (Floods source.now level (seeds_of source.now) image.new waiting.new.items) }
 {
     let width = source.mask.width();

@@ -10,7 +10,7 @@ use Rattle.core_rules.specs.declared.error.CoreError.{CoreError}
 use Rattle.core_rules.specs.declared.error.CoreError.TheVariants as core_errors
 use Rattle.core_rules.specs.Work.{Core, IsTile, work_at}
 use Rattle.core_rules.specs.Merge.{IsRefused, IsAcceptable}
-use Rattle.core_rules.specs.Sweeps.{IsReady}
+use Rattle.core_rules.specs.Sweeps.{IsReady, IsTaken}
 use Rattle.core_rules.specs.Events.{Event as CoreEvent, Answer, Happens, Merge, Take, GiveBack, Abandon, Hand}
 use Rattle.core_rules.specs.Events.{OfMerge, OfTake}
 use Rattle.core_rules.specs.Schedule.{IsAdded}
@@ -53,13 +53,21 @@ abbrev pub MovesCore : World → ℕ → CoreEvent → World → Type 0
 MovesCore before r event after =
     (answer : Answer) × (core : Core) × Happens (core_at before r) event answer core × (after ≡ with_core before r core)
 
+-- the world with one packet more, the frame of the delta
+abbrev pub with_frame : World → State → World
+with_frame world delta =
+    record world { packets = world.packets ++ frame_text Second world.conn world.print delta ∷ [] }
+
 -- a packet is sent: the frame of this piece of the replica's strokes
 abbrev pub IsSent : World → ℕ → ℕ → World → Type 0
 IsSent before r part after =
     (piece : State) × (slice_get (pieces_of max_bytes (core_at before r).state) part ≡ Some piece)
-    × (after ≡ record before {
-      packets = before.packets ++ frame_text Second before.conn before.print piece ∷ [];
-    })
+    × (after ≡ with_frame before piece)
+
+-- a tile of the core is taken; a job that this gives is swept, and its result comes behind the others
+abbrev pub IsSweptInto : Core → ℕ → Core → List Swept → List Swept → Type 0
+IsSweptInto before t after old new =
+    (job : Option Job) × (more : List Swept) × IsTaken before t job after × IsAdded job more × (new ≡ old ++ more)
 
 -- a tile of the replica is taken; a job that this gives is swept, and the result kept
 abbrev pub IsTakenAndSwept : World → ℕ → ℕ → World → Type 0

@@ -1,16 +1,17 @@
 //! One replica: a core, and what it took.
 
-ghost use Rattle.std.specs.Prelude.{◌≡◌, ◌<◌, ◌⊎◌, [], ◌∷◌, ◌++◌, List, Option, IfOk, IfErr, OnOk, OnErr};
+ghost use Rattle.std.specs.Prelude.{◌≡◌, ◌<◌, [], ◌∷◌, ◌++◌, IfOk, IfErr, OnOk, OnErr};
 ghost use Rattle.std.specs.Prelude.{vec_len, vec_capacity};
 ghost use Rattle.stroke_lattice.specs.Change.{Turnover};
 ghost use Rattle.stroke_lattice.specs.State.{IsJoinOf};
-ghost use Rattle.tile_generations.specs.Jobs.{Job as Task, Swept as Result, IsSwept};
+ghost use Rattle.tile_generations.specs.Jobs.{Swept as Result, IsSwept};
 ghost use Rattle.core_rules.specs.declared.answers.Back.{Back as Answer};
 ghost use Rattle.core_rules.specs.declared.error.CoreError.TheVariants as core_errors;
-ghost use Rattle.core_rules.specs.Merge.{IsMerged, IsRefused, IsAcceptable};
-ghost use Rattle.core_rules.specs.Sweeps.{IsReady, IsTaken, IsGivenBack, IsAbandoned};
+ghost use Rattle.core_rules.specs.Merge.{IsMerged};
+ghost use Rattle.core_rules.specs.Sweeps.{IsReady, IsGivenBack, IsAbandoned};
 ghost use Rattle.core_rules.specs.Hints.{IsHanded};
-ghost use Rattle.core_rules.specs.Schedule.{IsAdded};
+ghost use Rattle.reset_core.specs.Answers.{IsNotMerged};
+ghost use Rattle.replica_world.specs.Events.{IsSweptInto};
 ghost use Rattle.replica_world.specs.Opening.{fresh_replica};
 
 use core_rules::{CoreError, Handed};
@@ -80,11 +81,9 @@ impl Replica {
     //
     // Errors: C1 to C3 as the core says, else C4. The replica is then as it was.
     pub fn take_in(&mut self, alloc: Global, delta: &Delta) -> Result<(), CoreError>
-        ensures merged { OnOk result ((turnover : Turnover)
-            × IsMerged self.old.core delta.now turnover self.new.core) }
+        ensures merged { OnOk result ((turnover : Turnover) × IsMerged self.old.core delta.now turnover self.new.core) }
         ensures took { OnOk result (self.new.took ≡ self.old.took ++ delta.now ∷ []) }
-        ensures refused { IfErr result (λ e. IsRefused self.old.core delta.now e
-            ⊎ ((e ≡ core_errors.Memory) × IsAcceptable self.old.core delta.now)) }
+        ensures refused { IfErr result (IsNotMerged self.old.core delta.now) }
         ensures err { OnErr result (self.new ≡ self.old) }
     {
         join_of_a_longer_list();
@@ -111,9 +110,7 @@ impl Replica {
         results: &mut Vec<Swept>,
         tile: usize,
     ) -> Result<(), Memory>
-        ensures taken { OnOk result ((job : Option Task) × (more : List Result)
-            × IsTaken self.old.core tile job self.new.core × IsAdded job more
-            × (results.new.items ≡ results.old.items ++ more)) }
+        ensures taken { OnOk result (IsSweptInto self.old.core tile self.new.core results.old.items results.new.items) }
         ensures took { self.new.took ≡ self.old.took }
         ensures ready { OnErr result (IsReady self.old.core tile) }
         ensures err { OnErr result (self.new.core ≡ record self.old.core { serial = self.new.core.serial }) }
@@ -168,8 +165,7 @@ impl Replica {
 
 // Why a core does not take a delta, where there is no memory to keep it.
 fn why_not_taken(core: &mut Core, delta: &Delta) -> CoreError
-    ensures refused { IsRefused core.old delta.now result
-        ⊎ ((result ≡ core_errors.Memory) × IsAcceptable core.old delta.now) }
+    ensures refused { IsNotMerged core.old delta.now result }
     ensures same { core.new ≡ core.old }
 {
     match core.judge(delta) {

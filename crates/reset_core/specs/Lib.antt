@@ -23,6 +23,7 @@ pub use Rattle.core_rules.specs.Runs
 pub use Rattle.core_rules.specs.Schedule
 pub use Rattle.core_rules.specs.Counting
 pub mod Replica
+pub mod Answers
 pub mod Telling
 pub mod Settling
 pub mod Parts

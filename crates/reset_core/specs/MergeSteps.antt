@@ -4,9 +4,10 @@ use Rattle.grid_core.specs.Raster.{Raster}
 use Rattle.grid_core.specs.Tiles.{Tiles, count_of}
 use Rattle.stroke_lattice.specs.State.{State, StateFits, AreCompatible, IsJoin}
 use Rattle.stroke_lattice.specs.Change.{Turnover, IsChange}
-use Rattle.marker_tiles.specs.Kept.{Kept, IsMarkerOf}
+use Rattle.marker_tiles.specs.Kept.{Kept, HasGrown, IsMarkerOf}
 use Rattle.tile_generations.specs.Generations.{max_generation}
 use Rattle.core_rules.specs.Work.{Core, tiling, work_at}
+use Rattle.border_queues.specs.OpenEdges.{IsOnTiling}
 use Rattle.border_queues.specs.TileWork.{TileWork, work_of}
 use Rattle.tile_resets.specs.Marks.{AreHits}
 use Rattle.tile_work.specs.TileSet.{Has}
@@ -51,6 +52,23 @@ pub record IsImageRenewed (tiles : Tiles) (marks : List Bool) (turnover : Turnov
   pub between : List TileWork
   pub reset : AreMarkedReset tiles marks marker old middle work between
   pub raised : IsRaisedByTags tiles turnover.born state marker middle new between after
+
+-- the strokes fit the image and are those after the change, the marker is that of the strokes before, and image, marks
+-- and work are of its tiles
+pub record CanRenew (markers : Kept) (marks : List Bool) (image : Raster) (work : List TileWork) (state : State)
+    (change : Turnover) : Type 0 where
+  pub fits : StateFits markers.mask.width markers.mask.height state
+  pub known : HasGrown markers.mask markers.marker state change
+  pub on_tiling : IsOnTiling markers.tiling image
+  pub unspent : AreUnspent markers.tiling marks work
+
+-- marker, image and work are those of the strokes, and no mark is left
+pub record AreRenewed (old : Kept) (marks : List Bool) (image : Raster) (work : List TileWork) (state : State)
+    (change : Turnover) (new : Kept) (marks_after : List Bool) (image_after : Raster) (work_after : List TileWork)
+    : Type 0 where
+  pub marker : IsMarkerRenewed old state new
+  pub marks_are : marks_after ≡ replicate (length marks) false
+  pub image_is : IsImageRenewed old.tiling marks change state new.marker image image_after work work_after
 
 -- the parts that are stored before and after: the hits of the delta were marked and none of them had spent its
 -- generations, the strokes were joined, marker and image were renewed, and the marks were cleared

@@ -16,6 +16,10 @@ pub record Kept : Type 0 where
   pub accepted : List ℕ
   pub refused : List (ℕ × CoreError)
 
+-- what is kept at the start
+abbrev pub nothing_kept : Kept
+nothing_kept = record { results = []; abandons = 0; accepted = []; refused = [] }
+
 abbrev pub kept_of : Tally → Kept
 kept_of tally = record {
   results = tally.results.items;
@@ -33,15 +37,17 @@ pub record HasRoom (tally : Tally) (n : ℕ) : Type 0 where
 abbrev pub KeepsRoom : ℕ → Tally → Tally → Type 0
 KeepsRoom places before after = (n : ℕ) → HasRoom before (places + n) → HasRoom after n
 
+-- so they do, and at most one job more is abandoned
+pub record KeepsPlaces (places : ℕ) (before after : Tally) : Type 0 where
+  pub few : after.abandons ≤ before.abandons + 1
+  pub room : KeepsRoom places before after
+
 -- so they do, and no job is abandoned
 pub record KeepsCount (places : ℕ) (before after : Tally) : Type 0 where
   pub abandons : after.abandons ≡ before.abandons
   pub room : KeepsRoom places before after
 
--- what is kept, with one edit more that is refused, or with one result more
-abbrev pub with_refused : Kept → ℕ → CoreError → Kept
-with_refused kept number why = record kept { refused = kept.refused ++ (number, why) ∷ [] }
-
+-- what is kept, with one result more
 abbrev pub with_result : Kept → Swept → Kept
 with_result kept swept = record kept { results = kept.results ++ swept ∷ [] }
 

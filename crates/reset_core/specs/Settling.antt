@@ -3,7 +3,7 @@ use Rattle.std.specs.Prelude.{◌≡◌, ℕ, ◌+◌, ◌<◌, ◌≤◌, ◌�
 use Rattle.std.specs.List.{sum_by}
 use Rattle.tile_generations.specs.declared.ticket.Ticket.{Ticket}
 use Rattle.core_rules.specs.declared.answers.Handed.{Handed}
-use Rattle.core_rules.specs.Work.{Core, tiling}
+use Rattle.core_rules.specs.Work.{Core, IsQuiet, tiling}
 use Rattle.border_queues.specs.TileWork.{TileWork, IsLeast}
 use Rattle.core_rules.specs.Sweeps.{IsAbandoned}
 use Rattle.core_rules.specs.Hints.{IsHanded}
@@ -70,6 +70,11 @@ pub record IsOneWorkedOff (before after : Core) : Type 0 where
 -- events that take so many jobs bring the work to the second core
 abbrev pub IsWorkedOffBy : Core → ℕ → Core → Type 0
 IsWorkedOffBy before jobs after = (log : List Entry) × IsWorkedOff before log after × (jobs_of log ≡ jobs)
+
+-- so they do, and no work is left then
+pub record IsAllWorkedOff (before : Core) (jobs : ℕ) (after : Core) : Type 0 where
+  pub works : IsWorkedOffBy before jobs after
+  pub quiet : IsQuiet after
 
 -- so many tiles are swept, and no hint waits
 pub record AreWorkedOff (before now : Core) (jobs : ℕ) : Type 0 where

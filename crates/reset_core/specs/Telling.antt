@@ -73,6 +73,11 @@ pub record AreOfTiles (tiles : Tiles) (image : Raster) (work : List TileWork) : 
   pub filled : IsFilled image
   pub count : count_of tiles ≡ length work
 
+-- so it is, and this is one of the tiles
+pub record HaveWorkAt (tiles : Tiles) (image : Raster) (work : List TileWork) (t : ℕ) : Type 0 where
+  pub parts : AreOfTiles tiles image work
+  pub within : t < length work
+
 -- the pixel of each of the hints lies in the image
 abbrev pub AreToInside : Tiles → List Hint → Type 0
 AreToInside tiles hints = (hint : Hint) → Contains hints hint → IsToInside tiles hint

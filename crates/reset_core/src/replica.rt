@@ -1,20 +1,21 @@
 //! The core.
 
-ghost use Rattle.std.specs.Prelude.{◌≡◌, ◌<◌, ◌≤◌, ◌↔◌, ◌⊎◌, ◌≢◌, length, None, IfOk, IfErr};
-ghost use Rattle.std.specs.Prelude.{IsErr, IsErrOf, IsTrue};
-ghost use Rattle.grid_core.specs.Raster.{IsFilled, IsInside, IsSized, IsBelow, value_at};
+ghost use Rattle.std.specs.Prelude.{◌≡◌, ◌<◌, ◌≤◌, ◌↔◌, ◌≢◌, false, length, replicate, None, IfOk, IfErr, IsTrue};
+ghost use Rattle.grid_core.specs.Raster.{IsFilled, IsInside, IsSized, value_at};
 ghost use Rattle.grid_core.specs.Tiles.{IsTiled, IsTileSide, count_of};
 ghost use Rattle.marker_tiles.specs.Kept.{IsMarkerOf};
 ghost use Rattle.tile_generations.specs.Generations.{max_generation};
 ghost use Rattle.core_rules.specs.declared.error.CoreError.TheVariants as errors;
 ghost use Rattle.core_rules.specs.Work.{IsTile, IsQuiet, tiling, work_at};
-ghost use Rattle.core_rules.specs.Invariant.{IsSound, HasLawfulImage, HasReconstruction};
+ghost use Rattle.core_rules.specs.Invariant.{IsSound};
 ghost use Rattle.core_rules.specs.Opening.{opened};
+ghost use Rattle.border_queues.specs.TileWork.{fresh};
+ghost use Rattle.reset_core.specs.Answers.{IsImageOf, IsNotOpened, IsOpened};
 ghost use Rattle.reset_core.specs.Replica.{core_of, IsStored, at_first, begun};
 ghost use Rattle.core_rules.specs.Runs.{ticket_out};
 
 use core_rules::CoreError;
-use grid_core::{Conn, Grid, Pixel, TILE_SIDE, Tiling, is_tile_side};
+use grid_core::{Conn, Grid, Memory, Pixel, TILE_SIDE, Tiling, is_tile_side};
 use marker_tiles::Markers;
 use pgm_codec::Image;
 use std::alloc::Global;
@@ -108,9 +109,8 @@ impl Core {
         first: u64,
     ) -> Result<Core, CoreError>
         requires { first ≤ max_generation }
-        ensures value { IfOk result (λ core. core ≡ opened mask.now.raster conn side first) }
-        ensures side { IsErrOf result errors.BadSide ↔ (IsTileSide side → ⊥) }
-        ensures others { IfErr result (λ e. (e ≡ errors.BadSide) ⊎ (e ≡ errors.Memory)) }
+        ensures opened { IfOk result (IsOpened mask.now.raster conn side first) }
+        ensures why { IfErr result (IsNotOpened side) }
     {
         if !is_tile_side(side) {
             return Err(CoreError::BadSide);
@@ -133,11 +133,8 @@ impl Core {
         first: u64,
     ) -> Result<Core, RefusedMask>
         requires { first ≤ max_generation }
-        ensures value { IfOk result (λ core. core ≡ opened mask conn side first) }
-        ensures side { (IsTileSide side → ⊥) → IsErr result }
-        ensures why { IfErr result (λ refused. ((refused.why ≡ errors.BadSide) × (IsTileSide side → ⊥))
-            ⊎ ((refused.why ≡ errors.Memory) × IsTileSide side)) }
-        ensures returned { IfErr result (λ refused. refused.mask ≡ mask) }
+        ensures opened { IfOk result (IsOpened mask conn side first) }
+        ensures refused { IfErr result (λ refused. IsNotOpened side refused.why × (refused.mask ≡ mask)) }
     {
         if !is_tile_side(side) {
             return Err(RefusedMask {
@@ -242,11 +239,7 @@ impl Core {
     /// The image. At every moment it lies between the marker of the strokes and the reconstruction of the mask from it,
     /// and where no work is left it is that reconstruction.
     pub fn image(&self) -> &Grid
-        ensures value { result.now ≡ self.now.image }
-        ensures sized { IsSized self.now.image }
-        ensures below { IsBelow self.now.image self.now.mask }
-        ensures lawful { HasLawfulImage self.now }
-        ensures quiet { IsQuiet self.now → HasReconstruction self.now }
+        ensures { IsImageOf self.now result.now }
     {
         &self.image
     }
@@ -329,12 +322,15 @@ impl Beginning {
         ensures filled { IsFilled mask.now }
     {
         let cells = vec![in alloc; 0; mask.cells().len()]?;
+        let state = State::empty(alloc)?;
+        let (work, marks, queue) = without_work(alloc, count, first)?;
+        let image = Grid::from_cells(mask.width(), mask.height(), cells);
         Ok(Beginning {
-            state: State::empty(alloc)?,
-            image: Grid::from_cells(mask.width(), mask.height(), cells),
-            work: WorkTable::new(alloc, count, first)?,
-            marks: TileSet::empty(alloc, count)?,
-            queue: TileSet::empty(alloc, count)?,
+            state,
+            image,
+            work,
+            marks,
+            queue,
         })
     }
 
@@ -361,6 +357,21 @@ impl Beginning {
             queue,
         }
     }
+}
+
+// So many tiles at which no work is left, and two sets that hold none of them.
+fn without_work(
+    alloc: Global,
+    count: usize,
+    first: u64,
+) -> Result<(WorkTable, TileSet, TileSet), Memory>
+    requires { first ≤ max_generation }
+    ensures { IfOk result (λ w. w ≡ (replicate count (fresh first), replicate count false, replicate count false)) }
+{
+    let work = WorkTable::new(alloc, count, first)?;
+    let marks = TileSet::empty(alloc, count)?;
+    let queue = TileSet::empty(alloc, count)?;
+    Ok((work, marks, queue))
 }
 
 // The tiles of this side of a mask.

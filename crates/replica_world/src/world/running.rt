@@ -1,7 +1,6 @@
 //! Events, one or a list of them.
 
-ghost use Rattle.std.specs.Prelude.{◌≡◌, ◌≢◌, ◌+◌, ◌<◌, ◌≤◌, [], ◌∷◌, ◌++◌, IfOk, IfErr, OnOk, OnErr, vec_len};
-ghost use Rattle.std.specs.Prelude.{vec_capacity};
+ghost use Rattle.std.specs.Prelude.{◌≡◌, ◌+◌, ◌<◌, ◌≤◌, [], IfOk, IfErr, OnOk, OnErr, vec_len, vec_capacity};
 ghost use Rattle.core_rules.specs.declared.error.CoreError.TheVariants as core_errors;
 ghost use Rattle.replica_world.specs.declared.error.WorldError.TheVariants as errors;
 ghost use Rattle.replica_world.specs.Events.{IsDone, IsRefusal, IsCutOff};
@@ -83,17 +82,19 @@ impl World {
         event: &Event,
     ) -> Result<(), WorldError>
         requires { vec_len refusals.old < vec_capacity refusals.old }
-        ensures onward { OnOk result (IsOnward event.now number self.old refusals.old.items self.new
-            refusals.new.items) }
+        ensures next { OnOk result (IsOnward event.now number self.old refusals.old.items self.new refusals.new.items) }
         ensures one_more { vec_len refusals.new ≤ vec_len refusals.old + 1 }
         ensures room { vec_capacity refusals.new ≡ vec_capacity refusals.old }
-        ensures memory { IfErr result (λ e. e ≡ errors.Core core_errors.Memory) }
-        ensures err { OnErr result (IsCutOff self.old event.now self.new) }
+        ensures err { IfErr result (λ e. (e ≡ errors.Core core_errors.Memory) × IsCutOff self.old event.now self.new) }
     {
-        match self.step(alloc, event) {
-            Ok(()) => Ok(()),
-            Err(why) => list(refusals, number, why),
+        let Err(why) = self.step(alloc, event) else {
+            return Ok(());
+        };
+        if why.is_memory() {
+            return Err(why);
         }
+        refusals.push_reserved((number, why));
+        Ok(())
     }
 }
 
@@ -106,26 +107,4 @@ fn places(alloc: Global, count: usize) -> Result<Vec<(usize, WorldError)>, Memor
     ensures some { OnErr result (1 ≤ count) }
 {
     Ok(Vec::with_capacity(alloc, count)?)
-}
-
-// Lists that the event of this number is refused, in its place.
-//
-// Errors: the reason, where memory ran out.
-fn list(
-    refusals: &mut Vec<(usize, WorldError)>,
-    number: usize,
-    why: WorldError,
-) -> Result<(), WorldError>
-    requires { vec_len refusals.old < vec_capacity refusals.old }
-    ensures listed { OnOk result (refusals.new.items ≡ refusals.old.items ++ (number, why) ∷ []) }
-    ensures reason { OnOk result (why ≢ errors.Core core_errors.Memory) }
-    ensures one_more { vec_len refusals.new ≤ vec_len refusals.old + 1 }
-    ensures room { vec_capacity refusals.new ≡ vec_capacity refusals.old }
-    ensures memory { IfErr result (λ e. (e ≡ errors.Core core_errors.Memory) × (why ≡ e)) }
-{
-    if why.is_memory() {
-        return Err(why);
-    }
-    refusals.push_reserved((number, why));
-    Ok(())
 }

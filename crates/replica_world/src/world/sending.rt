@@ -1,11 +1,10 @@
 //! Pieces of replicas that are sent.
 
-ghost use Rattle.std.specs.Prelude.{◌≡◌, ◌≤◌, [], ◌∷◌, ◌++◌, IfErr, OnOk, OnErr};
+ghost use Rattle.std.specs.Prelude.{◌≡◌, ◌≤◌, IfErr, OnOk, OnErr};
 ghost use Rattle.stroke_lattice.specs.Pieces.{frame_length};
-ghost use Rattle.spd_codec.specs.declared.version.Version.TheVariants.{Second};
-ghost use Rattle.spd_codec.specs.Spelling.{frame_text, max_bytes};
+ghost use Rattle.spd_codec.specs.Spelling.{max_bytes};
 ghost use Rattle.replica_world.specs.declared.event.Event.TheVariants as events;
-ghost use Rattle.replica_world.specs.Events.{IsDone, IsRefusal};
+ghost use Rattle.replica_world.specs.Events.{IsDone, IsRefusal, with_frame};
 
 use super::World;
 use crate::error::WorldError;
@@ -44,9 +43,7 @@ impl World {
     // Errors: out of memory.
     fn keep_frame(&mut self, alloc: Global, delta: &Delta) -> Result<(), Memory>
         requires { frame_length delta.now ≤ max_bytes }
-        ensures kept { OnOk result (self.new ≡ record self.old {
-          packets = self.old.packets ++ frame_text Second self.old.conn self.old.print delta.now ∷ [];
-        }) }
+        ensures kept { OnOk result (self.new ≡ with_frame self.old delta.now) }
         ensures err { OnErr result (self.new ≡ self.old) }
     {
         self.packets.reserve(1)?;

@@ -3,12 +3,13 @@
 ghost use Rattle.std.specs.Prelude.{◌≡◌, ◌<◌, ◌≤◌, ◌↔◌, [], ◌∷◌, Contains, IsTrue, true, length};
 ghost use Rattle.std.specs.Prelude.{slice_index_or, slice_set};
 ghost use Rattle.std.specs.List.{flat_map};
-ghost use Rattle.grid_core.specs.Raster.{IsBelow, value_at};
-ghost use Rattle.grid_core.specs.Rects.{IsInRect, RectFits};
+ghost use Rattle.grid_core.specs.Raster.{value_at};
+ghost use Rattle.grid_core.specs.Rects.{IsInRect};
 ghost use Rattle.grid_core.specs.Tiles.{tile_of};
 ghost use Rattle.border_queues.specs.OpenEdges.{IsOnTiling, sender_by, room_for_edges, open_edges};
 ghost use Rattle.border_queues.specs.Waiting.{places};
 ghost use Rattle.raster_sweeps.specs.Borders.{OpenPairsBeginOnBorder};
+ghost use Rattle.raster_sweeps.specs.Growth.{CanGrow};
 ghost use Rattle.raster_sweeps.specs.Regrowth.{IsRegrownIn};
 ghost use Rattle.core_rules.specs.Work.{tiling};
 ghost use Rattle.border_queues.specs.TileWork.{idle};
@@ -16,7 +17,7 @@ ghost use Rattle.core_rules.specs.Events.{Take};
 ghost use Rattle.core_rules.specs.Runs.{IsNext};
 ghost use Rattle.reset_core.specs.Closing.{CanSweepInPlace};
 ghost use Rattle.reset_core.specs.Settling.{IsOneWorkedOff};
-ghost use Rattle.reset_core.specs.Telling.{both, hints_in, AreOfTiles, AreToInside, AreTold, IsHandOver};
+ghost use Rattle.reset_core.specs.Telling.{both, hints_in, AreOfTiles, AreToInside, AreTold, HaveWorkAt, IsHandOver};
 ghost use Rattle.tile_work.specs.WorkTable.{IsToInside};
 
 use crate::replica::Core;
@@ -41,8 +42,7 @@ impl Core {
     )
         requires next { IsNext self.old (Take tile) }
         requires ready { CanSweepInPlace self.old (places told.old) swept.old }
-        ensures worked { IsOneWorkedOff self.old self.new }
-        ensures tiling { tiling self.new ≡ tiling self.old }
+        ensures worked { IsOneWorkedOff self.old self.new × (tiling self.new ≡ tiling self.old) }
         ensures ready { CanSweepInPlace self.new (places told.new) swept.new }
         ensures swept { swept.new ≡ slice_set swept.old tile true }
     {
@@ -75,8 +75,7 @@ impl Core {
 
 // Grows the image in the rectangle: from the border alone where nothing else is left to grow.
 fn sweep(room: &mut Room, mask: &Grid, image: &mut Grid, rect: Rect, conn: Conn, from_border: bool)
-    requires below { IsBelow image.old mask.now }
-    requires fits { RectFits mask.now.width mask.now.height rect }
+    requires grow { CanGrow rect mask.now image.old }
     requires border { IsTrue from_border → OpenPairsBeginOnBorder conn rect mask.now image.old }
     ensures { IsRegrownIn conn rect mask.now image.old image.new }
 {
@@ -97,9 +96,8 @@ fn tell(
     conn: Conn,
     told: &mut Inbox,
 )
-    requires parts { AreOfTiles tiling.now image.old work.old }
+    requires tile { HaveWorkAt tiling.now image.old work.old tile }
     requires mask { IsOnTiling tiling.now mask.now }
-    requires tile { tile < length work.old }
     requires enough { room_for_edges tiling.now ≤ places told.old }
     ensures hints { AreTold tiling.now (open_edges (sender_by tiling.now conn (value_at mask.now) (value_at image.old)
         tile (slice_index_or work.old tile idle).generation)) (both image.old work.old) (both image.new work.new) }
@@ -127,8 +125,7 @@ fn hand_over(
     rect: Rect,
     hint: Hint,
 )
-    requires parts { AreOfTiles tiling.now image.old work.old }
-    requires tile { tile < length work.old }
+    requires tile { HaveWorkAt tiling.now image.old work.old tile }
     requires rect { IsInRect rect hint.to_pixel ↔ (tile_of tiling.now hint.to_pixel ≡ tile) }
     requires inside { IsToInside tiling.now hint }
     ensures { IsHandOver tiling.now (hints_in tiling.now (hint ∷ []) tile) image.old work.old image.new work.new }
@@ -147,8 +144,7 @@ fn hand_over_in(
     tile: usize,
     hints: &[Hint],
 )
-    requires parts { AreOfTiles tiling.now image.old work.old }
-    requires tile { tile < length work.old }
+    requires tile { HaveWorkAt tiling.now image.old work.old tile }
     requires inside { AreToInside tiling.now hints.now }
     ensures { IsHandOver tiling.now (hints_in tiling.now hints.now tile) image.old work.old image.new work.new }
 {

@@ -1,13 +1,11 @@
 //! Deltas that are merged.
 
-ghost use Rattle.std.specs.Prelude.{◌≡◌, ◌⊎◌, false, length, replicate, IfOk, IfErr, IsErrOf, OnOk, OnErr};
-ghost use Rattle.marker_tiles.specs.Kept.{HasGrown};
-ghost use Rattle.border_queues.specs.OpenEdges.{IsOnTiling};
-ghost use Rattle.reset_core.specs.MergeSteps.{AreUnspent, IsMarkerRenewed, IsImageRenewed};
+ghost use Rattle.std.specs.Prelude.{◌≡◌, IfOk, IfErr, IsErrOf, OnOk, OnErr};
+ghost use Rattle.reset_core.specs.Answers.{IsNotMerged};
+ghost use Rattle.reset_core.specs.MergeSteps.{CanRenew, AreRenewed};
 ghost use Rattle.core_rules.specs.declared.error.CoreError.{CoreError};
-ghost use Rattle.core_rules.specs.declared.error.CoreError.TheVariants as errors;
 ghost use Rattle.stroke_lattice.specs.State.{StateFits, AreCompatible};
-ghost use Rattle.core_rules.specs.Merge.{IsMerged, IsRefused, IsAcceptable};
+ghost use Rattle.core_rules.specs.Merge.{IsMerged, IsRefused};
 
 use super::Core;
 use core_rules::CoreError;
@@ -30,8 +28,7 @@ impl Core {
     /// as it was.
     pub fn merge(&mut self, alloc: Global, delta: &Delta) -> Result<Change, CoreError>
         ensures merged { IfOk result (λ change. IsMerged self.old delta.now change self.new) }
-        ensures refused { IfErr result (λ e. IsRefused self.old delta.now e
-            ⊎ ((e ≡ errors.Memory) × IsAcceptable self.old delta.now)) }
+        ensures refused { IfErr result (IsNotMerged self.old delta.now) }
         ensures exactly { (e : CoreError) → IsRefused self.old delta.now e → IsErrOf result e }
         ensures err { OnErr result (self.new ≡ self.old) }
     {
@@ -98,14 +95,9 @@ fn renew(
     state: &State,
     change: &Change,
 )
-    requires fits { StateFits markers.old.mask.width markers.old.mask.height state.now }
-    requires known { HasGrown markers.old.mask markers.old.marker state.now change.now }
-    requires image { IsOnTiling markers.old.tiling image.old }
-    requires marks { AreUnspent markers.old.tiling marks.old work.old }
-    ensures marker { IsMarkerRenewed markers.old state.now markers.new }
-    ensures marks { marks.new ≡ replicate (length marks.old) false }
-    ensures image { IsImageRenewed markers.old.tiling marks.old change.now state.now markers.new.marker
-        image.old image.new work.old work.new }
+    requires { CanRenew markers.old marks.old image.old work.old state.now change.now }
+    ensures { AreRenewed markers.old marks.old image.old work.old state.now change.now markers.new marks.new image.new
+        work.new }
 {
     let tiling = markers.tiling();
     markers.apply(state, change);

@@ -1,15 +1,13 @@
 //! Schedules: lists of steps, of which each takes, gives back, abandons, hands over or edits.
 
-ghost use Rattle.std.specs.Prelude.{◌≡◌, ◌≢◌, ℕ, ◌+◌, ◌<◌, ◌≤◌, [], ◌∷◌, length, IfOk, OnOk, OnErr};
+ghost use Rattle.std.specs.Prelude.{◌≡◌, ℕ, ◌<◌, ◌≤◌, [], ◌∷◌, IfOk, OnOk, OnErr};
 ghost use Rattle.tile_generations.specs.Jobs.{Swept as Result, IsSwept};
-ghost use Rattle.core_rules.specs.declared.error.CoreError.TheVariants as errors;
 ghost use Rattle.core_rules.specs.declared.step.Step.TheVariants as steps;
-ghost use Rattle.core_rules.specs.Merge.{IsAcceptable};
-ghost use Rattle.core_rules.specs.Sweeps.{IsReady};
-ghost use Rattle.core_rules.specs.Schedule.{Progress, started, AreSteps, IsStopped, IsCutOff, edits_of, ran_of};
+ghost use Rattle.core_rules.specs.Schedule.{IsStopped, IsCutOff, edits_of};
 ghost use Rattle.core_rules.specs.Counting.{IsWithinWork};
-ghost use Rattle.reset_core.specs.Scheduling.{kept_of, account_of, with_refused, with_result};
-ghost use Rattle.reset_core.specs.Scheduling.{HasRoom, KeepsRoom, KeepsCount, StepLeads};
+ghost use Rattle.reset_core.specs.Answers.{HaveRun};
+ghost use Rattle.reset_core.specs.Scheduling.{nothing_kept, kept_of, account_of, with_result};
+ghost use Rattle.reset_core.specs.Scheduling.{HasRoom, KeepsPlaces, KeepsCount, StepLeads};
 
 use super::Core;
 use core_rules::laws::schedule_is_within_work;
@@ -85,10 +83,8 @@ impl Core {
     /// edit whose delta would else be taken, the take of a tile that can be taken, or the return of a result that is
     /// there. The core is then as after the steps before, but a take may have spent a serial.
     pub fn run_schedule(&mut self, alloc: Global, steps: &[Step]) -> Result<Ran, Memory>
-        ensures ran { IfOk result (λ ran. (end : Progress) × AreSteps steps.now (started self.old) end
-            × (ran ≡ ran_of end) × (self.new ≡ end.core)) }
-        ensures bound { IfOk result (λ ran. ran.accepted ≡ []
-            → IsWithinWork self.old self.new ran.jobs ran.abandons) }
+        ensures ran { IfOk result (λ ran. HaveRun self.old steps.now ran self.new) }
+        ensures bound { IfOk result (λ ran. ran.accepted ≡ [] → IsWithinWork self.old self.new ran.jobs ran.abandons) }
         ensures stopped { OnErr result (IsStopped self.old steps.now self.new) }
     {
         self.soundness();
@@ -113,8 +109,7 @@ impl Core {
         requires few { tally.old.abandons < u64.MAX }
         requires room { HasRoom tally.old (edits_of (step.now ∷ [])) }
         ensures step { OnOk result (StepLeads step.now number self.old tally.old self.new tally.new) }
-        ensures few { tally.new.abandons ≤ tally.old.abandons + 1 }
-        ensures room { KeepsRoom (edits_of (step.now ∷ [])) tally.old tally.new }
+        ensures keeps { KeepsPlaces (edits_of (step.now ∷ [])) tally.old tally.new }
         ensures err { OnErr result (IsCutOff self.old tally.old.results.items step.now self.new) }
     {
         match step {
@@ -145,15 +140,20 @@ impl Core {
         requires { HasRoom tally.old 1 }
         ensures step { OnOk result (StepLeads (steps.Edit delta.now) number self.old tally.old self.new tally.new) }
         ensures keeps { KeepsCount 1 tally.old tally.new }
-        ensures memory { OnErr result (IsAcceptable self.old delta.now) }
-        ensures err { OnErr result (self.new ≡ self.old) }
+        ensures err { OnErr result (IsCutOff self.old tally.old.results.items (steps.Edit delta.now) self.new) }
     {
         match self.merge(alloc, delta) {
             Ok(_change) => {
                 tally.accepted.push_reserved(number);
                 Ok(())
             }
-            Err(why) => tally.refuse(number, why),
+            Err(why) => match why {
+                CoreError::Memory => Err(Memory),
+                _ => {
+                    tally.refused.push_reserved((number, why));
+                    Ok(())
+                }
+            },
         }
     }
 
@@ -168,8 +168,7 @@ impl Core {
     ) -> Result<(), Memory>
         ensures step { OnOk result ((n : ℕ) → StepLeads (steps.Take tile) n self.old tally.old self.new tally.new) }
         ensures keeps { KeepsCount 0 tally.old tally.new }
-        ensures memory { OnErr result (IsReady self.old tile) }
-        ensures err { OnErr result (self.new ≡ record self.old { serial = self.new.serial }) }
+        ensures err { OnErr result (IsCutOff self.old tally.old.results.items (steps.Take tile) self.new) }
     {
         let Some(job) = self.take(alloc, tile)? else {
             return Ok(());
@@ -189,8 +188,7 @@ impl Core {
     // Errors: out of memory, where the core is as it was.
     fn give_back_copy(&mut self, alloc: Global, tally: &Tally, place: usize) -> Result<(), Memory>
         ensures step { OnOk result ((n : ℕ) → StepLeads (steps.Return place) n self.old tally.now self.new tally.now) }
-        ensures memory { OnErr result (place < length tally.now.results.items) }
-        ensures err { OnErr result (self.new ≡ self.old) }
+        ensures err { OnErr result (IsCutOff self.old tally.now.results.items (steps.Return place) self.new) }
     {
         let Some(swept) = tally.results.get(place) else {
             return Ok(());
@@ -207,8 +205,7 @@ impl Core {
     fn abandon_job_of(&mut self, tally: &mut Tally, place: usize)
         requires { tally.old.abandons < u64.MAX }
         ensures step { (n : ℕ) → StepLeads (steps.Abandon place) n self.old tally.old self.new tally.new }
-        ensures few { tally.new.abandons ≤ tally.old.abandons + 1 }
-        ensures room { KeepsRoom 0 tally.old tally.new }
+        ensures keeps { KeepsPlaces 0 tally.old tally.new }
     {
         let Some(swept) = tally.results.get(place) else {
             return;
@@ -234,9 +231,7 @@ impl Tally {
     //
     // Errors: out of memory, where there are some.
     fn new(alloc: Global, edits: usize) -> Result<Tally, Memory>
-        ensures empty { IfOk result (λ tally.
-            kept_of tally ≡ record { results = []; abandons = 0; accepted = []; refused = [] }) }
-        ensures room { IfOk result (λ tally. HasRoom tally edits) }
+        ensures empty { IfOk result (λ tally. (kept_of tally ≡ nothing_kept) × HasRoom tally edits) }
         ensures some { OnErr result (1 ≤ edits) }
     {
         Ok(Tally {
@@ -245,25 +240,6 @@ impl Tally {
             accepted: Vec::with_capacity(alloc, edits)?,
             refused: Vec::with_capacity(alloc, edits)?,
         })
-    }
-
-    // Lists that the edit of this number is refused, in its place.
-    //
-    // Errors: out of memory, as the reason.
-    fn refuse(&mut self, number: usize, why: CoreError) -> Result<(), Memory>
-        requires { HasRoom self.old 1 }
-        ensures listed { OnOk result (kept_of self.new ≡ with_refused (kept_of self.old) number why) }
-        ensures reason { OnOk result (why ≢ errors.Memory) }
-        ensures memory { OnErr result (why ≡ errors.Memory) }
-        ensures keeps { KeepsCount 1 self.old self.new }
-    {
-        match why {
-            CoreError::Memory => Err(Memory),
-            _ => {
-                self.refused.push_reserved((number, why));
-                Ok(())
-            }
-        }
     }
 
     // Sweeps the job, and keeps the result as the next one.

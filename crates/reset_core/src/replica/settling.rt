@@ -1,13 +1,12 @@
 //! Settling: working until nothing is left to do.
 
-ghost use Rattle.std.specs.Prelude.{◌≡◌, ◌<◌, ◌≤◌, ℕ, List, length, IfOk, OnErr, OnOk};
+ghost use Rattle.std.specs.Prelude.{◌≡◌, ◌≤◌, ℕ, List, length, IfOk, OnErr};
 ghost use Rattle.border_queues.specs.Waiting.{places};
 ghost use Rattle.core_rules.specs.Work.{IsQuiet};
-ghost use Rattle.core_rules.specs.Runs.{Entry, IsRun, IsSettled, IsCutShort, NoneOut, HasHints, IsDirty};
-ghost use Rattle.core_rules.specs.Runs.{jobs_of, abandons_of, abandoned, tickets_out};
-ghost use Rattle.core_rules.specs.Counting.{IsWithinWork, Owes, tiles_out};
+ghost use Rattle.core_rules.specs.Runs.{Entry, IsRun, IsCutShort, NoneOut, HasHints, IsDirty, abandoned, tickets_out};
+ghost use Rattle.reset_core.specs.Answers.{IsSettledBy};
 ghost use Rattle.reset_core.specs.Closing.{CanSweepInPlace};
-ghost use Rattle.reset_core.specs.Settling.{AreHanded, IsFirstAbandoned, IsFirstHanded, IsWorkedOffBy, HasOnlySweeps};
+ghost use Rattle.reset_core.specs.Settling.{AreHanded, IsFirstAbandoned, IsFirstHanded, IsAllWorkedOff, HasOnlySweeps};
 
 use super::Core;
 use border_queues::{Inbox, room_for_edges};
@@ -38,11 +37,7 @@ impl Core {
     /// Errors: out of memory, where a tile has still to be swept. The core is then as the first of these steps have
     /// left it, and no job is out. A core that is quiet takes no memory.
     pub fn settle(&mut self, alloc: Global) -> Result<Count, Memory>
-        ensures settled { IfOk result (λ count. (log : List Entry) × IsSettled self.old log self.new
-            × (count.jobs ≡ jobs_of log) × (count.abandons ≡ abandons_of log)) }
-        ensures bound { IfOk result (λ count. IsWithinWork self.old self.new count.jobs count.abandons) }
-        ensures owes_nothing { IfOk result (λ count. Owes self.new 0) }
-        ensures abandons { IfOk result (λ count. count.abandons ≡ tiles_out self.old) }
+        ensures settled { IfOk result (λ count. IsSettledBy self.old count self.new) }
         ensures cut_short { OnErr result ((log : List Entry) × IsCutShort self.old log self.new) }
         ensures some_work { OnErr result (IsQuiet self.old → ⊥) }
     {
@@ -111,8 +106,7 @@ impl Core {
     // Errors: out of memory, where a tile is dirty, and the core is as it was.
     fn sweep_all(&mut self, alloc: Global) -> Result<u64, Memory>
         requires { HasOnlySweeps self.old }
-        ensures works { IfOk result (λ jobs. IsWorkedOffBy self.old jobs self.new) }
-        ensures quiet { OnOk result (IsQuiet self.new) }
+        ensures works { IfOk result (λ jobs. IsAllWorkedOff self.old jobs self.new) }
         ensures dirty { OnErr result ((t : ℕ) × IsDirty self.old t) }
         ensures err { OnErr result (self.new ≡ self.old) }
     {
@@ -132,8 +126,7 @@ impl Core {
     fn work_all_off(&mut self, room: &mut Room, told: &mut Inbox, swept: &mut TileSet) -> u64
         requires left { HasOnlySweeps self.old }
         requires ready { CanSweepInPlace self.old (places told.old) swept.old }
-        ensures works { IsWorkedOffBy self.old result self.new }
-        ensures quiet { IsQuiet self.new }
+        ensures { IsAllWorkedOff self.old result self.new }
     {
         let _ = self.tiling();
         let _ = self.image();

@@ -1,9 +1,10 @@
 //! Jobs that are taken, given back and abandoned.
 
-ghost use Rattle.std.specs.Prelude.{◌≡◌, ◌⊎◌, ◌↔◌, IfOk, IfErr, OnOk, OnErr, IsTrue};
+ghost use Rattle.std.specs.Prelude.{◌≡◌, ◌↔◌, IfOk, IfErr, OnOk, OnErr, IsTrue};
 ghost use Rattle.core_rules.specs.Work.{IsTile};
-ghost use Rattle.core_rules.specs.Sweeps.{IsReady, IsNextJob, IsTaken, IsKnown, IsOut, IsUnchanged, HasOnlyRisen};
+ghost use Rattle.core_rules.specs.Sweeps.{IsReady, IsNextJob, IsTaken, IsKnown, IsOut};
 ghost use Rattle.core_rules.specs.Sweeps.{IsJoined, IsGivenBack, IsAbandoned, tile_rect};
+ghost use Rattle.reset_core.specs.Answers.{IsJoinable};
 ghost use Rattle.reset_core.specs.Sweeping.{IsJudged, AreHintsOnceJoined};
 ghost use Rattle.grid_core.specs.Rects.{RectFits};
 
@@ -43,8 +44,7 @@ impl Core {
     /// Errors: out of memory, with the swept tile handed back; nothing has changed then.
     pub fn give_back(&mut self, alloc: Global, swept: Swept) -> Result<Back, (Swept, Memory)>
         ensures given { IfOk result (λ back. IsGivenBack self.old swept back self.new) }
-        ensures memory { OnErr result (IsKnown self.old swept.job × IsOut self.old swept.job.ticket
-            × (IsUnchanged self.old swept.job ⊎ HasOnlyRisen self.old swept.job)) }
+        ensures memory { OnErr result (IsJoinable self.old swept.job) }
         ensures err { OnErr result (self.new ≡ self.old) }
         ensures returned { IfErr result (λ e. e.0 ≡ swept) }
     {
@@ -150,9 +150,7 @@ impl Core {
     //
     // Errors: out of memory; nothing has changed then.
     fn join(&mut self, alloc: Global, swept: &Swept) -> Result<(), Memory>
-        requires known { IsKnown self.old swept.now.job }
-        requires out { IsOut self.old swept.now.job.ticket }
-        requires base { IsUnchanged self.old swept.now.job ⊎ HasOnlyRisen self.old swept.now.job }
+        requires { IsJoinable self.old swept.now.job }
         ensures joined { OnOk result (IsJoined self.old swept.now self.new) }
         ensures err { OnErr result (self.new ≡ self.old) }
     {

@@ -14,12 +14,12 @@ returns-clause-border c =
     record {
       tiled = c.side.ensures.tiled;
       rect = same;
-      mask = c.requires.mask;
-      image = c.requires.image;
+      mask = c.requires.parts.mask_fits;
+      image = c.requires.parts.image_fits;
       inside = c.width.ensures.sized.size;
       inside_columns = rw same c.requires.columns;
       inside_rows = rw same c.requires.rows;
       fits = fits;
       own = λ p inside. subst (λ (rect : Rect). IsInRect rect p ↔ (tile_of t p ≡ tile)) (sym same)
-          ((c.each_pixel_in_one_tile.ensures t p c.side.ensures.tiled inside).1 tile c.requires.tile);
+          ((c.each_pixel_in_one_tile.ensures t p c.side.ensures.tiled inside).1 tile c.requires.parts.tile);
     }

@@ -1,13 +1,15 @@
-use Rattle.std.proofs.Common.{◌≡◌, ℕ, ◌++◌, ap, ◌∙◌, zero-add}
+use Rattle.std.proofs.Common.{◌≡◌, ℕ, ◌++◌, ap, ◌∙◌, arith, rules, List, length, zero-add}
 use Rattle.std.specs.List.{flat_map}
 use Rattle.grid_core.specs.declared.pixel.Pixel.{Pixel}
 use Rattle.grid_core.specs.Raster.{value_at}
+use Rattle.grid_core.specs.Tiles.{rect_of}
+use Rattle.border_queues.specs.declared.hint.Hint.{Hint}
 use Rattle.border_queues.specs.OpenEdges.{Sender, hints_from, pixels_of, with_tile}
 use Rattle.border_queues.specs.Borders.{moved, sender_of}
 use Rattle.border_queues.proofs.edges.open_edges.Goals as goal
 
-pub returns-clause-hints : goal.returns-clause-hints
-returns-clause-hints c =
+pub returns : goal.returns
+returns c =
     let t = c.args.tiling.now in
     let tile = c.args.tile in
     let border = c.border_of-border.result in
@@ -24,6 +26,12 @@ returns-clause-hints c =
       generation = c.args.generation;
     } in
     let sender : sender_of border ≡ to_sender inside = c.border_of-border.ensures.sender ∙ ap to_sender unmoved in
-    c.push_all.ensures.behind
-    ∙ (λ i. c.reserve.ensures.hints i
-    ++ flat_map (hints_from (sender i)) (pixels_of (c.border_of-border.ensures.rect i)))
+    let same_rect = c.border_of-border.ensures.border.rect ∙ ap (λ (s : Sender). rect_of s.tiles s.tile) c.border_of-border.ensures.sender in
+    record {
+      hints = c.push_all.ensures.behind
+          ∙ (λ i. c.reserve.ensures.hints i
+          ++ flat_map (hints_from (sender i)) (pixels_of (same_rect i)));
+      enough = λ _. search rules;
+      kept = omega (arith, c.push_all.ensures.kept, ap (λ (hs : List Hint). length hs) c.reserve.ensures.hints, c.reserve.ensures.grown);
+      err = search rules;
+    }

@@ -1,15 +1,17 @@
-use Rattle.std.proofs.Common.{◌≡◌, ◌++◌, ap, ◌∙◌}
+use Rattle.std.proofs.Common.{◌≡◌, ◌++◌, ap, ◌∙◌, arith, rules, List, length}
 use Rattle.std.specs.List.{flat_map}
 use Rattle.grid_core.specs.declared.pixel.Pixel.{Pixel}
 use Rattle.grid_core.specs.declared.rect.Rect.{Rect}
 use Rattle.grid_core.specs.Raster.{value_at}
+use Rattle.grid_core.specs.Tiles.{rect_of}
+use Rattle.border_queues.specs.declared.hint.Hint.{Hint}
 use Rattle.border_queues.specs.OpenEdges.{Sender, hints_from, pixels_of, open_edges, with_tile}
 use Rattle.border_queues.specs.Borders.{moved}
 use Rattle.border_queues.proofs.SameEdges.{own_part}
 use Rattle.border_queues.proofs.edges.open_edges_in.Goals as goal
 
-pub returns-clause-hints : goal.returns-clause-hints
-returns-clause-hints c =
+pub returns : goal.returns
+returns c =
     let t = c.args.tiling.now in
     let tile = c.args.tile in
     let tiled = c.side.ensures.tiled in
@@ -30,7 +32,13 @@ returns-clause-hints c =
     c.same_image_same_edges.ensures s image tiled c.requires.tile (λ p inside.
     own_part t tile image corner p same same_top (λ there.
     ((c.each_pixel_in_one_tile.ensures t p tiled inside).1 tile c.requires.tile).1 there)) in
-    c.push_all.ensures.behind
-    ∙ (λ i. c.reserve.ensures.hints i
-    ++ flat_map (hints_from (c.border_of-border.ensures.sender i)) (pixels_of (c.border_of-border.ensures.rect i)))
-    ∙ ap (λ hs. c.args.out.now.hints ++ hs) itself
+    let same_rect = c.border_of-border.ensures.border.rect ∙ ap (λ (s : Sender). rect_of s.tiles s.tile) c.border_of-border.ensures.sender in
+    record {
+      hints = c.push_all.ensures.behind
+          ∙ (λ i. c.reserve.ensures.hints i
+          ++ flat_map (hints_from (c.border_of-border.ensures.sender i)) (pixels_of (same_rect i)))
+          ∙ ap (λ hs. c.args.out.now.hints ++ hs) itself;
+      enough = λ _. search rules;
+      kept = omega (arith, c.push_all.ensures.kept, ap (λ (hs : List Hint). length hs) c.reserve.ensures.hints, c.reserve.ensures.grown);
+      err = search rules;
+    }

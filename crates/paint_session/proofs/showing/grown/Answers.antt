@@ -18,6 +18,7 @@ returns c =
     c.in_ok-image.image
     c.grow_in_place.new.image c.maxval.result c.grid.ensures.value c.grid-2.ensures.value
     (c.in_ok-image.ensures.marks c.args.conn)
-    c.grow_in_place.ensures.below c.in_ok-grow_in_place.ensures.filled c.in_ok-grow_in_place.ensures.reconstruction
+    c.in_ok-grow_in_place.ensures.grown.below c.in_ok-grow_in_place.ensures.grown.filled
+    c.in_ok-grow_in_place.ensures.grown.reconstruction
     c.maxval.ensures.value
     c.over.ensures

@@ -45,13 +45,13 @@ loop-y-preserved c =
                 let cell = w.first_cell.result + x in
                 let added : c.else-least-level.waiting ≡ now ++ cell ∷ [] =
                 w.waiting-is ∙ w.if-not-push.ensures.added in
-                rw added (cell_joins conn rect mask image x y c.requires.column.within c.loop-y-test.true above along
+                rw added (cell_joins conn rect mask image x y c.requires.column_is.within c.loop-y-test.true above along
                 below held.above held.along c.least_in_row-below.ensures.across
                 (omega (arith, fits, c.value_in-level.ensures)) old now cell (omega (arith, w.first_cell.ensures.place))
                 held.joined
                 (omega (arith, w.if-least-level.true, c.min-least.ensures, c.min.ensures)))
             | else-least-level-via-else-least-level w ↦
-                rw w.waiting-is (cell_passes conn rect mask image x y c.requires.column.within c.loop-y-test.true above
+                rw w.waiting-is (cell_passes conn rect mask image x y c.requires.column_is.within c.loop-y-test.true above
                 along below held.above held.along c.least_in_row-below.ensures.across
                 (omega (arith, fits, c.value_in-level.ensures)) old now
                 (cell_of rect image.width (record { x = x; y = y })) refl held.joined

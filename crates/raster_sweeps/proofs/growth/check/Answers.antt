@@ -1,4 +1,4 @@
-use Rattle.std.proofs.Common.{true, refl, inl}
+use Rattle.std.proofs.Common.{◌≡◌, true, false, refl, sym, ◌∙◌, inl, inr}
 use Rattle.grid_core.specs.Raster.{IsInside}
 use Rattle.raster_sweeps.proofs.BorderPairs.{begun_open, begun_wait}
 use Rattle.raster_sweeps.proofs.Grown.{fits_below, grown_same, open_inside}
@@ -20,6 +20,12 @@ returns-then-queue_open_pairs c = record {
 }
 
 pub spread_first-requires-clause-open : goal.spread_first-requires-clause-open
-spread_first-requires-clause-open c =
-    begun_open c.args.conn c.args.rect c.args.mask.now c.args.image.now (IsInside c.args.rect.w c.args.rect.h)
-    c.queue_open_pairs.result c.args.waiting.now c.queue_open_pairs.new.waiting c.requires.empty c.queue_open_pairs.ensures
+spread_first-requires-clause-open c = record {
+  each =
+      begun_open c.args.conn c.args.rect c.args.mask.now c.args.image.now (IsInside c.args.rect.w c.args.rect.h)
+      c.queue_open_pairs.result c.args.waiting.now c.queue_open_pairs.new.waiting c.requires.empty c.queue_open_pairs.ensures;
+  some = elim c.queue_open_pairs.ensures.full [
+    | inl room ↦ absurd (let no : false ≡ true = sym c.if-queue_open_pairs.false ∙ room in cc)
+    | inr some ↦ some
+  ];
+}

@@ -14,19 +14,27 @@ rounds-init c = record {
   border = c.requires.border;
 }
 
-pub fill-all-requires-clause-border : goal.fill-all-requires-clause-border
-fill-all-requires-clause-border c = c.rounds.invariant.border
+pub fill-all-requires : goal.fill-all-requires
+fill-all-requires c = record {
+  close = record {
+    filled =
+        grown_filled c.args.conn c.args.rect c.args.mask.now c.args.image.now c.rounds.image c.requires.close.filled
+        c.rounds.invariant.grown;
+    below = c.rounds.invariant.grown.below;
+    fits = c.requires.close.fits;
+  };
+  border = c.rounds.invariant.border;
+}
 
-pub returns-then-drain-clause-grown : goal.returns-then-drain-clause-grown
-returns-then-drain-clause-grown c =
-    grown_twice c.args.conn c.args.rect c.args.mask.now c.args.image.now c.fill-all.new.image c.drain.new.image
-    (grown_twice c.args.conn c.args.rect c.args.mask.now c.args.image.now c.rounds.image c.fill-all.new.image
-    c.rounds.invariant.grown c.fill-all.ensures.grown)
-    c.drain.ensures.grown
-
-pub returns-then-drain-clause-closed : goal.returns-then-drain-clause-closed
-returns-then-drain-clause-closed c =
-    c.drain.ensures.closed c.if-drain.true (c.fill-all.ensures.waits c.if-all.true)
+pub returns-then-drain : goal.returns-then-drain
+returns-then-drain c = record {
+  grown =
+      grown_twice c.args.conn c.args.rect c.args.mask.now c.args.image.now c.fill-all.new.image c.drain.new.image
+      (grown_twice c.args.conn c.args.rect c.args.mask.now c.args.image.now c.rounds.image c.fill-all.new.image
+      c.rounds.invariant.grown c.fill-all.ensures.grown)
+      c.drain.ensures.grown;
+  closed = c.drain.ensures.closed c.if-drain.true (c.fill-all.ensures.waits c.if-all.true);
+}
 
 pub rounds-smaller : goal.rounds-smaller
 rounds-smaller c =

@@ -8,11 +8,11 @@ pub returns : goal.returns
 returns c =
     let mask = c.args.mask.now in
     record {
-      filled = c.in_ok-grow_in_place.ensures.filled;
-      width = c.grow_in_place.ensures.below.width;
-      height = c.grow_in_place.ensures.below.height;
-      below = c.grow_in_place.ensures.below;
+      filled = c.in_ok-grow_in_place.ensures.grown.filled;
+      width = c.in_ok-grow_in_place.ensures.grown.below.width;
+      height = c.in_ok-grow_in_place.ensures.grown.below.height;
+      below = c.in_ok-grow_in_place.ensures.grown.below;
       reconstruction =
           subst (λ (r : Raster). IsReconstruction (domain_of mask c.args.conn) (value_at mask) (value_at r)
-          (value_at c.grow_in_place.new.image)) c.in_ok-image.ensures c.in_ok-grow_in_place.ensures.reconstruction;
+          (value_at c.grow_in_place.new.image)) c.in_ok-image.ensures c.in_ok-grow_in_place.ensures.grown.reconstruction;
     }

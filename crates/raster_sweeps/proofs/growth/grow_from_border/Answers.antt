@@ -6,5 +6,8 @@ returns c =
     regrown c.args.conn c.args.rect c.args.mask.now c.args.image.now c.close.new.image c.width.ensures.sized.filled
     c.close.ensures.grown c.close.ensures.closed
 
-pub close-requires-clause-border : goal.close-requires-clause-border
-close-requires-clause-border c = λ same. c.requires.border
+pub close-requires : goal.close-requires
+close-requires c = record {
+  close = record { filled = c.width.ensures.sized.filled; below = c.requires.grow.below; fits = c.requires.grow.fits };
+  border = λ same. c.requires.border;
+}

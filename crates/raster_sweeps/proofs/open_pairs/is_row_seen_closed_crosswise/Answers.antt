@@ -28,7 +28,7 @@ returns c = λ closed cell o.
           open_aside Four rect mask image y y first row limits row c.row_in-row.ensures c.row_in-limits.ensures
           c.row_in-row.ensures here here refl cell refl along in
           let under =
-          c.are_closed_crosswise.ensures.along closed raises.column raises.other raises.within raises.other_within
+          (c.are_closed_crosswise.ensures closed).along raises.column raises.other raises.within raises.other_within
           raises.beside in
           omega (arith, raises.lower, under)
       | inr other ↦ elim other [
@@ -37,14 +37,14 @@ returns c = λ closed cell o.
             beside_four_straight first row limits_below below cell
             (open_beside Four rect mask image y (y + 1) first row limits_below below c.row_in-row.ensures
             c.row_in-limits_below.ensures c.row_in-below.ensures here low refl cell next down) in
-            let under = c.are_closed_crosswise.ensures.down closed raises.column raises.within in
+            let under = (c.are_closed_crosswise.ensures closed).down raises.column raises.within in
             omega (arith, raises.lower, under)
         | inr up ↦
             let raises =
             beside_four_straight first_below below limits row cell
             (open_beside Four rect mask image (y + 1) y first_below below limits row c.row_in-below.ensures
             c.row_in-limits.ensures c.row_in-row.ensures low here refl cell back up) in
-            let under = c.are_closed_crosswise.ensures.up closed raises.column raises.within in
+            let under = (c.are_closed_crosswise.ensures closed).up raises.column raises.within in
             omega (arith, raises.lower, under)
       ]
     ]

@@ -41,34 +41,27 @@ loop-i-preserved c =
           (omega (arith, least, c.min-least.ensures, c.max-around.ensures));
     }
 
-pub returns-clause-along : goal.returns-clause-along
-returns-clause-along c = λ closed.
-    let row = c.args.row.now in
-    let quiet = not_down c.loop-i.open closed in
-    let others = c.loop-i.invariant.others quiet in
-    closed_along row c.args.limits.now c.args.below.now c.args.limits_below.now (length row - 1)
-    (λ k less. others.right k (omega (arith, less, c.loop-i-test.false)))
-    (λ k less. others.left k (omega (arith, less, c.loop-i-test.false)))
-    (omega (arith, c.requires.rows.some))
-
-pub returns-clause-down : goal.returns-clause-down
-returns-clause-down c = λ closed.
-    let row = c.args.row.now in
-    let below = c.args.below.now in
-    let limits_below = c.args.limits_below.now in
-    let quiet = not_down c.loop-i.open closed in
-    let others = c.loop-i.invariant.others quiet in
-    closed_straight row c.args.limits.now below limits_below (length row - 1) row limits_below below
-    (λ k less. others.down k (omega (arith, less, c.loop-i-test.false))) (c.loop-i.invariant.down quiet)
-    (omega (arith, c.requires.rows.some, c.requires.below, c.requires.rows.from))
-
-pub returns-clause-up : goal.returns-clause-up
-returns-clause-up c = λ closed.
+pub returns : goal.returns
+returns c closed =
     let row = c.args.row.now in
     let limits = c.args.limits.now in
     let below = c.args.below.now in
+    let limits_below = c.args.limits_below.now in
+    let last = length row - 1 in
     let quiet = not_down c.loop-i.open closed in
     let others = c.loop-i.invariant.others quiet in
-    closed_straight row limits below c.args.limits_below.now (length row - 1) below limits row
-    (λ k less. others.up k (omega (arith, less, c.loop-i-test.false))) (c.loop-i.invariant.up quiet)
-    (omega (arith, c.requires.rows.some))
+    record {
+      along =
+          closed_along row limits below limits_below last
+          (λ k less. others.right k (omega (arith, less, c.loop-i-test.false)))
+          (λ k less. others.left k (omega (arith, less, c.loop-i-test.false)))
+          (omega (arith, c.requires.rows.some));
+      down =
+          closed_straight row limits below limits_below last row limits_below below
+          (λ k less. others.down k (omega (arith, less, c.loop-i-test.false))) (c.loop-i.invariant.down quiet)
+          (omega (arith, c.requires.rows.some, c.requires.below, c.requires.rows.from));
+      up =
+          closed_straight row limits below limits_below last below limits row
+          (λ k less. others.up k (omega (arith, less, c.loop-i-test.false))) (c.loop-i.invariant.up quiet)
+          (omega (arith, c.requires.rows.some));
+    }

@@ -23,7 +23,7 @@ returns-else-source-target c =
     let front : above ≡ take source cells = c.split_at_mut-above-else-source-target.ensures.front in
     let back : below ≡ drop source cells = c.split_at_mut-above-else-source-target.ensures.back in
     let size : length above ≡ source = c.split_at_mut-above-else-source-target.ensures.front_len in
-    let fits : target + n ≤ source = omega (arith, c.requires.touch, c.requires.some, c.if-source-target.false) in
+    let fits : target + n ≤ source = omega (arith, c.requires.apart, c.requires.some, c.if-source-target.false) in
     let step : target + n - target ≡ n = omega arith in
     let long : length new ≡ n =
     omega (

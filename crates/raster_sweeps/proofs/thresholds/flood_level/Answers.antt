@@ -12,6 +12,7 @@ spread-requires c =
     let conn = c.args.source.now.conn in
     let same : c.loop-pixel.waiting.items ≡ c.pop.new.self.items ++ c.in-Some.pixel ∷ [] = c.in-Some.ensures.items in
     record {
+      below = c.loop-pixel.invariant.below;
       sized = c.loop-pixel.invariant.sized;
       flooding =
           flood_pops (domain_of mask conn) (value_at mask) (value_at marker) (value_at c.loop-pixel.image) c.args.level
@@ -26,6 +27,7 @@ returns c =
     let none : length c.loop-pixel.waiting.items ≡ 0 =
     omega (arith, c.in_default.ensures.cases, c.loop-pixel.waiting.ok.0) in
     record {
+      below = c.loop-pixel.invariant.below;
       sized = c.loop-pixel.invariant.sized;
       done =
           flood_ends (domain_of mask c.args.source.now.conn) (value_at mask) (value_at c.args.source.now.marker.now)

@@ -45,6 +45,7 @@ loop-i-preserved c =
           let listed : c.if-value-level.waiting.items ≡ waiting ++ q ∷ [] =
           ap (λ v. v.items) w.waiting-is ∙ w.in_ok-mark.ensures.waiting in
           record {
+            below = c.loop-i.invariant.below;
             sized = rw drawn (written_sized d image q level c.loop-i.invariant.sized);
             flooding =
                 rw (drawn, listed) (seeding_marks conn mask marker level i image waiting below filled
@@ -55,6 +56,7 @@ loop-i-preserved c =
           let listed : c.if-value-level.waiting.items ≡ waiting = ap (λ v. v.items) w.waiting-is in
           let low : get_or marker.cells i 0 < level = omega (arith, value, w.if-value-level.false) in
           record {
+            below = c.loop-i.invariant.below;
             sized = rw drawn c.loop-i.invariant.sized;
             flooding =
                 rw (drawn, listed) (seeding_passes conn mask marker level i image waiting below filled

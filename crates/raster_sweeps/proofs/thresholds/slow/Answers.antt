@@ -26,6 +26,7 @@ pub flood_level-requires-clause-before : goal.flood_level-requires-clause-before
 flood_level-requires-clause-before c =
     let before : c.loop-done.done ≡ c.loop-done.done + 1 - 1 = omega arith in
     record {
+      below = c.requires;
       sized = c.loop-done.invariant.sized;
       done =
           subst (λ n. IsLevelDone c.args.conn c.args.mask.now c.args.marker.now n c.loop-done.image) before

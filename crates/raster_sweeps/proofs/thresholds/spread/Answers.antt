@@ -110,6 +110,7 @@ returns-clause-flooding c =
     near c.width.ensures.value c.height.ensures.value c.as_slice-beside-items.ensures.pixels
     c.neighbours-near.ensures.members in
     record {
+      below = c.requires.below;
       sized = c.loop-beside.invariant.sized;
       flooding =
           spreading_ends conn mask c.args.source.now.marker.now c.args.level c.args.pixel near

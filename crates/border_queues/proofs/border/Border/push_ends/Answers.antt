@@ -36,7 +36,7 @@ returns-then-last-gt0 c =
     record {
       behind = c.push_from-then-last-gt0.ensures.behind ∙ ap (λ hs. hs ++ last) c.push_from.ensures.behind
           ∙ append_assoc c.args.out.now.hints first last
-          ∙ ap (λ hs. c.args.out.now.hints ++ hs) (sym (row_tells b y c.requires.border c.neighbours_by_rows.ensures
+          ∙ ap (λ hs. c.args.out.now.hints ++ hs) (sym (row_tells b y c.requires.ready.border c.neighbours_by_rows.ensures
           c.requires.between.0 c.requires.between.1 (omega arith)));
       room = omega (arith, c.push_from.ensures.room, c.push_from-then-last-gt0.ensures.room);
       kept = omega (arith, c.push_from.ensures.kept, c.push_from-then-last-gt0.ensures.kept);

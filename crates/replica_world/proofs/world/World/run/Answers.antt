@@ -24,7 +24,7 @@ returns-in-Err-run_one-clause-stopped c =
     let kept = c.keep_steps-in-Err-run_one in
     run_stops c.args.self.now c.loop-i.self c.run_one.new.self kept.new.self c.args.events.now c.loop-i.i
     c.index-events-i.result failed.why c.loop-i.refusals.items c.loop-i.invariant.0 (omega arith)
-    c.index-events-i.is failed.ensures.memory failed.ensures.err kept.ensures
+    c.index-events-i.is failed.ensures.err.0 failed.ensures.err.1 kept.ensures
 
 pub loop-i-preserved : goal.loop-i-preserved
 loop-i-preserved c =
@@ -34,7 +34,7 @@ loop-i-preserved c =
     let places = c.run_one.ensures.room in (
       one_more_run c.args.self.now c.loop-i.self c.run_one.new.self c.args.events.now c.loop-i.i
           c.index-events-i.result c.loop-i.refusals.items c.run_one.new.refusals.items c.loop-i.invariant.0
-          (omega arith) c.index-events-i.is c.in_default.ensures.onward,
+          (omega arith) c.index-events-i.is c.in_default.ensures.next,
       omega (arith, few, more),
       omega (arith, room, places),
     )

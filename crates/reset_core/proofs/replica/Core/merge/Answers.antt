@@ -94,23 +94,32 @@ join-requires c =
     let at = (goal.at.join-requires c).After-mark_hits in
     (is_marked at).compatible
 
-pub renew-requires-clause-fits : goal.renew-requires-clause-fits
-renew-requires-clause-fits c =
-    let at = (goal.at.renew-requires-clause-fits c).After-mark_hits in
-    join_fits (core_of (parts_before at)) c.args.delta.now c.join.new.self c.self.invariant.sound (is_marked at).fits
-    c.in-Ok.ensures.join
-
-pub renew-requires-clause-marks : goal.renew-requires-clause-marks
-renew-requires-clause-marks c =
-    let at = (goal.at.renew-requires-clause-marks c).After-mark_hits in
+pub renew-requires : goal.renew-requires
+renew-requires c =
+    let at = (goal.at.renew-requires c).After-mark_hits in
     let tiles = ap count_of (sym (tiles_are at) ∙ c.tiling-tiling.ensures.value) in
     record {
-      works = c.self.invariant.sound.shape.tiles ∙ tiles;
-      marked = (is_marked at).count ∙ tiles;
-      unspent =
-          marked_are_unspent (core_of (parts_before at)) c.args.delta.now c.mark_hits.new.marks c.self.invariant.sound
-          (is_marked at)
-          (λ spent. let no : true ≡ false = sym (c.is_one_spent.ensures.1 spent) ∙ c.if-is_one_spent.false in cc);
+      fits =
+          join_fits (core_of (parts_before at)) c.args.delta.now c.join.new.self c.self.invariant.sound
+          (is_marked at).fits c.in-Ok.ensures.join;
+      known = record {
+        before = c.self.inside.state;
+        was = c.self.invariant.marks;
+        rises = c.in-Ok.ensures.join.first;
+        changed = c.in-Ok.ensures.change;
+      };
+      on_tiling = record {
+        width = c.self.invariant.sound.shape.image.width ∙ sym c.tiling-tiling.ensures.width;
+        height = c.self.invariant.sound.shape.image.height ∙ sym c.tiling-tiling.ensures.height;
+      };
+      unspent = record {
+        works = c.self.invariant.sound.shape.tiles ∙ tiles;
+        marked = (is_marked at).count ∙ tiles;
+        unspent =
+            marked_are_unspent (core_of (parts_before at)) c.args.delta.now c.mark_hits.new.marks
+            c.self.invariant.sound (is_marked at)
+            (λ spent. let no : true ≡ false = sym (c.is_one_spent.ensures.1 spent) ∙ c.if-is_one_spent.false in cc);
+      };
     }
 
 -- ---- what is merged
@@ -145,8 +154,8 @@ is_renewed c =
       image =
           subst (λ tiles. IsImageRenewed tiles c.mark_hits.new.marks c.in-Ok.change c.join.new.self
           c.renew.new.markers.marker c.self.inside.image c.renew.new.image c.self.inside.work c.renew.new.work)
-          (sym c.tiling-tiling.ensures.value ∙ tiles_are at) c.renew.ensures.image;
-      cleared = c.renew.ensures.marks;
+          (sym c.tiling-tiling.ensures.value ∙ tiles_are at) c.renew.ensures.image_is;
+      cleared = c.renew.ensures.marks_are;
       queue = c.mark_hits.ensures.queue;
       mask = c.renew.ensures.marker.mask;
       tiling_is = c.renew.ensures.marker.tiling;

@@ -15,8 +15,8 @@ returns-in_err-tally-clause-stopped c =
 pub loop-i-init : goal.loop-i-init
 loop-i-init c =
     let tally = c.in_ok-tally.tally in (
-      none_run c.args.self.now c.args.steps.now (kept_of tally) c.in_ok-tally.ensures.empty,
-      subst (HasRoom tally) c.count_edits.ensures c.in_ok-tally.ensures.room,
+      none_run c.args.self.now c.args.steps.now (kept_of tally) c.in_ok-tally.ensures.empty.0,
+      subst (HasRoom tally) c.count_edits.ensures c.in_ok-tally.ensures.empty.1,
     )
 
 pub run_step-requires-clause-few : goal.run_step-requires-clause-few
@@ -41,8 +41,8 @@ loop-i-preserved c =
     let next = next_edits all i step (omega arith) c.index-steps-i.is in (
       one_more_run c.args.self.now all i c.loop-i.self c.run_step.new.self (kept_of c.loop-i.tally)
           (kept_of c.run_step.new.tally) step c.loop-i.invariant.0 (omega arith) c.index-steps-i.is
-          c.in_ok-run_step.ensures.step c.run_step.ensures.few,
-      c.run_step.ensures.room (edits_of (drop (i + 1) all)) (subst (HasRoom c.loop-i.tally) next c.loop-i.invariant.1),
+          c.in_ok-run_step.ensures.step c.run_step.ensures.keeps.few,
+      c.run_step.ensures.keeps.room (edits_of (drop (i + 1) all)) (subst (HasRoom c.loop-i.tally) next c.loop-i.invariant.1),
     )
 
 pub returns-in_err-run_step-clause-stopped : goal.returns-in_err-run_step-clause-stopped

@@ -1,24 +1,33 @@
-use Rattle.std.proofs.Common.{[], ◌∷◌, sym, subst}
+use Rattle.std.proofs.Common.{[], ◌∷◌, arith, sym, subst}
 use Rattle.core_rules.specs.declared.step.Step.{Step}
 use Rattle.core_rules.specs.Schedule.{edits_of}
 use Rattle.reset_core.specs.Scheduling.{kept_of, LeadsOn, KeepsRoom}
 use Rattle.reset_core.proofs.Scheduling.{hint_handed}
 use Rattle.reset_core.proofs.replica.Core.run_step.Goals as goal
 
-pub returns-in-Edit-clause-room : goal.returns-in-Edit-clause-room
-returns-in-Edit-clause-room c =
-    subst (λ (step : Step). KeepsRoom (edits_of (step ∷ [])) c.args.tally.now c.edit.new.tally) (sym c.in-Edit.is)
-    c.edit.ensures.keeps.room
+pub returns-in-Edit-clause-keeps : goal.returns-in-Edit-clause-keeps
+returns-in-Edit-clause-keeps c = record {
+  few = omega (arith, c.edit.ensures.keeps.abandons);
+  room =
+      subst (λ (step : Step). KeepsRoom (edits_of (step ∷ [])) c.args.tally.now c.edit.new.tally) (sym c.in-Edit.is)
+      c.edit.ensures.keeps.room;
+}
 
-pub returns-in-Take-clause-room : goal.returns-in-Take-clause-room
-returns-in-Take-clause-room c =
-    subst (λ (step : Step). KeepsRoom (edits_of (step ∷ [])) c.args.tally.now c.take_and_sweep.new.tally)
-    (sym c.in-Take.is) c.take_and_sweep.ensures.keeps.room
+pub returns-in-Take-clause-keeps : goal.returns-in-Take-clause-keeps
+returns-in-Take-clause-keeps c = record {
+  few = omega (arith, c.take_and_sweep.ensures.keeps.abandons);
+  room =
+      subst (λ (step : Step). KeepsRoom (edits_of (step ∷ [])) c.args.tally.now c.take_and_sweep.new.tally) (sym c.in-Take.is)
+      c.take_and_sweep.ensures.keeps.room;
+}
 
-pub returns-in-Abandon-clause-room : goal.returns-in-Abandon-clause-room
-returns-in-Abandon-clause-room c =
-    subst (λ (step : Step). KeepsRoom (edits_of (step ∷ [])) c.args.tally.now c.abandon_job_of.new.tally)
-    (sym c.in-Abandon.is) c.abandon_job_of.ensures.room
+pub returns-in-Abandon-clause-keeps : goal.returns-in-Abandon-clause-keeps
+returns-in-Abandon-clause-keeps c = record {
+  few = c.abandon_job_of.ensures.keeps.few;
+  room =
+      subst (λ (step : Step). KeepsRoom (edits_of (step ∷ [])) c.args.tally.now c.abandon_job_of.new.tally) (sym c.in-Abandon.is)
+      c.abandon_job_of.ensures.keeps.room;
+}
 
 pub returns-in-Hand-clause-step : goal.returns-in-Hand-clause-step
 returns-in-Hand-clause-step c =

@@ -31,31 +31,16 @@ returns-clause-settled c =
     let cleared = c.abandon_all-abandons in
     let handed = c.hand_all.ensures.handed in
     let worked = c.in_ok-jobs in
+    let settled =
     settled_by c.args.self.now cleared.new.self c.hand_all.new.self c.sweep_all.new.self worked.jobs cleared.result
-    cleared.ensures.clears cleared.ensures.count (handed.log, handed.works, handed.no_jobs) worked.ensures.works
-    worked.ensures.quiet
-
-pub returns-clause-bound : goal.returns-clause-bound
-returns-clause-bound c =
-    let cleared = c.abandon_all-abandons in
-    let handed = c.hand_all.ensures.handed in
-    let worked = c.in_ok-jobs in
-    (settled_within_work c.settling_is_within_work.ensures c.args.self.now c.sweep_all.new.self worked.jobs
-    cleared.result c.soundness.ensures
-    (settled_by c.args.self.now cleared.new.self c.hand_all.new.self c.sweep_all.new.self worked.jobs cleared.result
-    cleared.ensures.clears cleared.ensures.count (handed.log, handed.works, handed.no_jobs) worked.ensures.works
-    worked.ensures.quiet)).0
-
-pub returns-clause-owes_nothing : goal.returns-clause-owes_nothing
-returns-clause-owes_nothing c =
-    let cleared = c.abandon_all-abandons in
-    let handed = c.hand_all.ensures.handed in
-    let worked = c.in_ok-jobs in
-    (settled_within_work c.settling_is_within_work.ensures c.args.self.now c.sweep_all.new.self worked.jobs
-    cleared.result c.soundness.ensures
-    (settled_by c.args.self.now cleared.new.self c.hand_all.new.self c.sweep_all.new.self worked.jobs cleared.result
-    cleared.ensures.clears cleared.ensures.count (handed.log, handed.works, handed.no_jobs) worked.ensures.works
-    worked.ensures.quiet)).1
-
-pub returns-clause-abandons : goal.returns-clause-abandons
-returns-clause-abandons c = c.abandon_all-abandons.ensures.count ∙ c.one_job_out_a_tile.ensures c.args.self.now
+    cleared.ensures.clears cleared.ensures.count (handed.log, handed.works, handed.no_jobs) worked.ensures.works.works
+    worked.ensures.works.quiet in
+    let within =
+    settled_within_work c.settling_is_within_work.ensures c.args.self.now c.sweep_all.new.self worked.jobs
+    cleared.result c.soundness.ensures settled in
+    record {
+      settled = settled;
+      bound = within.0;
+      owes_nothing = within.1;
+      abandons_are = cleared.ensures.count ∙ c.one_job_out_a_tile.ensures c.args.self.now;
+    }

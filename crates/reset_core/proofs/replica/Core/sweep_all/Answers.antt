@@ -9,12 +9,12 @@ use Rattle.reset_core.proofs.Settling.{quiet_from}
 use Rattle.reset_core.proofs.replica.Core.sweep_all.Goals as goal
 
 pub returns-in_default-clause-works : goal.returns-in_default-clause-works
-returns-in_default-clause-works c = ([], refl, refl)
-
-pub returns-in_default-clause-quiet : goal.returns-in_default-clause-quiet
-returns-in_default-clause-quiet c =
+returns-in_default-clause-works c =
     let none = subst (λ (core : Core). (t : _) → IsDirty core t → ⊥) c.self.view_is c.in_default.ensures in
-    quiet_from c.args.self.now c.requires.none_out c.requires.no_hints none
+    record {
+      works = ([], refl, refl);
+      quiet = quiet_from c.args.self.now c.requires.none_out c.requires.no_hints none;
+    }
 
 pub work_all_off-requires-clause-ready : goal.work_all_off-requires-clause-ready
 work_all_off-requires-clause-ready c = record {

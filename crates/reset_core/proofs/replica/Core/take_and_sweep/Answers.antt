@@ -30,6 +30,8 @@ returns-in-Err-clause-err c =
     let core = c.args.self.now in
     let is_taken =
     subst (λ (job : Option Job). IsTaken core c.args.tile job c.take.new.self) c.in-Some.is
-    c.in_ok-job.ensures.taken in
-    taken_and_abandoned core c.take.new.self c.abandon-was_out.new.self c.args.tile c.in-Some.job
-    c.ticket-ticket.result c.abandon-was_out.result is_taken c.ticket-ticket.ensures c.abandon-was_out.ensures
+    c.in_ok-job.ensures.taken in (
+      is_taken.0,
+      taken_and_abandoned core c.take.new.self c.abandon-was_out.new.self c.args.tile c.in-Some.job
+          c.ticket-ticket.result c.abandon-was_out.result is_taken c.ticket-ticket.ensures c.abandon-was_out.ensures,
+    )

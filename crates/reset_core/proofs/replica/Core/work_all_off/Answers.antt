@@ -36,24 +36,23 @@ overflow_add-jobs c =
     let spent = c.loop-tile.invariant.0.spent in
     let most = bounded_burden c.args.self.now c.image.ensures.sized
     c.tiling.ensures.tiled c.tiling.ensures.count in
-    let less = c.work_off.ensures.worked.less in
+    let less = c.work_off.ensures.worked.0.less in
     omega (arith, spent, most, less)
 
 pub loop-tile-smaller : goal.loop-tile-smaller
-loop-tile-smaller c = c.work_off.ensures.worked.less
+loop-tile-smaller c = c.work_off.ensures.worked.0.less
 
 pub loop-tile-preserved : goal.loop-tile-preserved
 loop-tile-preserved c = (
   one_more_swept c.args.self.now c.loop-tile.self c.work_off.new.self c.loop-tile.jobs c.loop-tile.invariant.0
-      c.work_off.ensures.worked c.work_off.ensures.tiling,
+      c.work_off.ensures.worked.0 c.work_off.ensures.worked.1,
   c.work_off.ensures.ready,
 )
 
-pub returns-clause-works : goal.returns-clause-works
-returns-clause-works c =
-    (c.loop-tile.invariant.0.log, c.loop-tile.invariant.0.works, c.loop-tile.invariant.0.count)
-
-pub returns-clause-quiet : goal.returns-clause-quiet
-returns-clause-quiet c =
+pub returns : goal.returns
+returns c =
     let none = subst (λ (core : Core). (t : _) → IsDirty core t → ⊥) c.self-in-loop-tile.view_is c.in_default.ensures in
-    quiet_from c.loop-tile.self c.loop-tile.invariant.0.none_out c.loop-tile.invariant.0.no_hints none
+    record {
+      works = (c.loop-tile.invariant.0.log, c.loop-tile.invariant.0.works, c.loop-tile.invariant.0.count);
+      quiet = quiet_from c.loop-tile.self c.loop-tile.invariant.0.none_out c.loop-tile.invariant.0.no_hints none;
+    }

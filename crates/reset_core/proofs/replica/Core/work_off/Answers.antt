@@ -1,6 +1,7 @@
 -- What the tactics leave open of `work_off`.
 use Rattle.std.proofs.Common.{◌≡◌, ◌≤◌, arith, ℕ, List, length, set, get_or, ◌∙◌, sym, ap, subst}
 use Rattle.std.proofs.lemmas.List.{length-set}
+use Rattle.std.proofs.lemmas.Grind.{common_steps}
 use Rattle.grid_core.specs.declared.pixel.Pixel.{Pixel}
 use Rattle.grid_core.specs.declared.rect.Rect.{Rect}
 use Rattle.grid_core.specs.Raster.{Raster, IsInside, IsBelow, value_at}
@@ -50,11 +51,15 @@ rect_of_tile c = c.rect.ensures.value ∙ ap (λ (t : Tiles). rect_of t c.args.t
 closed_before : (c : After-rect) → AreClosedInside (core_of (stored c)) c.args.swept.now
 closed_before c = subst (λ core. AreClosedInside core c.args.swept.now) (sym c.self.view_is) c.requires.ready.closed
 
-pub sweep-requires-clause-below : goal.sweep-requires-clause-below
-sweep-requires-clause-below c =
-    let at = (goal.at.sweep-requires-clause-below c).After-rect in
-    subst (IsBelow c.self.inside.image) (sym c.mask-mask.ensures.value)
-    (image_below_mask (core_of (stored at)) c.self.invariant.sound)
+pub sweep-requires-clause-grow : goal.sweep-requires-clause-grow
+sweep-requires-clause-grow c =
+    let at = (goal.at.sweep-requires-clause-grow c).After-rect in
+    record {
+      below =
+          subst (IsBelow c.self.inside.image) (sym c.mask-mask.ensures.value)
+          (image_below_mask (core_of (stored at)) c.self.invariant.sound);
+      fits = grind (arith, common_steps);
+    }
 
 pub sweep-requires-clause-border : goal.sweep-requires-clause-border
 sweep-requires-clause-border c = λ again.
@@ -166,10 +171,7 @@ invariant_of-self c =
 pub returns-clause-worked : goal.returns-clause-worked
 returns-clause-worked c =
     let final = core_of (worked_parts (parts c) (reached c)) in
-    subst (λ core. IsOneWorkedOff core final) c.self.view_is (step c).0
-
-pub returns-clause-tiling : goal.returns-clause-tiling
-returns-clause-tiling c = ap tiling c.self.view_is
+    (subst (λ core. IsOneWorkedOff core final) c.self.view_is (step c).0, ap tiling c.self.view_is)
 
 pub returns-clause-ready : goal.returns-clause-ready
 returns-clause-ready c =

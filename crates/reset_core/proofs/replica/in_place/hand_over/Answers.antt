@@ -14,8 +14,8 @@ returns-then-get-hint c =
     let above : value_at a.image.now a.hint.to_pixel < a.hint.value = omega arith in
     let top : a.hint.value ≤ max_value = omega arith in
     let over =
-    one_rises tiles a.hint a.tile before c.requires.parts.on_tiling c.requires.parts.filled c.requires.inside
-    c.requires.tile here above top in
+    one_rises tiles a.hint a.tile before c.requires.tile.parts.on_tiling c.requires.tile.parts.filled c.requires.inside
+    c.requires.tile.within here above top in
     let after : ImageAndWork = record { image = c.set.new.self; rows = c.mark_dirty.new.self } in
     let same : _ ≡ after = λ i. record { image = sym c.set.ensures i; rows = sym c.mark_dirty.ensures i } in
     subst (AreHandedOver tiles (hints_in tiles (a.hint ∷ []) a.tile) before) same over

@@ -19,10 +19,10 @@ hand_over_in-requires-clause-tile c =
     let tiles = c.args.tiles.now in
     let within = c.requires.tiles (get_or tiles i 0) (Contains-get_or tiles i 0 c.loop-tile-test.true) in
     let same = c.loop-tile.invariant.count in
-    omega (arith, within, same)
-
-pub hand_over_in-requires-clause-parts : goal.hand_over_in-requires-clause-parts
-hand_over_in-requires-clause-parts c =
-    still_of_tiles c.args.tiling.now
-    (flat_map (hints_in c.args.tiling.now c.args.hints.now) (take c.loop-tile.tile-index c.args.tiles.now))
-    c.args.image.now c.args.work.now c.loop-tile.image c.loop-tile.work c.loop-tile.invariant c.requires.parts
+    record {
+      parts =
+          still_of_tiles c.args.tiling.now
+          (flat_map (hints_in c.args.tiling.now c.args.hints.now) (take i c.args.tiles.now))
+          c.args.image.now c.args.work.now c.loop-tile.image c.loop-tile.work c.loop-tile.invariant c.requires.parts;
+      within = omega (arith, within, same);
+    }

@@ -29,15 +29,22 @@ hand_over-requires-clause-rect c =
     let i = c.loop-hint.hint-index in
     let hint = get_or c.args.hints.now i none in
     let inside = c.requires.inside hint (Contains-get_or c.args.hints.now i none c.loop-hint-test.true) in
-    let count = c.requires.parts.count in
-    let tile = c.requires.tile in
+    let count = c.requires.tile.parts.count in
+    let tile = c.requires.tile.within in
     let within : c.args.tile < count_of c.args.tiling.now = omega (arith, count, tile) in
-    let law = c.each_pixel_in_one_tile.ensures c.args.tiling.now hint.to_pixel c.requires.parts.tiled inside in
+    let law = c.each_pixel_in_one_tile.ensures c.args.tiling.now hint.to_pixel c.requires.tile.parts.tiled inside in
     subst (λ rect. IsInRect rect hint.to_pixel ↔ (tile_of c.args.tiling.now hint.to_pixel ≡ c.args.tile))
     (sym c.rect-rect.ensures.value) (law.1 c.args.tile within)
 
-pub hand_over-requires-clause-parts : goal.hand_over-requires-clause-parts
-hand_over-requires-clause-parts c =
-    still_of_tiles c.args.tiling.now
-    (hints_in c.args.tiling.now (take c.loop-hint.hint-index c.args.hints.now) c.args.tile)
-    c.args.image.now c.args.work.now c.loop-hint.image c.loop-hint.work c.loop-hint.invariant c.requires.parts
+pub hand_over-requires-clause-tile : goal.hand_over-requires-clause-tile
+hand_over-requires-clause-tile c =
+    let count = c.loop-hint.invariant.count in
+    let within = c.requires.tile.within in
+    record {
+      parts =
+          still_of_tiles c.args.tiling.now
+          (hints_in c.args.tiling.now (take c.loop-hint.hint-index c.args.hints.now) c.args.tile)
+          c.args.image.now c.args.work.now c.loop-hint.image c.loop-hint.work c.loop-hint.invariant
+          c.requires.tile.parts;
+      within = omega (arith, count, within);
+    }

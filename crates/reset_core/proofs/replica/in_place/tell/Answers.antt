@@ -37,11 +37,11 @@ hints_are_told c =
 
 told : (c : After-as_slice-2) (hint : Hint) → Contains c.as_slice-2.result.now hint → IsToldBy (sender c) hint
 told c hint there =
-    let count = c.requires.parts.count in
-    let tile = c.requires.tile in
+    let count = c.requires.tile.parts.count in
+    let tile = c.requires.tile.within in
     let within : c.args.tile < count_of c.args.tiling.now = omega (arith, count, tile) in
     told_by c.edges_are_open.ensures c.neighbours_lie_in_touching_tiles.ensures c.each_pixel_in_one_tile.ensures
-    (sender c) c.requires.parts.tiled within hint (subst (λ hs. Contains hs hint) (hints_are_told c) there)
+    (sender c) c.requires.tile.parts.tiled within hint (subst (λ hs. Contains hs hint) (hints_are_told c) there)
 
 sorted : (c : After-as_slice-2)
     → AreByTile c.args.tiling.now c.as_slice-2.result.now
@@ -57,7 +57,7 @@ sorted c =
 
 pub hand_over_all-requires-clause-tiles : goal.hand_over_all-requires-clause-tiles
 hand_over_all-requires-clause-tiles c = λ tile there.
-    let count = c.requires.parts.count in
+    let count = c.requires.tile.parts.count in
     let touches = (c.touching-touching.ensures.members tile).0
     (subst (λ ts. Contains ts tile) c.as_slice.ensures.tiles there) in
     let within = touches.1 in

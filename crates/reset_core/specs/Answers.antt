@@ -1,0 +1,62 @@
+-- What the core's methods answer. Public functions have these words in their contracts.
+use Rattle.std.specs.Prelude.{◌≡◌, ◌⊎◌, ℕ, List}
+use Rattle.grid_core.specs.declared.conn.Conn.{Conn}
+use Rattle.grid_core.specs.Raster.{Raster, IsSized, IsBelow}
+use Rattle.grid_core.specs.Tiles.{IsTileSide}
+use Rattle.stroke_lattice.specs.State.{State}
+use Rattle.tile_generations.specs.Jobs.{Job}
+use Rattle.core_rules.specs.declared.error.CoreError.{CoreError}
+use Rattle.core_rules.specs.declared.error.CoreError.TheVariants as errors
+use Rattle.core_rules.specs.declared.step.Step.{Step}
+use Rattle.core_rules.specs.Work.{Core, IsQuiet}
+use Rattle.core_rules.specs.Opening.{opened}
+use Rattle.core_rules.specs.Invariant.{HasLawfulImage, HasReconstruction}
+use Rattle.core_rules.specs.Merge.{IsRefused, IsAcceptable}
+use Rattle.core_rules.specs.Sweeps.{IsKnown, IsOut, IsUnchanged, HasOnlyRisen}
+use Rattle.core_rules.specs.Runs.{Entry, IsSettled, jobs_of, abandons_of}
+use Rattle.core_rules.specs.Schedule.{Progress, Ran, AreSteps, started, ran_of}
+use Rattle.core_rules.specs.Counting.{IsWithinWork, Owes, tiles_out}
+use Rattle.reset_core.specs.declared.replica.settling.Count.{Count}
+
+-- the core is one of this mask before anything happened, and its side is one that tiles may have
+abbrev pub IsOpened : Raster → Conn → ℕ → ℕ → Core → Type 0
+IsOpened mask conn side first core = (core ≡ opened mask conn side first) × IsTileSide side
+
+-- why no core was opened: tiles may not have the side, or they may and memory was wanting
+abbrev pub IsNotOpened : ℕ → CoreError → Type 0
+IsNotOpened side why =
+    ((why ≡ errors.BadSide) × (IsTileSide side → ⊥)) ⊎ ((why ≡ errors.Memory) × IsTileSide side)
+
+-- the image is the core's: it has a value for each pixel, is nowhere above the mask and lies between the marker of the
+-- strokes and the reconstruction of the mask from it, and where no work is left it is that reconstruction
+pub record IsImageOf (core : Core) (image : Raster) : Type 0 where
+  pub value : image ≡ core.image
+  pub sized : IsSized core.image
+  pub below : IsBelow core.image core.mask
+  pub lawful : HasLawfulImage core
+  pub quiet : IsQuiet core → HasReconstruction core
+
+-- why a delta was not merged: the core refuses it, or would take it and memory was wanting
+abbrev pub IsNotMerged : Core → State → CoreError → Type 0
+IsNotMerged core delta why = IsRefused core delta why ⊎ ((why ≡ errors.Memory) × IsAcceptable core delta)
+
+-- the job is one of the core's and out, and its tile is as it was or has only risen since
+pub record IsJoinable (core : Core) (job : Job) : Type 0 where
+  pub known : IsKnown core job
+  pub out : IsOut core job.ticket
+  pub base : IsUnchanged core job ⊎ HasOnlyRisen core job
+
+-- settling came to its end, and this is what it took: as many tiles were swept as such events say, no more than there
+-- was work, no work is owed, and each job that was out was abandoned
+pub record IsSettledBy (before : Core) (count : Count) (after : Core) : Type 0 where
+  pub settled :
+      (log : List Entry) × IsSettled before log after × (count.jobs ≡ jobs_of log)
+      × (count.abandons ≡ abandons_of log)
+  pub bound : IsWithinWork before after count.jobs count.abandons
+  pub owes_nothing : Owes after 0
+  pub abandons_are : count.abandons ≡ tiles_out before
+
+-- the steps of a schedule were run, and this is what it did
+abbrev pub HaveRun : Core → List Step → Ran → Core → Type 0
+HaveRun before steps ran after =
+    (end : Progress) × AreSteps steps (started before) end × (ran ≡ ran_of end) × (after ≡ end.core)
