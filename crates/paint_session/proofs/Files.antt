@@ -8,11 +8,8 @@ use Rattle.std.specs.Str.{bytes_eq}
 use Rattle.std.proofs.lemmas.Bool.{false_from_ne_true}
 use Rattle.std.proofs.lemmas.Slice.Eq.{bytes_eq-Decides}
 use Rattle.std.proofs.lemmas.Map.{update_same, update_other}
-use Rattle.paint_session.specs.Store.{Held, IsReplaced}
-
--- what is held by files in memory
-abbrev pub held_by : {Y : Type 0} → BTreeMap (String Y) (Vec ℕ Y) → Held
-held_by files = λ name. Some (option_map_or (λ v. v.items) (get_by_text files name) [])
+use Rattle.paint_session.specs.MemoryFiles.{held_by}
+use Rattle.paint_session.specs.Store.{IsReplaced}
 
 -- a file that is put under a name replaces the one of that name, and no other
 pub file_replaced : {Y : Type 0} (old new : BTreeMap (String Y) (Vec ℕ Y)) (bs name : List ℕ) (v : Vec ℕ Y)

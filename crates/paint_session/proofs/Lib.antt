@@ -11,3 +11,4 @@ pub mod Derived
 pub mod Files
 pub mod Shared
 pub mod StoredViews
+pub mod Sides

@@ -14,6 +14,7 @@ pub mod Merging
 pub mod RunError
 pub mod Answering
 pub mod Store
+pub mod MemoryFiles
 pub mod Serving
 pub mod View
 pub mod Kept

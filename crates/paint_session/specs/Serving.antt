@@ -2,7 +2,8 @@
 -- what the file is to keep.
 use Rattle.std.specs.Prelude.{◌≡◌, ◌⊎◌, ℕ, ◌<◌, List, Option, Some, None, Result, IfErr, OnErr, OnOk, IsErrOf}
 use Rattle.std.specs.Io.KnownBytes.{Appends}
-use Rattle.byte_devices.specs.Device.{SinkSeen, HasRisen}
+use Rattle.byte_devices.specs.Device.{SourceSeen, SinkSeen, HasRisen}
+use Rattle.byte_devices.specs.Response.{TellsDevices}
 use Rattle.byte_devices.specs.Transfer.{IsInputOf, AppendsFront}
 use Rattle.grid_core.specs.declared.conn.Conn.{Conn}
 use Rattle.paint_session.specs.Kept.{IsKeptView, KeptStops}
@@ -49,6 +50,18 @@ pub record TellsStore (result : Result (Unit {0}) RunError) (old new : StoreSeen
   pub files : OnErr result (AreSame old.held new.held)
   pub fault : IfErr result (λ e. e ≡ StateFile → HasRisen old.failures new.failures)
   pub failure : old.failures < new.failures → IsErrOf result StateFile
+
+-- A run over a store: what it serves, and what the devices and the store tell of it. `reading`, `keeping` and `writing`
+-- are what is seen of the source, of the store and of the sink.
+pub record AnswersOverStore {S T K : Type 0} (answers : Held → List ℕ → List ℕ → ToKeep → Type 0)
+    (stops : Held → List ℕ → RunError → Type 0) (early : RunError → Type 0) (result : Result (Unit {0}) RunError)
+    (reading : S → SourceSeen) (source source' : S) (keeping : T → StoreSeen) (store store' : T)
+    (writing : K → SinkSeen) (sink sink' : K) : Type 0 where
+  pub serves : Serves (answers (keeping store).held) (stops (keeping store).held) early result
+      (reading source).remaining source source' writing sink sink' (keeping store).held (keeping store').held
+  pub devices : TellsDevices early IsTransferFault result (reading source) (reading source') (writing sink)
+      (writing sink')
+  pub stored : TellsStore result (keeping store) (keeping store')
 
 -- the errors of a run with a state file that may come whatever the input is: in loading and saving the file, and in
 -- reading and writing

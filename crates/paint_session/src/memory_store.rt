@@ -1,9 +1,8 @@
 //! State files in memory.
 
-ghost use Rattle.std.specs.Prelude.{◌≡◌, [], List, ℕ, Some, IfOk, OnOk, OnErr};
-ghost use Rattle.std.specs.Option.{option_map_or};
-ghost use Rattle.std.specs.BTreeMap.{get_by_text};
-ghost use Rattle.paint_session.specs.Store.{IsReplaced, AreSame};
+ghost use Rattle.std.specs.Prelude.{◌≡◌, ◌↔◌, Some, IsTrue, IfOk, OnOk, OnErr};
+ghost use Rattle.paint_session.specs.MemoryFiles.{MemoryFiles, IsCalled, IsChosen, IsNotPut, IsPut, LoadsMemory};
+ghost use Rattle.paint_session.specs.MemoryFiles.{SavesMemory, files_seen, held_by, no_files};
 
 use crate::run_error::RunError;
 use crate::store::{StatePath, StateStore};
@@ -22,10 +21,25 @@ pub struct MemoryStore {
     failures: u64,
 }
 
+/// What contracts see of a store in memory beside what they see of every store.
+pub trait InMemory {
+    // What its files hold, the call that fails, and the counts.
+    ghost files: { Self → MemoryFiles };
+}
+
+impl InMemory for MemoryStore {
+    ghost files = { λ s. record {
+      held = held_by s.files;
+      fails_at = s.fails_at;
+      calls = s.calls;
+      failures = s.failures;
+    } };
+}
+
 impl MemoryStore {
     /// A store without files. None of its calls is chosen to fail.
     pub fn new(alloc: Global) -> MemoryStore
-        ensures { ⟦<MemoryStore as StateStore>⟧.seen result ≡ record { held = λ name. Some []; failures = 0 } }
+        ensures { ⟦<MemoryStore as InMemory>⟧.files result ≡ no_files }
     {
         MemoryStore {
             alloc,
@@ -40,10 +54,8 @@ impl MemoryStore {
     ///
     /// Errors: out of memory.
     pub fn with_file(self, path: &StatePath, bytes: &[u8]) -> Result<MemoryStore, Memory>
-        ensures held { IfOk result (λ store. IsReplaced (⟦<MemoryStore as StateStore>⟧.seen self).held
-            (⟦<MemoryStore as StateStore>⟧.seen store).held path.now bytes.now) }
-        ensures failures { IfOk result (λ store.
-            (⟦<MemoryStore as StateStore>⟧.seen store).failures ≡ (⟦<MemoryStore as StateStore>⟧.seen self).failures) }
+        ensures { IfOk result (λ store. IsPut (⟦<MemoryStore as InMemory>⟧.files self)
+            (⟦<MemoryStore as InMemory>⟧.files store) path.now bytes.now) }
     {
         let mut store = self;
         store.put(path, bytes)?;
@@ -52,7 +64,8 @@ impl MemoryStore {
 
     /// The same, where the call of this number fails, counted from 1.
     pub fn failing_at(self, call: u64) -> MemoryStore
-        ensures { ⟦<MemoryStore as StateStore>⟧.seen result ≡ ⟦<MemoryStore as StateStore>⟧.seen self }
+        ensures { ⟦<MemoryStore as InMemory>⟧.files result
+            ≡ record (⟦<MemoryStore as InMemory>⟧.files self) { fails_at = Some call } }
     {
         MemoryStore {
             fails_at: Some(call),
@@ -62,7 +75,7 @@ impl MemoryStore {
 
     /// The bytes of the file of this name, and none where there is no such file.
     pub fn file(&self, path: &StatePath) -> &[u8]
-        ensures { (⟦<MemoryStore as StateStore>⟧.seen self.now).held path.now ≡ Some result.now }
+        ensures { (⟦<MemoryStore as InMemory>⟧.files self.now).held path.now ≡ Some result.now }
     {
         match self.files.get(path.name()) {
             Some(bytes) => bytes,
@@ -72,12 +85,10 @@ impl MemoryStore {
 
     // Puts the bytes in the place of the file of this name.
     fn put(&mut self, path: &StatePath, bytes: &[u8]) -> Result<(), Memory>
-        ensures replaced { OnOk result (IsReplaced (⟦<MemoryStore as StateStore>⟧.seen self.old).held
-            (⟦<MemoryStore as StateStore>⟧.seen self.new).held path.now bytes.now) }
-        ensures files { OnErr result (AreSame (⟦<MemoryStore as StateStore>⟧.seen self.old).held
-            (⟦<MemoryStore as StateStore>⟧.seen self.new).held) }
-        ensures failures { (⟦<MemoryStore as StateStore>⟧.seen self.new).failures
-            ≡ (⟦<MemoryStore as StateStore>⟧.seen self.old).failures }
+        ensures put { OnOk result (IsPut (⟦<MemoryStore as InMemory>⟧.files self.old)
+            (⟦<MemoryStore as InMemory>⟧.files self.new) path.now bytes.now) }
+        ensures kept { OnErr result (IsNotPut (⟦<MemoryStore as InMemory>⟧.files self.old)
+            (⟦<MemoryStore as InMemory>⟧.files self.new)) }
     {
         let name = String::from_str(self.alloc, path.name())?;
         let copy = Vec::from_slice(self.alloc, bytes)?;
@@ -89,7 +100,10 @@ impl MemoryStore {
 
     // Counts a call, and answers whether it is the one that is chosen to fail.
     fn fails_now(&mut self) -> bool
-        ensures { ⟦<MemoryStore as StateStore>⟧.seen self.new ≡ ⟦<MemoryStore as StateStore>⟧.seen self.old }
+        ensures counted { IsCalled (⟦<MemoryStore as InMemory>⟧.files self.old)
+            (⟦<MemoryStore as InMemory>⟧.files self.new) }
+        ensures chosen { IsTrue result ↔ IsChosen (⟦<MemoryStore as InMemory>⟧.files self.old)
+            (⟦<MemoryStore as InMemory>⟧.files self.new) }
     {
         count_one(&mut self.calls);
         self.fails_at == Some(self.calls)
@@ -97,12 +111,12 @@ impl MemoryStore {
 }
 
 impl StateStore for MemoryStore {
-    ghost seen = { λ s. record {
-      held = λ name. Some (option_map_or (λ v. v.items) (get_by_text s.files name) []);
-      failures = s.failures;
-    } };
+    ghost seen = { λ s. files_seen (⟦<MemoryStore as InMemory>⟧.files s) };
 
-    fn load(&mut self, alloc: Global, path: &StatePath) -> Result<Vec<u8>, RunError> {
+    fn load(&mut self, alloc: Global, path: &StatePath) -> Result<Vec<u8>, RunError>
+        ensures { LoadsMemory (λ v. v.items) (⟦<MemoryStore as InMemory>⟧.files self.old)
+            (⟦<MemoryStore as InMemory>⟧.files self.new) result path.now }
+    {
         if self.fails_now() {
             count_one(&mut self.failures);
             return Err(RunError::StateFile);
@@ -113,7 +127,10 @@ impl StateStore for MemoryStore {
         }
     }
 
-    fn save(&mut self, path: &StatePath, bytes: &[u8]) -> Result<(), RunError> {
+    fn save(&mut self, path: &StatePath, bytes: &[u8]) -> Result<(), RunError>
+        ensures { SavesMemory (⟦<MemoryStore as InMemory>⟧.files self.old) (⟦<MemoryStore as InMemory>⟧.files self.new)
+            result path.now bytes.now }
+    {
         if self.fails_now() {
             count_one(&mut self.failures);
             return Err(RunError::StateFile);

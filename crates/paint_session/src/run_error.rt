@@ -2,7 +2,7 @@
 
 ghost use Rattle.std.specs.Prelude.{◌≡◌, ◌++◌, IfOk, OnOk, codes, decimal, string_bytes};
 ghost use Rattle.stroke_core.specs.Tag.{text_of};
-ghost use Rattle.paint_session.specs.RunError.{fault_text, edit_text, core_text, frame_fault_text};
+ghost use Rattle.paint_session.specs.RunError.{code_text, core_text, edit_text, fault_text, frame_fault_text};
 ghost use Rattle.paint_session.specs.RunError.{HasStatus};
 ghost use Rattle.paint_session.specs.declared.run_error.RunError.TheVariants as errors;
 
@@ -127,17 +127,7 @@ pub fn fault_line(alloc: Global, error: &RunError) -> Result<String, Memory>
     ensures { IfOk result (λ line. string_bytes line ≡ fault_text error.now) }
 {
     let mut line = String::from_str(alloc, "seedpaint: ")?;
-    match error {
-        RunError::Usage => line.push_str("usage")?,
-        RunError::NoImage => line.push_str("V1")?,
-        RunError::Edit(e) => push_edit_fault(alloc, &mut line, e)?,
-        RunError::Pgm(e) => line.push_str(e.code())?,
-        RunError::Core(e) => push_core_fault(alloc, &mut line, e)?,
-        RunError::Spd(e) => push_frame_fault(&mut line, e)?,
-        RunError::OtherMask => line.push_str("D1")?,
-        RunError::StateFile => line.push_str("V2")?,
-        RunError::Memory => line.push_str("memory")?,
-    }
+    push_fault(alloc, &mut line, error)?;
     Ok(line)
 }
 
@@ -158,6 +148,24 @@ pub fn status(error: &RunError) -> u8
         RunError::NoImage | RunError::OtherMask => 1,
         RunError::Edit(_) | RunError::Pgm(_) | RunError::Core(_) | RunError::Spd(_) => 1,
     }
+}
+
+// Adds the code of a fault, with what it names.
+fn push_fault(alloc: Global, line: &mut String, error: &RunError) -> Result<(), Memory>
+    ensures { OnOk result (string_bytes line.new ≡ string_bytes line.old ++ code_text error.now) }
+{
+    match error {
+        RunError::Usage => line.push_str("usage")?,
+        RunError::NoImage => line.push_str("V1")?,
+        RunError::Edit(e) => push_edit_fault(alloc, line, e)?,
+        RunError::Pgm(e) => line.push_str(e.code())?,
+        RunError::Core(e) => push_core_fault(alloc, line, e)?,
+        RunError::Spd(e) => push_frame_fault(line, e)?,
+        RunError::OtherMask => line.push_str("D1")?,
+        RunError::StateFile => line.push_str("V2")?,
+        RunError::Memory => line.push_str("memory")?,
+    }
+    Ok(())
 }
 
 // Adds the code of a fault in the edit text, with the number of its line.

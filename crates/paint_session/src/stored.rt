@@ -1,10 +1,7 @@
 //! A view over the strokes that a state file keeps.
 
-ghost use Rattle.std.specs.Prelude.{◌≡◌};
-ghost use Rattle.byte_devices.specs.Response.{TellsDevices};
 ghost use Rattle.grid_core.specs.Tiles.{IsTileSide};
-ghost use Rattle.paint_session.specs.RunError.{IsTransferFault};
-ghost use Rattle.paint_session.specs.Serving.{IsStoreFault, IsStoredView, Serves, StoredStops, TellsStore};
+ghost use Rattle.paint_session.specs.Serving.{AnswersOverStore, IsStoreFault, IsStoredView, StoredStops};
 
 use crate::run_error::RunError;
 use crate::store::{StatePath, StateStore};
@@ -28,12 +25,8 @@ pub fn view_stored<S: Source, T: StateStore, K: Sink>(
     sink: &mut K,
 ) -> Result<(), RunError>
     requires { IsTileSide side }
-    ensures serves { Serves (IsStoredView conn (T.seen store.old).held path.now)
-        (StoredStops conn (T.seen store.old).held path.now) IsStoreFault result (S.seen source.old).remaining
-        source.old source.new K.seen sink.old sink.new (T.seen store.old).held (T.seen store.new).held }
-    ensures devices { TellsDevices IsStoreFault IsTransferFault result
-        (S.seen source.old) (S.seen source.new) (K.seen sink.old) (K.seen sink.new) }
-    ensures store { TellsStore result (T.seen store.old) (T.seen store.new) }
+    ensures { AnswersOverStore (λ held. IsStoredView conn held path.now) (λ held. StoredStops conn held path.now)
+        IsStoreFault result S.seen source.old source.new T.seen store.old store.new K.seen sink.old sink.new }
 {
     let old = store.load(alloc, path)?;
     let new = view_kept(alloc, source, &old, conn, side, sink)?;

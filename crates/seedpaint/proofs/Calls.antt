@@ -1,32 +1,49 @@
 -- What the words of a call give, and facts of an `Ok`.
-use Rattle.std.proofs.Common.{◌≡◌, ◌⊎◌, ℕ, List, ap, subst, sym, arith, inl, inr}
+use Rattle.std.proofs.Common.{◌≡◌, ℕ, List, ap, subst, sym, refl, arith, inl, inr}
 use Rattle.std.specs.Prelude.{Result, Ok, Err, IsOkAnd, Option, Some, None, String}
 use Rattle.std.specs.declared.vec.IntoIter.{IntoIter}
 use Rattle.clap.specs.Words.{Text}
-use Rattle.byte_devices.specs.Device.{SinkSeen}
+use Rattle.byte_devices.specs.Device.{SinkSeen, SourceSeen}
 use Rattle.byte_devices.specs.Transfer.{PutsAll}
 use Rattle.grid_core.specs.Tiles.{IsTileSide}
+use Rattle.grid_core.specs.declared.conn.Conn.{Conn}
+use Rattle.stroke_lattice.specs.State.{State, nothing}
+use Rattle.paint_session.proofs.Shared.{derivation_stops_of_input, input_is_no_file, input_stops_of_input}
+use Rattle.paint_session.proofs.Shared.{serves_alone, store_alone}
+use Rattle.paint_session.specs.Answering.{Answers}
+use Rattle.paint_session.specs.Derive.{DerivationStops, IsDerivation}
 use Rattle.paint_session.specs.RunError.{IsTransferFault}
+use Rattle.paint_session.specs.Serving.{AnswersOverStore, IsStoredView, IsStoreFault, StoredStops}
+use Rattle.paint_session.specs.Store.{StoreSeen}
+use Rattle.paint_session.specs.View.{InputStops, IsView}
+use Rattle.paint_session.specs.declared.derive.Derivation.{Derivation}
 use Rattle.paint_session.specs.declared.run_error.RunError.{RunError}
-use Rattle.paint_session.specs.declared.run_error.RunError.TheVariants.{Memory, StateFile, Usage}
-use Rattle.seedpaint.specs.Run.{CanBeMade, RunEndsEarly, TellsLine}
-use Rattle.seedpaint.specs.Words.{SideIs, Says}
+use Rattle.paint_session.specs.declared.run_error.RunError.TheVariants.{StateFile, Usage}
+use Rattle.seedpaint.specs.Run.{CanBeMade, EndsEarly, IsAnswer, RunEndsEarly, StopsOn, TellsLine}
+use Rattle.seedpaint.specs.Words.{IsRefusalOfWords, ProcessSays, Reads, Says, SideIs}
 use Rattle.seedpaint.specs.declared.words.Call.{Call}
 use Rattle.seedpaint.specs.declared.words.Call.TheVariants.{View, Derive}
 
 -- what holds of the value of an `Ok` gives what it implies
-pub ok_and : {T E : Type 0} (r : Result T E) (P Q : T → Type 0) → ((x : T) → P x → Q x) → IsOkAnd r P → IsOkAnd r Q
-ok_and (Ok x) P Q f p = f x p
-ok_and (Err e) P Q f p = p
-
-pub ok_gives : {T E : Type 0} (r : Result T E) (P : T → Type 0) (Q : Type 0) → ((x : T) → P x → Q) → IsOkAnd r P → Q
+ok_gives : {T E : Type 0} (r : Result T E) (P : T → Type 0) (Q : Type 0) → ((x : T) → P x → Q) → IsOkAnd r P → Q
 ok_gives (Ok x) P Q f p = f x p
 ok_gives (Err e) P Q f p = absurd p
 
--- equal faults are equal under the `Err` of each type
-pub same_err : {T U : Type 0} (e f : RunError) → ◌≡◌ {A = Result T RunError} (Err e) (Err f)
-    → ◌≡◌ {A = Result U RunError} (Err e) (Err f)
-same_err e f same = let equal : e ≡ f = cc in ap (λ (k : RunError). Err k) equal
+-- reading gave a value that the words say
+pub reads_value : {T : Type 0} (says : T → Type 0) (value : T) → says value → Reads says (Ok value)
+reads_value says value said = record { said = said; refused = tt; usage = λ same other says_other. cc }
+
+-- reading gave a refusal
+pub reads_none : {T : Type 0} (says : T → Type 0) (e : RunError) → IsRefusalOfWords e
+    → (e ≡ Usage → (value : T) → says value → ⊥) → Reads says (Err e)
+reads_none says e refused none =
+    record { said = tt; refused = refused; usage = λ same. let usage : e ≡ Usage = cc in none usage }
+
+-- the refusal of one word refuses them all, where they say nothing unless that one does
+pub reads_no_more : {T U : Type 0} (part : T → Type 0) (says : U → Type 0) (e : RunError) → Reads part (Err e)
+    → (((value : T) → part value → ⊥) → (whole : U) → says whole → ⊥) → Reads says (Err e)
+reads_no_more part says e read none =
+    reads_none says e read.refused (λ usage. none (read.usage (ap (λ (k : RunError). Err k) usage)))
 
 -- the words of a call name a side that tiles may have
 value_side : (value : Option Text) (side : ℕ) → SideIs value side → IsTileSide side
@@ -34,24 +51,30 @@ value_side None side is = subst IsTileSide (sym is) (record { at_least = omega a
 value_side (Some text) side is = is.1
 
 -- the call that words say can be made
-pub said_can_be_made : (words : List Text) (call : Call) → Says words call → CanBeMade call
+said_can_be_made : (words : List Text) (call : Call) → Says words call → CanBeMade call
 said_can_be_made words call (inl (none, is)) =
     subst CanBeMade (sym is) (record { at_least = omega arith; at_most = omega arith })
 said_can_be_made words (View conn side file) (inr (no_fault, (rows, named, conn_is, side_is, file_is))) =
     value_side _ side side_is
 said_can_be_made words (Derive kind h conn) (inr said) = tt
 
+-- and so the call that the words of a process say
+pub process_can_be_made : {Z E : Type 0} (args : Result (IntoIter (String Z) Z) E) (call : Call)
+    → ProcessSays args call → CanBeMade call
+process_can_be_made args call says =
+    ok_gives args _ (CanBeMade call) (λ given said. said_can_be_made said.0 call said.2) says
+
 -- reading words gives usage or want of memory
 pub words_are_early : {Z E : Type 0} (args : Result (IntoIter (String Z) Z) E) (e : RunError)
-    → (e ≡ Usage) ⊎ (e ≡ Memory) → RunEndsEarly args e
+    → IsRefusalOfWords e → RunEndsEarly args e
 words_are_early args e (inl usage) = inl usage
 words_are_early args e (inr memory) = inr (inl memory)
 
-pub words_are_no_device : (e : RunError) → (e ≡ Usage) ⊎ (e ≡ Memory) → IsTransferFault e → ⊥
+pub words_are_no_device : (e : RunError) → IsRefusalOfWords e → IsTransferFault e → ⊥
 words_are_no_device e (inl usage) device = cc
 words_are_no_device e (inr memory) device = cc
 
-pub words_are_no_file : (e : RunError) → (e ≡ Usage) ⊎ (e ≡ Memory) → e ≡ StateFile → ⊥
+pub words_are_no_file : (e : RunError) → IsRefusalOfWords e → e ≡ StateFile → ⊥
 words_are_no_file e (inl usage) file = cc
 words_are_no_file e (inr memory) file = cc
 
@@ -60,3 +83,45 @@ pub tells_line : {E : Type 0} (result : Result (Unit {0}) E) (old new : SinkSeen
     → PutsAll result old new line → TellsLine old new line
 tells_line (Ok value) old new line puts = inl puts.text
 tells_line (Err e) old new line puts = inr (puts.fault, puts.front)
+
+-- what is said of the run of a call, by what is said of what it calls
+module _ {S T K : Type 0} {source_seen : S → SourceSeen} {source source' : S} {store_seen : T → StoreSeen}
+    {store : T} {sink_seen : K → SinkSeen} {sink sink' : K} {result : Result (Unit {0}) RunError} where
+  pub view_runs : (call : Call) (conn : Conn) (side : ℕ) → call ≡ View conn side None
+      → Answers (λ input _ text. (state : State) × IsView conn nothing input state text)
+      (λ input e. InputStops nothing input e) result source_seen source source' sink_seen sink sink'
+      → AnswersOverStore (IsAnswer call) (StopsOn call) (EndsEarly call) result source_seen source source' store_seen
+      store store sink_seen sink sink'
+  view_runs call conn side is answers =
+      rw is (record {
+        serves = serves_alone _ _ _ _ _ _ _ _ _ _ _ result _ (λ input value text view. (view, refl))
+            (λ input e stops. stops) (λ input e stops. input_is_no_file e (input_stops_of_input _ input e stops))
+            (λ e early. early) answers.responds;
+        devices = answers.devices;
+        stored = store_alone _ _ _ _ _ _ result _
+            (λ input e stops. input_is_no_file e (input_stops_of_input _ input e stops)) answers.responds;
+      })
+
+  pub stored_view_runs : {store' : T} (call : Call) (conn : Conn) (side : ℕ) (name : List ℕ)
+      → call ≡ View conn side (Some name)
+      → AnswersOverStore (λ held. IsStoredView conn held name) (λ held. StoredStops conn held name) IsStoreFault result
+      source_seen source source' store_seen store store' sink_seen sink sink'
+      → AnswersOverStore (IsAnswer call) (StopsOn call) (EndsEarly call) result source_seen source source' store_seen
+      store store' sink_seen sink sink'
+  stored_view_runs call conn side name is answers =
+      rw is (record { serves = answers.serves; devices = answers.devices; stored = answers.stored })
+
+  pub derivation_runs : (call : Call) (kind : Derivation) (h : ℕ) (conn : Conn) → call ≡ Derive kind h conn
+      → Answers (λ input _ text. IsDerivation kind h conn input text) DerivationStops result source_seen source source'
+      sink_seen sink sink'
+      → AnswersOverStore (IsAnswer call) (StopsOn call) (EndsEarly call) result source_seen source source' store_seen
+      store store sink_seen sink sink'
+  derivation_runs call kind h conn is answers =
+      rw is (record {
+        serves = serves_alone _ _ _ _ _ _ _ _ _ _ _ result _ (λ input value text derived. (derived, refl))
+            (λ input e stops. stops) (λ input e stops. input_is_no_file e (derivation_stops_of_input input e stops))
+            (λ e early. early) answers.responds;
+        devices = answers.devices;
+        stored = store_alone _ _ _ _ _ _ result _
+            (λ input e stops. input_is_no_file e (derivation_stops_of_input input e stops)) answers.responds;
+      })

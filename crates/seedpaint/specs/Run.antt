@@ -1,5 +1,5 @@
 -- What a run does: the call that the words say, on an input and over what its state file holds.
-use Rattle.std.specs.Prelude.{◌≡◌, ◌⊎◌, ◌++◌, ◌∷◌, [], ⊤, ℕ, List, Option, Some, None, Result, Ok, Err, String, IsOkAnd}
+use Rattle.std.specs.Prelude.{◌≡◌, ◌⊎◌, ◌++◌, ◌∷◌, [], ⊤, ℕ, List, Some, None, Result, Ok, Err, String}
 use Rattle.std.specs.Io.KnownBytes.{Appends}
 use Rattle.std.specs.declared.vec.IntoIter.{IntoIter}
 use Rattle.byte_devices.specs.Device.{SinkSeen, HasRisen}
@@ -13,7 +13,7 @@ use Rattle.paint_session.specs.Store.{Held}
 use Rattle.paint_session.specs.View.{IsView, InputStops}
 use Rattle.paint_session.specs.declared.run_error.RunError.{RunError}
 use Rattle.paint_session.specs.declared.run_error.RunError.TheVariants.{Memory, Usage}
-use Rattle.seedpaint.specs.Words.{GivesWords, Says}
+use Rattle.seedpaint.specs.Words.{ProcessSays}
 use Rattle.seedpaint.specs.declared.words.Call.{Call}
 use Rattle.seedpaint.specs.declared.words.Call.TheVariants.{View, Derive}
 
@@ -44,8 +44,7 @@ EndsEarly (Derive kind h conn) e = IsReadingFault e
 
 -- the words of the process say a call, and this holds of it
 abbrev pub IsSaid : {Z E : Type 0} → Result (IntoIter (String Z) Z) E → (Call → Type 0) → Type 0
-IsSaid args P = IsOkAnd args (λ given.
-    (words : List (List ℕ)) × (call : Call) × GivesWords given words × Says words call × P call)
+IsSaid args P = (call : Call) × ProcessSays args call × P call
 
 -- the same three of the call that the words say; words that say none are usage, and reading them may find no memory
 abbrev pub RunAnswers : {Z E : Type 0} → Result (IntoIter (String Z) Z) E → Held → List ℕ → List ℕ → ToKeep → Type 0

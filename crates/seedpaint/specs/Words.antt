@@ -1,11 +1,11 @@
 -- What the words of the command line say.
 use Rattle.std.specs.Prelude.{◌≡◌, ◌≤◌, ◌⊎◌, ℕ, [], List, Option, Some, None, String, map, drop, codes, true, false}
-use Rattle.std.specs.Prelude.{string_bytes, decimal}
+use Rattle.std.specs.Prelude.{string_bytes, decimal, Result, Err, IfOk, IfErr, IsOkAnd}
 use Rattle.std.specs.Iterator.{Drains}
 use Rattle.std.specs.Vec.Iter.{into_iter_steps}
 use Rattle.std.specs.declared.vec.IntoIter.{IntoIter}
-use Rattle.clap.specs.Words.{App, Row, Rule, Text, app_of, first_of, fault_of, new_app, new_rule, subcommand_of, with_rule}
-use Rattle.clap.specs.Words.{with_subcommand}
+use Rattle.clap.specs.Words.{App, Row, Rule, Text, app_of, first_of, fault_of, new_app, new_rule, subcommand_of}
+use Rattle.clap.specs.Words.{with_rule, with_subcommand}
 use Rattle.clap.specs.Simple.{on_top}
 use Rattle.clap.specs.declared.builder.command.Command.{Command}
 use Rattle.clap.specs.declared.builder.command.Command.TheViews.{out-Command}
@@ -16,6 +16,8 @@ use Rattle.seedpaint.specs.declared.words.Call.{Call}
 use Rattle.seedpaint.specs.declared.words.Call.TheVariants.{View, Derive}
 use Rattle.paint_session.specs.declared.derive.Derivation.{Derivation as Kind}
 use Rattle.paint_session.specs.declared.derive.Derivation.TheVariants.{Fill, HMax, RegMax}
+use Rattle.paint_session.specs.declared.run_error.RunError.{RunError}
+use Rattle.paint_session.specs.declared.run_error.RunError.TheVariants.{Memory, Usage}
 
 -- an option `--name`, which takes one value
 abbrev pub option_of : Text → Rule
@@ -108,3 +110,21 @@ IsUsage words = (call : Call) → Says words call → ⊥
 -- the arguments of a process give these words behind the first, which is the program's name
 abbrev pub GivesWords : {Z : Type 0} → IntoIter (String Z) Z → List Text → Type 0
 GivesWords args words = (all : List _) × Drains into_iter_steps args all × (words ≡ map string_bytes (drop 1 all))
+
+-- the words of the process, where they could be had, say this call
+abbrev pub ProcessSays : {Z E : Type 0} → Result (IntoIter (String Z) Z) E → Call → Type 0
+ProcessSays args call = IsOkAnd args (λ given. (words : List Text) × GivesWords given words × Says words call)
+
+-- or they say none
+abbrev pub ProcessSaysNone : {Z E : Type 0} → Result (IntoIter (String Z) Z) E → Type 0
+ProcessSaysNone args = IfOk args (λ given. (words : List Text) × GivesWords given words × IsUsage words)
+
+-- the words are refused: they are usage, or there is no memory to read them
+abbrev pub IsRefusalOfWords : RunError → Type 0
+IsRefusalOfWords e = (e ≡ Usage) ⊎ (e ≡ Memory)
+
+-- What is read of words: a value that they say, or a refusal, which is usage only where they say none.
+pub record Reads {T : Type 0} (says : T → Type 0) (result : Result T RunError) : Type 0 where
+  pub said : IfOk result says
+  pub refused : IfErr result IsRefusalOfWords
+  pub usage : result ≡ Err Usage → (value : T) → says value → ⊥

@@ -1,13 +1,12 @@
 //! The run of a process: its words, its input, and what it says at the end.
 
-ghost use Rattle.std.specs.Prelude.{◌≡◌, List, ℕ, IfOk, IsErrOf, MatchResult, string_bytes};
+ghost use Rattle.std.specs.Prelude.{◌≡◌, IfOk, IsErrOf, MatchResult, string_bytes};
 ghost use Rattle.std.specs.Process.{exit_status};
-ghost use Rattle.byte_devices.specs.Response.{TellsDevices};
-ghost use Rattle.paint_session.specs.RunError.{HasStatus, IsTransferFault};
-ghost use Rattle.paint_session.specs.Serving.{Serves, TellsStore};
-ghost use Rattle.seedpaint.specs.Run.{CanBeMade, EndsEarly, IsAnswer, StopsOn};
-ghost use Rattle.seedpaint.specs.Run.{RunAnswers, RunEndsEarly, RunStops, Tells, TellsFault, TellsLine, error_line};
-ghost use Rattle.seedpaint.specs.Words.{GivesWords, IsUsage};
+ghost use Rattle.paint_session.specs.RunError.{HasStatus};
+ghost use Rattle.paint_session.specs.Serving.{AnswersOverStore};
+ghost use Rattle.seedpaint.specs.Run.{CanBeMade, EndsEarly, IsAnswer, StopsOn, error_line};
+ghost use Rattle.seedpaint.specs.Run.{RunAnswers, RunEndsEarly, RunStops, Tells, TellsFault, TellsLine};
+ghost use Rattle.seedpaint.specs.Words.{ProcessSaysNone};
 
 use crate::words::{Call, read_process_words};
 use byte_devices::{Sink, Source, put_all};
@@ -34,45 +33,36 @@ pub fn run<S: Source, T: StateStore, K: Sink>(
     store: &mut T,
     sink: &mut K,
 ) -> Result<(), RunError>
-    ensures serves { Serves (RunAnswers args (T.seen store.old).held) (RunStops args (T.seen store.old).held)
-        (RunEndsEarly args) result (S.seen source.old).remaining source.old source.new K.seen sink.old sink.new
-        (T.seen store.old).held (T.seen store.new).held }
-    ensures devices { TellsDevices (RunEndsEarly args) IsTransferFault result
-        (S.seen source.old) (S.seen source.new) (K.seen sink.old) (K.seen sink.new) }
-    ensures store { TellsStore result (T.seen store.old) (T.seen store.new) }
+    ensures runs { AnswersOverStore (RunAnswers args) (RunStops args) (RunEndsEarly args) result
+        S.seen source.old source.new T.seen store.old store.new K.seen sink.old sink.new }
 
     // Words that say no call are usage, and leave the source alone.
-    ensures usage { IsErrOf result RunError.Usage → IfOk args (λ given.
-        (words : List (List ℕ)) × GivesWords given words × IsUsage words) }
+    ensures usage { IsErrOf result RunError.Usage → ProcessSaysNone args }
     ensures unread { IsErrOf result RunError.Usage → source.new ≡ source.old }
 {
     let call = read_process_words(alloc, args)?;
-    make(alloc, source, call, store, sink)
+    make(alloc, source, &call, store, sink)
 }
 
 // Makes a call, from the source to the sink.
 fn make<S: Source, T: StateStore, K: Sink>(
     alloc: Global,
     source: &mut S,
-    call: Call,
+    call: &Call,
     store: &mut T,
     sink: &mut K,
 ) -> Result<(), RunError>
-    requires { CanBeMade call }
-    ensures serves { Serves (IsAnswer call (T.seen store.old).held) (StopsOn call (T.seen store.old).held)
-        (EndsEarly call) result (S.seen source.old).remaining source.old source.new K.seen sink.old sink.new
-        (T.seen store.old).held (T.seen store.new).held }
-    ensures devices { TellsDevices (EndsEarly call) IsTransferFault result
-        (S.seen source.old) (S.seen source.new) (K.seen sink.old) (K.seen sink.new) }
-    ensures store { TellsStore result (T.seen store.old) (T.seen store.new) }
+    requires { CanBeMade call.now }
+    ensures runs { AnswersOverStore (IsAnswer call.now) (StopsOn call.now) (EndsEarly call.now) result
+        S.seen source.old source.new T.seen store.old store.new K.seen sink.old sink.new }
     ensures no_usage { IsErrOf result RunError.Usage → ⊥ }
 {
     match call {
         Call::View { conn, side, file } => match file {
-            None => view_run(alloc, source, conn, sink),
-            Some(path) => view_stored(alloc, source, conn, side, &path, store, sink),
+            None => view_run(alloc, source, *conn, sink),
+            Some(path) => view_stored(alloc, source, *conn, *side, path, store, sink),
         },
-        Call::Derive { kind, h, conn } => derive_run(alloc, source, kind, h, conn, sink),
+        Call::Derive { kind, h, conn } => derive_run(alloc, source, *kind, *h, *conn, sink),
     }
 }
 

@@ -1,18 +1,18 @@
 //! The words of the command line, and the call that they say.
 
 ghost use Rattle.std.specs.Prelude.{◌≡◌, ◌≢◌, ◌<◌, ◌^◌, ◌⊎◌, ◌↔◌, decimal, All, IsTrue, [], List, ℕ, Ok, Err};
-ghost use Rattle.std.specs.Prelude.{map, drop, option_map, string_bytes, false, IfOk, IfErr, IsOkAnd};
+ghost use Rattle.std.specs.Prelude.{map, drop, option_map, string_bytes, IfOk, IfErr};
 ghost use Rattle.std.specs.IoError.{error_kind};
 ghost use Rattle.std.specs.Iterator.{Drains};
 ghost use Rattle.std.specs.Vec.Iter.{into_iter_steps};
 ghost use Rattle.std.specs.declared.io.ErrorKind.TheVariants.{OutOfMemory};
-ghost use Rattle.clap.specs.Words.{app_of, kind_of, fault_of, subcommand_of, subcommand_rows_of};
+ghost use Rattle.clap.specs.Words.{app_of, kind_of, subcommand_rows_of};
 ghost use Rattle.clap.specs.declared.error.kind.ErrorKind.TheVariants as parse;
 ghost use Rattle.grid_core.specs.declared.conn.Conn.TheVariants.{Four};
-ghost use Rattle.seedpaint.specs.Words.{program, view_command, derive_command, IsCall, Says, IsUsage, GivesWords};
-ghost use Rattle.seedpaint.specs.Words.{AddsOption, IsLocal};
+ghost use Rattle.seedpaint.specs.Words.{program, view_command, derive_command, AddsOption, IsLocal};
+ghost use Rattle.seedpaint.specs.Words.{IsCall, Says, IsUsage, ProcessSays, ProcessSaysNone, Reads, IsRefusalOfWords};
+ghost use Rattle.seedpaint.specs.Words.{ConnIs, NamesNoConn, SideIs, KindIs, NamesNoKind, HIs};
 ghost use Rattle.seedpaint.specs.Examples.{IsSaidSo, of_a_view, of_a_derivation, of_no_call};
-ghost use Rattle.seedpaint.specs.Words.{ConnIs, NamesNoConn, SideIs, NamesNoSide, KindIs, NamesNoKind, HIs, NamesNoH};
 ghost use Rattle.seedpaint.specs.declared.words.Call.{Call};
 ghost use Rattle.seedpaint.specs.declared.words.Call.TheVariants as call;
 ghost use Rattle.paint_session.specs.declared.run_error.RunError.TheVariants as errors;
@@ -22,11 +22,11 @@ use grid_core::{Conn, Memory, TILE_SIDE, is_tile_side};
 use paint_session::derive::Derivation;
 use paint_session::run_error::RunError;
 use paint_session::store::StatePath;
-use std::alloc::Global;
+use std::alloc::{AllocError, Global};
 use std::{env, io};
 
 /// What the program is called to do.
-#[derive(Debug, Drop)]
+#[derive(Drop)]
 pub enum Call {
     /// Writes the image that standard input asks for.
     View {
@@ -49,11 +49,11 @@ pub enum Call {
 }
 
 // What a refusal of `clap` is: want of memory, or usage.
-fn refusal_of(e: clap::Error) -> RunError
-    ensures { ((kind_of e ≡ parse.OutOfMemory) × (result ≡ errors.Memory))
-        ⊎ ((kind_of e ≢ parse.OutOfMemory) × (result ≡ errors.Usage)) }
+fn refusal_of(error: &clap::Error) -> RunError
+    ensures { ((kind_of error.now ≡ parse.OutOfMemory) × (result ≡ errors.Memory))
+        ⊎ ((kind_of error.now ≢ parse.OutOfMemory) × (result ≡ errors.Usage)) }
 {
-    match e.kind() {
+    match error.kind() {
         clap::error::ErrorKind::OutOfMemory => RunError::Memory,
         _ => RunError::Usage,
     }
@@ -61,17 +61,15 @@ fn refusal_of(e: clap::Error) -> RunError
 
 /// Reads the words behind the program's name: no word at all, `view [--conn 4|8] [--tile N] [--state FILE]`, or
 /// `derive KIND [--h N] [--conn 4|8]`. Without `--conn` the connectivity is that of four neighbours. The N of `--tile`
-/// is 8 to 256, and 64 where it is not given. KIND is `fill`, `hmax` or `regmax`. The N of `--h` is 0 to 65535 with each
-/// KIND, and 1 where it is not given. FILE is any text.
+/// is 8 to 256, and 64 where it is not given. KIND is `fill`, `hmax` or `regmax`. The N of `--h` is 0 to 65535 with
+/// each KIND, and 1 where it is not given. FILE is any text.
 ///
 /// `--conn=8`, the options in another order and a `--` at the end are taken too, as `clap` does. A value is its very
 /// text: `08` is no value. There is no help and no version.
 ///
 /// Errors: usage for all other words; out of memory.
 pub fn read_words(alloc: Global, words: &[String]) -> Result<Call, RunError>
-    ensures says { IfOk result (Says (map string_bytes words.now)) }
-    ensures usage { result ≡ Err errors.Usage → IsUsage (map string_bytes words.now) }
-    ensures refused { IfErr result (λ e. (e ≡ errors.Usage) ⊎ (e ≡ errors.Memory)) }
+    ensures reads { Reads (Says (map string_bytes words.now)) result }
     ensures no_word { words.now ≡ [] → result ≡ Ok (call.View Four 64 None) }
 {
     if words.is_empty() {
@@ -81,19 +79,22 @@ pub fn read_words(alloc: Global, words: &[String]) -> Result<Call, RunError>
             file: None,
         });
     }
-    let matches = parse(alloc, words)?;
-    call_of(alloc, &matches)
+    let Ok(program) = program(alloc) else {
+        return Err(RunError::Memory);
+    };
+    match program.try_get_matches_from(words) {
+        Ok(matches) => call_of(alloc, &matches),
+        Err(error) => Err(refusal_of(&error)),
+    }
 }
 
 /// Reads the words of the process, as `env::args` gives them, the program's name first.
 ///
 /// Errors: usage as [`read_words`], and for a word that is not UTF-8; out of memory.
 pub fn read_process_words(alloc: Global, args: io::Result<env::Args>) -> Result<Call, RunError>
-    ensures says { IfOk result (λ call. IsOkAnd args (λ given.
-        (words : List (List ℕ)) × GivesWords given words × Says words call)) }
-    ensures usage { result ≡ Err errors.Usage → IfOk args (λ given.
-        (words : List (List ℕ)) × GivesWords given words × IsUsage words) }
-    ensures refused { IfErr result (λ e. (e ≡ errors.Usage) ⊎ (e ≡ errors.Memory)) }
+    ensures says { IfOk result (ProcessSays args) }
+    ensures usage { result ≡ Err errors.Usage → ProcessSaysNone args }
+    ensures refused { IfErr result IsRefusalOfWords }
     ensures memory { IfErr args (λ e. error_kind e ≡ OutOfMemory → result ≡ Err errors.Memory) }
     ensures not_text { IfErr args (λ e. error_kind e ≢ OutOfMemory → result ≡ Err errors.Usage) }
 {
@@ -129,38 +130,36 @@ pub fn words_of_no_call()
 {}
 
 // The program as `clap` parses its words.
-fn program<'a>(alloc: Global) -> Result<Command<'a>, Memory>
+fn program<'a>(alloc: Global) -> Result<Command<'a>, AllocError>
     ensures { IfOk result (λ command. app_of command ≡ program) }
 {
+    let view = view_command(alloc)?;
     let seedpaint = Command::new(alloc, "seedpaint")
         .no_binary_name(true)
         .disable_help_flag(true)
         .disable_help_subcommand(true)
         .subcommand_required(true)
-        .subcommand(view_command(alloc)?)?
-        .subcommand(derive_command(alloc)?)?;
-    Ok(seedpaint)
+        .subcommand(view)?;
+    let derive = derive_command(alloc)?;
+    seedpaint.subcommand(derive)
 }
 
 // The subcommand `view`.
-fn view_command<'a>(alloc: Global) -> Result<Command<'a>, Memory>
+fn view_command<'a>(alloc: Global) -> Result<Command<'a>, AllocError>
     ensures { IfOk result (IsLocal view_command) }
 {
     let view = with_option(alloc, Command::new(alloc, "view"), "conn")?;
     let view = with_option(alloc, view, "tile")?;
-    let view = with_option(alloc, view, "state")?;
-    Ok(view)
+    with_option(alloc, view, "state")
 }
 
 // The subcommand `derive`.
-fn derive_command<'a>(alloc: Global) -> Result<Command<'a>, Memory>
+fn derive_command<'a>(alloc: Global) -> Result<Command<'a>, AllocError>
     ensures { IfOk result (IsLocal derive_command) }
 {
-    let kind = Arg::new(alloc, "kind");
-    let derive = Command::new(alloc, "derive").arg(kind)?;
+    let derive = Command::new(alloc, "derive").arg(Arg::new(alloc, "kind"))?;
     let derive = with_option(alloc, derive, "h")?;
-    let derive = with_option(alloc, derive, "conn")?;
-    Ok(derive)
+    with_option(alloc, derive, "conn")
 }
 
 // The command with one more option, which takes one value.
@@ -168,31 +167,15 @@ fn with_option<'a>(
     alloc: Global,
     command: Command<'a>,
     name: &'a str,
-) -> Result<Command<'a>, Memory>
+) -> Result<Command<'a>, AllocError>
     ensures { IfOk result (AddsOption command.entry name.entry.now) }
 {
-    let added = command.arg(Arg::new(alloc, name).long(name))?;
-    Ok(added)
-}
-
-// What `clap` reads in the words.
-fn parse<'a>(alloc: Global, words: &'a [String]) -> Result<ArgMatches<'a>, RunError>
-    ensures ok { IfOk result (λ matches. (fault_of program (map string_bytes words.now) ≡ [])
-        × (subcommand_rows_of matches ≡ subcommand_of program (map string_bytes words.now))) }
-    ensures usage { result ≡ Err errors.Usage → fault_of program (map string_bytes words.now) ≢ [] }
-    ensures refused { IfErr result (λ e. (e ≡ errors.Usage) ⊎ (e ≡ errors.Memory)) }
-{
-    match program(alloc)?.try_get_matches_from(words) {
-        Ok(matches) => Ok(matches),
-        Err(e) => Err(refusal_of(e)),
-    }
+    command.arg(Arg::new(alloc, name).long(name))
 }
 
 // The call that `clap` read.
 fn call_of(alloc: Global, matches: &ArgMatches<'_>) -> Result<Call, RunError>
-    ensures ok { IfOk result (IsCall (subcommand_rows_of matches.now)) }
-    ensures usage { result ≡ Err errors.Usage → (call : Call) → IsCall (subcommand_rows_of matches.now) call → ⊥ }
-    ensures refused { IfErr result (λ e. (e ≡ errors.Usage) ⊎ (e ≡ errors.Memory)) }
+    ensures { Reads (IsCall (subcommand_rows_of matches.now)) result }
 {
     if let Some(view) = matches.subcommand_matches("view") {
         let conn = conn_of(view.get_str("conn"))?;
@@ -236,9 +219,7 @@ fn conn_of(value: Option<&str>) -> Result<Conn, RunError>
 
 // The side of the tiles by the value of `--tile`.
 fn side_of(alloc: Global, value: Option<&str>) -> Result<u32, RunError>
-    ensures ok { IfOk result (SideIs (option_map (λ text. text.now) value.entry)) }
-    ensures usage { result ≡ Err errors.Usage → NamesNoSide (option_map (λ text. text.now) value.entry) }
-    ensures refused { IfErr result (λ e. (e ≡ errors.Usage) ⊎ (e ≡ errors.Memory)) }
+    ensures { Reads (SideIs (option_map (λ text. text.now) value.entry)) result }
 {
     let Some(text) = value else {
         return Ok(TILE_SIDE);
@@ -263,9 +244,7 @@ fn file_of(alloc: Global, value: Option<&str>) -> Result<Option<StatePath>, Memo
 // How much domes lose, by the value of `--h`.
 #[tactic(auto, using(crate::proofs::Subcommands::no_greater_h))]
 fn h_of(alloc: Global, value: Option<&str>) -> Result<u16, RunError>
-    ensures ok { IfOk result (HIs (option_map (λ text. text.now) value.entry)) }
-    ensures usage { result ≡ Err errors.Usage → NamesNoH (option_map (λ text. text.now) value.entry) }
-    ensures refused { IfErr result (λ e. (e ≡ errors.Usage) ⊎ (e ≡ errors.Memory)) }
+    ensures { Reads (HIs (option_map (λ text. text.now) value.entry)) result }
 {
     let Some(text) = value else {
         return Ok(1);
@@ -279,9 +258,7 @@ fn h_of(alloc: Global, value: Option<&str>) -> Result<u16, RunError>
 
 // The number of 32 bits that the text is in decimal.
 fn number_of(alloc: Global, text: &str) -> Result<u32, RunError>
-    ensures ok { IfOk result (λ n. (n < 2 ^ 32) × (text.now ≡ decimal n)) }
-    ensures usage { result ≡ Err errors.Usage → (n : ℕ) → n < 2 ^ 32 → text.now ≡ decimal n → ⊥ }
-    ensures refused { IfErr result (λ e. (e ≡ errors.Usage) ⊎ (e ≡ errors.Memory)) }
+    ensures { Reads (λ n. (n < 2 ^ 32) × (text.now ≡ decimal n)) result }
 {
     let Ok(n) = text.parse::<u32>() else {
         return Err(RunError::Usage);

@@ -1,119 +1,105 @@
 use super::words_of;
 use crate::words::{Call, read_process_words, read_words};
-use grid_core::{Conn, Memory};
-use paint_session::derive::Derivation;
-use paint_session::run_error::RunError;
+use grid_core::Memory;
+use paint_session::run_error::{RunError, fault_line};
 use std::alloc::Global;
-use std::io;
 use std::test::Fail;
+use std::{env, io};
 
-// What words say.
-#[derive(Clone, Copy)]
-enum Said {
-    // A view without a state file.
-    View(Conn, u32),
-    // A view with four neighbours, tiles of side 64 and this state file.
-    Kept(&'static str),
-    Derived(Derivation, u16, Conn),
-    Usage,
-    // Nothing, as there is no memory.
-    NoMemory,
+// A view with its neighbours, its side and the name of its state file; a derivation with its h and its neighbours; or
+// the line of the fault.
+fn text_of(alloc: Global, call: &Result<Call, RunError>) -> Result<String, Memory> {
+    match call {
+        Ok(Call::View { conn, side, file }) => match file {
+            None => Ok(format!(in alloc; "view {conn:?} {side}")?),
+            Some(path) => Ok(format!(in alloc; "view {conn:?} {side} {}", path.name())?),
+        },
+        Ok(Call::Derive { kind, h, conn }) => Ok(format!(in alloc;
+            "derive {kind:?} {h} {conn:?}"
+        )?),
+        Err(error) => fault_line(alloc, error),
+    }
 }
 
 // Whether words that were read say this.
-fn is_said(call: &Result<Call, RunError>, said: Said) -> bool {
-    match (call, said) {
-        (
-            Ok(
-                Call::View {
-                    conn,
-                    side,
-                    file: None,
-                },
-            ),
-            Said::View(c, s),
-        ) => *conn == c && *side == s,
-        (
-            Ok(
-                Call::View {
-                    conn: Conn::Four,
-                    side: 64,
-                    file: Some(path),
-                },
-            ),
-            Said::Kept(name),
-        ) => path.name() == name,
-        (Ok(Call::Derive { kind, h, conn }), Said::Derived(k, n, c)) => *kind == k
-            && *h == n
-            && *conn == c,
-        (Err(RunError::Usage), Said::Usage) => true,
-        (Err(RunError::Memory), Said::NoMemory) => true,
-        _ => false,
+fn is_said(alloc: Global, call: &Result<Call, RunError>, said: &str) -> bool {
+    match text_of(alloc, call) {
+        Ok(text) => text.as_str() == said,
+        Err(_) => false,
     }
-}
-
-// Whether the words between the bars of a text say this.
-fn do_say(alloc: Global, text: &str, said: Said) -> Result<bool, Memory> {
-    let words = words_of(alloc, text)?;
-    Ok(is_said(&read_words(alloc, &words), said))
 }
 
 // The first row of words that do not say what stands beside them.
-fn wrong_words(alloc: Global, rows: &[(&str, Said)]) -> Result<Option<usize>, Memory> {
+fn wrong_words(
+    alloc: Global,
+    rows: &[(&'static str, &str)],
+) -> Result<Option<&'static str>, Memory> {
     for i in 0..rows.len() {
-        let (words, said) = rows[i];
-        if !do_say(alloc, words, said)? {
-            return Ok(Some(i));
+        let (text, said) = rows[i];
+        let words = words_of(alloc, text)?;
+        if !is_said(alloc, &read_words(alloc, &words), said) {
+            return Ok(Some(text));
         }
     }
     Ok(None)
 }
 
-// The first row of words that are not usage.
-fn wrong_usage(alloc: Global, rows: &[&str]) -> Result<Option<usize>, Memory> {
+// Words, and what they say.
+const CALLS: &[(&str, &str)] = &[
+    ("view", "view Four 64"),
+    ("view|--conn|4", "view Four 64"),
+    ("view|--conn|8", "view Eight 64"),
+    ("view|--conn=8", "view Eight 64"),
+    ("view|--conn|8|--", "view Eight 64"),
+    ("view|--tile|8", "view Four 8"),
+    ("view|--tile|64", "view Four 64"),
+    ("view|--tile|100", "view Four 100"),
+    ("view|--tile=256", "view Four 256"),
+    ("view|--conn|8|--tile|16", "view Eight 16"),
+    ("view|--tile|16|--conn|8", "view Eight 16"),
+    ("view|--tile|9|--", "view Four 9"),
+    ("view|--state|strokes", "view Four 64 strokes"),
+    ("view|--state=a b", "view Four 64 a b"),
+    (
+        "view|--conn|4|--state|../x.spd|--tile|64",
+        "view Four 64 ../x.spd",
+    ),
+    ("view|--state|", "view Four 64 "),
+    ("derive|fill", "derive Fill 1 Four"),
+    ("derive|hmax", "derive HMax 1 Four"),
+    ("derive|regmax", "derive RegMax 1 Four"),
+    ("derive|hmax|--h|2", "derive HMax 2 Four"),
+    ("derive|hmax|--h=0", "derive HMax 0 Four"),
+    ("derive|--h|65535|hmax", "derive HMax 65535 Four"),
+    ("derive|fill|--h|7", "derive Fill 7 Four"),
+    ("derive|regmax|--conn|4", "derive RegMax 1 Four"),
+    ("derive|regmax|--conn|8", "derive RegMax 1 Eight"),
+    ("derive|--conn=8|fill|--h=3", "derive Fill 3 Eight"),
+    ("derive|--|fill", "derive Fill 1 Four"),
+];
+
+#[test]
+fn words_that_say_a_call(rt: HostRuntime) -> Result<(), Fail> {
+    assert_eq!(rt; wrong_words(rt.alloc(), CALLS)?, None);
+    let says_a_view = is_said(rt.alloc(), &read_words(rt.alloc(), &[]), "view Four 64");
+    assert!(rt; says_a_view);
+    Ok(())
+}
+
+// The first of these words that are no usage.
+fn wrong_usage(alloc: Global, rows: &[&'static str]) -> Result<Option<&'static str>, Memory> {
     for i in 0..rows.len() {
-        if !do_say(alloc, rows[i], Said::Usage)? {
-            return Ok(Some(i));
+        let words = words_of(alloc, rows[i])?;
+        if !matches!(&read_words(alloc, &words), Err(RunError::Usage)) {
+            return Ok(Some(rows[i]));
         }
     }
     Ok(None)
 }
 
-// Words of a view.
-const VIEWS: &[(&str, Said)] = &[
-    ("view", Said::View(Conn::Four, 64)),
-    ("view|--conn|4", Said::View(Conn::Four, 64)),
-    ("view|--conn|8", Said::View(Conn::Eight, 64)),
-    ("view|--conn=8", Said::View(Conn::Eight, 64)),
-    ("view|--conn|8|--", Said::View(Conn::Eight, 64)),
-];
-
-#[test]
-fn words_of_a_view(rt: HostRuntime) -> Result<(), Fail> {
-    assert_eq!(rt; wrong_words(rt.alloc(), VIEWS)?, None);
-    assert!(rt; is_said(&read_words(rt.alloc(), &[]), Said::View(Conn::Four, 64)));
-    Ok(())
-}
-
-// Words that name a side.
-const SIDES: &[(&str, Said)] = &[
-    ("view|--tile|8", Said::View(Conn::Four, 8)),
-    ("view|--tile|64", Said::View(Conn::Four, 64)),
-    ("view|--tile|100", Said::View(Conn::Four, 100)),
-    ("view|--tile=256", Said::View(Conn::Four, 256)),
-    ("view|--conn|8|--tile|16", Said::View(Conn::Eight, 16)),
-    ("view|--tile|16|--conn|8", Said::View(Conn::Eight, 16)),
-    ("view|--tile|9|--", Said::View(Conn::Four, 9)),
-];
-
-#[test]
-fn words_that_name_a_side(rt: HostRuntime) -> Result<(), Fail> {
-    assert_eq!(rt; wrong_words(rt.alloc(), SIDES)?, None);
-    Ok(())
-}
-
-// Words that name no side.
-const NO_SIDES: &[&str] = &[
+// Words that say no call.
+const USAGE: &[&str] = &[
+    // They name no side: a value that is none, no value, or one where there is none.
     "view|--tile|7",
     "view|--tile|257",
     "view|--tile|0",
@@ -131,111 +117,38 @@ const NO_SIDES: &[&str] = &[
     "view|--tile|8|--tile|8",
     "--tile|8",
     "view|--tiles|8",
-];
-
-#[test]
-fn sides_that_are_usage(rt: HostRuntime) -> Result<(), Fail> {
-    assert_eq!(rt; wrong_usage(rt.alloc(), NO_SIDES)?, None);
-    Ok(())
-}
-
-// Words of a derivation.
-const DERIVATIONS: &[(&str, Said)] = &[
-    (
-        "derive|fill",
-        Said::Derived(Derivation::Fill, 1, Conn::Four),
-    ),
-    (
-        "derive|hmax",
-        Said::Derived(Derivation::HMax, 1, Conn::Four),
-    ),
-    (
-        "derive|regmax",
-        Said::Derived(Derivation::RegMax, 1, Conn::Four),
-    ),
-    (
-        "derive|hmax|--h|2",
-        Said::Derived(Derivation::HMax, 2, Conn::Four),
-    ),
-    (
-        "derive|hmax|--h=0",
-        Said::Derived(Derivation::HMax, 0, Conn::Four),
-    ),
-    (
-        "derive|--h|65535|hmax",
-        Said::Derived(Derivation::HMax, 65_535, Conn::Four),
-    ),
-    (
-        "derive|fill|--h|7",
-        Said::Derived(Derivation::Fill, 7, Conn::Four),
-    ),
-    (
-        "derive|regmax|--conn|4",
-        Said::Derived(Derivation::RegMax, 1, Conn::Four),
-    ),
-    (
-        "derive|regmax|--conn|8",
-        Said::Derived(Derivation::RegMax, 1, Conn::Eight),
-    ),
-    (
-        "derive|--conn=8|fill|--h=3",
-        Said::Derived(Derivation::Fill, 3, Conn::Eight),
-    ),
-    (
-        "derive|--|fill",
-        Said::Derived(Derivation::Fill, 1, Conn::Four),
-    ),
-];
-
-#[test]
-fn words_of_a_derivation(rt: HostRuntime) -> Result<(), Fail> {
-    assert_eq!(rt; wrong_words(rt.alloc(), DERIVATIONS)?, None);
-    Ok(())
-}
-
-// Values of `--h` that are none.
-const NO_H: &[&str] = &[
-    "65536",
-    "",
-    "02",
-    "+2",
-    "-2",
-    "2.0",
-    "0x2",
-    "two",
-    " 2",
-    "4294967298",
-];
-
-// The first of these values that is no usage with each derivation.
-fn wrong_h(alloc: Global, values: &[&str]) -> Result<Option<usize>, Memory> {
-    for i in 0..values.len() {
-        if !is_no_h(alloc, values[i])? {
-            return Ok(Some(i));
-        }
-    }
-    Ok(None)
-}
-
-// Whether the value is usage for `--h`, whatever is derived.
-fn is_no_h(alloc: Global, value: &str) -> Result<bool, Memory> {
-    for kind in ["fill", "hmax", "regmax"] {
-        let words = format!(in alloc; "derive|{kind}|--h|{value}")?;
-        if !do_say(alloc, words.as_str(), Said::Usage)? {
-            return Ok(false);
-        }
-    }
-    Ok(true)
-}
-
-#[test]
-fn values_of_h_that_are_usage(rt: HostRuntime) -> Result<(), Fail> {
-    assert_eq!(rt; wrong_h(rt.alloc(), NO_H)?, None);
-    Ok(())
-}
-
-// Words behind which nothing is derived.
-const NO_DERIVATIONS: &[&str] = &[
+    // A value of `--h` that is none, behind each derivation.
+    "derive|fill|--h|65536",
+    "derive|fill|--h|",
+    "derive|fill|--h|02",
+    "derive|fill|--h|+2",
+    "derive|fill|--h|-2",
+    "derive|fill|--h|2.0",
+    "derive|fill|--h|0x2",
+    "derive|fill|--h|two",
+    "derive|fill|--h| 2",
+    "derive|fill|--h|4294967298",
+    "derive|hmax|--h|65536",
+    "derive|hmax|--h|",
+    "derive|hmax|--h|02",
+    "derive|hmax|--h|+2",
+    "derive|hmax|--h|-2",
+    "derive|hmax|--h|2.0",
+    "derive|hmax|--h|0x2",
+    "derive|hmax|--h|two",
+    "derive|hmax|--h| 2",
+    "derive|hmax|--h|4294967298",
+    "derive|regmax|--h|65536",
+    "derive|regmax|--h|",
+    "derive|regmax|--h|02",
+    "derive|regmax|--h|+2",
+    "derive|regmax|--h|-2",
+    "derive|regmax|--h|2.0",
+    "derive|regmax|--h|0x2",
+    "derive|regmax|--h|two",
+    "derive|regmax|--h| 2",
+    "derive|regmax|--h|4294967298",
+    // Nothing is derived.
     "derive",
     "derive|hmin",
     "derive|",
@@ -250,16 +163,12 @@ const NO_DERIVATIONS: &[&str] = &[
     "derive|--help",
     "fill",
     "view|--h|2",
-];
-
-#[test]
-fn derivations_that_are_usage(rt: HostRuntime) -> Result<(), Fail> {
-    assert_eq!(rt; wrong_usage(rt.alloc(), NO_DERIVATIONS)?, None);
-    Ok(())
-}
-
-// Other words that say no call.
-const OTHERS: &[&str] = &[
+    // They name no state file, or two, or one where there is none.
+    "view|--state",
+    "view|--state|a|--state|a",
+    "--state|a",
+    "derive|fill|--state|a",
+    // Other words.
     "view|--conn|5",
     "view|--conn=5",
     "view|--conn|08",
@@ -284,74 +193,47 @@ const OTHERS: &[&str] = &[
 ];
 
 #[test]
-fn other_words_are_usage(rt: HostRuntime) -> Result<(), Fail> {
-    assert_eq!(rt; wrong_usage(rt.alloc(), OTHERS)?, None);
-    Ok(())
-}
-
-// Words that name a state file.
-const FILES: &[(&str, Said)] = &[
-    ("view|--state|strokes", Said::Kept("strokes")),
-    ("view|--state=a b", Said::Kept("a b")),
-    (
-        "view|--conn|4|--state|../x.spd|--tile|64",
-        Said::Kept("../x.spd"),
-    ),
-    ("view|--state|", Said::Kept("")),
-];
-
-// Words that name none, or two, or one where there is none.
-const NO_FILES: &[&str] = &[
-    "view|--state",
-    "view|--state|a|--state|a",
-    "--state|a",
-    "derive|fill|--state|a",
-];
-
-#[test]
-fn words_that_name_a_state_file(rt: HostRuntime) -> Result<(), Fail> {
-    assert_eq!(rt; wrong_words(rt.alloc(), FILES)?, None);
-    assert_eq!(rt; wrong_usage(rt.alloc(), NO_FILES)?, None);
+fn words_that_are_usage(rt: HostRuntime) -> Result<(), Fail> {
+    assert_eq!(rt; wrong_usage(rt.alloc(), USAGE)?, None);
     Ok(())
 }
 
 // Whether a process with these words, its name in front, says this.
-fn does_process_say(alloc: Global, words: Vec<String>, said: Said) -> bool {
-    is_said(&read_process_words(alloc, Ok(words.into_iter())), said)
+fn does_process_say(alloc: Global, words: io::Result<env::Args>, said: &str) -> bool {
+    is_said(alloc, &read_process_words(alloc, words), said)
 }
 
-// Words of a process, and what they say.
-const PROCESSES: &[(&str, Said)] = &[
-    ("seedpaint|view|--conn|8", Said::View(Conn::Eight, 64)),
-    ("view", Said::View(Conn::Four, 64)),
-    ("view|--help", Said::Usage),
-];
-
-// The first row of words that do not say so of a process.
-fn wrong_process(alloc: Global, rows: &[(&str, Said)]) -> Result<Option<usize>, Memory> {
+// The first row of words of a process that do not say what stands beside them.
+fn wrong_process(
+    alloc: Global,
+    rows: &[(&'static str, &str)],
+) -> Result<Option<&'static str>, Memory> {
     for i in 0..rows.len() {
         let (text, said) = rows[i];
-        if !does_process_say(alloc, words_of(alloc, text)?, said) {
-            return Ok(Some(i));
+        let words = words_of(alloc, text)?;
+        if !does_process_say(alloc, Ok(words.into_iter()), said) {
+            return Ok(Some(text));
         }
     }
     Ok(None)
 }
 
+// Words of a process, and what they say.
+const PROCESSES: &[(&str, &str)] = &[
+    ("seedpaint|view|--conn|8", "view Eight 64"),
+    ("view", "view Four 64"),
+    ("view|--help", "seedpaint: usage"),
+];
+
 #[test]
-fn the_first_word_of_a_process_is_its_name(rt: HostRuntime) -> Result<(), Fail> {
-    assert_eq!(rt; wrong_process(rt.alloc(), PROCESSES)?, None);
-    assert!(rt; does_process_say(rt.alloc(), Vec::new(rt.alloc()), Said::View(Conn::Four, 64)));
+fn words_of_a_process(rt: HostRuntime) -> Result<(), Fail> {
+    let alloc = rt.alloc();
+    assert_eq!(rt; wrong_process(alloc, PROCESSES)?, None);
+    let none = Vec::new(alloc).into_iter();
+    assert!(rt; does_process_say(alloc, Ok(none), "view Four 64"));
+    let not_text = io::Error::from(io::ErrorKind::InvalidData);
+    assert!(rt; does_process_say(alloc, Err(not_text), "seedpaint: usage"));
+    let no_memory = io::Error::from(io::ErrorKind::OutOfMemory);
+    assert!(rt; does_process_say(alloc, Err(no_memory), "seedpaint: memory"));
     Ok(())
-}
-
-// Whether the process says this whose words cannot be had, for such an error.
-fn does_no_process_say(alloc: Global, kind: io::ErrorKind, said: Said) -> bool {
-    is_said(&read_process_words(alloc, Err(io::Error::from(kind))), said)
-}
-
-#[test]
-fn words_that_cannot_be_had(rt: HostRuntime) {
-    assert!(rt; does_no_process_say(rt.alloc(), io::ErrorKind::InvalidData, Said::Usage));
-    assert!(rt; does_no_process_say(rt.alloc(), io::ErrorKind::OutOfMemory, Said::NoMemory));
 }

@@ -1,16 +1,11 @@
-use Rattle.std.proofs.Common.{◌≡◌, true, false, refl, sym, ◌∙◌}
+use Rattle.std.proofs.Common.{◌≡◌, true, false, sym, ◌∙◌}
+use Rattle.paint_session.proofs.Sides.{answered_for_side, refused_for_side}
 use Rattle.paint_session.proofs.view.view_kept.Goals as goal
 
 pub returns-then-not-is_tile_side : goal.returns-then-not-is_tile_side
-returns-then-not-is_tile_side g c = record {
-  no_side = λ none. refl;
-  unread = λ none. (refl, refl);
-  answered = λ is. let no : true ≡ false = sym (c.is_tile_side.ensures.1 is) ∙ c.if-not-is_tile_side.true in cc;
-}
+returns-then-not-is_tile_side g c = refused_for_side _ _ _ _ _ c.args.source.now _ _ c.args.sink.now (λ is.
+    let no : true ≡ false = sym (c.is_tile_side.ensures.1 is) ∙ c.if-not-is_tile_side.true in cc)
 
 pub returns : goal.returns
-returns g c = record {
-  no_side = λ none. absurd (none (c.is_tile_side.ensures.0 c.if-not-is_tile_side.false));
-  unread = λ none. absurd (none (c.is_tile_side.ensures.0 c.if-not-is_tile_side.false));
-  answered = λ is. record { responds = c.respond.ensures.responds; devices = c.respond.ensures.devices };
-}
+returns g c = answered_for_side _ _ _ _ _ _ _ _ _ _ (c.is_tile_side.ensures.0 c.if-not-is_tile_side.false)
+    record { responds = c.respond.ensures.responds; devices = c.respond.ensures.devices }

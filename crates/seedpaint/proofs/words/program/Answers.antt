@@ -1,4 +1,5 @@
 use Rattle.std.proofs.Common.{ap, ap₂, ◌∙◌, ◌≡◌, codes, true}
+use Rattle.std.proofs.lemmas.Result.{IfOk-weaker}
 use Rattle.clap.specs.Words.{App, app_of, new_app, with_subcommand}
 use Rattle.clap.specs.Simple.{app_of_fields, on_top}
 use Rattle.seedpaint.proofs.words.program.Goals as goal
@@ -26,7 +27,7 @@ returns c =
     ap app_of_fields c.disable_help_subcommand.ensures ∙ ap without_help flag_is in
     let top_is : app_of c.subcommand_required.result ≡ required (without_help (without_flag bare)) =
     ap app_of_fields c.subcommand_required.ensures ∙ ap required help_is in
-    let with_view = c.in_ok-subcommand.ensures.shape c.in_ok-view_command.ensures.1
-    ∙ ap₂ with_subcommand top_is (ap (λ (a : App). a.top) c.in_ok-view_command.ensures.0) in
-    c.in_ok-seedpaint.ensures.shape c.in_ok-derive_command.ensures.1
-    ∙ ap₂ with_subcommand with_view (ap (λ (a : App). a.top) c.in_ok-derive_command.ensures.0)
+    let with_view = c.in_ok-seedpaint.ensures.shape c.in_ok-view.ensures.1
+    ∙ ap₂ with_subcommand top_is (ap (λ (a : App). a.top) c.in_ok-view.ensures.0) in
+    IfOk-weaker c.subcommand-2.result _ _ (λ command adds. adds.shape c.in_ok-derive.ensures.1
+    ∙ ap₂ with_subcommand with_view (ap (λ (a : App). a.top) c.in_ok-derive.ensures.0)) c.subcommand-2.ensures

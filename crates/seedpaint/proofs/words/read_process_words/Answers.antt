@@ -10,7 +10,7 @@ returns-in_ok-all-in-Ok-clause-says c =
       map string_bytes c.behind_name.result.now,
       (c.in_ok-all-in-Ok.all.items, c.in_ok-all-in-Ok.ensures, ap (map string_bytes) behind),
       says,
-    )) c.read_words.ensures.says)
+    )) c.read_words.ensures.reads.said)
 
 pub returns-in_ok-all-in-Ok-clause-usage : goal.returns-in_ok-all-in-Ok-clause-usage
 returns-in_ok-all-in-Ok-clause-usage c usage =
@@ -19,5 +19,5 @@ returns-in_ok-all-in-Ok-clause-usage c usage =
     rw c.in-Ok.is (
       map string_bytes c.behind_name.result.now,
       (c.in_ok-all-in-Ok.all.items, c.in_ok-all-in-Ok.ensures, ap (map string_bytes) behind),
-      c.read_words.ensures.usage usage,
+      c.read_words.ensures.reads.usage usage,
     )

@@ -1,4 +1,5 @@
 use Rattle.std.proofs.Common.{codes}
+use Rattle.std.proofs.lemmas.Result.{IfOk-weaker}
 use Rattle.clap.specs.Words.{App, new_app, with_rule}
 use Rattle.seedpaint.specs.Words.{option_of}
 use Rattle.seedpaint.proofs.words.view_command.Goals as goal
@@ -8,5 +9,5 @@ returns c =
     let bare : App = new_app (codes "view") in
     let joined : App = with_rule bare (option_of (codes "conn")) in
     let tiled : App = with_rule joined (option_of (codes "tile")) in
-    c.in_ok-view-3.ensures tiled (c.in_ok-view-2.ensures joined
-    (c.in_ok-view.ensures bare (c.new.ensures.app, c.new.ensures.local)))
+    IfOk-weaker c.with_option-3.result _ _ (λ view adds. adds tiled (c.in_ok-view-2.ensures joined
+    (c.in_ok-view.ensures bare (c.new.ensures.app, c.new.ensures.local)))) c.with_option-3.ensures

@@ -1,4 +1,5 @@
 use Rattle.std.proofs.Common.{ap, ap₂, ◌∙◌, ◌≡◌, ◌||◌, false, Some}
+use Rattle.std.proofs.lemmas.Result.{IfOk-weaker}
 use Rattle.clap.specs.Words.{Rule, rule_of, with_rule}
 use Rattle.clap.specs.declared.builder.arg.Arg.{Arg}
 use Rattle.seedpaint.specs.Words.{option_of}
@@ -12,7 +13,7 @@ returns c =
     ap (λ (a : Arg). a.global) {y = long} c.long.ensures ∙ c.new.ensures.optional.1 in
     let rule : rule_of c.long.result ≡ option_of name =
     ap rule_of {y = long} c.long.ensures ∙ ap (λ (r : Rule). record r { long = Some name }) c.new.ensures.rule in
-    λ app is. (
-      c.in_ok-added.ensures.shape local ∙ ap₂ with_rule is.0 rule,
-      c.in_ok-added.ensures.globals ∙ ap₂ (λ a b. a || b) is.1 local,
-    )
+    IfOk-weaker c.arg.result _ _ (λ added adds app is. (
+      adds.shape local ∙ ap₂ with_rule is.0 rule,
+      adds.globals ∙ ap₂ (λ a b. a || b) is.1 local,
+    )) c.arg.ensures

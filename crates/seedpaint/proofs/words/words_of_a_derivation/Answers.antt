@@ -81,7 +81,8 @@ greatest =
       ),
     )
 
-options_first : Says (codes "derive" ∷ codes "--h" ∷ codes "2" ∷ codes "--conn" ∷ codes "8" ∷ codes "hmax" ∷ []) (Derive HMax 2 Eight)
+options_first : Says (codes "derive" ∷ codes "--h" ∷ codes "2" ∷ codes "--conn" ∷ codes "8" ∷ codes "hmax" ∷ [])
+    (Derive HMax 2 Eight)
 unfolding clap_on_literals
 options_first = inr (
   refl,

@@ -127,5 +127,58 @@ file_of_a_derivation = usage_at_fault _ refl refl
 
 pub returns : goal.returns
 returns c =
-    All-from_recursion IsUsage of_no_call
-    (five, (too_small, (too_great_words, (leading_zero, (no_value, (twice, (one_more, (option, (help_flag, (help, (other, (no_kind, (other_kind, (second_kind, (h_too_great, (unused_h_too_great, (h_with_a_zero, (side_of_a_derivation, (no_file, (two_files, (file_of_a_derivation, (h_of_a_view, (empty, tt)))))))))))))))))))))))
+    All-from_recursion IsUsage of_no_call (
+      five,
+      (
+        too_small,
+        (
+          too_great_words,
+          (
+            leading_zero,
+            (
+              no_value,
+              (
+                twice,
+                (
+                  one_more,
+                  (
+                    option,
+                    (
+                      help_flag,
+                      (
+                        help,
+                        (
+                          other,
+                          (
+                            no_kind,
+                            (
+                              other_kind,
+                              (
+                                second_kind,
+                                (
+                                  h_too_great,
+                                  (
+                                    unused_h_too_great,
+                                    (
+                                      h_with_a_zero,
+                                      (
+                                        side_of_a_derivation,
+                                        (no_file, (two_files, (file_of_a_derivation, (h_of_a_view, (empty, tt))))),
+                                      ),
+                                    ),
+                                  ),
+                                ),
+                              ),
+                            ),
+                          ),
+                        ),
+                      ),
+                    ),
+                  ),
+                ),
+              ),
+            ),
+          ),
+        ),
+      ),
+    )
