@@ -21,11 +21,16 @@ impl Call {
     /// Reads the words of the process.
     ///
     /// Errors: usage; words that are no text; out of memory.
-    pub fn read(rt: &(impl Env + Alloc)) -> Result<Call> {
-        let mut words = env::args(rt)?.skip(1);
-        let count = words.next().context(USAGE)?.parse::<usize>()?;
-        let side = words.next().context(USAGE)?.parse::<u32>()?;
-        let with_times = match words.next() {
+    pub fn read(rt: &(impl Env + AllocGlobal)) -> Result<Call> {
+        let words: Vec<String> = env::args(rt)?.collect(rt.alloc())?;
+        Call::parse(&words)
+    }
+
+    // Reads words, of which the first is the program's name.
+    fn parse(words: &[String]) -> Result<Call> {
+        let count = words.get(1).context(USAGE)?.parse::<usize>()?;
+        let side = words.get(2).context(USAGE)?.parse::<u32>()?;
+        let with_times = match words.get(3) {
             Some(word) => word.as_str() == "--times",
             None => false,
         };
