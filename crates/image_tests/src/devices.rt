@@ -1,5 +1,7 @@
 //! Sources and sinks, of std and in memory.
 
+ghost use Rattle.std.specs.Prelude.{◌≤◌, IfOk};
+
 use byte_devices::{
     Fault, MemorySink, MemorySource, Sink, Source, StdSink, StdSource, TransferError, put_all,
     read_all,
@@ -50,194 +52,187 @@ pub fn counts(source: &MemorySource, counted: (u64, u64, u64)) -> bool {
     source.pulls() == pulls && source.failures() == failures && source.ends() == ends
 }
 
-// Whether the source has just these bytes left.
-fn gives<S: Source>(alloc: Global, source: &mut S, bytes: &[u8]) -> bool {
+/// Whether these bytes were written into a sink by so many puts.
+pub fn holds(sink: &MemorySink, written: &[u8], puts: u64) -> bool {
+    sink.written() == written && sink.puts() == puts
+}
+
+// Whether reading a source to its end gives these bytes, or fails where there are none.
+fn gives<S: Source>(alloc: Global, source: &mut S, bytes: Option<&[u8]>) -> bool {
     match read_all(alloc, source) {
-        Ok(read) => read.as_slice() == bytes,
-        Err(_) => false,
+        Ok(read) => bytes == Some(read.as_slice()),
+        Err(error) => bytes == None && error == TransferError::Device,
     }
 }
 
-// Whether the source is not read to its end because it fails.
-fn fails<S: Source>(alloc: Global, source: &mut S) -> bool {
-    match read_all(alloc, source) {
-        Ok(_) => false,
-        Err(error) => error == TransferError::Device,
-    }
-}
+// A name, a text, how many bytes a pull gives at most, the pull that fails, whether a first reading to the end fails,
+// where the bytes begin that a reading gives then, if there is one, and the pulls, failures and ends that are counted
+// at last. A 0 chooses no piece and no pull.
+type Reading = (
+    &'static str,
+    &'static [u8],
+    usize,
+    u64,
+    bool,
+    Option<usize>,
+    (u64, u64, u64),
+);
 
-// Texts, how many bytes a pull gives at most, the pull that fails, what each of some readings to the end gives, where
-// it does not fail, and the pulls, failures and ends that are counted at last. A 0 chooses no piece and no pull.
-const READINGS: &[(&[u8], usize, u64, &[Option<&[u8]>], (u64, u64, u64))] = &[
-    // Pieces are read to the end, and nothing from an empty source.
-    (TEXT, 3, 0, &[Some(TEXT)], (5, 0, 1)),
-    (b"", 0, 0, &[Some(b"")], (1, 0, 1)),
-    // Each failing pull is answered, and none fails behind the last.
-    (TEXT, 3, 1, &[None], (1, 1, 0)),
-    (TEXT, 3, 2, &[None], (2, 1, 0)),
-    (TEXT, 3, 3, &[None], (3, 1, 0)),
-    (TEXT, 3, 4, &[None], (4, 1, 0)),
-    (TEXT, 3, 5, &[None], (5, 1, 0)),
-    (TEXT, 3, 6, &[Some(TEXT)], (5, 0, 1)),
-    // A source that failed once goes on.
-    (TEXT, 3, 3, &[None, Some(b"tes!")], (6, 1, 1)),
+const READINGS: &[Reading] = &[
+    ("pieces", TEXT, 3, 0, false, Some(0), (5, 0, 1)),
+    ("an empty source", b"", 0, 0, false, Some(0), (1, 0, 1)),
+    ("the first pull fails", TEXT, 3, 1, true, None, (1, 1, 0)),
+    ("the second pull fails", TEXT, 3, 2, true, None, (2, 1, 0)),
+    ("the third pull fails", TEXT, 3, 3, true, None, (3, 1, 0)),
+    ("the fourth pull fails", TEXT, 3, 4, true, None, (4, 1, 0)),
+    ("the last pull fails", TEXT, 3, 5, true, None, (5, 1, 0)),
+    (
+        "none fails behind the last",
+        TEXT,
+        3,
+        6,
+        false,
+        Some(0),
+        (5, 0, 1),
+    ),
+    (
+        "it goes on where it failed",
+        TEXT,
+        3,
+        3,
+        true,
+        Some(6),
+        (6, 1, 1),
+    ),
 ];
 
-// Whether readings to the end give this.
-fn gives_in_turn(alloc: Global, source: &mut MemorySource, given: &[Option<&[u8]>]) -> bool {
-    for bytes in given {
-        let is_given = match bytes {
-            Some(bytes) => gives(alloc, source, bytes),
-            None => fails(alloc, source),
+// Whether readings of a source give what they should.
+fn is_reading(alloc: Global, source: &mut MemorySource, reading: &Reading) -> bool {
+    let (_, text, _, _, fails, from, counted) = reading;
+    let has_failed = !*fails || gives(alloc, source, None);
+    let is_given = match from {
+        Some(from) => gives(alloc, source, text.get(*from..)),
+        None => true,
+    };
+    has_failed && is_given && counts(source, *counted)
+}
+
+// The first reading that is not so.
+fn wrong_reading(alloc: Global) -> Option<&'static str> {
+    for reading in READINGS {
+        let (name, text, piece, failing, ..) = reading;
+        let is_right = match source(alloc, text, *piece, *failing) {
+            Ok(mut source) => is_reading(alloc, &mut source, reading),
+            Err(_) => false,
         };
-        if !is_given {
-            return false;
-        }
-    }
-    true
-}
-
-// The first row of readings that are not so.
-fn wrong_reading(alloc: Global) -> Result<Option<usize>, AllocError> {
-    for (row, (text, piece, failing, given, counted)) in READINGS.iter().enumerate() {
-        let mut source = source(alloc, text, *piece, *failing)?;
-        if !gives_in_turn(alloc, &mut source, given) || !counts(&source, *counted) {
-            return Ok(Some(row));
-        }
-    }
-    Ok(None)
-}
-
-#[test]
-fn sources_are_read_to_their_end_or_fault(rt: HostRuntime) {
-    assert_eq!(rt; wrong_reading(rt.alloc()), Ok(None));
-}
-
-// How many bytes a put takes at most, the put that fails, whether each of some times all of the text is put, what is
-// written at last, and the puts and failures that are counted. A 0 chooses no piece and no put.
-const WRITINGS: &[(usize, u64, &[bool], &[u8], (u64, u64))] = &[
-    // Short puts gather all.
-    (4, 0, &[true], TEXT, (3, 0)),
-    // Each failing put leaves a front.
-    (4, 1, &[false], b"", (1, 1)),
-    (4, 2, &[false], b"ten ", (2, 1)),
-    (4, 3, &[false], b"ten byte", (3, 1)),
-    // A sink that failed once goes on.
-    (0, 1, &[false, true], TEXT, (2, 1)),
-];
-
-// Whether the text is put so, time after time.
-fn takes_in_turn<K: Sink>(sink: &mut K, taken: &[bool]) -> bool {
-    for is_taken in taken {
-        let answer = if *is_taken { Ok(()) } else { Err(Fault) };
-        if put_all(sink, TEXT) != answer {
-            return false;
-        }
-    }
-    true
-}
-
-// The first row of writings that are not so.
-fn wrong_writing(alloc: Global) -> Option<usize> {
-    for (row, (piece, failing, taken, written, (puts, failures))) in WRITINGS.iter().enumerate() {
-        let mut sink = sink(alloc, *piece, *failing);
-        let is_taken = takes_in_turn(&mut sink, taken) && sink.written() == *written;
-        let is_counted = sink.puts() == *puts && sink.failures() == *failures;
-        if !is_taken || !is_counted || sink.refused() != 0 {
-            return Some(row);
+        if !is_right {
+            return Some(*name);
         }
     }
     None
 }
 
-#[test]
-fn sinks_take_all_or_a_front(rt: HostRuntime) {
-    assert_eq!(rt; wrong_writing(rt.alloc()), None);
-}
-
-// Whether a reader of std gives the text.
-fn is_read_by_std(alloc: Global) -> bool {
-    match TEXT.to_vec(alloc) {
-        Ok(text) => gives(alloc, &mut StdSource::new(Cursor::new(text)), TEXT),
-        Err(_) => false,
-    }
-}
-
-// Whether a writer of std takes the text.
-fn is_written_by_std(alloc: Global) -> bool {
-    let mut sink = StdSink::new(Vec::new(alloc));
-    takes_in_turn(&mut sink, &[true]) && sink.into_inner().as_slice() == TEXT
-}
-
-#[test]
-fn readers_and_writers_of_std_serve(rt: HostRuntime) {
-    assert!(rt; is_read_by_std(rt.alloc()));
-    assert!(rt; is_written_by_std(rt.alloc()));
-}
-
-// A text of 200,000 bytes.
-fn long_text(alloc: Global) -> Result<Vec<u8>, AllocError> {
-    let mut text = Vec::new(alloc);
-    for k in 0..200_000_u32 {
-        text.push((k % 251) as u8)?;
-    }
-    Ok(text)
-}
-
-// Whether a text is read whole in pieces of 999 bytes.
-fn is_read_whole(alloc: Global, text: &[u8]) -> bool {
+// Whether a text of 200,000 bytes is read whole in pieces of 999.
+fn is_long_text_read(alloc: Global, text: &[u8]) -> bool {
     match source(alloc, text, 999, 0) {
-        Ok(mut source) => gives(alloc, &mut source, text),
+        Ok(mut source) => text.len() == 200_000 && gives(alloc, &mut source, Some(text)),
         Err(_) => false,
     }
 }
 
-// Whether the long text is read whole.
-fn is_long_text_read(alloc: Global) -> bool {
-    match long_text(alloc) {
-        Ok(text) => is_read_whole(alloc, &text),
-        Err(_) => false,
+// A name, how many bytes a put takes at most, the put that fails, whether a first put of all of the text fails, whether
+// it is put then, what is written at last, and the puts and failures that are counted. A 0 chooses no piece and no put.
+type Writing = (
+    &'static str,
+    usize,
+    u64,
+    bool,
+    bool,
+    &'static [u8],
+    (u64, u64),
+);
+
+const WRITINGS: &[Writing] = &[
+    ("short puts gather all", 4, 0, false, true, TEXT, (3, 0)),
+    ("the first put fails", 4, 1, true, false, b"", (1, 1)),
+    ("the second put fails", 4, 2, true, false, b"ten ", (2, 1)),
+    (
+        "the third put fails",
+        4,
+        3,
+        true,
+        false,
+        b"ten byte",
+        (3, 1),
+    ),
+    ("it goes on where it failed", 0, 1, true, true, TEXT, (2, 1)),
+];
+
+// Whether the text is put into a sink so.
+fn is_writing(sink: &mut MemorySink, writing: &Writing) -> bool {
+    let (_, _, _, fails, goes_on, written, (puts, failures)) = writing;
+    let has_failed = !*fails || put_all(sink, TEXT) == Err(Fault);
+    let is_put = !*goes_on || put_all(sink, TEXT) == Ok(());
+    let is_counted = sink.failures() == *failures && sink.refused() == 0;
+    has_failed && is_put && is_counted && holds(sink, written, *puts)
+}
+
+// The first writing that is not so.
+fn wrong_writing(alloc: Global) -> Option<&'static str> {
+    for writing in WRITINGS {
+        let (name, piece, failing, ..) = writing;
+        if !is_writing(&mut sink(alloc, *piece, *failing), writing) {
+            return Some(*name);
+        }
+    }
+    None
+}
+
+// The same of the readings, the writings and a long text.
+fn wrong_transfer(alloc: Global) -> Option<&'static str> {
+    match TEXT.repeat(alloc, 20_000) {
+        Ok(text) if !is_long_text_read(alloc, &text) => Some("a long text"),
+        Ok(_) => wrong_reading(alloc).or(wrong_writing(alloc)),
+        Err(_) => Some("memory"),
     }
 }
 
 #[test]
-fn a_long_text_is_read_whole(rt: HostRuntime) {
-    assert!(rt; is_long_text_read(rt.alloc()));
+fn transfers_of_memory_take_all_or_fault(rt: HostRuntime) {
+    assert_eq!(rt; wrong_transfer(rt.alloc()), None);
 }
 
-// A device of std that meets an error of this kind so many times, and then takes or gives what there is.
+// A device of std that meets an error of this kind so many times, and then gives nothing, or takes at most so many
+// bytes.
 #[derive(Drop)]
 struct Stumbling {
     error: ErrorKind,
     times: u32,
+    room: usize,
 }
 
 impl Stumbling {
-    // Whether it meets the error now.
-    fn stumbles(&mut self) -> bool {
-        let stumbles = self.times > 0;
-        self.times = self.times.saturating_sub(1);
-        stumbles
+    // How many of these bytes it takes now.
+    fn taken(&mut self, bytes: usize) -> io::Result<usize>
+        ensures { IfOk result (λ n. n ≤ bytes) }
+    {
+        if self.times == 0 {
+            return Ok(bytes.min(self.room));
+        }
+        self.times -= 1;
+        Err(self.error.into())
     }
 }
 
 impl Read for Stumbling {
     fn read(&mut self, _buf: &mut [u8]) -> io::Result<usize> {
-        if self.stumbles() {
-            Err(self.error.into())
-        } else {
-            Ok(0)
-        }
+        self.taken(0)
     }
 }
 
 impl Write for Stumbling {
     fn write(&mut self, buf: &[u8]) -> io::Result<usize> {
-        if self.stumbles() {
-            Err(self.error.into())
-        } else {
-            Ok(buf.len())
-        }
+        self.taken(buf.len())
     }
 
     fn flush(&mut self) -> io::Result<()> {
@@ -245,58 +240,62 @@ impl Write for Stumbling {
     }
 }
 
-// Whether such a device is a source whose pulls answer so, one after the other.
-fn is_pulled(error: ErrorKind, times: u32, answers: &[Result<usize, Fault>]) -> bool {
-    let mut source = StdSource::new(Stumbling { error, times });
-    for answer in answers {
-        if source.pull(&mut [0; 4]) != *answer {
-            return false;
-        }
-    }
-    true
+// Whether such a device, as a source and as a sink, first answers a fault if it `faults`, and then serves.
+fn serves(error: ErrorKind, times: u32, faults: bool) -> bool {
+    let mut source = StdSource::new(Stumbling {
+        error,
+        times,
+        room: 0,
+    });
+    let mut sink = StdSink::new(Stumbling {
+        error,
+        times,
+        room: 10,
+    });
+    let has_failed = !faults
+        || (source.pull(&mut [0; 4]) == Err(Fault) && sink.put(TEXT) == Err(Fault));
+    has_failed && source.pull(&mut [0; 4]) == Ok(0) && sink.put(TEXT) == Ok(10)
 }
 
-// Whether a writer of std is a sink whose puts of these bytes answer so, one after the other.
-fn is_put<W: Write + Drop>(writer: W, bytes: &[u8], answers: &[Result<usize, Fault>]) -> bool {
-    let mut sink = StdSink::new(writer);
-    for answer in answers {
-        if sink.put(bytes) != *answer {
-            return false;
-        }
+// Whether a writer that takes none of any bytes is a fault, and takes no bytes.
+fn is_full() -> bool {
+    let error = ErrorKind::Interrupted;
+    let mut sink = StdSink::new(Stumbling {
+        error,
+        times: 0,
+        room: 0,
+    });
+    put_all(&mut sink, TEXT) == Err(Fault) && sink.put(b"") == Ok(0)
+}
+
+// Whether a reader and a writer of std serve for the text.
+fn is_read_and_written(alloc: Global) -> bool {
+    let mut sink = StdSink::new(Vec::new(alloc));
+    let is_put = put_all(&mut sink, TEXT) == Ok(());
+    is_put
+        && gives(
+            alloc,
+            &mut StdSource::new(Cursor::new(sink.into_inner())),
+            Some(TEXT),
+        )
+}
+
+// What a device of std does otherwise than it should.
+fn wrong_device(alloc: Global) -> Option<&'static str> {
+    if !is_read_and_written(alloc) {
+        Some("a reader and a writer")
+    } else if !serves(ErrorKind::Interrupted, 1_000, false) {
+        Some("interrupted calls are tried again")
+    } else if !serves(ErrorKind::BrokenPipe, 1, true) {
+        Some("other errors are answered at once")
+    } else if !is_full() {
+        Some("a writer that takes nothing is a fault")
+    } else {
+        None
     }
-    true
 }
 
 #[test]
-fn calls_interrupted_many_times_are_tried_again(rt: HostRuntime) {
-    let (error, times) = (ErrorKind::Interrupted, 1_000);
-    assert!(rt; is_pulled(error, times, &[Ok(0)]));
-    assert!(rt; is_put(Stumbling { error, times }, TEXT, &[Ok(10)]));
-}
-
-#[test]
-fn other_errors_are_answered_at_once(rt: HostRuntime) {
-    let (error, times) = (ErrorKind::BrokenPipe, 1);
-    assert!(rt; is_pulled(error, times, &[Err(Fault), Ok(0)]));
-    assert!(rt; is_put(Stumbling { error, times }, TEXT, &[Err(Fault), Ok(10)]));
-}
-
-// A writer that takes none of any bytes.
-#[derive(Drop)]
-struct Full;
-
-impl Write for Full {
-    fn write(&mut self, _buf: &[u8]) -> io::Result<usize> {
-        Ok(0)
-    }
-
-    fn flush(&mut self) -> io::Result<()> {
-        Ok(())
-    }
-}
-
-#[test]
-fn a_writer_that_takes_nothing_is_a_fault(rt: HostRuntime) {
-    assert!(rt; takes_in_turn(&mut StdSink::new(Full), &[false]));
-    assert!(rt; is_put(Full, b"", &[Ok(0)]));
+fn readers_and_writers_of_std_serve(rt: HostRuntime) {
+    assert_eq!(rt; wrong_device(rt.alloc()), None);
 }

@@ -1,30 +1,86 @@
-//! Grids and rectangles.
-
-ghost use Rattle.std.specs.Prelude.{◌≡◌};
+//! Grids, rectangles, and the sides of images.
 
 use grid_core::{Grid, GridError, MAX_SIDE, Pixel, Rect, Tiling, is_image_size};
-use std::alloc::{AllocError, Global};
-
-// A grid of three columns and two rows, with the values 1 to 6.
-fn counted(alloc: Global) -> Result<Grid, AllocError> {
-    Ok(Grid::from_cells(3, 2, [1, 2, 3, 4, 5, 6].to_vec(alloc)?))
-}
+use std::alloc::Global;
 
 /// Whether a grid has this size, and these cells row by row.
 pub fn shows(grid: &Grid, w: u32, h: u32, cells: &[u32]) -> bool {
     grid.width() == w && grid.height() == h && grid.cells() == cells
 }
 
-// Whether a grid has this value at a pixel.
-fn has(grid: &Grid, x: u32, y: u32, value: u32) -> bool {
-    x < grid.width() && y < grid.height() && grid.get(Pixel { x, y }) == value
+/// Writes values over as many cells from `from` on.
+pub fn write_cells(grid: &mut Grid, from: usize, values: &[u32]) {
+    for (cell, value) in grid.cells_mut().iter_mut().skip(from).zip(values) {
+        *cell = *value;
+    }
 }
 
-// Gives a pixel another value, if there is such a pixel.
-fn put(grid: &mut Grid, x: u32, y: u32, value: u32) {
-    if x < grid.width() && y < grid.height() {
-        grid.set(Pixel { x, y }, value);
+// Sides that an image may have.
+const ALLOWED: &[(&str, u32, u32)] = &[
+    ("the widest of the most pixels", 16_384, 4096),
+    ("the highest of the most pixels", 4096, 16_384),
+    ("the longest row", 16_384, 1),
+    ("the longest column", 1, 16_384),
+];
+
+// Sides that no image may have, and why there is neither a grid nor a tiling of them.
+const REFUSED: &[(&str, u32, u32, GridError)] = &[
+    (
+        "no column, and rows too many",
+        0,
+        20_000,
+        GridError::ZeroSize,
+    ),
+    (
+        "no row, and columns too many",
+        20_000,
+        0,
+        GridError::ZeroSize,
+    ),
+    ("nothing", 0, 0, GridError::ZeroSize),
+    ("no column", 0, 1, GridError::ZeroSize),
+    ("no row", 1, 0, GridError::ZeroSize),
+    ("one column too many", 16_385, 1, GridError::TooLarge),
+    ("one row too many", 1, 16_385, GridError::TooLarge),
+    (
+        "one row too many of the most pixels",
+        4096,
+        16_385,
+        GridError::TooLarge,
+    ),
+    (
+        "too many pixels in width",
+        16_384,
+        4097,
+        GridError::TooLarge,
+    ),
+    (
+        "too many pixels in height",
+        4097,
+        16_384,
+        GridError::TooLarge,
+    ),
+];
+
+// Whether neither a grid nor a tiling of these sides is made, for this reason.
+fn is_refused(alloc: Global, w: u32, h: u32, why: GridError) -> bool {
+    let is_no_tiling = Tiling::new(w, h, 8).err() == Some(why);
+    is_no_tiling && Grid::new(alloc, w, h, 0).err() == Some(why)
+}
+
+// The first sides that are judged otherwise.
+fn wrong_sides(alloc: Global) -> Option<&'static str> {
+    for (name, w, h) in ALLOWED {
+        if !is_image_size(*w, *h) {
+            return Some(*name);
+        }
     }
+    for (name, w, h, why) in REFUSED {
+        if is_image_size(*w, *h) || !is_refused(alloc, *w, *h, *why) {
+            return Some(*name);
+        }
+    }
+    None
 }
 
 // Whether a new grid has its size, and the value in each cell.
@@ -35,99 +91,33 @@ fn is_filled(alloc: Global, w: u32, h: u32, value: u32, cells: &[u32]) -> bool {
     }
 }
 
-#[test]
-fn new_fills_each_cell(rt: HostRuntime) {
-    assert!(rt; is_filled(rt.alloc(), 3, 2, 7, &[7; 6]));
-    assert!(rt; MAX_SIDE == 16_384 && is_filled(rt.alloc(), MAX_SIDE, 1, 0, &[0; 16_384]));
-}
-
-// Sides, and why there is neither a grid nor a tiling of them.
-const REFUSED: &[(u32, u32, GridError)] = &[
-    (0, 20_000, GridError::ZeroSize),
-    (20_000, 0, GridError::ZeroSize),
-    (0, 0, GridError::ZeroSize),
-    (0, 1, GridError::ZeroSize),
-    (1, 0, GridError::ZeroSize),
-    (16_385, 1, GridError::TooLarge),
-    (1, 16_385, GridError::TooLarge),
-    (4096, 16_384 + 1, GridError::TooLarge),
-    (16_384, 4097, GridError::TooLarge),
-];
-
-// Whether no grid of these sides is made, for this reason.
-fn is_no_grid(alloc: Global, w: u32, h: u32, why: GridError) -> bool {
-    match Grid::new(alloc, w, h, 0) {
-        Ok(_) => false,
-        Err(error) => error == why,
-    }
-}
-
-// Whether no tiling of these sides is made, for this reason.
-fn is_no_tiling(w: u32, h: u32, why: GridError) -> bool {
-    match Tiling::new(w, h, 8) {
-        Ok(_) => false,
-        Err(error) => error == why,
-    }
-}
-
-// The first row of refused sides that are not.
-fn wrong_refusal(alloc: Global) -> Option<usize> {
-    for (row, (w, h, why)) in REFUSED.iter().enumerate() {
-        if !is_no_grid(alloc, *w, *h, *why) || !is_no_tiling(*w, *h, *why) {
-            return Some(row);
+// The code of the first error whose message does not begin with it.
+fn wrong_message(alloc: Global) -> Option<&'static str> {
+    for error in &[GridError::ZeroSize, GridError::TooLarge, GridError::Memory] {
+        let is_right = match error.to_string(alloc) {
+            Ok(text) => text.starts_with(error.code()),
+            Err(_) => false,
+        };
+        if !is_right {
+            return Some(error.code());
         }
     }
     None
 }
 
 #[test]
-fn grids_and_tilings_refuse_sides(rt: HostRuntime) {
-    assert_eq!(rt; wrong_refusal(rt.alloc()), None);
+fn grids_of_sides_that_images_may_have(rt: HostRuntime) {
+    let alloc = rt.alloc();
+    let is_widest_filled = MAX_SIDE == 16_384 && is_filled(alloc, MAX_SIDE, 1, 0, &[0; 16_384]);
+    assert!(rt; is_widest_filled && is_filled(alloc, 3, 2, 7, &[7; 6]));
+    assert_eq!(rt; wrong_sides(alloc).or(wrong_message(alloc)), None);
 }
 
-// Sides, and whether an image may have them.
-const SIDES: &[(u32, u32, bool)] = &[
-    (16_384, 4096, true),
-    (4096, 16_384, true),
-    (16_384, 1, true),
-    (1, 16_384, true),
-    (16_384, 4097, false),
-    (4097, 16_384, false),
-    (16_385, 1, false),
-    (1, 16_385, false),
-];
-
-// The first row of sides that is wrong.
-fn wrong_side() -> Option<usize> {
-    for (row, (w, h, is_size)) in SIDES.iter().enumerate() {
-        if is_image_size(*w, *h) != *is_size {
-            return Some(row);
-        }
-    }
-    None
-}
-
-#[test]
-fn sides_end_at_16_384_and_pixels_at_2_to_the_26(rt: HostRuntime) {
-    assert_eq!(rt; wrong_side(), None);
-}
-
-// Whether the message of an error begins with its code.
-fn begins_with_code(alloc: Global, error: GridError) -> Result<bool, AllocError> {
-    Ok(format!(in alloc; "{error}")?.starts_with(error.code()))
-}
-
-#[test]
-fn messages_begin_with_their_code(rt: HostRuntime) {
-    for error in [GridError::ZeroSize, GridError::TooLarge, GridError::Memory] {
-        assert_eq!(rt; begins_with_code(rt.alloc(), error), Ok(true));
-    }
-}
-
-// Whether a copy shows the same.
+// Whether a copy shows the same, and gives its cells.
 fn is_copied(alloc: Global, grid: &Grid) -> bool {
     match grid.copy(alloc) {
-        Ok(copy) => shows(&copy, 3, 2, grid.cells()),
+        Ok(copy) => shows(&copy, 3, 2, grid.cells())
+            && copy.into_cells().as_slice() == grid.cells(),
         Err(_) => false,
     }
 }
@@ -143,183 +133,191 @@ fn is_taken_over(alloc: Global, grid: &Grid) -> bool {
     }
 }
 
-// Whether the grid of 1 to 6 has its values row by row, and another one where it is put.
-fn is_row_by_row(grid: &mut Grid) -> bool {
-    let is_counted = has(grid, 2, 0, 3) && has(grid, 0, 1, 4);
-    put(grid, 1, 1, 9);
-    is_counted && has(grid, 1, 1, 9) && shows(grid, 3, 2, &[1, 2, 3, 4, 9, 6])
-}
-
-// Whether the cells lie row by row, for other grids and without the grid too.
-fn are_cells_row_by_row(alloc: Global) -> Result<bool, AllocError> {
-    let mut grid = counted(alloc)?;
-    let is_shown = is_row_by_row(&mut grid);
-    let is_given = is_copied(alloc, &grid) && is_taken_over(alloc, &grid);
-    Ok(is_shown && is_given && grid.into_cells().as_slice() == [1, 2, 3, 4, 9, 6].as_slice())
-}
-
-#[test]
-fn cells_lie_row_by_row(rt: HostRuntime) {
-    assert_eq!(rt; are_cells_row_by_row(rt.alloc()), Ok(true));
-}
-
-// Fills the cells from `from` to before `to`.
-fn fill_cells(grid: &mut Grid, from: usize, to: usize, value: u32) {
-    if let Some(cells) = grid.cells_mut().get_mut(from..to) {
-        cells.fill(value);
-    }
-}
-
-/// Writes values over as many cells from `from` on.
-pub fn write_cells(grid: &mut Grid, from: usize, values: &[u32]) {
-    for (cell, value) in grid.cells_mut().iter_mut().skip(from).zip(values) {
-        *cell = *value;
-    }
-}
-
-// Whether the cells of the grid of 1 to 6 change in place.
-fn is_changed_in_place(grid: &mut Grid) -> bool {
-    fill_cells(grid, 1, 2, 9);
-    let is_one_filled = shows(grid, 3, 2, &[1, 9, 3, 4, 5, 6]);
-    fill_cells(grid, 3, 6, 7);
-    let is_row_filled = shows(grid, 3, 2, &[1, 9, 3, 7, 7, 7]) && has(grid, 1, 0, 9);
-    write_cells(grid, 2, &[4, 5]);
-    is_one_filled && is_row_filled && shows(grid, 3, 2, &[1, 9, 4, 5, 7, 7])
-}
-
-// Whether the cells of a grid change in place.
-fn are_cells_changed_in_place(alloc: Global) -> Result<bool, AllocError> {
-    Ok(is_changed_in_place(&mut counted(alloc)?))
-}
-
-#[test]
-fn cells_change_in_place(rt: HostRuntime) {
-    assert_eq!(rt; are_cells_changed_in_place(rt.alloc()), Ok(true));
-}
-
-fn rect_at(x: u32, y: u32, w: u32, h: u32) -> Rect
-    ensures { result ≡ record { x = x; y = y; w = w; h = h } }
-{
-    Rect { x, y, w, h }
-}
-
-// Whether a rectangle is printed so.
-fn is_printed(alloc: Global, rect: Rect, text: &str) -> Result<bool, AllocError> {
-    Ok(format!(in alloc; "{rect:?}")?.as_str() == text)
-}
-
-#[test]
-fn a_rectangle_is_told_by_its_corner_and_sides(rt: HostRuntime) {
-    let rect = rect_at(8, 0, 4, 8);
-    assert!(rt; rect == rect_at(8, 0, 4, 8) && rect != rect_at(7, 0, 4, 8));
-    assert_eq!(rt;
-        is_printed(rt.alloc(), rect, "Rect { x: 8, y: 0, w: 4, h: 8 }"),
-        Ok(true)
-    );
-}
-
-// Whether the two right columns of a grid of three columns and two rows have these rows.
-fn has_rows(grid: &Grid, first: &[u32], second: &[u32]) -> bool {
-    let rect = rect_at(1, 0, 2, 2);
-    let is_size = grid.width() == 3 && grid.height() == 2;
-    is_size && grid.row_in(rect, 0) == first && grid.row_in(rect, 1) == second
-}
-
-// Whether the two right columns of a grid of three columns and two rows are a grid of these cells.
-fn has_part(alloc: Global, grid: &Grid, cells: &[u32]) -> bool {
+// Whether the two right columns of the grid have their rows, also as a grid of their own.
+fn is_part(alloc: Global, grid: &Grid) -> bool {
     if grid.width() != 3 || grid.height() != 2 {
         return false;
     }
-    match grid.cut(alloc, rect_at(1, 0, 2, 2)) {
-        Ok(part) => shows(&part, 2, 2, cells),
+    let right = Rect {
+        x: 1,
+        y: 0,
+        w: 2,
+        h: 2,
+    };
+    let has_rows = grid.row_in(right, 0) == [2, 3].as_slice()
+        && grid.row_in(right, 1) == [5, 6].as_slice();
+    match grid.cut(alloc, right) {
+        Ok(part) => has_rows && shows(&part, 2, 2, &[2, 3, 5, 6]),
         Err(_) => false,
     }
 }
 
-// Whether the two right columns of the grid of 1 to 6 have their rows, also as a grid of their own.
-fn are_rows_of_part(alloc: Global) -> Result<bool, AllocError> {
-    let grid = counted(alloc)?;
-    Ok(has_rows(&grid, &[2, 3], &[5, 6]) && has_part(alloc, &grid, &[2, 3, 5, 6]))
+// Whether pixels of the grid have their values, and another one where it is put.
+fn is_put(grid: &mut Grid) -> bool {
+    if grid.width() != 3 || grid.height() != 2 {
+        return false;
+    }
+    let is_counted = grid.get(Pixel { x: 2, y: 0 }) == 3 && grid.get(Pixel { x: 0, y: 1 }) == 4;
+    grid.set(Pixel { x: 1, y: 1 }, 9);
+    is_counted && grid.get(Pixel { x: 1, y: 1 }) == 9 && shows(grid, 3, 2, &[1, 2, 3, 4, 9, 6])
 }
 
-#[test]
-fn a_part_has_the_rows_of_its_rectangle(rt: HostRuntime) {
-    assert_eq!(rt; are_rows_of_part(rt.alloc()), Ok(true));
+// Whether one cell of the grid, a row and a part of it change in place.
+fn is_changed_in_place(grid: &mut Grid) -> bool {
+    write_cells(grid, 1, &[9]);
+    let is_cell_changed = shows(grid, 3, 2, &[1, 9, 3, 4, 9, 6]);
+    write_cells(grid, 3, &[7; 3]);
+    let is_row_changed = shows(grid, 3, 2, &[1, 9, 3, 7, 7, 7]);
+    write_cells(grid, 2, &[4, 5]);
+    is_cell_changed && is_row_changed && shows(grid, 3, 2, &[1, 9, 4, 5, 7, 7])
 }
 
-// The column and row of a rectangle's corner, its width and height, the column and row of a pixel, and whether the
-// rectangle contains it.
-const CONTAINED: &[(u32, u32, u32, u32, u32, u32, bool)] = &[
-    (8, 4, 3, 2, 8, 4, true),
-    (8, 4, 3, 2, 10, 4, true),
-    (8, 4, 3, 2, 8, 5, true),
-    (8, 4, 3, 2, 10, 5, true),
-    (8, 4, 3, 2, 7, 4, false),
-    (8, 4, 3, 2, 11, 4, false),
-    (8, 4, 3, 2, 8, 3, false),
-    (8, 4, 3, 2, 8, 6, false),
-    (8, 4, 3, 2, 0, 0, false),
-    (u32::MAX, u32::MAX, 2, 2, u32::MAX, u32::MAX, true),
-    (u32::MAX, u32::MAX, 2, 2, 0, 0, false),
+// What is wrong with a grid of three columns and two rows, with the values 1 to 6.
+fn wrong_of_grid(alloc: Global, grid: &mut Grid) -> Option<&'static str> {
+    if !shows(grid, 3, 2, &[1, 2, 3, 4, 5, 6]) {
+        Some("its cells")
+    } else if !is_copied(alloc, grid) || !is_taken_over(alloc, grid) {
+        Some("its copies")
+    } else if !is_part(alloc, grid) {
+        Some("its part")
+    } else if !is_put(grid) || !is_changed_in_place(grid) {
+        Some("its changes")
+    } else {
+        None
+    }
+}
+
+// Names, sides and cells of grids, and whether they are below and above a grid of 5s, three wide and two high.
+const COMPARED: &[(&str, u32, u32, &[u32], bool, bool)] = &[
+    ("another width and height", 2, 3, &[5; 6], false, false),
+    ("a row less", 3, 1, &[5; 3], false, false),
+    ("a column", 1, 2, &[5; 2], false, false),
+    (
+        "the same number of cells in a row",
+        6,
+        1,
+        &[5; 6],
+        false,
+        false,
+    ),
+    ("the same cells", 3, 2, &[5, 5, 5, 5, 5, 5], true, true),
+    ("a cell less", 3, 2, &[4, 5, 5, 5, 5, 5], true, false),
+    (
+        "a cell less and one greater",
+        3,
+        2,
+        &[4, 5, 5, 5, 5, 6],
+        false,
+        false,
+    ),
 ];
 
-// The first row of pixels that is wrong.
-fn wrong_contained() -> Option<usize> {
-    for (row, (left, top, w, h, x, y, is_inside)) in CONTAINED.iter().enumerate() {
-        if rect_at(*left, *top, *w, *h).contains(Pixel { x: *x, y: *y }) != *is_inside {
-            return Some(row);
+// Whether a grid is below and above another.
+fn compares(lower: &Grid, upper: &Grid, is_below: bool, is_above: bool) -> bool {
+    lower.is_below(upper) == is_below && upper.is_below(lower) == is_above
+}
+
+// The first grid that is not below or above the other just where it should be.
+fn wrong_comparison(alloc: Global, upper: &Grid) -> Option<&'static str> {
+    for (name, w, h, cells, is_below, is_above) in COMPARED {
+        let is_right = match Grid::new(alloc, *w, *h, 0) {
+            Ok(mut lower) => {
+                write_cells(&mut lower, 0, cells);
+                compares(&lower, upper, *is_below, *is_above)
+            }
+            Err(_) => false,
+        };
+        if !is_right {
+            return Some(*name);
         }
     }
     None
 }
 
-#[test]
-fn a_rectangle_contains_its_corners(rt: HostRuntime) {
-    assert_eq!(rt; wrong_contained(), None);
-}
-
-// Whether a grid of so many 5s is not below the other, nor the other below it.
-fn is_apart(alloc: Global, w: u32, h: u32, upper: &Grid) -> bool {
-    match Grid::new(alloc, w, h, 5) {
-        Ok(other) => !other.is_below(upper) && !upper.is_below(&other),
-        Err(_) => false,
+// What is wrong with the cells of a grid, in itself or compared with others.
+fn wrong_cells(alloc: Global) -> Option<&'static str> {
+    match [1, 2, 3, 4, 5, 6].to_vec(alloc) {
+        Ok(cells) => wrong_of_grid(alloc, &mut Grid::from_cells(3, 2, cells)),
+        Err(_) => Some("memory"),
     }
 }
 
-// Whether grids of other sizes are not below a grid of 5s, nor above it.
-fn are_apart(alloc: Global, upper: &Grid) -> bool {
-    for (w, h) in &[(2, 3), (3, 1), (1, 2), (6, 1)] {
-        if !is_apart(alloc, *w, *h, upper) {
-            return false;
+// The same of a grid of 5s that is compared with others.
+fn wrong_order(alloc: Global) -> Option<&'static str> {
+    match Grid::new(alloc, 3, 2, 5) {
+        Ok(upper) => wrong_comparison(alloc, &upper),
+        Err(_) => Some("memory"),
+    }
+}
+
+#[test]
+fn cells_lie_row_by_row_and_are_compared_where_sizes_are_equal(rt: HostRuntime) {
+    assert_eq!(rt; wrong_cells(rt.alloc()).or(wrong_order(rt.alloc())), None);
+}
+
+// The column and row of a rectangle's corner, its width and height, the column and row of a pixel, and whether the
+// rectangle contains it.
+const CONTAINED: &[(&str, u32, u32, u32, u32, u32, u32, bool)] = &[
+    ("the upper left corner", 8, 4, 3, 2, 8, 4, true),
+    ("the upper right corner", 8, 4, 3, 2, 10, 4, true),
+    ("the lower left corner", 8, 4, 3, 2, 8, 5, true),
+    ("the lower right corner", 8, 4, 3, 2, 10, 5, true),
+    ("left of it", 8, 4, 3, 2, 7, 4, false),
+    ("right of it", 8, 4, 3, 2, 11, 4, false),
+    ("above it", 8, 4, 3, 2, 8, 3, false),
+    ("below it", 8, 4, 3, 2, 8, 6, false),
+    ("far from it", 8, 4, 3, 2, 0, 0, false),
+    (
+        "the last pixel of all",
+        u32::MAX,
+        u32::MAX,
+        2,
+        2,
+        u32::MAX,
+        u32::MAX,
+        true,
+    ),
+    (
+        "beyond the last pixel of all",
+        u32::MAX,
+        u32::MAX,
+        2,
+        2,
+        0,
+        0,
+        false,
+    ),
+];
+
+// The first pixel of which it is told otherwise.
+fn wrong_pixel() -> Option<&'static str> {
+    for (name, left, top, w, h, x, y, is_inside) in CONTAINED {
+        let rect = Rect {
+            x: *left,
+            y: *top,
+            w: *w,
+            h: *h,
+        };
+        if rect.contains(Pixel { x: *x, y: *y }) != *is_inside {
+            return Some(*name);
         }
     }
-    true
+    None
 }
 
-// Whether a grid of 5s is below and above just what it should be, when its cells change.
-fn is_below_by_cells(upper: &Grid, lower: &mut Grid) -> bool {
-    let equal = lower.is_below(upper);
-    put(lower, 0, 0, 4);
-    let less = lower.is_below(upper) && !upper.is_below(lower);
-    put(lower, 2, 1, 6);
-    equal && less && !lower.is_below(upper)
-}
-
-// Whether the copy of a grid of 5s is below and above just what it should be.
-fn is_copy_below(alloc: Global, upper: &Grid) -> bool {
-    match upper.copy(alloc) {
-        Ok(mut lower) => is_below_by_cells(upper, &mut lower),
+// Whether a rectangle is told from one at another corner, and printed by its corner and sides.
+fn is_told(alloc: Global, rect: Rect, other: Rect) -> bool {
+    match format!(in alloc; "{rect:?}") {
+        Ok(text) => rect == rect
+            && rect != other
+            && text.as_str() == "Rect { x: 8, y: 0, w: 4, h: 8 }",
         Err(_) => false,
     }
 }
 
-// Whether a grid of 5s is apart from grids of other sizes, and compared by its cells.
-fn is_compared(alloc: Global) -> Result<bool, GridError> {
-    let upper = Grid::new(alloc, 3, 2, 5)?;
-    Ok(are_apart(alloc, &upper) && is_copy_below(alloc, &upper))
-}
-
 #[test]
-fn below_needs_equal_sizes(rt: HostRuntime) {
-    assert_eq!(rt; is_compared(rt.alloc()), Ok(true));
+fn a_rectangle_contains_its_corners(rt: HostRuntime) {
+    let (x, y, w, h) = (8, 0, 4, 8);
+    assert!(rt; is_told(rt.alloc(), Rect { x, y, w, h }, Rect { x: 7, y, w, h }));
+    assert_eq!(rt; wrong_pixel(), None);
 }

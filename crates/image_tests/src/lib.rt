@@ -14,8 +14,6 @@ mod neighbours;
 #[cfg(test)]
 mod picture;
 #[cfg(test)]
-mod plain_files;
-#[cfg(test)]
 mod responses;
 #[cfg(test)]
 mod tiles;

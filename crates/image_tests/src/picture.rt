@@ -9,10 +9,10 @@ use std::alloc::Global;
 /// pixels by their bits.
 #[derive(Clone, Copy)]
 pub struct Picture {
-    pub w: u32,
-    pub h: u32,
+    w: u32,
+    h: u32,
     pub conn: Conn,
-    pub values: [u32; 25],
+    values: [u32; 25],
     // The pixels beside each pixel.
     around: [u32; 25],
 }
@@ -27,6 +27,15 @@ fn with(pixels: u32, p: usize) -> u32 {
     if p < 25 { pixels | (1 << p) } else { pixels }
 }
 
+// Lowers the values of these pixels to a level.
+fn lower(view: &mut [u32; 25], pixels: u32, level: u32) {
+    for (p, least) in view.iter_mut().enumerate() {
+        if has(pixels, p) {
+            *least = level.min(*least);
+        }
+    }
+}
+
 impl Picture {
     /// The image of these values.
     pub fn new(w: u32, h: u32, conn: Conn, values: [u32; 25]) -> Picture {
@@ -37,23 +46,21 @@ impl Picture {
             values,
             around: [0; 25],
         };
-        for q in 0..25 {
+        for q in 0..picture.count().min(25) {
             picture.around[q] = picture.beside(q);
         }
         picture
     }
 
-    // The grid of the values.
-    fn grid(&self, alloc: Global) -> Option<Grid> {
-        let mut grid = Grid::new(alloc, self.w, self.h, 0).ok()?;
-        write_cells(&mut grid, 0, &self.values);
-        Some(grid)
-    }
-
     /// The image, with this maxval, if it can have it.
     pub fn image(&self, alloc: Global, maxval: u16) -> Option<Image> {
-        let grid = self.grid(alloc)?;
-        Image::from_grid(alloc, &grid, maxval).ok()
+        match Grid::new(alloc, self.w, self.h, 0) {
+            Ok(mut grid) => {
+                write_cells(&mut grid, 0, &self.values);
+                Image::from_grid(alloc, &grid, maxval).ok()
+            }
+            Err(_) => None,
+        }
     }
 
     /// Whether these are the first values of a view, as many as there are pixels.
@@ -128,7 +135,7 @@ impl Picture {
     // The pixels beside one of these.
     fn around(&self, pixels: u32) -> u32 {
         let mut found = 0;
-        for (p, around) in self.around.iter().enumerate() {
+        for (p, around) in self.around.iter().take(self.count()).enumerate() {
             if has(pixels, p) {
                 found |= *around;
             }
@@ -151,14 +158,10 @@ impl Picture {
 
     /// The fill: at each pixel the least of the values at which a path of no greater ones joins it to the border.
     pub fn fill(&self) -> [u32; 25] {
-        let mut view = [u32::MAX; 25];
+        let (mut view, border) = ([u32::MAX; 25], self.border());
         for level in self.values.iter().take(self.count()) {
-            let escaping = self.joined(self.border(), self.between(0, *level));
-            for (p, least) in view.iter_mut().enumerate() {
-                if has(escaping, p) && *level < *least {
-                    *least = *level;
-                }
-            }
+            let escaping = self.joined(border, self.between(0, *level));
+            lower(&mut view, escaping, *level);
         }
         view
     }
@@ -168,23 +171,27 @@ impl Picture {
     pub fn domes(&self, h: u32) -> [u32; 25] {
         let mut view = [0; 25];
         for value in self.values.iter().take(self.count()) {
-            for level in [*value, value.saturating_sub(h)] {
-                let above = self.between(level.saturating_add(h), u32::MAX);
-                let reached = self.joined(above, self.between(level, u32::MAX));
-                for (p, greatest) in view.iter_mut().enumerate() {
-                    if has(reached, p) && level > *greatest {
-                        *greatest = level;
-                    }
-                }
-            }
+            self.raise_dome(&mut view, *value, h);
+            self.raise_dome(&mut view, value.saturating_sub(h), h);
         }
         view
+    }
+
+    // Raises the view to a level at the pixels that a path of no lesser values joins to one of at least it and `h`.
+    fn raise_dome(&self, view: &mut [u32; 25], level: u32, h: u32) {
+        let above = self.between(level.saturating_add(h), u32::MAX);
+        let reached = self.joined(above, self.between(level, u32::MAX));
+        for (p, greatest) in view.iter_mut().enumerate() {
+            if has(reached, p) {
+                *greatest = level.max(*greatest);
+            }
+        }
     }
 
     /// The regional maxima: 1 where each pixel beside the plateau is strictly lower, and 0 elsewhere.
     pub fn maxima(&self) -> [u32; 25] {
         let mut view = [0; 25];
-        for (p, maximum) in view.iter_mut().enumerate() {
+        for (p, maximum) in view.iter_mut().take(self.count()).enumerate() {
             if let Some(value) = self.values.get(p) {
                 let plateau = self.joined(with(0, p), self.between(*value, *value));
                 let higher = self.around(plateau) & self.between(*value, u32::MAX);

@@ -3,8 +3,8 @@
 ghost use Rattle.std.specs.Prelude.{◌≡◌, ◌++◌, Contains, IfOk, length};
 ghost use Rattle.image_tests.specs.declared.responses.TwiceError.TheVariants as errors;
 
-use crate::devices::{counts, sink, source};
-use byte_devices::{Responder, ResponseError, TransferError, respond};
+use crate::devices::{counts, holds, sink, source};
+use byte_devices::{MemorySink, MemorySource, Responder, ResponseError, TransferError, respond};
 use std::alloc::{AllocError, Global};
 
 // Why no bytes are written twice.
@@ -83,12 +83,16 @@ fn doubled(alloc: Global, bytes: &[u8]) -> Result<Vec<u8>, AllocError>
     Ok(text)
 }
 
-// A source: its bytes, how many of them a pull gives at most, and the pull that fails. A sink: how many bytes a put
-// takes at most, and the put that fails. Then what a run answers, what it writes, the pulls, failures and ends of the
-// source, and the puts of the sink. A 0 chooses no piece, no pull and no put.
+// A name, the bytes of a source, how many of them a pull gives at most, and the pull that fails; how many bytes a put
+// into a sink takes at most, and the put that fails. Then what a run answers, what it writes, the pulls, failures and
+// ends of the source, and the puts of the sink. A 0 chooses none.
 type Run = (
-    (&'static [u8], usize, u64),
-    (usize, u64),
+    &'static str,
+    &'static [u8],
+    usize,
+    u64,
+    usize,
+    u64,
     Result<usize, TwiceError>,
     &'static [u8],
     (u64, u64, u64),
@@ -96,35 +100,49 @@ type Run = (
 );
 
 const RUNS: &[Run] = &[
-    // An input is answered, or refused with nothing written.
     (
-        (b"stroke", 4, 0),
-        (5, 0),
+        "answered",
+        b"stroke",
+        4,
+        0,
+        5,
+        0,
         Ok(6),
         b"strokestroke",
         (3, 0, 1),
         3,
     ),
     (
-        (b"a\0b", 0, 0),
-        (0, 0),
+        "refused",
+        b"a\0b",
+        0,
+        0,
+        0,
+        0,
         Err(TwiceError::Zero),
         b"",
         (2, 0, 1),
         0,
     ),
-    // A failing source is told, and a failing sink.
     (
-        (b"ab", 0, 2),
-        (0, 0),
+        "a failing source",
+        b"ab",
+        0,
+        2,
+        0,
+        0,
         Err(TwiceError::Device),
         b"",
         (2, 1, 0),
         0,
     ),
     (
-        (b"ab", 0, 0),
-        (3, 2),
+        "a failing sink",
+        b"ab",
+        0,
+        0,
+        3,
+        2,
         Err(TwiceError::Device),
         b"aba",
         (2, 0, 1),
@@ -132,19 +150,26 @@ const RUNS: &[Run] = &[
     ),
 ];
 
-// Whether a run is so.
-fn is_run(alloc: Global, run: &Run) -> Result<bool, AllocError> {
-    let ((bytes, piece, failing), (room, refusing), answer, written, counted, puts) = run;
-    let mut source = source(alloc, bytes, *piece, *failing)?;
-    let mut sink = sink(alloc, *room, *refusing);
-    let is_answered = respond(alloc, &Twice, &mut source, &mut sink) == *answer;
-    let is_written = sink.written() == *written && sink.puts() == *puts;
-    Ok(is_answered && is_written && counts(&source, *counted))
+// Whether a run answers so, and leaves the source and the sink so.
+fn is_run(alloc: Global, source: &mut MemorySource, sink: &mut MemorySink, run: &Run) -> bool {
+    let (_, _, _, _, _, _, answer, written, counted, puts) = run;
+    let is_answered = respond(alloc, &Twice, source, sink) == *answer;
+    is_answered && holds(sink, written, *puts) && counts(source, *counted)
 }
 
-// The first row of runs that are not so.
-fn wrong_run(alloc: Global) -> Option<usize> {
-    RUNS.iter().position(|run| is_run(alloc, run) != Ok(true))
+// The first run that is not so.
+fn wrong_run(alloc: Global) -> Option<&'static str> {
+    for run in RUNS {
+        let (name, bytes, piece, failing, room, refusing, ..) = run;
+        let is_right = match source(alloc, bytes, *piece, *failing) {
+            Ok(mut source) => is_run(alloc, &mut source, &mut sink(alloc, *room, *refusing), run),
+            Err(_) => false,
+        };
+        if !is_right {
+            return Some(*name);
+        }
+    }
+    None
 }
 
 #[test]

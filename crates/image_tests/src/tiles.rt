@@ -2,148 +2,199 @@
 
 use grid_core::{MAX_TILE_SIDE, MIN_TILE_SIDE, Pixel, Rect, Tiling, is_tile_side};
 
-// The tiles of an image, if there can be such tiles.
-fn tiled(w: u32, h: u32, side: u32) -> Option<Tiling> {
-    if is_tile_side(side) {
-        Tiling::new(w, h, side).ok()
-    } else {
-        None
-    }
-}
-
 // Sides, and whether tiles may have them.
-const SIDES: &[(u32, bool)] = &[
-    (0, false),
-    (7, false),
-    (257, false),
-    (u32::MAX, false),
-    (8, true),
-    (9, true),
-    (64, true),
-    (255, true),
-    (256, true),
+const SIDES: &[(&str, u32, bool)] = &[
+    ("none", 0, false),
+    ("one less than the least", 7, false),
+    ("the least", 8, true),
+    ("one more than the least", 9, true),
+    ("the usual", 64, true),
+    ("one less than the greatest", 255, true),
+    ("the greatest", 256, true),
+    ("one more than the greatest", 257, false),
+    ("the greatest number", u32::MAX, false),
 ];
 
-// The first row of sides that is wrong.
-fn wrong_side() -> Option<usize> {
-    for (row, (side, is_side)) in SIDES.iter().enumerate() {
+// The first side that is judged otherwise.
+fn wrong_side() -> Option<&'static str> {
+    for (name, side, is_side) in SIDES {
         if is_tile_side(*side) != *is_side {
-            return Some(row);
+            return Some(*name);
         }
     }
     None
 }
 
-#[test]
-fn tiles_have_sides_from_8_to_256(rt: HostRuntime) {
-    assert_eq!(rt; wrong_side(), None);
-    assert!(rt; MIN_TILE_SIDE == 8 && MAX_TILE_SIDE == 256);
-}
+// A name, the width and height of an image, the side of its tiles, and how many they are; then the number of a tile,
+// the column and row of its first pixel, its width and height, and the tiles that touch it.
+type Tile = (
+    &'static str,
+    u32,
+    u32,
+    u32,
+    usize,
+    usize,
+    (u32, u32, u32, u32),
+    &'static [usize],
+);
 
-// What is told of the tiles of an image.
-enum Told {
-    // So many tiles.
-    Count(usize),
-    // The column and row of the first pixel, the width and the height of the tile of this number.
-    Rect(usize, (u32, u32, u32, u32)),
-    // The pixel in this column and row is one of the tile of this number.
-    TileOf((u32, u32), usize),
-    // These tiles touch the tile of this number.
-    Touching(usize, &'static [usize]),
-}
-
-// Whether this is so of the tiles.
-fn is_told(tiling: &Tiling, told: &Told) -> bool {
-    match told {
-        Told::Count(count) => tiling.count() == *count,
-        Told::Rect(tile, (x, y, w, h)) => has_rect(tiling, *tile, *x, *y, *w, *h),
-        Told::TileOf((x, y), tile) => lies_in(tiling, *x, *y, *tile),
-        Told::Touching(tile, tiles) => are_touching(tiling, *tile, tiles),
-    }
-}
-
-// Whether the tile of this number has this rectangle.
-fn has_rect(tiling: &Tiling, tile: usize, x: u32, y: u32, w: u32, h: u32) -> bool {
-    tile < tiling.count() && tiling.rect(tile) == Rect { x, y, w, h }
-}
-
-// Whether a pixel lies in the tile of this number.
-fn lies_in(tiling: &Tiling, x: u32, y: u32, tile: usize) -> bool {
-    let is_inside = x < tiling.width() && y < tiling.height();
-    is_inside && tiling.tile_of(Pixel { x, y }) == tile
-}
-
-// Whether just these tiles touch a tile.
-fn are_touching(tiling: &Tiling, tile: usize, tiles: &[usize]) -> bool {
-    tile < tiling.count() && tiling.touching(tile).as_slice() == tiles
-}
-
-// The width and height of an image, the side of its tiles, and what is told of them.
-const TILINGS: &[(u32, u32, u32, &[Told])] = &[
-    // Tiles are cut at the right and lower edges, and a border parts two tiles.
+const TILES: &[Tile] = &[
+    ("the first of six", 20, 9, 8, 6, 0, (0, 0, 8, 8), &[1, 3, 4]),
     (
+        "at the upper edge",
         20,
         9,
         8,
-        &[
-            Told::Count(6),
-            Told::Rect(0, (0, 0, 8, 8)),
-            Told::Rect(1, (8, 0, 8, 8)),
-            Told::Rect(2, (16, 0, 4, 8)),
-            Told::Rect(3, (0, 8, 8, 1)),
-            Told::Rect(4, (8, 8, 8, 1)),
-            Told::Rect(5, (16, 8, 4, 1)),
-            Told::TileOf((7, 7), 0),
-            Told::TileOf((8, 7), 1),
-            Told::TileOf((7, 8), 3),
-            Told::TileOf((8, 8), 4),
-            Told::TileOf((15, 0), 1),
-            Told::TileOf((16, 0), 2),
-            Told::TileOf((19, 8), 5),
-        ],
+        6,
+        1,
+        (8, 0, 8, 8),
+        &[0, 2, 3, 4, 5],
     ),
-    // A side may be a multiple of the tiles'.
-    (16, 8, 8, &[Told::Count(2), Told::Rect(1, (8, 0, 8, 8))]),
-    (8, 8, 256, &[Told::Count(1), Told::Rect(0, (0, 0, 8, 8))]),
-    // Tiles touch by edges and corners, and a tile alone touches none.
     (
+        "cut at the right edge",
+        20,
+        9,
+        8,
+        6,
+        2,
+        (16, 0, 4, 8),
+        &[1, 4, 5],
+    ),
+    (
+        "cut at the lower left corner",
+        20,
+        9,
+        8,
+        6,
+        3,
+        (0, 8, 8, 1),
+        &[0, 1, 4],
+    ),
+    (
+        "cut at the lower edge",
+        20,
+        9,
+        8,
+        6,
+        4,
+        (8, 8, 8, 1),
+        &[0, 1, 2, 3, 5],
+    ),
+    (
+        "cut at both edges",
+        20,
+        9,
+        8,
+        6,
+        5,
+        (16, 8, 4, 1),
+        &[1, 2, 4],
+    ),
+    ("a width of two tiles", 16, 8, 8, 2, 1, (8, 0, 8, 8), &[0]),
+    (
+        "a tile greater than the image",
+        8,
+        8,
+        256,
+        1,
+        0,
+        (0, 0, 8, 8),
+        &[],
+    ),
+    ("a tile alone", 8, 8, 8, 1, 0, (0, 0, 8, 8), &[]),
+    (
+        "the first of nine",
         24,
         17,
         8,
-        &[
-            Told::Count(9),
-            Told::Touching(0, &[1, 3, 4]),
-            Told::Touching(5, &[1, 2, 4, 7, 8]),
-            Told::Touching(4, &[0, 1, 2, 3, 5, 6, 7, 8]),
-            Told::Touching(8, &[4, 5, 7]),
-        ],
+        9,
+        0,
+        (0, 0, 8, 8),
+        &[1, 3, 4],
     ),
-    (8, 8, 8, &[Told::Touching(0, &[])]),
+    (
+        "the right one of nine",
+        24,
+        17,
+        8,
+        9,
+        5,
+        (16, 8, 8, 8),
+        &[1, 2, 4, 7, 8],
+    ),
+    (
+        "the middle one of nine",
+        24,
+        17,
+        8,
+        9,
+        4,
+        (8, 8, 8, 8),
+        &[0, 1, 2, 3, 5, 6, 7, 8],
+    ),
+    (
+        "the last of nine",
+        24,
+        17,
+        8,
+        9,
+        8,
+        (16, 16, 8, 1),
+        &[4, 5, 7],
+    ),
 ];
 
-// The first of these that is not so of the tiles.
-fn wrong_told(tiling: &Tiling, all: &[Told]) -> Option<usize> {
-    all.iter().position(|told| !is_told(tiling, told))
+// Whether a pixel lies in the tile of this number.
+fn lies_in(tiling: &Tiling, x: u32, y: u32, tile: usize) -> bool {
+    x < tiling.width() && y < tiling.height() && tiling.tile_of(Pixel { x, y }) == tile
 }
 
-// The first row of tilings of which not all is so, and what is not so.
-fn wrong_tiling() -> Option<(usize, usize)> {
-    for (row, (w, h, side, all)) in TILINGS.iter().enumerate() {
-        let Some(tiling) = tiled(*w, *h, *side) else {
-            return Some((row, 0));
-        };
-        let is_made = tiling.width() == *w && tiling.height() == *h && tiling.side() == *side;
-        if !is_made {
-            return Some((row, 0));
-        }
-        if let Some(wrong) = wrong_told(&tiling, all) {
-            return Some((row, wrong));
+// Whether the pixels at the corners of a rectangle lie in the tile of this number.
+fn are_corners_in(tiling: &Tiling, rect: Rect, tile: usize) -> bool {
+    let right = rect.x.saturating_add(rect.w).saturating_sub(1);
+    let bottom = rect.y.saturating_add(rect.h).saturating_sub(1);
+    lies_in(tiling, rect.x, rect.y, tile)
+        && lies_in(tiling, right, rect.y, tile)
+        && lies_in(tiling, rect.x, bottom, tile)
+        && lies_in(tiling, right, bottom, tile)
+}
+
+// Whether the image is cut so, and the tile has its rectangle and touches those.
+fn is_cut(tiling: &Tiling, cut: &Tile) -> bool {
+    let (_, width, height, side, count, tile, (x, y, w, h), touching) = cut;
+    let rect = Rect {
+        x: *x,
+        y: *y,
+        w: *w,
+        h: *h,
+    };
+    let is_sized = tiling.width() == *width && tiling.height() == *height && tiling.side() == *side;
+    is_sized
+        && tiling.count() == *count
+        && *tile < tiling.count()
+        && tiling.rect(*tile) == rect
+        && tiling.touching(*tile).as_slice() == *touching
+        && are_corners_in(tiling, rect, *tile)
+}
+
+// The first tile that is another.
+fn wrong_tile() -> Option<&'static str> {
+    for cut in TILES {
+        let (name, width, height, side, ..) = cut;
+        let is_right = is_tile_side(*side)
+            && match Tiling::new(*width, *height, *side) {
+                Ok(tiling) => is_cut(&tiling, cut),
+                Err(_) => false,
+            };
+        if !is_right {
+            return Some(*name);
         }
     }
     None
 }
 
 #[test]
-fn tiles_cover_an_image_and_touch(rt: HostRuntime) {
-    assert_eq!(rt; wrong_tiling(), None);
+fn tiles_have_sides_from_8_to_256_cover_an_image_and_touch(rt: HostRuntime) {
+    assert!(rt; MIN_TILE_SIDE == 8 && MAX_TILE_SIDE == 256);
+    assert_eq!(rt; wrong_side().or(wrong_tile()), None);
 }

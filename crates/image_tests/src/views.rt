@@ -1,11 +1,133 @@
-//! The three views on worked examples.
+//! The three views: worked examples, and all small images by the definitions.
 
-use crate::image_files::shows;
+use crate::image_files::spells;
 use crate::picture::Picture;
 use derived_views::{fill, h_maxima, regional_maxima};
 use grid_core::{Conn, Memory};
-use pgm_codec::{Image, PgmError, read};
+use pgm_codec::{Image, read};
 use std::alloc::Global;
+
+// A view of an image.
+#[derive(Clone, Copy)]
+enum View {
+    Fill,
+    // The domes are cut down by this height.
+    Domes(u16),
+    Maxima,
+}
+
+const DOMES: &[u8] = b"P2 5 1 9 1 4 3 5 1";
+
+// A hole of 1 within a ring of 6, closed at its corners and open there.
+const CLOSED: &[u8] = b"P2 5 5 9 0 0 0 0 0 0 6 6 6 0 0 6 1 6 0 0 6 6 6 0 0 0 0 0 0";
+
+const OPEN: &[u8] = b"P2 5 5 9 0 0 0 0 0 0 0 6 0 0 0 6 1 6 0 0 0 6 0 0 0 0 0 0 0";
+
+// The same where the hole is filled.
+const CLOSED_FILLED: &[u8] = b"P2 5 5 9 0 0 0 0 0 0 6 6 6 0 0 6 6 6 0 0 6 6 6 0 0 0 0 0 0";
+
+const OPEN_FILLED: &[u8] = b"P2 5 5 9 0 0 0 0 0 0 0 6 0 0 0 6 6 6 0 0 0 6 0 0 0 0 0 0 0";
+
+// A name, the text of an image, its view, and the text of that where four pixels and where eight are joined.
+type Example = (
+    &'static str,
+    &'static [u8],
+    View,
+    &'static [u8],
+    &'static [u8],
+);
+
+const EXAMPLES: &[Example] = &[
+    (
+        "a plateau alone",
+        b"P2 2 2 9 0 0 0 0",
+        View::Maxima,
+        b"P2 2 2 1 1 1 1 1",
+        b"P2 2 2 1 1 1 1 1",
+    ),
+    (
+        "one maximum",
+        b"P2 3 1 9 0 1 0",
+        View::Maxima,
+        b"P2 3 1 1 0 1 0",
+        b"P2 3 1 1 0 1 0",
+    ),
+    (
+        "the greatest value",
+        b"P2 2 1 65535 65535 65534",
+        View::Maxima,
+        b"P2 2 1 1 1 0",
+        b"P2 2 1 1 1 0",
+    ),
+    (
+        "domes cut down",
+        DOMES,
+        View::Domes(2),
+        b"P2 5 1 9 1 3 3 3 1",
+        b"P2 5 1 9 1 3 3 3 1",
+    ),
+    ("domes not cut down", DOMES, View::Domes(0), DOMES, DOMES),
+    (
+        "domes cut off",
+        DOMES,
+        View::Domes(65_535),
+        b"P2 5 1 9 0 0 0 0 0",
+        b"P2 5 1 9 0 0 0 0 0",
+    ),
+    (
+        "a hole in a closed ring",
+        CLOSED,
+        View::Fill,
+        CLOSED_FILLED,
+        CLOSED_FILLED,
+    ),
+    (
+        "a hole in an open ring",
+        OPEN,
+        View::Fill,
+        OPEN_FILLED,
+        OPEN,
+    ),
+];
+
+// The view of an image.
+fn made(alloc: Global, image: &Image, view: &View, conn: Conn) -> Result<Image, Memory> {
+    match view {
+        View::Fill => fill(alloc, image, conn),
+        View::Domes(h) => h_maxima(alloc, image, *h, conn),
+        View::Maxima => regional_maxima(alloc, image, conn),
+    }
+}
+
+// Whether the view of an image has this text.
+fn has_text(alloc: Global, image: &Image, view: &View, conn: Conn, text: &[u8]) -> bool {
+    match made(alloc, image, view, conn) {
+        Ok(made) => spells(alloc, text, &made),
+        Err(_) => false,
+    }
+}
+
+// The first example whose view has another text.
+fn wrong_example(alloc: Global) -> Option<&'static str> {
+    for (name, text, view, four, eight) in EXAMPLES {
+        let is_right = match read(alloc, text) {
+            Ok(image) => {
+                has_text(alloc, &image, view, Conn::Four, four)
+                    && has_text(alloc, &image, view, Conn::Eight, eight)
+            }
+            Err(_) => false,
+        };
+        if !is_right {
+            return Some(*name);
+        }
+    }
+    None
+}
+
+#[test]
+fn views_of_worked_examples(rt: HostRuntime) {
+    assert_eq!(rt; wrong_example(rt.alloc()), None);
+}
 
 // A small image, three by three, by its number: its values are the digits to the base 3.
 fn numbered(number: u32, conn: Conn) -> Picture {
@@ -28,25 +150,36 @@ fn random(w: u32, h: u32, most: u16, conn: Conn, seed: &mut u32) -> Picture {
     Picture::new(w, h, conn, values)
 }
 
-// Whether a view is made, and has the values that the picture's has.
-fn is_view(made: Result<Image, Memory>, picture: &Picture, view: &[u32; 25]) -> bool {
-    match made {
-        Ok(image) => picture.shows(view, image.samples()),
+// Whether a view has the values that the picture's has.
+fn is_view(
+    alloc: Global,
+    picture: &Picture,
+    image: &Image,
+    view: &View,
+    values: &[u32; 25],
+) -> bool {
+    match made(alloc, image, view, picture.conn) {
+        Ok(made) => picture.shows(values, made.samples()),
         Err(_) => false,
     }
 }
 
-// Whether the three views are those by their definitions, the domes cut down by `h`.
+// Whether the three views of a picture are those by their definitions, the domes cut down by `h`.
 fn agree(alloc: Global, picture: &Picture, maxval: u16, h: u16) -> bool {
-    let Some(image) = picture.image(alloc, maxval) else {
-        return false;
-    };
-    let conn = picture.conn;
-    let is_filled = is_view(fill(alloc, &image, conn), picture, &picture.fill());
-    let domes = picture.domes(u32::from(h));
-    let is_cut_down = is_view(h_maxima(alloc, &image, h, conn), picture, &domes);
-    let maxima = picture.maxima();
-    is_filled && is_cut_down && is_view(regional_maxima(alloc, &image, conn), picture, &maxima)
+    match picture.image(alloc, maxval) {
+        Some(image) => {
+            is_view(alloc, picture, &image, &View::Fill, &picture.fill())
+                && is_view(
+                    alloc,
+                    picture,
+                    &image,
+                    &View::Domes(h),
+                    &picture.domes(u32::from(h)),
+                )
+                && is_view(alloc, picture, &image, &View::Maxima, &picture.maxima())
+        }
+        None => false,
+    }
 }
 
 // The number of the first small image whose views are not those by their definitions.
@@ -69,144 +202,42 @@ fn every_small_image_agrees_under_eight(rt: HostRuntime) {
     assert_eq!(rt; wrong_small_image(rt.alloc(), Conn::Eight), None);
 }
 
-// Sides of images with random values, and the greatest value with the height by which domes are cut down.
-const RANDOM_SIDES: &[(u32, u32)] = &[(1, 1), (7, 1), (1, 5), (2, 2), (5, 5), (6, 4)];
+// Sides of images with random values, their greatest value, and the height by which domes are cut down.
+const RANDOM: &[(u32, u32, u16, u16)] = &[
+    (1, 1, 65_535, 20_000),
+    (1, 1, 300, 40),
+    (1, 1, 3, 1),
+    (7, 1, 65_535, 20_000),
+    (7, 1, 300, 40),
+    (7, 1, 3, 1),
+    (1, 5, 65_535, 20_000),
+    (1, 5, 300, 40),
+    (1, 5, 3, 1),
+    (2, 2, 65_535, 20_000),
+    (2, 2, 300, 40),
+    (2, 2, 3, 1),
+    (5, 5, 65_535, 20_000),
+    (5, 5, 300, 40),
+    (5, 5, 3, 1),
+    (6, 4, 65_535, 20_000),
+    (6, 4, 300, 40),
+    (6, 4, 3, 1),
+];
 
-const RANDOM_LEVELS: &[(u16, u16)] = &[(65_535, 20_000), (300, 40), (3, 1)];
-
-// Whether random images of these sides and values agree under both ways to join pixels.
-fn do_random_images_agree(
-    alloc: Global,
-    w: u32,
-    h: u32,
-    level: (u16, u16),
-    seed: &mut u32,
-) -> bool {
-    let (most, lower) = level;
-    let four = random(w, h, most, Conn::Four, seed);
-    let eight = random(w, h, most, Conn::Eight, seed);
-    agree(alloc, &four, 65_535, lower) && agree(alloc, &eight, 65_535, lower)
+// The sides and values of the first images that do not agree with the definitions, joined by four and by eight.
+fn wrong_random_image(alloc: Global) -> Option<(u32, u32, u16, u16)> {
+    let mut seed = 1;
+    for (w, h, most, lower) in RANDOM {
+        let four = random(*w, *h, *most, Conn::Four, &mut seed);
+        let eight = random(*w, *h, *most, Conn::Eight, &mut seed);
+        if !agree(alloc, &four, 65_535, *lower) || !agree(alloc, &eight, 65_535, *lower) {
+            return Some((*w, *h, *most, *lower));
+        }
+    }
+    None
 }
 
 #[test]
 fn random_images_agree_with_the_definitions(rt: HostRuntime) {
-    let mut seed = 1;
-    for (w, h) in RANDOM_SIDES {
-        for level in RANDOM_LEVELS {
-            assert!(rt;
-                do_random_images_agree(rt.alloc(), *w, *h, *level, &mut seed),
-                "{w} by {h}, {level:?}"
-            );
-        }
-    }
-}
-
-// Whether a view was made that has this size, this maxval and these samples.
-fn is_shown(made: Result<Image, Memory>, w: u32, h: u32, maxval: u16, samples: &[u32]) -> bool {
-    match made {
-        Ok(image) => shows(&image, w, h, maxval, samples),
-        Err(_) => false,
-    }
-}
-
-// Texts of images, their width and height, and their regional maxima, of maxval 1.
-const MAXIMA: &[(&[u8], u32, u32, &[u32])] = &[
-    (b"P2 2 2 9 0 0 0 0", 2, 2, &[1, 1, 1, 1]),
-    (b"P2 3 1 9 0 1 0", 3, 1, &[0, 1, 0]),
-    (b"P2 2 1 65535 65535 65534", 2, 1, &[1, 0]),
-];
-
-// Whether these are the regional maxima of the image of a text.
-fn has_maxima(alloc: Global, text: &[u8], conn: Conn, w: u32, h: u32, samples: &[u32]) -> bool {
-    match read(alloc, text) {
-        Ok(image) => is_shown(regional_maxima(alloc, &image, conn), w, h, 1, samples),
-        Err(_) => false,
-    }
-}
-
-// The first row of images that have other regional maxima.
-fn wrong_maxima(alloc: Global, conn: Conn) -> Option<usize> {
-    for (row, (text, w, h, samples)) in MAXIMA.iter().enumerate() {
-        if !has_maxima(alloc, text, conn, *w, *h, samples) {
-            return Some(row);
-        }
-    }
-    None
-}
-
-#[test]
-fn regional_maxima_have_maxval_1(rt: HostRuntime) {
-    assert_eq!(rt; wrong_maxima(rt.alloc(), Conn::Four), None);
-    assert_eq!(rt; wrong_maxima(rt.alloc(), Conn::Eight), None);
-}
-
-// Heights by which the domes of the values 1 4 3 5 1 are cut down, and what is left.
-const CUT_DOWN: &[(u16, &[u32])] = &[
-    (2, &[1, 3, 3, 3, 1]),
-    (0, &[1, 4, 3, 5, 1]),
-    (65_535, &[0, 0, 0, 0, 0]),
-];
-
-// The first row of heights by which the domes of an image are cut down to something else.
-fn wrong_cut_down(alloc: Global, image: &Image, conn: Conn) -> Option<usize> {
-    for (row, (h, samples)) in CUT_DOWN.iter().enumerate() {
-        if !is_shown(h_maxima(alloc, image, *h, conn), 5, 1, 9, samples) {
-            return Some(row);
-        }
-    }
-    None
-}
-
-// Whether the domes of the image are cut down as the rows say.
-fn are_domes_cut_down(alloc: Global, conn: Conn) -> Result<Option<usize>, PgmError> {
-    let image = read(alloc, b"P2 5 1 9 1 4 3 5 1")?;
-    Ok(wrong_cut_down(alloc, &image, conn))
-}
-
-#[test]
-fn domes_are_cut_down(rt: HostRuntime) {
-    assert_eq!(rt; are_domes_cut_down(rt.alloc(), Conn::Four), Ok(None));
-    assert_eq!(rt; are_domes_cut_down(rt.alloc(), Conn::Eight), Ok(None));
-}
-
-// A hole of 1 within a ring of 6, whose corners are another value.
-fn ringed(corner: u32) -> Picture {
-    let c = corner;
-    let values = [
-        0, 0, 0, 0, 0, 0, c, 6, c, 0, 0, 6, 1, 6, 0, 0, c, 6, c, 0, 0, 0, 0, 0, 0,
-    ];
-    Picture::new(5, 5, Conn::Four, values)
-}
-
-// Whether the hole in the ring is filled up to this value, and nothing else of the image changes.
-fn is_filled_to(alloc: Global, corner: u32, conn: Conn, centre: u32) -> bool {
-    let mut picture = ringed(corner);
-    let Some(image) = picture.image(alloc, 9) else {
-        return false;
-    };
-    picture.values[12] = centre;
-    is_shown(fill(alloc, &image, conn), 5, 5, 9, &picture.values)
-}
-
-// The value at the ring's corners, how pixels are joined, and the value to which the hole is filled up.
-const FILLED: &[(u32, Conn, u32)] = &[
-    (6, Conn::Four, 6),
-    (6, Conn::Eight, 6),
-    (0, Conn::Four, 6),
-    (0, Conn::Eight, 1),
-];
-
-// The first row of rings whose hole is filled otherwise.
-fn wrong_filled(alloc: Global) -> Option<usize> {
-    for (row, (corner, conn, centre)) in FILLED.iter().enumerate() {
-        if !is_filled_to(alloc, *corner, *conn, *centre) {
-            return Some(row);
-        }
-    }
-    None
-}
-
-#[test]
-fn a_hole_is_filled_to_its_lowest_way_out(rt: HostRuntime) {
-    assert_eq!(rt; wrong_filled(rt.alloc()), None);
+    assert_eq!(rt; wrong_random_image(rt.alloc()), None);
 }

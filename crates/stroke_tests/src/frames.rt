@@ -1,12 +1,9 @@
 //! Frames: worked bytes, faults and their order.
 
-use crate::set::Step::{self, Paint, Place, Withdraw, WithdrawEach};
-use crate::set::state_of;
-use crate::strokes::Form::{Column, Disc};
+use crate::states::{great_state, state_of};
 use grid_core::Conn;
 use spd_codec::{Frame, Print, SpdError, decode, encode};
-use std::alloc::{AllocError, Global};
-use std::test::Fail;
+use std::alloc::Global;
 use stroke_core::StrokeError;
 use stroke_lattice::State;
 
@@ -20,7 +17,7 @@ pub const FIRST_VERSION: &[u8] = b"SPD1\x04\
     \0\0\0\0\0\0\0\0\0\0\0\0\0\0\0\0\0\0\0\0\0\0\0\0\0\0\0\0\0\0\0\0\0\x01\0\0\
     \0\0\0\0\0\0\0\0\0\0\0\0\0\0\0\x01\0\x09\0\x01\0\0\0\x01\0\x01";
 
-// The same, and a byte behind it.
+// The first version, and a byte behind it.
 const RUNS_AND_MORE: &[u8] = b"SPD1\x04\
     \0\0\0\0\0\0\0\0\0\0\0\0\0\0\0\0\0\0\0\0\0\0\0\0\0\0\0\0\0\0\0\0\0\x01\0\0\
     \0\0\0\0\0\0\0\0\0\0\0\0\0\0\0\x01\0\x09\0\x01\0\0\0\x01\0\x01\0";
@@ -58,162 +55,138 @@ pub fn zeros() -> Print {
     Print::from_bytes([0; 32])
 }
 
-// Whether the frame is for an image of this connectivity alone, and a fingerprint of zeros.
-fn is_for(frame: &Frame, conn: Conn) -> bool {
-    let other = if conn == Conn::Four {
-        Conn::Eight
-    } else {
-        Conn::Four
-    };
-    frame.is_for(conn, &zeros()) && !frame.is_for(other, &zeros())
-}
+// A name, the length of a frame in bytes, its bytes, its connectivity, the edits of its state, and the bytes that are
+// written for it.
+type Case = (
+    &'static str,
+    usize,
+    &'static [u8],
+    Conn,
+    &'static str,
+    &'static [u8],
+);
 
-// Whether the bytes are read as a frame of these steps.
-fn is_read(alloc: Global, bytes: &[u8], conn: Conn, steps: &[Step]) -> Result<bool, Fail> {
-    let frame = decode(alloc, bytes)?;
-    Ok(is_for(&frame, conn) && frame.delta.is_same(&state_of(alloc, steps)?))
-}
-
-// Whether these bytes are written for the frame of the state.
-fn encodes(alloc: Global, bytes: &[u8], conn: Conn, state: &State) -> bool {
-    match encode(alloc, conn, &zeros(), state) {
-        Ok(written) => written.as_slice() == bytes,
-        Err(_) => false,
-    }
-}
-
-// Whether these bytes are written for the frame of these steps.
-fn is_written(alloc: Global, bytes: &[u8], conn: Conn, steps: &[Step]) -> Result<bool, Fail> {
-    let state = state_of(alloc, steps)?;
-    Ok(encodes(alloc, bytes, conn, &state))
-}
-
-// A name, the length of a frame in bytes, its bytes, its connectivity and its steps.
-type Case = (&'static str, usize, &'static [u8], Conn, &'static [Step]);
-
-const FRAMES: [Case; 4] = [
-    ("one stroke", 68, ONE_STROKE, Conn::Four, &[Place(1, 9)]),
+const FRAMES: &[Case] = &[
     (
-        "a disc",
-        66,
-        DISC,
+        "one stroke",
+        68,
+        ONE_STROKE,
         Conn::Four,
-        &[Paint(1, 5, Disc(2, 2, 2))],
+        "place #01 9 0:1-1",
+        ONE_STROKE,
     ),
     (
-        "a disc under the greatest tag",
+        "one stroke in the first version",
+        67,
+        FIRST_VERSION,
+        Conn::Four,
+        "place #01 9 0:1-1",
+        ONE_STROKE,
+    ),
+    ("a disc", 66, DISC, Conn::Four, "disc #01 5 2:2+2", DISC),
+    (
+        "a disc under the greatest tag, and tombstones",
         66 + 32,
         GREAT_DISC,
         Conn::Eight,
-        &[
-            Paint(u128::MAX, 5, Disc(2, 3, 255)),
-            Withdraw(258),
-            Withdraw(7),
-        ],
+        "disc ffffffff-ffff-ffff-ffff-ffffffffffff 5 3:2+255\n\
+        withdraw 00000000-0000-0000-0000-000000000102\n\
+        withdraw #07",
+        GREAT_DISC,
     ),
     (
         "tombstones",
         73,
         TOMBSTONES,
         Conn::Four,
-        &[Withdraw(1), Withdraw(7)],
+        "withdraw #01\nwithdraw #07",
+        TOMBSTONES,
     ),
 ];
 
-#[test]
-fn frames_are_read_and_written(rt: HostRuntime) -> Result<(), Fail> {
-    for (name, length, bytes, conn, steps) in &FRAMES {
-        assert!(rt; bytes.len() == *length, "{name}");
-        assert!(rt; is_read(rt.alloc(), bytes, *conn, steps)?, "{name}");
-        assert!(rt; is_written(rt.alloc(), bytes, *conn, steps)?, "{name}");
-    }
-    Ok(())
-}
-
-// What is written for the frame of these bytes.
-fn written_again(alloc: Global, bytes: &[u8]) -> Result<Vec<u8>, SpdError> {
-    let frame = decode(alloc, bytes)?;
-    encode(alloc, frame.conn, &frame.print, &frame.delta)
-}
-
-#[test]
-fn a_frame_of_the_first_version_is_written_again_in_the_second(
-    rt: HostRuntime,
-) -> Result<(), Fail> {
-    assert!(rt; is_read(rt.alloc(), FIRST_VERSION, Conn::Four, &[Place(1, 9)])?);
-    assert!(rt; written_again(rt.alloc(), FIRST_VERSION)?.as_slice() == ONE_STROKE);
-    Ok(())
-}
-
-/// One stroke of as many runs as a stroke has, and thirty tombstones.
-pub const LONG: &[Step] = &[Paint(40, 9, Column(160)), WithdrawEach(0, 30)];
-
-// Whether the state is too long for a frame.
-fn is_too_long(alloc: Global, state: &State) -> bool {
-    match encode(alloc, Conn::Four, &zeros(), state) {
-        Ok(_) => false,
-        Err(e) => e.code() == "M6",
+// Whether these bytes were written.
+fn is_written(written: Result<Vec<u8>, SpdError>, bytes: &[u8]) -> bool {
+    match written {
+        Ok(written) => written.as_slice() == bytes,
+        Err(_) => false,
     }
 }
 
-#[test]
-fn a_state_too_long_for_a_frame(rt: HostRuntime) -> Result<(), Fail> {
-    let state = state_of(rt.alloc(), LONG)?;
-    assert!(rt; is_too_long(rt.alloc(), &state));
-    Ok(())
+// Whether a frame is for an image of this connectivity alone and the fingerprint of zeros, and has this state.
+fn is_frame(frame: &Frame, conn: Conn, state: &State) -> bool {
+    let is_for_four = frame.is_for(Conn::Four, &zeros());
+    let is_for_eight = frame.is_for(Conn::Eight, &zeros());
+    let is_for_one = is_for_four == (conn == Conn::Four) && is_for_eight == (conn == Conn::Eight);
+    is_for_one && frame.delta.is_same(state)
 }
 
-// The fault of the bytes, if they have one.
-fn fault(alloc: Global, bytes: &[u8]) -> Option<SpdError> {
-    decode(alloc, bytes).err()
+// Whether the bytes are read as a frame of the state, and the others written for it, as read and anew.
+fn is_coded(alloc: Global, case: &Case, state: &State) -> bool {
+    let (_, length, bytes, conn, _, written) = case;
+    let is_read_and_written = match decode(alloc, bytes) {
+        Ok(frame) => {
+            let again = encode(alloc, frame.conn, &frame.print, &frame.delta);
+            is_frame(&frame, *conn, state) && is_written(again, written)
+        }
+        Err(_) => false,
+    };
+    bytes.len() == *length
+        && is_read_and_written
+        && is_written(encode(alloc, *conn, &zeros(), state), written)
 }
 
-// The front of the bytes up to an end, with each of the changes made at its place.
-fn edited(
-    alloc: Global,
-    bytes: &[u8],
-    end: usize,
-    changes: &[(usize, u8)],
-) -> Result<Vec<u8>, AllocError> {
-    let mut edited = Vec::from_slice(alloc, bytes)?;
-    for (at, byte) in changes {
-        if let Some(place) = edited.get_mut(*at) {
-            *place = *byte;
+// The first frame that is read or written otherwise.
+fn wrong_frame(alloc: Global) -> Option<&'static str> {
+    for case in FRAMES {
+        let is_right = match state_of(alloc, case.4) {
+            Some(state) => is_coded(alloc, case, &state),
+            None => false,
+        };
+        if !is_right {
+            return Some(case.0);
         }
     }
-    edited.truncate(end);
-    Ok(edited)
+    None
 }
 
-// The fault of the front of the bytes with these changes.
-fn fault_with(alloc: Global, bytes: &[u8], row: &Fault) -> Result<Option<SpdError>, AllocError> {
-    let edited = edited(alloc, bytes, row.0, row.1)?;
-    Ok(fault(alloc, &edited))
-}
-
-// How many rows have the fault of their bytes before the first that has another.
-fn count_right(alloc: Global, bytes: &[u8], rows: &[Fault]) -> Result<usize, AllocError> {
-    let mut right: usize = 0;
-    for row in rows {
-        if fault_with(alloc, bytes, row)? != row.2 {
-            return Ok(right);
-        }
-        right = right.saturating_add(1);
+// Whether a state of one stroke of as many runs as a stroke has, and of thirty tombstones, is too long for a frame.
+fn is_long_state_refused(alloc: Global) -> bool {
+    match great_state(alloc, &[160], 30) {
+        Some(state) => match encode(alloc, Conn::Four, &zeros(), &state) {
+            Ok(_) => false,
+            Err(fault) => fault.code() == "M6",
+        },
+        None => false,
     }
-    Ok(right)
 }
 
 #[test]
-fn each_front_is_truncated(rt: HostRuntime) {
-    for bytes in [FIRST_VERSION, DISC] {
-        for end in 0..bytes.len() {
-            let found = fault(rt.alloc(), &bytes[..end]);
-            assert!(rt; found == TRUNCATED, "{end} bytes");
+fn frames_are_read_and_written(rt: HostRuntime) {
+    assert_eq!(rt; wrong_frame(rt.alloc()), None);
+    assert!(rt; is_long_state_refused(rt.alloc()));
+}
+
+// The fault of bytes, if they have one.
+fn fault_of(alloc: Global, bytes: &[u8]) -> Option<SpdError> {
+    match decode(alloc, bytes) {
+        Ok(_) => None,
+        Err(fault) => Some(fault),
+    }
+}
+
+// The length of the first front of the bytes that is not truncated.
+fn wrong_front(alloc: Global, bytes: &[u8]) -> Option<usize> {
+    for end in 0..bytes.len() {
+        if fault_of(alloc, &bytes[..end]) != TRUNCATED {
+            return Some(end);
         }
     }
+    None
 }
 
 const BAD_MAGIC: Option<SpdError> = Some(SpdError::BadMagic);
+
+const BAD_CONN: Option<SpdError> = Some(SpdError::BadConn);
 
 const TRUNCATED: Option<SpdError> = Some(SpdError::Truncated);
 
@@ -221,90 +194,258 @@ const TRAILING: Option<SpdError> = Some(SpdError::Trailing);
 
 const TAG_ORDER: Option<SpdError> = Some(SpdError::TagOrder);
 
+const TOO_LONG: Option<SpdError> = Some(SpdError::TooLong);
+
+const BAD_KIND: Option<SpdError> = Some(SpdError::BadStroke(StrokeError::BadKind));
+
 const BAD_LEVEL: Option<SpdError> = Some(SpdError::BadStroke(StrokeError::BadLevel));
+
+const BAD_RADIUS: Option<SpdError> = Some(SpdError::BadStroke(StrokeError::BadRadius));
+
+const NO_RUNS: Option<SpdError> = Some(SpdError::BadStroke(StrokeError::NoRuns));
 
 const TOO_MANY_RUNS: Option<SpdError> = Some(SpdError::BadStroke(StrokeError::TooManyRuns));
 
-// Where bytes end, what is changed in them, and the fault of what is then read as a frame, if it has one.
-type Fault = (usize, &'static [(usize, u8)], Option<SpdError>);
+const RUN_ORDER: Option<SpdError> = Some(SpdError::BadStroke(StrokeError::RunOrder));
 
-const FAULTS: [(&str, &[u8], &[Fault]); 5] = [
+// A place that no bytes have, so that nothing is changed there.
+const NONE: (usize, u8) = (usize::MAX, 0);
+
+// A name, bytes, where they end, two changes in them, each a place and a byte, and the fault of what is then read as a
+// frame, if it has one.
+type Fault = (
+    &'static str,
+    &'static [u8],
+    usize,
+    (usize, u8),
+    (usize, u8),
+    Option<SpdError>,
+);
+
+const FAULTS: &[Fault] = &[
     (
-        "runs",
+        "a byte behind runs",
         RUNS_AND_MORE,
-        &[
-            (68, &[], TRAILING),
-            (67, &[], None),
-            (67, &[(0, 0)], BAD_MAGIC),
-            (67, &[(1, 0)], BAD_MAGIC),
-            (67, &[(2, 0)], BAD_MAGIC),
-            (67, &[(3, 0)], BAD_MAGIC),
-            (2, &[(1, 0)], BAD_MAGIC),
-            (2, &[], TRUNCATED),
-            (5, &[(4, 5)], Some(SpdError::BadConn)),
-            (67, &[(4, 8)], None),
-            (67, &[(57, 0), (58, 0)], BAD_LEVEL),
-            (59, &[(57, 0), (58, 0)], BAD_LEVEL),
-            (
-                61,
-                &[(59, 0), (60, 0)],
-                Some(SpdError::BadStroke(StrokeError::NoRuns)),
-            ),
-            (61, &[(59, 0), (60, 161)], TOO_MANY_RUNS),
-            (67, &[(59, 0), (60, 160)], TRUNCATED),
-            (
-                67,
-                &[(65, 0), (66, 0)],
-                Some(SpdError::BadStroke(StrokeError::RunOrder)),
-            ),
-        ],
+        68,
+        NONE,
+        NONE,
+        TRAILING,
+    ),
+    ("runs", RUNS_AND_MORE, 67, NONE, NONE, None),
+    (
+        "another first byte",
+        RUNS_AND_MORE,
+        67,
+        (0, 0),
+        NONE,
+        BAD_MAGIC,
     ),
     (
-        "a disc",
+        "another second byte",
+        RUNS_AND_MORE,
+        67,
+        (1, 0),
+        NONE,
+        BAD_MAGIC,
+    ),
+    (
+        "another third byte",
+        RUNS_AND_MORE,
+        67,
+        (2, 0),
+        NONE,
+        BAD_MAGIC,
+    ),
+    (
+        "another fourth byte",
+        RUNS_AND_MORE,
+        67,
+        (3, 0),
+        NONE,
+        BAD_MAGIC,
+    ),
+    (
+        "another magic cut short",
+        RUNS_AND_MORE,
+        2,
+        (1, 0),
+        NONE,
+        BAD_MAGIC,
+    ),
+    (
+        "the magic cut short",
+        RUNS_AND_MORE,
+        2,
+        NONE,
+        NONE,
+        TRUNCATED,
+    ),
+    ("five neighbours", RUNS_AND_MORE, 5, (4, 5), NONE, BAD_CONN),
+    ("eight neighbours", RUNS_AND_MORE, 67, (4, 8), NONE, None),
+    (
+        "level 0 of runs",
+        RUNS_AND_MORE,
+        67,
+        (57, 0),
+        (58, 0),
+        BAD_LEVEL,
+    ),
+    (
+        "level 0 of runs cut short",
+        RUNS_AND_MORE,
+        59,
+        (57, 0),
+        (58, 0),
+        BAD_LEVEL,
+    ),
+    ("no runs", RUNS_AND_MORE, 61, (59, 0), (60, 0), NO_RUNS),
+    (
+        "one run too many",
+        RUNS_AND_MORE,
+        61,
+        (59, 0),
+        (60, 161),
+        TOO_MANY_RUNS,
+    ),
+    (
+        "as many runs as can be, cut short",
+        RUNS_AND_MORE,
+        67,
+        (59, 0),
+        (60, 160),
+        TRUNCATED,
+    ),
+    (
+        "a run that ends before it begins",
+        RUNS_AND_MORE,
+        67,
+        (65, 0),
+        (66, 0),
+        RUN_ORDER,
+    ),
+    (
+        "a byte behind a disc",
         DISC_AND_MORE,
-        &[
-            (67, &[], TRAILING),
-            (
-                58,
-                &[(56, 1), (57, 2)],
-                Some(SpdError::BadStroke(StrokeError::BadKind)),
-            ),
-            (66, &[(58, 0), (59, 0)], BAD_LEVEL),
-            (66, &[(64, 0), (65, 255)], None),
-            (
-                66,
-                &[(64, 1), (65, 0)],
-                Some(SpdError::BadStroke(StrokeError::BadRadius)),
-            ),
-        ],
+        67,
+        NONE,
+        NONE,
+        TRAILING,
     ),
     (
-        "two strokes",
+        "another kind",
+        DISC_AND_MORE,
+        58,
+        (56, 1),
+        (57, 2),
+        BAD_KIND,
+    ),
+    (
+        "level 0 of a disc",
+        DISC_AND_MORE,
+        66,
+        (58, 0),
+        (59, 0),
+        BAD_LEVEL,
+    ),
+    (
+        "the greatest radius",
+        DISC_AND_MORE,
+        66,
+        (64, 0),
+        (65, 255),
+        None,
+    ),
+    (
+        "a radius too great",
+        DISC_AND_MORE,
+        66,
+        (64, 1),
+        (65, 0),
+        BAD_RADIUS,
+    ),
+    (
+        "the same tag again",
         TWO_STROKES,
-        &[
-            (93, &[(56, 1), (82, 1)], TAG_ORDER),
-            (93, &[(56, 1), (82, 2)], None),
-            (83, &[(56, 3), (82, 2)], TAG_ORDER),
-            (82, &[(56, 3), (82, 2)], TRUNCATED),
-        ],
+        93,
+        (56, 1),
+        (82, 1),
+        TAG_ORDER,
+    ),
+    ("two tags", TWO_STROKES, 93, (56, 1), (82, 2), None),
+    (
+        "a lesser tag cut short",
+        TWO_STROKES,
+        83,
+        (56, 3),
+        (82, 2),
+        TAG_ORDER,
     ),
     (
-        "two tombstones",
+        "a lesser tag cut off",
+        TWO_STROKES,
+        82,
+        (56, 3),
+        (82, 2),
+        TRUNCATED,
+    ),
+    (
+        "the same tombstone again",
         TOMBSTONES,
-        &[(73, &[(72, 1)], TAG_ORDER), (73, &[], None)],
+        73,
+        (72, 1),
+        NONE,
+        TAG_ORDER,
+    ),
+    ("two tombstones", TOMBSTONES, 73, NONE, NONE, None),
+    (
+        "zeros, too long for a frame",
+        &[0; 1401],
+        1401,
+        NONE,
+        NONE,
+        TOO_LONG,
     ),
     (
-        "zeros",
+        "zeros, as long as a frame",
         &[0; 1401],
-        &[(1401, &[], Some(SpdError::TooLong)), (1400, &[], BAD_MAGIC)],
+        1400,
+        NONE,
+        NONE,
+        BAD_MAGIC,
     ),
 ];
 
-#[test]
-fn the_first_fault_of_a_frame_is_told(rt: HostRuntime) -> Result<(), Fail> {
-    for (name, bytes, rows) in &FAULTS {
-        let right = count_right(rt.alloc(), bytes, rows)?;
-        assert!(rt; right == rows.len(), "{name}: row {right}");
+// Changes the byte at a place, if there is such a place.
+fn change(bytes: &mut [u8], to: (usize, u8)) {
+    if let Some(byte) = bytes.get_mut(to.0) {
+        *byte = to.1;
     }
-    Ok(())
+}
+
+// The first bytes that have another fault.
+fn wrong_fault(alloc: Global) -> Option<&'static str> {
+    for (name, bytes, end, one, other, fault) in FAULTS {
+        let is_right = match bytes.to_vec(alloc) {
+            Ok(mut edited) => {
+                change(&mut edited, *one);
+                change(&mut edited, *other);
+                edited.truncate(*end);
+                fault_of(alloc, &edited) == *fault
+            }
+            Err(_) => false,
+        };
+        if !is_right {
+            return Some(*name);
+        }
+    }
+    None
+}
+
+#[test]
+fn the_first_fault_of_a_frame_is_told(rt: HostRuntime) {
+    assert_eq!(rt;
+        wrong_front(rt.alloc(), FIRST_VERSION).or(wrong_front(rt.alloc(), DISC)),
+        None
+    );
+    assert_eq!(rt; wrong_fault(rt.alloc()), None);
 }

@@ -21,7 +21,7 @@ mod prints;
 #[cfg(test)]
 mod scene;
 #[cfg(test)]
-mod set;
+mod states;
 #[cfg(test)]
 mod strokes;
 #[cfg(test)]

@@ -3,253 +3,179 @@
 ghost use Rattle.std.specs.Prelude.{◌<◌};
 
 use crate::scene::Scene;
-use crate::set::Step::{self, Paint, Withdraw};
-use crate::set::delta_of;
-use crate::strokes::Form::{Disc, Runs, Two};
+use crate::states::{deltas_of, disc, placed};
 use grid_core::{Grid, Tiling};
 use marker_tiles::{Markers, MarkersError};
 use std::alloc::Global;
-use std::test::Fail;
-use stroke_lattice::State;
+use stroke_core::{Run, Tag};
+use stroke_lattice::{Delta, State};
 
-// The scene on a mask after these steps.
-fn scene_of(alloc: Global, mask: &Grid, steps: &[Step]) -> Result<Scene, Fail> {
-    let mut scene = Scene::open(alloc, mask, 8)?;
-    for step in steps {
-        scene = scene.merged(alloc, &delta_of(alloc, step)?)?;
-    }
-    Ok(scene)
-}
+// A name, the columns of a mask, its values row by row, a digit each, edits, and the values of the marker.
+type Case = (&'static str, u32, &'static str, &'static str, &'static str);
 
-// The mask of these cells, at most 100, row by row, with so many columns.
-fn mask_of(alloc: Global, w: u32, cells: &[u32]) -> Result<Grid, Fail> {
-    let count = cells.len().min(100) as u32;
-    let mut mask = Grid::new(alloc, w, count / w.max(1), 0)?;
-    for (cell, value) in mask.cells_mut().iter_mut().zip(cells) {
-        *cell = *value;
-    }
-    Ok(mask)
-}
+const NINES: &str = "9999999999999999999999999";
 
-// Whether the kept marker has these cells, as one made anew.
-fn shows(alloc: Global, scene: &Scene, cells: &[u32]) -> Result<bool, Fail> {
-    Ok(scene.has(cells) && scene.is_right(alloc)?)
-}
-
-// The same of the marker that is kept on a mask of these cells through these steps.
-fn is_marked(
-    alloc: Global,
-    w: u32,
-    mask: &[u32],
-    steps: &[Step],
-    cells: &[u32],
-) -> Result<bool, Fail> {
-    let mask = mask_of(alloc, w, mask)?;
-    let scene = scene_of(alloc, &mask, steps)?;
-    shows(alloc, &scene, cells)
-}
-
-// A name, the columns of a mask and its cells row by row, steps, and the marker's cells.
-type Case = (
-    &'static str,
-    u32,
-    &'static [u32],
-    &'static [Step],
-    &'static [u32],
-);
-
-const DISCS: [Case; 5] = [
+const CASES: &[Case] = &[
     (
-        "the pixels within its radius",
+        "the pixels within a radius",
         5,
-        &[9; 25],
-        &[Paint(1, 5, Disc(2, 2, 2))],
-        &[
-            0, 0, 5, 0, 0, //
-            0, 5, 5, 5, 0, //
-            5, 5, 5, 5, 5, //
-            0, 5, 5, 5, 0, //
-            0, 0, 5, 0, 0,
-        ],
+        NINES,
+        "disc #01 5 2:2+2",
+        "0050005550555550555000500",
     ),
     (
-        "its centre alone",
+        "a centre alone",
         5,
-        &[9; 25],
-        &[Paint(1, 5, Disc(2, 2, 0))],
-        &[
-            0, 0, 0, 0, 0, //
-            0, 0, 0, 0, 0, //
-            0, 0, 5, 0, 0, //
-            0, 0, 0, 0, 0, //
-            0, 0, 0, 0, 0,
-        ],
+        NINES,
+        "disc #01 5 2:2+0",
+        "0000000000005000000000000",
     ),
     (
         "cut at the upper left corner",
         5,
-        &[9; 25],
-        &[Paint(1, 5, Disc(0, 0, 1))],
-        &[
-            5, 5, 0, 0, 0, //
-            5, 0, 0, 0, 0, //
-            0, 0, 0, 0, 0, //
-            0, 0, 0, 0, 0, //
-            0, 0, 0, 0, 0,
-        ],
+        NINES,
+        "disc #01 5 0:0+1",
+        "5500050000000000000000000",
     ),
     (
         "cut at the lower right corner",
         5,
-        &[9; 25],
-        &[Paint(1, 5, Disc(4, 4, 2))],
-        &[
-            0, 0, 0, 0, 0, //
-            0, 0, 0, 0, 0, //
-            0, 0, 0, 0, 5, //
-            0, 0, 0, 5, 5, //
-            0, 0, 5, 5, 5,
-        ],
+        NINES,
+        "disc #01 5 4:4+2",
+        "0000000000000050005500555",
     ),
     (
         "cut at all borders",
         5,
-        &[9; 25],
-        &[Paint(1, 5, Disc(1, 3, 255))],
-        &[5; 25],
+        NINES,
+        "disc #01 5 3:1+255",
+        "5555555555555555555555555",
     ),
-];
-
-const ROWS: [Case; 7] = [
     (
         "a stroke over another",
         5,
-        &[9; 5],
-        &[
-            Paint(1, 5, Runs(&[(0, 0, 2)])),
-            Paint(2, 3, Runs(&[(0, 1, 3)])),
-        ],
-        &[5, 5, 5, 3, 0],
+        "99999",
+        "place #01 5 0:0-2\nplace #02 3 0:1-3",
+        "55530",
     ),
     (
         "a withdrawn stroke marks nothing",
         5,
-        &[9; 5],
-        &[
-            Paint(1, 5, Runs(&[(0, 0, 2)])),
-            Paint(2, 3, Runs(&[(0, 1, 3)])),
-            Withdraw(1),
-        ],
-        &[0, 3, 3, 3, 0],
+        "99999",
+        "place #01 5 0:0-2\nplace #02 3 0:1-3\nwithdraw #01",
+        "03330",
     ),
     (
         "the greatest level counts",
         5,
-        &[9; 5],
-        &[
-            Paint(1, 3, Runs(&[(0, 0, 2)])),
-            Paint(2, 5, Runs(&[(0, 1, 3)])),
-            Paint(3, 4, Runs(&[(0, 2, 4)])),
-        ],
-        &[3, 5, 5, 5, 4],
+        "99999",
+        "place #01 3 0:0-2\nplace #02 5 0:1-3\nplace #03 4 0:2-4",
+        "35554",
     ),
     (
         "the mask bounds it",
         5,
-        &[2, 9, 0, 5, 4],
-        &[
-            Paint(1, 3, Runs(&[(0, 0, 2)])),
-            Paint(2, 5, Runs(&[(0, 1, 3)])),
-            Paint(3, 4, Runs(&[(0, 2, 4)])),
-        ],
-        &[2, 5, 0, 5, 4],
+        "29054",
+        "place #01 3 0:0-2\nplace #02 5 0:1-3\nplace #03 4 0:2-4",
+        "25054",
     ),
     (
         "three strokes under a low mask",
         6,
-        &[9, 2, 9, 9, 9, 9],
-        &[
-            Paint(1, 3, Runs(&[(0, 0, 3)])),
-            Paint(2, 5, Runs(&[(0, 1, 4)])),
-            Paint(3, 4, Runs(&[(0, 2, 2)])),
-        ],
-        &[3, 2, 5, 5, 5, 0],
+        "929999",
+        "place #01 3 0:0-3\nplace #02 5 0:1-4\nplace #03 4 0:2-2",
+        "325550",
     ),
     (
         "a second stroke under a withdrawn one stays",
         6,
-        &[9, 2, 9, 9, 9, 9],
-        &[
-            Paint(1, 3, Runs(&[(0, 0, 3)])),
-            Paint(2, 5, Runs(&[(0, 1, 4)])),
-            Paint(3, 4, Runs(&[(0, 2, 2)])),
-            Withdraw(2),
-        ],
-        &[3, 2, 4, 3, 0, 0],
+        "929999",
+        "place #01 3 0:0-3\nplace #02 5 0:1-4\nplace #03 4 0:2-2\nwithdraw #02",
+        "324300",
     ),
     (
         "a tombstone before its stroke keeps it away",
         4,
-        &[9; 4],
-        &[
-            Withdraw(1),
-            Paint(2, 3, Runs(&[(0, 0, 1)])),
-            Paint(1, 7, Runs(&[(0, 1, 2)])),
-        ],
-        &[3, 3, 0, 0],
+        "9999",
+        "withdraw #01\nplace #02 3 0:0-1\nplace #01 7 0:1-2",
+        "3300",
     ),
 ];
 
-#[test]
-fn markers_of_discs(rt: HostRuntime) -> Result<(), Fail> {
-    for (name, w, mask, steps, cells) in &DISCS {
-        assert!(rt; is_marked(rt.alloc(), *w, mask, steps, cells)?, "{name}");
+// The grid of these digits, at most 100, with so many columns.
+fn grid_of(alloc: Global, w: u32, digits: &str) -> Option<Grid> {
+    let count = digits.len().min(100) as u32;
+    match Grid::new(alloc, w, count / w.max(1), 0) {
+        Ok(mut grid) => {
+            for (cell, digit) in grid.cells_mut().iter_mut().zip(digits.bytes()) {
+                *cell = u32::from(digit.saturating_sub(b'0'));
+            }
+            Some(grid)
+        }
+        Err(_) => None,
     }
-    Ok(())
+}
+
+// The scene on a mask after these deltas.
+fn scene_of(alloc: Global, mask: &Grid, deltas: &[Delta]) -> Option<Scene> {
+    let mut scene = Scene::open(alloc, mask, 8)?;
+    for delta in deltas {
+        scene = scene.merged(alloc, delta)?;
+    }
+    Some(scene)
+}
+
+// Whether the marker that is kept on a mask through these edits is this, as one made anew.
+fn is_marked(alloc: Global, mask: &Grid, edits: &str, marker: &Grid) -> bool {
+    match deltas_of(alloc, edits) {
+        Ok(deltas) => match scene_of(alloc, mask, &deltas) {
+            Some(scene) => scene.has(marker.cells()) && scene.is_right(alloc),
+            None => false,
+        },
+        Err(_) => false,
+    }
+}
+
+// The first marker that is another.
+fn wrong_marker(alloc: Global) -> Option<&'static str> {
+    for (name, w, mask, edits, marker) in CASES {
+        let is_right = match (grid_of(alloc, *w, mask), grid_of(alloc, *w, marker)) {
+            (Some(mask), Some(marker)) => is_marked(alloc, &mask, edits, &marker),
+            _ => false,
+        };
+        if !is_right {
+            return Some(*name);
+        }
+    }
+    None
+}
+
+// Whether a disc near the right and lower edges of a mask of 10 columns and 9 rows marks tiles and pixels there.
+fn is_corner_marked(alloc: Global, scene: &Scene) -> bool {
+    let upper = [0, 0, 0, 0, 0, 0, 0, 0, 0, 0, 0, 0, 6, 0, 6, 6];
+    scene.has_tile(alloc, 1, 2, &upper)
+        && scene.has_tile(alloc, 2, 8, &[0; 8])
+        && scene.has_tile(alloc, 3, 2, &[6, 0])
+        && scene.at(9, 7) == Some(6)
+        && scene.at(9, 8) == Some(0)
+        && scene.at(10, 7) == None
+}
+
+// The same of the scene of that disc.
+fn is_disc_in_corner(alloc: Global) -> bool {
+    match (Grid::new(alloc, 10, 9, 9), disc(alloc, 1, 6, 8, 7, 1)) {
+        (Ok(mask), Some(delta)) => match scene_of(alloc, &mask, &[delta]) {
+            Some(scene) => is_corner_marked(alloc, &scene),
+            None => false,
+        },
+        _ => false,
+    }
 }
 
 #[test]
-fn markers_of_rows(rt: HostRuntime) -> Result<(), Fail> {
-    for (name, w, mask, steps, cells) in &ROWS {
-        assert!(rt; is_marked(rt.alloc(), *w, mask, steps, cells)?, "{name}");
-    }
-    Ok(())
-}
-
-// A disc near the right and lower edges of a mask of 10 columns and 9 rows.
-fn disc_in_a_corner(alloc: Global) -> Result<Scene, Fail> {
-    let mask = Grid::new(alloc, 10, 9, 9)?;
-    scene_of(alloc, &mask, &[Paint(1, 6, Disc(8, 7, 1))])
-}
-
-// Tiles, their widths and the marker's cells on them.
-const TILES: [(usize, u32, &[u32]); 3] = [
-    (
-        1,
-        2,
-        &[
-            0, 0, 0, 0, 0, 0, 0, 0, 0, 0, 0, 0, //
-            6, 0, //
-            6, 6,
-        ],
-    ),
-    (2, 8, &[0; 8]),
-    (3, 2, &[6, 0]),
-];
-
-#[test]
-fn tiles_and_pixels_at_the_right_and_lower_edges(rt: HostRuntime) -> Result<(), Fail> {
-    let scene = disc_in_a_corner(rt.alloc())?;
-    for (tile, width, cells) in &TILES {
-        assert!(rt;
-            scene.has_tile(rt.alloc(), *tile, *width, cells)?,
-            "tile {tile}"
-        );
-    }
-    assert!(rt; scene.at(9, 7) == Some(6));
-    assert!(rt; scene.at(9, 8) == Some(0));
-    assert!(rt; scene.at(10, 7) == None);
-    Ok(())
+fn markers_of_strokes_and_discs(rt: HostRuntime) {
+    assert_eq!(rt; wrong_marker(rt.alloc()), None);
+    assert!(rt; is_disc_in_corner(rt.alloc()));
 }
 
 const WIDTH: u32 = 21;
@@ -268,91 +194,123 @@ fn draw(seed: &mut u64, end: u32) -> u32
 }
 
 // A mask of values from 0 to 9.
-fn some_mask(alloc: Global, seed: &mut u64) -> Result<Grid, Fail> {
-    let mut mask = Grid::new(alloc, WIDTH, HEIGHT, 0)?;
-    for cell in mask.cells_mut() {
-        *cell = draw(seed, 10);
+fn some_mask(alloc: Global, seed: &mut u64) -> Option<Grid> {
+    match Grid::new(alloc, WIDTH, HEIGHT, 0) {
+        Ok(mut mask) => {
+            for cell in mask.cells_mut() {
+                *cell = draw(seed, 10);
+            }
+            Some(mask)
+        }
+        Err(_) => None,
     }
-    Ok(mask)
 }
 
-// A stroke of two runs, a disc, which may reach beyond the borders, or a tombstone, under one of ten tags.
-fn some_step(seed: &mut u64) -> Step {
-    let tag = u128::from(draw(seed, 10));
-    let level = 1 + draw(seed, 11);
+// Two runs, one below the other.
+fn some_runs(seed: &mut u64) -> [Run; 2] {
     let y = draw(seed, HEIGHT - 1) as u16;
     let upper = draw(seed, WIDTH - 4) as u16;
     let lower = draw(seed, WIDTH - 7) as u16;
+    let upper_end = upper + draw(seed, 4) as u16;
+    let lower_end = lower + draw(seed, 7) as u16;
+    [
+        Run {
+            y,
+            x0: upper,
+            x1: upper_end,
+        },
+        Run {
+            y: y + 1,
+            x0: lower,
+            x1: lower_end,
+        },
+    ]
+}
+
+// The delta of a stroke of two runs, of a disc, which may reach beyond the borders, or of a tombstone, under one of ten
+// tags.
+fn some_delta(alloc: Global, seed: &mut u64) -> Option<Delta> {
+    let tag = u128::from(draw(seed, 10));
+    let level = 1 + draw(seed, 11);
     match draw(seed, 3) {
-        0 => {
-            let upper_end = upper + draw(seed, 4) as u16;
-            let lower_end = lower + draw(seed, 7) as u16;
-            Paint(
-                tag,
-                level,
-                Two([(y, upper, upper_end), (y + 1, lower, lower_end)]),
-            )
+        0 => placed(alloc, tag, level, some_runs(seed).to_vec(alloc).ok()?),
+        1 => {
+            let (x, y) = (draw(seed, WIDTH) as u16, draw(seed, HEIGHT) as u16);
+            disc(alloc, tag, level, x, y, draw(seed, 6))
         }
-        1 => Paint(
-            tag,
-            level,
-            Disc(
-                draw(seed, WIDTH) as u16,
-                draw(seed, HEIGHT) as u16,
-                draw(seed, 6),
-            ),
-        ),
-        _ => Withdraw(tag),
+        _ => State::withdrawn(alloc, Tag(tag)).ok(),
     }
 }
 
-// Merges such a step, if it does not clash.
-fn take_some(alloc: Global, delta: &mut State, seed: &mut u64) -> Result<(), Fail> {
-    let more = delta_of(alloc, &some_step(seed))?;
-    if delta.clash(&more).is_none() {
-        delta.merge(alloc, &more)?;
+// Merges such a delta, if it does not clash, and tells whether there was memory.
+fn takes_some(alloc: Global, delta: &mut State, seed: &mut u64) -> bool {
+    match some_delta(alloc, seed) {
+        Some(more) => delta.clash(&more).is_some() || delta.merge(alloc, &more).is_ok(),
+        None => false,
     }
-    Ok(())
 }
 
 // The join of one to three of them.
-fn some_merge(alloc: Global, seed: &mut u64) -> Result<State, Fail> {
-    let mut delta = State::empty(alloc)?;
-    for _ in 0..1 + draw(seed, 3) {
-        take_some(alloc, &mut delta, seed)?;
+fn some_merge(alloc: Global, seed: &mut u64) -> Option<State> {
+    match State::empty(alloc) {
+        Ok(mut delta) => {
+            for _ in 0..1 + draw(seed, 3) {
+                if !takes_some(alloc, &mut delta, seed) {
+                    return None;
+                }
+            }
+            Some(delta)
+        }
+        Err(_) => None,
     }
-    Ok(delta)
 }
 
-// The scene after a merge, if the states do not clash.
-fn merged(alloc: Global, scene: Scene, seed: &mut u64) -> Result<Scene, Fail> {
-    let delta = some_merge(alloc, seed)?;
-    match scene.state().clash(&delta) {
-        None => scene.merged(alloc, &delta),
-        Some(_) => Ok(scene),
+// The scene after such a merge, if the states do not clash, else as it was.
+fn merged(alloc: Global, scene: Scene, seed: &mut u64) -> Option<Scene> {
+    match some_merge(alloc, seed) {
+        Some(delta) if scene.clashes(&delta) => Some(scene),
+        Some(delta) => scene.merged(alloc, &delta),
+        None => None,
     }
 }
 
 // Whether the kept marker is the one made anew after each of thirty merges.
-fn is_kept(alloc: Global, mask: &Grid, seed: &mut u64) -> Result<bool, Fail> {
-    let mut scene = Scene::open(alloc, mask, 8)?;
+fn is_kept(alloc: Global, mask: &Grid, seed: &mut u64) -> bool {
+    let mut kept = Scene::open(alloc, mask, 8);
     for _ in 0..30 {
-        scene = merged(alloc, scene, seed)?;
-        if !scene.is_right(alloc)? {
-            return Ok(false);
+        kept = match kept {
+            Some(scene) => merged(alloc, scene, seed),
+            None => None,
+        };
+        let is_right = match &kept {
+            Some(scene) => scene.is_right(alloc),
+            None => false,
+        };
+        if !is_right {
+            return false;
         }
     }
-    Ok(true)
+    true
+}
+
+// The number of the first of thirty masks on which another marker is kept.
+fn wrong_mask(alloc: Global) -> Option<u32> {
+    let mut seed = 2026;
+    for number in 0..30u32 {
+        let is_right = match some_mask(alloc, &mut seed) {
+            Some(mask) => is_kept(alloc, &mask, &mut seed),
+            None => false,
+        };
+        if !is_right {
+            return Some(number);
+        }
+    }
+    None
 }
 
 #[test]
-fn kept_markers_are_those_made_anew(rt: HostRuntime) -> Result<(), Fail> {
-    let mut seed = 2026;
-    for _ in 0..30 {
-        let mask = some_mask(rt.alloc(), &mut seed)?;
-        assert!(rt; is_kept(rt.alloc(), &mask, &mut seed)?);
-    }
-    Ok(())
+fn kept_markers_are_those_made_anew(rt: HostRuntime) {
+    assert_eq!(rt; wrong_mask(rt.alloc()), None);
 }
 
 // Whether the markers have this mask and this tiling, and give the mask back with a marker of zeros.
@@ -365,25 +323,26 @@ fn gives_back(markers: Markers, mask: &[u32], tiling: Tiling) -> bool {
 }
 
 // Whether markers over a mask of one row of these cells have it, and give it back.
-fn is_given_back(alloc: Global, cells: [u32; 3]) -> Result<bool, Fail> {
-    let tiling = Tiling::new(3, 1, 8)?;
-    let mask = Grid::from_cells(3, 1, cells.to_vec(alloc)?);
-    match Markers::over(alloc, mask, tiling) {
-        Ok(markers) => Ok(gives_back(markers, &cells, tiling)),
-        Err((_, why)) => Err(Fail::new(why)),
+fn is_given_back(alloc: Global, cells: [u32; 3]) -> bool {
+    match (Tiling::new(3, 1, 8), cells.to_vec(alloc)) {
+        (Ok(tiling), Ok(mask)) => match Markers::over(alloc, Grid::from_cells(3, 1, mask), tiling) {
+            Ok(markers) => gives_back(markers, &cells, tiling),
+            Err(_) => false,
+        },
+        _ => false,
+    }
+}
+
+// Whether want of memory has its code, and its message.
+fn is_memory_told(alloc: Global) -> bool {
+    match MarkersError::Memory.to_string(alloc) {
+        Ok(text) => MarkersError::Memory.code() == "K1" && text.as_str() == "K1: out of memory",
+        Err(_) => false,
     }
 }
 
 #[test]
-fn the_mask_is_taken_over_and_given_back(rt: HostRuntime) -> Result<(), Fail> {
-    assert!(rt; is_given_back(rt.alloc(), [4, 7, 1])?);
-    Ok(())
-}
-
-#[test]
-fn want_of_memory_is_told_by_its_code(rt: HostRuntime) -> Result<(), Fail> {
-    let text = format!(in rt.alloc(); "{}", MarkersError::Memory)?;
-    assert!(rt; MarkersError::Memory.code() == "K1");
-    assert!(rt; text.as_str() == "K1: out of memory");
-    Ok(())
+fn the_mask_is_taken_over_and_given_back(rt: HostRuntime) {
+    assert!(rt; is_given_back(rt.alloc(), [4, 7, 1]));
+    assert!(rt; is_memory_told(rt.alloc()));
 }

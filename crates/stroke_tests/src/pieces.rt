@@ -1,131 +1,157 @@
 //! Pieces of states, and their lengths.
 
-use crate::set::Step::{self, Paint, WithdrawEach};
-use crate::set::{state_of, take};
-use crate::strokes::Form::{Column, Disc};
+use crate::states::{disc, great_state, join_of, takes_column, takes_tombstones};
 use std::alloc::Global;
-use std::test::Fail;
 use stroke_lattice::{HEAD_BYTES, MIN_PIECE_BYTES, State, TOMBSTONE_BYTES};
 
 // The numbers of strokes and of tombstones, and the length of the frame in bytes.
-type Measure = (u64, u64, usize);
+type Measure = (usize, usize, usize);
 
-// Whether the state measures this.
-fn measures(state: &State, measure: Measure) -> bool {
-    let mut strokes: u64 = 0;
-    let mut length: usize = HEAD_BYTES;
+// What the state measures.
+fn measure_of(state: &State) -> Measure {
+    let (mut strokes, mut tombstones, mut length): Measure = (0, 0, HEAD_BYTES);
     for (_, stroke) in state.strokes() {
         strokes = strokes.saturating_add(1);
         length = length.saturating_add(stroke.byte_len());
     }
-    let mut tombstones: u64 = 0;
     for _ in state.tombstones() {
         tombstones = tombstones.saturating_add(1);
         length = length.saturating_add(TOMBSTONE_BYTES);
     }
-    strokes == measure.0 && tombstones == measure.1 && length == measure.2
+    (strokes, tombstones, length)
 }
 
 // Whether the pieces measure this, one after another.
-fn all_measure(pieces: &[State], measures_of: &[Measure]) -> bool {
-    for (piece, measure) in pieces.iter().zip(measures_of) {
-        if !measures(piece, *measure) {
+fn all_measure(pieces: &[State], measures: &[Measure]) -> bool {
+    for (piece, measure) in pieces.iter().zip(measures) {
+        if measure_of(piece) != *measure {
             return false;
         }
     }
-    pieces.len() == measures_of.len()
+    pieces.len() == measures.len()
 }
 
-// Whether the pieces of the state of these steps measure this.
-fn is_split(
-    alloc: Global,
-    steps: &[Step],
-    max_bytes: usize,
-    measures_of: &[Measure],
-) -> Result<bool, Fail> {
-    let state = state_of(alloc, steps)?;
-    let pieces = state.split(alloc, max_bytes.max(MIN_PIECE_BYTES))?;
-    Ok(all_measure(&pieces, measures_of))
+// Whether the join of the pieces is the state.
+fn are_joined(alloc: Global, pieces: &[State], state: &State) -> bool {
+    match join_of(alloc, pieces) {
+        Some(joined) => joined.is_same(state),
+        None => false,
+    }
 }
 
-// A name, the steps of a state, the greatest length of a piece in bytes, and what the pieces measure.
-type Case = (&'static str, &'static [Step], usize, &'static [Measure]);
+// Whether the pieces of a state measure this, and their join is the state.
+fn is_split(alloc: Global, state: &State, max_bytes: usize, measures: &[Measure]) -> bool {
+    match state.split(alloc, max_bytes.max(MIN_PIECE_BYTES)) {
+        Ok(pieces) => all_measure(&pieces, measures) && are_joined(alloc, &pieces, state),
+        Err(_) => false,
+    }
+}
 
-const CASES: [Case; 6] = [
+// A name, the runs of columns and the number of tombstones in a state, the greatest length of a piece in bytes, and
+// what the pieces measure.
+type Case = (
+    &'static str,
+    &'static [u16],
+    u128,
+    usize,
+    &'static [Measure],
+);
+
+const CASES: &[Case] = &[
     (
         "tombstones fill the piece of a great stroke",
-        &[Paint(5, 9, Column(160)), WithdrawEach(100, 130)],
+        &[160],
+        30,
         1400,
         &[(1, 23, 1390), (0, 7, 153)],
     ),
     (
         "what does not fit closes the piece for good",
-        &[
-            Paint(1, 9, Column(100)),
-            Paint(2, 9, Column(160)),
-            Paint(3, 9, Column(2)),
-        ],
+        &[100, 160, 2],
+        0,
         1400,
         &[(1, 0, 662), (2, 0, 1055)],
     ),
     (
         "a piece of tombstones is exactly full",
-        &[WithdrawEach(100, 163)],
+        &[],
+        63,
         1049,
         &[(0, 63, 1049)],
     ),
     (
         "a piece of tombstones has one byte too few",
-        &[WithdrawEach(100, 163)],
+        &[],
+        63,
         1048,
         &[(0, 62, 1033), (0, 1, 57)],
     ),
     (
         "a piece of one stroke is exactly full",
-        &[Paint(1, 9, Column(160))],
+        &[160],
+        0,
         1022,
         &[(1, 0, 1022)],
     ),
-    ("the empty state has no piece", &[], 1022, &[]),
+    ("the empty state has no piece", &[], 0, 1022, &[]),
 ];
 
+// The first state that is split otherwise.
+fn wrong_split(alloc: Global) -> Option<&'static str> {
+    for (name, columns, tombstones, max_bytes, measures) in CASES {
+        let is_right = match great_state(alloc, columns, *tombstones) {
+            Some(state) => is_split(alloc, &state, *max_bytes, measures),
+            None => false,
+        };
+        if !is_right {
+            return Some(*name);
+        }
+    }
+    None
+}
+
+// What the pieces of many discs and columns, by turns, and of tombstones of some of them measure.
+const MANY: &[Measure] = &[
+    (42, 0, 1385),
+    (42, 0, 1385),
+    (42, 0, 1385),
+    (42, 0, 1385),
+    (42, 0, 1385),
+    (42, 0, 1385),
+    (42, 0, 1385),
+    (6, 72, 1385),
+    (0, 28, 489),
+];
+
+// Merges a disc and a column under the tag behind it, and tells whether it did.
+fn takes_both(alloc: Global, state: &mut State, tag: u128) -> bool {
+    let is_taken = match disc(alloc, tag, 7, 3, 4, 5) {
+        Some(delta) => state.merge(alloc, &delta).is_ok(),
+        None => false,
+    };
+    is_taken && takes_column(alloc, state, tag.saturating_add(1), 3)
+}
+
+// Merges 150 of them, and 100 tombstones, and tells whether the state is split as it should be.
+fn are_many_split(alloc: Global, state: &mut State) -> bool {
+    for pair in 0..150u64 {
+        if !takes_both(alloc, state, 2 * u128::from(pair)) {
+            return false;
+        }
+    }
+    takes_tombstones(alloc, state, 100, 200) && is_split(alloc, state, 1400, MANY)
+}
+
 #[test]
-fn pieces_and_their_lengths(rt: HostRuntime) -> Result<(), Fail> {
-    for (name, steps, max_bytes, measures_of) in &CASES {
-        assert!(rt;
-            is_split(rt.alloc(), steps, *max_bytes, measures_of)?,
-            "{name}"
-        );
-    }
-    Ok(())
+fn pieces_and_their_lengths(rt: HostRuntime) {
+    assert_eq!(rt; wrong_split(rt.alloc()), None);
+    assert!(rt; are_many_in_pieces(rt.alloc()));
 }
 
-// Discs and columns, by turns, and tombstones of some of them.
-fn many(alloc: Global) -> Result<State, Fail> {
-    let mut state = State::empty(alloc)?;
-    for i in 0..150u64 {
-        let tag = 2 * u128::from(i);
-        take(alloc, &mut state, &Paint(tag, 7, Disc(3, 4, 5)))?;
-        take(alloc, &mut state, &Paint(tag + 1, 9, Column(3)))?;
+// Whether a state of many strokes is split as it should be.
+fn are_many_in_pieces(alloc: Global) -> bool {
+    match State::empty(alloc) {
+        Ok(mut state) => are_many_split(alloc, &mut state),
+        Err(_) => false,
     }
-    take(alloc, &mut state, &WithdrawEach(100, 200))?;
-    Ok(state)
-}
-
-// The join of these states.
-fn joined(alloc: Global, states: &[State]) -> Result<State, Fail> {
-    let mut joined = State::empty(alloc)?;
-    for state in states {
-        joined.merge(alloc, state)?;
-    }
-    Ok(joined)
-}
-
-#[test]
-fn merging_the_pieces_gives_the_state(rt: HostRuntime) -> Result<(), Fail> {
-    let state = many(rt.alloc())?;
-    let pieces = state.split(rt.alloc(), 1400)?;
-    assert!(rt; pieces.len() == 9);
-    assert!(rt; joined(rt.alloc(), &pieces)?.is_same(&state));
-    Ok(())
 }

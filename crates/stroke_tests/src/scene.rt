@@ -3,10 +3,9 @@
 ghost use Rattle.grid_core.specs.Tiles.{IsTileSide};
 
 use grid_core::{Grid, Pixel, Tiling};
-use marker_tiles::{Markers, MarkersError, marker};
+use marker_tiles::{Markers, marker};
 use std::alloc::Global;
 use std::marker::Model;
-use std::test::Fail;
 use stroke_lattice::State;
 
 /// A state, and a marker that took each of its changes.
@@ -28,34 +27,39 @@ impl Model for Scene {
 
 impl Scene {
     /// No stroke on the mask.
-    pub fn open(alloc: Global, mask: &Grid, side: u32) -> Result<Scene, Fail>
+    pub fn open(alloc: Global, mask: &Grid, side: u32) -> Option<Scene>
         requires { IsTileSide side }
     {
-        let tiling = Tiling::new(mask.width(), mask.height(), side)?;
-        Ok(Scene {
-            state: State::empty(alloc)?,
-            markers: Markers::new(alloc, mask, &tiling)?,
-        })
+        let tiling = Tiling::new(mask.width(), mask.height(), side).ok()?;
+        let state = State::empty(alloc).ok()?;
+        match Markers::new(alloc, mask, &tiling) {
+            Ok(markers) => Some(Scene { state, markers }),
+            Err(_) => None,
+        }
     }
 
-    /// The scene after a merge.
-    pub fn merged(self, alloc: Global, delta: &State) -> Result<Scene, Fail> {
+    /// The scene after a merge, if nothing clashes and each stroke fits the mask.
+    pub fn merged(self, alloc: Global, delta: &State) -> Option<Scene> {
         let Scene {
             mut state,
             mut markers,
         } = self;
-        let change = state.merge(alloc, delta)?;
-        let mask = markers.mask();
-        if state.outside(mask.width(), mask.height()).is_some() {
-            return Err(Fail::new("a stroke does not fit the mask"));
+        match state.merge(alloc, delta) {
+            Ok(change) => {
+                let mask = markers.mask();
+                if state.outside(mask.width(), mask.height()).is_some() {
+                    return None;
+                }
+                markers.apply(&state, &change);
+                Some(Scene { state, markers })
+            }
+            Err(_) => None,
         }
-        markers.apply(&state, &change);
-        Ok(Scene { state, markers })
     }
 
-    /// The state.
-    pub fn state(&self) -> &State {
-        &self.state
+    /// Whether a stroke of the delta clashes with one of the state.
+    pub fn clashes(&self, delta: &State) -> bool {
+        self.state.clash(delta).is_some()
     }
 
     /// Whether the kept marker has these cells.
@@ -74,27 +78,25 @@ impl Scene {
     }
 
     /// Whether the marker on a tile has this width and these cells.
-    pub fn has_tile(
-        &self,
-        alloc: Global,
-        tile: usize,
-        width: u32,
-        cells: &[u32],
-    ) -> Result<bool, MarkersError> {
+    pub fn has_tile(&self, alloc: Global, tile: usize, width: u32, cells: &[u32]) -> bool {
         if tile >= self.markers.tiling().count() {
-            return Ok(false);
+            return false;
         }
-        let part = self.markers.tile(alloc, tile)?;
-        Ok(part.width() == width && part.cells() == cells)
+        match self.markers.tile(alloc, tile) {
+            Ok(part) => part.width() == width && part.cells() == cells,
+            Err(_) => false,
+        }
     }
 
     /// Whether the kept marker is the one made anew.
-    pub fn is_right(&self, alloc: Global) -> Result<bool, Fail> {
+    pub fn is_right(&self, alloc: Global) -> bool {
         let mask = self.markers.mask();
         if self.state.outside(mask.width(), mask.height()).is_some() {
-            return Err(Fail::new("a stroke does not fit the mask"));
+            return false;
         }
-        let anew = marker(alloc, mask, &self.state)?;
-        Ok(anew.cells() == self.markers.marker().cells())
+        match marker(alloc, mask, &self.state) {
+            Ok(anew) => anew.cells() == self.markers.marker().cells(),
+            Err(_) => false,
+        }
     }
 }

@@ -1,224 +1,214 @@
-//! Strokes: what is refused, which pixels are covered, copies and lengths.
+//! Strokes: what is refused, which pixels are covered, spans, copies and lengths.
 
+use crate::states::{column, state_of};
 use grid_core::Pixel;
-use std::alloc::{AllocError, Global};
-use std::test::Fail;
-use stroke_core::{Kind, RefusedRuns, Run, Span, Stroke, StrokeError, spans_cover};
+use std::alloc::Global;
+use stroke_core::{Kind, Run, Span, Stroke, StrokeError, Tag, spans_cover};
 
-/// A run: its row, and its first and last column.
-pub type Place = (u16, u16, u16);
+// A run: its row, and its first and last column.
+type Place = (u16, u16, u16);
 
-/// What a stroke is painted on.
-#[derive(Clone, Copy)]
-pub enum Form {
-    /// These runs.
-    Runs(&'static [Place]),
-    /// Two runs.
-    Two([Place; 2]),
-    /// So many runs, one below the other from the top row on, each of the pixels in columns 1 and 2.
-    Column(u16),
-    /// The disc round the pixel in this column and row with this radius.
-    Disc(u16, u16, u32),
-}
+// Names, levels and runs, and why they make no stroke.
+const REFUSED: &[(&str, u32, &[Place], StrokeError)] = &[
+    ("no runs", 9, &[], StrokeError::NoRuns),
+    (
+        "runs that touch",
+        9,
+        &[(0, 1, 2), (0, 3, 4)],
+        StrokeError::RunOrder,
+    ),
+    (
+        "a run that ends before it begins",
+        9,
+        &[(0, 2, 1)],
+        StrokeError::RunOrder,
+    ),
+    (
+        "runs that do not rise",
+        9,
+        &[(1, 0, 0), (0, 5, 5)],
+        StrokeError::RunOrder,
+    ),
+    (
+        "level 0 of runs too many and in no order",
+        0,
+        &[(7, 3, 3); 200],
+        StrokeError::BadLevel,
+    ),
+    (
+        "runs too many and in no order",
+        5,
+        &[(7, 3, 3); 200],
+        StrokeError::TooManyRuns,
+    ),
+];
 
 // The runs at these places.
-fn runs_at(alloc: Global, places: &[Place]) -> Result<Vec<Run>, AllocError> {
+fn runs_at(alloc: Global, places: &[Place]) -> Option<Vec<Run>> {
     let mut runs = Vec::new(alloc);
     for (y, x0, x1) in places {
-        runs.push(Run {
-            y: *y,
-            x0: *x0,
-            x1: *x1,
-        })?;
+        let (y, x0, x1) = (*y, *x0, *x1);
+        runs.push(Run { y, x0, x1 }).ok()?;
     }
-    Ok(runs)
+    Some(runs)
 }
 
-// Runs one below the other.
-fn column(alloc: Global, count: u16) -> Result<Vec<Run>, AllocError> {
-    let mut runs = Vec::new(alloc);
-    for y in 0..count {
-        runs.push(Run { y, x0: 1, x1: 2 })?;
-    }
-    Ok(runs)
-}
-
-// The runs of a form. A disc has none.
-fn runs_of(alloc: Global, form: &Form) -> Result<Vec<Run>, AllocError> {
-    match form {
-        Form::Runs(places) => runs_at(alloc, places),
-        Form::Two(places) => runs_at(alloc, places),
-        Form::Column(count) => column(alloc, *count),
-        Form::Disc(..) => Ok(Vec::new(alloc)),
+// Whether a level and runs are refused for this reason, and the runs handed back.
+fn is_refused(alloc: Global, level: u32, runs: &[Run], why: StrokeError) -> bool {
+    match runs.to_vec(alloc) {
+        Ok(given) => match Stroke::new(level, given) {
+            Ok(_) => false,
+            Err(refused) => refused.why == why && refused.runs.as_slice() == runs,
+        },
+        Err(_) => false,
     }
 }
 
-/// The stroke of a level and a form.
-pub fn stroke_of(alloc: Global, level: u32, form: &Form) -> Result<Stroke, StrokeError> {
-    if let Form::Disc(x, y, r) = form {
-        return Stroke::disc(level, *x, *y, *r);
-    }
-    match Stroke::new(level, runs_of(alloc, form)?) {
-        Ok(stroke) => Ok(stroke),
-        Err(refused) => Err(refused.why),
-    }
-}
-
-// What is refused of a level and a form.
-fn refused(alloc: Global, level: u32, form: &Form) -> Option<RefusedRuns> {
-    match runs_of(alloc, form) {
-        Ok(runs) => Stroke::new(level, runs).err(),
-        Err(_) => None,
-    }
-}
-
-// Whether it is refused for this reason, and these runs are handed back.
-fn hands_back(refused: Option<RefusedRuns>, runs: &[Run], why: StrokeError) -> bool {
-    match refused {
-        Some(refused) => refused.why == why && refused.runs.as_slice() == runs,
+// Whether a column of one run too many is refused for its level first.
+fn is_long_column_refused(alloc: Global) -> bool {
+    match column(alloc, 161) {
+        Some(runs) => {
+            is_refused(alloc, 65536, &runs, StrokeError::BadLevel)
+                && is_refused(alloc, 5, &runs, StrokeError::TooManyRuns)
+        }
         None => false,
     }
 }
 
-// Whether the level and the form are refused for this reason, and the runs handed back.
-fn is_refused(
-    alloc: Global,
-    level: u32,
-    form: &Form,
-    why: StrokeError,
-) -> Result<bool, AllocError> {
-    let given = runs_of(alloc, form)?;
-    Ok(hands_back(refused(alloc, level, form), &given, why))
-}
-
-const UNORDERED: [Place; 200] = [(7, 3, 3); 200];
-
-// Levels and forms, and why they make no stroke.
-const REFUSALS: [(u32, Form, StrokeError); 8] = [
-    (9, Form::Runs(&[]), StrokeError::NoRuns),
+// Names, levels and radii, and why they make no disc.
+const REFUSED_DISCS: &[(&str, u32, u32, StrokeError)] = &[
+    ("level 0 of a disc too great", 0, 256, StrokeError::BadLevel),
+    ("a level too great", 65536, 0, StrokeError::BadLevel),
+    ("a radius too great", 1, 256, StrokeError::BadRadius),
     (
-        9,
-        Form::Runs(&[(0, 1, 2), (0, 3, 4)]),
-        StrokeError::RunOrder,
+        "the greatest radius of all",
+        65535,
+        u32::MAX,
+        StrokeError::BadRadius,
     ),
-    (9, Form::Runs(&[(0, 2, 1)]), StrokeError::RunOrder),
-    (
-        9,
-        Form::Runs(&[(1, 0, 0), (0, 5, 5)]),
-        StrokeError::RunOrder,
-    ),
-    (0, Form::Runs(&UNORDERED), StrokeError::BadLevel),
-    (5, Form::Runs(&UNORDERED), StrokeError::TooManyRuns),
-    (65536, Form::Column(161), StrokeError::BadLevel),
-    (5, Form::Column(161), StrokeError::TooManyRuns),
 ];
 
-#[test]
-fn refusals_hand_the_runs_back(rt: HostRuntime) -> Result<(), Fail> {
-    for (level, form, why) in &REFUSALS {
-        assert!(rt; is_refused(rt.alloc(), *level, form, *why)?, "{why}");
-    }
-    Ok(())
-}
-
-#[test]
-fn refusals_of_a_disc(rt: HostRuntime) {
-    for (level, r, why) in [
-        (0, 256, StrokeError::BadLevel),
-        (65536, 0, StrokeError::BadLevel),
-        (1, 256, StrokeError::BadRadius),
-        (65535, u32::MAX, StrokeError::BadRadius),
-    ] {
-        let refused = Stroke::disc(level, 0, 0, r).err();
-        assert!(rt; refused == Some(why), "at level {level}, within {r}");
-    }
-}
-
-// What is claimed of a stroke.
-enum Claim {
-    // It has this level and these runs.
-    Keeps(u16, &'static [Place]),
-    // It is of runs.
-    IsRuns,
-    // It is a disc of this level, without runs.
-    IsDisc(u16, Kind),
-    // A copy is the same in all that it tells, and takes so many bytes.
-    Copied(usize),
-    // Whether it is the same as the stroke of this level and form, asked from both sides.
-    IsSame(u32, Form, bool),
-    // It covers these pixels, and not those.
-    Covers(&'static [(u32, u32)], &'static [(u32, u32)]),
-    // It covers so many pixels of an image of 5 by 5.
-    Count(usize),
-    // It fits images of these sides, and neither of those a column narrower nor a row lower.
-    Needs(u32, u32),
-    // Its spans have the pixels of an image of 9 by 9 that it covers, and no others.
-    SpansAgree,
-    // It has so many spans.
-    SpanCount(usize),
-    // The span of this number is this.
-    HasSpan(usize, Span),
-    // Its first spans from these rows on have these numbers.
-    FirstSpans(&'static [(u32, usize)]),
-}
-
-// Whether the stroke covers the pixel in this column and row.
-fn covers(stroke: &Stroke, x: u32, y: u32) -> bool {
-    stroke.covers(Pixel { x, y })
-}
-
-// Whether the answers for these pixels are all this one.
-fn all_covered(stroke: &Stroke, pixels: &[(u32, u32)], covered: bool) -> bool {
-    for (x, y) in pixels {
-        if covers(stroke, *x, *y) != covered {
-            return false;
+// The first of these that is a stroke, or none for another reason.
+fn wrong_refusal(alloc: Global) -> Option<&'static str> {
+    for (name, level, places, why) in REFUSED {
+        let is_right = match runs_at(alloc, places) {
+            Some(runs) => is_refused(alloc, *level, &runs, *why),
+            None => false,
+        };
+        if !is_right {
+            return Some(*name);
         }
     }
-    true
+    for (name, level, r, why) in REFUSED_DISCS {
+        if Stroke::disc(*level, 0, 0, *r).err() != Some(*why) {
+            return Some(*name);
+        }
+    }
+    None
 }
+
+#[test]
+fn refusals_hand_the_runs_back(rt: HostRuntime) {
+    assert_eq!(rt; wrong_refusal(rt.alloc()), None);
+    assert!(rt; is_long_column_refused(rt.alloc()));
+}
+
+const THREE_RUNS: &str = "place #01 65535 0:1-2,0:4-4,2:65535-65535";
+
+const LONG_RUN: &str = "place #01 9 0:1-2,2:4-65535";
+
+const DOT: &str = "disc #01 9 1:3+0";
+
+const DOT_OF_A_RUN: &str = "place #01 9 1:3-3";
+
+const CORNER: &str = "disc #01 5 0:0+1";
+
+const WIDEST: &str = "disc #01 5 0:65535+255";
+
+const LOWEST: &str = "disc #01 5 65535:1+5";
+
+const CUT_DISC: &str = "disc #01 9 1:3+2";
+
+const WHOLE_DISC: &str = "disc #01 9 5:3+2";
+
+const THREE_ROWS: &str = "place #01 9 1:0-0,1:5-5,4:2-2";
+
+// A name, the edit of a stroke, how many pixels of an image of 5 by 5 it covers, how many spans and bytes it has, and
+// the least width and height of an image that it fits.
+type Look = (&'static str, &'static str, usize, usize, usize, u32, u32);
+
+const LOOKS: &[Look] = &[
+    ("three runs", THREE_RUNS, 3, 3, 39, 65536, 3),
+    ("a long run", LONG_RUN, 3, 2, 33, 65536, 3),
+    ("one run", "place #01 9 2:1-3", 3, 1, 27, 4, 3),
+    ("two runs", "place #01 9 2:1-3,3:0-0", 4, 2, 33, 4, 4),
+    (
+        "four runs",
+        "place #01 9 0:1-2,0:4-65535,2:0-0,8:8-8",
+        4,
+        4,
+        45,
+        65536,
+        9,
+    ),
+    ("runs in three rows", THREE_ROWS, 2, 3, 39, 6, 5),
+    ("a run on one pixel", DOT_OF_A_RUN, 1, 1, 27, 4, 2),
+    ("a disc on one pixel", DOT, 1, 1, 25, 4, 2),
+    ("a dot", "disc #01 5 2:2+0", 1, 1, 25, 3, 3),
+    ("another dot", "disc #01 5 4:4+0", 1, 1, 25, 5, 5),
+    ("a dot in a corner", "disc #01 5 0:0+0", 1, 1, 25, 1, 1),
+    ("a dot outside", "disc #01 5 7:7+0", 0, 1, 25, 8, 8),
+    ("thirteen pixels", "disc #01 5 2:2+2", 13, 5, 25, 3, 3),
+    (
+        "thirteen pixels of another level",
+        "disc #01 9 2:2+2",
+        13,
+        5,
+        25,
+        3,
+        3,
+    ),
+    ("cut by a corner", CORNER, 3, 2, 25, 1, 1),
+    ("a quarter", "disc #01 5 0:0+3", 11, 4, 25, 1, 1),
+    ("a great quarter", "disc #01 5 0:0+255", 25, 256, 25, 1, 1),
+    ("cut at the top", "disc #01 5 0:8+2", 0, 3, 25, 9, 1),
+    ("cut once", "disc #01 5 1:9+2", 0, 4, 25, 10, 2),
+    ("cut in the first rows", CUT_DISC, 11, 4, 25, 4, 2),
+    ("a whole disc", "disc #01 5 4:4+3", 11, 7, 25, 5, 5),
+    ("a whole disc below", WHOLE_DISC, 4, 5, 25, 4, 6),
+    ("all pixels", "disc #01 5 4:4+255", 25, 260, 25, 5, 5),
+    (
+        "it fits where its centre is",
+        "disc #01 5 2:4+255",
+        25,
+        258,
+        25,
+        5,
+        3,
+    ),
+    ("a great disc", "disc #01 5 5:3+255", 25, 261, 25, 4, 6),
+    (
+        "a great whole disc",
+        "disc #01 5 300:9+255",
+        0,
+        511,
+        25,
+        10,
+        301,
+    ),
+    ("the widest", WIDEST, 0, 256, 25, 65536, 1),
+    ("the lowest", LOWEST, 0, 11, 25, 2, 65536),
+];
 
 // How many pixels of an image of 5 by 5 the stroke covers.
 fn count(stroke: &Stroke) -> usize {
     let mut count: usize = 0;
     for i in 0..25u32 {
-        if covers(stroke, i % 5, i / 5) {
+        if stroke.covers(Pixel { x: i % 5, y: i / 5 }) {
             count = count.saturating_add(1);
         }
     }
     count
-}
-
-// Whether the stroke fits images of the first sides, and neither of those a column narrower nor a row lower.
-fn needs(stroke: &Stroke, w: u32, h: u32) -> bool {
-    stroke.fits(w, h)
-        && !stroke.fits(w.saturating_sub(1), h)
-        && !stroke.fits(w, h.saturating_sub(1))
-}
-
-// Whether the stroke takes so many bytes, and a copy of it is the same in all that it tells.
-fn is_copied(alloc: Global, stroke: &Stroke, byte_len: usize) -> bool {
-    match stroke.copy(alloc) {
-        Ok(copy) => {
-            stroke.byte_len() == byte_len
-                && copy.is_same(stroke)
-                && copy.kind() == stroke.kind()
-                && copy.runs() == stroke.runs()
-        }
-        Err(_) => false,
-    }
-}
-
-// Whether one is the same as the other, asked from both sides.
-fn are_same(one: &Stroke, other: &Stroke, same: bool) -> bool {
-    one.is_same(other) == same && other.is_same(one) == same
-}
-
-// The same of the stroke of a level and a form.
-fn is_same(alloc: Global, stroke: &Stroke, level: u32, form: &Form, same: bool) -> bool {
-    match stroke_of(alloc, level, form) {
-        Ok(other) => are_same(stroke, &other, same),
-        Err(_) => false,
-    }
 }
 
 // Whether some span of the stroke has the pixel.
@@ -233,340 +223,244 @@ fn spans_have(stroke: &Stroke, x: u32, y: u32) -> bool {
 }
 
 // Whether the spans have the pixels of an image of 9 by 9 that the stroke covers, and no others.
-fn spans_agree(stroke: &Stroke) -> bool {
+fn do_spans_agree(stroke: &Stroke) -> bool {
     for i in 0..81u32 {
-        if covers(stroke, i % 9, i / 9) != spans_have(stroke, i % 9, i / 9) {
+        let (x, y) = (i % 9, i / 9);
+        if stroke.covers(Pixel { x, y }) != spans_have(stroke, x, y) {
             return false;
         }
     }
     true
 }
 
-// Whether the first spans from these rows on have these numbers.
-fn has_first_spans(stroke: &Stroke, firsts: &[(u32, usize)]) -> bool {
-    for (row, first) in firsts {
-        if stroke.first_span_from(*row) != *first {
-            return false;
-        }
-    }
-    true
+// Whether the stroke fits images of these sides, and neither of those a column narrower nor a row lower.
+fn needs(stroke: &Stroke, w: u32, h: u32) -> bool {
+    stroke.fits(w, h)
+        && !stroke.fits(w.saturating_sub(1), h)
+        && !stroke.fits(w, h.saturating_sub(1))
 }
 
-// Whether the stroke has runs at these places, and no others.
-fn has_runs(stroke: &Stroke, places: &[Place]) -> bool {
-    for (run, (y, x0, x1)) in stroke.runs().iter().zip(places) {
-        if run.y != *y || run.x0 != *x0 || run.x1 != *x1 {
-            return false;
+// Whether a copy of the stroke is the same in all that it tells.
+fn is_copied(alloc: Global, stroke: &Stroke) -> bool {
+    match stroke.copy(alloc) {
+        Ok(copy) => {
+            copy.is_same(stroke)
+                && copy.level() == stroke.level()
+                && copy.kind() == stroke.kind()
+                && copy.runs() == stroke.runs()
         }
-    }
-    stroke.runs().len() == places.len()
-}
-
-// Whether the claim holds.
-fn holds(alloc: Global, stroke: &Stroke, claim: &Claim) -> bool {
-    match claim {
-        Claim::Keeps(level, places) => stroke.level() == *level && has_runs(stroke, places),
-        Claim::IsRuns => stroke.kind() == Kind::Runs,
-        Claim::IsDisc(level, kind) => {
-            stroke.level() == *level && stroke.kind() == *kind && stroke.runs().is_empty()
-        }
-        Claim::Copied(byte_len) => is_copied(alloc, stroke, *byte_len),
-        Claim::IsSame(level, form, same) => is_same(alloc, stroke, *level, form, *same),
-        Claim::Covers(pixels, others) => {
-            all_covered(stroke, pixels, true) && all_covered(stroke, others, false)
-        }
-        Claim::Count(pixels) => count(stroke) == *pixels,
-        Claim::Needs(w, h) => needs(stroke, *w, *h),
-        Claim::SpansAgree => spans_agree(stroke),
-        Claim::SpanCount(spans) => stroke.span_count() == *spans,
-        Claim::HasSpan(k, span) => *k < stroke.span_count() && stroke.span(*k) == *span,
-        Claim::FirstSpans(firsts) => has_first_spans(stroke, firsts),
+        Err(_) => false,
     }
 }
 
-// A name, the level and the form of a stroke, and what is claimed of it.
-type Case = (&'static str, u32, Form, &'static [Claim]);
-
-// How many claims hold before the first that fails.
-fn count_right(alloc: Global, case: &Case) -> Result<usize, StrokeError> {
-    let stroke = stroke_of(alloc, case.1, &case.2)?;
-    let mut right: usize = 0;
-    for claim in case.3 {
-        if !holds(alloc, &stroke, claim) {
-            return Ok(right);
-        }
-        right = right.saturating_add(1);
-    }
-    Ok(right)
+// Whether the stroke looks so.
+fn looks(alloc: Global, stroke: &Stroke, look: &Look) -> bool {
+    let (_, _, pixels, spans, bytes, w, h) = look;
+    count(stroke) == *pixels
+        && stroke.span_count() == *spans
+        && stroke.byte_len() == *bytes
+        && needs(stroke, *w, *h)
+        && do_spans_agree(stroke)
+        && is_copied(alloc, stroke)
 }
 
-const THREE: &[Place] = &[(0, 1, 2), (0, 4, 4), (2, 65535, 65535)];
-
-const LONG: Form = Form::Runs(&[(0, 1, 2), (2, 4, 65535)]);
-
-const STROKES: [Case; 8] = [
-    (
-        "runs are kept",
-        65535,
-        Form::Runs(THREE),
-        &[
-            Claim::Keeps(65535, THREE),
-            Claim::IsSame(65535, Form::Runs(THREE), true),
-            Claim::IsSame(1, Form::Runs(THREE), false),
-            Claim::IsSame(65535, Form::Runs(&[(0, 1, 2), (0, 4, 4)]), false),
-        ],
-    ),
-    (
-        "a long run",
-        9,
-        LONG,
-        &[
-            Claim::Covers(
-                &[(1, 0), (2, 0), (4, 2), (65535, 2)],
-                &[(0, 0), (3, 0), (1, 1), (3, 2), (65536, 2), (1, 65536)],
-            ),
-            Claim::Needs(65536, 3),
-        ],
-    ),
-    (
-        "one run",
-        9,
-        Form::Runs(&[(2, 1, 3)]),
-        &[Claim::IsRuns, Claim::Copied(27)],
-    ),
-    (
-        "two runs",
-        9,
-        Form::Runs(&[(2, 1, 3), (3, 0, 0)]),
-        &[Claim::Copied(33)],
-    ),
-    ("a disc", 9, Form::Disc(2, 2, 2), &[Claim::Copied(25)]),
-    (
-        "a disc is kept",
-        65535,
-        Form::Disc(7, 65535, 255),
-        &[Claim::IsDisc(
-            65535,
-            Kind::Disc {
-                x: 7,
-                y: 65535,
-                r: 255,
-            },
-        )],
-    ),
-    (
-        "a disc on one pixel",
-        9,
-        Form::Disc(3, 1, 0),
-        &[
-            Claim::Count(1),
-            Claim::Covers(&[(3, 1)], &[]),
-            Claim::IsSame(9, Form::Runs(&[(1, 3, 3)]), false),
-            Claim::IsSame(9, Form::Disc(3, 1, 1), false),
-            Claim::IsSame(8, Form::Disc(3, 1, 0), false),
-        ],
-    ),
-    (
-        "a run on one pixel",
-        9,
-        Form::Runs(&[(1, 3, 3)]),
-        &[Claim::Count(1), Claim::Covers(&[(3, 1)], &[])],
-    ),
+// Names, edits of strokes, columns and rows of pixels, and whether the strokes cover them.
+const PIXELS: &[(&str, &str, u32, u32, bool)] = &[
+    ("the first of a run", LONG_RUN, 1, 0, true),
+    ("the last of a run", LONG_RUN, 2, 0, true),
+    ("the first of a long run", LONG_RUN, 4, 2, true),
+    ("the last of a long run", LONG_RUN, 65535, 2, true),
+    ("left of a run", LONG_RUN, 0, 0, false),
+    ("right of a run", LONG_RUN, 3, 0, false),
+    ("below a run", LONG_RUN, 1, 1, false),
+    ("left of a long run", LONG_RUN, 3, 2, false),
+    ("right of a long run", LONG_RUN, 65536, 2, false),
+    ("far below a run", LONG_RUN, 1, 65536, false),
+    ("a disc on one pixel", DOT, 3, 1, true),
+    ("a run on one pixel", DOT_OF_A_RUN, 3, 1, true),
+    ("the centre in a corner", CORNER, 0, 0, true),
+    ("right of the centre", CORNER, 1, 0, true),
+    ("below the centre", CORNER, 0, 1, true),
+    ("the last of the widest", WIDEST, 65790, 0, true),
+    ("right of the widest", WIDEST, 65791, 0, false),
+    ("far from the widest", WIDEST, u32::MAX, u32::MAX, false),
 ];
 
-const DISCS: [Case; 6] = [
-    (
-        "thirteen pixels",
-        5,
-        Form::Disc(2, 2, 2),
-        &[Claim::Count(13)],
-    ),
-    ("one pixel", 5, Form::Disc(2, 2, 0), &[Claim::Count(1)]),
-    (
-        "cut by a corner",
-        5,
-        Form::Disc(0, 0, 1),
-        &[
-            Claim::Count(3),
-            Claim::Covers(&[(0, 0), (1, 0), (0, 1)], &[]),
-        ],
-    ),
-    ("all pixels", 5, Form::Disc(4, 4, 255), &[Claim::Count(25)]),
-    (
-        "the widest",
-        5,
-        Form::Disc(65535, 0, 255),
-        &[Claim::Covers(&[(65790, 0)], &[(65791, 0), (u32::MAX, u32::MAX)])],
-    ),
-    (
-        "it fits where its centre is",
-        5,
-        Form::Disc(4, 2, 255),
-        &[Claim::Needs(5, 3)],
-    ),
+// Names, edits of strokes, numbers of spans, and their rows, first columns and ends.
+const SPANS: &[(&str, &str, usize, u32, u32, u32)] = &[
+    ("a long run", LONG_RUN, 1, 2, 4, 65536),
+    ("the first of the lowest", LOWEST, 0, 65530, 1, 2),
+    ("one of the lowest", LOWEST, 2, 65532, 0, 6),
+    ("the last of the lowest", LOWEST, 10, 65540, 1, 2),
 ];
 
-const SPANS: [Case; 16] = [
-    (
-        "pixels of runs",
-        9,
-        Form::Runs(&[(0, 1, 2), (0, 4, 65535), (2, 0, 0), (8, 8, 8)]),
-        &[Claim::SpansAgree],
-    ),
-    (
-        "pixels of a dot",
-        5,
-        Form::Disc(4, 4, 0),
-        &[Claim::SpansAgree],
-    ),
-    (
-        "pixels of a dot in a corner",
-        5,
-        Form::Disc(0, 0, 0),
-        &[Claim::SpansAgree],
-    ),
-    (
-        "pixels of a disc in a corner",
-        5,
-        Form::Disc(0, 0, 3),
-        &[Claim::SpansAgree],
-    ),
-    (
-        "pixels of a disc at the top",
-        5,
-        Form::Disc(8, 0, 2),
-        &[Claim::SpansAgree],
-    ),
-    (
-        "pixels of a whole disc",
-        5,
-        Form::Disc(4, 4, 3),
-        &[Claim::SpansAgree],
-    ),
-    (
-        "pixels of a great disc",
-        5,
-        Form::Disc(3, 5, 255),
-        &[Claim::SpansAgree],
-    ),
-    (
-        "a long run",
-        9,
-        LONG,
-        &[
-            Claim::SpanCount(2),
-            Claim::HasSpan(
-                1,
-                Span {
-                    y: 2,
-                    first: 4,
-                    end: 65536,
-                },
-            ),
-        ],
-    ),
-    (
-        "rows of a dot",
-        5,
-        Form::Disc(7, 7, 0),
-        &[Claim::SpanCount(1)],
-    ),
-    (
-        "rows of a quarter",
-        5,
-        Form::Disc(0, 0, 255),
-        &[Claim::SpanCount(256)],
-    ),
-    (
-        "rows of a great disc",
-        5,
-        Form::Disc(9, 300, 255),
-        &[Claim::SpanCount(511)],
-    ),
-    (
-        "rows of a disc that is cut once",
-        5,
-        Form::Disc(9, 1, 2),
-        &[Claim::SpanCount(4)],
-    ),
-    (
-        "rows of a disc that is cut",
-        9,
-        Form::Disc(3, 1, 2),
-        &[
-            Claim::SpanCount(4),
-            Claim::FirstSpans(&[(0, 0), (1, 1), (2, 2), (4, 4), (5, 4), (u32::MAX, 4)]),
-        ],
-    ),
-    (
-        "rows below the last row of an image",
-        5,
-        Form::Disc(1, 65535, 5),
-        &[
-            Claim::HasSpan(
-                0,
-                Span {
-                    y: 65530,
-                    first: 1,
-                    end: 2,
-                },
-            ),
-            Claim::HasSpan(
-                2,
-                Span {
-                    y: 65532,
-                    first: 0,
-                    end: 6,
-                },
-            ),
-            Claim::HasSpan(
-                10,
-                Span {
-                    y: 65540,
-                    first: 1,
-                    end: 2,
-                },
-            ),
-        ],
-    ),
-    (
-        "runs from a row on",
-        9,
-        Form::Runs(&[(1, 0, 0), (1, 5, 5), (4, 2, 2)]),
-        &[Claim::FirstSpans(&[(0, 0), (1, 0), (2, 2), (4, 2), (5, 3), (u32::MAX, 3)])],
-    ),
-    (
-        "a disc from a row on",
-        9,
-        Form::Disc(3, 5, 2),
-        &[Claim::FirstSpans(&[(0, 0), (1, 0), (2, 0), (4, 1), (5, 2), (u32::MAX, 5)])],
-    ),
+// Whether the span of this number is this.
+fn has_span(stroke: &Stroke, k: usize, y: u32, first: u32, end: u32) -> bool {
+    k < stroke.span_count() && stroke.span(k) == Span { y, first, end }
+}
+
+// Names, edits of strokes, and the numbers of the first spans from the rows 0, 1, 2, 4, 5 and the last of all on.
+const FIRST_SPANS: &[(&str, &str, [usize; 6])] = &[
+    ("a disc that is cut", CUT_DISC, [0, 1, 2, 4, 4, 4]),
+    ("runs", THREE_ROWS, [0, 0, 2, 2, 3, 3]),
+    ("a whole disc", WHOLE_DISC, [0, 0, 0, 1, 2, 5]),
 ];
 
-#[test]
-fn strokes_and_their_pixels(rt: HostRuntime) -> Result<(), Fail> {
-    for case in &STROKES {
-        let right = count_right(rt.alloc(), case)?;
-        assert!(rt; right == case.3.len(), "{}: claim {right}", case.0);
+// The numbers of the first spans from these rows on.
+fn first_spans(stroke: &Stroke) -> [usize; 6] {
+    [
+        stroke.first_span_from(0),
+        stroke.first_span_from(1),
+        stroke.first_span_from(2),
+        stroke.first_span_from(4),
+        stroke.first_span_from(5),
+        stroke.first_span_from(u32::MAX),
+    ]
+}
+
+// Names, edits of strokes, those of others, and whether they are the same.
+const SAME: &[(&str, &str, &str, bool)] = &[
+    ("the same runs", THREE_RUNS, THREE_RUNS, true),
+    (
+        "another level of runs",
+        THREE_RUNS,
+        "place #01 1 0:1-2,0:4-4,2:65535-65535",
+        false,
+    ),
+    (
+        "a run less",
+        THREE_RUNS,
+        "place #01 65535 0:1-2,0:4-4",
+        false,
+    ),
+    ("a disc and a run", DOT, DOT_OF_A_RUN, false),
+    ("another radius", DOT, "disc #01 9 1:3+1", false),
+    ("another level of a disc", DOT, "disc #01 8 1:3+0", false),
+];
+
+// Whether one is the same as the other, asked from both sides.
+fn are_same(one: &Stroke, other: &Stroke, same: bool) -> bool {
+    one.is_same(other) == same && other.is_same(one) == same
+}
+
+// The stroke that an edit places.
+fn stroke_of(alloc: Global, edit: &str) -> Option<Stroke> {
+    match state_of(alloc, edit) {
+        Some(state) => match state.stroke(Tag(1)) {
+            Some(stroke) => stroke.copy(alloc).ok(),
+            None => None,
+        },
+        None => None,
     }
-    Ok(())
+}
+
+// The first stroke that looks otherwise.
+fn wrong_look(alloc: Global) -> Option<&'static str> {
+    for look in LOOKS {
+        let is_right = match stroke_of(alloc, look.1) {
+            Some(stroke) => looks(alloc, &stroke, look),
+            None => false,
+        };
+        if !is_right {
+            return Some(look.0);
+        }
+    }
+    None
+}
+
+// The first pixel of which it is told otherwise.
+fn wrong_pixel(alloc: Global) -> Option<&'static str> {
+    for (name, edit, x, y, is_covered) in PIXELS {
+        let is_right = match stroke_of(alloc, edit) {
+            Some(stroke) => stroke.covers(Pixel { x: *x, y: *y }) == *is_covered,
+            None => false,
+        };
+        if !is_right {
+            return Some(*name);
+        }
+    }
+    None
+}
+
+// The first span that is another.
+fn wrong_span(alloc: Global) -> Option<&'static str> {
+    for (name, edit, k, y, first, end) in SPANS {
+        let is_right = match stroke_of(alloc, edit) {
+            Some(stroke) => has_span(&stroke, *k, *y, *first, *end),
+            None => false,
+        };
+        if !is_right {
+            return Some(*name);
+        }
+    }
+    for (name, edit, firsts) in FIRST_SPANS {
+        let is_right = match stroke_of(alloc, edit) {
+            Some(stroke) => first_spans(&stroke) == *firsts,
+            None => false,
+        };
+        if !is_right {
+            return Some(*name);
+        }
+    }
+    None
+}
+
+// The first strokes that are the same and should not be, or the other way round.
+fn wrong_sameness(alloc: Global) -> Option<&'static str> {
+    for (name, edit, other, same) in SAME {
+        let is_right = match (stroke_of(alloc, edit), stroke_of(alloc, other)) {
+            (Some(one), Some(other)) => are_same(&one, &other, *same),
+            _ => false,
+        };
+        if !is_right {
+            return Some(*name);
+        }
+    }
+    None
+}
+
+// Whether a stroke keeps its level and runs.
+fn are_runs_kept(alloc: Global) -> bool {
+    match (
+        stroke_of(alloc, THREE_RUNS),
+        runs_at(alloc, &[(0, 1, 2), (0, 4, 4), (2, 65535, 65535)]),
+    ) {
+        (Some(stroke), Some(runs)) => {
+            stroke.level() == 65535
+                && stroke.kind() == Kind::Runs
+                && stroke.runs() == runs.as_slice()
+        }
+        _ => false,
+    }
+}
+
+// Whether a disc keeps its level, centre and radius, and has no runs.
+fn is_disc_kept() -> bool {
+    let kind = Kind::Disc {
+        x: 7,
+        y: 65535,
+        r: 255,
+    };
+    match Stroke::disc(65535, 7, 65535, 255) {
+        Ok(stroke) => stroke.level() == 65535 && stroke.kind() == kind && stroke.runs().is_empty(),
+        Err(_) => false,
+    }
 }
 
 #[test]
-fn discs_and_their_pixels(rt: HostRuntime) -> Result<(), Fail> {
-    for case in &DISCS {
-        let right = count_right(rt.alloc(), case)?;
-        assert!(rt; right == case.3.len(), "{}: claim {right}", case.0);
-    }
-    Ok(())
+fn strokes_and_their_pixels(rt: HostRuntime) {
+    assert!(rt; are_runs_kept(rt.alloc()) && is_disc_kept());
+    let alloc = rt.alloc();
+    assert_eq!(rt;
+        wrong_look(alloc)
+            .or(wrong_pixel(alloc))
+            .or(wrong_sameness(alloc)),
+        None
+    );
 }
 
 #[test]
-fn spans_of_strokes(rt: HostRuntime) -> Result<(), Fail> {
+fn spans_of_strokes(rt: HostRuntime) {
     spans_cover();
-    for case in &SPANS {
-        let right = count_right(rt.alloc(), case)?;
-        assert!(rt; right == case.3.len(), "{}: claim {right}", case.0);
-    }
-    Ok(())
+    assert_eq!(rt; wrong_span(rt.alloc()), None);
 }
