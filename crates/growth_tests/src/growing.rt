@@ -1,235 +1,201 @@
-//! Growing whole grids and rectangles, compared with floods by thresholds: worked examples, and all small ones.
+//! Growing whole grids, the inside of grids, and tiles by jobs: worked examples, all small images, and noise.
 
+use super::borders::regrows;
 use super::grids::{
-    Picture, grid_of, grown_within, grows, grows_into, is_picture, next, random_below, random_grid,
-    random_rect, whole,
+    Picture, closes, grid_of, grown, grown_within, grows, lower, next, shows, whole,
 };
+use super::worked_out::{Example, INSIDE, WHOLE};
 use grid_core::{Conn, Grid, Rect};
 use raster_sweeps::Room;
 use std::alloc::Global;
 use std::test::Fail;
+use tile_generations::{Job, Swept, Ticket};
 
-// The width and height, who are neighbours, and the cells of the mask, of the marker, and of what grows from it.
-#[derive(Clone, Copy)]
-struct Growth(
-    u32,
-    u32,
-    Conn,
-    &'static [u32],
-    &'static [u32],
-    &'static [u32],
-);
+/// A mask, who are neighbours in it, a marker, and what grows from it.
+#[derive(Drop)]
+pub struct Growth {
+    pub name: &'static str,
+    pub size: (u32, u32),
+    pub conn: Conn,
+    pub mask: Picture<'static>,
+    pub marker: Picture<'static>,
+    pub grown: Picture<'static>,
+}
 
-const LEVELS: [Growth; 6] = [
-    Growth(
-        5,
-        1,
-        Conn::Four,
-        &[3, 5, 2, 5, 4],
-        &[0, 5, 0, 0, 0],
-        &[3, 5, 2, 2, 2],
-    ),
-    Growth(
-        5,
-        1,
-        Conn::Four,
-        &[3, 5, 2, 5, 4],
-        &[0, 5, 0, 0, 3],
-        &[3, 5, 2, 3, 3],
-    ),
-    Growth(
-        5,
-        1,
-        Conn::Four,
-        &[3, 5, 2, 5, 4],
-        &[0, 0, 0, 0, 0],
-        &[0, 0, 0, 0, 0],
-    ),
-    Growth(
-        5,
-        1,
-        Conn::Eight,
-        &[3, 5, 2, 5, 4],
-        &[0, 5, 0, 0, 0],
-        &[3, 5, 2, 2, 2],
-    ),
-    Growth(
-        5,
-        1,
-        Conn::Eight,
-        &[3, 5, 2, 5, 4],
-        &[0, 5, 0, 0, 3],
-        &[3, 5, 2, 3, 3],
-    ),
-    Growth(
-        5,
-        1,
-        Conn::Eight,
-        &[3, 5, 2, 5, 4],
-        &[0, 0, 0, 0, 0],
-        &[0, 0, 0, 0, 0],
-    ),
-];
+const TICKET: Ticket = Ticket {
+    tile: 3,
+    generation: 1,
+    serial: 7,
+};
 
-const CORNERS: [Growth; 2] = [
-    Growth(
-        2,
-        2,
-        Conn::Four,
-        &[7, 0, 0, 7],
-        &[7, 0, 0, 0],
-        &[7, 0, 0, 0],
-    ),
-    Growth(
-        2,
-        2,
-        Conn::Eight,
-        &[7, 0, 0, 7],
-        &[7, 0, 0, 0],
-        &[7, 0, 0, 7],
-    ),
-];
-
-// The two scans make the second marker of the first, and leave it open at its first pixel.
-const A_BEND: [Growth; 2] = [
-    Growth(
-        3,
-        2,
-        Conn::Four,
-        &[4, 4, 4, 4, 0, 4],
-        &[0, 0, 0, 4, 0, 0],
-        &[4, 4, 4, 4, 0, 4],
-    ),
-    Growth(
-        3,
-        2,
-        Conn::Four,
-        &[4, 4, 4, 4, 0, 4],
-        &[4, 0, 0, 4, 0, 0],
-        &[4, 4, 4, 4, 0, 4],
-    ),
-];
-
-const ONE_PIXEL: [Growth; 2] = [
-    Growth(1, 1, Conn::Four, &[5], &[3], &[3]),
-    Growth(1, 1, Conn::Eight, &[5], &[3], &[3]),
-];
-
-const THE_ROW_ABOVE: [Growth; 5] = [
-    Growth(1, 2, Conn::Four, &[1, 9], &[1, 0], &[1, 1]),
-    Growth(1, 2, Conn::Four, &[8, 2], &[8, 1], &[8, 2]),
-    Growth(1, 2, Conn::Four, &[0, 9], &[0, 5], &[0, 5]),
-    Growth(1, 2, Conn::Four, &[3, 9], &[3, 0], &[3, 3]),
-    Growth(1, 2, Conn::Four, &[0, 9], &[0, 0], &[0, 0]),
-];
-
-const THE_CORNERS_ABOVE: [Growth; 5] = [
-    Growth(
-        3,
-        2,
-        Conn::Eight,
-        &[0, 1, 8, 0, 9, 0],
-        &[0, 1, 8, 0, 0, 0],
-        &[0, 1, 8, 0, 8, 0],
-    ),
-    Growth(
-        3,
-        2,
-        Conn::Eight,
-        &[1, 8, 0, 0, 2, 0],
-        &[1, 8, 0, 0, 1, 0],
-        &[1, 8, 0, 0, 2, 0],
-    ),
-    Growth(
-        3,
-        2,
-        Conn::Eight,
-        &[8, 0, 3, 0, 9, 0],
-        &[8, 0, 3, 0, 5, 0],
-        &[8, 0, 3, 0, 8, 0],
-    ),
-    Growth(
-        3,
-        2,
-        Conn::Eight,
-        &[0, 3, 0, 0, 9, 0],
-        &[0, 3, 0, 0, 0, 0],
-        &[0, 3, 0, 0, 3, 0],
-    ),
-    Growth(
-        3,
-        2,
-        Conn::Eight,
-        &[3, 0, 0, 0, 9, 0],
-        &[3, 0, 0, 0, 0, 0],
-        &[3, 0, 0, 0, 3, 0],
-    ),
-];
-
-const ONE_ROW: [Growth; 2] = [
-    Growth(
-        5,
-        1,
-        Conn::Four,
-        &[9, 2, 9, 9, 9],
-        &[6, 0, 5, 0, 1],
-        &[6, 2, 5, 5, 5],
-    ),
-    Growth(
-        5,
-        1,
-        Conn::Four,
-        &[9, 2, 9, 9, 9],
-        &[1, 0, 5, 0, 6],
-        &[2, 2, 6, 6, 6],
-    ),
-];
-
-const GROWTHS: [(&str, &[Growth]); 7] = [
-    ("levels of the mask alone count", &LEVELS),
-    ("corners join under eight", &CORNERS),
-    ("a bend needs the queue", &A_BEND),
-    ("one pixel stays", &ONE_PIXEL),
-    ("a pixel is raised by the row above", &THE_ROW_ABOVE),
-    ("a pixel is raised by the corners above", &THE_CORNERS_ABOVE),
-    ("a row is raised along itself", &ONE_ROW),
-];
-
-// Whether the mask grows and floods from the marker into what is wanted.
-fn holds(alloc: Global, row: Growth) -> bool {
-    let Growth(w, h, conn, mask, marker, want) = row;
-    let Ok(mask) = grid_of(alloc, w, h, Picture::Cells(mask)) else {
-        return false;
-    };
-    match grid_of(alloc, w, h, Picture::Cells(marker)) {
-        Ok(marker) => {
-            grows_into(alloc, &mask, &marker, conn, want) && grows(alloc, &mask, &marker, conn)
-        }
-        Err(_) => false,
+/// Whether the mask grows from the marker into what is wanted. A marker is closed just where that is the marker itself.
+pub fn grows_into(alloc: Global, mask: &Grid, marker: &Grid, row: &Growth) -> bool {
+    let is_closed = closes(mask, marker, row.conn);
+    match grown(alloc, mask, marker, row.conn) {
+        Some(grown) => shows(&grown, &row.grown) && is_closed == shows(marker, &row.grown),
+        None => false,
     }
 }
 
-// The first row that does not hold, or their number.
-fn first_wrong(alloc: Global, rows: &[Growth]) -> usize {
-    for i in 0..rows.len() {
-        if !holds(alloc, rows[i]) {
-            return i;
+// What a job gives on a tile of this mask and base, where there is memory.
+fn swept(alloc: Global, mask: &Grid, base: &Grid, conn: Conn) -> Option<Swept> {
+    if !base.is_below(mask) {
+        return None;
+    }
+    let base = base.copy(alloc).ok()?;
+    let mask = mask.copy(alloc).ok()?;
+    Job::new(TICKET, conn, base, mask).sweep(alloc).ok()
+}
+
+// Whether the sweep was of the row's job, and gave what is wanted.
+fn is_swept(swept: &Swept, row: &Growth) -> bool {
+    swept.ticket() == TICKET
+        && swept.conn() == row.conn
+        && shows(swept.mask(), &row.mask)
+        && shows(swept.base(), &row.marker)
+        && shows(swept.pixels(), &row.grown)
+}
+
+// Whether a job gives what is wanted, and a copy of its result has it too.
+fn sweeps(alloc: Global, mask: &Grid, base: &Grid, row: &Growth) -> bool {
+    match swept(alloc, mask, base, row.conn) {
+        Some(swept) => match swept.copy(alloc) {
+            Ok(copy) => is_swept(&swept, row) && is_swept(&copy, row),
+            Err(_) => false,
+        },
+        None => false,
+    }
+}
+
+// The rectangle that leaves out the outermost pixels of a grid.
+fn inside(grid: &Grid) -> Rect {
+    Rect {
+        x: 1,
+        y: 1,
+        w: grid.width().saturating_sub(2),
+        h: grid.height().saturating_sub(2),
+    }
+}
+
+// Whether the marker grows into what is wanted within the rectangle, in the smallest room.
+fn grows_in(alloc: Global, mask: &Grid, marker: &Grid, rect: Rect, row: &Growth) -> bool {
+    let Ok(mut room) = Room::new(alloc, 0) else {
+        return false;
+    };
+    match grown_within(alloc, &mut room, mask, marker, rect, row.conn) {
+        Some(grown) => shows(&grown, &row.grown),
+        None => false,
+    }
+}
+
+// Whether the images grow into what is wanted: as a whole by each call, or else within the rectangle.
+fn grow_so(alloc: Global, mask: &Grid, marker: &Grid, row: &Growth, is_whole: bool) -> bool {
+    if is_whole {
+        grows_into(alloc, mask, marker, row)
+            && sweeps(alloc, mask, marker, row)
+            && grows_in(alloc, mask, marker, whole(mask), row)
+    } else {
+        grows_in(alloc, mask, marker, inside(mask), row)
+    }
+}
+
+// Whether the row's images grow into what is wanted, whole or without their outermost pixels.
+fn holds(alloc: Global, row: &Growth, is_whole: bool) -> bool {
+    let (w, h) = row.size;
+    let Some(mask) = grid_of(alloc, w, h, &row.mask) else {
+        return false;
+    };
+    match grid_of(alloc, w, h, &row.marker) {
+        Some(marker) => grow_so(alloc, &mask, &marker, row, is_whole),
+        None => false,
+    }
+}
+
+// Whether the example's mask grows from its marker into what was worked out.
+fn is_right(alloc: Global, example: &Example, is_whole: bool) -> bool {
+    let rows = example.rows;
+    let height = rows.len().saturating_add(1) / (example.width as usize * 3 + 3);
+    let row = Growth {
+        name: example.name,
+        size: (example.width, u32::try_from(height).unwrap_or(0)),
+        conn: if example.is_eight {
+            Conn::Eight
+        } else {
+            Conn::Four
+        },
+        mask: Picture::Part(rows, 0),
+        marker: Picture::Part(rows, 1),
+        grown: Picture::Part(rows, 2),
+    };
+    holds(alloc, &row, is_whole)
+}
+
+// The first example that is not so, or none.
+fn first_wrong_of(alloc: Global, examples: &[Example], is_whole: bool) -> &'static str {
+    for example in examples {
+        if !is_right(alloc, example, is_whole) {
+            return example.name;
         }
     }
-    rows.len()
+    ""
 }
 
 #[test]
 fn grids_grow_into_what_was_worked_out(rt: HostRuntime) {
-    for (name, rows) in GROWTHS {
-        let wrong = first_wrong(rt.alloc(), rows);
-        assert!(rt; wrong == rows.len(), "{name}: row {wrong}");
-    }
+    let wrong = first_wrong_of(rt.alloc(), WHOLE, true);
+    assert!(rt; wrong.is_empty(), "{wrong}");
+    let wrong = first_wrong_of(rt.alloc(), INSIDE, false);
+    assert!(rt; wrong.is_empty(), "inside: {wrong}");
 }
 
-// Whether the mask grows from the marker as it floods, with four neighbours and with eight.
-fn grows_both(alloc: Global, mask: &Grid, marker: &Grid) -> bool {
-    grows(alloc, mask, marker, Conn::Four) && grows(alloc, mask, marker, Conn::Eight)
+// A corridor of 9 in 64 by 64 pixels: each second row is wall but for one pixel, at its two ends in turn.
+const CORRIDOR: Growth = Growth {
+    name: "a corridor is followed",
+    size: (64, 64),
+    conn: Conn::Four,
+    mask: Picture::Rows(CORRIDOR_ROWS),
+    marker: Picture::Spots(0, 0, 9),
+    grown: Picture::Rows(CORRIDOR_ROWS),
+};
+
+const CORRIDOR_ROWS: &[&str] = &[
+    "9999999999999999999999999999999999999999999999999999999999999999",
+    "0000000000000000000000000000000000000000000000000000000000000009",
+    "9999999999999999999999999999999999999999999999999999999999999999",
+    "9000000000000000000000000000000000000000000000000000000000000000",
+];
+
+// Bends with walls between, each of which leaves a pixel to the queue. There are 1,200, and the smallest room has a
+// queue of 1,024 cells.
+const BENDS: Growth = Growth {
+    name: "a full queue is no end",
+    size: (160, 90),
+    conn: Conn::Four,
+    mask: Picture::Rows(&["4440", "4040", "0000"]),
+    marker: Picture::Rows(&["0000", "4000", "0000"]),
+    grown: Picture::Rows(&["4440", "4040", "0000"]),
+};
+
+const LARGE: &[Growth] = &[
+    CORRIDOR,
+    Growth {
+        name: "a corridor is followed, also under eight",
+        conn: Conn::Eight,
+        ..CORRIDOR
+    },
+    BENDS,
+    Growth {
+        name: "a full queue is no end, also under eight",
+        conn: Conn::Eight,
+        ..BENDS
+    },
+];
+
+#[test]
+fn corridors_and_full_queues_grow(rt: HostRuntime) {
+    for row in LARGE {
+        assert!(rt; holds(rt.alloc(), row, true), "{}", row.name);
+    }
 }
 
 // The mask and the marker of a pixel, the marker at most the mask.
@@ -246,266 +212,143 @@ fn draw_pairs(mask: &mut [u32], marker: &mut [u32], code: usize) {
     }
 }
 
-#[test]
-fn all_small_images_grow_as_they_flood(rt: HostRuntime) -> Result<(), Fail> {
-    let mut mask = Grid::new(rt.alloc(), 3, 2, 0)?;
-    let mut marker = Grid::new(rt.alloc(), 3, 2, 0)?;
+// The first mask and marker of 3 by 2 pixels with values up to 2 that do not grow as they flood, if there is one.
+fn first_wrong(
+    alloc: Global,
+    room: &mut Room,
+    mask: &mut Grid,
+    marker: &mut Grid,
+) -> Option<usize> {
     for code in 0..46_656 {
         draw_pairs(mask.cells_mut(), marker.cells_mut(), code);
-        assert!(rt; grows_both(rt.alloc(), &mask, &marker), "image {code}");
+        if !grows(alloc, room, mask, marker, Conn::Four)
+            || !grows(alloc, room, mask, marker, Conn::Eight)
+        {
+            return Some(code);
+        }
     }
+    None
+}
+
+#[test]
+fn all_small_images_grow_as_they_flood(rt: HostRuntime) -> Result<(), Fail> {
+    let mut room = Room::new(rt.alloc(), 64)?;
+    let mut mask = Grid::new(rt.alloc(), 3, 2, 0)?;
+    let mut marker = Grid::new(rt.alloc(), 3, 2, 0)?;
+    let wrong = first_wrong(rt.alloc(), &mut room, &mut mask, &mut marker);
+    assert!(rt; wrong.is_none(), "image {wrong:?}");
     Ok(())
 }
 
-// Whether random grids of this size grow as they flood.
-fn random_grows(alloc: Global, w: u32, h: u32, most: u32, seed: &mut u32) -> bool {
-    let Ok(mask) = random_grid(alloc, w, h, most, seed) else {
-        return false;
-    };
-    match random_below(alloc, &mask, most, seed) {
-        Ok(marker) => grows_both(alloc, &mask, &marker),
-        Err(_) => false,
-    }
-}
+// What rises on the border of noise: few pixels.
+const RISEN: Picture = Picture::Rows(&["4000900", "00000", "50000000003", "000700"]);
 
-// Whether they do with values up to 1, 5 and 20.
-fn random_grows_each(alloc: Global, w: u32, h: u32, seed: &mut u32) -> bool {
-    random_grows(alloc, w, h, 1, seed)
-        && random_grows(alloc, w, h, 5, seed)
-        && random_grows(alloc, w, h, 20, seed)
-}
-
-#[test]
-fn random_images_grow_as_they_flood(rt: HostRuntime) {
-    let mut seed = 7;
-    for (w, h) in [(1, 1), (1, 40), (40, 1), (65, 33), (130, 70)] {
-        assert!(rt;
-            random_grows_each(rt.alloc(), w, h, &mut seed),
-            "{w} by {h}"
-        );
-    }
-}
-
-// Whether the marker grows within the rectangle as what is cut out there floods, with four neighbours and with eight.
-fn grows_within_both(
+// Whether the mask grows from the marker as it floods: as a whole, or within a rectangle, and there again where some
+// pixels of its border have risen.
+fn grows_both(
     alloc: Global,
     room: &mut Room,
     mask: &Grid,
-    before: &Grid,
-    rect: Rect,
+    marker: &Grid,
+    rect: Option<Rect>,
+    conn: Conn,
 ) -> bool {
-    grown_within(alloc, room, mask, before, rect, Conn::Four).is_some()
-        && grown_within(alloc, room, mask, before, rect, Conn::Eight).is_some()
-}
-
-// Whether random grids grow within a rectangle as what is cut out there floods.
-fn random_grows_within(alloc: Global, room: &mut Room, seed: &mut u32) -> bool {
-    let width = 1 + next(seed) % 12;
-    let height = 1 + next(seed) % 12;
-    let most = 1 + next(seed) % 9;
-    let Ok(mask) = random_grid(alloc, width, height, most, seed) else {
-        return false;
-    };
-    match random_below(alloc, &mask, most, seed) {
-        Ok(before) => {
-            let rect = random_rect(width, height, seed);
-            grows_within_both(alloc, room, &mask, &before, rect)
+    match rect {
+        Some(rect) => {
+            grown_within(alloc, room, mask, marker, rect, conn).is_some()
+                && regrows(alloc, room, mask, marker, &RISEN, rect, conn)
         }
-        Err(_) => false,
+        None => grows(alloc, room, mask, marker, conn),
     }
 }
 
+// Whether noise with values up to `most` grows so, from a marker with values up to `least`.
+fn noise_grows(
+    alloc: Global,
+    room: &mut Room,
+    (w, h): (u32, u32),
+    (most, least): (u32, u32),
+    rect: Option<Rect>,
+    seed: &mut u32,
+) -> bool {
+    let Ok(mut mask) = Grid::new(alloc, w, h, most) else {
+        return false;
+    };
+    lower(mask.cells_mut(), most, seed);
+    let Ok(mut marker) = mask.copy(alloc) else {
+        return false;
+    };
+    lower(marker.cells_mut(), least, seed);
+    grows_both(alloc, room, &mask, &marker, rect, Conn::Four)
+        && grows_both(alloc, room, &mask, &marker, rect, Conn::Eight)
+}
+
+// The width and height of noise, and its greatest value.
+const NOISE: &[(u32, u32, u32)] = &[
+    (1, 1, 1),
+    (1, 1, 5),
+    (1, 1, 20),
+    (1, 40, 1),
+    (1, 40, 5),
+    (1, 40, 20),
+    (40, 1, 1),
+    (40, 1, 5),
+    (40, 1, 20),
+    (65, 33, 1),
+    (65, 33, 5),
+    (65, 33, 20),
+    (130, 70, 1),
+    (130, 70, 5),
+    (130, 70, 20),
+    (64, 64, 12),
+    (100, 100, 12),
+    (200, 200, 12),
+];
+
+// The smallest room there is, of which the queue has 1,024 cells, serves all.
 #[test]
-fn rectangles_grow_as_what_is_cut_out_floods(rt: HostRuntime) -> Result<(), Fail> {
-    let mut seed = 2026;
-    let mut room = Room::new(rt.alloc(), 64)?;
-    for round in 0..400 {
-        assert!(rt;
-            random_grows_within(rt.alloc(), &mut room, &mut seed),
-            "round {round}"
-        );
+fn noise_grows_as_it_floods(rt: HostRuntime) -> Result<(), Fail> {
+    let mut seed = 7;
+    let mut room = Room::new(rt.alloc(), 0)?;
+    for (w, h, most) in NOISE {
+        let size = (*w, *h);
+        let grows = noise_grows(rt.alloc(), &mut room, size, (*most, *most), None, &mut seed);
+        assert!(rt; grows, "values up to {most} in {w} by {h}");
     }
     Ok(())
 }
 
-// The side, the value of the mask, the side of a rectangle at (1, 1), and what is shown before and after it has grown
-// under eight neighbours.
-#[derive(Clone, Copy)]
-struct Within(u32, u32, u32, Picture<'static>, Picture<'static>);
-
-const GROWTH_STAYS_INSIDE: [Within; 1] = [Within(
-    4,
-    7,
-    2,
-    Picture::Cells(&[7, 0, 0, 0, 0, 3, 0, 0, 0, 0, 5, 0, 0, 0, 0, 0]),
-    Picture::Cells(&[7, 0, 0, 0, 0, 5, 5, 0, 0, 5, 5, 0, 0, 0, 0, 0]),
-)];
-
-// A pixel beside the 3 by 3 in the middle raises none of these.
-const ONLY_PAIRS_INSIDE_COUNT: [Within; 8] = [
-    Within(5, 5, 3, Picture::Spots(0, 0, 5), Picture::Spots(0, 0, 5)),
-    Within(5, 5, 3, Picture::Spots(2, 2, 5), Picture::Spots(2, 2, 5)),
-    Within(5, 5, 3, Picture::Spots(4, 4, 5), Picture::Spots(4, 4, 5)),
-    Within(
-        5,
-        5,
-        3,
-        Picture::Spots(10, 10, 5),
-        Picture::Spots(10, 10, 5),
-    ),
-    Within(
-        5,
-        5,
-        3,
-        Picture::Spots(14, 14, 5),
-        Picture::Spots(14, 14, 5),
-    ),
-    Within(
-        5,
-        5,
-        3,
-        Picture::Spots(20, 20, 5),
-        Picture::Spots(20, 20, 5),
-    ),
-    Within(
-        5,
-        5,
-        3,
-        Picture::Spots(22, 22, 5),
-        Picture::Spots(22, 22, 5),
-    ),
-    Within(
-        5,
-        5,
-        3,
-        Picture::Spots(24, 24, 5),
-        Picture::Spots(24, 24, 5),
-    ),
-];
-
-// The corner of the rectangle raises three neighbours in it, and these the others.
-const A_CORNER_RAISES_ALL: [Within; 1] = [Within(
-    5,
-    5,
-    3,
-    Picture::Spots(6, 6, 5),
-    Picture::Cells(&[0, 0, 0, 0, 0, 0, 5, 5, 5, 0, 0, 5, 5, 5, 0, 0, 5, 5, 5]),
-)];
-
-const WITHIN: [(&str, &[Within]); 3] = [
-    ("growth stays in the rectangle", &GROWTH_STAYS_INSIDE),
-    (
-        "only pairs inside the rectangle count",
-        &ONLY_PAIRS_INSIDE_COUNT,
-    ),
-    ("a corner raises all", &A_CORNER_RAISES_ALL),
-];
-
-// Whether the grid has grown within the rectangle into the picture.
-fn grows_within_to(alloc: Global, mask: &Grid, before: &Grid, rect: Rect, want: Picture) -> bool {
-    let Ok(mut room) = Room::new(alloc, 16) else {
-        return false;
-    };
-    match grown_within(alloc, &mut room, mask, before, rect, Conn::Eight) {
-        Some(grown) => is_picture(grown.cells(), want),
-        None => false,
-    }
-}
-
-fn holds_within(alloc: Global, row: Within) -> bool {
-    let Within(side, limit, inner, before, want) = row;
-    let rect = Rect {
-        x: 1,
-        y: 1,
-        w: inner,
-        h: inner,
-    };
-    let Ok(mask) = grid_of(alloc, side, side, Picture::Plain(limit)) else {
-        return false;
-    };
-    match grid_of(alloc, side, side, before) {
-        Ok(before) => grows_within_to(alloc, &mask, &before, rect, want),
-        Err(_) => false,
-    }
-}
-
-// The first row that does not hold, or their number.
-fn first_wrong_within(alloc: Global, rows: &[Within]) -> usize {
-    for i in 0..rows.len() {
-        if !holds_within(alloc, rows[i]) {
-            return i;
-        }
-    }
-    rows.len()
+// Whether noise in a random rectangle does.
+fn noise_in_rectangle_grows(alloc: Global, room: &mut Room, seed: &mut u32) -> bool {
+    let (width, height) = (1 + next(seed) % 12, 1 + next(seed) % 12);
+    let most = 1 + next(seed) % 9;
+    let (w, h) = (1 + next(seed) % width, 1 + next(seed) % height);
+    let x = next(seed) % (width - w + 1);
+    let y = next(seed) % (height - h + 1);
+    let rect = Some(Rect { x, y, w, h });
+    noise_grows(alloc, room, (width, height), (most, most), rect, seed)
+        && noise_grows(alloc, room, (width, height), (most, most / 2), rect, seed)
 }
 
 #[test]
-fn rectangles_grow_into_what_was_worked_out(rt: HostRuntime) {
-    for (name, rows) in WITHIN {
-        let wrong = first_wrong_within(rt.alloc(), rows);
-        assert!(rt; wrong == rows.len(), "{name}: row {wrong}");
+fn noise_in_rectangles_grows_as_what_is_cut_out_floods(rt: HostRuntime) -> Result<(), Fail> {
+    let mut seed = 2026;
+    let mut room = Room::new(rt.alloc(), 64)?;
+    for round in 0..400 {
+        let grows = noise_in_rectangle_grows(rt.alloc(), &mut room, &mut seed);
+        assert!(rt; grows, "round {round}");
     }
-}
-
-// Whether the marker grows under the mask, in the smallest room there is, as it floods.
-fn grows_in_small_room(alloc: Global, mask: &Grid, marker: &Grid) -> bool {
-    match Room::new(alloc, 0) {
-        Ok(room) => {
-            let mut room = room;
-            let rect = whole(mask.width(), mask.height());
-            grows_within_both(alloc, &mut room, mask, marker, rect)
-        }
-        Err(_) => false,
-    }
-}
-
-// Whether the pictures do, and grow without a room as they flood.
-fn pictures_grow(alloc: Global, w: u32, h: u32, mask: Picture, marker: Picture) -> bool {
-    let Ok(mask) = grid_of(alloc, w, h, mask) else {
-        return false;
-    };
-    match grid_of(alloc, w, h, marker) {
-        Ok(marker) => {
-            grows_in_small_room(alloc, &mask, &marker) && grows(alloc, &mask, &marker, Conn::Four)
-        }
-        Err(_) => false,
-    }
+    Ok(())
 }
 
 #[test]
-fn a_corridor_is_followed(rt: HostRuntime) {
-    assert!(rt;
-        pictures_grow(
-            rt.alloc(),
-            64,
-            64,
-            Picture::Corridor,
-            Picture::Spots(0, 0, 9)
-        )
-    );
-}
-
-// There are 1,200 bends, and the smallest room has a queue of 1,024 cells.
-#[test]
-fn a_full_queue_is_no_end(rt: HostRuntime) {
-    assert!(rt; pictures_grow(rt.alloc(), 160, 90, Picture::Bends, Picture::SeedsOfBends));
-}
-
-// Whether noise of this width and height grows in the smallest room.
-fn noise_grows(alloc: Global, side: u32, seed: &mut u32) -> bool {
-    let Ok(mask) = random_grid(alloc, side, side, 12, seed) else {
-        return false;
-    };
-    match random_below(alloc, &mask, 12, seed) {
-        Ok(marker) => grows_in_small_room(alloc, &mask, &marker),
-        Err(_) => false,
+fn noise_in_single_rows_and_columns_grows(rt: HostRuntime) -> Result<(), Fail> {
+    let mut seed = 1;
+    let mut room = Room::new(rt.alloc(), 0)?;
+    for (w, h) in [(1, 1), (1, 20), (20, 1), (2, 20), (20, 2), (20, 20)] {
+        let rect = Some(Rect { x: 1, y: 2, w, h });
+        let grows = noise_grows(rt.alloc(), &mut room, (22, 23), (9, 2), rect, &mut seed);
+        assert!(rt; grows, "{w} by {h}");
     }
-}
-
-#[test]
-fn a_small_room_serves_noise(rt: HostRuntime) {
-    let mut seed = 1993;
-    for side in [64, 100, 200] {
-        assert!(rt; noise_grows(rt.alloc(), side, &mut seed), "{side}");
-    }
+    Ok(())
 }

@@ -1,29 +1,16 @@
 //! Hints, inboxes, and the open edges of tiles.
 
-ghost use Rattle.std.specs.Prelude.{◌≡◌, ◌<◌, IfOk};
+ghost use Rattle.std.specs.Prelude.{IsTrue};
 ghost use Rattle.grid_core.specs.Raster.{IsInside};
 ghost use Rattle.border_queues.specs.OpenEdges.{IsOnTiling};
 
+use super::grids::{Picture, grid_of, lower};
 use border_queues::{Hint, Inbox, QueueError, open_edges, open_edges_in};
-use grid_core::{Conn, Grid, GridError, Pixel, Rect, Tiling, neighbours};
+use grid_core::{Conn, Grid, Pixel, Rect, Tiling, is_tile_side, neighbours};
 use std::alloc::Global;
 use std::test::Fail;
 
-fn at(x: u32, y: u32) -> Pixel {
-    Pixel { x, y }
-}
-
-fn hint(value: u32) -> Hint {
-    Hint {
-        from: 3,
-        from_generation: 7,
-        to_pixel: at(value, 0),
-        value,
-    }
-}
-
 // What is done with an inbox.
-#[derive(Clone, Copy)]
 enum Act {
     Push(u32),
     // Takes out the hint at the place, which has this value, or none where none is there.
@@ -31,32 +18,36 @@ enum Act {
     Clear,
 }
 
-// Each act, and the hints that then wait.
-const ACTS: [(Act, &[u32]); 8] = [
-    (Act::Push(1), &[1]),
-    (Act::Push(2), &[1, 2]),
-    (Act::Push(3), &[1, 2, 3]),
-    (Act::Take(1, Some(2)), &[1, 3]),
-    (Act::Take(2, None), &[1, 3]),
-    (Act::Take(0, Some(1)), &[3]),
-    (Act::Clear, &[]),
-    (Act::Take(0, None), &[]),
+// Each act, and the values of the hints that then wait.
+const ACTS: &[(&str, Act, &[u32])] = &[
+    ("the first comes", Act::Push(1), &[1]),
+    ("the second comes", Act::Push(2), &[1, 2]),
+    ("the third comes", Act::Push(3), &[1, 2, 3]),
+    ("the one in the middle goes", Act::Take(1, Some(2)), &[1, 3]),
+    ("there is none at the end", Act::Take(2, None), &[1, 3]),
+    ("the first goes", Act::Take(0, Some(1)), &[3]),
+    ("all go", Act::Clear, &[]),
+    ("there is none", Act::Take(0, None), &[]),
 ];
 
-// Whether the hint at the place is taken out, and is this one.
-fn takes(inbox: &mut Inbox, place: usize, want: Hint) -> bool {
-    match inbox.take_at(place) {
-        Some(taken) => taken == want,
-        None => false,
+fn hint(value: u32) -> Hint {
+    Hint {
+        from: 3,
+        from_generation: 7,
+        to_pixel: Pixel { x: value, y: 0 },
+        value,
     }
 }
 
 // Whether the act does what it says.
-fn does(inbox: &mut Inbox, act: Act) -> bool {
+fn does(inbox: &mut Inbox, act: &Act) -> bool {
     match act {
-        Act::Push(value) => inbox.push(hint(value)).is_ok(),
-        Act::Take(place, Some(value)) => takes(inbox, place, hint(value)),
-        Act::Take(place, None) => inbox.take_at(place).is_none(),
+        Act::Push(value) => inbox.push(hint(*value)).is_ok(),
+        Act::Take(place, want) => match (inbox.take_at(*place), want) {
+            (Some(taken), Some(value)) => taken == hint(*value),
+            (None, None) => true,
+            _ => false,
+        },
         Act::Clear => {
             inbox.clear();
             true
@@ -65,77 +56,143 @@ fn does(inbox: &mut Inbox, act: Act) -> bool {
 }
 
 // Whether the inbox has hints of these values, in this order, and places for three hints.
-fn holds(inbox: &Inbox, values: &[u32]) -> bool {
+fn has(inbox: &Inbox, values: &[u32]) -> bool {
     for (told, value) in inbox.as_slice().iter().zip(values) {
         if *told != hint(*value) {
             return false;
         }
     }
-    inbox.len() == values.len() && inbox.is_empty() == values.is_empty()
+    let count = inbox.len();
+    let has_places = count >= 3 || inbox.room() >= 3 - count;
+    has_places && count == values.len() && inbox.is_empty() == values.is_empty()
 }
 
-fn has_three_places(inbox: &Inbox) -> bool {
-    inbox.len() >= 3 || inbox.room() >= 3 - inbox.len()
+// The first act that does something else, or none.
+fn first_wrong(inbox: &mut Inbox) -> &'static str {
+    for (name, act, waiting) in ACTS {
+        if !does(inbox, act) || !has(inbox, waiting) {
+            return name;
+        }
+    }
+    ""
 }
 
 #[test]
-fn an_inbox_hands_out_in_any_order(rt: HostRuntime) -> Result<(), Fail> {
+fn an_inbox_hands_out_in_any_order(rt: HostRuntime) {
     let mut inbox = Inbox::new(rt.alloc());
-    assert!(rt; holds(&inbox, &[]));
-    inbox.reserve(3)?;
-    assert!(rt; has_three_places(&inbox));
-    for (act, waiting) in ACTS {
-        assert!(rt;
-            does(&mut inbox, act) && holds(&inbox, waiting),
-            "{waiting:?}"
-        );
-        assert!(rt; has_three_places(&inbox), "{waiting:?}");
-    }
-    Ok(())
+    let is_empty = inbox.is_empty();
+    let is_ready = inbox.reserve(3).is_ok() && has(&inbox, &[]);
+    let wrong = first_wrong(&mut inbox);
+    assert!(rt; is_empty && is_ready);
+    assert!(rt; wrong.is_empty(), "{wrong}");
 }
 
 #[test]
 fn the_message_begins_with_the_code(rt: HostRuntime) -> Result<(), Fail> {
     let message = format!(in rt.alloc(); "{}", QueueError::Memory)?;
-    assert!(rt; message.starts_with("Q1"));
-    assert!(rt; QueueError::Memory.code() == "Q1");
+    assert!(rt; message.starts_with("Q1") && QueueError::Memory.code() == "Q1");
     Ok(())
 }
 
-// Gives a pixel of the image a value.
-fn draw(image: &mut Grid, x: u32, y: u32, value: u32)
-    ensures width { image.new.width ≡ image.old.width }
-    ensures height { image.new.height ≡ image.old.height }
-{
-    if x < image.width() && y < image.height() {
-        image.set(Pixel { x, y }, value);
-    }
+// An image and its mask, and what a tile of the generation 5 tells: as it is in the image, or given apart, with its
+// rectangle. A pixel that is told has a column, a row and a value.
+struct Telling {
+    name: &'static str,
+    size: (u32, u32),
+    side: u32,
+    image: Picture<'static>,
+    mask: Picture<'static>,
+    inside: Option<(Rect, Picture<'static>)>,
+    tile: usize,
+    conn: Conn,
+    told: &'static [(u32, u32, u32)],
 }
 
-// An image of the tiling's width and height with one value, and with another at two pixels.
-fn drawn(alloc: Global, tiling: &Tiling, value: u32, spots: [Spot; 2]) -> Result<Grid, GridError>
-    ensures { IfOk result (IsOnTiling tiling.now) }
-{
-    let mut made = Grid::new(alloc, tiling.width(), tiling.height(), value)?;
-    let [(x, y, value), (other_x, other_y, other)] = spots;
-    draw(&mut made, x, y, value);
-    draw(&mut made, other_x, other_y, other);
-    Ok(made)
-}
+// Two tiles of one row, of 4 under a mask of 4.
+const CLOSED_ROW: Telling = Telling {
+    name: "a closed border tells nothing",
+    size: (128, 1),
+    side: 64,
+    image: Picture::Rows(&["4"]),
+    mask: Picture::Rows(&["4"]),
+    inside: None,
+    tile: 0,
+    conn: Conn::Four,
+    told: &[],
+};
 
-// The column, the row and the value of a pixel.
-type Spot = (u32, u32, u32);
+// A 6 of the left one of two tiles stands beside limits of 5 and 0.
+const BOUNDED: Telling = Telling {
+    name: "the mask bounds a hint",
+    size: (16, 8),
+    side: 8,
+    image: Picture::Spots(16 * 3 + 7, 16 * 3 + 7, 6),
+    mask: Picture::Rows(&[
+        "9",
+        "9",
+        "9",
+        "9999999959999999",
+        "9999999909999999",
+        "9",
+        "9",
+        "9",
+    ]),
+    inside: None,
+    tile: 0,
+    conn: Conn::Eight,
+    told: &[(8, 2, 6), (8, 3, 5)],
+};
 
-// Outside each image.
-const NONE: Spot = (9999, 9999, 0);
+const TELLINGS: &[Telling] = &[
+    CLOSED_ROW,
+    Telling {
+        name: "a closed border tells nothing under eight",
+        conn: Conn::Eight,
+        ..CLOSED_ROW
+    },
+    Telling {
+        name: "a lower pixel is told",
+        image: Picture::Rows(&[
+            "44444444444444444444444444444444444444444444444444444444444444442",
+        ]),
+        told: &[(64, 0, 4)],
+        ..CLOSED_ROW
+    },
+    BOUNDED,
+    Telling {
+        name: "a tile of zeros tells nothing",
+        tile: 1,
+        told: &[],
+        ..BOUNDED
+    },
+    Telling {
+        name: "the tile may be given apart",
+        size: (20, 9),
+        side: 8,
+        image: Picture::Rows(&["1"]),
+        mask: Picture::Rows(&["9"]),
+        inside: Some((
+            Rect {
+                x: 16,
+                y: 8,
+                w: 4,
+                h: 1,
+            },
+            Picture::Rows(&["4111"]),
+        )),
+        tile: 5,
+        conn: Conn::Eight,
+        told: &[(15, 7, 4), (16, 7, 4), (17, 7, 4), (15, 8, 4)],
+    },
+];
 
-// Whether the hints are those that the tile of this generation tells these pixels, in this order.
-fn are_told(hints: &[Hint], tile: usize, generation: u64, want: &[Spot]) -> bool {
-    for (hint, (x, y, value)) in hints.iter().zip(want) {
-        let to_pixel = at(*x, *y);
+// Whether the hints are those that the tile of the generation 5 tells these pixels, in this order.
+fn are_told(hints: &[Hint], row: &Telling) -> bool {
+    for (hint, (x, y, value)) in hints.iter().zip(row.told) {
+        let to_pixel = Pixel { x: *x, y: *y };
         let told = Hint {
-            from: tile,
-            from_generation: generation,
+            from: row.tile,
+            from_generation: 5,
             to_pixel,
             value: *value,
         };
@@ -143,7 +200,14 @@ fn are_told(hints: &[Hint], tile: usize, generation: u64, want: &[Spot]) -> bool
             return false;
         }
     }
-    hints.len() == want.len()
+    hints.len() == row.told.len()
+}
+
+// Whether the image has the tiling's width and height.
+fn is_on(image: &Grid, tiling: &Tiling) -> bool
+    ensures { IsTrue result → IsOnTiling tiling.now image.now }
+{
+    image.width() == tiling.width() && image.height() == tiling.height()
 }
 
 // Puts the hints of a tile's open edges into the inbox, and says whether there is such a tile and memory.
@@ -155,168 +219,83 @@ fn tell(
     generation: u64,
     conn: Conn,
     out: &mut Inbox,
-) -> bool
-    requires image { IsOnTiling tiling.now image.now }
-    requires mask { IsOnTiling tiling.now mask.now }
-{
-    tile < tiling.count() && open_edges_in(image, mask, tiling, tile, generation, conn, out).is_ok()
+) -> bool {
+    tile < tiling.count()
+        && is_on(image, tiling)
+        && is_on(mask, tiling)
+        && open_edges_in(image, mask, tiling, tile, generation, conn, out).is_ok()
 }
 
-// An image and its mask, each of one value but for two pixels, and what a tile of it tells.
-#[derive(Clone, Copy)]
-struct Telling {
-    sides: (u32, u32),
-    tile_is_wide: bool,
-    image: (u32, [Spot; 2]),
-    mask: (u32, [Spot; 2]),
-    tile: usize,
-    conn: Conn,
-    want: &'static [Spot],
-}
-
-// Two tiles of one row, of 4 under a mask of 4.
-const CLOSED_ROW: Telling = Telling {
-    sides: (128, 1),
-    tile_is_wide: true,
-    image: (4, [NONE, NONE]),
-    mask: (4, [NONE, NONE]),
-    tile: 0,
-    conn: Conn::Four,
-    want: &[],
-};
-
-const CLOSED_ROW_UNDER_EIGHT: Telling = Telling {
-    conn: Conn::Eight,
-    ..CLOSED_ROW
-};
-
-const LOWER_AT_THE_RIGHT: Telling = Telling {
-    image: (4, [(64, 0, 2), NONE]),
-    want: &[(64, 0, 4)],
-    ..CLOSED_ROW
-};
-
-// A 6 of the left one of two tiles stands beside limits of 5 and 0.
-const BOUNDED: Telling = Telling {
-    sides: (16, 8),
-    tile_is_wide: false,
-    image: (0, [(7, 3, 6), NONE]),
-    mask: (9, [(8, 3, 5), (8, 4, 0)]),
-    tile: 0,
-    conn: Conn::Eight,
-    want: &[(8, 2, 6), (8, 3, 5)],
-};
-
-// The tile beside it is 0.
-const ZERO_BESIDE: Telling = Telling {
-    tile: 1,
-    want: &[],
-    ..BOUNDED
-};
-
-// Whether the tile, of the generation 5, tells what is wanted.
-fn tile_tells(alloc: Global, image: &Grid, mask: &Grid, tiling: &Tiling, row: Telling) -> bool
-    requires image { IsOnTiling tiling.now image.now }
-    requires mask { IsOnTiling tiling.now mask.now }
-{
-    let mut out = Inbox::new(alloc);
-    let is_told = tell(image, mask, tiling, row.tile, 5, row.conn, &mut out);
-    is_told && are_told(out.as_slice(), row.tile, 5, row.want)
-}
-
-fn holds_telling(alloc: Global, row: Telling) -> Result<bool, GridError> {
-    let (w, h) = row.sides;
-    let tiling = Tiling::new(w, h, if row.tile_is_wide { 64 } else { 8 })?;
-    let (limit, limits) = row.mask;
-    let mask = drawn(alloc, &tiling, limit, limits)?;
-    let (value, values) = row.image;
-    let image = drawn(alloc, &tiling, value, values)?;
-    Ok(tile_tells(alloc, &image, &mask, &tiling, row))
-}
-
-#[test]
-fn a_tile_tells_where_its_border_is_open(rt: HostRuntime) {
-    for (name, row) in [
-        ("a closed border tells nothing", CLOSED_ROW),
-        ("nor under eight", CLOSED_ROW_UNDER_EIGHT),
-        ("a lower pixel is told", LOWER_AT_THE_RIGHT),
-        ("the mask bounds a hint", BOUNDED),
-        ("a tile of zeros tells nothing", ZERO_BESIDE),
-    ] {
-        assert!(rt;
-            holds_telling(rt.alloc(), row).is_ok_and(|holds| holds),
-            "{name}"
-        );
-    }
-}
-
-// Puts the hints of the open edges of a tile of the generation 1, which is given apart, into the inbox.
+// Does so for the row's tile, which is given apart.
 fn tell_apart(
     inside: &Grid,
     image: &Grid,
     mask: &Grid,
     tiling: &Tiling,
-    tile: usize,
+    row: &Telling,
     out: &mut Inbox,
-) -> bool
-    requires image { IsOnTiling tiling.now image.now }
-    requires mask { IsOnTiling tiling.now mask.now }
-{
-    if tile >= tiling.count() {
+) -> bool {
+    if row.tile >= tiling.count() || !is_on(image, tiling) || !is_on(mask, tiling) {
         return false;
     }
-    let rect = tiling.rect(tile);
+    let rect = tiling.rect(row.tile);
     inside.width() == rect.w
         && inside.height() == rect.h
-        && open_edges(inside, image, mask, tiling, tile, 1, Conn::Eight, out).is_ok()
+        && open_edges(inside, image, mask, tiling, row.tile, 5, row.conn, out).is_ok()
 }
 
-// Whether a tile that is given apart tells this.
-fn inside_tells(
+// Whether the row's tile tells what is wanted.
+fn tells(
     alloc: Global,
-    inside: &Grid,
+    image: &Grid,
+    mask: &Grid,
     tiling: &Tiling,
-    tile: usize,
-    want: &[Spot],
-) -> Result<bool, GridError> {
-    let mask = drawn(alloc, tiling, 9, [NONE, NONE])?;
-    let image = drawn(alloc, tiling, 1, [NONE, NONE])?;
+    row: &Telling,
+    out: &mut Inbox,
+) -> bool {
+    let is_told = match &row.inside {
+        Some((rect, picture)) => match grid_of(alloc, rect.w, rect.h, picture) {
+            Some(inside) => tell_apart(&inside, image, mask, tiling, row, out),
+            None => false,
+        },
+        None => tell(image, mask, tiling, row.tile, 5, row.conn, out),
+    };
+    is_told && are_told(out.as_slice(), row)
+}
+
+fn holds(alloc: Global, row: &Telling) -> bool {
+    let (w, h) = row.size;
+    let Some(tiling) = tiling_of(w, h, row.side) else {
+        return false;
+    };
     let mut out = Inbox::new(alloc);
-    let is_told = tell_apart(inside, &image, &mask, tiling, tile, &mut out);
-    Ok(is_told && are_told(out.as_slice(), tile, 1, want))
+    let Some(mask) = grid_of(alloc, w, h, &row.mask) else {
+        return false;
+    };
+    match grid_of(alloc, w, h, &row.image) {
+        Some(image) => tells(alloc, &image, &mask, &tiling, row, &mut out),
+        None => false,
+    }
 }
 
-// Whether the tile of ones but for a 4 at its first pixel, in an image of ones, tells this.
-fn apart_tells(
-    alloc: Global,
-    tiling: &Tiling,
-    rect: Rect,
-    want: &[Spot],
-) -> Result<bool, GridError> {
-    let mut inside = Grid::new(alloc, rect.w, rect.h, 1)?;
-    draw(&mut inside, 0, 0, 4);
-    inside_tells(alloc, &inside, tiling, 5, want)
+// The tiling of an image of this width and height into tiles of this side, where there is one.
+fn tiling_of(w: u32, h: u32, side: u32) -> Option<Tiling> {
+    if is_tile_side(side) {
+        Tiling::new(w, h, side).ok()
+    } else {
+        None
+    }
 }
 
 #[test]
-fn the_tile_may_be_given_apart(rt: HostRuntime) -> Result<(), Fail> {
-    let tiling = Tiling::new(20, 9, 8)?;
-    let rect = tiling.rect(5);
-    assert!(rt;
-        rect == Rect {
-            x: 16,
-            y: 8,
-            w: 4,
-            h: 1
-        }
-    );
-    let want = [(15, 7, 4), (16, 7, 4), (17, 7, 4), (15, 8, 4)];
-    assert!(rt; apart_tells(rt.alloc(), &tiling, rect, &want)?);
-    Ok(())
+fn a_tile_tells_where_its_border_is_open(rt: HostRuntime) {
+    for row in TELLINGS {
+        assert!(rt; holds(rt.alloc(), row), "{}", row.name);
+    }
 }
 
-// Whether the first hints, which are taken out, are those of the open edges from a pixel, as a look at each neighbour
-// finds them.
+// Whether the first hints, which are taken out, are those of the open edges from a pixel of a tile of the generation 9,
+// as a look at each neighbour finds them.
 fn takes_told_from(
     p: Pixel,
     image: &Grid,
@@ -339,7 +318,7 @@ fn takes_told_from(
                 to_pixel: *q,
                 value,
             };
-            if image.get(*q) < value && !takes(out, 0, told) {
+            if image.get(*q) < value && out.take_at(0) != Some(told) {
                 return false;
             }
         }
@@ -347,78 +326,39 @@ fn takes_told_from(
     true
 }
 
-// Whether they are those from the tile's pixels of a row.
-fn takes_told_by_row(
-    y: u32,
+// Whether the hints of a tile's open edges are those that are found by a look at each pixel of the tile.
+fn tells_as_each_pixel(
     image: &Grid,
     mask: &Grid,
     tiling: &Tiling,
     tile: usize,
     conn: Conn,
     out: &mut Inbox,
-) -> bool
-    requires row { y < tiling.now.height }
-    requires image { IsOnTiling tiling.now image.now }
-    requires mask { IsOnTiling tiling.now mask.now }
-{
-    for x in 0..tiling.width() {
-        let p = Pixel { x, y };
-        if tiling.tile_of(p) == tile && !takes_told_from(p, image, mask, tiling, conn, out) {
-            return false;
-        }
-    }
-    true
-}
-
-// Whether the hints of a tile's open edges are those that are found by a look at each pixel of the tile.
-fn tells_as_each_pixel(
-    alloc: Global,
-    image: &Grid,
-    mask: &Grid,
-    tiling: &Tiling,
-    tile: usize,
-    conn: Conn,
-) -> bool
-    requires image { IsOnTiling tiling.now image.now }
-    requires mask { IsOnTiling tiling.now mask.now }
-{
-    let mut out = Inbox::new(alloc);
-    if !tell(image, mask, tiling, tile, 9, conn, &mut out) {
+) -> bool {
+    if !is_on(image, tiling) || !is_on(mask, tiling) {
         return false;
     }
-    for y in 0..tiling.height() {
-        if !takes_told_by_row(y, image, mask, tiling, tile, conn, &mut out) {
-            return false;
+    let (width, height) = (tiling.width(), tiling.height());
+    let is_told = tell(image, mask, tiling, tile, 9, conn, out);
+    for i in 0..width.saturating_mul(height) {
+        let p = Pixel {
+            x: i % width.max(1),
+            y: i / width.max(1),
+        };
+        if p.x < width && p.y < height && tiling.tile_of(p) == tile {
+            if !takes_told_from(p, image, mask, tiling, conn, out) {
+                return false;
+            }
         }
     }
-    out.is_empty()
-}
-
-// Gives each cell a value from 0 to 3, which the seed determines.
-fn scatter(cells: &mut [u32], seed: &mut u32) {
-    for i in 0..cells.len() {
-        *seed = seed.wrapping_mul(1_664_525).wrapping_add(1_013_904_223);
-        cells[i] = *seed >> 30;
-    }
-}
-
-// An image of the tiling's width and height with scattered values.
-fn scattered(alloc: Global, tiling: &Tiling, seed: &mut u32) -> Result<Grid, GridError>
-    ensures { IfOk result (IsOnTiling tiling.now) }
-{
-    let mut made = Grid::new(alloc, tiling.width(), tiling.height(), 0)?;
-    scatter(made.cells_mut(), seed);
-    Ok(made)
+    is_told && out.is_empty()
 }
 
 // Whether each tile tells as each of its pixels does, with four neighbours and with eight.
-fn all_tell(alloc: Global, image: &Grid, mask: &Grid, tiling: &Tiling) -> bool
-    requires image { IsOnTiling tiling.now image.now }
-    requires mask { IsOnTiling tiling.now mask.now }
-{
+fn all_tell(image: &Grid, mask: &Grid, tiling: &Tiling, out: &mut Inbox) -> bool {
     for tile in 0..tiling.count() {
-        if !tells_as_each_pixel(alloc, image, mask, tiling, tile, Conn::Four)
-            || !tells_as_each_pixel(alloc, image, mask, tiling, tile, Conn::Eight)
+        if !tells_as_each_pixel(image, mask, tiling, tile, Conn::Four, out)
+            || !tells_as_each_pixel(image, mask, tiling, tile, Conn::Eight, out)
         {
             return false;
         }
@@ -426,19 +366,27 @@ fn all_tell(alloc: Global, image: &Grid, mask: &Grid, tiling: &Tiling) -> bool
     true
 }
 
-// Whether each tile of a scattered image tells as each of its pixels does.
-fn tiles_tell(alloc: Global, w: u32, h: u32, seed: &mut u32) -> Result<bool, GridError> {
-    let tiling = Tiling::new(w, h, 8)?;
-    let mask = scattered(alloc, &tiling, seed)?;
-    let image = scattered(alloc, &tiling, seed)?;
-    Ok(all_tell(alloc, &image, &mask, &tiling))
+// Whether each tile of side 8 of an image with values up to 3, under a mask with such values, does.
+fn tiles_tell(alloc: Global, w: u32, h: u32, seed: &mut u32) -> bool {
+    let Some(tiling) = tiling_of(w, h, 8) else {
+        return false;
+    };
+    let mut out = Inbox::new(alloc);
+    let Ok(mut mask) = Grid::new(alloc, w, h, 3) else {
+        return false;
+    };
+    lower(mask.cells_mut(), 3, seed);
+    let Ok(mut image) = Grid::new(alloc, w, h, 3) else {
+        return false;
+    };
+    lower(image.cells_mut(), 3, seed);
+    all_tell(&image, &mask, &tiling, &mut out)
 }
 
 #[test]
-fn hints_are_those_of_each_pixel_and_neighbour(rt: HostRuntime) -> Result<(), Fail> {
+fn hints_are_those_of_each_pixel_and_neighbour(rt: HostRuntime) {
     let mut seed = 2026;
     for (w, h) in [(20, 9), (9, 17), (8, 8), (1, 30), (17, 1)] {
-        assert!(rt; tiles_tell(rt.alloc(), w, h, &mut seed)?, "{w} by {h}");
+        assert!(rt; tiles_tell(rt.alloc(), w, h, &mut seed), "{w} by {h}");
     }
-    Ok(())
 }

@@ -2,12 +2,12 @@
 //! Tests of sweeps, growth, border queues and tile generations, by the public calls of their crates.
 //!
 //! They stand in a crate of their own because tests are proved safe as well: a crate with tests is proved twice.
-//! `grids` has the helpers.
+//! `grids` has the floods that growth is compared with, and `worked_out` the examples.
 
 #[cfg(test)]
 mod borders;
 #[cfg(test)]
-mod closing;
+mod generations;
 #[cfg(test)]
 mod grids;
 #[cfg(test)]
@@ -15,4 +15,6 @@ mod growing;
 #[cfg(test)]
 mod hints;
 #[cfg(test)]
-mod jobs;
+mod pairs;
+#[cfg(test)]
+mod worked_out;

@@ -3,6 +3,7 @@
 
 ghost use Rattle.std.specs.Prelude.{⊤};
 
+use crate::script::{Line, Sight};
 use core_rules::CoreError;
 use grid_core::{Conn, Grid};
 use marker_tiles::marker;
@@ -40,7 +41,6 @@ pub enum Act {
 }
 
 /// Why an act is refused.
-#[derive(Clone, Copy)]
 pub enum Refusal {
     /// One of its numbers names nothing.
     NoSuch,
@@ -51,24 +51,22 @@ pub enum Refusal {
 }
 
 // The world's word for a refusal.
-fn error_of(refusal: Refusal) -> WorldError {
+fn error_of(refusal: &Refusal) -> WorldError {
     match refusal {
         Refusal::NoSuch => WorldError::NoSuch,
-        Refusal::OutOfImage(tag) => WorldError::Core(CoreError::OutOfImage(Tag(tag))),
-        Refusal::Conflict(tag) => WorldError::Core(CoreError::Conflict(Tag(tag))),
+        Refusal::OutOfImage(tag) => WorldError::Core(CoreError::OutOfImage(Tag(*tag))),
+        Refusal::Conflict(tag) => WorldError::Core(CoreError::Conflict(Tag(*tag))),
     }
 }
 
-// The world's words for refusals.
-fn errors_of(
-    alloc: Global,
-    refusals: &[(usize, Refusal)],
-) -> Result<Vec<(usize, WorldError)>, Fail> {
-    let mut errors = Vec::new(alloc);
-    for (number, refusal) in refusals {
-        errors.push((*number, error_of(*refusal)))?;
+// Whether exactly these events are refused, for these reasons.
+fn are_refused(refused: &[(usize, WorldError)], want: &[(usize, Refusal)]) -> bool {
+    for ((number, error), (place, why)) in refused.iter().zip(want) {
+        if number != place || *error != error_of(why) {
+            return false;
+        }
     }
-    Ok(errors)
+    refused.len() == want.len()
 }
 
 // A stroke of one pixel of the top row.
@@ -102,13 +100,12 @@ fn event_of(alloc: Global, act: Act) -> Result<Event, Fail> {
     }
 }
 
-// The events of these acts.
-fn events_of(alloc: Global, acts: &[Act]) -> Result<Vec<Event>, Fail> {
-    let mut events = Vec::new(alloc);
+// Lists the events of these acts.
+fn list_events(alloc: Global, acts: &[Act], events: &mut Vec<Event>) -> Result<(), Fail> {
     for act in acts {
         events.push(event_of(alloc, *act)?)?;
     }
-    Ok(events)
+    Ok(())
 }
 
 /// A world.
@@ -215,37 +212,63 @@ impl Scene {
     }
 
     // Runs events, and says whether these are refused, for these reasons, or nothing where memory ran out.
-    fn does_refuse(&mut self, events: &[Event], refusals: &[(usize, WorldError)]) -> Option<bool> {
+    fn does_refuse(&mut self, events: &[Event], refusals: &[(usize, Refusal)]) -> Option<bool> {
         match self.world.run(self.alloc, events) {
-            Ok(list) => Some(list.as_slice() == refusals),
+            Ok(list) => Some(are_refused(&list, refusals)),
             Err(_) => None,
         }
     }
 
     /// Whether it is exactly these events that a run of these acts refuses, for these reasons.
     pub fn does_run(&mut self, acts: &[Act], refusals: &[(usize, Refusal)]) -> Result<bool, Fail> {
-        let events = events_of(self.alloc, acts)?;
-        let errors = errors_of(self.alloc, refusals)?;
-        Ok(self.does_refuse(&events, &errors) == Some(true))
+        let mut events = Vec::new(self.alloc);
+        list_events(self.alloc, acts, &mut events)?;
+        Ok(self.does_refuse(&events, refusals) == Some(true))
     }
 
     /// Runs the events of these acts, and where memory runs out, the rest of them from there on, once.
     pub fn run_through(&mut self, acts: &[Act]) -> Result<bool, Fail> {
-        let events = events_of(self.alloc, acts)?;
-        if self.does_refuse(&events, &[]).is_some() {
-            return Ok(true);
+        let mut events = Vec::new(self.alloc);
+        list_events(self.alloc, acts, &mut events)?;
+        Ok(self.does_run_through(&events))
+    }
+
+    fn does_run_through(&mut self, events: &[Event]) -> bool {
+        if self.does_refuse(events, &[]).is_some() {
+            return true;
         }
         match events.get(self.world.steps()..) {
-            Some(rest) => Ok(!rest.is_empty() && self.does_refuse(rest, &[]).is_some()),
-            None => Ok(false),
+            Some(rest) => !rest.is_empty() && self.does_refuse(rest, &[]).is_some(),
+            None => false,
         }
     }
 }
 
 impl Scene {
-    /// How many events the last run brought to an end.
-    pub fn steps(&self) -> usize {
-        self.world.steps()
+    /// Whether the world shows what the line says.
+    pub fn shows(&self, line: &Line) -> bool {
+        let world = &self.world;
+        match line {
+            Line::Steps(steps) => world.steps() == *steps,
+            Line::Packets(packets) => world.packets() == *packets,
+            Line::Length(packet, length) => {
+                *packet < world.packets() && world.packet(*packet).len() == *length
+            }
+            Line::Results(results) => world.results().len() == *results,
+            Line::ResultOf(place, generation) => match world.results().get(*place) {
+                Some(swept) => swept.ticket().generation == *generation,
+                None => false,
+            },
+            Line::At(r, Sight::Took(deltas)) => {
+                *r < world.replicas() && world.took(*r).len() == *deltas
+            }
+            Line::At(r, sight) => match self.core(*r) {
+                Some(core) => core_shows(core, sight),
+                None => false,
+            },
+            Line::SameStrokes(r, s) => self.have_same_strokes(*r, *s),
+            _ => false,
+        }
     }
 
     /// How many packets were sent.
@@ -258,31 +281,13 @@ impl Scene {
         self.world.results().len()
     }
 
-    /// Whether the job of a result was of this generation.
-    pub fn has_result_of(&self, place: usize, generation: u64) -> bool {
-        match self.world.results().get(place) {
-            Some(swept) => swept.ticket().generation == generation,
-            None => false,
-        }
-    }
-
-    /// Whether a packet is as long as this.
-    pub fn has_packet_of(&self, packet: usize, length: usize) -> bool {
-        packet < self.world.packets() && self.world.packet(packet).len() == length
-    }
-
     /// How many replicas there are.
     pub fn replicas(&self) -> usize {
         self.world.replicas()
     }
 
-    /// Whether a replica took so many deltas.
-    pub fn has_taken(&self, r: usize, deltas: usize) -> bool {
-        r < self.world.replicas() && self.world.took(r).len() == deltas
-    }
-
-    /// The core of a replica, where there is one.
-    pub fn core(&self, r: usize) -> Option<&Core> {
+    // The core of a replica, where there is one.
+    fn core(&self, r: usize) -> Option<&Core> {
         if r < self.world.replicas() {
             Some(self.world.core(r))
         } else {
@@ -306,8 +311,8 @@ impl Scene {
         }
     }
 
-    /// Whether both replicas hold the same strokes and tombstones.
-    pub fn have_same_strokes(&self, r: usize, s: usize) -> bool {
+    // Whether both replicas hold the same strokes and tombstones.
+    fn have_same_strokes(&self, r: usize, s: usize) -> bool {
         match (self.core(r), self.core(s)) {
             (Some(core), Some(other)) => core.state().is_same(other.state()),
             _ => false,
@@ -317,16 +322,65 @@ impl Scene {
     // Whether the replica is quiet, and its image is what grows from its strokes.
     fn is_grown(&self, r: usize) -> Result<bool, Fail> {
         match self.core(r) {
-            Some(core) => Ok(core.is_quiet() && is_image_grown(self.alloc, core)?),
+            Some(core) => {
+                let grown = grown(self.alloc, core.mask(), core.state(), core.conn())?;
+                Ok(core.is_quiet() && core.image().cells() == grown.cells())
+            }
             None => Ok(false),
         }
     }
 }
 
-// Whether the image of a core is what grows from its strokes.
-fn is_image_grown(alloc: Global, core: &Core) -> Result<bool, Fail> {
-    let grown = grown(alloc, core.mask(), core.state(), core.conn())?;
-    Ok(core.image().cells() == grown.cells())
+// Whether a core shows this.
+fn core_shows(core: &Core, sight: &Sight) -> bool {
+    match sight {
+        Sight::Image(cells) => core.image().cells() == *cells,
+        Sight::Filled(start, end, value) => is_filled(core.image().cells(), *start, *end, *value),
+        Sight::Quiet => core.is_quiet(),
+        Sight::Dirty(tiles) => has_dirty(core, tiles),
+        Sight::Out(tiles) => has_out(core, tiles),
+        Sight::Generations(generations) => has_generations(core, generations),
+        Sight::NotLive(tag) => !core.state().is_live(Tag(*tag)),
+        Sight::Took(_) => false,
+    }
+}
+
+// Whether exactly these tiles of a core are to be swept.
+fn has_dirty(core: &Core, tiles: &[usize]) -> bool {
+    for tile in 0..core.tiles() {
+        if core.is_dirty(tile) != tiles.contains(&tile) {
+            return false;
+        }
+    }
+    true
+}
+
+// Whether jobs of exactly these tiles of a core are out.
+fn has_out(core: &Core, tiles: &[usize]) -> bool {
+    for tile in 0..core.tiles() {
+        if core.is_out(tile) != tiles.contains(&tile) {
+            return false;
+        }
+    }
+    true
+}
+
+// Whether the tiles of a core have these generations.
+fn has_generations(core: &Core, generations: &[u64]) -> bool {
+    for tile in 0..core.tiles() {
+        if generations.get(tile) != Some(&core.generation(tile)) {
+            return false;
+        }
+    }
+    core.tiles() == generations.len()
+}
+
+// Whether the cells have this value everywhere from one to before another.
+fn is_filled(cells: &[u32], start: usize, end: usize, value: u32) -> bool {
+    match cells.get(start..end) {
+        Some(cells) => cells.iter().all(|cell| *cell == value),
+        None => false,
+    }
 }
 
 // The reconstruction of a mask from the marker of a state, threshold by threshold.

@@ -4,12 +4,12 @@ ghost use Rattle.std.specs.Prelude.{⊤};
 
 use crate::chance::{draw, some_delta, some_mask, some_step};
 use crate::replica::Replica;
-use crate::scene::{Account, Outcome};
 use grid_core::{Conn, Grid};
-use reset_core::{Back, Handed, Step};
+use reset_core::{Back, CoreError, Handed, Ran, Step};
 use std::alloc::Global;
 use std::marker::Model;
 use std::test::Fail;
+use tile_generations::Swept;
 
 const WIDTH: u16 = 21;
 
@@ -28,44 +28,57 @@ struct Seen {
     abandoned: bool,
 }
 
+const NONE_SEEN: Seen = Seen {
+    joined: false,
+    again: false,
+    stale: false,
+    stranger: false,
+    raised: false,
+    same: false,
+    stale_hint: false,
+    abandoned: false,
+};
+
 impl Seen {
-    // None so far.
-    fn none() -> Seen {
-        Seen {
-            joined: false,
-            again: false,
-            stale: false,
-            stranger: false,
-            raised: false,
-            same: false,
-            stale_hint: false,
-            abandoned: false,
-        }
-    }
-
-    fn back(&mut self, back: Back) {
-        match back {
-            Back::Joined => self.joined = true,
-            Back::Again => self.again = true,
-            Back::Stale => self.stale = true,
-            Back::Stranger => self.stranger = true,
-        }
-    }
-
-    fn handed(&mut self, handed: Handed) {
-        match handed {
-            Handed::Raised => self.raised = true,
-            Handed::Same => self.same = true,
-            Handed::Stale => self.stale_hint = true,
-            Handed::Nothing => {}
-        }
-    }
-
     // Whether each came.
     fn is_all(&self) -> bool {
         let back = self.joined && self.again && self.stale && self.stranger;
         back && self.raised && self.same && self.stale_hint && self.abandoned
     }
+}
+
+// Lets something other than an edit happen to a replica: a tile is taken, or some result of any replica is given back
+// or its job abandoned, or a hint is handed over.
+fn happen(
+    replica: &mut Replica,
+    results: &mut Vec<Swept>,
+    seen: &mut Seen,
+    seed: &mut u64,
+    kind: u16,
+) -> Result<(), Fail> {
+    let tile = usize::from(draw(seed, 10));
+    let place = usize::from(draw(seed, u16::try_from(results.len())?));
+    match (kind, results.get(place)) {
+        (0..=4, _) => {
+            if let Some(swept) = replica.scene().sweep(tile)? {
+                results.push(swept)?;
+            }
+        }
+        (5..=7, Some(swept)) => match replica.scene().give_back(swept)? {
+            Back::Joined => seen.joined = true,
+            Back::Again => seen.again = true,
+            Back::Stale => seen.stale = true,
+            Back::Stranger => seen.stranger = true,
+        },
+        (8, Some(swept)) => seen.abandoned |= replica.scene().abandon(swept.ticket()),
+        _ => match replica.scene().hand(tile, usize::from(draw(seed, 3))) {
+            Handed::Raised => seen.raised = true,
+            Handed::Same => seen.same = true,
+            Handed::Stale => seen.stale_hint = true,
+            Handed::Nothing => {}
+        },
+    }
+    Ok(())
 }
 
 // Some replicas, and the results of all their jobs.
@@ -74,7 +87,7 @@ struct Play {
     alloc: Global,
     seed: u64,
     replicas: Vec<Replica>,
-    results: Vec<Outcome>,
+    results: Vec<Swept>,
     seen: Seen,
 }
 
@@ -85,43 +98,28 @@ impl Model for Play {
 }
 
 // Two replicas under each connectivity on one mask, and one on another.
-fn replicas_on(alloc: Global, mask: &Grid, other: &Grid, side: u16) -> Result<Vec<Replica>, Fail> {
-    let mut replicas = Vec::new(alloc);
+fn add_replicas(alloc: Global, replicas: &mut Vec<Replica>, seed: &mut u64) -> Result<(), Fail> {
+    let mask = some_mask(alloc, seed, WIDTH, HEIGHT)?;
+    let other = some_mask(alloc, seed, WIDTH, HEIGHT)?;
+    let side = draw(seed, 4).saturating_add(8);
+    add_replicas_on(alloc, replicas, &mask, &other, side)
+}
+
+fn add_replicas_on(
+    alloc: Global,
+    replicas: &mut Vec<Replica>,
+    mask: &Grid,
+    other: &Grid,
+    side: u16,
+) -> Result<(), Fail> {
     for conn in [Conn::Four, Conn::Eight, Conn::Four, Conn::Eight] {
         replicas.push(Replica::on(alloc, mask, conn, side)?)?;
     }
     replicas.push(Replica::on(alloc, other, Conn::Four, side)?)?;
-    Ok(replicas)
+    Ok(())
 }
 
 impl Play {
-    // Two replicas under each connectivity on one mask, and one on another.
-    fn begin(alloc: Global, first: u64, seen: Seen) -> Result<Play, Fail> {
-        let mut seed = first;
-        let mask = some_mask(alloc, &mut seed, WIDTH, HEIGHT)?;
-        let other = some_mask(alloc, &mut seed, WIDTH, HEIGHT)?;
-        let side = draw(&mut seed, 4).saturating_add(8);
-        Ok(Play {
-            alloc,
-            seed,
-            replicas: replicas_on(alloc, &mask, &other, side)?,
-            results: Vec::new(alloc),
-            seen,
-        })
-    }
-
-    // Lets something happen to some replica.
-    fn step(&mut self) -> Result<(), Fail> {
-        let which = usize::from(draw(&mut self.seed, 5));
-        match draw(&mut self.seed, 12) {
-            0 => self.edit(which),
-            1 | 2 | 3 | 4 => self.take(which),
-            5 | 6 | 7 => self.give_back(which),
-            8 => self.abandon(which),
-            _ => self.hand(which),
-        }
-    }
-
     // Merges a delta into each replica, or into one alone.
     fn edit(&mut self, which: usize) -> Result<(), Fail> {
         let edit = some_delta(self.alloc, &mut self.seed, WIDTH, HEIGHT)?;
@@ -134,58 +132,24 @@ impl Play {
         Ok(())
     }
 
-    // Takes a tile, and keeps the result.
-    fn take(&mut self, which: usize) -> Result<(), Fail> {
-        let tile = usize::from(draw(&mut self.seed, 10));
-        if let Some(replica) = self.replicas.get_mut(which) {
-            if let Some(outcome) = replica.scene().try_sweep(tile)? {
-                self.results.push(outcome)?;
+    // Lets 60 things happen, each to some replica.
+    fn steps(&mut self) -> Result<(), Fail> {
+        for _ in 0..60 {
+            let which = usize::from(draw(&mut self.seed, 5));
+            let kind = draw(&mut self.seed, 12);
+            if kind == 0 {
+                self.edit(which)?;
+            } else if let Some(replica) = self.replicas.get_mut(which) {
+                happen(
+                    replica,
+                    &mut self.results,
+                    &mut self.seen,
+                    &mut self.seed,
+                    kind,
+                )?;
             }
         }
         Ok(())
-    }
-
-    // Gives back a copy of some result of any replica.
-    fn give_back(&mut self, which: usize) -> Result<(), Fail> {
-        let count = u16::try_from(self.results.len())?;
-        let place = usize::from(draw(&mut self.seed, count));
-        if let Some(outcome) = self.results.get(place) {
-            if let Some(replica) = self.replicas.get_mut(which) {
-                let back = replica.scene().give_back_copy(outcome)?;
-                self.seen.back(back);
-            }
-        }
-        Ok(())
-    }
-
-    // Abandons the job of some result of any replica.
-    fn abandon(&mut self, which: usize) -> Result<(), Fail> {
-        let count = u16::try_from(self.results.len())?;
-        let place = usize::from(draw(&mut self.seed, count));
-        if let Some(outcome) = self.results.get(place) {
-            if let Some(replica) = self.replicas.get_mut(which) {
-                if replica.scene().abandon(outcome.ticket()) {
-                    self.seen.abandoned = true;
-                }
-            }
-        }
-        Ok(())
-    }
-
-    // Hands over some hint.
-    fn hand(&mut self, which: usize) -> Result<(), Fail> {
-        let tile = usize::from(draw(&mut self.seed, 10));
-        let place = usize::from(draw(&mut self.seed, 3));
-        if let Some(replica) = self.replicas.get_mut(which) {
-            let handed = replica.scene().hand(tile, place);
-            self.seen.handed(handed);
-        }
-        Ok(())
-    }
-
-    // Which answers came so far.
-    fn seen(&self) -> Seen {
-        self.seen
     }
 
     // Whether each image lies between the marker and what grows from it.
@@ -196,14 +160,6 @@ impl Play {
             }
         }
         Ok(true)
-    }
-
-    // Lets 60 things happen.
-    fn steps(&mut self) -> Result<(), Fail> {
-        for _ in 0..60 {
-            self.step()?;
-        }
-        Ok(())
     }
 
     // Lets 240 things happen, and says whether each image lay between the marker and what grows from it after each 60.
@@ -226,30 +182,45 @@ impl Play {
         }
         Ok(true)
     }
+
+    // Whether all does so from its beginning.
+    fn is_right(&mut self) -> Result<bool, Fail> {
+        add_replicas(self.alloc, &mut self.replicas, &mut self.seed)?;
+        Ok(self.stays_between()? && self.settles()?)
+    }
+}
+
+// Plays a round, and says whether all was right.
+fn plays(alloc: Global, round: u64, seen: &mut Seen) -> Result<bool, Fail> {
+    let mut play = Play {
+        alloc,
+        seed: round,
+        replicas: Vec::new(alloc),
+        results: Vec::new(alloc),
+        seen: *seen,
+    };
+    let is_right = play.is_right()?;
+    *seen = play.seen;
+    Ok(is_right)
 }
 
 #[test]
 fn each_core_settles_on_what_grows_from_its_strokes(rt: HostRuntime) -> Result<(), Fail> {
-    let mut seen = Seen::none();
+    let mut seen = NONE_SEEN;
     for round in 0..30_u64 {
-        let mut play = Play::begin(rt.alloc(), round, seen)?;
-        assert!(rt; play.stays_between()?, "{round}");
-        assert!(rt; play.settles()?, "{round}");
-        seen = play.seen();
+        assert!(rt; plays(rt.alloc(), round, &mut seen)?, "{round}");
     }
     assert!(rt; seen.is_all());
     Ok(())
 }
 
-// Joins the edits of the schedule, and says whether it ran so.
-fn ran_so(
-    alloc: Global,
+// Joins the edits of the schedule, and lists the numbers of those that have to be accepted or refused.
+fn list_edits(
     replica: &mut Replica,
     steps: &[Step],
-    account: &Account,
-) -> Result<bool, Fail> {
-    let mut accepted = Vec::new(alloc);
-    let mut refused = Vec::new(alloc);
+    accepted: &mut Vec<usize>,
+    refused: &mut Vec<(usize, CoreError)>,
+) -> Result<(), Fail> {
     for (number, step) in steps.iter().enumerate() {
         if let Step::Edit(delta) = step {
             match replica.join(delta)? {
@@ -258,36 +229,41 @@ fn ran_so(
             }
         }
     }
-    Ok(account.lists(&accepted, &refused))
+    Ok(())
 }
 
-// A replica of a random mask.
-fn some_replica(alloc: Global, seed: &mut u64, conn: Conn) -> Result<Replica, Fail> {
-    let mask = some_mask(alloc, seed, WIDTH, HEIGHT)?;
-    Replica::on(alloc, &mask, conn, 8)
+// Joins the edits of the schedule, and says whether it ran so.
+fn ran_so(alloc: Global, replica: &mut Replica, steps: &[Step], ran: &Ran) -> Result<bool, Fail> {
+    let mut accepted = Vec::new(alloc);
+    let mut refused = Vec::new(alloc);
+    list_edits(replica, steps, &mut accepted, &mut refused)?;
+    Ok(ran.accepted() == accepted.as_slice() && ran.refused() == refused.as_slice())
 }
 
-// A schedule of random steps.
-fn some_schedule(alloc: Global, seed: &mut u64) -> Result<Vec<Step>, Fail> {
-    let mut steps = Vec::new(alloc);
+// Puts random steps into a schedule.
+fn add_steps(alloc: Global, seed: &mut u64, steps: &mut Vec<Step>) -> Result<(), Fail> {
     for _ in 0..120 {
         steps.push(some_step(alloc, seed, WIDTH, HEIGHT)?)?;
     }
-    Ok(steps)
+    Ok(())
 }
 
-// Whether the replica runs the steps as it should, and its image lies between the marker and what grows from it.
+// Whether the replica runs the steps as it should, and its image lies between the marker and what grows from it; and
+// whether it then settles on that.
 fn runs(alloc: Global, replica: &mut Replica, steps: &[Step]) -> Result<bool, Fail> {
-    let account = replica.scene().run(steps)?;
-    Ok(ran_so(alloc, replica, steps, &account)? && replica.is_between()?)
+    let ran = replica.scene().run(steps)?;
+    let is_so = ran_so(alloc, replica, steps, &ran)?;
+    Ok(is_so && replica.is_between()? && replica.settles()?)
 }
 
-// Whether a core that ran a schedule settles on what grows from its strokes.
+// Whether a core on a random mask that ran a schedule settles on what grows from its strokes.
 fn settles_after_schedule(alloc: Global, first: u64, conn: Conn) -> Result<bool, Fail> {
     let mut seed = first;
-    let mut replica = some_replica(alloc, &mut seed, conn)?;
-    let steps = some_schedule(alloc, &mut seed)?;
-    Ok(runs(alloc, &mut replica, &steps)? && replica.settles()?)
+    let mut steps = Vec::new(alloc);
+    let mask = some_mask(alloc, &mut seed, WIDTH, HEIGHT)?;
+    let mut replica = Replica::on(alloc, &mask, conn, 8)?;
+    add_steps(alloc, &mut seed, &mut steps)?;
+    runs(alloc, &mut replica, &steps)
 }
 
 #[test]

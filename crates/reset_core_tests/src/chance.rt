@@ -1,6 +1,5 @@
 //! Numbers, masks, deltas and schedules that look random, and are the same each time.
 
-use crate::scene::Edit;
 use grid_core::Grid;
 use reset_core::Step;
 use std::alloc::Global;
@@ -64,8 +63,8 @@ fn some_edit(alloc: Global, seed: &mut u64, width: u16, height: u16) -> Result<D
     }
 }
 
-// The join of one to three edits.
-fn some_join(alloc: Global, seed: &mut u64, width: u16, height: u16) -> Result<Delta, Fail> {
+/// The join of one to three edits.
+pub fn some_delta(alloc: Global, seed: &mut u64, width: u16, height: u16) -> Result<Delta, Fail> {
     let mut delta = some_edit(alloc, seed, width, height)?;
     for _ in 0..draw(seed, 3) {
         let more = some_edit(alloc, seed, width, height)?;
@@ -76,15 +75,10 @@ fn some_join(alloc: Global, seed: &mut u64, width: u16, height: u16) -> Result<D
     Ok(delta)
 }
 
-/// A delta of one to three edits.
-pub fn some_delta(alloc: Global, seed: &mut u64, width: u16, height: u16) -> Result<Edit, Fail> {
-    Ok(Edit::of(some_join(alloc, seed, width, height)?))
-}
-
 /// A step of a schedule, which may name nothing.
 pub fn some_step(alloc: Global, seed: &mut u64, width: u16, height: u16) -> Result<Step, Fail> {
     match draw(seed, 6) {
-        0 => Ok(Step::Edit(some_join(alloc, seed, width, height)?)),
+        0 => Ok(Step::Edit(some_delta(alloc, seed, width, height)?)),
         _ => Ok(some_task(seed)),
     }
 }

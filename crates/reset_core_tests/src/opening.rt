@@ -1,25 +1,30 @@
 //! Cores that are opened, and taken apart.
 
-use crate::scene::{is_row_handed_back, is_side_refused};
-use crate::script::{Act, Case, Line, Start, play_all};
+use crate::script::{Act, Case, Line, Start, grid_of, play_all, row_of};
 use grid_core::Conn;
-use reset_core::TILE_SIDE;
+use reset_core::{Core, CoreError, TILE_SIDE};
+use std::alloc::Global;
 use std::test::Fail;
 
-#[test]
-fn tiles_of_no_such_side_are_refused(rt: HostRuntime) -> Result<(), Fail> {
-    let alloc = rt.alloc();
-    for side in [0, 7, 257] {
-        assert!(rt; is_side_refused(alloc, &[7; 65], side)?);
+// Whether no core with tiles of this side is opened, for its side, and a mask is handed back.
+fn is_side_refused(alloc: Global, side: u32) -> Result<bool, Fail> {
+    let image = row_of(alloc, &[7; 65])?;
+    let why = Core::open_tiled(alloc, &image, Conn::Four, side, 0).err();
+    let mask = grid_of(alloc, 4, &[7, 0, 1, 7])?;
+    match Core::over(alloc, mask, Conn::Four, side, 0).err() {
+        Some(refused) => Ok(
+            why == Some(CoreError::BadSide)
+                && refused.why == CoreError::BadSide
+                && refused.mask.cells() == [7, 0, 1, 7].as_slice(),
+        ),
+        None => Ok(false),
     }
-    Ok(())
 }
 
 #[test]
-fn a_refused_mask_is_handed_back(rt: HostRuntime) -> Result<(), Fail> {
-    let alloc = rt.alloc();
-    for side in [7, 257] {
-        assert!(rt; is_row_handed_back(alloc, &[7, 0, 1, 7], side)?);
+fn tiles_of_no_such_side_are_refused_and_the_mask_handed_back(rt: HostRuntime) -> Result<(), Fail> {
+    for side in [0, 7, 257] {
+        assert!(rt; is_side_refused(rt.alloc(), side)?, "{side}");
     }
     Ok(())
 }
@@ -47,22 +52,22 @@ const CASES: &[Case] = &[
     Case {
         name: "tiles have the side that is named: nine tiles of side 8",
         starts: &[Start::OpenTiled(&[7; 65], 8)],
-        lines: &[Line::Side(8), Line::EachGeneration(9, 5)],
+        lines: &[Line::Side(8), Line::Generations(&[5; 9])],
     },
     Case {
         name: "tiles have the side that is named: two tiles of side 64",
         starts: &[Start::OpenTiled(&[7; 65], 64)],
-        lines: &[Line::Side(64), Line::EachGeneration(2, 5)],
+        lines: &[Line::Side(64), Line::Generations(&[5; 2])],
     },
     Case {
         name: "tiles have the side that is named: one tile of side 65",
         starts: &[Start::OpenTiled(&[7; 65], 65)],
-        lines: &[Line::Side(65), Line::EachGeneration(1, 5)],
+        lines: &[Line::Side(65), Line::Generations(&[5])],
     },
     Case {
         name: "tiles have the side that is named: one tile of side 256",
         starts: &[Start::OpenTiled(&[7; 65], 256)],
-        lines: &[Line::Side(256), Line::EachGeneration(1, 5)],
+        lines: &[Line::Side(256), Line::Generations(&[5])],
     },
     Case {
         name: "a core is taken apart",

@@ -2,9 +2,9 @@
 
 ghost use Rattle.std.specs.Prelude.{⊤};
 
-use crate::scene::{Edit, Scene};
+use crate::scene::Scene;
 use grid_core::{Conn, Grid};
-use reset_core::CoreError;
+use reset_core::{Core, CoreError};
 use std::alloc::Global;
 use std::marker::Model;
 use std::test::Fail;
@@ -29,9 +29,10 @@ impl Model for Replica {
 impl Replica {
     /// A core without strokes on a copy of the mask.
     pub fn on(alloc: Global, mask: &Grid, conn: Conn, side: u16) -> Result<Replica, Fail> {
+        let core = Core::over(alloc, mask.copy(alloc)?, conn, u32::from(side), 0)?;
         Ok(Replica {
             alloc,
-            scene: Scene::on(alloc, mask.copy(alloc)?, conn, u32::from(side))?,
+            scene: Scene::of(alloc, core)?,
             width: mask.width(),
             height: mask.height(),
             joined: State::empty(alloc)?,
@@ -43,27 +44,22 @@ impl Replica {
         &mut self.scene
     }
 
-    // Why the core has to refuse the delta, if it has to.
-    fn refusal(&self, delta: &Delta) -> Option<CoreError> {
-        match delta.outside(self.width, self.height) {
-            Some(tag) => Some(CoreError::OutOfImage(tag)),
-            None => self.joined.clash(delta).map(CoreError::Conflict),
-        }
-    }
-
     /// Joins the delta where it can be taken, and answers why it cannot.
     pub fn join(&mut self, delta: &Delta) -> Result<Option<CoreError>, Fail> {
-        let refusal = self.refusal(delta);
-        if refusal.is_none() {
-            self.joined.merge(self.alloc, delta)?;
+        if let Some(tag) = delta.outside(self.width, self.height) {
+            return Ok(Some(CoreError::OutOfImage(tag)));
         }
-        Ok(refusal)
+        if let Some(tag) = self.joined.clash(delta) {
+            return Ok(Some(CoreError::Conflict(tag)));
+        }
+        self.joined.merge(self.alloc, delta)?;
+        Ok(None)
     }
 
     /// Merges the delta, and looks whether it is refused where it has to be.
-    pub fn edit(&mut self, edit: &Edit) -> Result<(), Fail> {
-        let refusal = self.join(edit.delta())?;
-        if self.scene.refusal(edit) == refusal {
+    pub fn edit(&mut self, delta: &Delta) -> Result<(), Fail> {
+        let refusal = self.join(delta)?;
+        if self.scene.refusal(delta) == refusal {
             Ok(())
         } else {
             Err(Fail::new("a delta is refused or taken wrongly"))

@@ -2,16 +2,18 @@
 
 ghost use Rattle.std.specs.Prelude.{⊤};
 
-use crate::scene::{Edit, Outcome, Scene};
-use grid_core::Conn;
-use reset_core::{Back, CoreError, Handed, Step};
+use crate::scene::Scene;
+use grid_core::{Conn, Grid};
+use pgm_codec::Image;
+use reset_core::{Back, Core, CoreError, Handed, Step};
 use std::alloc::Global;
 use std::marker::Model;
 use std::test::Fail;
-use stroke_core::Tag;
+use stroke_core::{Run, Stroke, Tag};
+use stroke_lattice::{Delta, State};
+use tile_generations::{MAX_GENERATION, Swept, Ticket};
 
 /// How a core is opened.
-#[derive(Clone, Copy)]
 pub enum Start {
     /// On a mask of one row under four neighbours, with tiles of side 64.
     Row(&'static [u32]),
@@ -48,7 +50,6 @@ pub enum Act {
 }
 
 /// Why an edit is refused.
-#[derive(Clone, Copy)]
 pub enum Refusal {
     /// The stroke of this tag does not fit the image.
     OutOfImage(u128),
@@ -59,7 +60,6 @@ pub enum Refusal {
 }
 
 /// What a schedule did.
-#[derive(Clone, Copy)]
 pub struct Ran {
     /// How many takes gave a job.
     pub jobs: u64,
@@ -72,7 +72,6 @@ pub struct Ran {
 }
 
 /// A case: what it shows, how its cores are opened, and what happens to them.
-#[derive(Clone, Copy)]
 pub struct Case {
     /// What it shows.
     pub name: &'static str,
@@ -83,7 +82,6 @@ pub struct Case {
 }
 
 /// A line of a script: what happens, with what is answered to it, or what is shown.
-#[derive(Clone, Copy)]
 pub enum Line {
     /// The lines after this one are about the core of this number. The first ones are about core 0.
     On(usize),
@@ -139,8 +137,6 @@ pub enum Line {
     Quiet(bool),
     /// The generations of the tiles.
     Generations(&'static [u64]),
-    /// There are so many tiles, and each has this generation.
-    EachGeneration(usize, u64),
     /// The tiles that are to be swept.
     Dirty(&'static [usize]),
     /// The tiles of which a job is out.
@@ -158,116 +154,103 @@ pub enum Line {
 }
 
 // The delta of an act, if it is an edit.
-fn edit_of(alloc: Global, act: Act) -> Result<Edit, Fail> {
+fn edit_of(alloc: Global, act: &Act) -> Result<Delta, Fail> {
     match act {
-        Act::Place(tag, level, x0, x1) => Edit::place(alloc, tag, level, x0, x1),
-        Act::Withdraw(tag) => Edit::withdraw(alloc, tag),
+        Act::Place(tag, level, x0, x1) => {
+            let runs = vec![in alloc;
+                Run {
+                    y: 0,
+                    x0: *x0,
+                    x1: *x1
+                },
+            ]?;
+            let stroke = Stroke::new(*level, runs)?;
+            Ok(State::placed(alloc, Tag(*tag), stroke)?)
+        }
+        Act::Withdraw(tag) => Ok(State::withdrawn(alloc, Tag(*tag))?),
         _ => Err(Fail::new("no edit")),
     }
 }
 
-// The join of edits.
-fn join_of(alloc: Global, acts: &[Act]) -> Result<Edit, Fail> {
-    let mut join = Edit::nothing(alloc)?;
+// Joins edits to a delta.
+fn join(alloc: Global, acts: &[Act], delta: &mut Delta) -> Result<(), Fail> {
     for act in acts {
-        join.add(alloc, &edit_of(alloc, *act)?)?;
+        let edit = edit_of(alloc, act)?;
+        delta.merge(alloc, &edit)?;
     }
-    Ok(join)
+    Ok(())
 }
 
 // The core's word for a refusal.
-fn error_of(refusal: Refusal) -> CoreError {
+fn error_of(refusal: &Refusal) -> CoreError {
     match refusal {
-        Refusal::OutOfImage(tag) => CoreError::OutOfImage(Tag(tag)),
-        Refusal::Conflict(tag) => CoreError::Conflict(Tag(tag)),
+        Refusal::OutOfImage(tag) => CoreError::OutOfImage(Tag(*tag)),
+        Refusal::Conflict(tag) => CoreError::Conflict(Tag(*tag)),
         Refusal::GenerationsSpent => CoreError::GenerationsSpent,
     }
 }
 
 // The step of a schedule that an act is.
-fn step_of(alloc: Global, act: Act) -> Result<Step, Fail> {
+fn step_of(alloc: Global, act: &Act) -> Result<Step, Fail> {
     match act {
-        Act::Take(tile) => Ok(Step::Take(tile)),
-        Act::Return(place) => Ok(Step::Return(place)),
-        Act::Abandon(place) => Ok(Step::Abandon(place)),
-        Act::Hand(tile, place) => Ok(Step::Hand(tile, place)),
-        edit => Ok(edit_of(alloc, edit)?.into_step()),
+        Act::Take(tile) => Ok(Step::Take(*tile)),
+        Act::Return(place) => Ok(Step::Return(*place)),
+        Act::Abandon(place) => Ok(Step::Abandon(*place)),
+        Act::Hand(tile, place) => Ok(Step::Hand(*tile, *place)),
+        _ => Ok(Step::Edit(edit_of(alloc, act)?)),
     }
 }
 
-// Whether a core runs these acts so.
-fn runs(alloc: Global, scene: &mut Scene, acts: &[Act], want: Ran) -> Result<bool, Fail> {
-    let mut steps = Vec::new(alloc);
+// Puts the steps of a schedule behind one another.
+fn list_steps(alloc: Global, acts: &[Act], steps: &mut Vec<Step>) -> Result<(), Fail> {
     for act in acts {
-        steps.push(step_of(alloc, *act)?)?;
+        steps.push(step_of(alloc, act)?)?;
     }
-    let mut refused = Vec::new(alloc);
-    for (number, why) in want.refused {
-        refused.push((*number, error_of(*why)))?;
+    Ok(())
+}
+
+// Whether exactly these edits are refused, for these reasons.
+fn are_refused(refused: &[(usize, CoreError)], want: &[(usize, Refusal)]) -> bool {
+    for ((number, error), (place, why)) in refused.iter().zip(want) {
+        if number != place || *error != error_of(why) {
+            return false;
+        }
     }
-    let account = scene.run(&steps)?;
-    let are_listed = account.lists(want.accepted, &refused);
-    Ok(are_listed && account.counts(want.jobs, want.abandons))
+    refused.len() == want.len()
+}
+
+// Whether a core runs a schedule so.
+fn runs(alloc: Global, scene: &mut Scene, acts: &[Act], want: &Ran) -> Result<bool, Fail> {
+    let mut steps = Vec::new(alloc);
+    list_steps(alloc, acts, &mut steps)?;
+    let ran = scene.run(&steps)?;
+    let is_counted = ran.jobs() == want.jobs && ran.abandons() == want.abandons;
+    Ok(is_counted && ran.accepted() == want.accepted && are_refused(ran.refused(), want.refused))
 }
 
 // Whether a core takes an edit.
 fn takes(alloc: Global, scene: &mut Scene, act: Act) -> Result<bool, Fail> {
-    let edit = edit_of(alloc, act)?;
-    scene.takes(&edit)
+    let edit = edit_of(alloc, &act)?;
+    Ok(scene.refusal(&edit).is_none())
 }
 
-// Whether a core refuses the join of these edits for this reason.
-fn refuses(alloc: Global, scene: &mut Scene, acts: &[Act], why: Refusal) -> Result<bool, Fail> {
-    let edit = join_of(alloc, acts)?;
-    Ok(scene.refuses(&edit, error_of(why)))
-}
-
-// Whether the strokes of a core are those of an edit alone.
-fn has_strokes_of(alloc: Global, scene: &Scene, act: Act) -> Result<bool, Fail> {
-    let edit = edit_of(alloc, act)?;
-    Ok(scene.has_strokes_of(&edit))
-}
-
-// Whether a tile gives no job.
-fn gives_none(scene: &mut Scene, tile: usize) -> Result<bool, Fail> {
-    Ok(!scene.gives_job(tile)?)
-}
-
-// Whether a tile gives a job, whose result is given back so.
-fn works(scene: &mut Scene, tile: usize, back: Back) -> Result<bool, Fail> {
-    Ok(scene.work(tile)? == Some(back))
-}
-
-// Whether so much of the reconstruction is lacking.
-fn owes(scene: &Scene, amount: u64) -> Result<bool, Fail> {
-    Ok(scene.owed()? == amount)
-}
-
-// Whether a core settles.
-fn does_settle(scene: &mut Scene) -> Result<bool, Fail> {
-    scene.settle()?;
-    Ok(true)
-}
-
-// Whether a core settles so.
-fn settles(scene: &mut Scene, jobs: u64, abandons: u64) -> Result<bool, Fail> {
-    let count = scene.settle()?;
-    Ok(count.jobs == jobs && count.abandons == abandons)
-}
-
-// Whether an edit changes this at a core.
+// Whether an edit that is taken changes this at a core.
 fn changes(
     alloc: Global,
     scene: &mut Scene,
-    act: Act,
+    act: &Act,
     born: &[u128],
     dead: &[u128],
 ) -> Result<bool, Fail> {
     let edit = edit_of(alloc, act)?;
-    match scene.merge(&edit) {
-        Ok(news) => Ok(news.is(born, dead)),
-        Err(_) => Ok(false),
-    }
+    Ok(scene.changes(&edit, born, dead))
+}
+
+// Why a core refuses the join of these edits, if it does.
+fn why_refused(alloc: Global, scene: &mut Scene, acts: &[Act]) -> Result<Option<CoreError>, Fail> {
+    let mut delta = State::empty(alloc)?;
+    join(alloc, acts, &mut delta)?;
+    Ok(scene.refusal(&delta))
 }
 
 // Whether a tile gives its first job so.
@@ -278,51 +261,71 @@ fn gives_job(
     base: &[u32],
     mask: &[u32],
 ) -> Result<bool, Fail> {
-    match scene.try_take(tile)? {
-        Some(job) => Ok(job.is_of(tile, 0, 0) && job.is_under(conn) && job.has(base, mask)),
+    let first = Ticket {
+        tile,
+        generation: 0,
+        serial: 0,
+    };
+    match scene.take(tile)? {
+        Some(job) => {
+            let has_cells = job.base().cells() == base && job.mask().cells() == mask;
+            Ok(has_cells && job.ticket() == first && job.conn() == conn)
+        }
         None => Ok(false),
     }
 }
 
-// Whether what happens to a core by this line is answered so; or whether it shows this.
-fn is_so(alloc: Global, scene: &mut Scene, line: Line) -> Result<bool, Fail> {
-    match line {
-        Line::Place(tag, level, x0, x1) => takes(alloc, scene, Act::Place(tag, level, x0, x1)),
-        Line::Withdraw(tag) => takes(alloc, scene, Act::Withdraw(tag)),
-        Line::Change(act, born, dead) => changes(alloc, scene, act, born, dead),
-        Line::Refused(acts, why) => refuses(alloc, scene, acts, why),
-        Line::NoJob(tile) => gives_none(scene, tile),
-        Line::Job(tile, conn, base, mask) => gives_job(scene, tile, conn, base, mask),
-        Line::Work(tile, back) => works(scene, tile, back),
-        Line::Hand(tile, place, handed) => Ok(scene.hand(tile, place) == handed),
-        Line::Settle => does_settle(scene),
-        Line::SettleBy(jobs, abandons) => settles(scene, jobs, abandons),
-        Line::Run(acts, want) => runs(alloc, scene, acts, want),
-        Line::StrokesOf(act) => has_strokes_of(alloc, scene, act),
-        Line::Owes(amount) => owes(scene, amount),
-        _ => Ok(shows(scene, line)),
+// Whether a tile gives a job, whose result is given back so.
+fn works(scene: &mut Scene, tile: usize, want: Back) -> Result<bool, Fail> {
+    match scene.sweep(tile)? {
+        Some(swept) => Ok(scene.give_back(&swept)? == want),
+        None => Ok(false),
     }
 }
 
-// Whether a core shows what the line says.
-fn shows(scene: &Scene, line: Line) -> bool {
+// Whether a core settles, by so many jobs and with so many abandoned.
+fn settles(scene: &mut Scene, jobs: u64, abandons: u64) -> Result<bool, Fail> {
+    let count = scene.settle()?;
+    Ok(count.jobs == jobs && count.abandons == abandons)
+}
+
+// Whether what happens to a core by this line is answered so; or whether it shows this.
+fn is_so(alloc: Global, scene: &mut Scene, line: &Line) -> Result<bool, Fail> {
     match line {
-        Line::Image(cells) => scene.shows(cells),
-        Line::Filled(start, end, value) => scene.is_filled(start, end, value),
-        Line::Mask(cells) => scene.has_mask(cells),
-        Line::Marker(cells) => scene.has_marker(cells),
-        Line::Live(tag, live) => scene.is_live(tag) == live,
-        Line::Quiet(quiet) => scene.is_quiet() == quiet,
-        Line::Generations(generations) => scene.has_generations(generations),
-        Line::EachGeneration(tiles, generation) => scene.has_each_generation(tiles, generation),
-        Line::Dirty(tiles) => scene.has_dirty(tiles),
-        Line::Out(tiles) => scene.has_out(tiles),
-        Line::TicketOut(tile, generation, serial) => scene.has_ticket_out(tile, generation, serial),
-        Line::Waiting(tile, count) => scene.waiting(tile) == count,
-        Line::Under(conn) => scene.is_under(conn),
-        Line::Side(side) => scene.side() == side,
-        _ => false,
+        Line::Place(tag, level, x0, x1) => takes(alloc, scene, Act::Place(*tag, *level, *x0, *x1)),
+        Line::Withdraw(tag) => takes(alloc, scene, Act::Withdraw(*tag)),
+        Line::Change(act, born, dead) => changes(alloc, scene, act, born, dead),
+        Line::Refused(acts, why) => Ok(why_refused(alloc, scene, acts)? == Some(error_of(why))),
+        Line::NoJob(tile) => Ok(scene.take(*tile)?.is_none()),
+        Line::Job(tile, conn, base, mask) => gives_job(scene, *tile, *conn, base, mask),
+        Line::Work(tile, back) => works(scene, *tile, *back),
+        Line::Hand(tile, place, handed) => Ok(scene.hand(*tile, *place) == *handed),
+        Line::Settle => {
+            scene.settle()?;
+            Ok(true)
+        }
+        Line::SettleBy(jobs, abandons) => settles(scene, *jobs, *abandons),
+        Line::Run(acts, want) => runs(alloc, scene, acts, want),
+        Line::StrokesOf(act) => Ok(scene.has_strokes_of(&edit_of(alloc, act)?)),
+        Line::Owes(amount) => Ok(scene.owed()? == *amount),
+        _ => Ok(scene.shows(line)),
     }
+}
+
+/// The grid of these cells, row by row.
+pub fn grid_of(alloc: Global, width: usize, cells: &[u32]) -> Result<Grid, Fail> {
+    let rows = cells.len() / width.max(1);
+    let mut grid = Grid::new(alloc, u32::try_from(width)?, u32::try_from(rows)?, 0)?;
+    for (cell, value) in grid.cells_mut().iter_mut().zip(cells) {
+        *cell = *value;
+    }
+    Ok(grid)
+}
+
+/// The image of one row of these samples, of maxval 9.
+pub fn row_of(alloc: Global, samples: &[u32]) -> Result<Image, Fail> {
+    let grid = grid_of(alloc, samples.len(), samples)?;
+    Ok(Image::from_grid(alloc, &grid, 9)?)
 }
 
 // A row of 192 pixels: 4 at the ten on each end, and 0 between.
@@ -333,22 +336,41 @@ fn two_ends() -> [u32; 192] {
     row
 }
 
-// A core on a mask of one row, with tiles of this side.
-fn on_row(alloc: Global, mask: &[u32], side: u32) -> Result<Scene, Fail> {
-    let width = u32::try_from(mask.len())?;
-    Scene::on_mask(alloc, width, 1, mask, Conn::Four, side)
+// A core on a mask of these cells, row by row, with tiles of this side.
+fn on_mask(
+    alloc: Global,
+    width: usize,
+    cells: &[u32],
+    conn: Conn,
+    side: u32,
+) -> Result<Core, Fail> {
+    let mask = grid_of(alloc, width, cells)?;
+    Ok(Core::over(alloc, mask, conn, side, 0)?)
+}
+
+// A core on an image.
+fn on_image(alloc: Global, mask: &Image, start: &Start) -> Result<Core, CoreError> {
+    match start {
+        Start::OpenAt(_, first) => {
+            Core::open_at(alloc, mask, Conn::Four, (*first).min(MAX_GENERATION))
+        }
+        Start::OpenTiled(_, side) => Core::open_tiled(alloc, mask, Conn::Four, *side, 5),
+        Start::Open(_, conn) => Core::open(alloc, mask, *conn),
+        _ => Err(CoreError::Memory),
+    }
 }
 
 // The core that is opened so.
-fn opened(alloc: Global, start: Start) -> Result<Scene, Fail> {
+fn opened(alloc: Global, start: &Start) -> Result<Core, Fail> {
     match start {
-        Start::Row(mask) => on_row(alloc, mask, 64),
-        Start::Tiled(mask, side) => on_row(alloc, mask, side),
-        Start::Ends(side) => on_row(alloc, &two_ends(), side),
-        Start::Square(mask, conn) => Scene::on_mask(alloc, 2, 2, mask, conn, 64),
-        Start::Open(row, conn) => Scene::open(alloc, row, conn),
-        Start::OpenAt(row, first) => Scene::open_at(alloc, row, first),
-        Start::OpenTiled(row, side) => Scene::open_tiled(alloc, row, side),
+        Start::Row(mask) => on_mask(alloc, mask.len(), mask, Conn::Four, 64),
+        Start::Tiled(mask, side) => on_mask(alloc, mask.len(), mask, Conn::Four, *side),
+        Start::Ends(side) => on_mask(alloc, 192, &two_ends(), Conn::Four, *side),
+        Start::Square(mask, conn) => on_mask(alloc, 2, mask, *conn, 64),
+        Start::Open(row, _) | Start::OpenAt(row, _) | Start::OpenTiled(row, _) => {
+            let mask = row_of(alloc, row)?;
+            Ok(on_image(alloc, &mask, start)?)
+        }
     }
 }
 
@@ -357,7 +379,7 @@ fn opened(alloc: Global, start: Start) -> Result<Scene, Fail> {
 struct Stage {
     alloc: Global,
     scenes: Vec<Scene>,
-    results: Vec<Outcome>,
+    results: Vec<Swept>,
     at: usize,
 }
 
@@ -369,22 +391,33 @@ impl Model for Stage {
 
 impl Stage {
     // Takes a tile, keeps the result, and says whether it is of this generation and serial.
-    fn takes(&mut self, tile: usize, generation: u64, serial: u64) -> Result<bool, Fail> {
+    fn takes(&mut self, ticket: Ticket) -> Result<bool, Fail> {
         let Some(scene) = self.scenes.get_mut(self.at) else {
             return Ok(false);
         };
-        let Some(outcome) = scene.try_sweep(tile)? else {
-            return Ok(false);
-        };
-        let is_so = outcome.is_of(tile, generation, serial);
-        self.results.push(outcome)?;
-        Ok(is_so)
+        match scene.sweep(ticket.tile)? {
+            Some(swept) => {
+                let is_so = swept.ticket() == ticket;
+                self.results.push(swept)?;
+                Ok(is_so)
+            }
+            None => Ok(false),
+        }
+    }
+
+    // Whether the last core is taken apart into these.
+    fn falls_into(&mut self, mask: &[u32], image: &[u32], strokes: &Act) -> Result<bool, Fail> {
+        let strokes = edit_of(self.alloc, strokes)?;
+        match self.scenes.pop() {
+            Some(scene) => Ok(falls_into(scene, mask, image, &strokes)),
+            None => Ok(false),
+        }
     }
 
     // Whether a copy of a result is given back so.
     fn returns(&mut self, place: usize, back: Back) -> Result<bool, Fail> {
         match (self.scenes.get_mut(self.at), self.results.get(place)) {
-            (Some(scene), Some(outcome)) => Ok(scene.give_back_copy(outcome)? == back),
+            (Some(scene), Some(swept)) => Ok(scene.give_back(swept)? == back),
             _ => Ok(false),
         }
     }
@@ -392,15 +425,7 @@ impl Stage {
     // Whether the job of a result is abandoned so.
     fn abandons(&mut self, place: usize, was_out: bool) -> bool {
         match (self.scenes.get_mut(self.at), self.results.get(place)) {
-            (Some(scene), Some(outcome)) => scene.abandon(outcome.ticket()) == was_out,
-            _ => false,
-        }
-    }
-
-    // Whether these results are of jobs with one ticket.
-    fn have_same_ticket(&self, place: usize, other: usize) -> bool {
-        match (self.results.get(place), self.results.get(other)) {
-            (Some(first), Some(second)) => first.has_ticket_of(second),
+            (Some(scene), Some(swept)) => scene.abandon(swept.ticket()) == was_out,
             _ => false,
         }
     }
@@ -408,8 +433,16 @@ impl Stage {
     // Whether a result has these pixels.
     fn has_pixels(&self, place: usize, pixels: &[u32]) -> bool {
         match self.results.get(place) {
-            Some(outcome) => outcome.shows(pixels),
+            Some(swept) => swept.pixels().cells() == pixels,
             None => false,
+        }
+    }
+
+    // Whether these results are of jobs with one ticket.
+    fn have_same_ticket(&self, place: usize, other: usize) -> bool {
+        match (self.results.get(place), self.results.get(other)) {
+            (Some(first), Some(second)) => first.ticket() == second.ticket(),
+            _ => false,
         }
     }
 
@@ -421,28 +454,23 @@ impl Stage {
         }
     }
 
-    // Whether the last core is taken apart into these.
-    fn falls_into(&mut self, mask: &[u32], image: &[u32], strokes: Act) -> Result<bool, Fail> {
-        let strokes = edit_of(self.alloc, strokes)?;
-        match self.scenes.pop() {
-            Some(scene) => Ok(scene.falls_into(mask, image, &strokes)),
-            None => Ok(false),
-        }
-    }
-
     // Whether the line is so.
-    fn is_so(&mut self, line: Line) -> Result<bool, Fail> {
+    fn is_so(&mut self, line: &Line) -> Result<bool, Fail> {
         match line {
             Line::On(number) => {
-                self.at = number;
-                Ok(number < self.scenes.len())
+                self.at = *number;
+                Ok(*number < self.scenes.len())
             }
-            Line::Take(tile, generation, serial) => self.takes(tile, generation, serial),
-            Line::Return(place, back) => self.returns(place, back),
-            Line::Abandon(place, was_out) => Ok(self.abandons(place, was_out)),
-            Line::Result(place, pixels) => Ok(self.has_pixels(place, pixels)),
-            Line::SameTicket(place, other) => Ok(self.have_same_ticket(place, other)),
-            Line::StrokesAs(other) => Ok(self.has_strokes_as(other)),
+            Line::Take(tile, generation, serial) => self.takes(Ticket {
+                tile: *tile,
+                generation: *generation,
+                serial: *serial,
+            }),
+            Line::Return(place, back) => self.returns(*place, *back),
+            Line::Abandon(place, was_out) => Ok(self.abandons(*place, *was_out)),
+            Line::Result(place, pixels) => Ok(self.has_pixels(*place, pixels)),
+            Line::SameTicket(place, other) => Ok(self.have_same_ticket(*place, *other)),
+            Line::StrokesAs(other) => Ok(self.has_strokes_as(*other)),
             Line::Parts(mask, image, strokes) => self.falls_into(mask, image, strokes),
             _ => match self.scenes.get_mut(self.at) {
                 Some(scene) => is_so(self.alloc, scene, line),
@@ -450,29 +478,21 @@ impl Stage {
             },
         }
     }
-}
 
-// The cores of a case, opened.
-fn stage_of(alloc: Global, starts: &[Start]) -> Result<Stage, Fail> {
-    let mut scenes = Vec::new(alloc);
-    for start in starts {
-        scenes.push(opened(alloc, *start)?)?;
+    // Opens the cores of a case.
+    fn open(&mut self, starts: &[Start]) -> Result<(), Fail> {
+        for start in starts {
+            let core = opened(self.alloc, start)?;
+            self.scenes.push(Scene::of(self.alloc, core)?)?;
+        }
+        Ok(())
     }
-    Ok(Stage {
-        alloc,
-        scenes,
-        results: Vec::new(alloc),
-        at: 0,
-    })
-}
 
-impl Case {
     // Plays the lines on the cores. It fails at the first line that is not so.
-    fn play(self, alloc: Global) -> Result<(), Fail> {
-        let name = self.name;
-        let mut stage = stage_of(alloc, self.starts)?;
-        for (number, line) in self.lines.iter().enumerate() {
-            if !stage.is_so(*line)? {
+    fn play(&mut self, case: &Case) -> Result<(), Fail> {
+        let name = case.name;
+        for (number, line) in case.lines.iter().enumerate() {
+            if !self.is_so(line)? {
                 return Err(Fail::new(format_args!("{name}: line {number}, from 0, is not so")));
             }
         }
@@ -480,10 +500,23 @@ impl Case {
     }
 }
 
+// Whether the core is taken apart into this mask, this image and these strokes.
+fn falls_into(scene: Scene, mask: &[u32], image: &[u32], strokes: &Delta) -> bool {
+    let parts = scene.into_core().into_parts();
+    parts.0.cells() == mask && parts.1.cells() == image && parts.2.is_same(strokes)
+}
+
 /// Plays each case. It fails at the first line that is not so.
 pub fn play_all(alloc: Global, cases: &[Case]) -> Result<(), Fail> {
     for case in cases {
-        case.play(alloc)?;
+        let mut stage = Stage {
+            alloc,
+            scenes: Vec::new(alloc),
+            results: Vec::new(alloc),
+            at: 0,
+        };
+        stage.open(case.starts)?;
+        stage.play(case)?;
     }
     Ok(())
 }

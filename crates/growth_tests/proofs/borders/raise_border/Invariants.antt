@@ -1,10 +1,10 @@
 use Rattle.std.proofs.Common.{◌≡◌}
 use Rattle.grid_core.specs.declared.conn.Conn.{Conn}
 use Rattle.raster_sweeps.specs.Borders.{OpenPairsBeginOnBorder}
-use Rattle.growth_tests.proofs.borders.raise_pixels.Given as goal
+use Rattle.growth_tests.proofs.borders.raise_border.Given as goal
 
-abbrev pub invariant-loop-p : goal.invariant-loop-p
-invariant-loop-p l = record {
+abbrev pub invariant-loop-i : goal.invariant-loop-i
+invariant-loop-i l = record {
   width : l.image.width ≡ l.initial.image.width;
   height : l.image.height ≡ l.initial.image.height;
   border :
