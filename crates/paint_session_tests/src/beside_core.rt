@@ -1,81 +1,119 @@
 //! Views beside a core.
 
-use crate::calls::{Ending, source_of, view, view_file};
-use crate::chance::{Painting, some_painting};
-use crate::rival::Rival;
-use byte_devices::{MemorySink, MemorySource};
-use grid_core::Conn;
+use crate::calls::{Call, file_left, kept_fault, source_of};
+use crate::chance::{draw, some_lines, some_mask};
+use byte_devices::MemorySink;
+use edit_lang::parse;
+use grid_core::{Conn, Memory};
+use pgm_codec::{Image, read, write_raw};
+use reset_core::Core;
 use std::alloc::Global;
 use std::test::Fail;
 
 const SIDES: [u32; 4] = [8, 9, 64, 256];
 
-// The raw file that a core with tiles of this side shows.
-fn shown(alloc: Global, painting: &Painting, conn: Conn, side: u32) -> Result<Vec<u8>, Fail> {
-    let mut rival = Rival::on(alloc, painting.mask.as_str(), conn, side)?;
-    rival.merge_each(alloc, painting.first.as_str())?;
-    rival.merge_each(alloc, painting.second.as_str())?;
-    rival.file(alloc)
+// Merges the deltas of edits into a core, one by one, and brings its work to the end.
+fn settle_on(alloc: Global, core: &mut Core, edits: &str) -> Result<(), Fail> {
+    let Ok(deltas) = parse(alloc, edits.as_bytes()) else {
+        return Err(Fail::new("a line is refused"));
+    };
+    for delta in &deltas {
+        if core.merge(alloc, delta).is_err() {
+            return Err(Fail::new("a delta is refused"));
+        }
+    }
+    let _ = core.settle(alloc)?;
+    Ok(())
 }
 
-// A source of edits and, behind them, the mask.
-fn source(alloc: Global, edits: &str, mask: &str) -> Result<MemorySource, Fail> {
-    let input = format!(in alloc; "{edits}image\n{mask}")?;
-    Ok(source_of(alloc, input.as_str())?)
+// The raw file, with maxval 9, of what a core shows once it settled on edits.
+fn settled_file(alloc: Global, core: &mut Core, edits: &str) -> Result<Vec<u8>, Fail> {
+    settle_on(alloc, core, edits)?;
+    let image = Image::from_grid(alloc, core.image(), 9)?;
+    Ok(write_raw(alloc, &image)?)
 }
 
-// The view of all edits.
-fn viewed(alloc: Global, painting: &Painting, conn: Conn) -> Result<Ending, Fail> {
-    let edits = format!(in alloc; "{}{}", painting.first, painting.second)?;
-    let source = source(alloc, edits.as_str(), painting.mask.as_str())?;
-    Ok(view(alloc, source, conn, MemorySink::new(alloc)))
-}
-
-// The view of the second edits over what the first leave.
-fn viewed_over(alloc: Global, painting: &Painting, conn: Conn) -> Result<Ending, Fail> {
-    let mut file = left(alloc, painting, conn)?;
-    let source = source(alloc, painting.second.as_str(), painting.mask.as_str())?;
-    Ok(view_file(alloc, source, &mut file, conn, 8))
-}
-
-// The state file that the first edits leave.
-fn left(alloc: Global, painting: &Painting, conn: Conn) -> Result<Vec<u8>, Fail> {
-    let source = source(alloc, painting.first.as_str(), painting.mask.as_str())?;
-    let mut file = Vec::new(alloc);
-    if view_file(alloc, source, &mut file, conn, 64).is_well() {
-        Ok(file)
-    } else {
-        Err(Fail::new("the view is refused"))
+// The raw file that a core with tiles of this side shows of edits.
+fn shown(alloc: Global, edits: &str, image: &str, conn: Conn, side: u32) -> Result<Vec<u8>, Fail> {
+    let mask = image.strip_prefix("image\n").ok_or("there is no image")?;
+    let mask = read(alloc, mask.as_bytes())?;
+    match Core::over(alloc, mask.into_grid(), conn, side, 0) {
+        Ok(mut core) => settled_file(alloc, &mut core, edits),
+        Err(_) => Err(Fail::new("no core is opened")),
     }
 }
 
-// Whether a core shows these bytes for each side of its tiles.
+// Whether a core shows this file of edits for each side of its tiles.
 fn does_each_core_show(
     alloc: Global,
-    painting: &Painting,
+    edits: &str,
+    image: &str,
     conn: Conn,
-    bytes: &[u8],
+    file: &[u8],
 ) -> Result<bool, Fail> {
     for side in SIDES {
-        if shown(alloc, painting, conn, side)?.as_slice() != bytes {
+        if shown(alloc, edits, image, conn, side)?.as_slice() != file {
             return Ok(false);
         }
     }
     Ok(true)
 }
 
-// Whether a view, and a view over what another kept, show what a core shows.
-fn are_all_the_same(alloc: Global, painting: &Painting, conn: Conn) -> Result<bool, Fail> {
-    let file = shown(alloc, painting, conn, 8)?;
-    let is_viewed = viewed(alloc, painting, conn)?.is(None, &file);
-    let is_kept = viewed_over(alloc, painting, conn)?.is(None, &file);
-    Ok(is_viewed && is_kept && does_each_core_show(alloc, painting, conn, &file)?)
+// Whether a view of edits shows this file.
+fn does_view_show(
+    alloc: Global,
+    edits: &str,
+    image: &str,
+    conn: Conn,
+    file: &[u8],
+) -> Result<bool, Memory> {
+    let mut source = source_of(alloc, edits, image)?;
+    let mut sink = MemorySink::new(alloc);
+    let is_well = Call::View.ends(alloc, &mut source, conn, &mut sink, "")?;
+    Ok(is_well && sink.written() == file)
 }
 
-// Whether it is so for the next painting of a seed.
-fn are_they_next(alloc: Global, seed: &mut u64, conn: Conn) -> Result<bool, Fail> {
-    let painting = some_painting(alloc, seed)?;
-    are_all_the_same(alloc, &painting, conn)
+// Whether a view of edits over a state file shows this file.
+fn does_kept_view_show(
+    alloc: Global,
+    state: &mut Vec<u8>,
+    edits: &str,
+    image: &str,
+    conn: Conn,
+    file: &[u8],
+) -> Result<bool, Memory> {
+    let mut source = source_of(alloc, edits, image)?;
+    let mut sink = MemorySink::new(alloc);
+    let fault = kept_fault(alloc, &mut source, state, conn, 8, &mut sink);
+    Ok(fault.is_none() && sink.written() == file)
+}
+
+// Whether a view of all edits, one of the second over what the first leave, and cores show the same.
+fn are_the_same(
+    alloc: Global,
+    first: &str,
+    second: &str,
+    image: &str,
+    conn: Conn,
+) -> Result<bool, Fail> {
+    let edits = format!(in alloc; "{first}{second}")?;
+    let file = shown(alloc, edits.as_str(), image, conn, 8)?;
+    let mut state = file_left(alloc, first, image, conn)?;
+    Ok(
+        does_kept_view_show(alloc, &mut state, second, image, conn, &file)?
+            && does_view_show(alloc, edits.as_str(), image, conn, &file)?
+            && does_each_core_show(alloc, edits.as_str(), image, conn, &file)?,
+    )
+}
+
+// Whether they are the same on the next image of a seed, of 8 to 80 columns and rows, with 40 edits.
+fn are_next_the_same(alloc: Global, seed: &mut u64, conn: Conn) -> Result<bool, Fail> {
+    let w = draw(seed, 73).saturating_add(8);
+    let h = draw(seed, 73).saturating_add(8);
+    let image = some_mask(alloc, seed, w, h)?;
+    let first = some_lines(alloc, seed, 100, w, h)?;
+    let second = some_lines(alloc, seed, 120, w, h)?;
+    are_the_same(alloc, first.as_str(), second.as_str(), image.as_str(), conn)
 }
 
 #[test]
@@ -84,7 +122,7 @@ fn a_view_shows_what_a_core_shows(rt: HostRuntime) -> Result<(), Fail> {
         let mut seed: u64 = seed;
         for number in 0..12 {
             assert!(rt;
-                are_they_next(rt.alloc(), &mut seed, conn)?,
+                are_next_the_same(rt.alloc(), &mut seed, conn)?,
                 "{number} of {conn:?}"
             );
         }

@@ -1,82 +1,20 @@
-//! Inputs, and the calls of a session that the tests make on them. No function here promises anything, which keeps the
-//! proofs of the tests small.
-
-ghost use Rattle.std.specs.Prelude.{⊤};
+//! Inputs, the calls of a session that the tests make on them, and how the calls end. No function here promises
+//! anything, which keeps the proofs of the tests small.
 
 use byte_devices::{MemorySink, MemorySource};
 use grid_core::{Conn, Memory};
 use paint_session::derive::{Derivation, derive_run};
 use paint_session::run_error::{RunError, fault_line, status};
-use paint_session::view::{view_from, view_kept, view_run, view_tiled};
-use pgm_codec::PgmError;
+use paint_session::view::{view_kept, view_run, view_tiled};
 use std::alloc::Global;
-use std::marker::Model;
+use std::test::Fail;
 use stroke_lattice::State;
 
 /// A mask of one row, behind its line `image`.
 pub const ROW: &str = "image\nP2\n5 1\n9\n3 5 2 5 4\n";
 
-/// An input of 84 bytes.
-pub const STORED: &str =
-    "place 00000000-0000-0000-0000-000000000001 73 0:1-1\nimage\nP2\n5 1\n255\n67 69 66 69 68\n";
-
-/// The 16 bytes of its view.
-pub const STORED_VIEW: &[u8] = b"P5\n5 1\n255\nCEBBB";
-
-/// A device that failed.
-pub const DEVICE: Option<RunError> = Some(RunError::Pgm(PgmError::Device));
-
-/// How a run ended: its fault, where it met one, and what it wrote.
-#[derive(Drop)]
-pub struct Ending {
-    fault: Option<RunError>,
-    sink: MemorySink,
-}
-
-impl Model for Ending {
-    ghost Value = { ⊤ };
-
-    ghost view = { λ _. tt };
-}
-
-impl Ending {
-    /// Whether this was the fault, and these bytes were written.
-    pub fn is(&self, fault: Option<RunError>, written: &[u8]) -> bool {
-        self.fault == fault && self.sink.written() == written
-    }
-
-    /// Whether there was no fault.
-    pub fn is_well(&self) -> bool {
-        self.fault.is_none()
-    }
-
-    /// Whether there was no fault, and the row was written with these samples.
-    pub fn is_row(&self, samples: &[u8]) -> bool {
-        match self.sink.written().strip_prefix(b"P5\n5 1\n9\n".as_slice()) {
-            Some(row) => self.is_well() && row == samples,
-            None => false,
-        }
-    }
-
-    /// Whether the fault is told by the status 1 and this line, in which tags are letters, and nothing was written.
-    pub fn is_refusal(&self, alloc: Global, line: &str) -> Result<bool, Memory> {
-        match &self.fault {
-            Some(error) if self.sink.written().is_empty() => is_told(alloc, error, 1, line),
-            _ => Ok(false),
-        }
-    }
-}
-
-/// Whether a fault has this status and this line, in which tags are written as letters.
-pub fn is_told(alloc: Global, error: &RunError, number: u8, line: &str) -> Result<bool, Memory> {
-    let line = with_tags(alloc, line)?;
-    Ok(status(error) == number && has_line(alloc, error, line.as_str())?)
-}
-
-fn has_line(alloc: Global, error: &RunError, line: &str) -> Result<bool, Memory> {
-    let told = fault_line(alloc, error)?;
-    Ok(told.as_str() == line)
-}
+/// A mask of five rows and columns, behind its line `image`.
+pub const SQUARE: &str = "image\nP2\n5 5\n9\n9 9 9 9 9 9 9 9 9 9 9 9 9 9 9 9 9 9 9 9 9 9 9 9 9\n";
 
 /// The text with the tags 1 and 2 written out where it has A and B.
 pub fn with_tags(alloc: Global, text: &str) -> Result<String, Memory> {
@@ -91,83 +29,124 @@ pub fn with_tags(alloc: Global, text: &str) -> Result<String, Memory> {
     Ok(written)
 }
 
-/// A source of this text.
-pub fn source_of(alloc: Global, input: &str) -> Result<MemorySource, Memory> {
-    Ok(MemorySource::new(Vec::from_slice(alloc, input.as_bytes())?))
-}
-
 /// A source of edits, with their tags written out, and of what stands behind them.
-pub fn source_behind(alloc: Global, edits: &str, behind: &str) -> Result<MemorySource, Memory> {
+pub fn source_of(alloc: Global, edits: &str, behind: &str) -> Result<MemorySource, Memory> {
     let mut input = with_tags(alloc, edits)?;
     input.push_str(behind)?;
-    source_of(alloc, input.as_str())
+    Ok(MemorySource::new(input.into_bytes()))
 }
 
-/// A view.
-pub fn view(alloc: Global, source: MemorySource, conn: Conn, sink: MemorySink) -> Ending {
-    let (mut source, mut sink) = (source, sink);
-    let outcome = view_run(alloc, &mut source, conn, &mut sink);
-    Ending {
-        fault: outcome.err(),
-        sink,
+/// Whether a fault is told so: by its status, a blank and its line, with tags as letters. No fault is told by nothing.
+pub fn is_told(alloc: Global, fault: Option<RunError>, text: &str) -> Result<bool, Memory> {
+    let Some(error) = fault else {
+        return Ok(text.is_empty());
+    };
+    let line = fault_line(alloc, &error)?;
+    let told = format!(in alloc; "{} {line}", status(&error))?;
+    let text = with_tags(alloc, text)?;
+    Ok(told.as_str() == text.as_str())
+}
+
+/// What a session is asked for.
+pub enum Call {
+    /// A view.
+    View,
+    /// A view for tiles of each of these sides, from one source to one sink. It ends as the last of them.
+    Tiled(&'static [u32]),
+    /// This derivation, for this h.
+    Derive(Derivation, u16),
+}
+
+impl Call {
+    /// Whether the call ends with this fault, told by its status and its line; with none where the text is empty.
+    pub fn ends(
+        &self,
+        alloc: Global,
+        source: &mut MemorySource,
+        conn: Conn,
+        sink: &mut MemorySink,
+        fault: &str,
+    ) -> Result<bool, Memory> {
+        match self {
+            Call::View => view_ends(alloc, source, conn, sink, fault),
+            Call::Tiled(sides) => tiled_ends(alloc, source, conn, sides, sink, fault),
+            Call::Derive(kind, h) => derive_ends(alloc, source, *kind, *h, conn, sink, fault),
+        }
     }
 }
 
-/// A view over the bytes of a state file, which has the new bytes afterwards.
-pub fn view_file(
+fn view_ends(
     alloc: Global,
-    source: MemorySource,
+    source: &mut MemorySource,
+    conn: Conn,
+    sink: &mut MemorySink,
+    fault: &str,
+) -> Result<bool, Memory> {
+    match view_run(alloc, source, conn, sink) {
+        Ok(()) => Ok(fault.is_empty()),
+        Err(error) => is_told(alloc, Some(error), fault),
+    }
+}
+
+// Whether the last of some views ends so, each for tiles of another side.
+fn tiled_ends(
+    alloc: Global,
+    source: &mut MemorySource,
+    conn: Conn,
+    sides: &[u32],
+    sink: &mut MemorySink,
+    fault: &str,
+) -> Result<bool, Memory> {
+    let Ok(none) = State::empty(alloc) else {
+        return Err(Memory);
+    };
+    let mut last = None;
+    for side in sides {
+        last = view_tiled(alloc, source, &none, conn, *side, sink).err();
+    }
+    is_told(alloc, last, fault)
+}
+
+fn derive_ends(
+    alloc: Global,
+    source: &mut MemorySource,
+    kind: Derivation,
+    h: u16,
+    conn: Conn,
+    sink: &mut MemorySink,
+    fault: &str,
+) -> Result<bool, Memory> {
+    match derive_run(alloc, source, kind, h, conn, sink) {
+        Ok(()) => Ok(fault.is_empty()),
+        Err(error) => is_told(alloc, Some(error), fault),
+    }
+}
+
+/// Why a view over the bytes of a state file ends without its image, if it does. Else the file has its new bytes.
+pub fn kept_fault(
+    alloc: Global,
+    source: &mut MemorySource,
     file: &mut Vec<u8>,
     conn: Conn,
     side: u32,
-) -> Ending {
-    let (mut source, mut sink) = (source, MemorySink::new(alloc));
-    let fault = match view_kept(alloc, &mut source, file, conn, side, &mut sink) {
+    sink: &mut MemorySink,
+) -> Option<RunError> {
+    match view_kept(alloc, source, file, conn, side, sink) {
         Ok(new) => {
             *file = new;
             None
         }
         Err(error) => Some(error),
-    };
-    Ending { fault, sink }
-}
-
-/// A view over a state, which is the new one afterwards.
-pub fn view_state(alloc: Global, source: MemorySource, state: &mut State, conn: Conn) -> Ending {
-    let (mut source, mut sink) = (source, MemorySink::new(alloc));
-    let fault = match view_from(alloc, &mut source, state, conn, &mut sink) {
-        Ok(new) => {
-            *state = new;
-            None
-        }
-        Err(error) => Some(error),
-    };
-    Ending { fault, sink }
-}
-
-/// A view over a state, for a side of tiles.
-pub fn view_side(alloc: Global, source: &mut MemorySource, old: &State, side: u32) -> Ending {
-    let mut sink = MemorySink::new(alloc);
-    let outcome = view_tiled(alloc, source, old, Conn::Four, side, &mut sink);
-    Ending {
-        fault: outcome.err(),
-        sink,
     }
 }
 
-/// A derivation.
-pub fn derive(
-    alloc: Global,
-    source: MemorySource,
-    kind: Derivation,
-    h: u16,
-    conn: Conn,
-    sink: MemorySink,
-) -> Ending {
-    let (mut source, mut sink) = (source, sink);
-    let outcome = derive_run(alloc, &mut source, kind, h, conn, &mut sink);
-    Ending {
-        fault: outcome.err(),
-        sink,
+/// The state file that a view over none leaves.
+pub fn file_left(alloc: Global, edits: &str, image: &str, conn: Conn) -> Result<Vec<u8>, Fail> {
+    let mut file = Vec::new(alloc);
+    let mut source = source_of(alloc, edits, image)?;
+    let mut sink = MemorySink::new(alloc);
+    match kept_fault(alloc, &mut source, &mut file, conn, 64, &mut sink) {
+        None => Ok(file),
+        Some(_) => Err(Fail::new("the view is refused")),
     }
 }

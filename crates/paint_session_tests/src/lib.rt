@@ -4,13 +4,16 @@
 //! settles, and shows the same bytes.
 //!
 //! They stand in a crate of their own because tests are proved safe as well, and because the session does not stand on
-//! a core. `calls`, `chance` and `rival` have the calls that the tests make, in functions that promise nothing, so that
-//! a test is proved without the contracts of what it calls; what the calls answer is compared when the tests run.
+//! a core. `calls` has the calls that the tests make, in functions that promise nothing, so that a test is proved
+//! without the contracts of what it calls; what the calls answer is compared when the tests run. `cases` plays tables
+//! of cases, and a failure names its case.
 
 #[cfg(test)]
 mod beside_core;
 #[cfg(test)]
 mod calls;
+#[cfg(test)]
+mod cases;
 #[cfg(test)]
 mod chance;
 #[cfg(test)]
@@ -19,8 +22,6 @@ mod derive;
 mod faults;
 #[cfg(test)]
 mod kept;
-#[cfg(test)]
-mod rival;
 #[cfg(test)]
 mod store;
 #[cfg(test)]

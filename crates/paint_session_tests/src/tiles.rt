@@ -1,80 +1,132 @@
 //! Views for a side of tiles, and over an old state.
 
-use crate::calls::{
-    ROW, STORED, STORED_VIEW, source_behind, source_of, view, view_side, view_state, with_tags,
-};
+use crate::calls::{Call, ROW, is_told, source_of, with_tags};
+use crate::cases::{Case, ON_ROW, STORED, STORED_VIEW, play_all};
 use byte_devices::MemorySink;
-use core_rules::CoreError;
 use edit_lang::parse;
 use grid_core::{Conn, Memory};
-use paint_session::run_error::RunError;
+use paint_session::view::view_from;
 use std::alloc::Global;
 use std::test::Fail;
 use stroke_core::Tag;
 use stroke_lattice::State;
 
-fn no_state(alloc: Global) -> Result<State, Fail> {
-    State::empty(alloc).map_err(|_| Fail::new("memory"))
-}
+// A ring of 9 round 18 by 18 pixels of 0.
+const RING: &str = "image\nP2\n20 20\n9\n\
+    9 9 9 9 9 9 9 9 9 9 9 9 9 9 9 9 9 9 9 9 \
+    9 0 0 0 0 0 0 0 0 0 0 0 0 0 0 0 0 0 0 9 \
+    9 0 0 0 0 0 0 0 0 0 0 0 0 0 0 0 0 0 0 9 \
+    9 0 0 0 0 0 0 0 0 0 0 0 0 0 0 0 0 0 0 9 \
+    9 0 0 0 0 0 0 0 0 0 0 0 0 0 0 0 0 0 0 9 \
+    9 0 0 0 0 0 0 0 0 0 0 0 0 0 0 0 0 0 0 9 \
+    9 0 0 0 0 0 0 0 0 0 0 0 0 0 0 0 0 0 0 9 \
+    9 0 0 0 0 0 0 0 0 0 0 0 0 0 0 0 0 0 0 9 \
+    9 0 0 0 0 0 0 0 0 0 0 0 0 0 0 0 0 0 0 9 \
+    9 0 0 0 0 0 0 0 0 0 0 0 0 0 0 0 0 0 0 9 \
+    9 0 0 0 0 0 0 0 0 0 0 0 0 0 0 0 0 0 0 9 \
+    9 0 0 0 0 0 0 0 0 0 0 0 0 0 0 0 0 0 0 9 \
+    9 0 0 0 0 0 0 0 0 0 0 0 0 0 0 0 0 0 0 9 \
+    9 0 0 0 0 0 0 0 0 0 0 0 0 0 0 0 0 0 0 9 \
+    9 0 0 0 0 0 0 0 0 0 0 0 0 0 0 0 0 0 0 9 \
+    9 0 0 0 0 0 0 0 0 0 0 0 0 0 0 0 0 0 0 9 \
+    9 0 0 0 0 0 0 0 0 0 0 0 0 0 0 0 0 0 0 9 \
+    9 0 0 0 0 0 0 0 0 0 0 0 0 0 0 0 0 0 0 9 \
+    9 0 0 0 0 0 0 0 0 0 0 0 0 0 0 0 0 0 0 9 \
+    9 9 9 9 9 9 9 9 9 9 9 9 9 9 9 9 9 9 9 9\n";
 
-// Whether a view over no state, with tiles of this side, is refused for the side, with nothing written, and the source
-// then gives its view with tiles of side 8.
-fn is_side_refused(alloc: Global, none: &State, side: u32) -> Result<bool, Memory> {
-    let mut source = source_of(alloc, STORED)?;
-    let fault = Some(RunError::Core(CoreError::BadSide));
-    let is_refused = view_side(alloc, &mut source, none, side).is(fault, b"");
-    Ok(is_refused && view_side(alloc, &mut source, none, 8).is(None, STORED_VIEW))
-}
+// The same ring of 7, as a raw file.
+const SHOWN_RING: &[u8] = b"P5\n20 20\n9\n\
+    \x07\x07\x07\x07\x07\x07\x07\x07\x07\x07\x07\x07\x07\x07\x07\x07\x07\x07\x07\x07\
+    \x07\0\0\0\0\0\0\0\0\0\0\0\0\0\0\0\0\0\0\x07\
+    \x07\0\0\0\0\0\0\0\0\0\0\0\0\0\0\0\0\0\0\x07\
+    \x07\0\0\0\0\0\0\0\0\0\0\0\0\0\0\0\0\0\0\x07\
+    \x07\0\0\0\0\0\0\0\0\0\0\0\0\0\0\0\0\0\0\x07\
+    \x07\0\0\0\0\0\0\0\0\0\0\0\0\0\0\0\0\0\0\x07\
+    \x07\0\0\0\0\0\0\0\0\0\0\0\0\0\0\0\0\0\0\x07\
+    \x07\0\0\0\0\0\0\0\0\0\0\0\0\0\0\0\0\0\0\x07\
+    \x07\0\0\0\0\0\0\0\0\0\0\0\0\0\0\0\0\0\0\x07\
+    \x07\0\0\0\0\0\0\0\0\0\0\0\0\0\0\0\0\0\0\x07\
+    \x07\0\0\0\0\0\0\0\0\0\0\0\0\0\0\0\0\0\0\x07\
+    \x07\0\0\0\0\0\0\0\0\0\0\0\0\0\0\0\0\0\0\x07\
+    \x07\0\0\0\0\0\0\0\0\0\0\0\0\0\0\0\0\0\0\x07\
+    \x07\0\0\0\0\0\0\0\0\0\0\0\0\0\0\0\0\0\0\x07\
+    \x07\0\0\0\0\0\0\0\0\0\0\0\0\0\0\0\0\0\0\x07\
+    \x07\0\0\0\0\0\0\0\0\0\0\0\0\0\0\0\0\0\0\x07\
+    \x07\0\0\0\0\0\0\0\0\0\0\0\0\0\0\0\0\0\0\x07\
+    \x07\0\0\0\0\0\0\0\0\0\0\0\0\0\0\0\0\0\0\x07\
+    \x07\0\0\0\0\0\0\0\0\0\0\0\0\0\0\0\0\0\0\x07\
+    \x07\x07\x07\x07\x07\x07\x07\x07\x07\x07\x07\x07\x07\x07\x07\x07\x07\x07\x07\x07";
+
+const SIDES: &[Case] = &[
+    Case {
+        name: "tiles have no such side",
+        calls: &[Call::Tiled(&[0]), Call::Tiled(&[7]), Call::Tiled(&[257])],
+        fault: "1 seedpaint: C5",
+        ..STORED
+    },
+    Case {
+        name: "tiles of no such side are refused before anything is read or written",
+        calls: &[
+            Call::Tiled(&[0, 8]),
+            Call::Tiled(&[7, 8]),
+            Call::Tiled(&[257, 8]),
+        ],
+        written: STORED_VIEW,
+        ..STORED
+    },
+    Case {
+        name: "the side of the tiles does not show",
+        calls: &[
+            Call::View,
+            Call::Tiled(&[8]),
+            Call::Tiled(&[9]),
+            Call::Tiled(&[256]),
+        ],
+        edits: &["disc A 7 0:0+0\n"],
+        behind: RING,
+        written: SHOWN_RING,
+        ..ON_ROW
+    },
+];
 
 #[test]
-fn tiles_of_no_such_side_are_refused_before_anything_is_read(rt: HostRuntime) -> Result<(), Fail> {
-    let none = no_state(rt.alloc())?;
-    for side in [0, 7, 257] {
-        assert!(rt; is_side_refused(rt.alloc(), &none, side)?, "{side}");
-    }
-    Ok(())
+fn views_for_a_side_of_tiles(rt: HostRuntime) -> Result<(), Fail> {
+    play_all(rt.alloc(), SIDES)
 }
 
-// A text, and behind it a ring of 20 by 20 pixels in these words, row by row.
-fn ring(alloc: Global, front: &str, border: &str, inner: &str) -> Result<String, Memory> {
-    let mut text = String::from_str(alloc, front)?;
-    for pixel in 0..400u32 {
-        let (x, y) = (pixel % 20, pixel / 20);
-        let is_border = x == 0 || y == 0 || x == 19 || y == 19;
-        text.push_str(if is_border { border } else { inner })?;
-    }
-    Ok(text)
-}
+// A name, the edit line that leaves the old state, and how a view of B on the row over it ends: its fault, what is
+// written, and whether A and B are live then.
+type Over = (
+    &'static str,
+    &'static str,
+    &'static str,
+    &'static [u8],
+    bool,
+);
 
-const DISC: &str = "disc 00000000-0000-0000-0000-000000000001 7 0:0+0\nimage\nP2\n20 20\n9\n";
-
-// Whether this is the view of the ring, painted with level 7 in a corner, for tiles of this side.
-fn is_ring_shown(alloc: Global, side: u32, file: &[u8]) -> Result<bool, Fail> {
-    let input = ring(alloc, DISC, "9 ", "0 ")?;
-    let mut source = source_of(alloc, input.as_str())?;
-    let none = no_state(alloc)?;
-    Ok(view_side(alloc, &mut source, &none, side).is(None, file))
-}
-
-// Whether it is the view without a side.
-fn is_ring_seen(alloc: Global, file: &[u8]) -> Result<bool, Fail> {
-    let input = ring(alloc, DISC, "9 ", "0 ")?;
-    let source = source_of(alloc, input.as_str())?;
-    Ok(view(alloc, source, Conn::Four, MemorySink::new(alloc)).is(None, file))
-}
-
-#[test]
-fn the_side_of_the_tiles_does_not_show(rt: HostRuntime) -> Result<(), Fail> {
-    let file = ring(rt.alloc(), "P5\n20 20\n9\n", "\x07", "\x00")?;
-    assert!(rt; is_ring_seen(rt.alloc(), file.as_str().as_bytes())?);
-    for side in [8, 9, 256] {
-        assert!(rt;
-            is_ring_shown(rt.alloc(), side, file.as_str().as_bytes())?,
-            "{side}"
-        );
-    }
-    Ok(())
-}
+const OVER: &[Over] = &[
+    (
+        "an old state is merged first",
+        "place A 9 0:1-1\n",
+        "",
+        b"P5\n5 1\n9\n\x03\x05\x02\x03\x03",
+        true,
+    ),
+    (
+        "a stroke of the old state lies beside the image",
+        "place A 9 1:1-1\n",
+        "1 seedpaint: C1 A",
+        b"",
+        false,
+    ),
+    (
+        "the old state has another stroke of the tag",
+        "place B 9 0:1-1\n",
+        "1 seedpaint: C2 B",
+        b"",
+        false,
+    ),
+];
 
 // The state of one edit line.
 fn state_of(alloc: Global, line: &str) -> Result<State, Fail> {
@@ -85,39 +137,30 @@ fn state_of(alloc: Global, line: &str) -> Result<State, Fail> {
     }
 }
 
-// Whether B placed on the row over a state shows these samples, with both tags live.
-fn are_both_shown(alloc: Global, old: State, samples: &[u8]) -> Result<bool, Memory> {
-    let mut state = old;
-    let source = source_behind(alloc, "place B 3 0:4-4\n", ROW)?;
-    let is_shown = view_state(alloc, source, &mut state, Conn::Four).is_row(samples);
-    Ok(is_shown && state.is_live(Tag(1)) && state.is_live(Tag(2)))
+// Whether a view of B on the row over an old state ends so.
+fn does_end_so(alloc: Global, old: &State, over: &Over) -> Result<bool, Memory> {
+    let (_, _, told, written, are_live) = over;
+    let mut source = source_of(alloc, "place B 3 0:4-4\n", ROW)?;
+    let mut sink = MemorySink::new(alloc);
+    let (fault, live) = match view_from(alloc, &mut source, old, Conn::Four, &mut sink) {
+        Ok(state) => (None, state.is_live(Tag(1)) && state.is_live(Tag(2))),
+        Err(error) => (Some(error), false),
+    };
+    Ok(live == *are_live && sink.written() == *written && is_told(alloc, fault, told)?)
 }
 
-#[test]
-fn an_old_state_is_merged_first(rt: HostRuntime) -> Result<(), Fail> {
-    let old = state_of(rt.alloc(), "place A 9 0:1-1\n")?;
-    assert!(rt; are_both_shown(rt.alloc(), old, &[3, 5, 2, 3, 3])?);
-    Ok(())
-}
-
-// Whether B placed on the row over a state is refused so before anything is written.
-fn is_refused_over(alloc: Global, old: State, error: CoreError) -> Result<bool, Memory> {
-    let mut state = old;
-    let source = source_behind(alloc, "place B 3 0:4-4\n", ROW)?;
-    let fault = Some(RunError::Core(error));
-    Ok(view_state(alloc, source, &mut state, Conn::Four).is(fault, b""))
-}
-
-const REFUSED: [(&str, CoreError); 2] = [
-    ("place A 9 1:1-1\n", CoreError::OutOfImage(Tag(1))),
-    ("place B 9 0:1-1\n", CoreError::Conflict(Tag(2))),
-];
-
-#[test]
-fn an_old_state_is_the_first_delta(rt: HostRuntime) -> Result<(), Fail> {
-    for (line, error) in REFUSED {
-        let old = state_of(rt.alloc(), line)?;
-        assert!(rt; is_refused_over(rt.alloc(), old, error)?, "{line}");
+// Fails at the first view that ends in another way.
+fn view_over_each(alloc: Global) -> Result<(), Fail> {
+    for over in OVER {
+        let old = state_of(alloc, over.1)?;
+        if !does_end_so(alloc, &old, over)? {
+            return Err(Fail::new(format_args!("{} ({:?})", over.0, over.1)));
+        }
     }
     Ok(())
+}
+
+#[test]
+fn views_over_an_old_state(rt: HostRuntime) -> Result<(), Fail> {
+    view_over_each(rt.alloc())
 }
