@@ -6,3 +6,4 @@ pub mod Rasters
 pub mod Borders
 pub mod Growing
 pub mod Views
+pub mod Grown

@@ -24,7 +24,9 @@ mod holes;
 pub mod laws;
 mod maxima;
 mod plateaus;
+mod shown;
 
 pub use holes::fill;
 pub use maxima::h_maxima;
 pub use plateaus::regional_maxima;
+pub use shown::reconstruction;

@@ -10,7 +10,8 @@ use Rattle.spd_codec.specs.declared.frame.Frame.{Frame}
 use Rattle.spd_codec.specs.declared.error.SpdError.{SpdError}
 use Rattle.paint_session.specs.Kept.{print_of, deltas_of, kept_text, IsFrameFor, FileSpells, FileIsOfAnother}
 use Rattle.paint_session.specs.Kept.{IsImageKept, IsKeptView, KeptIsRefused, OldIsRefused}
-use Rattle.paint_session.specs.View.{IsShown, DeltasAreRefused}
+use Rattle.derived_views.specs.Shown.{IsShown}
+use Rattle.paint_session.specs.View.{DeltasAreRefused}
 use Rattle.paint_session.specs.declared.run_error.RunError.{RunError}
 use Rattle.paint_session.specs.declared.run_error.RunError.TheVariants.{Spd}
 use Rattle.paint_session.specs.LowerLaws.{FileLaws, ImageLaws, ReadingLaws, JoinLaw}

@@ -12,7 +12,8 @@ use Rattle.spd_codec.specs.declared.frame.Frame.{Frame}
 use Rattle.spd_codec.specs.declared.error.SpdError.{SpdError}
 use Rattle.spd_codec.specs.declared.error.SpdError.TheVariants as spd
 use Rattle.paint_session.specs.Merging.{AreMerged}
-use Rattle.paint_session.specs.View.{InputSpells, IsShown, Refusal, InputIsRefusedBy, DeltasAreRefused, DeltasHalt}
+use Rattle.derived_views.specs.Shown.{IsShown}
+use Rattle.paint_session.specs.View.{InputSpells, Refusal, InputIsRefusedBy, DeltasAreRefused, DeltasHalt}
 use Rattle.paint_session.specs.declared.run_error.RunError.{RunError}
 use Rattle.paint_session.specs.declared.run_error.RunError.TheVariants.{Spd, OtherMask}
 

@@ -6,6 +6,7 @@ pub use Rattle.edit_lang.specs.Edit
 pub use Rattle.stroke_lattice.specs.State
 pub use Rattle.marker_tiles.specs.Marker
 pub use Rattle.spd_codec.specs.StateFile
+pub use Rattle.derived_views.specs.Shown
 pub use Rattle.derived_views.specs.Holes
 pub use Rattle.derived_views.specs.HMaxima
 pub use Rattle.derived_views.specs.Plateaus

@@ -1,10 +1,6 @@
 -- What a run shows: from the bytes of the input to the bytes of the image.
 use Rattle.std.specs.Prelude.{◌≡◌, ℕ, List, ◌∷◌, ◌⊎◌}
 use Rattle.grid_core.specs.declared.conn.Conn.{Conn}
-use Rattle.grid_core.specs.declared.pixel.Pixel.{Pixel}
-use Rattle.grid_core.specs.Raster.{IsFilled, value_at}
-use Rattle.grid_core.specs.Path.{domain_of}
-use Rattle.grid_core.specs.Reconstruction.{IsReconstruction}
 use Rattle.pgm_codec.specs.Graymap.{Graymap}
 use Rattle.pgm_codec.specs.Spelling.{PgmSpells}
 use Rattle.pgm_codec.specs.FirstFault.{PgmFault}
@@ -13,9 +9,9 @@ use Rattle.pgm_codec.specs.declared.error.PgmError.{PgmError}
 use Rattle.edit_lang.specs.Edit.{EditSpells, IsFirstFault}
 use Rattle.edit_lang.specs.declared.error.EditError.{EditError}
 use Rattle.stroke_lattice.specs.State.{State}
-use Rattle.marker_tiles.specs.Marker.{IsMarker}
 use Rattle.core_rules.specs.declared.error.CoreError.{CoreError}
 use Rattle.core_rules.specs.declared.error.CoreError.TheVariants as core
+use Rattle.derived_views.specs.Shown.{IsShown}
 use Rattle.paint_session.specs.Input.{IsSplit, HasNoImageLine}
 use Rattle.paint_session.specs.Merging.{AreMerged, IsFirstRefusal, IsHalted}
 use Rattle.paint_session.specs.declared.run_error.RunError.{RunError}
@@ -30,17 +26,6 @@ pub record InputSpells (input : List ℕ) (mask : Graymap) (deltas : List State)
   pub split : IsSplit input edits file
   pub edits_spelled : EditSpells edits deltas
   pub mask_spelled : PgmSpells file mask
-
--- the image is Vincent's reconstruction of the mask from the marker of the state, with the mask's maxval
-pub record IsShown (conn : Conn) (mask : Graymap) (state : State) (image : Graymap) : Type 0 where
-  pub width : image.raster.width ≡ mask.raster.width
-  pub height : image.raster.height ≡ mask.raster.height
-  pub filled : IsFilled image.raster
-  pub maxval : image.maxval ≡ mask.maxval
-  pub marker : Pixel → ℕ
-  pub is_marker : IsMarker (domain_of mask.raster conn) (value_at mask.raster) state marker
-  pub is_reconstruction : IsReconstruction (domain_of mask.raster conn) (value_at mask.raster) marker
-      (value_at image.raster)
 
 -- the image is the one that the input asks for: the join of the old state and of its deltas is this state, and shows it
 -- on the mask behind them

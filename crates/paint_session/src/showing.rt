@@ -1,20 +1,19 @@
 //! What an input shows: its image, made once from the join of all deltas.
 
 ghost use Rattle.std.specs.Prelude.{◌++◌, ◌⊎◌, IfOk, IfErr, map};
-ghost use Rattle.stroke_lattice.specs.State.{StateFits};
 ghost use Rattle.paint_session.specs.Kept.{IsImageKept, KeptStops};
 ghost use Rattle.paint_session.specs.Merging.{AreMerged};
 ghost use Rattle.paint_session.specs.RunError.{IsReadingFault};
-ghost use Rattle.paint_session.specs.View.{DeltasAreRefused, DeltasHalt, InputStops, IsImageOfView, IsShown};
+ghost use Rattle.derived_views.specs.Shown.{IsShown};
+ghost use Rattle.paint_session.specs.View.{DeltasAreRefused, DeltasHalt, InputStops, IsImageOfView};
 
 use crate::input::read_input;
 use crate::kept::frames_for;
 use crate::merging::{HasDelta, merge_all};
 use crate::run_error::RunError;
-use grid_core::{Conn, Memory};
-use marker_tiles::marker;
-use pgm_codec::{Image, below_keeps_maxval};
-use raster_sweeps::grow_in_place;
+use derived_views::reconstruction;
+use grid_core::Conn;
+use pgm_codec::Image;
 use spd_codec::{print_of, write_frames};
 use std::alloc::Global;
 use std::slice;
@@ -72,17 +71,6 @@ fn show<D: HasDelta>(
         ⊎ DeltasHalt (map D.delta_of old.now ++ deltas.now) mask.now e) }
 {
     let state = merge_all(alloc, old, deltas, mask.width(), mask.height())?;
-    let image = grown(alloc, mask, &state, conn)?;
+    let image = reconstruction(alloc, mask, &state, conn)?;
     Ok((image, state))
-}
-
-// The mask grown from the marker of a state, with the mask's maxval.
-fn grown(alloc: Global, mask: &Image, state: &State, conn: Conn) -> Result<Image, Memory>
-    requires { StateFits mask.now.raster.width mask.now.raster.height state.now }
-    ensures { IfOk result (IsShown conn mask.now state.now) }
-{
-    below_keeps_maxval();
-    let mut image = marker(alloc, mask.grid(), state)?;
-    grow_in_place(alloc, mask.grid(), &mut image, conn)?;
-    Ok(Image::over(image, mask.maxval()))
 }

@@ -4,7 +4,8 @@ use Rattle.std.proofs.lemmas.Result.{err_from_is_err_and, IfErr-weaker}
 use Rattle.stroke_lattice.specs.State.{State}
 use Rattle.paint_session.specs.Merging.{AreMerged}
 use Rattle.paint_session.specs.RunError.{IsReadingFault}
-use Rattle.paint_session.specs.View.{DeltasAreRefused, DeltasHalt, InputStops, IsImageOfView, IsShown}
+use Rattle.derived_views.specs.Shown.{IsShown}
+use Rattle.paint_session.specs.View.{DeltasAreRefused, DeltasHalt, InputStops, IsImageOfView}
 use Rattle.paint_session.proofs.Deltas.{behind_one}
 use Rattle.paint_session.proofs.Refusals.{RefusedBehind, faulty_input, input_stops}
 use Rattle.paint_session.proofs.Results.{ok_both}

@@ -1,8 +1,8 @@
 use Rattle.std.proofs.Common.{sym, ◌∙◌, subst}
 use Rattle.grid_core.specs.Raster.{Raster, IsBelow}
 use Rattle.stroke_lattice.specs.State.{StateFits}
-use Rattle.paint_session.proofs.Shown.{grown_is_shown}
-use Rattle.paint_session.proofs.showing.grown.Goals as goal
+use Rattle.derived_views.proofs.Grown.{grown_is_shown}
+use Rattle.derived_views.proofs.shown.reconstruction.Goals as goal
 
 pub marker-requires : goal.marker-requires
 marker-requires c =

@@ -1,0 +1,32 @@
+//! What strokes show on an image: the reconstruction by dilation from their marker (Vincent 1993).
+
+ghost use Rattle.std.specs.Prelude.{IfOk};
+ghost use Rattle.stroke_lattice.specs.State.{StateFits};
+ghost use Rattle.derived_views.specs.Shown.{IsShown};
+
+use grid_core::{Conn, Memory};
+use marker_tiles::marker;
+use pgm_codec::{Image, below_keeps_maxval};
+use raster_sweeps::grow_in_place;
+use std::alloc::Global;
+use stroke_lattice::State;
+
+/// The reconstruction by dilation of a mask from the marker of the live strokes of a state, under this connectivity
+/// (Vincent 1993). Width, height and maxval are the mask's. Condition: each stroke of the state fits the mask
+/// (`State::outside` tells).
+///
+/// Errors: out of memory.
+pub fn reconstruction(
+    alloc: Global,
+    mask: &Image,
+    state: &State,
+    conn: Conn,
+) -> Result<Image, Memory>
+    requires { StateFits mask.now.raster.width mask.now.raster.height state.now }
+    ensures { IfOk result (IsShown conn mask.now state.now) }
+{
+    below_keeps_maxval();
+    let mut image = marker(alloc, mask.grid(), state)?;
+    grow_in_place(alloc, mask.grid(), &mut image, conn)?;
+    Ok(Image::over(image, mask.maxval()))
+}
