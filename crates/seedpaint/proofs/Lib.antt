@@ -1,2 +1,3 @@
 pub mod Subcommands
 pub mod Calls
+pub mod Parsing

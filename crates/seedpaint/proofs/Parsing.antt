@@ -1,0 +1,66 @@
+-- What an answer of clap says of the words that it was given.
+use Rattle.std.proofs.Common.{◌≡◌, ◌≢◌, ◌==◌, Bool, true, false, List, [], inl, inr, length, refl, sym, ap, ◌∙◌, subst}
+use Rattle.std.specs.Prelude.{◌⊎◌, ◌∷◌, Result, Err, map}
+use Rattle.std.proofs.lemmas.Result.{IfOk-weaker}
+use Rattle.clap.specs.Words.{App, Text, HasMatchesOf, HasKind, fault_of, is_simple, is_simple_and_free, kind_of}
+use Rattle.clap.specs.Words.{subcommand_of, subcommand_rows_of}
+use Rattle.clap.specs.declared.error.Error.{Error}
+use Rattle.clap.specs.declared.error.kind.ErrorKind.TheVariants as parse
+use Rattle.clap.specs.declared.parser.matches.ArgMatches.{ArgMatches}
+use Rattle.paint_session.specs.declared.run_error.RunError.{RunError}
+use Rattle.paint_session.specs.declared.run_error.RunError.TheVariants as errors
+use Rattle.seedpaint.specs.Words.{program, IsCall, Reads, Says}
+use Rattle.seedpaint.specs.declared.words.Call.{Call}
+use Rattle.seedpaint.proofs.Calls.{reads_none}
+
+module _ (app : App) (is : app ≡ program) (words : List Text) (some : words ≡ [] → ⊥) where
+  -- a call of some words is one that clap finds
+  found : (call : Call) → Says words call
+      → (fault_of program words ≡ []) × IsCall (subcommand_of program words) call
+  found call (inl (none, view)) = absurd (some none)
+  found call (inr parsed) = parsed
+
+  free : is_simple_and_free app ≡ true
+  free = subst (λ (a : App). is_simple_and_free a ≡ true) (sym is) refl
+
+  simple : is_simple app ≡ true
+  simple = subst (λ (a : App). is_simple a ≡ true) (sym is) refl
+
+  -- what is read of the subcommand that clap found is read of the words
+  pub read_by_clap : (matches : ArgMatches) → (is_simple_and_free app ≡ true → fault_of app words ≡ [])
+      → HasMatchesOf app words matches → (result : Result Call RunError)
+      → Reads (IsCall (subcommand_rows_of matches)) result → Reads (Says words) result
+  read_by_clap matches kinds has result read =
+      let none : fault_of program words ≡ [] = subst (λ (a : App). fault_of a words ≡ []) is (kinds free) in
+      let rows : subcommand_rows_of matches ≡ subcommand_of program words =
+      (has simple).1 ∙ ap (λ (a : App). subcommand_of a words) is in
+      record {
+        said = IfOk-weaker result _ (Says words) (λ call said. inr (none, subst (λ r. IsCall r call) rows said)) read.said;
+        refused = read.refused;
+        usage = λ same call says. read.usage same call (subst (λ r. IsCall r call) (sym rows) (found call says).1);
+      }
+
+  -- and what clap refuses is want of memory, or words that say no call
+  pub refused_by_clap : (error : Error) → (is_simple_and_free app ≡ true → HasKind (fault_of app words) error)
+      → (e : RunError) → ((kind_of error ≡ parse.OutOfMemory) × (e ≡ errors.Memory))
+      ⊎ ((kind_of error ≢ parse.OutOfMemory) × (e ≡ errors.Usage)) → Reads (Says words) (Err e)
+  refused_by_clap error kinds e (inl (memory, is_memory)) =
+      reads_none (Says words) e (inr is_memory) (λ usage. cc)
+  refused_by_clap error kinds e (inr (no_memory, is_usage)) =
+      reads_none (Says words) e (inl is_usage) (λ usage call says.
+      let kind = subst (λ (a : App). HasKind (fault_of a words) error) is (kinds free) in
+      let none = subst (λ ks. HasKind ks error) (found call says).0 kind in
+      elim none [
+        | inl memory ↦ no_memory memory
+        | inr among ↦ among
+      ])
+
+-- no text of no string is no string
+pub none_of_none : {A B : Type 0} (f : A → B) (xs : List A) → map f xs ≡ [] → xs ≡ []
+none_of_none f [] is = refl
+none_of_none f (x ∷ xs) is = cc
+
+-- a list that is not empty, as its length was asked, has something
+pub some_left : {A : Type 0} (xs : List A) (empty : Bool) → empty ≡ (length xs == 0) → empty ≡ false → xs ≡ [] → ⊥
+some_left [] empty is is_false none = let same : true ≡ false = sym is ∙ is_false in cc
+some_left (x ∷ xs) empty is is_false none = cc
