@@ -33,7 +33,8 @@ fn main(rt: HostRuntime) -> Result<()> {
 
 // Opens a core on the mask, and measures the last edits on it.
 fn bench(rt: &(impl Print + CpuClock + AllocGlobal), call: &Call, input: &Input) -> Result<()> {
-    let mut core = Core::open_tiled(rt.alloc(), &input.mask, Conn::Four, call.side, 0)?;
+    let core = Core::open_tiled(rt.alloc(), &input.mask, Conn::Four, call.side, 0)?;
+    let mut core = Box::new(rt.alloc(), core)?;
     bench_on(rt, call, &mut core, &input.edits)
 }
 
