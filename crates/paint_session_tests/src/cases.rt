@@ -1,94 +1,121 @@
-//! Cases: calls on inputs, and how they end.
+//! Cases: calls of a session on inputs, and how they end.
 
-use crate::calls::{Call, ROW, source_of};
-use byte_devices::MemorySink;
+use byte_devices::{MemorySink, MemorySource};
 use grid_core::{Conn, Memory};
+use paint_session::derive::{Derivation, derive_run};
+use paint_session::run_error::{RunError, fault_line, status};
+use paint_session::view::{view_kept, view_run};
 use std::alloc::Global;
 use std::test::Fail;
 
-/// A case: each of its calls ends so on each of its inputs, also where a pull of one of its numbers fails.
+/// A mask of one row, behind its line `image`.
+pub const ROW: &str = "image\nP2\n5 1\n9\n3 5 2 5 4\n";
+
+/// What is called.
+pub enum Call {
+    /// A view.
+    View,
+    /// A view over a state file.
+    Kept,
+    /// This derivation, for this h.
+    Derive(Derivation, u16),
+}
+
+/// A case: a call on an input, and how it ends. The source gives seven bytes a pull, and the sink takes three a put.
 pub struct Case {
     /// What it shows.
     pub name: &'static str,
-    /// The calls.
-    pub calls: &'static [Call],
+    /// The call.
+    pub call: Call,
     /// The connectivity.
     pub conn: Conn,
-    /// The edits of each input, with A and B for the tags 1 and 2.
-    pub edits: &'static [&'static str],
-    /// What stands behind the edits in each input.
+    /// The state file before.
+    pub old: &'static [u8],
+    /// The edits of the input, with #1 and #2 for the tags 1 and 2.
+    pub edits: &'static str,
+    /// What stands behind the edits in the input.
     pub behind: &'static str,
-    /// At most how many bytes a pull gives and a put takes.
-    pub pieces: usize,
-    /// The pulls that fail in turn, counted from 1; at 0 none fails.
-    pub pulls: &'static [u64],
     /// The put that fails, counted from 1; at 0 none fails.
     pub put: u64,
-    /// The status of the fault and its line, with A and B for the tags; nothing where there is none.
-    pub fault: &'static str,
+    /// The status of the fault and its line; nothing where there is none.
+    pub fault: (u8, &'static str),
     /// What is written.
     pub written: &'static [u8],
+    /// The state file after.
+    pub new: &'static [u8],
 }
 
 /// A view of no edits on the row, from which other cases are made.
 pub const ON_ROW: Case = Case {
     name: "nothing is placed",
-    calls: &[Call::View],
+    call: Call::View,
     conn: Conn::Four,
-    edits: &[""],
+    old: b"",
+    edits: "",
     behind: ROW,
-    pieces: usize::MAX,
-    pulls: &[0],
     put: 0,
-    fault: "",
+    fault: (0, ""),
     written: b"",
+    new: b"",
 };
 
-/// A view of an input of 84 bytes.
-pub const STORED: Case = Case {
-    edits: &["place A 73 0:1-1\n"],
-    behind: "image\nP2\n5 1\n255\n67 69 66 69 68\n",
-    ..ON_ROW
-};
-
-/// The 16 bytes of that view.
-pub const STORED_VIEW: &[u8] = b"P5\n5 1\n255\nCEBBB";
-
-/// How a device that fails is told.
-pub const DEVICE: &str = "3 seedpaint: P11";
-
-impl Case {
-    // Whether a call ends so on the input of these edits, where this pull fails.
-    fn is_so(&self, alloc: Global, call: &Call, edits: &str, pull: u64) -> Result<bool, Memory> {
-        let pieces = self.pieces.max(1);
-        let source = source_of(alloc, edits, self.behind)?;
-        let mut source = source.in_pieces(pieces).failing_at(pull);
-        let mut sink = MemorySink::new(alloc)
-            .in_pieces(pieces)
-            .failing_at(self.put);
-        let is_told = call.ends(alloc, &mut source, self.conn, &mut sink, self.fault)?;
-        Ok(is_told && sink.written() == self.written)
-    }
-
-    // Plays each call on each input, where this pull fails.
-    fn play(&self, alloc: Global, pull: u64) -> Result<(), Fail> {
-        for call in self.calls {
-            for edits in self.edits {
-                if !self.is_so(alloc, call, edits, pull)? {
-                    let name = self.name;
-                    return Err(Fail::new(format_args!("{name}: {edits:?}, pull {pull}")));
-                }
-            }
-        }
-        Ok(())
+/// Whether a fault is told by this status and this line.
+pub fn is_told(alloc: Global, error: &RunError, told: (u8, &str)) -> bool {
+    match fault_line(alloc, error) {
+        Ok(line) => status(error) == told.0 && line.as_str() == told.1,
+        Err(_) => false,
     }
 }
 
-/// Plays each case. It fails at the first that is not so.
-pub fn play_all(alloc: Global, cases: &[Case]) -> Result<(), Fail> {
+impl Case {
+    // The input.
+    fn input(&self, alloc: Global) -> Result<Vec<u8>, Memory> {
+        let mut input = self
+            .edits
+            .replace(alloc, '#', "00000000-0000-0000-0000-00000000000")?;
+        input.push_str(self.behind)?;
+        Ok(input.into_bytes())
+    }
+
+    // The fault of the call, if there is one. A view over a state file leaves its new bytes.
+    fn fault_of(
+        &self,
+        alloc: Global,
+        source: &mut MemorySource,
+        file: &mut Vec<u8>,
+        sink: &mut MemorySink,
+    ) -> Option<RunError> {
+        match &self.call {
+            Call::View => view_run(alloc, source, self.conn, sink).err(),
+            Call::Kept => match view_kept(alloc, source, file, self.conn, 64, sink) {
+                Ok(new) => {
+                    *file = new;
+                    None
+                }
+                Err(error) => Some(error),
+            },
+            Call::Derive(kind, h) => derive_run(alloc, source, *kind, *h, self.conn, sink).err(),
+        }
+    }
+
+    // Whether the call ends so on this input, where this pull fails.
+    fn is_so(&self, alloc: Global, input: Vec<u8>, pull: u64) -> Result<bool, Memory> {
+        let mut file = Vec::from_slice(alloc, self.old)?;
+        let mut source = MemorySource::new(input).in_pieces(7).failing_at(pull);
+        let mut sink = MemorySink::new(alloc).in_pieces(3).failing_at(self.put);
+        let is_told = match self.fault_of(alloc, &mut source, &mut file, &mut sink) {
+            None => self.fault.0 == 0,
+            Some(error) => is_told(alloc, &error, self.fault),
+        };
+        Ok(is_told && sink.written() == self.written && file.as_slice() == self.new)
+    }
+}
+
+/// Plays each case, where this pull fails, counted from 1; at 0 none fails. It fails at the first that is not so.
+pub fn play_all(alloc: Global, cases: &[Case], pull: u64) -> Result<(), Fail> {
     for case in cases {
-        for pull in case.pulls {
-            case.play(alloc, *pull)?;
+        if !case.is_so(alloc, case.input(alloc)?, pull)? {
+            return Err(Fail::new(case.name));
         }
     }
     Ok(())
