@@ -1,10 +1,12 @@
 #![tactic(auto)]
-//! Views of one greyscale image: its holes filled, its domes cut down, its regional maxima.
+//! Views of one greyscale image: what strokes show on it, its holes filled, its domes cut down, its regional maxima.
 //!
+//! - [`reconstruction`] is what grows on the image, the mask, from the marker of seed strokes (Vincent, "Morphological
+//!   Grayscale Reconstruction in Image Analysis", 1993).
 //! - [`fill`] raises each pixel to the least level at which it escapes to the border of the image: a dark spot that
 //!   brighter pixels enclose is filled up to the lowest of the ways out (Soille, "Morphological Image Analysis").
 //! - [`h_maxima`] is the reconstruction of the image from the image less `h`: each dome loses up to `h` at its top
-//!   (Vincent, "Morphological Grayscale Reconstruction in Image Analysis", 1993).
+//!   (Vincent 1993).
 //! - [`regional_maxima`] is 1 on each plateau that strictly lower pixels surround, and 0 elsewhere (Vincent 1993).
 //!
 //! ```text
@@ -17,8 +19,8 @@
 //! Each takes the memory of at most one grid beside the image that it gives back, and the room of growing
 //! ([`raster_sweeps::Room`]). Want of memory is its one error.
 //!
-//! Read on: `specs/Holes.antt`, `specs/HMaxima.antt` and `specs/Plateaus.antt` say what the three views are. They are
-//! computed by growing (`raster_sweeps`), each in a way of its own that its module tells.
+//! Read on: `specs/Shown.antt`, `specs/Holes.antt`, `specs/HMaxima.antt` and `specs/Plateaus.antt` say what the views are.
+//! They are computed by growing (`raster_sweeps`), each in a way of its own that its module tells.
 
 mod holes;
 pub mod laws;
