@@ -7,22 +7,14 @@
 #[cfg(test)]
 mod edits;
 #[cfg(test)]
-mod files;
-#[cfg(test)]
 mod frames;
 #[cfg(test)]
 mod markers;
 #[cfg(test)]
 mod merging;
 #[cfg(test)]
-mod pieces;
-#[cfg(test)]
-mod prints;
-#[cfg(test)]
 mod scene;
 #[cfg(test)]
 mod states;
 #[cfg(test)]
-mod strokes;
-#[cfg(test)]
-mod tags;
+mod texts;

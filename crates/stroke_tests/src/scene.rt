@@ -1,7 +1,6 @@
 //! A state and the marker that is kept for it.
 
-ghost use Rattle.grid_core.specs.Tiles.{IsTileSide};
-
+use crate::states::state_of;
 use grid_core::{Grid, Pixel, Tiling};
 use marker_tiles::{Markers, marker};
 use std::alloc::Global;
@@ -27,10 +26,8 @@ impl Model for Scene {
 
 impl Scene {
     /// No stroke on the mask.
-    pub fn open(alloc: Global, mask: &Grid, side: u32) -> Option<Scene>
-        requires { IsTileSide side }
-    {
-        let tiling = Tiling::new(mask.width(), mask.height(), side).ok()?;
+    pub fn open(alloc: Global, mask: &Grid) -> Option<Scene> {
+        let tiling = Tiling::new(mask.width(), mask.height(), 8).ok()?;
         let state = State::empty(alloc).ok()?;
         match Markers::new(alloc, mask, &tiling) {
             Ok(markers) => Some(Scene { state, markers }),
@@ -38,8 +35,17 @@ impl Scene {
         }
     }
 
-    /// The scene after a merge, if nothing clashes and each stroke fits the mask.
-    pub fn merged(self, alloc: Global, delta: &State) -> Option<Scene> {
+    /// The scene after a merge of the state of an edit text. There is none where it clashes or does not fit the mask,
+    /// or where the marker that was kept is not the one made anew.
+    pub fn edited(self, alloc: Global, text: &str) -> Option<Scene> {
+        match state_of(alloc, text) {
+            Some(delta) => self.merged(alloc, &delta),
+            None => None,
+        }
+    }
+
+    // The scene after a merge.
+    fn merged(self, alloc: Global, delta: &State) -> Option<Scene> {
         let Scene {
             mut state,
             mut markers,
@@ -51,51 +57,43 @@ impl Scene {
                     return None;
                 }
                 markers.apply(&state, &change);
-                Some(Scene { state, markers })
+                Scene { state, markers }.checked(alloc)
             }
             Err(_) => None,
         }
     }
 
-    /// Whether a stroke of the delta clashes with one of the state.
-    pub fn clashes(&self, delta: &State) -> bool {
-        self.state.clash(delta).is_some()
-    }
-
-    /// Whether the kept marker has these cells.
-    pub fn has(&self, cells: &[u32]) -> bool {
-        self.markers.marker().cells() == cells
-    }
-
-    /// The marker at a pixel, if the mask has it.
-    pub fn at(&self, x: u32, y: u32) -> Option<u32> {
-        let mask = self.markers.mask();
-        if x < mask.width() && y < mask.height() {
-            Some(self.markers.at(Pixel { x, y }))
+    // The scene, if the kept marker is the one made anew.
+    fn checked(self, alloc: Global) -> Option<Scene> {
+        if self.is_right(alloc) {
+            Some(self)
         } else {
             None
         }
     }
 
-    /// Whether the marker on a tile has this width and these cells.
-    pub fn has_tile(&self, alloc: Global, tile: usize, width: u32, cells: &[u32]) -> bool {
-        if tile >= self.markers.tiling().count() {
-            return false;
-        }
-        match self.markers.tile(alloc, tile) {
-            Ok(part) => part.width() == width && part.cells() == cells,
-            Err(_) => false,
-        }
-    }
-
-    /// Whether the kept marker is the one made anew.
-    pub fn is_right(&self, alloc: Global) -> bool {
+    // Whether the kept marker is the one made anew.
+    fn is_right(&self, alloc: Global) -> bool {
         let mask = self.markers.mask();
         if self.state.outside(mask.width(), mask.height()).is_some() {
             return false;
         }
         match marker(alloc, mask, &self.state) {
             Ok(anew) => anew.cells() == self.markers.marker().cells(),
+            Err(_) => false,
+        }
+    }
+
+    /// Whether the marker on the first tile has these cells, and at the first pixel the first of them.
+    pub fn has_tile(&self, alloc: Global, cells: &[u32]) -> bool {
+        if self.markers.tiling().count() == 0 {
+            return false;
+        }
+        match self.markers.tile(alloc, 0) {
+            Ok(tile) => {
+                let corner = self.markers.at(Pixel { x: 0, y: 0 });
+                tile.cells() == cells && tile.cells().first() == Some(&corner)
+            }
             Err(_) => false,
         }
     }
