@@ -98,7 +98,7 @@ fn draw(seed: &mut u64, end: u32) -> u32
     (*seed >> 40) as u32 % end
 }
 
-// Whether the marker on the mask is kept through thirty merges of such edits that look random.
+// Whether the kept marker is the one made anew after each of thirty merges of such edits that look random.
 fn is_kept(alloc: Global, mask: &Grid, seed: &mut u64) -> bool {
     let mut scene = Scene::open(alloc, mask);
     for _ in 0..30 {
@@ -107,8 +107,15 @@ fn is_kept(alloc: Global, mask: &Grid, seed: &mut u64) -> bool {
             Some(before) => before.edited(alloc, edits),
             None => None,
         };
+        let is_right = match &scene {
+            Some(scene) => scene.is_right(alloc),
+            None => false,
+        };
+        if !is_right {
+            return false;
+        }
     }
-    scene.is_some()
+    true
 }
 
 // The same of a mask that looks random.

@@ -35,8 +35,7 @@ impl Scene {
         }
     }
 
-    /// The scene after a merge of the state of an edit text. There is none where it clashes or does not fit the mask,
-    /// or where the marker that was kept is not the one made anew.
+    /// The scene after a merge of the state of an edit text. There is none where it clashes or does not fit the mask.
     pub fn edited(self, alloc: Global, text: &str) -> Option<Scene> {
         match state_of(alloc, text) {
             Some(delta) => self.merged(alloc, &delta),
@@ -57,23 +56,14 @@ impl Scene {
                     return None;
                 }
                 markers.apply(&state, &change);
-                Scene { state, markers }.checked(alloc)
+                Some(Scene { state, markers })
             }
             Err(_) => None,
         }
     }
 
-    // The scene, if the kept marker is the one made anew.
-    fn checked(self, alloc: Global) -> Option<Scene> {
-        if self.is_right(alloc) {
-            Some(self)
-        } else {
-            None
-        }
-    }
-
-    // Whether the kept marker is the one made anew.
-    fn is_right(&self, alloc: Global) -> bool {
+    /// Whether the kept marker is the one made anew.
+    pub fn is_right(&self, alloc: Global) -> bool {
         let mask = self.markers.mask();
         if self.state.outside(mask.width(), mask.height()).is_some() {
             return false;
