@@ -24,11 +24,13 @@ fn is_withdrawn(alloc: Global, edits: &str, others: &str) -> bool {
     }
 }
 
-// Why the state of the other edits is not merged into that of the first, if it is not.
-fn refusal(alloc: Global, edits: &str, others: &str) -> Option<StateError> {
+// Whether the state of the other edits is not merged into that of the first, because of two strokes of tag 1.
+fn do_clash(alloc: Global, edits: &str, others: &str) -> bool {
     match (state_of(alloc, edits), state_of(alloc, others)) {
-        (Some(mut state), Some(other)) => state.merge(alloc, &other).err(),
-        _ => None,
+        (Some(mut state), Some(other)) => {
+            state.merge(alloc, &other).err() == Some(StateError::Conflict(Tag(1)))
+        }
+        _ => false,
     }
 }
 
@@ -37,11 +39,7 @@ fn withdrawals_win_and_strokes_clash(rt: HostRuntime) {
     for edits in WITHDRAWN {
         assert!(rt; is_withdrawn(rt.alloc(), edits, WITHDRAWN[0]), "{edits}");
     }
-    for edit in &["place #01 3 0:1-1", "disc #01 4 0:1+0"] {
-        assert_eq!(rt;
-            refusal(rt.alloc(), edit, "place #01 4 0:1-1"),
-            Some(StateError::Conflict(Tag(1))),
-            "{edit}"
-        );
-    }
+    let run = "place #01 4 0:1-1";
+    assert!(rt; do_clash(rt.alloc(), "place #01 3 0:1-1", run));
+    assert!(rt; do_clash(rt.alloc(), "disc #01 4 0:1+0", run));
 }
