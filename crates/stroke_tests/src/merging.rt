@@ -39,6 +39,7 @@ fn withdrawals_win_and_strokes_clash(rt: HostRuntime) {
     for edits in WITHDRAWN {
         assert!(rt; is_withdrawn(rt.alloc(), edits, WITHDRAWN[0]), "{edits}");
     }
+    assert!(rt; StateError::Conflict(Tag(1)).code() == "L1");
     let run = "place #01 4 0:1-1";
     assert!(rt; do_clash(rt.alloc(), "place #01 3 0:1-1", run));
     assert!(rt; do_clash(rt.alloc(), "disc #01 4 0:1+0", run));

@@ -21,10 +21,11 @@ fn is_fault_told(alloc: Global) -> bool {
     }
 }
 
-// Whether want of memory for markers has its message.
+// Whether want of memory for markers has its code, and its message.
 fn is_memory_told(alloc: Global) -> bool {
     match MarkersError::Memory.to_string(alloc) {
-        Ok(message) => message.as_str() == "K1: out of memory",
+        Ok(message) => MarkersError::Memory.code() == "K1"
+            && message.as_str() == "K1: out of memory",
         Err(_) => false,
     }
 }
