@@ -1,6 +1,6 @@
 //! Events in any order: packets that are lost, come late, twice or out of order, and results that come to any replica.
 
-use crate::scene::{Act, Scene};
+use crate::stage::{Act, Line, Stage};
 use grid_core::Conn;
 use std::alloc::Global;
 use std::test::Fail;
@@ -13,74 +13,65 @@ fn draw(seed: &mut u64, end: u16) -> u16 {
     ((*seed >> 40) % u64::from(end.max(1))) as u16
 }
 
-// One of the numbers up to `last`.
-fn pick(seed: &mut u64, last: usize) -> usize {
-    let end = u16::try_from(last).unwrap_or(u16::MAX).saturating_add(1);
-    usize::from(draw(seed, end))
-}
-
-// An edit of one of 12 tags, whose stroke is the same wherever it is placed.
-fn some_edit(seed: &mut u64, r: usize, width: u16) -> Act {
+// Any event, of which some name nothing. The stroke of a tag is the same wherever it is placed.
+fn some_act(seed: &mut u64, replicas: u16) -> Act {
+    let r = usize::from(draw(seed, replicas));
     let tag = draw(seed, 12);
-    let level = u32::from(tag % 7).saturating_add(1);
-    let x = tag.saturating_mul(37) % width.max(1);
-    let tag = u128::from(tag);
-    match draw(seed, 4) {
-        0 => Act::Withdraw(r, tag),
-        _ if tag % 3 == 0 => Act::Disc(r, tag, level, x, 2),
-        _ => Act::Place(r, tag, level, x),
+    let number = usize::from(draw(seed, 24));
+    let tile = number % 2;
+    match draw(seed, 12) {
+        0 => {
+            let x = tag.wrapping_mul(37) % 72;
+            Act::Disc(
+                r,
+                u128::from(tag),
+                u32::from(tag % 7) + 1,
+                x,
+                u32::from(tag % 3),
+            )
+        }
+        1 => Act::Withdraw(r, u128::from(tag)),
+        2 => Act::Send(r, 0),
+        3 => Act::Deliver(r, number),
+        4 | 5 | 6 => Act::Take(r, tile),
+        7 | 8 => Act::Return(r, number),
+        9 => Act::Abandon(r, number),
+        _ => Act::Hand(r, tile, number % 3),
     }
 }
 
-// Any event, of which some name nothing.
-fn some_act(seed: &mut u64, scene: &Scene, width: u16) -> Act {
-    let r = pick(seed, scene.replicas().saturating_sub(1));
-    let tiles = scene.tiles(r);
-    match draw(seed, 8) {
-        0 => some_edit(seed, r, width),
-        1 => Act::Send(r, pick(seed, 1)),
-        2 => Act::Deliver(r, pick(seed, scene.packets())),
-        3 | 4 => Act::Take(r, pick(seed, tiles)),
-        5 => Act::Return(r, pick(seed, scene.results())),
-        6 => Act::Abandon(r, pick(seed, scene.results())),
-        _ => Act::Hand(r, pick(seed, tiles), pick(seed, 1)),
+// Some replicas of a mask of values from 0 to 9, of which some are 0.
+fn some_stage(alloc: Global, seed: &mut u64, conn: Conn, replicas: u16) -> Result<Stage, Fail> {
+    let mut pixels = [(1, 0); 216];
+    for pixel in pixels.iter_mut() {
+        pixel.1 = u32::from(draw(seed, 13).saturating_sub(3));
     }
+    Stage::open(alloc, 72, 3, &pixels, conn, usize::from(replicas))
 }
 
-// A mask of values from 0 to 9, of which some are 0.
-fn some_mask(seed: &mut u64) -> [u32; 216] {
-    let mut mask = [0; 216];
-    for cell in mask.iter_mut() {
-        *cell = u32::from(draw(seed, 13).saturating_sub(3));
+// Whether all replicas agree after many events, once each knows what one of them knows, and has settled.
+fn agree_after_events(stage: &mut Stage, seed: &mut u64, replicas: u16) -> Result<bool, Fail> {
+    for _ in 0..120 {
+        let _is_accepted = stage.accepts(some_act(seed, replicas))?;
     }
-    mask
+    let wrong = stage.first_wrong(&[Line::Exchange, Line::Settle, Line::Agree])?;
+    Ok(wrong.is_none())
 }
 
-// Whether all replicas agree after so many events, once each knows what one of them knows, and has settled.
-fn agree_after(alloc: Global, number: u64, events: usize, conn: Conn) -> Result<bool, Fail> {
-    let mut seed = number.wrapping_mul(7919).wrapping_add(17);
-    let mask = some_mask(&mut seed);
-    let replicas = usize::from(draw(&mut seed, 3).saturating_add(2));
-    let mut scene = Scene::on(alloc, 72, 3, &mask, conn, replicas)?;
-    do_agree_after(&mut scene, &mut seed, events)
-}
-
-fn do_agree_after(scene: &mut Scene, seed: &mut u64, events: usize) -> Result<bool, Fail> {
-    for _event in 0..events {
-        let act = some_act(seed, scene, 72);
-        let _refused = scene.is_refused(act)?;
-    }
-    scene.exchange()?;
-    scene.settle_all()?;
-    scene.agree()
+// Whether they do so in a world of this number.
+fn agree(alloc: Global, number: u64, conn: Conn) -> Result<bool, Fail> {
+    let mut seed = number;
+    let replicas = draw(&mut seed, 3) + 2;
+    let mut stage = some_stage(alloc, &mut seed, conn, replicas)?;
+    agree_after_events(&mut stage, &mut seed, replicas)
 }
 
 #[test]
 fn replicas_agree_after_any_events(rt: HostRuntime) -> Result<(), Fail> {
-    let alloc = rt.alloc();
     for number in 0..12 {
-        assert!(rt; agree_after(alloc, number, 120, Conn::Four)?);
-        assert!(rt; agree_after(alloc, number, 60, Conn::Eight)?);
+        for conn in [Conn::Four, Conn::Eight] {
+            assert!(rt; agree(rt.alloc(), number, conn)?, "{number}, {conn:?}");
+        }
     }
     Ok(())
 }
