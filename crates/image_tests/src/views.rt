@@ -1,10 +1,8 @@
-//! The three views: worked examples, and all small images by the definitions.
+//! The three views: worked examples, and small and random images beside plain programs of the definitions.
 
-use crate::image_files::spells;
-use crate::picture::Picture;
 use derived_views::{fill, h_maxima, regional_maxima};
-use grid_core::{Conn, Memory};
-use pgm_codec::{Image, read};
+use grid_core::{Conn, Grid, Memory};
+use pgm_codec::Image;
 use std::alloc::Global;
 
 // A view of an image.
@@ -16,228 +14,263 @@ enum View {
     Maxima,
 }
 
-const DOMES: &[u8] = b"P2 5 1 9 1 4 3 5 1";
+// An image of at most 25 pixels, row by row, and which of them are neighbours.
+#[derive(Clone, Copy)]
+struct Picture<'a> {
+    width: u32,
+    height: u32,
+    conn: Conn,
+    values: &'a [u32],
+}
 
-// A hole of 1 within a ring of 6, closed at its corners and open there.
-const CLOSED: &[u8] = b"P2 5 5 9 0 0 0 0 0 0 6 6 6 0 0 6 1 6 0 0 6 6 6 0 0 0 0 0 0";
+// Writes values over the cells.
+fn write_cells(grid: &mut Grid, values: &[u32]) {
+    for (cell, value) in grid.cells_mut().iter_mut().zip(values) {
+        *cell = *value;
+    }
+}
 
-const OPEN: &[u8] = b"P2 5 5 9 0 0 0 0 0 0 0 6 0 0 0 6 1 6 0 0 0 6 0 0 0 0 0 0 0";
-
-// The same where the hole is filled.
-const CLOSED_FILLED: &[u8] = b"P2 5 5 9 0 0 0 0 0 0 6 6 6 0 0 6 6 6 0 0 6 6 6 0 0 0 0 0 0";
-
-const OPEN_FILLED: &[u8] = b"P2 5 5 9 0 0 0 0 0 0 0 6 0 0 0 6 6 6 0 0 0 6 0 0 0 0 0 0 0";
-
-// A name, the text of an image, its view, and the text of that where four pixels and where eight are joined.
-type Example = (
-    &'static str,
-    &'static [u8],
-    View,
-    &'static [u8],
-    &'static [u8],
-);
-
-const EXAMPLES: &[Example] = &[
-    (
-        "a plateau alone",
-        b"P2 2 2 9 0 0 0 0",
-        View::Maxima,
-        b"P2 2 2 1 1 1 1 1",
-        b"P2 2 2 1 1 1 1 1",
-    ),
-    (
-        "one maximum",
-        b"P2 3 1 9 0 1 0",
-        View::Maxima,
-        b"P2 3 1 1 0 1 0",
-        b"P2 3 1 1 0 1 0",
-    ),
-    (
-        "the greatest value",
-        b"P2 2 1 65535 65535 65534",
-        View::Maxima,
-        b"P2 2 1 1 1 0",
-        b"P2 2 1 1 1 0",
-    ),
-    (
-        "domes cut down",
-        DOMES,
-        View::Domes(2),
-        b"P2 5 1 9 1 3 3 3 1",
-        b"P2 5 1 9 1 3 3 3 1",
-    ),
-    ("domes not cut down", DOMES, View::Domes(0), DOMES, DOMES),
-    (
-        "domes cut off",
-        DOMES,
-        View::Domes(65_535),
-        b"P2 5 1 9 0 0 0 0 0",
-        b"P2 5 1 9 0 0 0 0 0",
-    ),
-    (
-        "a hole in a closed ring",
-        CLOSED,
-        View::Fill,
-        CLOSED_FILLED,
-        CLOSED_FILLED,
-    ),
-    (
-        "a hole in an open ring",
-        OPEN,
-        View::Fill,
-        OPEN_FILLED,
-        OPEN,
-    ),
-];
+// The picture as an image, where there is memory.
+fn image_of(alloc: Global, picture: &Picture) -> Option<Image> {
+    match Grid::new(alloc, picture.width, picture.height, 0) {
+        Ok(mut grid) => {
+            write_cells(&mut grid, picture.values);
+            Image::from_grid(alloc, &grid, u16::MAX).ok()
+        }
+        Err(_) => None,
+    }
+}
 
 // The view of an image.
-fn made(alloc: Global, image: &Image, view: &View, conn: Conn) -> Result<Image, Memory> {
+fn view_of(alloc: Global, image: &Image, view: View, conn: Conn) -> Result<Image, Memory> {
     match view {
         View::Fill => fill(alloc, image, conn),
-        View::Domes(h) => h_maxima(alloc, image, *h, conn),
+        View::Domes(h) => h_maxima(alloc, image, h, conn),
         View::Maxima => regional_maxima(alloc, image, conn),
     }
 }
 
-// Whether the view of an image has this text.
-fn has_text(alloc: Global, image: &Image, view: &View, conn: Conn, text: &[u8]) -> bool {
-    match made(alloc, image, view, conn) {
-        Ok(made) => spells(alloc, text, &made),
+// Whether the view of an image begins as these values do.
+fn shows(alloc: Global, image: &Image, view: View, conn: Conn, values: &[u32]) -> bool {
+    match view_of(alloc, image, view, conn) {
+        Ok(seen) => values.starts_with(seen.samples()),
         Err(_) => false,
     }
 }
 
-// The first example whose view has another text.
-fn wrong_example(alloc: Global) -> Option<&'static str> {
-    for (name, text, view, four, eight) in EXAMPLES {
-        let is_right = match read(alloc, text) {
-            Ok(image) => {
-                has_text(alloc, &image, view, Conn::Four, four)
-                    && has_text(alloc, &image, view, Conn::Eight, eight)
-            }
-            Err(_) => false,
-        };
-        if !is_right {
-            return Some(*name);
-        }
-    }
-    None
-}
-
-#[test]
-fn views_of_worked_examples(rt: HostRuntime) {
-    assert_eq!(rt; wrong_example(rt.alloc()), None);
-}
-
-// A small image, three by three, by its number: its values are the digits to the base 3.
-fn numbered(number: u32, conn: Conn) -> Picture {
-    let mut values = [0; 25];
-    let mut rest = number;
-    for value in values.iter_mut().take(9) {
-        *value = rest % 3;
-        rest /= 3;
-    }
-    Picture::new(3, 3, conn, values)
-}
-
-// An image with values that look random, each at most `most`. The seed is the next one's.
-fn random(w: u32, h: u32, most: u16, conn: Conn, seed: &mut u32) -> Picture {
-    let mut values = [0; 25];
-    for value in values.iter_mut().take(w.saturating_mul(h) as usize) {
-        *seed = seed.wrapping_mul(1_664_525).wrapping_add(1_013_904_223);
-        *value = (*seed >> 8) % (u32::from(most) + 1);
-    }
-    Picture::new(w, h, conn, values)
-}
-
-// Whether a view has the values that the picture's has.
-fn is_view(
-    alloc: Global,
-    picture: &Picture,
-    image: &Image,
-    view: &View,
-    values: &[u32; 25],
-) -> bool {
-    match made(alloc, image, view, picture.conn) {
-        Ok(made) => picture.shows(values, made.samples()),
-        Err(_) => false,
-    }
-}
-
-// Whether the three views of a picture are those by their definitions, the domes cut down by `h`.
-fn agree(alloc: Global, picture: &Picture, maxval: u16, h: u16) -> bool {
-    match picture.image(alloc, maxval) {
-        Some(image) => {
-            is_view(alloc, picture, &image, &View::Fill, &picture.fill())
-                && is_view(
-                    alloc,
-                    picture,
-                    &image,
-                    &View::Domes(h),
-                    &picture.domes(u32::from(h)),
-                )
-                && is_view(alloc, picture, &image, &View::Maxima, &picture.maxima())
-        }
+// Whether the view of a picture does.
+fn has_view(alloc: Global, picture: &Picture, view: View, values: &[u32]) -> bool {
+    match image_of(alloc, picture) {
+        Some(image) => shows(alloc, &image, view, picture.conn, values),
         None => false,
     }
 }
 
-// The number of the first small image whose views are not those by their definitions.
-fn wrong_small_image(alloc: Global, conn: Conn) -> Option<u32> {
-    for number in 0..19_683 {
-        if !agree(alloc, &numbered(number, conn), 2, 1) {
-            return Some(number);
-        }
-    }
-    None
-}
-
-#[test]
-fn every_small_image_agrees_under_four(rt: HostRuntime) {
-    assert_eq!(rt; wrong_small_image(rt.alloc(), Conn::Four), None);
-}
-
-#[test]
-fn every_small_image_agrees_under_eight(rt: HostRuntime) {
-    assert_eq!(rt; wrong_small_image(rt.alloc(), Conn::Eight), None);
-}
-
-// Sides of images with random values, their greatest value, and the height by which domes are cut down.
-const RANDOM: &[(u32, u32, u16, u16)] = &[
-    (1, 1, 65_535, 20_000),
-    (1, 1, 300, 40),
-    (1, 1, 3, 1),
-    (7, 1, 65_535, 20_000),
-    (7, 1, 300, 40),
-    (7, 1, 3, 1),
-    (1, 5, 65_535, 20_000),
-    (1, 5, 300, 40),
-    (1, 5, 3, 1),
-    (2, 2, 65_535, 20_000),
-    (2, 2, 300, 40),
-    (2, 2, 3, 1),
-    (5, 5, 65_535, 20_000),
-    (5, 5, 300, 40),
-    (5, 5, 3, 1),
-    (6, 4, 65_535, 20_000),
-    (6, 4, 300, 40),
-    (6, 4, 3, 1),
+const RING: &[u32] = &[
+    0, 0, 0, 0, 0, 0, 6, 6, 6, 0, 0, 6, 1, 6, 0, 0, 6, 6, 6, 0, 0, 0, 0, 0, 0,
 ];
 
-// The sides and values of the first images that do not agree with the definitions, joined by four and by eight.
-fn wrong_random_image(alloc: Global) -> Option<(u32, u32, u16, u16)> {
-    let mut seed = 1;
-    for (w, h, most, lower) in RANDOM {
-        let four = random(*w, *h, *most, Conn::Four, &mut seed);
-        let eight = random(*w, *h, *most, Conn::Eight, &mut seed);
-        if !agree(alloc, &four, 65_535, *lower) || !agree(alloc, &eight, 65_535, *lower) {
-            return Some((*w, *h, *most, *lower));
+const RING_FILLED: &[u32] = &[
+    0, 0, 0, 0, 0, 0, 6, 6, 6, 0, 0, 6, 6, 6, 0, 0, 6, 6, 6, 0, 0, 0, 0, 0, 0,
+];
+
+// The ring without its corners.
+const OPEN: &[u32] = &[
+    0, 0, 0, 0, 0, 0, 0, 6, 0, 0, 0, 6, 1, 6, 0, 0, 0, 6, 0, 0, 0, 0, 0, 0, 0,
+];
+
+const OPEN_FILLED: &[u32] = &[
+    0, 0, 0, 0, 0, 0, 0, 6, 0, 0, 0, 6, 6, 6, 0, 0, 0, 6, 0, 0, 0, 0, 0, 0, 0,
+];
+
+// Width and height, values, who are neighbours, and the values of a view.
+const EXAMPLES: &[(u32, u32, &[u32], Conn, View, &[u32])] = &[
+    (2, 2, &[0; 4], Conn::Four, View::Maxima, &[1; 4]),
+    (3, 1, &[0, 1, 0], Conn::Four, View::Maxima, &[0, 1, 0]),
+    (
+        5,
+        1,
+        &[1, 4, 3, 5, 1],
+        Conn::Four,
+        View::Domes(2),
+        &[1, 3, 3, 3, 1],
+    ),
+    (5, 5, RING, Conn::Four, View::Fill, RING_FILLED),
+    (5, 5, OPEN, Conn::Four, View::Fill, OPEN_FILLED),
+    (5, 5, OPEN, Conn::Eight, View::Fill, OPEN),
+];
+
+#[test]
+fn views_of_worked_examples(rt: HostRuntime) {
+    for (width, height, values, conn, view, want) in EXAMPLES {
+        let picture = Picture {
+            width: *width,
+            height: *height,
+            conn: *conn,
+            values,
+        };
+        assert!(rt; has_view(rt.alloc(), &picture, *view, want), "{want:?}");
+    }
+}
+
+// Whether two pixels of rows of this width are neighbours.
+fn are_neighbours(width: usize, conn: Conn, p: usize, q: usize) -> bool {
+    let width = width.max(1);
+    let across = (p % width).abs_diff(q % width);
+    let down = (p / width).abs_diff(q / width);
+    match conn {
+        Conn::Four => (across == 1 && down == 0) || (across == 0 && down == 1),
+        Conn::Eight => across.max(down) == 1,
+    }
+}
+
+// Whether a pixel lies on the border.
+fn is_on_border(picture: &Picture, p: usize) -> bool {
+    let width = picture.width.max(1) as usize;
+    let (x, y) = (p % width, p / width);
+    x == 0 || y == 0 || x + 1 == width || y + 1 == picture.height as usize
+}
+
+// What a view shows at a pixel of this value before anything is known of its neighbours.
+fn first(view: View, value: u32, is_on_border: bool) -> u32 {
+    match view {
+        View::Fill => { if is_on_border { value } else { u32::MAX } }
+        View::Domes(h) => value.saturating_sub(u32::from(h)),
+        View::Maxima => 1,
+    }
+}
+
+// What a view that has shown `seen` at a pixel of this value shows there beside a neighbour's value and view: the fill
+// the greatest value of a path from the border, the least of these; the domes the least value of a path from a dome cut
+// down, the greatest of these; the maxima a 1 where neither the pixel nor one of its plateau has a higher neighbour.
+fn next(view: View, value: u32, seen: u32, beside: u32, seen_beside: u32) -> u32 {
+    match view {
+        View::Fill => seen.min(value.max(seen_beside)),
+        View::Domes(_) => seen.max(value.min(seen_beside)),
+        View::Maxima => {
+            if beside > value {
+                0
+            } else if beside == value {
+                seen.min(seen_beside)
+            } else {
+                seen
+            }
         }
     }
-    None
+}
+
+// The neighbours of each pixel, as bits.
+fn surroundings(picture: &Picture) -> [u32; 25] {
+    let mut around = [0; 25];
+    let pixels = picture.values.len().min(25);
+    for p in 0..pixels {
+        for q in 0..pixels {
+            if are_neighbours(picture.width as usize, picture.conn, p, q) {
+                around[p] |= 1 << q;
+            }
+        }
+    }
+    around
+}
+
+// Looks once from each pixel at each neighbour, and says whether that showed anything new.
+fn look_around(picture: &Picture, around: &[u32; 25], view: View, seen: &mut [u32; 25]) -> bool {
+    let mut is_new = false;
+    for (p, value) in picture.values.iter().enumerate() {
+        for (q, beside) in picture.values.iter().enumerate() {
+            if p < 25 && q < 25 && (around[p] >> q) & 1 == 1 {
+                let shown = next(view, *value, seen[p], *beside, seen[q]);
+                is_new = is_new || shown != seen[p];
+                seen[p] = shown;
+            }
+        }
+    }
+    is_new
+}
+
+// The view by its definition.
+fn defined(picture: &Picture, around: &[u32; 25], view: View) -> [u32; 25] {
+    let mut seen = [0; 25];
+    for (p, value) in picture.values.iter().enumerate() {
+        if p < 25 {
+            seen[p] = first(view, *value, is_on_border(picture, p));
+        }
+    }
+    // No path without a loop has more steps than there are pixels.
+    for _ in picture.values {
+        if !look_around(picture, around, view, &mut seen) {
+            break;
+        }
+    }
+    seen
+}
+
+// Whether the three views are those by their definitions, the domes cut down by `h`.
+fn agree(alloc: Global, picture: &Picture, h: u16) -> bool {
+    let around = surroundings(picture);
+    for view in [View::Fill, View::Domes(h), View::Maxima] {
+        if !has_view(alloc, picture, view, &defined(picture, &around, view)) {
+            return false;
+        }
+    }
+    true
+}
+
+// The same whichever pixels are neighbours.
+fn agree_under_both(alloc: Global, width: u32, height: u32, values: &[u32], h: u16) -> bool {
+    let four = Picture {
+        width,
+        height,
+        conn: Conn::Four,
+        values,
+    };
+    let eight = Picture {
+        conn: Conn::Eight,
+        ..four
+    };
+    agree(alloc, &four, h) && agree(alloc, &eight, h)
+}
+
+// The next values from 0 to 2, the first changing the fastest.
+fn advance(values: &mut [u32]) {
+    for value in values.iter_mut() {
+        if *value < 2 {
+            *value += 1;
+            return;
+        }
+        *value = 0;
+    }
+}
+
+#[test]
+fn small_images_agree_with_the_definitions(rt: HostRuntime) {
+    let mut values = [0; 9];
+    for _ in 0..19_683 {
+        assert!(rt;
+            agree_under_both(rt.alloc(), 3, 3, &values, 1),
+            "{values:?}"
+        );
+        advance(&mut values);
+    }
+}
+
+// Draws values of 16 bits that look random. The seed is the next one's.
+fn draw(values: &mut [u32], seed: &mut u32) {
+    for value in values.iter_mut() {
+        *seed = seed.wrapping_mul(1_664_525).wrapping_add(1_013_904_223);
+        *value = *seed >> 16;
+    }
 }
 
 #[test]
 fn random_images_agree_with_the_definitions(rt: HostRuntime) {
-    assert_eq!(rt; wrong_random_image(rt.alloc()), None);
+    let mut seed = 1;
+    let mut values = [0; 25];
+    for round in 0..40 {
+        draw(&mut values, &mut seed);
+        assert!(rt;
+            agree_under_both(rt.alloc(), 5, 5, &values, 20_000),
+            "round {round}"
+        );
+    }
 }
