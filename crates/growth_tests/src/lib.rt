@@ -1,20 +1,10 @@
 #![tactic(auto)]
-//! Tests of sweeps, growth, border queues and tile generations, by the public calls of their crates.
+//! Tests of growth, border queues and tile generations, by the public calls of their crates.
 //!
-//! They stand in a crate of their own because tests are proved safe as well: a crate with tests is proved twice.
-//! `grids` has the floods that growth is compared with, and `worked_out` the examples.
+//! They stand in a crate of their own because tests are proved safe as well: a crate with tests is proved twice. Where a
+//! contract says exactly what a call gives there is no test of it.
 
-#[cfg(test)]
-mod borders;
-#[cfg(test)]
-mod generations;
-#[cfg(test)]
-mod grids;
 #[cfg(test)]
 mod growing;
 #[cfg(test)]
-mod hints;
-#[cfg(test)]
-mod pairs;
-#[cfg(test)]
-mod worked_out;
+mod tiles;
