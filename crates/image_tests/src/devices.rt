@@ -1,7 +1,5 @@
 //! Readers and writers of std that fail, as sources and sinks.
 
-ghost use Rattle.std.specs.Prelude.{◌≤◌, IfOk};
-
 use byte_devices::{Fault, Sink, Source, StdSink, StdSource};
 use std::io::{self, ErrorKind, Read, Write};
 
@@ -12,28 +10,23 @@ struct Stumbling {
     times: u32,
 }
 
-impl Stumbling {
-    // So many bytes, where it meets no error now.
-    fn served(&mut self, bytes: usize) -> io::Result<usize>
-        ensures { IfOk result (λ n. n ≤ bytes) }
-    {
+impl Read for Stumbling {
+    fn read(&mut self, _buf: &mut [u8]) -> io::Result<usize> {
         if self.times == 0 {
-            return Ok(bytes);
+            return Ok(0);
         }
         self.times -= 1;
         Err(self.error.into())
     }
 }
 
-impl Read for Stumbling {
-    fn read(&mut self, _buf: &mut [u8]) -> io::Result<usize> {
-        self.served(0)
-    }
-}
-
 impl Write for Stumbling {
     fn write(&mut self, buf: &[u8]) -> io::Result<usize> {
-        self.served(buf.len())
+        if self.times == 0 {
+            return Ok(buf.len());
+        }
+        self.times -= 1;
+        Err(self.error.into())
     }
 
     fn flush(&mut self) -> io::Result<()> {

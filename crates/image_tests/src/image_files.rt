@@ -2,7 +2,7 @@
 
 use byte_devices::{MemorySink, MemorySource};
 use grid_core::GridError;
-use pgm_codec::{Image, PgmError, read, read_from, write_plain, write_raw, write_to};
+use pgm_codec::{Image, PgmError, read, read_from, write_plain, write_to};
 use std::alloc::{AllocError, Global};
 
 // Texts, and the maxval and samples of the images of one row that they spell.
@@ -70,13 +70,6 @@ fn texts_are_refused_by_their_first_fault(rt: HostRuntime) {
     }
 }
 
-// Whether an image is copied, and written as these raw and plain files.
-fn is_written(alloc: Global, image: &Image, raw: &[u8], plain: &[u8]) -> bool {
-    is_copied(alloc, image)
-        && is_text(write_raw(alloc, image), raw)
-        && is_text(write_plain(alloc, image), plain)
-}
-
 // Whether a copy of the image's grid can take over its values.
 fn is_copied(alloc: Global, image: &Image) -> bool {
     match image.to_grid(alloc) {
@@ -88,22 +81,18 @@ fn is_copied(alloc: Global, image: &Image) -> bool {
     }
 }
 
-fn is_text(written: Result<Vec<u8>, PgmError>, text: &[u8]) -> bool {
-    match written {
+// Whether the plain file of an image has this text.
+fn has_plain_file(alloc: Global, image: &Image, text: &[u8]) -> bool {
+    match write_plain(alloc, image) {
         Ok(written) => written.as_slice() == text,
         Err(_) => false,
     }
 }
 
-// Whether the image of twelve samples is written so.
-fn is_row_written(alloc: Global) -> bool {
-    match read(alloc, b"P2 12 1 9 1 2 3 4 5 6 7 8 9 0 1 2") {
-        Ok(image) => is_written(
-            alloc,
-            &image,
-            b"P5\n12 1\n9\n\x01\x02\x03\x04\x05\x06\x07\x08\x09\x00\x01\x02",
-            b"P2\n12 1\n9\n1 2 3 4 5 6 7 8 9 0 1\n2\n",
-        ),
+// Whether the image of a text is copied, and written as another text.
+fn is_written(alloc: Global, text: &[u8], plain: &[u8]) -> bool {
+    match read(alloc, text) {
+        Ok(image) => is_copied(alloc, &image) && has_plain_file(alloc, &image, plain),
         Err(_) => false,
     }
 }
@@ -128,7 +117,10 @@ fn is_carried(alloc: Global, header: &[u8], raster: &[u8]) -> bool {
 
 #[test]
 fn images_are_written_and_carried(rt: HostRuntime) {
-    assert!(rt; is_row_written(rt.alloc()));
+    let text = b"P2 12 1 9 1 2 3 4 5 6 7 8 9 0 1 2";
+    let plain = b"P2\n12 1\n9\n1 2 3 4 5 6 7 8 9 0 1\n2\n";
+    assert!(rt; is_written(rt.alloc(), text, plain));
+    assert!(rt; is_carried(rt.alloc(), b"P5\n1 1\n256\n", b"\x01\x00"));
     assert!(rt; is_carried(rt.alloc(), b"P5\n4097 1\n255\n", &[7; 4097]));
     assert!(rt; is_carried(rt.alloc(), b"P5\n16384 5\n255\n", &[7; 81_920]));
 }
