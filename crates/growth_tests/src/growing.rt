@@ -7,53 +7,50 @@ use grid_core::{Conn, Grid, Rect};
 use raster_sweeps::{Room, grow, grow_within, is_closed, slow};
 use std::alloc::Global;
 
-// Gives the first cells these values.
-fn write_cells(grid: &mut Grid, values: &[u32]) {
-    for (cell, value) in grid.cells_mut().iter_mut().zip(values) {
-        *cell = *value;
-    }
-}
-
-/// The grid of these values, where there is memory.
+/// The grid of these values, where they are as many and there is memory.
 pub fn grid_of(alloc: Global, width: u32, height: u32, values: &[u32]) -> Option<Grid> {
     match Grid::new(alloc, width, height, 0) {
         Ok(mut grid) => {
-            write_cells(&mut grid, values);
+            let cells = grid.cells_mut();
+            if cells.len() != values.len() {
+                return None;
+            }
+            cells.copy_from_slice(values);
             Some(grid)
         }
         Err(_) => None,
     }
 }
 
-// What grows from the marker, where both programs agree on it and there is memory.
-fn grown(alloc: Global, mask: &Grid, marker: &Grid, conn: Conn) -> Option<Grid> {
+// Whether the slow program floods the mask from the marker into these values.
+fn floods_into(alloc: Global, mask: &Grid, marker: &Grid, conn: Conn, values: &[u32]) -> bool {
     if !marker.is_below(mask) {
-        return None;
+        return false;
     }
-    let flood = slow(alloc, mask, marker, conn).ok()?;
-    let image = grow(alloc, mask, marker, conn).ok()?;
-    if image.cells() == flood.cells() {
-        Some(image)
-    } else {
-        None
+    match slow(alloc, mask, marker, conn) {
+        Ok(flood) => flood.cells() == values,
+        Err(_) => false,
     }
 }
 
-// Whether no pixel of the image raises a neighbour.
-fn is_full(mask: &Grid, image: &Grid, conn: Conn) -> bool {
-    mask.width() == image.width() && mask.height() == image.height() && is_closed(mask, image, conn)
+// Whether the mask grows from the marker as it is flooded.
+fn grows(alloc: Global, mask: &Grid, marker: &Grid, conn: Conn) -> bool {
+    if !marker.is_below(mask) {
+        return false;
+    }
+    match grow(alloc, mask, marker, conn) {
+        Ok(image) => floods_into(alloc, mask, marker, conn, image.cells()),
+        Err(_) => false,
+    }
 }
 
-// Whether these values grow from the marker, which is closed just where it has them.
+// Whether the mask grows from the marker into these values, and the marker is closed just where it has them.
 fn grows_into(alloc: Global, mask: &Grid, marker: &Grid, conn: Conn, values: &[u32]) -> bool {
-    match grown(alloc, mask, marker, conn) {
-        Some(image) => {
-            image.cells() == values
-                && is_full(mask, &image, conn)
-                && is_full(mask, marker, conn) == (marker.cells() == values)
-        }
-        None => false,
-    }
+    let is_sized = mask.width() == marker.width() && mask.height() == marker.height();
+    is_sized
+        && is_closed(mask, marker, conn) == (marker.cells() == values)
+        && grows(alloc, mask, marker, conn)
+        && floods_into(alloc, mask, marker, conn, values)
 }
 
 const LEVELS: &[u32] = &[3, 5, 2, 5, 4];
@@ -76,6 +73,7 @@ const EXAMPLES: &[(u32, u32, &[u32], &[u32], Conn, &[u32])] = &[
     (2, 2, DIAGONAL, CORNER, Conn::Eight, DIAGONAL),
     (3, 2, BEND, &[0, 0, 0, 4, 0, 0], Conn::Four, BEND),
     (3, 2, BEND, SCANNED, Conn::Four, BEND),
+    (3, 2, BEND, BEND, Conn::Four, BEND),
 ];
 
 // Whether a mask and a marker of these values grow so.
@@ -107,49 +105,45 @@ fn images_grow_into_what_was_worked_out(rt: HostRuntime) {
     }
 }
 
-// The next mask and marker with values up to 2, the marker at most the mask, the first pixel changing the fastest.
-fn advance(mask: &mut [u32], marker: &mut [u32]) {
-    for (limit, seed) in mask.iter_mut().zip(marker) {
-        if *seed < *limit {
-            *seed += 1;
+// The next values from 0 to 2, the first changing the fastest.
+fn advance(values: &mut [u32]) {
+    for value in values.iter_mut() {
+        if *value < 2 {
+            *value += 1;
             return;
         }
-        *seed = 0;
-        if *limit < 2 {
-            *limit += 1;
-            return;
-        }
-        *limit = 0;
+        *value = 0;
     }
 }
 
-// Whether they grow as they flood, whichever pixels are neighbours.
-fn grow_as_they_flood(alloc: Global, mask: &Grid, marker: &Grid) -> bool {
-    grown(alloc, mask, marker, Conn::Four).is_some()
-        && grown(alloc, mask, marker, Conn::Eight).is_some()
-}
-
-// Whether these, and all that come after them, do.
+// Whether all pairs of masks and markers that follow on these grow as they are flooded.
 fn all_grow(alloc: Global, mask: &mut Grid, marker: &mut Grid) -> bool {
-    for _ in 0..46_656 {
-        if !grow_as_they_flood(alloc, mask, marker) {
-            return false;
+    for number in 1..=729 * 729 {
+        if marker.is_below(mask) {
+            let is_right = grows(alloc, mask, marker, Conn::Four)
+                && grows(alloc, mask, marker, Conn::Eight);
+            if !is_right {
+                return false;
+            }
         }
-        advance(mask.cells_mut(), marker.cells_mut());
+        advance(marker.cells_mut());
+        if number % 729 == 0 {
+            advance(mask.cells_mut());
+        }
     }
     true
 }
 
-// Whether there are two images of three by two pixels, which do.
+// Whether all images of three by two pixels do.
 fn all_small_images_grow(alloc: Global) -> bool {
-    match (Grid::new(alloc, 3, 2, 0), Grid::new(alloc, 3, 2, 0)) {
-        (Ok(mut mask), Ok(mut marker)) => all_grow(alloc, &mut mask, &mut marker),
+    match (grid_of(alloc, 3, 2, &[0; 6]), grid_of(alloc, 3, 2, &[0; 6])) {
+        (Some(mut mask), Some(mut marker)) => all_grow(alloc, &mut mask, &mut marker),
         _ => false,
     }
 }
 
 #[test]
-fn all_small_images_grow_as_they_flood(rt: HostRuntime) {
+fn all_small_images_grow_as_they_are_flooded(rt: HostRuntime) {
     assert!(rt; all_small_images_grow(rt.alloc()));
 }
 
@@ -163,10 +157,11 @@ fn next(seed: &mut u32) -> u32 {
     s
 }
 
-// Takes each cell down to a number of the sequence below 8.
-fn lower(cells: &mut [u32], seed: &mut u32) {
-    for cell in cells.iter_mut() {
-        *cell = (next(seed) % 8).min(*cell);
+// Gives a mask values below 8, and a marker values that are at most these.
+fn draw(mask: &mut [u32], marker: &mut [u32], seed: &mut u32) {
+    for (limit, value) in mask.iter_mut().zip(marker) {
+        *limit = next(seed) % 8;
+        *value = (next(seed) % 8).min(*limit);
     }
 }
 
@@ -182,67 +177,74 @@ fn fits(grid: &Grid, rect: Rect) -> bool
         && bottom <= u64::from(grid.height())
 }
 
-// What is cut out of both in the rectangle, flooded.
-fn flood_of(alloc: Global, mask: &Grid, marker: &Grid, rect: Rect, conn: Conn) -> Option<Grid> {
-    if !fits(mask, rect) || !fits(marker, rect) {
-        return None;
-    }
-    match (mask.cut(alloc, rect), marker.cut(alloc, rect)) {
-        (Ok(mask), Ok(marker)) => grown(alloc, &mask, &marker, conn),
-        _ => None,
+// What is cut out in the rectangle, where it lies in the grid and there is memory.
+fn part_of(alloc: Global, grid: &Grid, rect: Rect) -> Option<Grid> {
+    if fits(grid, rect) {
+        grid.cut(alloc, rect).ok()
+    } else {
+        None
     }
 }
 
-// Whether the image grows in the rectangle as what is cut out there floods.
-fn grows_within(
+// Whether what is cut out of the mask is flooded from what is cut out of the marker into what is cut out of the image.
+fn is_flood_within(
     alloc: Global,
-    room: &mut Room,
     mask: &Grid,
-    image: &mut Grid,
+    marker: &Grid,
+    image: &Grid,
     rect: Rect,
     conn: Conn,
 ) -> bool {
-    let flood = flood_of(alloc, mask, image, rect, conn);
-    if !fits(mask, rect) || !image.is_below(mask) {
-        return false;
-    }
-    grow_within(room, mask, image, rect, conn);
-    if !fits(image, rect) {
-        return false;
-    }
-    match (flood, image.cut(alloc, rect)) {
-        (Some(flood), Ok(part)) => flood.cells() == part.cells(),
+    match (
+        part_of(alloc, mask, rect),
+        part_of(alloc, marker, rect),
+        part_of(alloc, image, rect),
+    ) {
+        (Some(mask), Some(marker), Some(image)) => {
+            floods_into(alloc, &mask, &marker, conn, image.cells())
+        }
         _ => false,
     }
 }
 
-// Whether a random image grows so in a random rectangle.
-fn random_image_grows(alloc: Global, room: &mut Room, conn: Conn, seed: &mut u32) -> bool {
+// Whether the marker grows so in the rectangle.
+fn grows_within(alloc: Global, mask: &Grid, marker: &Grid, rect: Rect, conn: Conn) -> bool {
+    if !fits(mask, rect) || !marker.is_below(mask) {
+        return false;
+    }
+    match (Room::new(alloc, 64), marker.copy(alloc)) {
+        (Ok(mut room), Ok(mut image)) => {
+            grow_within(&mut room, mask, &mut image, rect, conn);
+            is_flood_within(alloc, mask, marker, &image, rect, conn)
+        }
+        _ => false,
+    }
+}
+
+// Whether a random image does in a random rectangle.
+fn random_image_grows(alloc: Global, seed: &mut u32) -> bool {
     let (width, height) = (1 + next(seed) % 12, 1 + next(seed) % 12);
     let (w, h) = (1 + next(seed) % width, 1 + next(seed) % height);
     let x = next(seed) % (width - w + 1);
     let y = next(seed) % (height - h + 1);
-    let Ok(mut mask) = Grid::new(alloc, width, height, 7) else {
-        return false;
-    };
-    lower(mask.cells_mut(), seed);
-    let Ok(mut image) = mask.copy(alloc) else {
-        return false;
-    };
-    lower(image.cells_mut(), seed);
-    grows_within(alloc, room, &mask, &mut image, Rect { x, y, w, h }, conn)
+    let rect = Rect { x, y, w, h };
+    match (
+        Grid::new(alloc, width, height, 0),
+        Grid::new(alloc, width, height, 0),
+    ) {
+        (Ok(mut mask), Ok(mut marker)) => {
+            draw(mask.cells_mut(), marker.cells_mut(), seed);
+            grows_within(alloc, &mask, &marker, rect, Conn::Four)
+                && grows_within(alloc, &mask, &marker, rect, Conn::Eight)
+        }
+        _ => false,
+    }
 }
 
 #[test]
-fn rectangles_grow_as_what_is_cut_out_floods(rt: HostRuntime) {
+fn rectangles_grow_as_what_is_cut_out_is_flooded(rt: HostRuntime) {
     let mut seed = 2026;
-    let room = Room::new(rt.alloc(), 64);
-    assert!(rt; room.is_ok());
-    if let Ok(mut room) = room {
-        for round in 0..400 {
-            let is_right = random_image_grows(rt.alloc(), &mut room, Conn::Four, &mut seed)
-                && random_image_grows(rt.alloc(), &mut room, Conn::Eight, &mut seed);
-            assert!(rt; is_right, "round {round}");
-        }
+    for round in 0..400 {
+        assert!(rt; random_image_grows(rt.alloc(), &mut seed), "round {round}");
     }
 }

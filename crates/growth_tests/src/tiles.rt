@@ -4,7 +4,7 @@ ghost use Rattle.std.specs.Prelude.{IsTrue};
 ghost use Rattle.border_queues.specs.OpenEdges.{IsOnTiling};
 
 use super::growing::grid_of;
-use border_queues::{Hint, Inbox, QueueError, open_edges, open_edges_in};
+use border_queues::{Hint, Inbox, QueueError, open_edges_in};
 use grid_core::{Conn, Grid, Pixel, Tiling};
 use std::alloc::{AllocError, Global};
 use tile_generations::{Generations, GenerationsSpent};
@@ -24,48 +24,47 @@ fn is_on(image: &Grid, tiling: &Tiling) -> bool
     image.width() == tiling.width() && image.height() == tiling.height()
 }
 
-// Tells the open edges of the first tile twice, its pixels given apart and then as they are in the image. Answers
-// whether there is such a tile and memory.
-fn tell(inside: &Grid, image: &Grid, mask: &Grid, tiling: &Tiling, out: &mut Inbox) -> bool {
-    if tiling.count() == 0 || !is_on(image, tiling) || !is_on(mask, tiling) {
-        return false;
+// Puts the hints of the left tile into the inbox, and says whether there is such a tile and memory.
+fn tell(image: &Grid, mask: &Grid, out: &mut Inbox) -> bool {
+    match Tiling::new(128, 1, 64) {
+        Ok(tiling) => {
+            tiling.count() > 0
+                && is_on(image, &tiling)
+                && is_on(mask, &tiling)
+                && open_edges_in(image, mask, &tiling, 0, 5, Conn::Four, out).is_ok()
+        }
+        Err(_) => false,
     }
-    let rect = tiling.rect(0);
-    inside.width() == rect.w
-        && inside.height() == rect.h
-        && open_edges(inside, image, mask, tiling, 0, 5, Conn::Four, out).is_ok()
-        && open_edges_in(image, mask, tiling, 0, 5, Conn::Four, out).is_ok()
 }
 
-// The hints of the left tile, where all pixels and limits are 4 but for the pixel beside it.
-fn told(alloc: Global, beside: u32) -> Option<Inbox> {
+// Whether just this is told behind a hint that waits, where all pixels are 4 but for the first of the right tile.
+fn is_told(alloc: Global, mask: &Grid, beside: u32, hint: Option<Hint>) -> bool {
     let mut values = [4; 128];
     values[64] = beside;
-    let tiling = Tiling::new(128, 1, 64).ok()?;
-    let inside = grid_of(alloc, 64, 1, &values)?;
-    let mask = grid_of(alloc, 128, 1, &[4; 128])?;
-    let image = grid_of(alloc, 128, 1, &values)?;
     let mut out = Inbox::new(alloc);
-    if tell(&inside, &image, &mask, &tiling, &mut out) {
-        Some(out)
-    } else {
-        None
+    match grid_of(alloc, 128, 1, &values) {
+        Some(image) => {
+            out.push(HINT).is_ok()
+                && tell(&image, mask, &mut out)
+                && out.take_at(0) == Some(HINT)
+                && out.take_at(0) == hint
+                && out.is_empty()
+        }
+        None => false,
     }
 }
 
-// Whether just this hint is told, each time, or none.
-fn is_told(alloc: Global, beside: u32, hint: Option<Hint>) -> bool {
-    match told(alloc, beside) {
-        Some(mut out) => out.take_at(0) == hint && out.take_at(0) == hint && out.is_empty(),
+// Whether a lower pixel alone is told, under a mask of 4.
+fn is_lower_pixel_told(alloc: Global) -> bool {
+    match grid_of(alloc, 128, 1, &[4; 128]) {
+        Some(mask) => { is_told(alloc, &mask, 4, None) && is_told(alloc, &mask, 2, Some(HINT)) }
         None => false,
     }
 }
 
 #[test]
 fn a_tile_tells_a_lower_pixel_beside_it(rt: HostRuntime) {
-    assert!(rt; is_told(rt.alloc(), 4, None));
-    assert!(rt; is_told(rt.alloc(), 2, Some(HINT)));
-    assert!(rt; Inbox::new(rt.alloc()).push(HINT).is_ok());
+    assert!(rt; is_lower_pixel_told(rt.alloc()));
 }
 
 // Whether a marked tile gets the next generation.
