@@ -23,18 +23,15 @@ struct Picture<'a> {
     values: &'a [u32],
 }
 
-// Writes values over the cells.
-fn write_cells(grid: &mut Grid, values: &[u32]) {
-    for (cell, value) in grid.cells_mut().iter_mut().zip(values) {
-        *cell = *value;
-    }
-}
-
 // The picture as an image, where there is memory.
 fn image_of(alloc: Global, picture: &Picture) -> Option<Image> {
     match Grid::new(alloc, picture.width, picture.height, 0) {
         Ok(mut grid) => {
-            write_cells(&mut grid, picture.values);
+            let cells = grid.cells_mut();
+            if cells.len() != picture.values.len() {
+                return None;
+            }
+            cells.copy_from_slice(picture.values);
             Image::from_grid(alloc, &grid, u16::MAX).ok()
         }
         Err(_) => None,
@@ -171,10 +168,12 @@ fn surroundings(picture: &Picture) -> [u32; 25] {
 // Looks once from each pixel at each neighbour, and says whether that showed anything new.
 fn look_around(picture: &Picture, around: &[u32; 25], view: View, seen: &mut [u32; 25]) -> bool {
     let mut is_new = false;
-    for (p, value) in picture.values.iter().enumerate() {
-        for (q, beside) in picture.values.iter().enumerate() {
-            if p < 25 && q < 25 && (around[p] >> q) & 1 == 1 {
-                let shown = next(view, *value, seen[p], *beside, seen[q]);
+    let values = picture.values;
+    let pixels = values.len().min(25);
+    for p in 0..pixels {
+        for q in 0..pixels {
+            if (around[p] >> q) & 1 == 1 {
+                let shown = next(view, values[p], seen[p], values[q], seen[q]);
                 is_new = is_new || shown != seen[p];
                 seen[p] = shown;
             }
