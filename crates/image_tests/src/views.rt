@@ -132,9 +132,9 @@ fn first(view: View, value: u32, is_on_border: bool) -> u32 {
     }
 }
 
-// What a view that has shown `seen` at a pixel of this value shows there beside a neighbour's value and view: the fill
-// the greatest value of a path from the border, the least of these; the domes the least value of a path from a dome cut
-// down, the greatest of these; the maxima a 1 where neither the pixel nor one of its plateau has a higher neighbour.
+// What a view that has shown `seen` at a pixel of this value shows there once it was seen beside it. The fill is the
+// greatest value of a path from the border, the least of all paths; the domes are the least value of a path from a pixel
+// cut down, the greatest of all paths; no maximum has a higher neighbour, or an equal one that is no maximum.
 fn next(view: View, value: u32, seen: u32, beside: u32, seen_beside: u32) -> u32 {
     match view {
         View::Fill => seen.min(value.max(seen_beside)),
@@ -199,30 +199,23 @@ fn defined(picture: &Picture, around: &[u32; 25], view: View) -> [u32; 25] {
     seen
 }
 
-// Whether the three views are those by their definitions, the domes cut down by `h`.
-fn agree(alloc: Global, picture: &Picture, h: u16) -> bool {
-    let around = surroundings(picture);
-    for view in [View::Fill, View::Domes(h), View::Maxima] {
-        if !has_view(alloc, picture, view, &defined(picture, &around, view)) {
-            return false;
+// Whether the three views are those by their definitions, the domes cut down by `h`, whichever pixels are neighbours.
+fn agree(alloc: Global, width: u32, height: u32, values: &[u32], h: u16) -> bool {
+    for conn in [Conn::Four, Conn::Eight] {
+        let picture = Picture {
+            width,
+            height,
+            conn,
+            values,
+        };
+        let around = surroundings(&picture);
+        for view in [View::Fill, View::Domes(h), View::Maxima] {
+            if !has_view(alloc, &picture, view, &defined(&picture, &around, view)) {
+                return false;
+            }
         }
     }
     true
-}
-
-// The same whichever pixels are neighbours.
-fn agree_under_both(alloc: Global, width: u32, height: u32, values: &[u32], h: u16) -> bool {
-    let four = Picture {
-        width,
-        height,
-        conn: Conn::Four,
-        values,
-    };
-    let eight = Picture {
-        conn: Conn::Eight,
-        ..four
-    };
-    agree(alloc, &four, h) && agree(alloc, &eight, h)
 }
 
 // The next values from 0 to 2, the first changing the fastest.
@@ -240,10 +233,7 @@ fn advance(values: &mut [u32]) {
 fn small_images_agree_with_the_definitions(rt: HostRuntime) {
     let mut values = [0; 9];
     for _ in 0..19_683 {
-        assert!(rt;
-            agree_under_both(rt.alloc(), 3, 3, &values, 1),
-            "{values:?}"
-        );
+        assert!(rt; agree(rt.alloc(), 3, 3, &values, 1), "{values:?}");
         advance(&mut values);
     }
 }
@@ -262,9 +252,6 @@ fn random_images_agree_with_the_definitions(rt: HostRuntime) {
     let mut values = [0; 24];
     for round in 0..40 {
         draw(&mut values, &mut seed);
-        assert!(rt;
-            agree_under_both(rt.alloc(), 6, 4, &values, 20_000),
-            "round {round}"
-        );
+        assert!(rt; agree(rt.alloc(), 6, 4, &values, 20_000), "round {round}");
     }
 }
