@@ -49,6 +49,7 @@ fn is_told(alloc: Global, mask: &Grid, beside: u32, hint: Option<Hint>) -> bool 
                 && out.take_at(0) == Some(HINT)
                 && out.take_at(0) == hint
                 && out.is_empty()
+                && out.room() > 0
         }
         None => false,
     }
@@ -80,10 +81,10 @@ fn is_advanced(alloc: Global) -> bool {
     }
 }
 
-// Whether a message begins with a code.
+// Whether a message is a code, a colon and more.
 fn begins_with(message: Result<String, AllocError>, code: &str) -> bool {
     match message {
-        Ok(message) => message.starts_with(code),
+        Ok(message) => message.strip_prefix(code).unwrap_or("").starts_with(": "),
         Err(_) => false,
     }
 }
@@ -91,6 +92,7 @@ fn begins_with(message: Result<String, AllocError>, code: &str) -> bool {
 #[test]
 fn generations_advance_and_messages_begin_with_codes(rt: HostRuntime) {
     assert!(rt; is_advanced(rt.alloc()));
-    assert!(rt; begins_with(QueueError::Memory.to_string(rt.alloc()), "Q1: "));
-    assert!(rt; begins_with(GenerationsSpent.to_string(rt.alloc()), "N1: "));
+    let (full, spent) = (QueueError::Memory, GenerationsSpent);
+    assert!(rt; begins_with(full.to_string(rt.alloc()), full.code()));
+    assert!(rt; begins_with(spent.to_string(rt.alloc()), spent.code()));
 }

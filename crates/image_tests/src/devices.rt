@@ -34,7 +34,7 @@ impl Write for Stumbling {
     }
 }
 
-// Whether a source and a sink of such devices answer a pull and a put of four bytes so.
+// Whether a source and a sink of such devices answer a pull and a put of four bytes so, and no error is left then.
 fn answer(
     error: ErrorKind,
     times: u32,
@@ -43,7 +43,7 @@ fn answer(
 ) -> bool {
     let mut source = StdSource::new(Stumbling { error, times });
     let mut sink = StdSink::new(Stumbling { error, times });
-    source.pull(&mut [0; 4]) == pulled && sink.put(b"four") == put
+    source.pull(&mut [0; 4]) == pulled && sink.put(b"four") == put && sink.into_inner().times == 0
 }
 
 #[test]
