@@ -1,0 +1,119 @@
+//! Files of images: read, refused, written, and carried from a source to a sink.
+
+use byte_devices::{MemorySink, MemorySource};
+use pgm_codec::{Image, PgmError, read, read_from, write_plain, write_to};
+use std::alloc::Global;
+
+// Texts, and the plain files of the images that they spell.
+const SPELLED: &[(&[u8], &[u8])] = &[
+    (
+        b"P5\n# CREATOR: x\n2 1\n255\n\x0a\x23",
+        b"P2\n2 1\n255\n10 35\n",
+    ),
+    (b"P5\n1 1\n256\n\x01\x00", b"P2\n1 1\n256\n256\n"),
+    (
+        b"P2 12 1 9 1 2 3 4 5 6 7 8 9 0 1 2",
+        b"P2\n12 1\n9\n1 2 3 4 5 6 7 8 9 0 1\n2\n",
+    ),
+];
+
+// Whether a copy of the image's grid can take over its values.
+fn is_copied(alloc: Global, image: &Image) -> bool {
+    match image.to_grid(alloc) {
+        Ok(mut copy) => {
+            copy.assign(image.grid());
+            copy.cells() == image.samples()
+        }
+        Err(_) => false,
+    }
+}
+
+// Whether an image has this plain file.
+fn has_plain_file(alloc: Global, image: &Image, plain: &[u8]) -> bool {
+    match write_plain(alloc, image) {
+        Ok(written) => written.as_slice() == plain,
+        Err(_) => false,
+    }
+}
+
+// Whether a text spells an image that can be copied and has this plain file.
+fn spells(alloc: Global, text: &[u8], plain: &[u8]) -> bool {
+    match read(alloc, text) {
+        Ok(image) => is_copied(alloc, &image) && has_plain_file(alloc, &image, plain),
+        Err(_) => false,
+    }
+}
+
+#[test]
+fn texts_spell_images_whose_plain_files_are_written(rt: HostRuntime) {
+    for (text, plain) in SPELLED {
+        assert!(rt; spells(rt.alloc(), text, plain), "{plain:?}");
+    }
+}
+
+// Texts that spell no image, and why.
+const REFUSED: &[(PgmError, &[u8])] = &[
+    (PgmError::BadMagic, b"P6\n1 1\n1\n1"),
+    (PgmError::BadHeader, b"P5#x"),
+    (PgmError::ZeroSize, b"P5\n0 1\n"),
+    (PgmError::TooLarge, b"P5\n16385 1\n"),
+    (PgmError::TooLarge, b"P5\n16384 4097\n"),
+    (PgmError::Truncated, b"P5\n16384 4096\n"),
+    (PgmError::BadMaxval, b"P5\n1 1\n0\n\x01"),
+    (PgmError::BadMaxval, b"P5\n1 1\n65536\n\xff\xff"),
+    (PgmError::SampleRange, b"P5\n1 1\n256\n\x01\x01"),
+    (PgmError::Truncated, b"P5\n# CREATOR: x\n2 1\n255\n\x0a"),
+    (
+        PgmError::Trailing,
+        b"P5\n# CREATOR: x\n2 1\n255\n\x0a\x23\x00",
+    ),
+    (
+        PgmError::Trailing,
+        b"P5\n# CREATOR: x\n2 1\n255\r\n\x0a\x23",
+    ),
+    (PgmError::Truncated, b"P2 1"),
+    (PgmError::BadHeader, b"P2 x"),
+    (PgmError::ZeroSize, b"P2 0 1 "),
+    (PgmError::TooLarge, b"P2 1 16385 "),
+    (PgmError::BadMaxval, b"P2 1 1 0 "),
+    (PgmError::BadSample, b"P2 1 1 9 5x"),
+    (PgmError::SampleRange, b"P2 1 1 9 10"),
+    (PgmError::Truncated, b"P2 2 1 9 5 "),
+    (PgmError::Trailing, b"P2 1 1 9 5 6"),
+];
+
+#[test]
+fn texts_are_refused_by_their_first_fault(rt: HostRuntime) {
+    for (why, text) in REFUSED {
+        assert!(rt;
+            read(rt.alloc(), text).err() == Some(*why),
+            "{} of {text:?}",
+            why.code()
+        );
+    }
+}
+
+// Reads an image from these bytes, and writes it to the sink.
+fn carry(alloc: Global, text: Vec<u8>, sink: &mut MemorySink) -> Result<(), PgmError> {
+    let image = read_from(alloc, &mut MemorySource::new(text))?;
+    write_to(alloc, &image, sink)
+}
+
+// Whether the raw file of this header and raster is carried to a sink.
+fn is_carried(alloc: Global, header: &[u8], raster: &[u8]) -> bool {
+    let mut sink = MemorySink::new(alloc);
+    match [header, raster].concat(alloc) {
+        Ok(text) => {
+            carry(alloc, text, &mut sink).is_ok()
+                && sink.written().strip_prefix(header) == Some(raster)
+        }
+        Err(_) => false,
+    }
+}
+
+#[test]
+fn raw_files_are_carried(rt: HostRuntime) {
+    assert!(rt; is_carried(rt.alloc(), b"P5\n1 1\n256\n", b"\x01\x00"));
+    assert!(rt; is_carried(rt.alloc(), b"P5\n4097 1\n255\n", &[7; 4097]));
+    assert!(rt; is_carried(rt.alloc(), b"P5\n16384 5\n255\n", &[7; 81_920]));
+}
