@@ -60,7 +60,7 @@ fn agree_after_events(stage: &mut Stage, seed: &mut u64, replicas: u16) -> Resul
 // Whether they do so in a world of this number.
 fn agree(alloc: Global, number: u64, conn: Conn) -> Result<bool, Fail> {
     let mut seed = number;
-    let replicas = draw(&mut seed, 3) + 2;
+    let replicas = draw(&mut seed, 3).saturating_add(2);
     let mut stage = some_stage(alloc, &mut seed, conn, replicas)?;
     agree_after_events(&mut stage, &mut seed, replicas)
 }
