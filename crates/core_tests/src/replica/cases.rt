@@ -2,7 +2,7 @@
 
 use super::stage::{Line, Stage};
 use crate::pictures::Mask;
-use reset_core::{Back, Handed, Step, TILE_SIDE};
+use reset_core::{Back, Handed, TILE_SIDE};
 use std::alloc::Global;
 use std::test::Fail;
 use tile_generations::MAX_GENERATION;
@@ -194,6 +194,20 @@ const CASES: &[Case] = &[
         first: MAX_GENERATION,
         lines: &[Line::Place(1, 4, 0, 0, 0), Line::Spent(1), Line::Live(1)],
     },
+    Case {
+        name: "an abandoned job is work once more",
+        mask: FOURS,
+        side: TILE_SIDE,
+        first: 0,
+        lines: &[
+            Line::Place(1, 4, 0, 0, 0),
+            Line::Owes(508),
+            Line::RunLate,
+            Line::Image(&[(65, 4), (63, 0)]),
+            Line::Owes(252),
+            Line::Tiles(&[], &[1]),
+        ],
+    },
     // Two pixels of 7 touch at a corner.
     Case {
         name: "a result of the other connectivity is a stranger",
@@ -265,35 +279,5 @@ fn cores_answer_and_show_what_each_line_says(rt: HostRuntime) -> Result<(), Fail
             return Err(Fail::new(format_args!("{name}: line {line}, from 0, is not so")));
         }
     }
-    Ok(())
-}
-
-const BEFORE: &[Line] = &[Line::Place(1, 4, 0, 0, 0), Line::Owes(508)];
-
-const AFTER: &[Line] = &[
-    Line::Image(&[(65, 4), (63, 0)]),
-    Line::Owes(252),
-    Line::Tiles(&[], &[1]),
-];
-
-// Whether a schedule in which a result that was abandoned comes late takes two jobs, and abandons one.
-fn runs_a_schedule(stage: &mut Stage) -> Result<bool, Fail> {
-    let steps = [
-        Step::Take(0),
-        Step::Abandon(0),
-        Step::Take(0),
-        Step::Return(1),
-        Step::Return(0),
-        Step::Hand(1, 0),
-    ];
-    Ok(stage.run(&steps)? == (2, 1))
-}
-
-#[test]
-fn an_abandoned_job_is_work_once_more(rt: HostRuntime) -> Result<(), Fail> {
-    let mut stage = Stage::open(rt.alloc(), &FOURS, TILE_SIDE, 0)?;
-    let is_dark = stage.first_wrong(BEFORE)?.is_none();
-    let has_run = runs_a_schedule(&mut stage)?;
-    assert!(rt; is_dark && has_run && stage.first_wrong(AFTER)?.is_none());
     Ok(())
 }

@@ -33,6 +33,8 @@ pub enum Line {
     Return(usize, Back),
     /// The hint at this place of this tile's inbox is handed over.
     Hand(usize, usize, Handed),
+    /// A schedule in which a result that was abandoned comes late takes two jobs, and abandons one.
+    RunLate,
     /// The core settles by so many jobs, and abandons none.
     Settle(u64),
     /// The core settles, on what grows from the strokes that were taken.
@@ -164,13 +166,28 @@ impl Stage {
         Ok(owed)
     }
 
-    /// Runs a schedule without edits, and says how many jobs it took, and how many it abandoned.
-    pub fn run(&mut self, steps: &[Step]) -> Result<(u64, u64), Fail> {
+    // Runs a schedule, and says how many jobs it took and abandoned, and how many edits it accepted and refused.
+    fn run(&mut self, steps: &[Step]) -> Result<(u64, u64, usize, usize), Fail> {
         let ran = self.core.run_schedule(self.alloc, steps)?;
-        if !ran.accepted().is_empty() || !ran.refused().is_empty() {
-            return Err(Fail::new("an edit is told of"));
-        }
-        Ok((ran.jobs(), ran.abandons()))
+        Ok((
+            ran.jobs(),
+            ran.abandons(),
+            ran.accepted().len(),
+            ran.refused().len(),
+        ))
+    }
+
+    // Whether a schedule in which a result that was abandoned comes late takes two jobs, and abandons one.
+    fn runs_late(&mut self) -> Result<bool, Fail> {
+        let steps = [
+            Step::Take(0),
+            Step::Abandon(0),
+            Step::Take(0),
+            Step::Return(1),
+            Step::Return(0),
+            Step::Hand(1, 0),
+        ];
+        Ok(self.run(&steps)? == (2, 1, 0, 0))
     }
 
     /// Whether a schedule without edits takes no more jobs than there is work.
@@ -179,7 +196,7 @@ impl Stage {
         for tile in 0..self.core.tiles() {
             work = work.saturating_add(u64::from(self.core.is_dirty(tile)));
         }
-        let (jobs, abandons) = self.run(steps)?;
+        let (jobs, abandons, _, _) = self.run(steps)?;
         Ok(jobs.saturating_add(self.owed()?) <= work.saturating_add(abandons))
     }
 
@@ -207,6 +224,7 @@ impl Stage {
             Line::Take(tile, generation) => Ok(self.generation_taken(*tile)? == Some(*generation)),
             Line::Return(place, back) => Ok(self.answer_to(*place)? == Some(*back)),
             Line::Hand(tile, place, handed) => Ok(self.core.hand(*tile, *place) == *handed),
+            Line::RunLate => self.runs_late(),
             Line::Settle(jobs) => {
                 let count = self.core.settle(self.alloc)?;
                 Ok(count.jobs == *jobs && count.abandons == 0)

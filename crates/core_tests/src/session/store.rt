@@ -42,6 +42,9 @@ const NO_FOLDER: &str = "store_test/none/strokes";
 
 const OLD: &[u8] = b"the old bytes";
 
+// More than a read gives.
+const LONG: &[u8] = &[7; 300_000];
+
 // Cases: what each shows, and its steps, by the name that each is on.
 const CASES: &[(&str, &[(&str, Step)])] = &[
     (
@@ -51,6 +54,8 @@ const CASES: &[(&str, &[(&str, Step)])] = &[
     (
         "what is saved is loaded, also where it is shorter, and stands alone",
         &[
+            (STROKES, Step::Saves(LONG)),
+            (STROKES, Step::Loads(LONG)),
             (STROKES, Step::Saves(OLD)),
             (STROKES, Step::Loads(OLD)),
             (STROKES, Step::Saves(b"\0")),
