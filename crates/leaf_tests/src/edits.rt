@@ -39,6 +39,7 @@ const LINES: &[(&str, Result<usize, EditError>)] = &[
         Err(EditError::BadStroke(1, BadLevel)),
     ),
     ("withdraw zz", Err(EditError::BadTag(1))),
+    ("withdraw zz\nplace", Err(EditError::BadTag(1))),
 ];
 
 const LINE: &[u8; 51] = b"place 00000000-0000-0000-0000-000000000001 73 0:1-1";

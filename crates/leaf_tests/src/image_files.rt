@@ -11,18 +11,20 @@ const SPELLED: &[(&[u8], &[u8])] = &[
         b"P2\n2 1\n255\n10 35\n",
     ),
     (b"P5\n1 1\n256\n\x01\x00", b"P2\n1 1\n256\n256\n"),
+    (b"P5\n0002 1\n255\n\x0a\x23", b"P2\n2 1\n255\n10 35\n"),
     (
         b"P2 12 1 9 1 2 3 4 5 6 7 8 9 0 1 2",
         b"P2\n12 1\n9\n1 2 3 4 5 6 7 8 9 0 1\n2\n",
     ),
 ];
 
-// Whether a copy of the image's grid can take over its values.
+// Whether a copy of the image's grid has its values, and still has them when it takes them over.
 fn is_copied(alloc: Global, image: &Image) -> bool {
     match image.to_grid(alloc) {
         Ok(mut copy) => {
+            let is_the_same = copy.cells() == image.samples();
             copy.assign(image.grid());
-            copy.cells() == image.samples()
+            is_the_same && copy.cells() == image.samples()
         }
         Err(_) => false,
     }
@@ -53,7 +55,22 @@ fn texts_spell_images_whose_plain_files_are_written(rt: HostRuntime) {
 
 // Texts that spell no image, and why.
 const REFUSED: &[(PgmError, &[u8])] = &[
+    (PgmError::BadMagic, b""),
+    (PgmError::BadMagic, b"P"),
+    (PgmError::Truncated, b"P5"),
     (PgmError::BadMagic, b"P6\n1 1\n1\n1"),
+    (
+        PgmError::TooLarge,
+        b"P5\n9999999999999999999999999999999999999999 1\n",
+    ),
+    (
+        PgmError::BadMaxval,
+        b"P5\n1 1\n9999999999999999999999999999999999999999\n\x01",
+    ),
+    (
+        PgmError::SampleRange,
+        b"P2 1 1 9 9999999999999999999999999999999999999999",
+    ),
     (PgmError::BadHeader, b"P5#x"),
     (PgmError::ZeroSize, b"P5\n0 1\n"),
     (PgmError::TooLarge, b"P5\n16385 1\n"),

@@ -75,6 +75,7 @@ fn is_advanced(alloc: Global) -> bool {
             made.len() == 2
                 && made.advance(&[false, true]).is_ok()
                 && made.len() == 2
+                && made.current(0) == 5
                 && made.current(1) == 6
         }
         Err(_) => false,

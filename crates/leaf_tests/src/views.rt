@@ -41,11 +41,13 @@ fn view_of(alloc: Global, image: &Image, view: View, conn: Conn) -> Result<Image
     }
 }
 
-// Whether the view of a picture begins with these values.
+// Whether the view of a picture has as many values as that, and these are they, or more.
 fn has_view(alloc: Global, picture: &Picture, view: View, values: &[u32]) -> bool {
     match image_of(alloc, picture) {
         Some(image) => match view_of(alloc, &image, view, picture.conn) {
-            Ok(seen) => values.starts_with(seen.samples()),
+            Ok(seen) => {
+                seen.samples().len() == picture.values.len() && values.starts_with(seen.samples())
+            }
             Err(_) => false,
         },
         None => false,

@@ -23,11 +23,12 @@ const KEPT: &[u8] = b"\x00\x44SPD2\x08\
     \0\x01\0\0\
     \0\0\0\0\0\0\0\0\0\0\0\0\0\0\0\x02\0\0\x03\0\x01\0\0\0\x04\0\x04";
 
-// A run: its words with a bar between them, the state file `strokes` before, its input, its line and status, what it
-// writes, and the state file after.
+// A run: its words with a bar between them, the state file `strokes` before, the call of the store that fails (the first
+// loads, the second saves; the third there is not), its input, its line and status, what it writes, and the state file after.
 struct Run {
     words: &'static str,
     old: &'static [u8],
+    failing: u64,
     input: &'static str,
     line: &'static [u8],
     status: u8,
@@ -38,6 +39,7 @@ struct Run {
 const VIEW: Run = Run {
     words: "seedpaint",
     old: b"",
+    failing: 3,
     input: PLACED,
     line: b"",
     status: 0,
@@ -69,6 +71,21 @@ const RUNS: &[Run] = &[
         line: b"seedpaint: usage\n",
         status: 2,
         written: b"",
+        ..VIEW
+    },
+    Run {
+        words: "seedpaint|view|--state|strokes",
+        failing: 1,
+        line: b"seedpaint: V2\n",
+        status: 3,
+        written: b"",
+        ..VIEW
+    },
+    Run {
+        words: "seedpaint|view|--state|strokes",
+        failing: 2,
+        line: b"seedpaint: V2\n",
+        status: 3,
         ..VIEW
     },
     Run {
@@ -114,7 +131,9 @@ fn does_end(
 // Whether a run ends so, and leaves the file so.
 fn is_so(alloc: Global, case: &Run) -> Result<bool, Memory> {
     let path = StatePath::new(alloc, "strokes")?;
-    let mut store = MemoryStore::new(alloc).with_file(&path, case.old)?;
+    let mut store = MemoryStore::new(alloc)
+        .with_file(&path, case.old)?
+        .failing_at(case.failing);
     let mut sink = MemorySink::new(alloc);
     let is_told = does_end(alloc, case, &mut store, &mut sink)?;
     Ok(is_told && sink.written() == case.written && store.file(&path) == case.new)

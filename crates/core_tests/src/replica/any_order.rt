@@ -7,7 +7,12 @@ use reset_core::{Back, Handed, Step};
 use std::alloc::Global;
 use std::test::Fail;
 
-// Something that happens. The stroke of a tag is always the same. What is answered is not looked at.
+// What may be answered to a result and to a hint.
+const BACKS: [Back; 4] = [Back::Joined, Back::Again, Back::Stale, Back::Stranger];
+
+const HANDED: [Handed; 3] = [Handed::Raised, Handed::Same, Handed::Stale];
+
+// Something that happens, with an answer that it may have. The stroke of a tag is always the same.
 fn some_line(seed: &mut u64) -> Line {
     let tag = draw(seed, 20);
     let number = usize::from(draw(seed, 30));
@@ -23,8 +28,22 @@ fn some_line(seed: &mut u64) -> Line {
         1 => Line::Withdraw(u128::from(tag)),
         2 | 3 => Line::Turn,
         4 | 5 | 6 => Line::Take(tile, 0),
-        7 | 8 | 9 => Line::Return(number, Back::Joined),
-        _ => Line::Hand(tile, number % 3, Handed::Raised),
+        7 | 8 | 9 => Line::Return(number, BACKS[usize::from(tag % 4)]),
+        _ => Line::Hand(tile, number % 3, HANDED[usize::from(tag % 3)]),
+    }
+}
+
+// Which of the answers to results and hints this is, from 0; and 7 for all else.
+fn kind_of(line: &Line) -> usize {
+    match line {
+        Line::Return(_, Back::Joined) => 0,
+        Line::Return(_, Back::Again) => 1,
+        Line::Return(_, Back::Stale) => 2,
+        Line::Return(_, Back::Stranger) => 3,
+        Line::Hand(_, _, Handed::Raised) => 4,
+        Line::Hand(_, _, Handed::Same) => 5,
+        Line::Hand(_, _, Handed::Stale) => 6,
+        _ => 7,
     }
 }
 
@@ -62,10 +81,25 @@ fn add_steps(steps: &mut Vec<Step>, seed: &mut u64) -> Result<(), Fail> {
     Ok(())
 }
 
-// Whether a schedule takes no more jobs than there is work, after other things happened.
-fn is_within_work(alloc: Global, stage: &mut Stage, seed: &mut u64) -> Result<bool, Fail> {
+// Notes the answer that a line had.
+fn note(seen: &mut [bool; 8], line: &Line) {
+    if let Some(slot) = seen.get_mut(kind_of(line)) {
+        *slot = true;
+    }
+}
+
+// Whether a schedule takes no more jobs than there is work, after other things happened, whose answers are noted.
+fn is_within_work(
+    alloc: Global,
+    stage: &mut Stage,
+    seed: &mut u64,
+    seen: &mut [bool; 8],
+) -> Result<bool, Fail> {
     for _ in 0..40 {
-        let _is_so = stage.is_so(&some_line(seed))?;
+        let line = some_line(seed);
+        if stage.is_so(&line)? {
+            note(seen, &line);
+        }
     }
     let mut steps = Vec::new(alloc);
     add_steps(&mut steps, seed)?;
@@ -73,9 +107,14 @@ fn is_within_work(alloc: Global, stage: &mut Stage, seed: &mut u64) -> Result<bo
 }
 
 // Whether this is so four times, and each core settles on what grows from the strokes.
-fn is_right(alloc: Global, stage: &mut Stage, seed: &mut u64) -> Result<bool, Fail> {
+fn is_right(
+    alloc: Global,
+    stage: &mut Stage,
+    seed: &mut u64,
+    seen: &mut [bool; 8],
+) -> Result<bool, Fail> {
     for _ in 0..4 {
-        if !is_within_work(alloc, stage, seed)? {
+        if !is_within_work(alloc, stage, seed, seen)? {
             return Ok(false);
         }
     }
@@ -85,10 +124,16 @@ fn is_right(alloc: Global, stage: &mut Stage, seed: &mut u64) -> Result<bool, Fa
 
 #[test]
 fn cores_settle_on_what_grows_from_their_strokes(rt: HostRuntime) -> Result<(), Fail> {
+    let mut seen = [false; 8];
     for round in 0..20_u64 {
         let mut seed = round;
         let mut stage = some_stage(rt.alloc(), &mut seed)?;
-        assert!(rt; is_right(rt.alloc(), &mut stage, &mut seed)?, "{round}");
+        assert!(rt;
+            is_right(rt.alloc(), &mut stage, &mut seed, &mut seen)?,
+            "{round}"
+        );
     }
+    // Each answer came.
+    assert!(rt; seen == [true; 8]);
     Ok(())
 }

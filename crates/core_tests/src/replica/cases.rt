@@ -208,6 +208,27 @@ const CASES: &[Case] = &[
             Line::Tiles(&[], &[1]),
         ],
     },
+    Case {
+        name: "edits of a schedule are listed by their number, and what is refused changes nothing",
+        mask: Mask {
+            width: 5,
+            height: 1,
+            pixels: &[(1, 3), (1, 5), (1, 2), (1, 5), (1, 4)],
+        },
+        side: TILE_SIDE,
+        first: 0,
+        lines: &[
+            Line::RunEdits(&[
+                Line::Place(1, 3, 1, 0, 0),
+                Line::Place(1, 4, 1, 0, 0),
+                Line::Place(1, 3, 5, 0, 0),
+            ]),
+            Line::Image(&[(2, 3), (3, 2)]),
+            Line::Live(1),
+            Line::Tiles(&[], &[]),
+            Line::Settle(0),
+        ],
+    },
     // Two pixels of 7 touch at a corner.
     Case {
         name: "a result of the other connectivity is a stranger",

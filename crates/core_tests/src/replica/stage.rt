@@ -35,6 +35,9 @@ pub enum Line {
     Hand(usize, usize, Handed),
     /// A schedule in which a result that was abandoned comes late takes two jobs, and abandons one.
     RunLate,
+    /// A schedule of these edits, behind which tile 0 is swept, takes the first of them. It refuses the second, since it
+    /// places another stroke of tag 1, and the third, since the stroke of tag 1 does not fit the mask there.
+    RunEdits(&'static [Line]),
     /// The core settles by so many jobs, and abandons none.
     Settle(u64),
     /// The core settles, on what grows from the strokes that were taken.
@@ -190,6 +193,27 @@ impl Stage {
         Ok(self.run(&steps)? == (2, 1, 0, 0))
     }
 
+    // Whether a schedule takes the first of its edits, and refuses the next two because of tag 1.
+    fn lists_edits(&mut self, steps: &[Step]) -> Result<bool, Fail> {
+        let ran = self.core.run_schedule(self.alloc, steps)?;
+        let refused = [
+            (1, CoreError::Conflict(Tag(1))),
+            (2, CoreError::OutOfImage(Tag(1))),
+        ];
+        Ok(ran.accepted() == [0].as_slice() && ran.refused() == refused.as_slice())
+    }
+
+    // Whether a schedule of these edits, behind which tile 0 is swept, does so.
+    fn runs_edits(&mut self, edits: &[Line]) -> Result<bool, Fail> {
+        let mut steps = Vec::new(self.alloc);
+        for edit in edits {
+            steps.push(Step::Edit(delta_of(self.alloc, edit)?))?;
+        }
+        steps.push(Step::Take(0))?;
+        steps.push(Step::Return(0))?;
+        self.lists_edits(&steps)
+    }
+
     /// Whether a schedule without edits takes no more jobs than there is work.
     pub fn is_within_work(&mut self, steps: &[Step]) -> Result<bool, Fail> {
         let mut work = self.owed()?;
@@ -225,6 +249,7 @@ impl Stage {
             Line::Return(place, back) => Ok(self.answer_to(*place)? == Some(*back)),
             Line::Hand(tile, place, handed) => Ok(self.core.hand(*tile, *place) == *handed),
             Line::RunLate => self.runs_late(),
+            Line::RunEdits(edits) => self.runs_edits(edits),
             Line::Settle(jobs) => {
                 let count = self.core.settle(self.alloc)?;
                 Ok(count.jobs == *jobs && count.abandons == 0)

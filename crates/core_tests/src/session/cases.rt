@@ -11,12 +11,15 @@ use std::test::Fail;
 /// A mask of one row, behind its line `image`.
 pub const ROW: &str = "image\nP2\n5 1\n9\n3 5 2 5 4\n";
 
+/// A mask of five rows and columns of nines, behind its line `image`.
+pub const NINES: &str = "image\nP2\n5 5\n9\n9 9 9 9 9 9 9 9 9 9 9 9 9 9 9 9 9 9 9 9 9 9 9 9 9\n";
+
 /// What is called.
 pub enum Call {
     /// A view.
     View,
-    /// A view over a state file.
-    Kept,
+    /// A view over a state file, for tiles of this side.
+    Kept(u32),
     /// This derivation, for this h.
     Derive(Derivation, u16),
 }
@@ -87,7 +90,7 @@ impl Case {
     ) -> Option<RunError> {
         match &self.call {
             Call::View => view_run(alloc, source, self.conn, sink).err(),
-            Call::Kept => match view_kept(alloc, source, file, self.conn, 64, sink) {
+            Call::Kept(side) => match view_kept(alloc, source, file, self.conn, *side, sink) {
                 Ok(new) => {
                     *file = new;
                     None

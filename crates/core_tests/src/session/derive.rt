@@ -39,7 +39,7 @@ const DERIVED: &[Case] = &[
         ..ON_ROW
     },
     Case {
-        name: "an input with edits is no image file",
+        name: "a file behind a line `image`",
         call: Call::Derive(Derivation::Fill, 1),
         fault: (1, "seedpaint: P1"),
         ..ON_ROW

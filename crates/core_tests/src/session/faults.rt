@@ -1,6 +1,6 @@
 //! The lines and the status of faults.
 
-use super::cases::{Case, ON_ROW, is_told, play_all};
+use super::cases::{Case, NINES, ON_ROW, is_told, play_all};
 use core_rules::CoreError;
 use edit_lang::EditError;
 use paint_session::run_error::RunError;
@@ -79,7 +79,8 @@ const REFUSALS: &[Case] = &[
     },
     Case {
         name: "a disc whose centre is beside the image",
-        edits: "disc #1 5 0:5+9\n",
+        edits: "disc #1 5 9:9+9\n",
+        behind: NINES,
         fault: OUTSIDE,
         ..ON_ROW
     },

@@ -39,7 +39,7 @@ const JOIN: &[u8] = b"\x00\x6fSPD2\x04\
 
 // A view over the second stroke is refused.
 const REFUSED: Case = Case {
-    call: Call::Kept,
+    call: Call::Kept(64),
     old: SECOND,
     fault: (1, "seedpaint: D1"),
     new: SECOND,
@@ -49,7 +49,7 @@ const REFUSED: Case = Case {
 const KEPT: &[Case] = &[
     Case {
         name: "a file begins",
-        call: Call::Kept,
+        call: Call::Kept(64),
         edits: "place #2 3 0:4-4\n",
         written: b"P5\n5 1\n9\n\x02\x02\x02\x03\x03",
         new: SECOND,
@@ -57,7 +57,7 @@ const KEPT: &[Case] = &[
     },
     Case {
         name: "files of both versions, one behind the other, are a file that shows their join",
-        call: Call::Kept,
+        call: Call::Kept(64),
         old: JOINED,
         written: b"P5\n5 1\n9\n\x03\x05\x02\x03\x03",
         new: JOIN,
@@ -78,4 +78,25 @@ const KEPT: &[Case] = &[
 #[test]
 fn a_state_file_is_continued(rt: HostRuntime) -> Result<(), Fail> {
     play_all(rt.alloc(), KEPT, 0)
+}
+
+// Sides that tiles may not have, which is told before anything is read.
+const SIDES: &[Case] = &[
+    Case {
+        name: "tiles of side 7",
+        call: Call::Kept(7),
+        fault: (1, "seedpaint: C5"),
+        ..REFUSED
+    },
+    Case {
+        name: "tiles of side 257",
+        call: Call::Kept(257),
+        fault: (1, "seedpaint: C5"),
+        ..REFUSED
+    },
+];
+
+#[test]
+fn a_side_is_judged_before_anything_is_read(rt: HostRuntime) -> Result<(), Fail> {
+    play_all(rt.alloc(), SIDES, 1)
 }

@@ -1,6 +1,6 @@
 //! Views of inputs.
 
-use super::cases::{Case, ON_ROW, play_all};
+use super::cases::{Case, NINES, ON_ROW, play_all};
 use grid_core::Conn;
 use std::test::Fail;
 
@@ -61,8 +61,9 @@ const VIEWS: &[Case] = &[
     },
     Case {
         name: "a disc grows",
-        edits: "disc #1 9 0:1+1\n",
-        written: b"P5\n5 1\n9\n\x03\x05\x02\x02\x02",
+        edits: "disc #1 5 2:2+2\n",
+        behind: NINES,
+        written: b"P5\n5 5\n9\n\x05\x05\x05\x05\x05\x05\x05\x05\x05\x05\x05\x05\x05\x05\x05\x05\x05\x05\x05\x05\x05\x05\x05\x05\x05",
         ..ON_ROW
     },
     Case {
