@@ -1,5 +1,6 @@
 //! The files of the system as a store.
 
+use grid_core::Memory;
 use paint_session::run_error::RunError;
 use paint_session::store::{FileStore, StatePath, StateStore};
 use std::alloc::Global;
@@ -17,6 +18,8 @@ enum Step {
     // A load is V2, or has these bytes where the process may read all files, as root may. It never has none.
     LoadsOrFails(&'static [u8]),
     Saves(&'static [u8]),
+    // More bytes are saved than a read gives, and a load has them.
+    KeepsMany,
     // A save is V2.
     SaveFails(&'static [u8]),
     // The others are made without a store.
@@ -42,9 +45,6 @@ const NO_FOLDER: &str = "store_test/none/strokes";
 
 const OLD: &[u8] = b"the old bytes";
 
-// More than a read gives.
-const LONG: &[u8] = &[7; 300_000];
-
 // Cases: what each shows, and its steps, by the name that each is on.
 const CASES: &[(&str, &[(&str, Step)])] = &[
     (
@@ -54,8 +54,7 @@ const CASES: &[(&str, &[(&str, Step)])] = &[
     (
         "what is saved is loaded, also where it is shorter, and stands alone",
         &[
-            (STROKES, Step::Saves(LONG)),
-            (STROKES, Step::Loads(LONG)),
+            (STROKES, Step::KeepsMany),
             (STROKES, Step::Saves(OLD)),
             (STROKES, Step::Loads(OLD)),
             (STROKES, Step::Saves(b"\0")),
@@ -127,6 +126,26 @@ fn does_load(
     }
 }
 
+// More bytes than a read gives.
+fn many_bytes(alloc: Global) -> Result<Vec<u8>, Memory> {
+    let mut bytes = Vec::new(alloc);
+    for k in 0..300_000u32 {
+        bytes.push((k % 251) as u8)?;
+    }
+    Ok(bytes)
+}
+
+// Whether they are saved, and loaded.
+fn keeps_many(rt: &(impl Files + Alloc), alloc: Global, path: &StatePath) -> bool {
+    match many_bytes(alloc) {
+        Ok(bytes) => {
+            FileStore::new(rt).save(path, &bytes).is_ok()
+                && does_load(rt, alloc, path, Some(&bytes), false)
+        }
+        Err(_) => false,
+    }
+}
+
 // Whether a step can be made on the file, or is so.
 fn is_done(rt: &(impl Files + Alloc), alloc: Global, path: &StatePath, step: &Step) -> bool {
     match step {
@@ -134,6 +153,7 @@ fn is_done(rt: &(impl Files + Alloc), alloc: Global, path: &StatePath, step: &St
         Step::LoadFails => does_load(rt, alloc, path, None, true),
         Step::LoadsOrFails(bytes) => does_load(rt, alloc, path, Some(bytes), true),
         Step::Saves(bytes) => FileStore::new(rt).save(path, bytes).is_ok(),
+        Step::KeepsMany => keeps_many(rt, alloc, path),
         Step::SaveFails(bytes) => {
             FileStore::new(rt).save(path, bytes).err() == Some(RunError::StateFile)
         }
