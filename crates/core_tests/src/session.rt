@@ -1,6 +1,6 @@
-//! Sessions: views and derivations, what a state file keeps, the files of the system, and the lines of faults. `cases` plays
-//! tables of cases, and a failure names its case. `beside_core` compares views with a core that is opened, merges the same
-//! deltas one by one and settles: it shows the same bytes.
+//! Sessions: views and derivations, what a state file keeps, the files of the system, and the lines of faults. `cases`
+//! plays tables of cases, and a failure names its case. `beside_core` compares views with a core that is opened, merges
+//! the same deltas one by one and settles: it shows the same bytes.
 
 mod beside_core;
 mod cases;

@@ -9,7 +9,7 @@ use Rattle.stroke_lattice.specs.State.{State}
 use Rattle.marker_tiles.specs.Marker.{IsMarker}
 use Rattle.derived_views.specs.Shown.{IsShown}
 
--- each time that the mask is read
+-- the mask is read twice, for its marker and to grow
 pub grown_is_shown : (conn : Conn) (mask shown : Graymap) (state : State) (first second marker image : Raster)
     (maxval : ℕ) → first ≡ mask.raster
     → second ≡ mask.raster → IsMarker (domain_of first conn) (value_at first) state (value_at marker)

@@ -19,8 +19,8 @@
 //! Each takes the memory of at most one grid beside the image that it gives back, and the room of growing
 //! ([`raster_sweeps::Room`]). Want of memory is its one error.
 //!
-//! Read on: `specs/Shown.antt`, `specs/Holes.antt`, `specs/HMaxima.antt` and `specs/Plateaus.antt` say what the views are.
-//! They are computed by growing (`raster_sweeps`), each in a way of its own that its module tells.
+//! Read on: `specs/Shown.antt`, `specs/Holes.antt`, `specs/HMaxima.antt` and `specs/Plateaus.antt` say what the views
+//! are. They are computed by growing (`raster_sweeps`), each in a way of its own that its module tells.
 
 mod holes;
 pub mod laws;

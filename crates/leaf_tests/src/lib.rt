@@ -1,9 +1,10 @@
 #![tactic(auto)]
-//! Tests of the crates below a core and a session, by their public calls: strokes, their states, frames, lines and markers;
-//! devices, image files and views of an image; growth, hints between tiles and the generations of tiles.
+//! Tests of the crates below a core and a session, by their public calls: strokes, their states, frames, lines and
+//! markers; devices, image files and views of an image; growth, hints between tiles and the generations of tiles.
 //!
-//! They stand in a crate of their own because tests are proved safe as well: a crate with tests is proved twice. Where a
-//! contract says exactly what a call gives there are worked examples alone, and definitions beside plain programs of them.
+//! They stand in a crate of their own because tests are proved safe as well: a crate with tests is proved twice. Where
+//! a contract says exactly what a call gives there are worked examples alone, and definitions beside plain programs of
+//! them.
 
 #[cfg(test)]
 mod devices;

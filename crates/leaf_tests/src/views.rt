@@ -129,8 +129,8 @@ fn first(view: View, value: u32, is_on_border: bool) -> u32 {
 }
 
 // What a view that has shown `seen` at a pixel of this value shows there once it was seen beside it. The fill is the
-// greatest value of a path from the border, the least of all paths; the domes are the least value of a path from a pixel
-// cut down, the greatest of all paths; no maximum has a higher neighbour, or an equal one that is no maximum.
+// greatest value of a path from the border, the least of all paths; the domes are the least value of a path from a
+// pixel cut down, the greatest of all paths; no maximum has a higher neighbour, or an equal one that is no maximum.
 fn next(view: View, value: u32, seen: u32, beside: u32, seen_beside: u32) -> u32 {
     match view {
         View::Fill => seen.min(value.max(seen_beside)),

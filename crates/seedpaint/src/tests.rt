@@ -23,8 +23,9 @@ const KEPT: &[u8] = b"\x00\x44SPD2\x08\
     \0\x01\0\0\
     \0\0\0\0\0\0\0\0\0\0\0\0\0\0\0\x02\0\0\x03\0\x01\0\0\0\x04\0\x04";
 
-// A run: its words with a bar between them, the state file `strokes` before, the call of the store that fails (the first
-// loads, the second saves; the third there is not), its input, its line and status, what it writes, and the state file after.
+// A run: its words with a bar between them, the state file `strokes` before, the call of the store that fails (the
+// first loads, the second saves; the third there is not), its input, its line and status, what it writes, and the state
+// file after.
 struct Run {
     words: &'static str,
     old: &'static [u8],

@@ -35,8 +35,8 @@ pub enum Line {
     Hand(usize, usize, Handed),
     /// A schedule in which a result that was abandoned comes late takes two jobs, and abandons one.
     RunLate,
-    /// A schedule of these edits, behind which tile 0 is swept, takes the first of them. It refuses the second, since it
-    /// places another stroke of tag 1, and the third, since the stroke of tag 1 does not fit the mask there.
+    /// A schedule of these edits, behind which tile 0 is swept, takes the first of them. It refuses the second, since
+    /// it places another stroke of tag 1, and the third, since the stroke of tag 1 does not fit the mask there.
     RunEdits(&'static [Line]),
     /// The core settles by so many jobs, and abandons none.
     Settle(u64),

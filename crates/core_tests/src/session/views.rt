@@ -124,7 +124,8 @@ const VIEWS: &[Case] = &[
     },
 ];
 
-// A view of an input of 84 bytes, which take 12 pulls, and one more finds the end. The 16 bytes of the view take 6 puts.
+// A view of an input of 84 bytes, which take 12 pulls, and one more finds the end. The 16 bytes of the view take 6
+// puts.
 const STORED: Case = Case {
     name: "a maxval of a whole byte",
     edits: "place #1 73 0:1-1\n",

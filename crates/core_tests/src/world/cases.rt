@@ -21,10 +21,10 @@ const HILLS: Mask<'static> = Mask {
 };
 
 const CASES: &[Case] = &[
-    // The first stroke at the first replica, the second at the other; each is sent, the second one comes twice; a job of
-    // each, and its result to its own replica, and one to the other; and a packet that was never sent. With one
-    // allocation of the run refused, whichever it is, the rest leads to the same end. That one is refused is the wish of
-    // whoever starts the test, so this case stands first.
+    // The first stroke at the first replica, the second at the other; each is sent, the second one comes twice; a job
+    // of each, and its result to its own replica, and one to the other; and a packet that was never sent. With one
+    // allocation of the run refused, whichever it is, the rest leads to the same end. That one is refused is the wish
+    // of whoever starts the test, so this case stands first.
     Case {
         name: "both show both strokes",
         mask: HILLS,

@@ -41,8 +41,8 @@ pub enum Act {
 pub enum Line {
     /// These happen, and none is refused.
     Acts(&'static [Act]),
-    /// A run of these refuses that of this number alone, since it names nothing. Where memory runs out, the rest of them
-    /// is run from there on, once.
+    /// A run of these refuses that of this number alone, since it names nothing. Where memory runs out, the rest of
+    /// them is run from there on, once.
     Run(&'static [Act], usize),
     /// What is known at a replica becomes known at each.
     Exchange,
@@ -150,8 +150,8 @@ impl Stage {
         Ok(true)
     }
 
-    // Whether a run of these events refuses that of this number alone, since it names nothing. Where memory runs out, the
-    // rest of them is run from there on, once.
+    // Whether a run of these events refuses that of this number alone, since it names nothing. Where memory runs out,
+    // the rest of them is run from there on, once.
     fn runs(&mut self, events: &[Event], refused: usize) -> bool {
         let mut done: usize = 0;
         for _ in 0..2 {
