@@ -1,6 +1,6 @@
 -- What an answer of clap says of the words that it was given.
-use Rattle.std.proofs.Common.{◌≡◌, ◌≢◌, ◌==◌, Bool, true, false, List, [], inl, inr, length, refl, sym, ap, ◌∙◌, subst}
-use Rattle.std.specs.Prelude.{◌⊎◌, ◌∷◌, Result, Err, map}
+use Rattle.std.proofs.Common.{◌≡◌, ◌≢◌, true, List, [], inl, inr, length, refl, sym, ap, ◌∙◌, subst}
+use Rattle.std.specs.Prelude.{◌⊎◌, Result, Err}
 use Rattle.std.proofs.lemmas.Result.{IfOk-weaker}
 use Rattle.clap.specs.Words.{App, Text, HasMatchesOf, HasKind, fault_of, is_simple, is_simple_and_free, kind_of}
 use Rattle.clap.specs.Words.{subcommand_of, subcommand_rows_of}
@@ -13,11 +13,11 @@ use Rattle.seedpaint.specs.Words.{program, IsCall, Reads, Says}
 use Rattle.seedpaint.specs.declared.words.Call.{Call}
 use Rattle.seedpaint.proofs.Calls.{reads_none}
 
-module _ (app : App) (is : app ≡ program) (words : List Text) (some : words ≡ [] → ⊥) where
+module _ (app : App) (is : app ≡ program) (words : List Text) (some : length words ≡ 0 → ⊥) where
   -- a call of some words is one that clap finds
   found : (call : Call) → Says words call
       → (fault_of program words ≡ []) × IsCall (subcommand_of program words) call
-  found call (inl (none, view)) = absurd (some none)
+  found call (inl (none, view)) = absurd (some (ap length none))
   found call (inr parsed) = parsed
 
   free : is_simple_and_free app ≡ true
@@ -35,7 +35,8 @@ module _ (app : App) (is : app ≡ program) (words : List Text) (some : words �
       let rows : subcommand_rows_of matches ≡ subcommand_of program words =
       (has simple).1 ∙ ap (λ (a : App). subcommand_of a words) is in
       record {
-        said = IfOk-weaker result _ (Says words) (λ call said. inr (none, subst (λ r. IsCall r call) rows said)) read.said;
+        said = IfOk-weaker result _ (Says words) (λ call said. inr (none, subst (λ r. IsCall r call) rows said))
+            read.said;
         refused = read.refused;
         usage = λ same call says. read.usage same call (subst (λ r. IsCall r call) (sym rows) (found call says).1);
       }
@@ -54,13 +55,3 @@ module _ (app : App) (is : app ≡ program) (words : List Text) (some : words �
         | inl memory ↦ no_memory memory
         | inr among ↦ among
       ])
-
--- no text of no string is no string
-pub none_of_none : {A B : Type 0} (f : A → B) (xs : List A) → map f xs ≡ [] → xs ≡ []
-none_of_none f [] is = refl
-none_of_none f (x ∷ xs) is = cc
-
--- a list that is not empty, as its length was asked, has something
-pub some_left : {A : Type 0} (xs : List A) (empty : Bool) → empty ≡ (length xs == 0) → empty ≡ false → xs ≡ [] → ⊥
-some_left [] empty is is_false none = let same : true ≡ false = sym is ∙ is_false in cc
-some_left (x ∷ xs) empty is is_false none = cc
