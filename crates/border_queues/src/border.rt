@@ -36,7 +36,7 @@ pub struct Border<'a> {
 impl Border<'_> {
     // The value of a pixel of the tile.
     #[inline(always)]
-    fn value(&self, p: Pixel) -> u32
+    fn value(&self, p: Pixel) -> u16
         requires border { IsBorder self.now }
         requires own { IsInRect self.now.rect p }
         ensures { result ≡ (sender_of self.now).image p }
@@ -49,7 +49,7 @@ impl Border<'_> {
 
     // Tells a neighbour of a pixel of this value, if it lies in another tile and can rise.
     #[inline(always)]
-    fn push_open(&self, value: u32, q: Pixel, out: &mut Inbox)
+    fn push_open(&self, value: u16, q: Pixel, out: &mut Inbox)
         requires ready { CanTell self.now out.old 1 }
         requires inside { IsInside self.now.tiling.width self.now.tiling.height q }
         ensures { AddsWithin out.old out.new (told_to self.now value (q ∷ [])) 1 }
@@ -70,7 +70,7 @@ impl Border<'_> {
 
     // Tells the pixel at `x` and `y`, where it is wanted.
     #[inline(always)]
-    fn push_if(&self, wanted: bool, value: u32, x: u32, y: u32, out: &mut Inbox)
+    fn push_if(&self, wanted: bool, value: u16, x: u32, y: u32, out: &mut Inbox)
         requires ready { CanTell self.now out.old 1 }
         requires at { IsTrue wanted → IsInside self.now.tiling.width self.now.tiling.height (record { x = x; y = y }) }
         ensures { AddsWithin out.old out.new (told_to self.now value (pixel_if wanted x y)) 1 }
@@ -82,7 +82,7 @@ impl Border<'_> {
 
     // Tells the pixel at `x` of row `y`, where the row is wanted, and those at its sides, if `sides`.
     #[inline(always)]
-    fn push_row(&self, wanted: bool, value: u32, x: u32, y: u32, sides: bool, out: &mut Inbox)
+    fn push_row(&self, wanted: bool, value: u16, x: u32, y: u32, sides: bool, out: &mut Inbox)
         requires ready { CanTell self.now out.old 3 }
         requires column { x < self.now.tiling.width }
         requires row { IsTrue wanted → y < self.now.tiling.height }

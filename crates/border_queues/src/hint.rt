@@ -12,5 +12,5 @@ pub struct Hint {
     /// The pixel of the image that may rise.
     pub to_pixel: Pixel,
     /// The level that it may rise to.
-    pub value: u32,
+    pub value: u16,
 }

@@ -11,7 +11,7 @@ use std::test::Fail;
 pub struct Mask<'a> {
     pub width: u32,
     pub height: u32,
-    pub pixels: &'a [(usize, u32)],
+    pub pixels: &'a [(usize, u16)],
 }
 
 /// The image of a mask.
@@ -29,7 +29,7 @@ pub fn image_of(alloc: Global, mask: &Mask<'_>) -> Result<Image, Fail> {
 }
 
 /// Whether the cells are these values, each so often.
-pub fn are_cells(cells: &[u32], spans: &[(usize, u32)]) -> bool {
+pub fn are_cells(cells: &[u16], spans: &[(usize, u16)]) -> bool {
     let mut cells = cells.iter();
     for (count, value) in spans {
         for _ in 0..*count {

@@ -1,5 +1,6 @@
--- The regional maxima are where the image, grown inside the image raised by 1, does not rise.
-use Rattle.std.proofs.Common.{◌≡◌, ℕ, ◌+◌, ◌-◌, ◌<◌, ◌≤◌, List, [], ◌∷◌, ◌++◌, refl, sym, subst, arith, inl, inr}
+-- The regional maxima are where the image, grown inside the image raised by 1, does not rise. The greatest level is not
+-- raised.
+use Rattle.std.proofs.Common.{◌≡◌, ℕ, ◌+◌, ◌<◌, ◌≤◌, min, List, [], ◌∷◌, ◌++◌, refl, sym, subst, arith, inl, inr}
 use Rattle.std.specs.List.{AllByRecursion}
 use Rattle.std.proofs.lemmas.Bool.{cases_lt}
 use Rattle.grid_core.specs.declared.pixel.Pixel.{Pixel}
@@ -8,6 +9,7 @@ use Rattle.grid_core.specs.Path.{Domain, Inside, IsPath, end_of, Reaches}
 use Rattle.grid_core.specs.Reconstruction.{IsReconstruction}
 use Rattle.grid_core.proofs.Reach.{IsPath-inside, reaches_here, reaches_within_mask}
 use Rattle.derived_views.specs.Plateaus.{IsOnPlateau, IsRegionalMaximum, IsRegionalMaxima}
+use Rattle.derived_views.specs.Rasters.{MarksEqual}
 use Rattle.derived_views.proofs.Paths.{along_path, at_end, path_on, all_on, end_on}
 
 -- a path leads from the pixel along pixels of one level to a pixel beside a higher one
@@ -78,7 +80,8 @@ module _ (d : Domain) (image : Pixel → ℕ) where
       in
       absurd (omega (arith, lower, way.rises))
 
-  module _ (mask : Pixel → ℕ) (raised : (q : Pixel) → Inside d q → mask q ≡ image q + 1) where
+  module _ (mask : Pixel → ℕ) (top : ℕ) (fits : (q : Pixel) → Inside d q → image q ≤ top)
+      (raised : (q : Pixel) → Inside d q → mask q ≡ min (image q + 1) top) where
     -- a higher pixel beside a plateau is reached from it
     reaches_higher : (p q r : Pixel) → IsOnPlateau d image p q → Inside d r → AreNeighbours d.conn q r
         → image p < image r
@@ -88,10 +91,10 @@ module _ (d : Domain) (image : Pixel → ℕ) where
         subst (λ e. AreNeighbours d.conn e r) (sym on.3) beside
         in
         let lets = λ (s : Pixel) (within : Inside d s) (same : image s ≡ image p).
-        let high : image p + 1 ≤ mask s = omega (arith, same, raised s within) in high
+        let high : image p + 1 ≤ mask s = omega (arith, same, raised s within, higher, fits r inside) in high
         in
         let along = along_path d (λ s. image s ≡ image p) (λ s. image p + 1 ≤ mask s) lets p on.0 on.1 on.2 in
-        let here : image p + 1 ≤ mask r = omega (arith, higher, raised r inside) in
+        let here : image p + 1 ≤ mask r = omega (arith, higher, raised r inside, fits r inside) in
         let last : image p + 1 ≤ image (end_of p (on.0 ++ r ∷ [])) =
         subst (λ e. image p + 1 ≤ image e) (sym (end_on p on.0 r)) (omega (arith, higher))
         in (
@@ -123,29 +126,31 @@ module _ (d : Domain) (image : Pixel → ℕ) where
         (along_path d (λ s. image p + 1 ≤ mask s) (λ s. image p ≤ image s) never_lower p reach.0 reach.1 reach.2)
         (omega (arith, reach.3))
 
-    -- what is left between the raised image and the image grown in it is 1 on the regional maxima, and 0 elsewhere
+    -- 1 where the image grown in the raised one is the image itself, and 0 elsewhere, is 1 on the regional maxima
     pub maxima_by_growing : (grown maxima : Pixel → ℕ) → IsReconstruction d mask image grown
-        → ((q : Pixel) → Inside d q → maxima q ≡ mask q - grown q)
+        → ((q : Pixel) → Inside d q → MarksEqual (image q) (grown q) (maxima q))
         → IsRegionalMaxima d image maxima
-    maxima_by_growing grown maxima recon left p inside =
+    maxima_by_growing grown maxima recon marks p inside =
         let mask_here = raised p inside in
-        let left_here = left p inside in
         let below_mask : grown p ≤ mask p = reaches_within_mask d mask image p (grown p) (recon p inside).0 in
-        elim (cases_lt (image p) (grown p)) [
-          | inl rises ↦
-              let top : grown p ≡ image p + 1 = omega (arith, rises, mask_here, below_mask) in
-              let reach : Reaches d mask image p (image p + 1) =
-              subst (λ k. Reaches d mask image p k) top (recon p inside).0
+        elim (marks p inside) [
+          | inl equal ↦
+              let stays = λ (reach : Reaches d mask image p (image p + 1)).
+              (recon p inside).1 (image p + 1) (omega (arith, equal.0)) reach
               in
-              inr (climbs_from p (reach_climbs p reach), omega (arith, left_here, mask_here, top))
-          | inr not_risen ↦ elim (cases_lt (grown p) (image p)) [
-            | inl fallen ↦
-                absurd ((recon p inside).1 (image p) fallen (reaches_here d mask image p (image p) inside
-                (omega (arith, mask_here)) (omega arith)))
-            | inr not_fallen ↦
-                let stays = λ (reach : Reaches d mask image p (image p + 1)).
-                (recon p inside).1 (image p + 1) (omega (arith, not_risen)) reach
+              inl (stays_maximum p stays, equal.1)
+          | inr other ↦ elim (cases_lt (image p) (grown p)) [
+            | inl rises ↦
+                let one_more : grown p ≡ image p + 1 = omega (arith, rises, mask_here, below_mask) in
+                let reach : Reaches d mask image p (image p + 1) =
+                subst (λ k. Reaches d mask image p k) one_more (recon p inside).0
                 in
-                inl (stays_maximum p stays, omega (arith, left_here, mask_here, not_risen, not_fallen))
+                inr (climbs_from p (reach_climbs p reach), other.1)
+            | inr not_risen ↦ elim (cases_lt (grown p) (image p)) [
+              | inl fallen ↦
+                  absurd ((recon p inside).1 (image p) fallen (reaches_here d mask image p (image p) inside
+                  (omega (arith, mask_here, fits p inside)) (omega arith)))
+              | inr not_fallen ↦ absurd (other.0 (omega (arith, not_risen, not_fallen)))
+            ]
           ]
         ]

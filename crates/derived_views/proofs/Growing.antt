@@ -1,22 +1,21 @@
 -- The views of images of values, by growing.
-use Rattle.std.proofs.Common.{◌≡◌, ℕ, ◌+◌, ◌-◌, ◌*◌, ◌<◌, ◌≤◌, List, get_or, length, map, min}
+use Rattle.std.proofs.Common.{◌≡◌, ℕ, ◌+◌, ◌-◌, ◌*◌, ◌<◌, ◌≤◌, List, get_or, length, map}
 use Rattle.std.proofs.Common.{sym, ap, subst, ◌∙◌, arith, inl, inr}
 use Rattle.std.specs.Prelude.{slice_index, EachIndex}
 use Rattle.std.proofs.Math.Nat.{zero-sub}
 use Rattle.std.proofs.Math.ListN as lists
-use Rattle.std.proofs.lemmas.List.{ext_get_or, get_or-map, length-map}
 use Rattle.grid_core.specs.declared.conn.Conn.{Conn}
 use Rattle.grid_core.specs.declared.pixel.Pixel.{Pixel}
 use Rattle.grid_core.specs.Path.{domain_of}
 use Rattle.grid_core.specs.Raster.{Raster, IsInside, IsFilled, IsImageSize, IsOnBorder, index_of}
-use Rattle.grid_core.specs.Raster.{max_value, value_at}
+use Rattle.grid_core.specs.Raster.{max_level, value_at}
 use Rattle.grid_core.specs.Reconstruction.{IsReconstruction}
 use Rattle.grid_core.proofs.Cells.{index_of-within, pixel_of, index_of-pixel_of, pixel_of-inside}
-use Rattle.pgm_codec.specs.Graymap.{Graymap, IsGraymap, max_maxval}
+use Rattle.pgm_codec.specs.Graymap.{Graymap, IsGraymap}
 use Rattle.derived_views.specs.HMaxima.{IsHMaxima, less}
 use Rattle.derived_views.specs.Holes.{IsFill}
 use Rattle.derived_views.specs.Plateaus.{IsRegionalMaxima}
-use Rattle.derived_views.specs.Rasters.{mapped, complement_of, AgreeAt, IsPartOfBorder}
+use Rattle.derived_views.specs.Rasters.{mapped, raised, complement_of, AgreeAt, IsPartOfBorder, MarksEqual, IsWhereEqual}
 use Rattle.derived_views.proofs.Filling.{fill_by_growing}
 use Rattle.derived_views.proofs.Climbing.{maxima_by_growing}
 use Rattle.derived_views.proofs.Rasters.{mapped_value, value_within}
@@ -41,21 +40,6 @@ h_maxima_of conn h image lowered grown low recon =
     in
     subst (λ (marker : Pixel → ℕ). IsReconstruction (domain_of image conn) (value_at image) marker (value_at grown))
     (λ i p. same p i) recon
-
--- an image raised by 1 has room for it
-pub raised_cells : (xs : List ℕ) (top : ℕ) → top < max_value → EachIndex xs (λ k. slice_index xs k ≤ top)
-    → map (λ v. min (v + 1) max_value) xs ≡ map (λ v. v + 1) xs
-raised_cells xs top room bound =
-    let long = length-map xs (λ v. min (v + 1) max_value) ∙ sym (length-map xs (λ v. v + 1)) in
-    ext_get_or 0 (map (λ v. min (v + 1) max_value) xs) (map (λ v. v + 1) xs) long (λ i within.
-    let here : i < length xs = omega (arith, within, length-map xs (λ v. min (v + 1) max_value)) in
-    omega (
-      arith,
-      get_or-map (λ v. min (v + 1) max_value) xs i 0 0 here,
-      get_or-map (λ v. v + 1) xs i 0 0 here,
-      bound i here,
-      room,
-    ))
 
 -- the fill of an image, by its complement, the border of that, what grows from it, and the complement of this
 pub fill_of : (conn : Conn) (top : ℕ) (image border grown turned : Raster) → IsFilled image → IsFilled turned
@@ -82,24 +66,26 @@ fill_of conn top image border grown turned filled turned_filled bound part whole
     omega (arith, here, lower))
 
 -- the regional maxima of an image, by the image raised by 1 and what grows in it
-pub maxima_of : (conn : Conn) (image grown maxima : Raster) → IsFilled image → IsFilled maxima
-    → grown.width ≡ image.width → maxima.width ≡ image.width → maxima.height ≡ image.height
-    → EachIndex maxima.cells (λ k. slice_index maxima.cells k
-    ≡ slice_index (mapped (λ v. v + 1) image).cells k - slice_index grown.cells k)
-    → IsReconstruction (domain_of image conn) (value_at (mapped (λ v. v + 1) image)) (value_at image) (value_at grown)
+pub maxima_of : (conn : Conn) (image grown maxima : Raster) → IsFilled image
+    → EachIndex image.cells (λ k. slice_index image.cells k ≤ max_level)
+    → grown.width ≡ image.width → grown.height ≡ image.height → IsWhereEqual image grown maxima
+    → IsReconstruction (domain_of image conn) (value_at (mapped raised image)) (value_at image) (value_at grown)
     → IsRegionalMaxima (domain_of image conn) (value_at image) (value_at maxima)
-maxima_of conn image grown maxima filled maxima_filled grown_width width height left recon =
-    maxima_by_growing (domain_of image conn) (value_at image) (value_at (mapped (λ v. v + 1) image))
-    (λ q inside. mapped_value (λ v. v + 1) image q filled inside) (value_at grown) (value_at maxima) recon
+maxima_of conn image grown maxima filled fits grown_width grown_height equal recon =
+    maxima_by_growing (domain_of image conn) (value_at image) (value_at (mapped raised image)) max_level
+    (λ q inside. value_within image max_level fits filled q inside)
+    (λ q inside. mapped_value raised image q filled inside) (value_at grown) (value_at maxima) recon
     (λ q inside.
+    let width = equal.width ∙ grown_width in
     let inside_maxima : IsInside maxima.width maxima.height q =
-    (omega (arith, inside.0, width), omega (arith, inside.1, height))
+    (omega (arith, inside.0, width), omega (arith, inside.1, equal.height, grown_height))
     in
-    let within : index_of maxima.width q < length maxima.cells = index_of-within maxima q maxima_filled inside_maxima in
-    let here = left (index_of maxima.width q) within in
-    let upper = at_width (mapped (λ v. v + 1) image).cells maxima.width image.width q width in
-    let lower = at_width grown.cells maxima.width grown.width q (width ∙ sym grown_width) in
-    omega (arith, here, upper, lower))
+    let within : index_of maxima.width q < length maxima.cells = index_of-within maxima q equal.filled inside_maxima in
+    let its = at_width image.cells maxima.width image.width q width in
+    let grew = at_width grown.cells maxima.width grown.width q equal.width in
+    subst (λ v. MarksEqual v (value_at grown q) (value_at maxima q)) its
+    (subst (λ v. MarksEqual (slice_index image.cells (index_of maxima.width q)) v (value_at maxima q)) grew
+    (equal.values (index_of maxima.width q) within)))
 
 -- regional maxima are nowhere above 1
 pub maxima_within : (conn : Conn) (image maxima : Raster) → IsFilled maxima → maxima.width ≡ image.width
@@ -147,7 +133,7 @@ fill_from conn top image mask border grown turned is_mask filled turned_filled b
     (width ∙ grown_width) (height ∙ grown_height) back its_recon
 
 -- an image of the size of another, with values up to a maxval
-pub graymap_from : (image : Graymap) (made : Raster) (maxval : ℕ) → IsGraymap image → 0 < maxval → maxval ≤ max_maxval
+pub graymap_from : (image : Graymap) (made : Raster) (maxval : ℕ) → IsGraymap image → 0 < maxval → maxval ≤ max_level
     → made.width ≡ image.raster.width → made.height ≡ image.raster.height → IsFilled made
     → EachIndex made.cells (λ k. slice_index made.cells k ≤ maxval)
     → IsGraymap (record { raster = made; maxval = maxval })
@@ -163,28 +149,22 @@ graymap_from image made maxval is some within width height filled bound = record
   samples_within = bound;
 }
 
-pub maxima_from : (conn : Conn) (image mask start grown maxima : Raster) → mask ≡ mapped (λ v. v + 1) image
-    → start ≡ image
-    → IsFilled image → IsFilled maxima
-    → grown.width ≡ start.width → maxima.width ≡ start.width → maxima.height ≡ start.height
-    → EachIndex maxima.cells (λ k. slice_index maxima.cells k ≡ slice_index mask.cells k - slice_index grown.cells k)
+pub maxima_from : (conn : Conn) (image other mask start grown maxima : Raster) → mask ≡ mapped raised image
+    → start ≡ image → other ≡ image → IsFilled image
+    → EachIndex image.cells (λ k. slice_index image.cells k ≤ max_level)
+    → grown.width ≡ start.width → grown.height ≡ start.height → IsWhereEqual other grown maxima
     → IsReconstruction (domain_of mask conn) (value_at mask) (value_at start) (value_at grown)
     → IsRegionalMaxima (domain_of image conn) (value_at image) (value_at maxima)
-maxima_from conn image mask start grown maxima is_mask is_start filled maxima_filled grown_width width height left
-    recon =
-    let its_left = subst (λ (m : Raster). EachIndex maxima.cells (λ k. slice_index maxima.cells k
-    ≡ slice_index m.cells k - slice_index grown.cells k)) is_mask left
-    in
+maxima_from conn image other mask start grown maxima is_mask is_start is_other filled fits width height equal recon =
+    let its_equal = subst (λ (r : Raster). IsWhereEqual r grown maxima) is_other equal in
     let its_recon =
-    subst (λ (s : Raster). IsReconstruction (domain_of (mapped (λ v. v + 1) image) conn)
-    (value_at (mapped (λ v. v + 1) image)) (value_at s) (value_at grown)) is_start
+    subst (λ (s : Raster). IsReconstruction (domain_of (mapped raised image) conn) (value_at (mapped raised image))
+    (value_at s) (value_at grown)) is_start
     (subst (λ (m : Raster). IsReconstruction (domain_of m conn) (value_at m) (value_at start) (value_at grown)) is_mask
     recon)
     in
-    let wide = ap (λ (s : Raster). s.width) is_start in
-    let high = ap (λ (s : Raster). s.height) is_start in
-    maxima_of conn image grown maxima filled maxima_filled (grown_width ∙ wide) (width ∙ wide) (height ∙ high) its_left
-    its_recon
+    maxima_of conn image grown maxima filled fits (width ∙ ap (λ (s : Raster). s.width) is_start)
+    (height ∙ ap (λ (s : Raster). s.height) is_start) its_equal its_recon
 
 pub h_maxima_from : (conn : Conn) (h : ℕ) (image from mask lowered grown : Raster) → from ≡ image → mask ≡ image
     → lowered ≡ mapped (λ v. v - h) from

@@ -23,17 +23,16 @@ use std::alloc::Global;
 pub fn fill(alloc: Global, image: &Image, conn: Conn) -> Result<Image, Memory>
     ensures { IfOk result (IsView image.now image.now.maxval (IsFill (domain_of image.now.raster conn))) }
 {
-    let maxval = image.maxval();
-    let top = u32::from(maxval);
+    let top = image.maxval();
     let mask = complement(alloc, image.grid(), top)?;
     let mut grown = border_of(alloc, &mask)?;
     grow_in_place(alloc, &mask, &mut grown, conn)?;
     let filled = complemented(grown, top);
-    Ok(Image::over(filled, maxval))
+    Ok(Image::over(filled, top))
 }
 
 // How far each value lies below the top, as another grid.
-fn complement(alloc: Global, grid: &Grid, top: u32) -> Result<Grid, Memory>
+fn complement(alloc: Global, grid: &Grid, top: u16) -> Result<Grid, Memory>
     ensures { IfOk result (λ g. g ≡ complement_of top grid.now) }
 {
     let cells = grid
@@ -45,7 +44,7 @@ fn complement(alloc: Global, grid: &Grid, top: u32) -> Result<Grid, Memory>
 }
 
 // How far each value lies below the top, in the same memory.
-fn complemented(grid: Grid, top: u32) -> Grid
+fn complemented(grid: Grid, top: u16) -> Grid
     ensures { IsDifference (λ _. top) grid result }
 {
     let w = grid.width();
@@ -56,7 +55,7 @@ fn complemented(grid: Grid, top: u32) -> Grid
 }
 
 // Makes each value that by which the top is greater.
-fn subtract_from_top(values: &mut [u32], top: u32)
+fn subtract_from_top(values: &mut [u16], top: u16)
     ensures { AreDifferences (λ _. top) values.old values.new }
 {
     for i in 0..values.len() {

@@ -18,14 +18,14 @@ use std::alloc::Global;
 pub fn h_maxima(alloc: Global, image: &Image, h: u16, conn: Conn) -> Result<Image, Memory>
     ensures { IfOk result (IsView image.now image.now.maxval (IsHMaxima (domain_of image.now.raster conn) h)) }
 {
-    let mut grown = lowered(alloc, image.grid(), u32::from(h))?;
+    let mut grown = lowered(alloc, image.grid(), h)?;
     grow_in_place(alloc, image.grid(), &mut grown, conn)?;
     below_keeps_maxval();
     Ok(Image::over(grown, image.maxval()))
 }
 
 // Each value less h, and 0 where it is less than h.
-pub(crate) fn lowered(alloc: Global, grid: &Grid, h: u32) -> Result<Grid, Memory>
+pub(crate) fn lowered(alloc: Global, grid: &Grid, h: u16) -> Result<Grid, Memory>
     ensures { IfOk result (λ g. g ≡ mapped (λ v. v - h) grid.now) }
 {
     let cells = grid

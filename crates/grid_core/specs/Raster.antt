@@ -33,9 +33,9 @@ max_side = 16384
 abbrev pub max_pixels : ℕ
 max_pixels = 67108864
 
--- the greatest value of a cell
-abbrev pub max_value : ℕ
-max_value = 4294967295
+-- the greatest level: the greatest value of a cell
+abbrev pub max_level : ℕ
+max_level = 65535
 
 -- the sides that an image may have: each from 1 to the greatest, and not too many pixels in all
 pub record IsImageSize (width height : ℕ) : Type 0 where
@@ -72,4 +72,4 @@ pub record IsOfSize (old new : Raster) : Type 0 where
 
 -- how far the values lie below the greatest that a cell can have, in all
 abbrev pub headroom : List ℕ → ℕ
-headroom cells = sum_by (λ v. max_value - v) cells
+headroom cells = sum_by (λ v. max_level - v) cells

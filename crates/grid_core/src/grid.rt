@@ -21,6 +21,9 @@ pub const MAX_SIDE: u32 = 16_384;
 /// The greatest number of pixels of an image.
 pub const MAX_PIXELS: u32 = 1 << 26;
 
+/// The greatest level: the greatest value of a cell.
+pub const MAX_LEVEL: u16 = u16::MAX;
+
 /// Whether an image may have these sides: each from 1 to [`MAX_SIDE`], and at most [`MAX_PIXELS`] pixels.
 pub fn is_image_size(w: u32, h: u32) -> bool
     ensures { IsTrue result ↔ IsImageSize w h }
@@ -87,13 +90,13 @@ pub(crate) fn check_size(w: u32, h: u32) -> Result<(), GridError>
     Ok(())
 }
 
-/// A value for each pixel of an image: `w * h` cells of 32 bits, row by row from the top, each row from
+/// A level for each pixel of an image: `w * h` cells, each 0 to [`MAX_LEVEL`], row by row from the top, each row from
 /// the left. Sides are 1 to [`MAX_SIDE`], with at most [`MAX_PIXELS`] pixels.
 #[derive(Debug, Drop)]
 pub struct Grid {
     w: u32,
     h: u32,
-    cells: Vec<u32>,
+    cells: Vec<u16>,
 }
 
 impl Model for Grid {
@@ -111,7 +114,7 @@ impl Grid {
     ///
     /// Errors: G1 where a side is 0, else G2 where one is above [`MAX_SIDE`] or there are more than
     /// [`MAX_PIXELS`] pixels, else G3 where memory is refused.
-    pub fn new(alloc: Global, w: u32, h: u32, fill: u32) -> Result<Grid, GridError>
+    pub fn new(alloc: Global, w: u32, h: u32, fill: u16) -> Result<Grid, GridError>
         ensures width { IfOk result (λ g. g.width ≡ w) }
         ensures height { IfOk result (λ g. g.height ≡ h) }
         ensures cells { IfOk result (λ g. g.cells ≡ replicate (w * h) fill) }
@@ -124,7 +127,7 @@ impl Grid {
     }
 
     /// The grid of these values, row by row from the top. It takes no memory.
-    pub fn from_cells(w: u32, h: u32, cells: Vec<u32>) -> Grid
+    pub fn from_cells(w: u32, h: u32, cells: Vec<u16>) -> Grid
         requires { IsSized (record { width = w; height = h; cells = cells.items }) }
         ensures { result ≡ record { width = w; height = h; cells = cells.items } }
     {
@@ -148,7 +151,7 @@ impl Grid {
     }
 
     /// The values, row by row from the top.
-    pub fn cells(&self) -> &[u32]
+    pub fn cells(&self) -> &[u16]
         ensures values { result.now ≡ self.now.cells }
         ensures sized { IsSized self.now }
     {
@@ -156,7 +159,7 @@ impl Grid {
     }
 
     /// The values, row by row from the top, to be changed in place.
-    pub fn cells_mut(&mut self) -> &mut [u32]
+    pub fn cells_mut(&mut self) -> &mut [u16]
         ensures* writes_back { sem 𝓛 (LendsCells self.entry result) }
         ensures values { result.now ≡ self.old.cells }
         ensures sized { IsSized self.old }
@@ -174,7 +177,7 @@ impl Grid {
     }
 
     /// The values, row by row from the top, without the grid. It takes no memory.
-    pub fn into_cells(self) -> Vec<u32>
+    pub fn into_cells(self) -> Vec<u16>
         ensures { result.items ≡ self.cells }
     {
         let Grid { cells, .. } = self;
@@ -191,7 +194,7 @@ impl Grid {
     }
 
     /// The value at a pixel.
-    pub fn get(&self, p: Pixel) -> u32
+    pub fn get(&self, p: Pixel) -> u16
         requires { IsInside self.now.width self.now.height p }
         ensures { result ≡ value_at self.now p }
     {
@@ -199,7 +202,7 @@ impl Grid {
     }
 
     /// Gives a pixel another value.
-    pub fn set(&mut self, p: Pixel, value: u32)
+    pub fn set(&mut self, p: Pixel, value: u16)
         requires { IsInside self.old.width self.old.height p }
         ensures { self.new ≡ with_value self.old p value }
     {
@@ -208,7 +211,7 @@ impl Grid {
     }
 
     /// The values of row `y` of a rectangle, counted from the rectangle's top, from the left.
-    pub fn row_in(&self, rect: Rect, y: u32) -> &[u32]
+    pub fn row_in(&self, rect: Rect, y: u32) -> &[u16]
         requires fits { RectFits self.now.width self.now.height rect }
         requires row { y < rect.h }
         ensures { IsRowOf rect.w (part rect (value_at self.now)) y result.now }

@@ -1,7 +1,7 @@
 #![tactic(auto)]
 //! Grids of grey values, the pixels beside a pixel, tiles, and what a reconstruction is.
 //!
-//! A [`Grid`] has a value of 32 bits for each pixel of an image, row by row from the top. Columns and rows are
+//! A [`Grid`] has a level of 16 bits for each pixel of an image, row by row from the top. Columns and rows are
 //! counted from 0. [`neighbours`] lists the pixels beside a pixel, by an edge or also by a corner:
 //!
 //! ```text
@@ -36,7 +36,7 @@ mod rect;
 mod tiling;
 
 pub use conn::Conn;
-pub use grid::{Grid, GridError, MAX_PIXELS, MAX_SIDE, is_image_size};
+pub use grid::{Grid, GridError, MAX_LEVEL, MAX_PIXELS, MAX_SIDE, is_image_size};
 pub use memory::Memory;
 pub use neighbourhood::{Neighbourhood, neighbours};
 pub use pixel::Pixel;

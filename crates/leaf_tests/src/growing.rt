@@ -9,7 +9,7 @@ use raster_sweeps::{Room, grow, grow_within, is_closed, slow};
 use std::alloc::Global;
 
 // Whether the slow program floods the mask from the marker into these values.
-fn floods_into(alloc: Global, mask: &Grid, marker: &Grid, conn: Conn, values: &[u32]) -> bool {
+fn floods_into(alloc: Global, mask: &Grid, marker: &Grid, conn: Conn, values: &[u16]) -> bool {
     if !marker.is_below(mask) {
         return false;
     }
@@ -31,7 +31,7 @@ fn grows(alloc: Global, mask: &Grid, marker: &Grid, conn: Conn) -> bool {
 }
 
 // Whether the mask grows from the marker into these values, and the marker is closed just where it has them.
-fn grows_into(alloc: Global, mask: &Grid, marker: &Grid, conn: Conn, values: &[u32]) -> bool {
+fn grows_into(alloc: Global, mask: &Grid, marker: &Grid, conn: Conn, values: &[u16]) -> bool {
     let is_sized = mask.width() == marker.width() && mask.height() == marker.height();
     is_sized
         && is_closed(mask, marker, conn) == (marker.cells() == values)
@@ -39,19 +39,19 @@ fn grows_into(alloc: Global, mask: &Grid, marker: &Grid, conn: Conn, values: &[u
         && floods_into(alloc, mask, marker, conn, values)
 }
 
-const LEVELS: &[u32] = &[3, 5, 2, 5, 4];
+const LEVELS: &[u16] = &[3, 5, 2, 5, 4];
 
-const DIAGONAL: &[u32] = &[7, 0, 0, 7];
+const DIAGONAL: &[u16] = &[7, 0, 0, 7];
 
-const CORNER: &[u32] = &[7, 0, 0, 0];
+const CORNER: &[u16] = &[7, 0, 0, 0];
 
 // A bend that a pair of scans leaves open.
-const BEND: &[u32] = &[4, 4, 4, 4, 0, 4];
+const BEND: &[u16] = &[4, 4, 4, 4, 0, 4];
 
-const SCANNED: &[u32] = &[4, 0, 0, 4, 0, 0];
+const SCANNED: &[u16] = &[4, 0, 0, 4, 0, 0];
 
 // Width and height, the values of a mask and of a marker, who are neighbours, and what grows.
-const EXAMPLES: &[(u32, u32, &[u32], &[u32], Conn, &[u32])] = &[
+const EXAMPLES: &[(u32, u32, &[u16], &[u16], Conn, &[u16])] = &[
     (5, 1, LEVELS, &[0; 5], Conn::Four, &[0; 5]),
     (5, 1, LEVELS, &[0, 5, 0, 0, 0], Conn::Four, &[3, 5, 2, 2, 2]),
     (5, 1, LEVELS, &[0, 5, 0, 0, 3], Conn::Four, &[3, 5, 2, 3, 3]),
@@ -66,10 +66,10 @@ const EXAMPLES: &[(u32, u32, &[u32], &[u32], Conn, &[u32])] = &[
 fn values_grow_into(
     alloc: Global,
     (width, height): (u32, u32),
-    limits: &[u32],
-    seeds: &[u32],
+    limits: &[u16],
+    seeds: &[u16],
     conn: Conn,
-    values: &[u32],
+    values: &[u16],
 ) -> bool {
     match (
         grid_of(alloc, width, height, limits),
@@ -133,10 +133,10 @@ fn next(seed: &mut u32) -> u32 {
 }
 
 // Gives a mask values below 8, and a marker values that are at most these.
-fn draw(mask: &mut [u32], marker: &mut [u32], seed: &mut u32) {
+fn draw(mask: &mut [u16], marker: &mut [u16], seed: &mut u32) {
     for (limit, value) in mask.iter_mut().zip(marker) {
-        *limit = next(seed) % 8;
-        *value = (next(seed) % 8).min(*limit);
+        *limit = (next(seed) % 8) as u16;
+        *value = (next(seed) % 8).min(u32::from(*limit)) as u16;
     }
 }
 

@@ -8,7 +8,7 @@ use std::alloc::Global;
 use stroke_core::Stroke;
 
 // A disc, and the marker on an image of 5 by 5 nines.
-const DISCS: &[(&str, [u32; 25])] = &[
+const DISCS: &[(&str, [u16; 25])] = &[
     (
         "disc #01 5 2:2+2",
         [
@@ -42,7 +42,7 @@ const DISCS: &[(&str, [u32; 25])] = &[
 ];
 
 // Whether the marker of these edits on the nines has these cells.
-fn is_marked(alloc: Global, edits: &str, cells: &[u32]) -> bool {
+fn is_marked(alloc: Global, edits: &str, cells: &[u16]) -> bool {
     match Grid::new(alloc, 5, 5, 9) {
         Ok(mask) => match Scene::open(alloc, &mask) {
             Some(empty) => match empty.edited(alloc, edits) {
@@ -123,7 +123,7 @@ fn is_kept_on_some_mask(alloc: Global, seed: &mut u64) -> bool {
     match Grid::new(alloc, 21, 13, 0) {
         Ok(mut mask) => {
             for cell in mask.cells_mut() {
-                *cell = draw(seed, 10);
+                *cell = draw(seed, 10) as u16;
             }
             is_kept(alloc, &mask, seed)
         }

@@ -75,7 +75,7 @@ impl Scene {
     }
 
     /// Whether the marker on the first tile has these cells, and at the first pixel the first of them.
-    pub fn has_tile(&self, alloc: Global, cells: &[u32]) -> bool {
+    pub fn has_tile(&self, alloc: Global, cells: &[u16]) -> bool {
         if self.markers.tiling().count() == 0 {
             return false;
         }

@@ -38,7 +38,7 @@ fn tell(image: &Grid, mask: &Grid, out: &mut Inbox) -> bool {
 }
 
 // Whether just this is told behind a hint that waits, where all pixels are 4 but for the first of the right tile.
-fn is_told(alloc: Global, mask: &Grid, beside: u32, hint: Option<Hint>) -> bool {
+fn is_told(alloc: Global, mask: &Grid, beside: u16, hint: Option<Hint>) -> bool {
     let mut values = [4; 128];
     values[64] = beside;
     let mut out = Inbox::new(alloc);

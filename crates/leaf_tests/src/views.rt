@@ -21,7 +21,7 @@ struct Picture<'a> {
     width: u32,
     height: u32,
     conn: Conn,
-    values: &'a [u32],
+    values: &'a [u16],
 }
 
 // The picture as an image, where there is memory.
@@ -42,7 +42,7 @@ fn view_of(alloc: Global, image: &Image, view: View, conn: Conn) -> Result<Image
 }
 
 // Whether the view of a picture has as many values as that, and these are they, or more.
-fn has_view(alloc: Global, picture: &Picture, view: View, values: &[u32]) -> bool {
+fn has_view(alloc: Global, picture: &Picture, view: View, values: &[u16]) -> bool {
     match image_of(alloc, picture) {
         Some(image) => match view_of(alloc, &image, view, picture.conn) {
             Ok(seen) => {
@@ -54,27 +54,35 @@ fn has_view(alloc: Global, picture: &Picture, view: View, values: &[u32]) -> boo
     }
 }
 
-const RING: &[u32] = &[
+const RING: &[u16] = &[
     0, 0, 0, 0, 0, 0, 6, 6, 6, 0, 0, 6, 1, 6, 0, 0, 6, 6, 6, 0, 0, 0, 0, 0, 0,
 ];
 
-const RING_FILLED: &[u32] = &[
+const RING_FILLED: &[u16] = &[
     0, 0, 0, 0, 0, 0, 6, 6, 6, 0, 0, 6, 6, 6, 0, 0, 6, 6, 6, 0, 0, 0, 0, 0, 0,
 ];
 
 // The ring without its corners.
-const OPEN: &[u32] = &[
+const OPEN: &[u16] = &[
     0, 0, 0, 0, 0, 0, 0, 6, 0, 0, 0, 6, 1, 6, 0, 0, 0, 6, 0, 0, 0, 0, 0, 0, 0,
 ];
 
-const OPEN_FILLED: &[u32] = &[
+const OPEN_FILLED: &[u16] = &[
     0, 0, 0, 0, 0, 0, 0, 6, 0, 0, 0, 6, 6, 6, 0, 0, 0, 6, 0, 0, 0, 0, 0, 0, 0,
 ];
 
 // Width and height, values, who are neighbours, and the values of a view.
-const EXAMPLES: &[(u32, u32, &[u32], Conn, View, &[u32])] = &[
+const EXAMPLES: &[(u32, u32, &[u16], Conn, View, &[u16])] = &[
     (2, 2, &[0; 4], Conn::Four, View::Maxima, &[1; 4]),
     (3, 1, &[0, 1, 0], Conn::Four, View::Maxima, &[0, 1, 0]),
+    (
+        5,
+        1,
+        &[65535, 65535, 65534, 0, 1],
+        Conn::Four,
+        View::Maxima,
+        &[1, 1, 0, 0, 1],
+    ),
     (
         5,
         1,
@@ -120,10 +128,10 @@ fn is_on_border(picture: &Picture, p: usize) -> bool {
 }
 
 // What a view shows at a pixel of this value before anything is known of its neighbours.
-fn first(view: View, value: u32, is_on_border: bool) -> u32 {
+fn first(view: View, value: u16, is_on_border: bool) -> u16 {
     match view {
-        View::Fill => { if is_on_border { value } else { u32::MAX } }
-        View::Domes(h) => value.saturating_sub(u32::from(h)),
+        View::Fill => { if is_on_border { value } else { u16::MAX } }
+        View::Domes(h) => value.saturating_sub(h),
         View::Maxima => 1,
     }
 }
@@ -131,7 +139,7 @@ fn first(view: View, value: u32, is_on_border: bool) -> u32 {
 // What a view that has shown `seen` at a pixel of this value shows there once it was seen beside it. The fill is the
 // greatest value of a path from the border, the least of all paths; the domes are the least value of a path from a
 // pixel cut down, the greatest of all paths; no maximum has a higher neighbour, or an equal one that is no maximum.
-fn next(view: View, value: u32, seen: u32, beside: u32, seen_beside: u32) -> u32 {
+fn next(view: View, value: u16, seen: u16, beside: u16, seen_beside: u16) -> u16 {
     match view {
         View::Fill => seen.min(value.max(seen_beside)),
         View::Domes(_) => seen.max(value.min(seen_beside)),
@@ -162,7 +170,7 @@ fn surroundings(picture: &Picture) -> [u32; 25] {
 }
 
 // Looks once from each pixel at each neighbour, and says whether that showed anything new.
-fn look_around(picture: &Picture, around: &[u32; 25], view: View, seen: &mut [u32; 25]) -> bool {
+fn look_around(picture: &Picture, around: &[u32; 25], view: View, seen: &mut [u16; 25]) -> bool {
     let mut is_new = false;
     let values = picture.values;
     let pixels = values.len().min(25);
@@ -179,7 +187,7 @@ fn look_around(picture: &Picture, around: &[u32; 25], view: View, seen: &mut [u3
 }
 
 // The view by its definition.
-fn defined(picture: &Picture, around: &[u32; 25], view: View) -> [u32; 25] {
+fn defined(picture: &Picture, around: &[u32; 25], view: View) -> [u16; 25] {
     let mut seen = [0; 25];
     for (p, value) in picture.values.iter().enumerate() {
         if p < 25 {
@@ -196,7 +204,7 @@ fn defined(picture: &Picture, around: &[u32; 25], view: View) -> [u32; 25] {
 }
 
 // Whether the three views are those by their definitions, the domes cut down by `h`, whichever pixels are neighbours.
-fn agree(alloc: Global, width: u32, height: u32, values: &[u32], h: u16) -> bool {
+fn agree(alloc: Global, width: u32, height: u32, values: &[u16], h: u16) -> bool {
     for conn in [Conn::Four, Conn::Eight] {
         let picture = Picture {
             width,
@@ -224,10 +232,10 @@ fn small_images_agree_with_the_definitions(rt: HostRuntime) {
 }
 
 // Draws values of 16 bits that look random. The seed is the next one's.
-fn draw(values: &mut [u32], seed: &mut u32) {
+fn draw(values: &mut [u16], seed: &mut u32) {
     for value in values.iter_mut() {
         *seed = seed.wrapping_mul(1_664_525).wrapping_add(1_013_904_223);
-        *value = *seed >> 16;
+        *value = (*seed >> 16) as u16;
     }
 }
 

@@ -11,7 +11,7 @@ use stroke_core::Stroke;
 #[derive(Clone, Copy)]
 pub(crate) enum Brush {
     /// Raises it to this level, as far as the mask lets it.
-    Raise(u32),
+    Raise(u16),
     /// Makes it 0.
     Clear,
 }
@@ -20,11 +20,11 @@ pub(crate) enum Brush {
 pub(crate) fn level_brush(stroke: &Stroke) -> Brush
     ensures { result ≡ Brush.Raise stroke.now.level }
 {
-    Brush::Raise(u32::from(stroke.level()))
+    Brush::Raise(stroke.level())
 }
 
 /// Leads the brush over a row of values, under the mask's values there.
-pub(crate) fn brush_row(row: &mut [u32], limits: &[u32], brush: Brush)
+pub(crate) fn brush_row(row: &mut [u16], limits: &[u16], brush: Brush)
     requires { length limits.now ≡ length row.old }
     ensures { AreBrushed brush limits.now row.old row.new }
 {
@@ -35,7 +35,7 @@ pub(crate) fn brush_row(row: &mut [u32], limits: &[u32], brush: Brush)
 }
 
 // Raises each value to the level, as far as its limit lets it.
-fn raise_row(row: &mut [u32], limits: &[u32], level: u32)
+fn raise_row(row: &mut [u16], limits: &[u16], level: u16)
     requires { length limits.now ≡ length row.old }
     ensures { AreBrushed (Brush.Raise level) limits.now row.old row.new }
 {

@@ -98,7 +98,7 @@ impl Markers {
     }
 
     /// The marker at a pixel.
-    pub fn at(&self, p: Pixel) -> u32
+    pub fn at(&self, p: Pixel) -> u16
         requires { IsInside self.now.mask.width self.now.mask.height p }
         ensures { result ≡ value_at self.now.marker p }
     {

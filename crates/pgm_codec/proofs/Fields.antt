@@ -4,12 +4,12 @@ use Rattle.std.proofs.Common.{None, Result, Ok, Err, refl, sym, ap, subst, ◌�
 use Rattle.std.specs.Prelude.{nat_lt}
 use Rattle.std.proofs.lemmas.Bool.{cond-true, cond-false, cases_Bool, cases_lt, lt-ltb, le-ltb}
 use Rattle.std.specs.Str.Parse.{digits_value}
+use Rattle.grid_core.specs.Raster.{max_level}
 use Rattle.pgm_codec.specs.declared.error.PgmError.{PgmError}
 use Rattle.pgm_codec.specs.declared.error.PgmError.TheVariants.{BadHeader, Truncated, SampleRange, BadSample}
 use Rattle.pgm_codec.specs.declared.grammar.Encoding.{Encoding}
 use Rattle.pgm_codec.specs.declared.grammar.Encoding.TheVariants.{Plain, Raw}
 use Rattle.pgm_codec.specs.declared.grammar.Place.TheVariants.{Header, Raster}
-use Rattle.pgm_codec.specs.Graymap.{max_maxval}
 use Rattle.pgm_codec.specs.Spelling.{is_white, is_wide, StartsApart, StartsNumber, StartsBytes, StartsField}
 use Rattle.pgm_codec.specs.Spelling.{StartsGoodField, StartsSample, width_fault, height_fault, maxval_fault}
 use Rattle.pgm_codec.specs.FirstFault.{EndsInGap, StartsStray, FieldFault, GoodFieldFault, IsShort, SampleFault}
@@ -104,10 +104,10 @@ field_found text = field_from text (number_cases Header text)
 
 -- ---- judged header numbers
 
--- numbers past max_maxval are all judged alike, and badly
+-- numbers past max_level are all judged alike, and badly
 pub record IsCapped (fault : ℕ → Option PgmError) : Type 0 where
   pub same : (n : ℕ) → fault (min n too_great) ≡ fault n
-  pub small : (n : ℕ) → fault n ≡ None → n ≤ max_maxval
+  pub small : (n : ℕ) → fault n ≡ None → n ≤ max_level
 
 judged_none : (o : Option PgmError) (n : ℕ) (rest : List ℕ) → o ≡ None → judged o (n, rest) ≡ found n rest
 judged_none None n rest e = refl
@@ -126,7 +126,7 @@ module _ (fault : ℕ → Option PgmError) (capped : IsCapped fault) where
   pub good_read : (text : List ℕ) (n : ℕ) (rest : List ℕ) → StartsGoodField fault text n rest
       → good_field_at fault text ≡ found n rest
   good_read text n rest (h, e) =
-      let small : n ≤ max_maxval = capped.small n e in
+      let small : n ≤ max_level = capped.small n e in
       let same : min n too_great ≡ n = omega arith in
       good_value text n rest h ∙ judged_none (fault (min n too_great)) (min n too_great) rest (capped.same n ∙ e)
       ∙ ap (λ (k : ℕ). found k rest) same
@@ -185,7 +185,7 @@ maxval_capped = record { same = λ n. grind arith; small = λ n e. grind arith }
 
 -- ---- samples
 
-module _ (m : ℕ) (small : m ≤ max_maxval) where
+module _ (m : ℕ) (small : m ≤ max_level) where
   -- what a value says of a sample
   limited : (go : ℕ × List ℕ → Found) (n : ℕ) (rest : List ℕ) → n ≤ m → within m go (n, rest) ≡ go (n, rest)
   limited go n rest le = cond-false (nat_lt m n) _ _ (le-ltb m n le)

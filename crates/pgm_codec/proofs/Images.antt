@@ -4,11 +4,12 @@ use Rattle.std.proofs.Common.{refl, sym, ap, subst, ◌∙◌, ◌⊎◌, inl, i
 use Rattle.std.specs.Prelude.{IfOk, IfErr}
 use Rattle.std.proofs.lemmas.List.{append-nil}
 use Rattle.std.proofs.lemmas.Bool.{cond-true, cond-false, cases_Bool, eqb-true, eqb-false}
+use Rattle.grid_core.specs.Raster.{max_level}
 use Rattle.pgm_codec.specs.declared.error.PgmError.{PgmError}
 use Rattle.pgm_codec.specs.declared.error.PgmError.TheVariants.{BadMagic, BadHeader, Truncated, Memory, Device}
 use Rattle.pgm_codec.specs.declared.grammar.Encoding.{Encoding}
 use Rattle.pgm_codec.specs.declared.grammar.Encoding.TheVariants.{Plain, Raw}
-use Rattle.pgm_codec.specs.Graymap.{Graymap, max_maxval}
+use Rattle.pgm_codec.specs.Graymap.{Graymap}
 use Rattle.pgm_codec.specs.Spelling.{is_white, magic, StartsMagic, StartsGoodField, StartsHeader, PgmSpells}
 use Rattle.pgm_codec.specs.Spelling.{width_fault, height_fault, maxval_fault}
 use Rattle.pgm_codec.specs.FirstFault.{MagicFault, PgmFault, in_magic, in_width, in_height, in_maxval, in_raster}
@@ -169,7 +170,7 @@ header_read text k rest w h m e =
     maxval_read text k e.after_magic e.after_width e.after_height w h e.magic_bytes e.width_field e.height_field
     ∙ ap (at_raster k w h) (good_read maxval_fault maxval_capped e.after_height m rest e.maxval_field)
 
-maxval_small : (c rest : List ℕ) (m : ℕ) → StartsGoodField maxval_fault c m rest → m ≤ max_maxval
+maxval_small : (c rest : List ℕ) (m : ℕ) → StartsGoodField maxval_fault c m rest → m ≤ max_level
 maxval_small c rest m e = maxval_capped.small m e.1
 
 -- what a text spells is read
@@ -198,7 +199,7 @@ abbrev pub IsAnswer : List ℕ → Answer → Type 0
 IsAnswer text (Ok g) = PgmSpells text g
 IsAnswer text (Err e) = PgmFault text e
 
-raster_answer : (text : List ℕ) (k : Encoding) (rest : List ℕ) (w h m : ℕ) (small : m ≤ max_maxval)
+raster_answer : (text : List ℕ) (k : Encoding) (rest : List ℕ) (w h m : ℕ) (small : m ≤ max_level)
     → StartsHeader text k w h m rest
     → (r : Answer) → IsRaster k m small w h rest r → IsAnswer text r
 raster_answer text k rest w h m small head (Ok g) (ss, behind, made, all, len, end) =

@@ -1,23 +1,16 @@
 -- Lines and rows written one after the other.
 use Rattle.std.proofs.Common.{◌≡◌, ℕ, suc, ◌+◌, ◌-◌, ◌*◌, ◌^◌, ◌<◌, ◌≤◌, min, List, [], ◌∷◌, ◌++◌, length, take, drop}
-use Rattle.std.proofs.Common.{slice_index, eqb, false, decimal, All, sym, ap, ◌∙◌, arith, inl, inr, append_assoc}
+use Rattle.std.proofs.Common.{slice_index, eqb, false, decimal, sym, ap, ◌∙◌, arith, inl, inr, append_assoc}
 use Rattle.std.proofs.Common.{mul-suc}
 use Rattle.std.specs.List.{flat_map}
 use Rattle.std.proofs.lemmas.Bool.{cases_lt}
 use Rattle.std.proofs.lemmas.List.{append-nil, length-drop, drop_all, take_all}
-use Rattle.std.proofs.lemmas.List.Elements.{All-from_get_or}
-use Rattle.pgm_codec.specs.Graymap.{Graymap, IsGraymap, max_maxval}
+use Rattle.pgm_codec.specs.Graymap.{Graymap, IsGraymap}
 use Rattle.pgm_codec.specs.Spelling.{line_feed, blank}
 use Rattle.pgm_codec.specs.PlainWriting.{parts, line_samples, lines_of, plain_line, plain_row}
 use Rattle.pgm_codec.proofs.WriteLoop.{one_more}
 
--- no sample of an image is above the greatest maxval
-pub samples_small : (g : Graymap) → IsGraymap g → All (λ s. s ≤ max_maxval) g.raster.cells
-samples_small g h =
-    All-from_get_or (λ s. s ≤ max_maxval) g.raster.cells 0
-    (λ k lt. let within = h.samples_within k lt in omega (arith, within, h.maxval_within))
-
--- nor does it have too many for a count of 32 bits
+-- an image has not too many samples for a count of 32 bits
 pub few_samples : (g : Graymap) → IsGraymap g → length g.raster.cells < 2 ^ 32
 few_samples g h =
     let filled = h.sized.filled in let fits = h.sized.size.pixels_within in omega (arith, filled, fits)

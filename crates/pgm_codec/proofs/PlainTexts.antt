@@ -6,9 +6,10 @@ use Rattle.std.specs.Char.{is_ascii_digit}
 use Rattle.std.specs.List.{flat_map}
 use Rattle.std.proofs.lemmas.Fmt.{decimal_is_IsNumeral}
 use Rattle.std.proofs.lemmas.List.{append-nil, length-drop, length-take, take-append-drop, nil_from_length}
+use Rattle.grid_core.specs.Raster.{max_level}
 use Rattle.pgm_codec.specs.declared.grammar.Encoding.TheVariants.{Plain}
 use Rattle.pgm_codec.specs.declared.grammar.Place.TheVariants.{Raster}
-use Rattle.pgm_codec.specs.Graymap.{Graymap, IsGraymap, max_maxval}
+use Rattle.pgm_codec.specs.Graymap.{Graymap, IsGraymap}
 use Rattle.pgm_codec.specs.Spelling.{line_feed, blank, is_white, IsGap, StartsSamples, PgmSpells}
 use Rattle.pgm_codec.specs.PlainWriting.{parts, line_samples, lines_of, plain_line, plain_row, plain_text}
 use Rattle.pgm_codec.proofs.Headers.{header_stands}
@@ -95,7 +96,7 @@ white_no_digit : (b : ℕ) → is_white b ≡ true → is_ascii_digit b ≡ fals
 white_no_digit b h = grind arith
 
 -- behind a gap they are the samples of a raster, and a gap is left
-samples_stand : (m : ℕ) → m ≤ max_maxval → (gap text ss : List ℕ) → IsGap Raster gap → AreSpaced text ss
+samples_stand : (m : ℕ) → m ≤ max_level → (gap text ss : List ℕ) → IsGap Raster gap → AreSpaced text ss
     → ((k : ℕ) → k < length ss → slice_index ss k ≤ m)
     → (rest : List ℕ) × StartsSamples Plain m (gap ++ text) ss rest × IsGap Raster rest
 samples_stand m small gap text [] is_gap e within =

@@ -1,12 +1,13 @@
 -- A raster: what reading finds is what stands there.
 use Rattle.std.proofs.Common.{◌≡◌, ℕ, zero, suc, ◌*◌, ◌<◌, ◌≤◌, List, [], ◌∷◌, length, Result, Ok, Err, refl, sym, ap}
 use Rattle.std.proofs.Common.{subst, ◌∙◌, arith, ◌⊎◌, inl, inr}
+use Rattle.grid_core.specs.Raster.{max_level}
 use Rattle.pgm_codec.specs.declared.error.PgmError.{PgmError}
 use Rattle.pgm_codec.specs.declared.error.PgmError.TheVariants.{Trailing}
 use Rattle.pgm_codec.specs.declared.grammar.Encoding.{Encoding}
 use Rattle.pgm_codec.specs.declared.grammar.Encoding.TheVariants.{Plain, Raw}
 use Rattle.pgm_codec.specs.declared.grammar.Place.TheVariants.{Raster}
-use Rattle.pgm_codec.specs.Graymap.{Graymap, max_maxval}
+use Rattle.pgm_codec.specs.Graymap.{Graymap}
 use Rattle.pgm_codec.specs.Spelling.{IsGap, StartsSample, StartsSamples, IsEnd}
 use Rattle.pgm_codec.specs.FirstFault.{EndsInGap, SampleFault, EndFault, RasterFault}
 use Rattle.pgm_codec.specs.Reading.{◌>>=◌, sample_at, samples_at, nothing_at, end_at, raster_at}
@@ -57,7 +58,7 @@ many ss rest = Ok (ss, rest)
 abbrev pub then_more : ℕ → Many → Many
 then_more s r = r >>= λ x. Ok (s ∷ x.0, x.1)
 
-module _ (k : Encoding) (m : ℕ) (small : m ≤ max_maxval) where
+module _ (k : Encoding) (m : ℕ) (small : m ≤ max_level) where
   pub step_read : (count : ℕ) (text : List ℕ) (s : ℕ) (after : List ℕ) → sample_at k m text ≡ Ok (s, after)
       → samples_at k m (suc count) text ≡ then_more s (samples_at k m count after)
   unfolding samples_at

@@ -8,9 +8,9 @@ use Rattle.std.proofs.lemmas.Bool.{cond-true, cond-false, cases_Bool, or_parts, 
 use Rattle.std.proofs.lemmas.List.{append-nil, drop-drop, get_or-drop}
 use Rattle.std.proofs.lemmas.List.Elements.{All-from_recursion}
 use Rattle.std.proofs.Math.Nat.{suc-mul}
+use Rattle.grid_core.specs.Raster.{max_level}
 use Rattle.pgm_codec.specs.declared.error.PgmError.TheVariants.{SampleRange, Truncated}
 use Rattle.pgm_codec.specs.declared.grammar.Encoding.TheVariants.{Raw}
-use Rattle.pgm_codec.specs.Graymap.{max_maxval}
 use Rattle.pgm_codec.specs.Spelling.{is_wide}
 use Rattle.pgm_codec.specs.FirstFault.{IsShort}
 use Rattle.pgm_codec.specs.Reading.{◌>>=◌, bytes_at, within, sample_width, raw_value, sample_at, samples_at}
@@ -52,7 +52,7 @@ front_more : (s : ℕ) (ss : List ℕ) (r : Many) → then_more s (with_front ss
 front_more s ss (Ok x) = refl
 front_more s ss (Err e) = refl
 
-module _ (m : ℕ) (small : m ≤ max_maxval) where
+module _ (m : ℕ) (small : m ≤ max_level) where
   abbrev width : ℕ
   width = sample_width (is_wide m)
 

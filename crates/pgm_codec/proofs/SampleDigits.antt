@@ -4,7 +4,7 @@ use Rattle.std.proofs.Common.{if◌then◌else◌, refl, sym, ap, subst, ◌∙�
 use Rattle.std.specs.Int.{from_bool}
 use Rattle.std.proofs.lemmas.Bool.{cond-true, cond-false, cases_lt, lt-ltb, le-ltb}
 use Rattle.std.proofs.lemmas.Fmt.{decimal_digit, decimal_step, length-decimal-le}
-use Rattle.pgm_codec.specs.Graymap.{max_maxval}
+use Rattle.grid_core.specs.Raster.{max_level}
 use Rattle.pgm_codec.specs.PlainWriting.{last_digit}
 
 -- ---- how many
@@ -40,7 +40,7 @@ beyond : (k n b : ℕ) → b ≡ from_bool (nat_lt k n) → k < n → b ≡ 1
 beyond k n b e lt = e ∙ ap from_bool (lt-ltb k n lt)
 
 -- one digit, and one more beyond each of 9, 99, 999 and 9999
-pub digit_count : (n a b c d : ℕ) → n ≤ max_maxval → a ≡ from_bool (nat_lt 9 n) → b ≡ from_bool (nat_lt 99 n)
+pub digit_count : (n a b c d : ℕ) → n ≤ max_level → a ≡ from_bool (nat_lt 9 n) → b ≡ from_bool (nat_lt 99 n)
     → c ≡ from_bool (nat_lt 999 n) → d ≡ from_bool (nat_lt 9999 n) → 1 + a + (b + c + d) ≡ length (decimal n)
 digit_count n a b c d small ea eb ec ed =
     elim (cases_lt n 10) [
@@ -83,7 +83,7 @@ digit_count n a b c d small ea eb ec ed =
     ]
 
 -- at most five
-pub five_at_most : (n d : ℕ) → n ≤ max_maxval → d ≡ length (decimal n) → d ≤ 5
+pub five_at_most : (n d : ℕ) → n ≤ max_level → d ≡ length (decimal n) → d ≤ 5
 five_at_most n d small e =
     let fits = length-decimal-le 5 n (omega arith) (omega arith) (omega arith) in omega (arith, e, fits)
 
@@ -144,7 +144,7 @@ last_put out before after n fits so_far e =
     ])
 
 -- a sample of up to five digits is written digit by digit
-pub sample_put : (n : ℕ) (out a b c d e : List ℕ) → n ≤ max_maxval → a ≡ out ++ last_digit (n / 10000)
+pub sample_put : (n : ℕ) (out a b c d e : List ℕ) → n ≤ max_level → a ≡ out ++ last_digit (n / 10000)
     → b ≡ a ++ last_digit (n / 1000) → c ≡ b ++ last_digit (n / 100) → d ≡ c ++ last_digit (n / 10)
     → e ≡ d ++ (48 + n % 10) ∷ [] → e ≡ out ++ decimal n
 sample_put n out a b c d e small ea eb ec ed ee =

@@ -4,14 +4,14 @@ use Rattle.std.specs.Prelude.{length, Option, Some, None, if◌then◌else◌, �
 use Rattle.std.specs.List.{AllByRecursion, concat}
 use Rattle.std.specs.Char.{is_ascii_digit}
 use Rattle.std.specs.Str.Parse.{IsNumeral, digits_value}
-use Rattle.grid_core.specs.Raster.{max_side, max_pixels}
+use Rattle.grid_core.specs.Raster.{max_side, max_pixels, max_level}
 use Rattle.pgm_codec.specs.declared.error.PgmError.{PgmError}
 use Rattle.pgm_codec.specs.declared.error.PgmError.TheVariants.{ZeroSize, TooLarge, BadMaxval}
 use Rattle.pgm_codec.specs.declared.grammar.Encoding.{Encoding}
 use Rattle.pgm_codec.specs.declared.grammar.Encoding.TheVariants.{Plain, Raw}
 use Rattle.pgm_codec.specs.declared.grammar.Place.{Place}
 use Rattle.pgm_codec.specs.declared.grammar.Place.TheVariants.{Header, Raster}
-use Rattle.pgm_codec.specs.Graymap.{Graymap, IsGraymap, max_maxval}
+use Rattle.pgm_codec.specs.Graymap.{Graymap, IsGraymap}
 
 -- ---- bytes
 
@@ -106,7 +106,7 @@ height_fault width n =
 
 -- what is wrong with a maxval, if anything is
 abbrev pub maxval_fault : ℕ → Option PgmError
-maxval_fault n = if (n == 0) || nat_lt max_maxval n then Some BadMaxval else None
+maxval_fault n = if (n == 0) || nat_lt max_level n then Some BadMaxval else None
 
 -- a text begins with a header number: a number, and the whitespace byte that ends it
 abbrev pub StartsField : List ℕ → ℕ → List ℕ → Type 0

@@ -11,7 +11,7 @@ use std::marker::Model;
 
 /// A greyscale image: `w * h` samples, row by row from the top, each row from the left. Sides are 1 to
 /// [`grid_core::MAX_SIDE`], with at most [`grid_core::MAX_PIXELS`] pixels, `maxval` is 1 to 65535, and no
-/// sample is above it. The samples are the cells of a grid, of 32 bits each.
+/// sample is above it. The samples are the cells of a grid.
 #[derive(Debug, Drop)]
 pub struct Image {
     grid: Grid,
@@ -109,7 +109,7 @@ impl Image {
     }
 
     /// The samples, row by row from the top.
-    pub fn samples(&self) -> &[u32]
+    pub fn samples(&self) -> &[u16]
         ensures value { result.now ≡ self.now.raster.cells }
         ensures is_graymap { IsGraymap self.now }
     {

@@ -1,10 +1,9 @@
 //! Writing plain files.
 ghost use Rattle.std.specs.Prelude.{◌≡◌, ◌+◌, ◌*◌, ◌^◌, ◌<◌, ◌≤◌, ◌++◌, ◌∷◌, length};
-ghost use Rattle.std.specs.Prelude.{decimal, string_bytes, All, IfOk, OnOk, IsOkUnless};
+ghost use Rattle.std.specs.Prelude.{decimal, string_bytes, IfOk, OnOk, IsOkUnless};
 ghost use Rattle.std.specs.List.{flat_map, sum_by};
 ghost use Rattle.pgm_codec.specs.declared.error.PgmError.TheVariants as errors;
 ghost use Rattle.pgm_codec.specs.declared.grammar.Encoding.TheVariants.{Plain};
-ghost use Rattle.pgm_codec.specs.Graymap.{max_maxval};
 ghost use Rattle.pgm_codec.specs.Spelling.{blank};
 ghost use Rattle.pgm_codec.specs.Writing.{file_header};
 ghost use Rattle.pgm_codec.specs.PlainWriting.{last_digit, parts, plain_line, plain_row, plain_text};
@@ -17,8 +16,7 @@ use std::alloc::{AllocError, Global};
 const LINE_SAMPLES: usize = 11;
 
 // How many digits a sample has in decimal.
-fn digits(sample: u32) -> usize
-    requires { sample ≤ max_maxval }
+fn digits(sample: u16) -> usize
     ensures { result ≡ length (decimal sample) }
 {
     let beyond_tens = usize::from(sample > 99)
@@ -28,9 +26,8 @@ fn digits(sample: u32) -> usize
 }
 
 // How many bytes the samples take, each with its digits and with the blank or LF behind them.
-fn length_of(samples: &[u32]) -> usize
-    requires few { length samples.now < 2 ^ 32 }
-    requires within { All (λ s. s ≤ max_maxval) samples.now }
+fn length_of(samples: &[u16]) -> usize
+    requires { length samples.now < 2 ^ 32 }
     ensures sum { result ≡ sum_by (λ s. length (decimal s) + 1) samples.now }
     ensures bound { result ≤ length samples.now * 6 }
 {
@@ -42,7 +39,7 @@ fn length_of(samples: &[u32]) -> usize
 }
 
 // Puts the last digit of a number, unless the number is 0.
-fn put_last_digit(out: &mut Vec<u8>, number: u32) -> Result<(), AllocError>
+fn put_last_digit(out: &mut Vec<u8>, number: u16) -> Result<(), AllocError>
     ensures { OnOk result (out.new.items ≡ out.old.items ++ last_digit number) }
 {
     if number > 0 {
@@ -52,8 +49,7 @@ fn put_last_digit(out: &mut Vec<u8>, number: u32) -> Result<(), AllocError>
 }
 
 // Puts a sample in decimal, without leading zeros.
-fn put_sample(out: &mut Vec<u8>, sample: u32) -> Result<(), AllocError>
-    requires { sample ≤ max_maxval }
+fn put_sample(out: &mut Vec<u8>, sample: u16) -> Result<(), AllocError>
     ensures { OnOk result (out.new.items ≡ out.old.items ++ decimal sample) }
 {
     put_last_digit(out, sample / 10_000)?;
@@ -65,8 +61,7 @@ fn put_sample(out: &mut Vec<u8>, sample: u32) -> Result<(), AllocError>
 }
 
 // Puts a blank and a sample for each of the samples.
-fn put_behind(out: &mut Vec<u8>, samples: &[u32]) -> Result<(), AllocError>
-    requires { All (λ s. s ≤ max_maxval) samples.now }
+fn put_behind(out: &mut Vec<u8>, samples: &[u16]) -> Result<(), AllocError>
     ensures { OnOk result (out.new.items ≡ out.old.items ++ flat_map (λ s. blank ∷ decimal s) samples.now) }
 {
     for i in 0..samples.len() {
@@ -77,9 +72,8 @@ fn put_behind(out: &mut Vec<u8>, samples: &[u32]) -> Result<(), AllocError>
 }
 
 // Puts a line: the samples, a blank between two, and LF.
-fn put_line(out: &mut Vec<u8>, samples: &[u32]) -> Result<(), AllocError>
-    requires some { 0 < length samples.now }
-    requires within { All (λ s. s ≤ max_maxval) samples.now }
+fn put_line(out: &mut Vec<u8>, samples: &[u16]) -> Result<(), AllocError>
+    requires { 0 < length samples.now }
     ensures { OnOk result (out.new.items ≡ out.old.items ++ plain_line samples.now) }
 {
     let (first, others) = samples.split_at(1);
@@ -90,8 +84,7 @@ fn put_line(out: &mut Vec<u8>, samples: &[u32]) -> Result<(), AllocError>
 }
 
 // Puts a row, cut into lines.
-fn put_row(out: &mut Vec<u8>, row: &[u32]) -> Result<(), AllocError>
-    requires { All (λ s. s ≤ max_maxval) row.now }
+fn put_row(out: &mut Vec<u8>, row: &[u16]) -> Result<(), AllocError>
     ensures { OnOk result (out.new.items ≡ out.old.items ++ plain_row row.now) }
 {
     let mut rest = row;
@@ -108,10 +101,9 @@ fn put_rows(
     out: &mut Vec<u8>,
     width: usize,
     height: usize,
-    samples: &[u32],
+    samples: &[u16],
 ) -> Result<(), AllocError>
-    requires within { All (λ s. s ≤ max_maxval) samples.now }
-    requires filled { length samples.now ≡ width * height }
+    requires { length samples.now ≡ width * height }
     ensures { OnOk result (out.new.items ≡ out.old.items ++ flat_map plain_row (parts width height samples.now)) }
 {
     let mut rest = samples;
@@ -137,7 +129,7 @@ fn header(alloc: Global, image: &Image) -> Result<String, AllocError>
 /// characters before the LF. Memory of its exact length is taken.
 ///
 /// Errors: P10.
-#[tactic(auto, using(crate::proofs::PlainLoop::samples_small, crate::proofs::PlainLoop::few_samples), unfolding(crate::specs::PlainWriting::plain_text))]
+#[tactic(auto, using(crate::proofs::PlainLoop::few_samples), unfolding(crate::specs::PlainWriting::plain_text))]
 pub fn write_plain(alloc: Global, image: &Image) -> Result<Vec<u8>, PgmError>
     ensures text { IfOk result (λ v. v.items ≡ plain_text image.now) }
     ensures only_memory { IsOkUnless result errors.Memory }

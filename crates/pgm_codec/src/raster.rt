@@ -12,7 +12,7 @@ use std::alloc::{AllocError, Global};
 
 // The next sample of a plain raster, and the text behind its digits.
 #[tactic(auto, unfolding(crate::specs::Reading::sample_at, crate::specs::Reading::sample_end))]
-fn plain_sample(text: &[u8], maxval: u16) -> Result<(u32, &[u8]), PgmError>
+fn plain_sample(text: &[u8], maxval: u16) -> Result<(u16, &[u8]), PgmError>
     ensures read { Gives (λ x. (x.0, x.1.now)) result (sample_at Plain maxval text.now) }
     ensures range { IfOk result (λ x. x.0 ≤ maxval) }
 {
@@ -22,7 +22,7 @@ fn plain_sample(text: &[u8], maxval: u16) -> Result<(u32, &[u8]), PgmError>
     }
     match rest {
         [b, ..] if !is_white(*b) => Err(PgmError::BadSample),
-        _ => Ok((n, rest)),
+        _ => Ok((n as u16, rest)),
     }
 }
 
@@ -32,7 +32,7 @@ fn plain_samples(
     text: &[u8],
     maxval: u16,
     count: usize,
-) -> Result<(Vec<u32>, &[u8]), PgmError>
+) -> Result<(Vec<u16>, &[u8]), PgmError>
     ensures read { GivesOrMemory (λ x. (x.0.items, x.1.now)) result (samples_at Plain maxval count text.now) }
     ensures made { IfOk result (λ x. AreSamples maxval count x.0.items) }
 {
@@ -48,19 +48,19 @@ fn plain_samples(
 }
 
 // The values of single bytes.
-fn widened(alloc: Global, bytes: &[u8]) -> Result<Vec<u32>, AllocError>
+fn widened(alloc: Global, bytes: &[u8]) -> Result<Vec<u16>, AllocError>
     ensures { IfOk result (λ v. v.items ≡ bytes.now) }
 {
-    bytes.iter().map(|b| u32::from(*b)).collect(alloc)
+    bytes.iter().map(|b| u16::from(*b)).collect(alloc)
 }
 
 // The values of pairs of bytes, the more significant first.
-fn join(bytes: &[u8], samples: &mut [u32])
+fn join(bytes: &[u8], samples: &mut [u16])
     requires { length samples.old * 2 ≤ length bytes.now }
     ensures { AreRawValues true (length samples.old) bytes.now samples.new }
 {
     for i in 0..samples.len() {
-        samples[i] = u32::from(bytes[i * 2]) * 256 + u32::from(bytes[i * 2 + 1]);
+        samples[i] = u16::from(bytes[i * 2]) * 256 + u16::from(bytes[i * 2 + 1]);
     }
 }
 
@@ -72,7 +72,7 @@ fn sample_width(wide: bool) -> usize
 }
 
 // The first values of a raw raster, of two bytes each or of one.
-fn raw_values(alloc: Global, text: &[u8], wide: bool, count: usize) -> Result<Vec<u32>, AllocError>
+fn raw_values(alloc: Global, text: &[u8], wide: bool, count: usize) -> Result<Vec<u16>, AllocError>
     requires { count * sample_width wide ≤ length text.now }
     ensures { IfOk result (λ v. AreRawValues wide count text.now v.items) }
 {
@@ -91,7 +91,7 @@ fn raw_samples(
     text: &[u8],
     maxval: u16,
     count: usize,
-) -> Result<(Vec<u32>, &[u8]), PgmError>
+) -> Result<(Vec<u16>, &[u8]), PgmError>
     ensures read { GivesOrMemory (λ x. (x.0.items, x.1.now)) result (samples_at Raw maxval count text.now) }
     ensures made { IfOk result (λ x. AreSamples maxval count x.0.items) }
 {
@@ -115,7 +115,7 @@ pub(crate) fn samples(
     text: &[u8],
     maxval: u16,
     count: usize,
-) -> Result<(Vec<u32>, &[u8]), PgmError>
+) -> Result<(Vec<u16>, &[u8]), PgmError>
     ensures read { GivesOrMemory (λ x. (x.0.items, x.1.now)) result (samples_at encoding maxval count text.now) }
     ensures made { IfOk result (λ x. AreSamples maxval count x.0.items) }
 {

@@ -9,7 +9,7 @@ use crate::image::Image;
 use std::alloc::{AllocError, Global};
 
 // Writes samples of one byte each behind the first `at` bytes.
-fn put_narrow(out: &mut [u8], at: usize, maxval: u16, samples: &[u32])
+fn put_narrow(out: &mut [u8], at: usize, maxval: u16, samples: &[u16])
     requires narrow { maxval < 256 }
     requires within { All (λ s. s ≤ maxval) samples.now }
     requires room { at + length samples.now ≡ length out.old }
@@ -21,7 +21,7 @@ fn put_narrow(out: &mut [u8], at: usize, maxval: u16, samples: &[u32])
 }
 
 // Writes samples of two bytes each behind the first `at` bytes, the more significant byte first.
-fn put_wide(out: &mut [u8], at: usize, maxval: u16, samples: &[u32])
+fn put_wide(out: &mut [u8], at: usize, maxval: u16, samples: &[u16])
     requires wide { 256 ≤ maxval }
     requires within { All (λ s. s ≤ maxval) samples.now }
     requires room { at + length samples.now * 2 ≡ length out.old }
@@ -42,7 +42,7 @@ pub fn sample_len(maxval: u16) -> usize
 
 /// Writes samples as they stand in the raster of a raw file (Netpbm, pgm(5)) over all bytes behind the first
 /// `at`: one byte a sample where maxval is below 256, else two, the more significant first. It takes no memory.
-pub fn put_samples(out: &mut [u8], at: usize, maxval: u16, samples: &[u32])
+pub fn put_samples(out: &mut [u8], at: usize, maxval: u16, samples: &[u16])
     requires within { All (λ s. s ≤ maxval) samples.now }
     requires room { at + length samples.now * sample_len maxval ≡ length out.old }
     ensures { out.new ≡ take at out.old ++ flat_map (sample_bytes maxval) samples.now }

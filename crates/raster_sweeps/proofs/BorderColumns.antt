@@ -8,7 +8,7 @@ use Rattle.grid_core.specs.declared.conn.Conn.{Conn}
 use Rattle.grid_core.specs.declared.pixel.Pixel.{Pixel}
 use Rattle.grid_core.specs.declared.rect.Rect.{Rect}
 use Rattle.grid_core.specs.Neighbours.{apart}
-use Rattle.grid_core.specs.Raster.{Raster, IsInside, max_value, value_at}
+use Rattle.grid_core.specs.Raster.{Raster, IsInside, max_level, value_at}
 use Rattle.grid_core.specs.Rects.{part, IsRowOf}
 use Rattle.grid_core.proofs.Pixels.{same_pixel}
 use Rattle.raster_sweeps.specs.BorderColumns.{IsBorderColumn, IsLeastToRise}
@@ -21,7 +21,7 @@ use Rattle.raster_sweeps.proofs.ImageRows.{neighbours_in_rows}
 -- no such pixel: no level is above the greatest value
 pub none_to_rise : (rect : Rect) (mask image : Raster) (IsSuch : Pixel → Type 0)
     → ((q : Pixel) → IsInside rect.w rect.h q → IsSuch q → ⊥)
-    → IsLeastToRise rect mask image IsSuch max_value
+    → IsLeastToRise rect mask image IsSuch max_level
 none_to_rise rect mask image IsSuch none level fits =
     (λ less. absurd (omega (arith, less, fits)), λ found. absurd (none found.0 found.1 found.2))
 
@@ -39,7 +39,7 @@ same_to_rise rect mask image IsSuch AreThose least to from rises level fits = (
 
 -- a level raises the value just where it is above this one
 abbrev pub IsLeastOf : ℕ → ℕ → ℕ → Type 0
-IsLeastOf value limit least = (level : ℕ) → level ≤ max_value → (least < level) ↔ (value < min level limit)
+IsLeastOf value limit least = (level : ℕ) → level ≤ max_level → (least < level) ↔ (value < min level limit)
 
 module _ (rect : Rect) (mask image : Raster) (column : Column) (y : ℕ) (row limits : List ℕ)
     (of_row : IsRowOf rect.w (part rect (value_at image)) y row)
@@ -127,7 +127,7 @@ module _ (conn : Conn) (rect : Rect) (mask image : Raster) (x y : ℕ) (within :
     (of_above : IsLeastToRise rect mask image (λ q. (q.y + 1 ≡ y) × AreBeside conn x q.x) above)
     (of_along : IsLeastToRise rect mask image (λ q. (q.y ≡ y) × (apart x q.x ≤ 1)) along)
     (of_below : IsLeastToRise rect mask image (λ q. (q.y ≡ y + 1) × AreBeside conn x q.x) below)
-    (fits : part rect (value_at image) (record { x = x; y = y }) ≤ max_value) where
+    (fits : part rect (value_at image) (record { x = x; y = y }) ≤ max_level) where
   -- the pixel
   abbrev here : Pixel
   here = record { x = x; y = y }

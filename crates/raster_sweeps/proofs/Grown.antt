@@ -8,7 +8,7 @@ use Rattle.grid_core.specs.declared.conn.Conn.{Conn}
 use Rattle.grid_core.specs.declared.pixel.Pixel.{Pixel}
 use Rattle.grid_core.specs.declared.rect.Rect.{Rect}
 use Rattle.grid_core.specs.Path.{Domain, IsPath, end_of, Reaches}
-use Rattle.grid_core.specs.Raster.{Raster, IsInside, IsBelow, IsFilled, index_of, max_value, value_at, headroom}
+use Rattle.grid_core.specs.Raster.{Raster, IsInside, IsBelow, IsFilled, index_of, max_level, value_at, headroom}
 use Rattle.grid_core.specs.Reconstruction.{IsClosed, IsLawful}
 use Rattle.grid_core.specs.Rects.{IsInRect, RectFits, domain_in, in_image, part}
 use Rattle.grid_core.proofs.Cells.{pixel_of, pixel_of-inside, index_of-pixel_of, below_at_each_pixel}
@@ -133,7 +133,7 @@ module _ (conn : Conn) (rect : Rect) (mask before after : Raster) (filled : IsFi
 
   -- one cell that has risen takes from the room
   pub grown_headroom_less : (i : ℕ) → i < length before.cells
-      → slice_index before.cells i < slice_index after.cells i → slice_index after.cells i ≤ max_value
+      → slice_index before.cells i < slice_index after.cells i → slice_index after.cells i ≤ max_level
       → headroom after.cells < headroom before.cells
   grown_headroom_less i = headroom_less before.cells after.cells i grown.filled grown_rises
 

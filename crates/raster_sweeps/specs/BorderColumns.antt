@@ -5,7 +5,7 @@ use Rattle.grid_core.specs.declared.conn.Conn.{Conn}
 use Rattle.grid_core.specs.declared.pixel.Pixel.{Pixel}
 use Rattle.grid_core.specs.declared.rect.Rect.{Rect}
 use Rattle.grid_core.specs.Neighbours.{apart}
-use Rattle.grid_core.specs.Raster.{Raster, IsInside, max_value, value_at}
+use Rattle.grid_core.specs.Raster.{Raster, IsInside, max_level, value_at}
 use Rattle.grid_core.specs.Rects.{part}
 use Rattle.raster_sweeps.specs.declared.border.Column.{Column}
 use Rattle.raster_sweeps.specs.declared.border.LeastInRow.{LeastInRow}
@@ -35,7 +35,7 @@ IsBesideIn conn x y q = (q.y ≡ y) × AreBeside conn x q.x
 -- a level raises one of such pixels of the rectangle, as far as the mask lets it, just where it is above this value
 abbrev pub IsLeastToRise : Rect → Raster → Raster → (Pixel → Type 0) → ℕ → Type 0
 IsLeastToRise rect mask image IsSuch least =
-    (level : ℕ) → level ≤ max_value
+    (level : ℕ) → level ≤ max_level
     → (least < level)
     ↔ ((q : Pixel) × IsInside rect.w rect.h q × IsSuch q
     × (part rect (value_at image) q < min level (part rect (value_at mask) q)))

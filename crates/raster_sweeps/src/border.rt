@@ -3,7 +3,7 @@
 
 ghost use Rattle.std.specs.Prelude.{◌≡◌, ◌+◌, ◌<◌, ◌≤◌, ◌⊎◌, ◌↔◌, [], length, min, IsTrue};
 ghost use Rattle.grid_core.specs.Neighbours.{apart};
-ghost use Rattle.grid_core.specs.Raster.{IsBelow, IsInside, IsOnBorder, max_value, value_at};
+ghost use Rattle.grid_core.specs.Raster.{IsBelow, IsInside, IsOnBorder, max_level, value_at};
 ghost use Rattle.grid_core.specs.Rects.{RectFits, part};
 ghost use Rattle.raster_sweeps.specs.RowPairs.{IsInEndColumn, IsInEndRow};
 ghost use Rattle.raster_sweeps.specs.BorderColumns.{AreLeastInRow, CanWalkColumn};
@@ -13,7 +13,7 @@ ghost use Rattle.raster_sweeps.specs.RowPairs.{CanGrowRow, IsFromDown};
 
 use crate::open_pairs::{first_cell, queue_between, queue_within};
 use crate::waiting::Waiting;
-use grid_core::{Conn, Grid, Rect};
+use grid_core::{Conn, Grid, MAX_LEVEL, Rect};
 
 /// A column of a rectangle, its first or its last, and the one beside it, or the same where it has no other. Both are
 /// counted from the rectangle's left.
@@ -27,9 +27,9 @@ pub struct Column {
 #[derive(Clone, Copy)]
 struct LeastInRow {
     // Among the pixels in the column and in those next to it.
-    along: u32,
+    along: u16,
     // Among the neighbours of the column's pixel in the row above or below.
-    across: u32,
+    across: u16,
 }
 
 /// Puts the first pixel of each open pair that begins on the rectangle's border into the queue. No other row or column
@@ -162,7 +162,7 @@ fn queue_from_column(
     requires { CanWalkColumn rect mask.now image.now column }
     ensures { AreJoined conn rect mask.now image.now (λ p. p.x ≡ column.x) result waiting.old waiting.new }
 {
-    let mut above = u32::MAX;
+    let mut above = MAX_LEVEL;
     let mut here = least_in_row(mask, image, rect, column, conn, 0);
     for y in 0..rect.h {
         let below = least_in_row(mask, image, rect, column, conn, y + 1);
@@ -179,7 +179,7 @@ fn queue_from_column(
 
 // The value of the rectangle's pixel at the column `x` and the row `y`, counted from its upper left corner.
 #[inline(always)]
-fn value_in(image: &Grid, rect: Rect, x: u32, y: u32) -> u32
+fn value_in(image: &Grid, rect: Rect, x: u32, y: u32) -> u16
     requires fits { RectFits image.now.width image.now.height rect }
     requires inside { IsInside rect.w rect.h (record { x = x; y = y }) }
     ensures { result ≡ part rect (value_at image.now) (record { x = x; y = y }) }
@@ -203,8 +203,8 @@ fn least_in_row(
 {
     if y == rect.h {
         return LeastInRow {
-            along: u32::MAX,
-            across: u32::MAX,
+            along: MAX_LEVEL,
+            across: MAX_LEVEL,
         };
     }
     let limits = mask.row_in(rect, y);
@@ -221,8 +221,8 @@ fn least_in_row(
 
 // The value where it is below its limit, and else the greatest one: what a level must be above to raise it.
 #[inline(always)]
-fn least_to_rise(value: u32, limit: u32) -> u32
-    ensures { (level : _) → level ≤ max_value → (result < level) ↔ (value < min level limit) }
+fn least_to_rise(value: u16, limit: u16) -> u16
+    ensures { (level : _) → level ≤ max_level → (result < level) ↔ (value < min level limit) }
 {
-    if value < limit { value } else { u32::MAX }
+    if value < limit { value } else { MAX_LEVEL }
 }

@@ -131,9 +131,9 @@ pub fn queue_between(
 // Puts the cells of the row `from`, which begin at `first`, that raise a neighbour in the row `to`, which touches it,
 // into the queue. It answers whether there was room for all of them.
 fn queue_to(
-    from: &[u32],
-    mask: &[u32],
-    to: &[u32],
+    from: &[u16],
+    mask: &[u16],
+    to: &[u16],
     first: u32,
     conn: Conn,
     waiting: &mut Waiting,
@@ -152,7 +152,7 @@ fn queue_to(
 
 // Puts the cells of the row `from`, which begin at `first`, that raise one in the next column of the row `to`, to the
 // right or the left, into the queue. It answers whether there was room for all of them.
-fn queue_aslant(from: &[u32], mask: &[u32], to: &[u32], first: u32, waiting: &mut Waiting) -> bool
+fn queue_aslant(from: &[u16], mask: &[u16], to: &[u16], first: u32, waiting: &mut Waiting) -> bool
     requires { AreFullRowsAt first from.now mask.now to.now }
     ensures { HaveJoined (RaisesTo AreAside first from.now mask.now to.now) result waiting.old waiting.new }
 {
@@ -163,7 +163,7 @@ fn queue_aslant(from: &[u32], mask: &[u32], to: &[u32], first: u32, waiting: &mu
 
 // Puts the cells of the row `from`, which begin at `first`, that raise the one in the same column of the row `to` into
 // the queue. It answers whether there was room for all of them.
-fn queue_straight(from: &[u32], mask: &[u32], to: &[u32], first: u32, waiting: &mut Waiting) -> bool
+fn queue_straight(from: &[u16], mask: &[u16], to: &[u16], first: u32, waiting: &mut Waiting) -> bool
     requires { AreRowsAt first from.now mask.now to.now }
     ensures { HaveJoined (RaisesStraight first from.now mask.now to.now) result waiting.old waiting.new }
 {
@@ -186,7 +186,7 @@ fn queue_straight(from: &[u32], mask: &[u32], to: &[u32], first: u32, waiting: &
 }
 
 // The same for a few columns, which are looked at one by one only where a pair is open.
-fn queue_strip(from: &[u32], mask: &[u32], to: &[u32], first: u32, waiting: &mut Waiting) -> bool
+fn queue_strip(from: &[u16], mask: &[u16], to: &[u16], first: u32, waiting: &mut Waiting) -> bool
     requires { AreRowsAt first from.now mask.now to.now }
     ensures { HaveJoined (RaisesStraight first from.now mask.now to.now) result waiting.old waiting.new }
 {

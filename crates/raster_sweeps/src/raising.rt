@@ -71,10 +71,10 @@ pub fn spread(
 // It answers whether there was room for all of them.
 #[inline(always)]
 fn raise_around(
-    mask: &[u32],
-    cells: &mut [u32],
+    mask: &[u16],
+    cells: &mut [u16],
     waiting: &mut Waiting,
-    level: u32,
+    level: u16,
     spans: Spans,
 ) -> bool
     requires within { (k : _) → IsAround spans k → k < length cells.old }
@@ -90,7 +90,7 @@ fn raise_around(
 // Raises the cells of the span to the level, as far as the mask lets them, and puts those that rise into the queue.
 // It answers whether there was room for all of them.
 #[inline(always)]
-fn raise(mask: &[u32], cells: &mut [u32], waiting: &mut Waiting, level: u32, span: Span) -> bool
+fn raise(mask: &[u16], cells: &mut [u16], waiting: &mut Waiting, level: u16, span: Span) -> bool
     requires within { (k : _) → InSpan span k → k < length cells.old }
     requires same { length mask.now ≡ length cells.old }
     ensures { AreSpread (InSpan span) mask.now level cells.old cells.new waiting.old waiting.new (IsTrue result) }

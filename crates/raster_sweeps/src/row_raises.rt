@@ -11,7 +11,7 @@ use grid_core::Conn;
 const STRIP: usize = 64;
 
 /// Raises each pixel of a row by its neighbours in a row that touches it, as far as the mask lets it.
-pub fn raise_by(mask: &[u32], by: &[u32], row: &mut [u32], conn: Conn)
+pub fn raise_by(mask: &[u16], by: &[u16], row: &mut [u16], conn: Conn)
     requires { AreFullRows by.now mask.now row.old }
     ensures { IsRaisedBy (AreBeside conn) mask.now by.now row.old row.new }
 {
@@ -22,7 +22,7 @@ pub fn raise_by(mask: &[u32], by: &[u32], row: &mut [u32], conn: Conn)
 }
 
 // Raises each pixel of a row by those of another in the columns to its left and right, as far as the mask lets it.
-fn raise_aslant(mask: &[u32], by: &[u32], row: &mut [u32])
+fn raise_aslant(mask: &[u16], by: &[u16], row: &mut [u16])
     requires { AreFullRows by.now mask.now row.old }
     ensures { IsRaisedBy AreAside mask.now by.now row.old row.new }
 {
@@ -35,7 +35,7 @@ fn raise_aslant(mask: &[u32], by: &[u32], row: &mut [u32])
 //
 // Inside the loop over the rows it would not become vector code.
 #[inline(never)]
-fn raise_straight(mask: &[u32], by: &[u32], row: &mut [u32])
+fn raise_straight(mask: &[u16], by: &[u16], row: &mut [u16])
     requires { AreRows by.now mask.now row.old }
     ensures { IsRaisedStraight mask.now by.now row.old row.new }
 {
@@ -45,7 +45,7 @@ fn raise_straight(mask: &[u32], by: &[u32], row: &mut [u32])
 }
 
 /// Raises each pixel of a row, from the left, by the one to its left, as far as the mask lets it.
-pub fn raise_from_left(mask: &[u32], row: &mut [u32])
+pub fn raise_from_left(mask: &[u16], row: &mut [u16])
     requires { length mask.now ≡ length row.old }
     ensures { IsRaisedFromLeft mask.now row.old row.new }
 {
@@ -58,7 +58,7 @@ pub fn raise_from_left(mask: &[u32], row: &mut [u32])
 }
 
 // Raises each pixel of a strip but the first, from the left, where there is one to be raised.
-fn raise_strip_from_left(mask: &[u32], strip: &mut [u32])
+fn raise_strip_from_left(mask: &[u16], strip: &mut [u16])
     requires { (0 < length strip.old) × (length mask.now ≡ length strip.old) }
     ensures { IsRaisedFromLeft mask.now strip.old strip.new }
 {
@@ -68,7 +68,7 @@ fn raise_strip_from_left(mask: &[u32], strip: &mut [u32])
 }
 
 // Raises each pixel of a row, from the left, by the one to its left, as far as the mask lets it.
-fn run_from_left(mask: &[u32], row: &mut [u32])
+fn run_from_left(mask: &[u16], row: &mut [u16])
     requires { length mask.now ≡ length row.old }
     ensures { IsRaisedFromLeft mask.now row.old row.new }
 {
@@ -80,7 +80,7 @@ fn run_from_left(mask: &[u32], row: &mut [u32])
 }
 
 /// Raises each pixel of a row, from the right, by the one to its right, as far as the mask lets it.
-pub fn raise_from_right(mask: &[u32], row: &mut [u32])
+pub fn raise_from_right(mask: &[u16], row: &mut [u16])
     requires { length mask.now ≡ length row.old }
     ensures { IsRaisedFromRight mask.now row.old row.new }
 {
@@ -93,7 +93,7 @@ pub fn raise_from_right(mask: &[u32], row: &mut [u32])
 }
 
 // Raises each pixel of a strip but the last, from the right, where there is one to be raised.
-fn raise_strip_from_right(mask: &[u32], strip: &mut [u32])
+fn raise_strip_from_right(mask: &[u16], strip: &mut [u16])
     requires { (0 < length strip.old) × (length mask.now ≡ length strip.old) }
     ensures { IsRaisedFromRight mask.now strip.old strip.new }
 {
@@ -103,7 +103,7 @@ fn raise_strip_from_right(mask: &[u32], strip: &mut [u32])
 }
 
 // Raises each pixel of a row, from the right, by the one to its right, as far as the mask lets it.
-fn run_from_right(mask: &[u32], row: &mut [u32])
+fn run_from_right(mask: &[u16], row: &mut [u16])
     requires { length mask.now ≡ length row.old }
     ensures { IsRaisedFromRight mask.now row.old row.new }
 {
@@ -115,7 +115,7 @@ fn run_from_right(mask: &[u32], row: &mut [u32])
 }
 
 // Whether no pixel of a row raises the one to its right.
-fn is_raised_from_left(mask: &[u32], row: &[u32]) -> bool
+fn is_raised_from_left(mask: &[u16], row: &[u16]) -> bool
     requires { (0 < length row.now) × (length mask.now ≡ length row.now) }
     ensures { IsTrue result → IsRaisedFromLeft mask.now row.now row.now }
 {
@@ -124,7 +124,7 @@ fn is_raised_from_left(mask: &[u32], row: &[u32]) -> bool
 }
 
 // Whether no pixel of a row raises the one to its left.
-fn is_raised_from_right(mask: &[u32], row: &[u32]) -> bool
+fn is_raised_from_right(mask: &[u16], row: &[u16]) -> bool
     requires { (0 < length row.now) × (length mask.now ≡ length row.now) }
     ensures { IsTrue result → IsRaisedFromRight mask.now row.now row.now }
 {

@@ -7,7 +7,7 @@ ghost use Rattle.raster_sweeps.specs.RowPairs.{AreFullRows, AreRows, IsClosedTo}
 use grid_core::Conn;
 
 // Whether no pixel of the row `from` raises the one in the same column of the row `to`.
-pub fn is_closed_straight(from: &[u32], mask: &[u32], to: &[u32]) -> bool
+pub fn is_closed_straight(from: &[u16], mask: &[u16], to: &[u16]) -> bool
     requires { AreRows from.now mask.now to.now }
     ensures { IsTrue result ↔ IsClosedStraight from.now mask.now to.now }
 {
@@ -19,7 +19,7 @@ pub fn is_closed_straight(from: &[u32], mask: &[u32], to: &[u32]) -> bool
 }
 
 // Whether no pixel of the row `from` raises one in the next column, to the right or the left, of the row `to`.
-pub fn is_closed_aslant(from: &[u32], mask: &[u32], to: &[u32]) -> bool
+pub fn is_closed_aslant(from: &[u16], mask: &[u16], to: &[u16]) -> bool
     requires { AreFullRows from.now mask.now to.now }
     ensures { IsTrue result ↔ IsClosedTo AreAside from.now mask.now to.now }
 {
@@ -29,7 +29,7 @@ pub fn is_closed_aslant(from: &[u32], mask: &[u32], to: &[u32]) -> bool
 }
 
 // Whether no pixel of the row `from` raises a neighbour in the row `to`, which touches it.
-pub fn is_closed_to(from: &[u32], mask: &[u32], to: &[u32], conn: Conn) -> bool
+pub fn is_closed_to(from: &[u16], mask: &[u16], to: &[u16], conn: Conn) -> bool
     requires { AreFullRows from.now mask.now to.now }
     ensures { IsTrue result ↔ IsClosedTo (AreBeside conn) from.now mask.now to.now }
 {
@@ -42,10 +42,10 @@ pub fn is_closed_to(from: &[u32], mask: &[u32], to: &[u32], conn: Conn) -> bool
 // One pass over both rows makes shorter vector code than a pass for each direction.
 #[inline(never)]
 pub fn are_closed_crosswise(
-    row: &[u32],
-    limits: &[u32],
-    below: &[u32],
-    limits_below: &[u32],
+    row: &[u16],
+    limits: &[u16],
+    below: &[u16],
+    limits_below: &[u16],
 ) -> bool
     requires rows { AreFullRows below.now limits.now row.now }
     requires below { length limits_below.now ≡ length row.now }

@@ -62,7 +62,7 @@ fn raise_row_by(mask: &Grid, image: &mut Grid, rect: Rect, from: u32, to: u32, c
 }
 
 // Raises the row of cells that begins at `target` by the row that begins at `source`, above or below it.
-fn raise_cells_by(limits: &[u32], cells: &mut [u32], source: usize, target: usize, conn: Conn)
+fn raise_cells_by(limits: &[u16], cells: &mut [u16], source: usize, target: usize, conn: Conn)
     requires { AreApart (length limits.now) source target (length cells.old) }
     ensures { AreCellsRaised conn limits.now source target cells.old cells.new }
 {

@@ -40,7 +40,7 @@ pub fn slow(alloc: Global, mask: &Grid, marker: &Grid, conn: Conn) -> Result<Gri
 }
 
 // The greatest of the values, 0 where there is none.
-fn greatest(values: &[u32]) -> u32
+fn greatest(values: &[u16]) -> u16
     ensures { EachIndex values.now (λ k. slice_index values.now k ≤ result) }
 {
     values.iter().copied().max().unwrap_or(0)
@@ -51,7 +51,7 @@ fn flood_level(
     alloc: Global,
     source: &Reconstruction<'_>,
     image: &mut Grid,
-    level: u32,
+    level: u16,
 ) -> Result<(), Memory>
     requires positive { 0 < level }
     requires before { IsFlooded source.now (level - 1) image.old }
@@ -70,7 +70,7 @@ fn seed_level(
     source: &Reconstruction<'_>,
     image: &mut Grid,
     waiting: &mut Vec<Pixel>,
-    level: u32,
+    level: u16,
 ) -> Result<(), Memory>
     requires { Floods source.now level 0 image.old waiting.old.items }
     ensures { OnOk result (Floods source.now level (seeds_of source.now) image.new waiting.new.items) }
@@ -89,7 +89,7 @@ fn spread(
     source: &Reconstruction<'_>,
     image: &mut Grid,
     waiting: &mut Vec<Pixel>,
-    level: u32,
+    level: u16,
     pixel: Pixel,
 ) -> Result<(), Memory>
     requires { Floods source.now level (seeds_of source.now) image.old (pixel ∷ waiting.old.items) }
@@ -112,7 +112,7 @@ fn spread(
 }
 
 // Gives a pixel the level, and puts it on the list of those whose neighbours are still to be looked at.
-fn mark(image: &mut Grid, waiting: &mut Vec<Pixel>, level: u32, pixel: Pixel) -> Result<(), Memory>
+fn mark(image: &mut Grid, waiting: &mut Vec<Pixel>, level: u16, pixel: Pixel) -> Result<(), Memory>
     requires { IsInside image.old.width image.old.height pixel }
     ensures image { image.new ≡ with_value image.old pixel level }
     ensures waiting { OnOk result (waiting.new.items ≡ waiting.old.items ++ pixel ∷ []) }

@@ -12,7 +12,7 @@ use Rattle.std.proofs.lemmas.Nat.{mul-le}
 use Rattle.std.proofs.lemmas.List.{append-nil, append_assoc, length-append, length-set, map-append}
 use Rattle.std.proofs.lemmas.List.Edits.{length-remove}
 use Rattle.std.proofs.lemmas.List.Sums.{sum_by-set, sum_by-le}
-use Rattle.grid_core.specs.Raster.{IsSized, max_value}
+use Rattle.grid_core.specs.Raster.{IsSized, max_level}
 use Rattle.grid_core.specs.Tiles.{IsTiled, count_of, columns_of, rows_of}
 use Rattle.grid_core.proofs.Spans.{spans-le}
 use Rattle.tile_generations.specs.declared.ticket.Ticket.{Ticket}
@@ -306,8 +306,8 @@ pub bounded_burden : (core : Core) → IsSized core.image → IsTiled (tiling co
     → length core.tiles ≡ count_of (tiling core) → burden core + 1 < 18446744073709551616
 bounded_burden core sized tiled count =
     let t = tiling core in
-    let cells = sum_by-le (λ v. max_value - v) max_value core.image.cells
-    (All-of {P = λ v. max_value - v ≤ max_value} (λ v. omega arith) core.image.cells) in
+    let cells = sum_by-le (λ v. max_level - v) max_level core.image.cells
+    (All-of {P = λ v. max_level - v ≤ max_level} (λ v. omega arith) core.image.cells) in
     let rows = sum_by-le (λ (work : TileWork). if work.dirty then 1 else 0) 1 core.tiles
     (All-of {P = λ work. (if work.dirty then 1 else 0) ≤ 1} (λ (work : TileWork). at_most_one work.dirty) core.tiles) in
     let filled = sized.filled in
@@ -318,8 +318,8 @@ bounded_burden core sized tiled count =
     let tiles : count_of t ≤ t.width * t.height = mul-le (columns_of t) (rows_of t) t.width t.height columns lines in
     let most = tiled.size.pixels_within in
     let total : length core.image.cells ≤ 67108864 = omega (arith, filled, few) in
-    let all : length core.image.cells * max_value ≤ 67108864 * max_value =
-    mul-le (length core.image.cells) max_value 67108864 max_value total (omega arith) in
+    let all : length core.image.cells * max_level ≤ 67108864 * max_level =
+    mul-le (length core.image.cells) max_level 67108864 max_level total (omega arith) in
     omega (arith, cells, rows, all, tiles, most, count) where
       at_most_one : (b : Bool) → (if b then 1 else 0) ≤ 1
       at_most_one true = omega arith

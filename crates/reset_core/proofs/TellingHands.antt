@@ -10,7 +10,7 @@ use Rattle.std.proofs.lemmas.List.Elements.{filter-append}
 use Rattle.std.proofs.lemmas.Grind.{flat_map-append}
 use Rattle.std.proofs.lemmas.List.{take_more}
 use Rattle.std.proofs.lemmas.List.Sums.{sum_by-set}
-use Rattle.grid_core.specs.Raster.{Raster, IsInside, IsFilled, index_of, max_value, value_at, with_value}
+use Rattle.grid_core.specs.Raster.{Raster, IsInside, IsFilled, index_of, max_level, value_at, with_value}
 use Rattle.grid_core.specs.Tiles.{Tiles, tile_of}
 use Rattle.border_queues.specs.declared.hint.Hint.{Hint}
 use Rattle.border_queues.specs.OpenEdges.{IsOnTiling}
@@ -46,7 +46,7 @@ hint_for_another tiles hint t other =
 risen_burden : (tiles : Tiles) (hint : Hint) (s : ImageAndWork)
     → index_of s.image.width hint.to_pixel < length s.image.cells
     → tile_of tiles hint.to_pixel < length s.rows → value_at s.image hint.to_pixel < hint.value
-    → hint.value ≤ max_value → burden_of (risen_by tiles hint s) ≤ burden_of s
+    → hint.value ≤ max_level → burden_of (risen_by tiles hint s) ≤ burden_of s
 risen_burden tiles hint s within is_tile above top =
     let t = tile_of tiles hint.to_pixel in
     let count : TileWork → ℕ = λ work. if work.dirty then 1 else 0 in
@@ -58,7 +58,7 @@ risen_burden tiles hint s within is_tile above top =
 
 pub one_rises : (tiles : Tiles) (hint : Hint) (t : ℕ) (s : ImageAndWork) → IsOnTiling tiles s.image → IsFilled s.image
     → IsInside tiles.width tiles.height hint.to_pixel → t < length s.rows → tile_of tiles hint.to_pixel ≡ t
-    → value_at s.image hint.to_pixel < hint.value → hint.value ≤ max_value
+    → value_at s.image hint.to_pixel < hint.value → hint.value ≤ max_level
     → AreHandedOver tiles (hints_in tiles (hint ∷ []) t) s (record {
       image = with_value s.image hint.to_pixel hint.value;
       rows = slice_set s.rows t (record (slice_index_or s.rows t idle) { dirty = true });

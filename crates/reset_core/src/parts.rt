@@ -72,7 +72,7 @@ pub(crate) fn raised_part(
 }
 
 // Row `y` of the image.
-fn row(image: &Grid, y: u32) -> &[u32]
+fn row(image: &Grid, y: u32) -> &[u16]
     requires { y < image.now.height }
     ensures { IsRowOf image.now.width (value_at image.now) y result.now }
 {
@@ -82,7 +82,7 @@ fn row(image: &Grid, y: u32) -> &[u32]
 }
 
 // Whether the rows are equal.
-fn is_equal(a: &[u32], b: &[u32]) -> bool
+fn is_equal(a: &[u16], b: &[u16]) -> bool
     requires { length a.now ≡ length b.now }
     ensures { IsTrue result ↔ EachIndex a.now (λ k. slice_index a.now k ≡ slice_index b.now k) }
 {
@@ -90,7 +90,7 @@ fn is_equal(a: &[u32], b: &[u32]) -> bool
 }
 
 // Whether no value of the first row is above that of the second.
-fn is_at_most(a: &[u32], b: &[u32]) -> bool
+fn is_at_most(a: &[u16], b: &[u16]) -> bool
     requires { length a.now ≡ length b.now }
     ensures { IsTrue result ↔ EachIndex a.now (λ k. slice_index a.now k ≤ slice_index b.now k) }
 {
@@ -98,7 +98,7 @@ fn is_at_most(a: &[u32], b: &[u32]) -> bool
 }
 
 // Raises the cells from a place on to these values.
-fn raise_cells(image: &mut Grid, start: usize, values: &[u32])
+fn raise_cells(image: &mut Grid, start: usize, values: &[u16])
     requires { start + length values.now ≤ length image.old.cells }
     ensures { AreCellsChanged start (start + length values.now) (raised_from start values.now image.old.cells) image.old
         image.new }
@@ -109,7 +109,7 @@ fn raise_cells(image: &mut Grid, start: usize, values: &[u32])
 }
 
 // Raises each cell of the row to the value at its place.
-fn raise_row(row: &mut [u32], values: &[u32])
+fn raise_row(row: &mut [u16], values: &[u16])
     requires { length values.now ≡ length row.old }
     ensures { EachIndex row.new (λ k. slice_index row.new k
         ≡ max (slice_index row.old k) (slice_index values.now k)) }

@@ -169,7 +169,7 @@ impl Core {
     }
 
     /// The image at a pixel.
-    pub fn pixel(&self, p: Pixel) -> u32
+    pub fn pixel(&self, p: Pixel) -> u16
         requires { IsInside self.now.mask.width self.now.mask.height p }
         ensures { result ≡ value_at self.now.image p }
     {

@@ -80,7 +80,7 @@ fn add_header(hasher: &mut Sha256, image: &Image)
 }
 
 // Adds the samples, as many at a time as fill a block.
-fn add_samples(hasher: &mut Sha256, maxval: u16, samples: &[u32])
+fn add_samples(hasher: &mut Sha256, maxval: u16, samples: &[u16])
     requires { All (λ s. s ≤ maxval) samples.now }
     ensures { HoldsMore hasher.old hasher.new (flat_map (sample_bytes maxval) samples.now) }
 {
@@ -95,7 +95,7 @@ fn add_samples(hasher: &mut Sha256, maxval: u16, samples: &[u32])
 }
 
 // Adds samples whose bytes fill a block.
-fn add_part(hasher: &mut Sha256, block: &mut [u8], maxval: u16, samples: &[u32])
+fn add_part(hasher: &mut Sha256, block: &mut [u8], maxval: u16, samples: &[u16])
     requires within { All (λ s. s ≤ maxval) samples.now }
     requires room { length samples.now * sample_len maxval ≡ length block.old }
     ensures { HoldsMore hasher.old hasher.new (flat_map (sample_bytes maxval) samples.now) }

@@ -3,15 +3,12 @@ use Rattle.std.specs.Prelude.{◌≡◌, ℕ, ◌+◌, ◌*◌, ◌<◌, ◌≤�
 use Rattle.std.specs.List.{list_any, AllByRecursion}
 use Rattle.grid_core.specs.declared.pixel.Pixel.{Pixel}
 use Rattle.grid_core.specs.Neighbours.{apart}
+use Rattle.grid_core.specs.Raster.{max_level}
 use Rattle.stroke_core.specs.declared.error.StrokeError.{StrokeError}
 use Rattle.stroke_core.specs.declared.error.StrokeError.TheVariants as errors
 use Rattle.stroke_core.specs.declared.kind.Kind.{Kind}
 use Rattle.stroke_core.specs.declared.kind.Kind.TheVariants as kinds
 use Rattle.stroke_core.specs.declared.run.Run.{Run}
-
--- the greatest level; the least is 1
-abbrev pub max_level : ℕ
-max_level = 65535
 
 -- the greatest number of runs; the least is 1
 abbrev pub max_runs : ℕ

@@ -31,5 +31,5 @@ pub use error::{RefusedRuns, StrokeError};
 pub use kind::Kind;
 pub use run::Run;
 pub use span::Span;
-pub use stroke::{MAX_LEVEL, MAX_RADIUS, MAX_RUNS, Stroke, one_refusal, spans_cover};
+pub use stroke::{MAX_RADIUS, MAX_RUNS, Stroke, one_refusal, spans_cover};
 pub use tag::{Tag, text_parses_back};

@@ -1,10 +1,11 @@
 ghost use Rattle.std.specs.Prelude.{◌≡◌, ◌<◌, ◌≤◌, ◌↔◌, IsTrue, IsOk, IfOk, IfErr, MatchOption};
 ghost use Rattle.std.specs.Prelude.{ℕ, ◌+◌, length, min, slice_get};
 ghost use Rattle.std.specs.List.{list_any};
+ghost use Rattle.grid_core.specs.Raster.{max_level};
 ghost use Rattle.grid_core.specs.declared.pixel.Pixel.{Pixel};
 ghost use Rattle.stroke_core.specs.Seed.{Seed, Runs, Disc, AreOrdered, IsBefore, IsCanonical};
 ghost use Rattle.stroke_core.specs.Seed.{IsRefusal, Fits, covers, shape_covers, kind_of, runs_of};
-ghost use Rattle.stroke_core.specs.Seed.{byte_len_of, max_level, seed_of};
+ghost use Rattle.stroke_core.specs.Seed.{byte_len_of, seed_of};
 ghost use Rattle.stroke_core.specs.Spans.{spans_of, spans_of_shape, span_has, SpanFits, IsFirstFrom};
 ghost use Rattle.stroke_core.specs.declared.error.StrokeError.{StrokeError};
 
@@ -13,12 +14,9 @@ use crate::kind::Kind;
 use crate::run::Run;
 use crate::shape::Shape;
 use crate::span::Span;
-use grid_core::{Memory, Pixel};
+use grid_core::{MAX_LEVEL, Memory, Pixel};
 use std::alloc::Global;
 use std::marker::Model;
-
-/// The greatest level of a stroke. The least is 1.
-pub const MAX_LEVEL: u32 = 65535;
 
 /// The greatest number of runs of a stroke of runs. The least is 1.
 pub const MAX_RUNS: usize = 160;
@@ -235,7 +233,7 @@ impl Stroke {
 fn is_level(level: u32) -> bool
     ensures { IsTrue result ↔ ((1 ≤ level) × (level ≤ max_level)) }
 {
-    level >= 1 && level <= MAX_LEVEL
+    level >= 1 && level <= u32::from(MAX_LEVEL)
 }
 
 /// Whether some run has the pixel.

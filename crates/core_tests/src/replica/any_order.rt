@@ -63,7 +63,7 @@ fn some_step(seed: &mut u64) -> Step {
 fn some_stage(alloc: Global, seed: &mut u64) -> Result<Stage, Fail> {
     let mut pixels = [(1, 0); 378];
     for pixel in pixels.iter_mut() {
-        pixel.1 = u32::from(draw(seed, 14).saturating_sub(4));
+        pixel.1 = u16::from(draw(seed, 14).saturating_sub(4));
     }
     let mask = Mask {
         width: 21,

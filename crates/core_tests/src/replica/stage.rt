@@ -45,7 +45,7 @@ pub enum Line {
     /// So much of what grows from the strokes is lacking.
     Owes(u64),
     /// The image has these values, each so often.
-    Image(&'static [(usize, u32)]),
+    Image(&'static [(usize, u16)]),
     /// Exactly these tiles were reset, once, exactly these are to be swept, and none is out.
     Tiles(&'static [usize], &'static [usize]),
     /// So many hints wait for this tile.

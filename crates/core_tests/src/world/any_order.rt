@@ -38,7 +38,7 @@ fn some_act(seed: &mut u64, replicas: u16) -> Act {
 fn some_stage(alloc: Global, seed: &mut u64, conn: Conn, replicas: u16) -> Result<Stage, Fail> {
     let mut pixels = [(1, 0); 216];
     for pixel in pixels.iter_mut() {
-        pixel.1 = u32::from(draw(seed, 13).saturating_sub(3));
+        pixel.1 = u16::from(draw(seed, 13).saturating_sub(3));
     }
     let mask = Mask {
         width: 72,

@@ -57,7 +57,7 @@ pub enum Line {
     /// The job of this result was of this generation.
     ResultOf(usize, u64),
     /// The image has these values, each so often.
-    Image(&'static [(usize, u32)]),
+    Image(&'static [(usize, u16)]),
     /// Exactly these tiles were reset, once, exactly these are to be swept, and none is out.
     Tiles(&'static [usize], &'static [usize]),
     /// The stroke of this tag is not live.

@@ -119,7 +119,7 @@ impl Links<'_> {
     }
 
     // The values of `w` pixels from column `x` on of the row `y`.
-    fn row(&self, x: u32, y: u32, w: u32) -> &[u32]
+    fn row(&self, x: u32, y: u32, w: u32) -> &[u16]
         requires row { EndsWithin self.now.image.now.width self.now.image.now.height (pixels_upto x y w) }
         ensures { IsRowOf w (λ p. value_at self.now.image.now (record { x = x + p.x; y = p.y })) y result.now }
     {

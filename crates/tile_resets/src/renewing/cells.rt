@@ -51,7 +51,7 @@ fn raise_cells(image: &mut Grid, marker: &Grid, from: usize, to: usize) -> bool
 }
 
 // Raises each value of a row to the marker's. Says whether one rose.
-fn raise_row(row: &mut [u32], marker: &[u32]) -> bool
+fn raise_row(row: &mut [u16], marker: &[u16]) -> bool
     requires { length marker.now ≡ length row.old }
     ensures values { EachIndex row.new (λ k. slice_index row.new k ≡ greater_at row.old marker.now k) }
     ensures rose { IsTrue result ↔ SomeIsLess 0 (length row.old) row.old marker.now }

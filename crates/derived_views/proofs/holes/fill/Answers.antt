@@ -15,32 +15,31 @@ grow_in_place-requires c = border_below c.in_ok-mask.mask c.in_ok-grown.grown c.
 pub over-requires : goal.over-requires
 over-requires c =
     let image = c.args.image.now in
-    let is = c.maxval-maxval.ensures.is_graymap in
-    let maxval : c.maxval-maxval.result ≡ image.maxval = c.maxval-maxval.ensures.value in
-    let top : c.from-top.result ≡ c.maxval-maxval.result = c.from-top.ensures in
-    let mask : c.in_ok-mask.mask ≡ complement_of c.from-top.result image.raster =
-    c.in_ok-mask.ensures ∙ ap (λ r. complement_of c.from-top.result r) c.grid.ensures.value
+    let is = c.maxval-top.ensures.is_graymap in
+    let top : c.maxval-top.result ≡ image.maxval = c.maxval-top.ensures.value in
+    let mask : c.in_ok-mask.mask ≡ complement_of c.maxval-top.result image.raster =
+    c.in_ok-mask.ensures ∙ ap (λ r. complement_of c.maxval-top.result r) c.grid.ensures.value
     in
     let turned = c.complemented-filled.ensures in
     let grown = c.in_ok-grow_in_place.ensures.grown in
-    graymap_from image c.complemented-filled.result c.maxval-maxval.result is
-    (omega (arith, maxval, is.some_maxval))
-    (omega (arith, maxval, is.maxval_within))
+    graymap_from image c.complemented-filled.result c.maxval-top.result is
+    (omega (arith, top, is.some_maxval))
+    (omega (arith, top, is.maxval_within))
     (turned.width ∙ grown.width ∙ ap (λ r. r.width) mask)
     (turned.height ∙ grown.height ∙ ap (λ r. r.height) mask)
     turned.filled
-    (λ k within. omega (arith, turned.values k within, top))
+    (λ k within. omega (arith, turned.values k within))
 
 pub returns : goal.returns
 returns c =
     let image = c.args.image.now in
-    let is = c.maxval-maxval.ensures.is_graymap in
+    let is = c.maxval-top.ensures.is_graymap in
     let d = domain_of image.raster c.args.conn in
-    let top : c.from-top.result ≡ image.maxval = c.from-top.ensures ∙ c.maxval-maxval.ensures.value in
-    let mask : c.in_ok-mask.mask ≡ complement_of c.from-top.result image.raster =
-    c.in_ok-mask.ensures ∙ ap (λ r. complement_of c.from-top.result r) c.grid.ensures.value
+    let top : c.maxval-top.result ≡ image.maxval = c.maxval-top.ensures.value in
+    let mask : c.in_ok-mask.mask ≡ complement_of c.maxval-top.result image.raster =
+    c.in_ok-mask.ensures ∙ ap (λ r. complement_of c.maxval-top.result r) c.grid.ensures.value
     in
-    let bound : EachIndex image.raster.cells (λ k. slice_index image.raster.cells k ≤ c.from-top.result) =
+    let bound : EachIndex image.raster.cells (λ k. slice_index image.raster.cells k ≤ c.maxval-top.result) =
     λ k within. omega (arith, is.samples_within k within, top)
     in
     let turned = c.complemented-filled.ensures in
@@ -48,7 +47,7 @@ returns c =
     let part = c.in_ok-grown.ensures.part in
     let shown =
     subst (λ (g : Graymap). IsFill d (value_at image.raster) (value_at g.raster)) (sym c.over.ensures)
-    (fill_from c.args.conn c.from-top.result image.raster c.in_ok-mask.mask c.in_ok-grown.grown
+    (fill_from c.args.conn c.maxval-top.result image.raster c.in_ok-mask.mask c.in_ok-grown.grown
     c.grow_in_place.new.image c.complemented-filled.result mask is.sized.filled turned.filled bound
     part c.in_ok-grown.ensures.border (grown.width ∙ sym part.width) turned.width (grown.height ∙ sym part.height)
     turned.height turned.values grown.reconstruction) in

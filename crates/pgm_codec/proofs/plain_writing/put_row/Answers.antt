@@ -1,6 +1,4 @@
-use Rattle.std.proofs.Common.{◌≤◌, ◌++◌, sym, ◌∙◌, subst, All}
-use Rattle.std.proofs.lemmas.List.Elements.{All-drop}
-use Rattle.pgm_codec.specs.Graymap.{max_maxval}
+use Rattle.std.proofs.Common.{◌++◌, sym, ◌∙◌}
 use Rattle.pgm_codec.specs.PlainWriting.{plain_row}
 use Rattle.pgm_codec.proofs.PlainLoop.{line_more, some_left}
 use Rattle.pgm_codec.proofs.plain_writing.put_row.Goals as goal
@@ -9,11 +7,7 @@ pub loop-rest-preserved : goal.loop-rest-preserved
 loop-rest-preserved c =
     let rest = c.loop-rest.rest.now in
     let before = c.loop-rest.invariant in
-    record {
-      written = line_more c.min.result c.loop-rest.out.items c.put_line.new.out.items c.split_at.result.0.now rest
-          c.split_at.result.1.now (c.args.out.now.items ++ plain_row c.args.row.now)
-          (some_left rest (sym c.is_empty.ensures ∙ c.loop-rest-test.true)) c.min.ensures
-          c.split_at.ensures.front c.split_at.ensures.back c.in_ok-put_line.ensures before.written;
-      within = subst (All (λ s. s ≤ max_maxval)) (sym c.split_at.ensures.back)
-          (All-drop (λ s. s ≤ max_maxval) c.min.result rest before.within);
-    }
+    line_more c.min.result c.loop-rest.out.items c.put_line.new.out.items c.split_at.result.0.now rest
+    c.split_at.result.1.now (c.args.out.now.items ++ plain_row c.args.row.now)
+    (some_left rest (sym c.is_empty.ensures ∙ c.loop-rest-test.true)) c.min.ensures
+    c.split_at.ensures.front c.split_at.ensures.back c.in_ok-put_line.ensures before

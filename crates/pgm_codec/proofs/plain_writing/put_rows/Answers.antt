@@ -1,6 +1,4 @@
-use Rattle.std.proofs.Common.{◌≤◌, ◌++◌, sym, subst, All, arith}
-use Rattle.std.proofs.lemmas.List.Elements.{All-drop}
-use Rattle.pgm_codec.specs.Graymap.{max_maxval}
+use Rattle.std.proofs.Common.{◌++◌, arith}
 use Rattle.pgm_codec.proofs.PlainLoop.{rows_from, row_more, row_left}
 use Rattle.pgm_codec.proofs.plain_writing.put_rows.Goals as goal
 
@@ -18,6 +16,4 @@ loop-row-preserved c =
           c.loop-row-test.true c.split_at.ensures.front c.split_at.ensures.back c.in_ok-put_row.ensures
           before.written;
       len = omega (arith, left, c.split_at.ensures.back_len);
-      within = subst (All (λ s. s ≤ max_maxval)) (sym c.split_at.ensures.back)
-          (All-drop (λ s. s ≤ max_maxval) width rest before.within);
     }

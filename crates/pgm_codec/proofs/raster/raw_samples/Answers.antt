@@ -3,14 +3,14 @@ use Rattle.std.proofs.Common.{◌∙◌, arith}
 use Rattle.std.specs.Prelude.{nat_lt}
 use Rattle.std.specs.List.{list_any}
 use Rattle.std.proofs.lemmas.List.{take_rest}
-use Rattle.pgm_codec.specs.Graymap.{max_maxval}
+use Rattle.grid_core.specs.Raster.{max_level}
 use Rattle.pgm_codec.specs.Spelling.{is_wide}
 use Rattle.pgm_codec.specs.Reading.{sample_width, raw_value}
 use Rattle.pgm_codec.proofs.RawSamples.{AreFirst, above_gives, short_gives, enough_gives, all_within}
 use Rattle.pgm_codec.proofs.raster.raw_samples.Goals as goal
 
 -- what the two calls before say together
-first_values : (m count whole width : ℕ) (small : m ≤ max_maxval) (text ss : List ℕ) → width ≡ sample_width (is_wide m)
+first_values : (m count whole width : ℕ) (small : m ≤ max_level) (text ss : List ℕ) → width ≡ sample_width (is_wide m)
     → whole ≡ min count (length text / width) → length ss ≡ whole
     → ((k : ℕ) → k < whole → slice_index ss k ≡ raw_value (is_wide m) text k) → AreFirst m small text ss count
 first_values m count whole width small text ss w e len values = record {
@@ -21,7 +21,7 @@ first_values m count whole width small text ss w e len values = record {
 pub returns-then-is_any_above-clause-read : goal.returns-then-is_any_above-clause-read
 returns-then-is_any_above-clause-read c =
     let m = c.args.maxval in
-    let small : m ≤ max_maxval = omega (arith, c.ranges.maxval.fits) in
+    let small : m ≤ max_level = omega (arith, c.ranges.maxval.fits) in
     let samples = c.in_ok-samples.samples.items in
     let made = c.in_ok-samples.ensures in
     inr (above_gives m small c.args.text.now samples c.args.count
@@ -33,7 +33,7 @@ returns-then-is_any_above-clause-read c =
 pub returns-then-whole-count-clause-read : goal.returns-then-whole-count-clause-read
 returns-then-whole-count-clause-read c =
     let m = c.args.maxval in
-    let small : m ≤ max_maxval = omega (arith, c.ranges.maxval.fits) in
+    let small : m ≤ max_level = omega (arith, c.ranges.maxval.fits) in
     let samples = c.in_ok-samples.samples.items in
     let made = c.in_ok-samples.ensures in
     inr (short_gives m small c.args.text.now samples c.args.count
@@ -46,7 +46,7 @@ returns-then-whole-count-clause-read c =
 pub returns-clause-read : goal.returns-clause-read
 returns-clause-read c =
     let m = c.args.maxval in
-    let small : m ≤ max_maxval = omega (arith, c.ranges.maxval.fits) in
+    let small : m ≤ max_level = omega (arith, c.ranges.maxval.fits) in
     let samples = c.in_ok-samples.samples.items in
     let made = c.in_ok-samples.ensures in
     let behind = c.min-whole.result * c.sample_width-width.result in
@@ -63,7 +63,7 @@ returns-clause-read c =
 pub returns-clause-made : goal.returns-clause-made
 returns-clause-made c =
     let m = c.args.maxval in
-    let small : m ≤ max_maxval = omega (arith, c.ranges.maxval.fits) in
+    let small : m ≤ max_level = omega (arith, c.ranges.maxval.fits) in
     let whole : c.args.count ≤ c.min-whole.result = c.if-whole-count.false in
     record {
       length = omega (arith, c.in_ok-samples.ensures.length, c.min-whole.ensures, whole);

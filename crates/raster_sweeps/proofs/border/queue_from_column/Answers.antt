@@ -1,4 +1,5 @@
-use Rattle.std.proofs.Common.{◌≡◌, ◌+◌, ◌<◌, ◌∷◌, [], ◌++◌, true, false, length, arith, refl, ◌∙◌, ap, inl, inr}
+use Rattle.std.proofs.Common.{◌≡◌, ◌+◌, ◌<◌, ◌≤◌, ◌∷◌, [], ◌++◌, true, false, length, arith, refl, ◌∙◌, ap, inl, inr}
+use Rattle.grid_core.specs.Raster.{max_level}
 use Rattle.raster_sweeps.proofs.BorderColumns.{cell_joins, cell_passes, column_joined, column_stopped, same_to_rise}
 use Rattle.raster_sweeps.specs.Growth.{cell_of}
 use Rattle.raster_sweeps.specs.RowPairs.{AreBeside}
@@ -31,7 +32,7 @@ loop-y-preserved c =
     let old = c.args.waiting.now in
     let now = c.loop-y.waiting in
     let held = c.loop-y.invariant in
-    let fits : c.value_in-level.result < 4294967296 = c.value_in-level.type_inv in
+    let fits : c.value_in-level.result ≤ max_level = omega (arith, c.value_in-level.type_inv) in
     record {
       above =
           same_to_rise rect mask image (λ q. (q.y ≡ y) × AreBeside conn x q.x)

@@ -4,7 +4,7 @@ use Rattle.std.proofs.Common.{arith, inl, inr, length-append}
 use Rattle.std.specs.Prelude.{Contains, IsTrue}
 use Rattle.std.proofs.lemmas.Bool.{false≢true}
 use Rattle.std.proofs.lemmas.List.Elements.{Contains-push_cases}
-use Rattle.grid_core.specs.Raster.{headroom}
+use Rattle.grid_core.specs.Raster.{headroom, max_level}
 use Rattle.raster_sweeps.specs.Spans.{InSpan, IsRaised}
 use Rattle.grid_core.proofs.Headroom.{headroom_less, headroom_set}
 use Rattle.raster_sweeps.proofs.Raised.{span_to, next_raised, next_not_raised, next_queued, next_not_queued}
@@ -33,7 +33,7 @@ loop-cell-preserved c =
     let within : j < length cells =
     omega (arith, c.requires.within j (from, c.loop-cell-test.true), held.raised.filled) in
     let v : c.min-raised.result ≡ min level (get_or mask j 0) = c.min-raised.ensures in
-    let top : c.min-raised.result < 4294967296 = c.min-raised.type_inv in
+    let top : c.min-raised.result ≤ max_level = omega (arith, c.min-raised.type_inv) in
     elim c.if-cells-at.branch [
       | then-cells-at+then-push w ↦
           let drawn : c.if-cells-at.cells ≡ set cells j (min level (get_or mask j 0)) =

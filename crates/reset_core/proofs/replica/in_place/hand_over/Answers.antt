@@ -1,5 +1,5 @@
 use Rattle.std.proofs.Common.{◌≡◌, ◌<◌, ◌≤◌, [], ◌∷◌, sym, subst, arith}
-use Rattle.grid_core.specs.Raster.{max_value, value_at}
+use Rattle.grid_core.specs.Raster.{max_level, value_at}
 use Rattle.grid_core.specs.Tiles.{tile_of}
 use Rattle.reset_core.specs.Telling.{ImageAndWork, hints_in, AreHandedOver}
 use Rattle.reset_core.proofs.TellingHands.{one_rises}
@@ -12,7 +12,7 @@ returns-then-get-hint c =
     let before : ImageAndWork = record { image = a.image.now; rows = a.work.now } in
     let here : tile_of tiles a.hint.to_pixel ≡ a.tile = c.requires.rect.0 (c.contains.ensures.0 c.if-contains.true) in
     let above : value_at a.image.now a.hint.to_pixel < a.hint.value = omega arith in
-    let top : a.hint.value ≤ max_value = omega arith in
+    let top : a.hint.value ≤ max_level = omega arith in
     let over =
     one_rises tiles a.hint a.tile before c.requires.tile.parts.on_tiling c.requires.tile.parts.filled c.requires.inside
     c.requires.tile.within here above top in

@@ -1,8 +1,0 @@
-use Rattle.std.proofs.Common.{◌≡◌, ℕ, ◌-◌, ◌<◌, ◌≤◌, get_or}
-use Rattle.derived_views.proofs.plateaus.subtract_from.Given as goal
-
--- the values so far are differences, and the others are as they were
-abbrev pub invariant-loop-i : goal.invariant-loop-i
-invariant-loop-i l =
-    ((k : ℕ) → k < l.i → get_or l.values k 0 ≡ get_or l.upper k 0 - get_or l.fn.values k 0)
-    × ((k : ℕ) → l.i ≤ k → get_or l.values k 0 ≡ get_or l.fn.values k 0)
