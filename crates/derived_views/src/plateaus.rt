@@ -3,7 +3,7 @@
 //! The image grows inside the image raised by 1. A plateau rises there exactly where some pixel beside it is higher, so
 //! the regional maxima are the pixels that do not rise. The greatest level is not raised: nothing beside it is higher.
 
-ghost use Rattle.std.specs.Prelude.{◌≡◌, ◌+◌, length, min, IfOk};
+ghost use Rattle.std.specs.Prelude.{◌≡◌, length, IfOk};
 ghost use Rattle.grid_core.specs.Path.{domain_of};
 ghost use Rattle.derived_views.specs.Plateaus.{IsRegionalMaxima};
 ghost use Rattle.derived_views.specs.Rasters.{mapped, raised, AreWhereEqual, IsWhereEqual};
