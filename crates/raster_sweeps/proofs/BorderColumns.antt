@@ -1,9 +1,7 @@
 -- What can rise beside the first or the last column of a rectangle, and what its pixels can raise.
-use Rattle.std.proofs.Common.{◌≡◌, ◌≢◌, ◌↔◌, ℕ, ◌+◌, ◌<◌, ◌≤◌, ◌⊎◌, true, false, List, [], ◌∷◌, ◌++◌}
+use Rattle.std.proofs.Common.{◌≡◌, ◌≢◌, ◌↔◌, ℕ, ◌+◌, ◌<◌, ◌≤◌, ◌⊎◌, true, false, List}
 use Rattle.std.proofs.Common.{length, get_or, min, refl, sym, ◌∙◌, ap, subst, inl, inr, arith}
-use Rattle.std.specs.List.{Contains}
 use Rattle.std.proofs.lemmas.Bool.{cases_lt, cases_eq}
-use Rattle.std.proofs.lemmas.List.Elements.{Contains-push, Contains-append_left, Contains-push_cases}
 use Rattle.grid_core.specs.declared.conn.Conn.{Conn}
 use Rattle.grid_core.specs.declared.pixel.Pixel.{Pixel}
 use Rattle.grid_core.specs.declared.rect.Rect.{Rect}
@@ -14,6 +12,7 @@ use Rattle.grid_core.proofs.Pixels.{same_pixel}
 use Rattle.raster_sweeps.specs.BorderColumns.{IsBorderColumn, IsLeastToRise}
 use Rattle.raster_sweeps.specs.declared.border.Column.{Column}
 use Rattle.raster_sweeps.specs.Growth.{IsOpenIn, cell_of}
+use Rattle.raster_sweeps.specs.Waiting.{AreOneMore}
 use Rattle.raster_sweeps.specs.RowPairs.{AreBeside, HaveJoined, IsOpenFrom}
 use Rattle.raster_sweeps.proofs.ImageRows.{value_in_row, rows_near, aside_in_row, neighbours_in_row, beside_in_rows}
 use Rattle.raster_sweeps.proofs.ImageRows.{neighbours_in_rows}
@@ -262,11 +261,11 @@ module _ (conn : Conn) (rect : Rect) (mask image : Raster) (x y : ℕ) (within :
     }
 
     -- the pixel's cell joins
-    pub cell_joins : min (min above along) below < level
-        → HaveJoined (IsOpenFrom conn rect mask image (IsAbove x (y + 1))) true old (now ++ cell ∷ [])
-    cell_joins less = record {
-      kept = λ i h. Contains-append_left now (cell ∷ []) i (joined.kept i h);
-      each = λ i h. elim (Contains-push_cases now cell i h) [
+    pub cell_joins : (next : List ℕ) → AreOneMore cell now next → min (min above along) below < level
+        → HaveJoined (IsOpenFrom conn rect mask image (IsAbove x (y + 1))) true old next
+    cell_joins next one less = record {
+      kept = λ i h. (one.each i).1 (inl (joined.kept i h));
+      each = λ i h. elim ((one.each i).0 h) [
         | inl was ↦ elim (joined.each i was) [
           | inl before ↦ inl before
           | inr such ↦ inr (above_next i such)
@@ -278,16 +277,16 @@ module _ (conn : Conn) (rect : Rect) (mask image : Raster) (x y : ℕ) (within :
               other = found.0;
               raises = found.1;
               from = (refl, omega arith);
-              place = place ∙ same;
+              place = place ∙ sym same;
             })
       ];
       every = λ room i begins. elim (last_or_above i begins) [
-        | inl before ↦ Contains-append_left now (cell ∷ []) i (joined.every refl i before)
+        | inl before ↦ (one.each i).1 (inl (joined.every refl i before))
         | inr last ↦
             let same : cell ≡ i =
             sym place ∙ ap (λ p. cell_of rect image.width p) (sym (same_pixel last.pixel here last.from.0 last.from.1))
             ∙ last.place in
-            subst (Contains (now ++ cell ∷ [])) same (Contains-push now cell)
+            (one.each i).1 (inr (sym same))
       ];
       full = inl refl;
     }

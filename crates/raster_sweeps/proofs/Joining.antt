@@ -1,11 +1,11 @@
 -- Cells that join the queue.
-use Rattle.std.proofs.Common.{◌≡◌, ℕ, ◌+◌, ◌-◌, ◌<◌, ◌≤◌, ◌⊎◌, Bool, true, false, List, [], ◌∷◌, ◌++◌, length, get_or}
+use Rattle.std.proofs.Common.{◌≡◌, ℕ, ◌+◌, ◌-◌, ◌<◌, ◌≤◌, ◌⊎◌, Bool, true, false, List, length, get_or}
 use Rattle.std.proofs.Common.{min, refl}
-use Rattle.std.proofs.Common.{subst, inl, inr, arith}
+use Rattle.std.proofs.Common.{subst, sym, inl, inr, arith}
 use Rattle.std.specs.List.{Contains, between}
 use Rattle.std.proofs.lemmas.Bool.{cases_lt}
-use Rattle.std.proofs.lemmas.List.Elements.{Contains-push, Contains-append_left, Contains-push_cases}
 use Rattle.raster_sweeps.specs.RowPairs.{RaisesStraight, HaveJoined, IsClosedStraight}
+use Rattle.raster_sweeps.specs.Waiting.{AreOneMore}
 use Rattle.raster_sweeps.proofs.RowPairs.{IsPart, part_between}
 
 -- ---- one after another
@@ -77,19 +77,18 @@ none_checked first from mask to old = record {
 module _ (first : ℕ) (from mask to old : List ℕ) (count : ℕ) (now : List ℕ)
     (checked : AreChecked first from mask to old count now) where
   -- the next column's cell joins
-  pub checked_joins : count < length to → get_or to count 0 < min (get_or from count 0) (get_or mask count 0)
-      → AreChecked first from mask to old (count + 1) (now ++ (first + count) ∷ [])
-  checked_joins within lower = record {
-    kept = λ i h. Contains-append_left now ((first + count) ∷ []) i (checked.kept i h);
-    each = λ i h. elim (Contains-push_cases now (first + count) i h) [
+  pub checked_joins : (next : List ℕ) → AreOneMore (first + count) now next
+      → count < length to → get_or to count 0 < min (get_or from count 0) (get_or mask count 0)
+      → AreChecked first from mask to old (count + 1) next
+  checked_joins next one within lower = record {
+    kept = λ i h. (one.each i).1 (inl (checked.kept i h));
+    each = λ i h. elim ((one.each i).0 h) [
       | inl was ↦ checked.each i was
-      | inr same ↦ inr (record { column = count; within = within; lower = lower; place = same })
+      | inr same ↦ inr (record { column = count; within = within; lower = lower; place = sym same })
     ];
     every = λ k less lower. elim (cases_lt k count) [
-      | inl before ↦ Contains-append_left now ((first + count) ∷ []) (first + k) (checked.every k before lower)
-      | inr last ↦
-          let same : count ≡ k = omega arith in
-          subst (λ j. Contains (now ++ (first + count) ∷ []) (first + j)) same (Contains-push now (first + count))
+      | inl before ↦ (one.each (first + k)).1 (inl (checked.every k before lower))
+      | inr last ↦ (one.each (first + k)).1 (inr (omega arith))
     ];
   }
 

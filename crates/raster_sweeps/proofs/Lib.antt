@@ -13,9 +13,11 @@ pub mod OpenRows
 pub mod Replacing
 pub mod RowRaises
 pub mod ClosedRows
+pub mod Crosses
 pub mod Strips
 pub mod RowGrowth
 pub mod Scanning
 pub mod Borders
 pub mod BorderPairs
 pub mod BorderColumns
+pub mod Bags

@@ -1,11 +1,12 @@
 -- Cells that are raised to one level, as far as the mask lets them, and the queue of those that rose.
-use Rattle.std.proofs.Common.{◌≡◌, ℕ, ◌+◌, ◌<◌, ◌≤◌, ◌⊎◌, List, [], ◌∷◌, ◌++◌, length, min, max, set, sym, ◌∙◌, subst}
-use Rattle.std.proofs.Common.{arith, inl, inr, refl, get_or}
-use Rattle.std.specs.List.{Contains}
+use Rattle.std.proofs.Common.{◌≡◌, ℕ, ◌+◌, ◌<◌, ◌≤◌, ◌⊎◌, List, length, min, max, set, sym, ◌∙◌, subst}
+use Rattle.std.proofs.Common.{arith, inl, inr, refl, get_or, Contains}
 use Rattle.std.proofs.lemmas.Bool.{cases_eq, cases_lt}
 use Rattle.std.proofs.lemmas.List.{length-set, get_or-set_same, get_or-set_other}
-use Rattle.std.proofs.lemmas.List.Elements.{Contains-append_left, Contains-push}
+use Rattle.grid_core.specs.Raster.{headroom, max_level}
+use Rattle.grid_core.proofs.Headroom.{headroom_set}
 use Rattle.raster_sweeps.specs.declared.neighbourhood.Span.{Span}
+use Rattle.raster_sweeps.specs.Waiting.{AreOneMore}
 use Rattle.raster_sweeps.specs.Spans.{AreQueued, AreSpread, InSpan, IsRaised}
 
 -- no cell is raised
@@ -109,11 +110,11 @@ queued_at at other mask level cells old new from queued = record {
 }
 
 -- a cell that is raised is queued
-pub queued_one : (mask : List ℕ) (level : ℕ) (cells waiting : List ℕ) (j : ℕ)
-    → AreQueued (λ k. k ≡ j) mask level cells waiting (waiting ++ j ∷ [])
-queued_one mask level cells waiting j = record {
-  kept = Contains-append_left waiting (j ∷ []);
-  added = λ k e lower. subst (λ i. Contains (waiting ++ j ∷ []) i) (sym e) (Contains-push waiting j);
+pub queued_one : (mask : List ℕ) (level : ℕ) (cells waiting new : List ℕ) (j : ℕ) → AreOneMore j waiting new
+    → AreQueued (λ k. k ≡ j) mask level cells waiting new
+queued_one mask level cells waiting new j one = record {
+  kept = λ i has. (one.each i).1 (inl has);
+  added = λ k e lower. (one.each k).1 (inr e);
 }
 
 -- a cell that is not raised need not be queued
@@ -187,9 +188,65 @@ spread_with at mask level before after old new Room Other from to spread = recor
   less = spread.less;
 }
 
+-- a cell that lies lower is raised, and queued if there is room
+pub spread_one : (mask : List ℕ) (level : ℕ) (cells : List ℕ) (j : ℕ) (old new : List ℕ) (Room : Type 0)
+    → level ≤ max_level → j < length cells → get_or cells j 0 < min level (get_or mask j 0)
+    → AreOneMore j old new ⊎ ((Room → ⊥) × (new ≡ old))
+    → AreSpread (λ k. k ≡ j) mask level cells (set cells j (min level (get_or mask j 0))) old new Room
+spread_one mask level cells j old new Room top within lower joined =
+    let v : ℕ = min level (get_or mask j 0) in
+    let less : headroom (set cells j v) < headroom cells = headroom_set cells j v within lower (omega (arith, top)) in
+    let one : Room → AreOneMore j old new =
+    λ room. elim joined [ inl one ↦ one | inr full ↦ absurd (full.0 room) ] in
+    record {
+      raised = raised_one mask level cells j within lower;
+      inside = λ i waits. elim joined [
+        | inl more ↦ (more.each i).0 waits
+        | inr full ↦ inl (subst (λ xs. Contains xs i) full.1 waits)
+      ];
+      queued = λ room. queued_one mask level cells old new j (one room);
+      count = λ room. omega (arith, (one room).count);
+      effort = λ room. omega (arith, (one room).count, less);
+      fell = inr less;
+      kept = omega (arith, less);
+      less = λ k here low. less;
+    }
+
+-- a cell that lies as high stays
+pub spread_stays : (mask : List ℕ) (level : ℕ) (cells : List ℕ) (j : ℕ) (waiting : List ℕ) (Room : Type 0) → Room
+    → min level (get_or mask j 0) ≤ get_or cells j 0
+    → AreSpread (λ k. k ≡ j) mask level cells cells waiting waiting Room
+spread_stays mask level cells j waiting Room all high = record {
+  raised = raised_not mask level cells j high;
+  inside = λ i waits. inl waits;
+  queued = λ room. queued_not mask level cells waiting j high;
+  count = λ room. omega arith;
+  effort = λ room. omega arith;
+  fell = inl all;
+  kept = omega arith;
+  less = λ k e low.
+      let same : get_or cells j 0 < min level (get_or mask j 0) =
+      subst (λ i. get_or cells i 0 < min level (get_or mask i 0)) e low in
+      absurd (omega (arith, same, high));
+}
+
+-- where there is no cell, all stays
+pub spread_none : (at : ℕ → Type 0) (mask : List ℕ) (level : ℕ) (cells waiting : List ℕ) (Room : Type 0) → Room
+    → ((k : ℕ) → at k → ⊥) → AreSpread at mask level cells cells waiting waiting Room
+spread_none at mask level cells waiting Room all none = record {
+  raised = raised_none at mask level cells none;
+  inside = λ i waits. inl waits;
+  queued = λ room. queued_none at mask level cells waiting none;
+  count = λ room. omega arith;
+  effort = λ room. omega arith;
+  fell = inl all;
+  kept = omega arith;
+  less = λ k here low. absurd (none k here);
+}
+
 -- the span up to the next cell has the cells of the span, and that cell
 abbrev pub span_to : ℕ → ℕ → Span
-span_to first end = record { first = first; end = end }
+span_to first end = record { first = first; end = end; strip = 0 }
 
 pub span_more : (first j k : ℕ) → first ≤ j → InSpan (span_to first j) k ⊎ (k ≡ j) → InSpan (span_to first (j + 1)) k
 span_more first j k from here =
@@ -225,12 +282,13 @@ module _ (mask : List ℕ) (level : ℕ) (before cells old waiting : List ℕ) (
 
   module _ (queued : AreQueued (InSpan (span_to first j)) mask level before old waiting) where
     -- the next cell of the span is raised and queued
-    pub next_queued : AreQueued (InSpan (span_to first (j + 1))) mask level before old (waiting ++ j ∷ [])
-    next_queued =
+    pub next_queued : (new : List ℕ) → AreOneMore j waiting new
+        → AreQueued (InSpan (span_to first (j + 1))) mask level before old new
+    next_queued new one =
         queued_at (λ k. InSpan (span_to first j) k ⊎ (k ≡ j)) (InSpan (span_to first (j + 1))) mask level before old
-        (waiting ++ j ∷ []) (span_less first j)
-        (queued_twice (InSpan (span_to first j)) (λ k. k ≡ j) mask level before cells old waiting (waiting ++ j ∷ [])
-        raised queued (queued_one mask level cells waiting j))
+        new (span_less first j)
+        (queued_twice (InSpan (span_to first j)) (λ k. k ≡ j) mask level before cells old waiting new
+        raised queued (queued_one mask level cells waiting new j one))
 
     -- the next cell of the span lies as high, and need not be queued
     pub next_not_queued : min level (get_or mask j 0) ≤ get_or cells j 0

@@ -1,11 +1,12 @@
 -- A pixel of a rectangle raises its neighbours there: the image grows, no pair that begins at the pixel is open, and
 -- each open pair waits as before.
 use Rattle.std.proofs.Common.{◌≡◌, ℕ, ◌<◌, ◌≤◌, ◌⊎◌, List, [], ◌∷◌, length, min, max, sym, ◌∙◌, ap}
-use Rattle.std.proofs.Common.{subst, arith, inl, inr, refl, Bool}
+use Rattle.std.proofs.Common.{subst, arith, inl, inr, refl, get_or, Bool}
 use Rattle.std.specs.Prelude.{IsTrue, slice_index}
 use Rattle.std.specs.List.{Contains}
 use Rattle.std.proofs.lemmas.Bool.{cases_lt}
-use Rattle.std.proofs.lemmas.List.Elements.{Contains-append_cases, Contains-push_cases}
+use Rattle.std.proofs.lemmas.List.Elements.{Contains-append_cases, Contains-append_left, Contains-append_right}
+use Rattle.std.proofs.lemmas.List.Elements.{Contains-push_cases}
 use Rattle.grid_core.specs.declared.conn.Conn.{Conn}
 use Rattle.grid_core.specs.declared.pixel.Pixel.{Pixel}
 use Rattle.grid_core.specs.declared.rect.Rect.{Rect}
@@ -16,10 +17,10 @@ use Rattle.grid_core.specs.Rects.{IsInRect, RectFits, domain_in, in_image, part}
 use Rattle.grid_core.proofs.Cells.{index_of-within, same_place}
 use Rattle.grid_core.proofs.Pixels.{AreNeighbours-sym, same_pixel, same_pixel_or_not}
 use Rattle.grid_core.proofs.Reach.{reaches_here, reaches_by_step}
-use Rattle.raster_sweeps.specs.declared.neighbourhood.Spans.{Spans}
-use Rattle.raster_sweeps.specs.Growth.{AllWait, AreInside, AreOpen, IsCellIn, IsGrown, IsOpenIn, cell_of}
-use Rattle.raster_sweeps.specs.Spans.{AreQueued, AreSpansOf, IsAround, IsRaised}
-use Rattle.raster_sweeps.proofs.Grown.{in_image-inside}
+use Rattle.raster_sweeps.specs.Growth.{AllWait, AreInside, AreOpen, CanGrow, CellHasSpread, IsCellIn, IsGrown}
+use Rattle.raster_sweeps.specs.Growth.{IsOpenIn, cell_of}
+use Rattle.raster_sweeps.specs.Spans.{AreAround, AreQueued, AreSpread, IsRaised}
+use Rattle.raster_sweeps.proofs.Grown.{fits_below, in_image-inside}
 use Rattle.raster_sweeps.proofs.Raised.{raised_rises}
 
 -- pixels of a rectangle that have one cell are one pixel
@@ -40,11 +41,12 @@ single x y found =
 in_image-in_rect : (rect : Rect) (p : Pixel) → IsInside rect.w rect.h p → IsInRect rect (in_image rect p)
 in_image-in_rect rect p inside = (omega arith, omega (arith, inside.0), omega arith, omega (arith, inside.1))
 
-module _ (conn : Conn) (rect : Rect) (mask before : Raster) (after : List ℕ) (p : Pixel) (spans : Spans) (level : ℕ)
+module _ (conn : Conn) (rect : Rect) (mask before : Raster) (after : List ℕ) (p : Pixel) (at : ℕ → Type 0)
+    (level : ℕ)
     (filled : IsFilled before) (below : IsBelow before mask) (fits : RectFits before.width before.height rect)
-    (inside : IsInside rect.w rect.h p) (around : AreSpansOf conn rect before.width p spans)
+    (inside : IsInside rect.w rect.h p) (around : AreAround conn rect before.width p at)
     (own : level ≡ value_at before (in_image rect p))
-    (raised : IsRaised (IsAround spans) mask.cells level before.cells after) where
+    (raised : IsRaised at mask.cells level before.cells after) where
   -- the values of the mask by the cells of the image
   mask_cell : (q : Pixel) → slice_index mask.cells (cell_of rect before.width q) ≡ value_at mask (in_image rect q)
   mask_cell q = ap (λ w. slice_index mask.cells (cell_of rect w q)) below.width
@@ -61,7 +63,7 @@ module _ (conn : Conn) (rect : Rect) (mask before : Raster) (after : List ℕ) (
       omega (arith, mask_cell q, below.values (cell_of rect before.width q) (cell_within q inside_q))
 
   -- a pixel around the pixel is the pixel, or its neighbour
-  is_near : (q : Pixel) → IsInside rect.w rect.h q → IsAround spans (cell_of rect before.width q)
+  is_near : (q : Pixel) → IsInside rect.w rect.h q → at (cell_of rect before.width q)
       → (q ≡ p) ⊎ AreNeighbours conn p q
   is_near q inside_q here =
       let found = around.each (cell_of rect before.width q) here in
@@ -75,7 +77,7 @@ module _ (conn : Conn) (rect : Rect) (mask before : Raster) (after : List ℕ) (
       ⊎ (AreNeighbours conn p q
       × (value_at before (in_image rect q) < min level (value_at mask (in_image rect q)))
       × (slice_index after (cell_of rect before.width q) ≡ min level (value_at mask (in_image rect q)))
-      × IsAround spans (cell_of rect before.width q))
+      × at (cell_of rect before.width q))
   stays_or_rises q inside_q =
       let k = cell_of rect before.width q in
       elim (raised.each k) [
@@ -171,7 +173,7 @@ module _ (conn : Conn) (rect : Rect) (mask before : Raster) (after : List ℕ) (
       absurd (omega (arith, own_stays, neighbour_has q wide.to_inside wide.beside, wide.lower))
 
   -- each open pair waits, where those waited that were open, and the pixels that rose wait
-  pub raised_waits : (old waiting : List ℕ) → AreQueued (IsAround spans) mask.cells level before.cells old waiting
+  pub raised_waits : (old waiting : List ℕ) → AreQueued at mask.cells level before.cells old waiting
       → AllWait conn rect mask before (cell_of rect before.width p ∷ old)
       → AllWait conn rect mask (record { width = before.width; height = before.height; cells = after }) waiting
   raised_waits old waiting queued waited r s wide =
@@ -195,7 +197,7 @@ module _ (conn : Conn) (rect : Rect) (mask before : Raster) (after : List ℕ) (
                       arith,
                       wide.lower,
                       stays,
-                      raised_rises (IsAround spans) mask.cells level before.cells after raised
+                      raised_rises at mask.cells level before.cells after raised
                           (cell_of rect before.width s),
                     );
               } in
@@ -211,7 +213,7 @@ module _ (conn : Conn) (rect : Rect) (mask before : Raster) (after : List ℕ) (
 
   -- what waits lies inside
   pub raised_inside : (old waiting : List ℕ)
-      → ((i : ℕ) → Contains waiting i → Contains old i ⊎ IsAround spans i)
+      → ((i : ℕ) → Contains waiting i → Contains old i ⊎ at i)
       → AreInside rect before.width old → AreInside rect before.width waiting
   raised_inside old waiting from inside_old i waits =
       elim (from i waits) [
@@ -221,7 +223,7 @@ module _ (conn : Conn) (rect : Rect) (mask before : Raster) (after : List ℕ) (
 
   -- where the pixel had an open pair, a cell around it can rise
   pub open_rises : AreOpen conn rect mask before (cell_of rect before.width p ∷ [])
-      → (k : ℕ) × IsAround spans k × (slice_index before.cells k < min level (slice_index mask.cells k))
+      → (k : ℕ) × at k × (slice_index before.cells k < min level (slice_index mask.cells k))
   open_rises wide =
       let found = wide (cell_of rect before.width p) (0, omega arith, refl) in
       let same : found.0 ≡ p =
@@ -242,39 +244,89 @@ pub record HasSpread (conn : Conn) (rect : Rect) (mask before after : Raster) (c
   pub waits : IsTrue room → AllWait conn rect mask before (cell ∷ old) → AllWait conn rect mask after waiting
   pub rose : AreOpen conn rect mask before (cell ∷ []) → headroom after.cells < headroom before.cells
 
-pub cell_spreads : (conn : Conn) (rect : Rect) (mask before : Raster) (cell level : ℕ) (spans : Spans) (after : List ℕ)
-    (old waiting : List ℕ) (room : Bool)
+pub cell_spreads : (conn : Conn) (rect : Rect) (mask before : Raster) (cell level : ℕ) (at : ℕ → Type 0)
+    (after : List ℕ) (old waiting : List ℕ) (room : Bool)
     → IsFilled before → IsBelow before mask → RectFits before.width before.height rect
     → IsCellIn rect before.width cell
     → ((p : Pixel) → IsInside rect.w rect.h p → cell_of rect before.width p ≡ cell
-    → AreSpansOf conn rect before.width p spans)
+    → AreAround conn rect before.width p at)
     → level ≡ slice_index before.cells cell
-    → IsRaised (IsAround spans) mask.cells level before.cells after
+    → IsRaised at mask.cells level before.cells after
     → AreInside rect before.width old
-    → ((i : ℕ) → Contains waiting i → Contains old i ⊎ IsAround spans i)
-    → (IsTrue room → AreQueued (IsAround spans) mask.cells level before.cells old waiting)
-    → ((k : ℕ) → IsAround spans k → slice_index before.cells k < min level (slice_index mask.cells k)
+    → ((i : ℕ) → Contains waiting i → Contains old i ⊎ at i)
+    → (IsTrue room → AreQueued at mask.cells level before.cells old waiting)
+    → ((k : ℕ) → at k → slice_index before.cells k < min level (slice_index mask.cells k)
     → headroom after < headroom before.cells)
     → HasSpread conn rect mask before (record { width = before.width; height = before.height; cells = after }) cell old
     waiting room
-cell_spreads conn rect mask before cell level spans after old waiting room filled below fits found around own raised
+cell_spreads conn rect mask before cell level at after old waiting room filled below fits found around own raised
     inside_old from queued less =
     let p = found.0 in
-    let spans_p = around p found.1 found.2 in
+    let around_p = around p found.1 found.2 in
     let own_p : level ≡ value_at before (in_image rect p) = own ∙ ap (λ i. slice_index before.cells i) (sym found.2) in
     record {
       grown =
-          raised_grown conn rect mask before after p spans level filled below fits found.1 spans_p own_p raised;
+          raised_grown conn rect mask before after p at level filled below fits found.1 around_p own_p raised;
       inside =
-          raised_inside conn rect mask before after p spans level filled below fits found.1 spans_p own_p raised old
+          raised_inside conn rect mask before after p at level filled below fits found.1 around_p own_p raised old
           waiting from inside_old;
       waits = λ all waited.
-          raised_waits conn rect mask before after p spans level filled below fits found.1 spans_p own_p raised old
+          raised_waits conn rect mask before after p at level filled below fits found.1 around_p own_p raised old
           waiting (queued all)
           (subst (λ i. AllWait conn rect mask before (i ∷ old)) (sym found.2) waited);
       rose = λ wide.
           let risen =
-          open_rises conn rect mask before after p spans level filled below fits found.1 spans_p own_p raised
+          open_rises conn rect mask before after p at level filled below fits found.1 around_p own_p raised
           (subst (λ i. AreOpen conn rect mask before (i ∷ [])) (sym found.2) wide) in
           less risen.0 risen.1 risen.2;
+    }
+
+-- a cell of the rectangle is one of the image
+pub cell_in_image : (rect : Rect) (mask image : Raster) (cell : ℕ) → CanGrow rect mask image → IsFilled image
+    → IsCellIn rect image.width cell → cell < length image.cells
+cell_in_image rect mask image cell grow filled found =
+    subst (λ k. k < length image.cells) found.2
+    (index_of-within image (in_image rect found.0) filled
+    (in_image-inside image.width image.height rect found.0 (fits_below rect mask image grow.below grow.fits) found.1))
+
+-- the cells around a pixel of the rectangle are cells of the image
+pub around_in_image : (conn : Conn) (rect : Rect) (mask image : Raster) (p : Pixel) (at : ℕ → Type 0) (k : ℕ)
+    → CanGrow rect mask image → IsFilled image → AreAround conn rect image.width p at → at k → k < length image.cells
+around_in_image conn rect mask image p at k grow filled around here =
+    let near = around.each k here in cell_in_image rect mask image k grow filled (near.0, near.1, near.2)
+
+-- where the cells around a cell were raised to its value, and those that rose were queued, the cell has spread
+pub cell_has_spread : (conn : Conn) (rect : Rect) (mask before : Raster) (cell : ℕ) (at : ℕ → Type 0)
+    (limits cells after old waiting : List ℕ) (room : Bool)
+    → CanGrow rect mask before → IsFilled before → AreInside rect before.width (cell ∷ old)
+    → ((p : Pixel) → IsInside rect.w rect.h p → cell_of rect before.width p ≡ cell
+    → AreAround conn rect before.width p at)
+    → limits ≡ mask.cells → cells ≡ before.cells
+    → AreSpread at limits (get_or cells cell 0) cells after old waiting (IsTrue room)
+    → CellHasSpread conn rect mask before (record { width = before.width; height = before.height; cells = after }) cell
+    old waiting room
+cell_has_spread conn rect mask before cell at limits cells after old waiting room grow filled inside around same_mask
+    same_cells spread =
+    let level : ℕ = get_or before.cells cell 0 in
+    let done : AreSpread at mask.cells level before.cells after old waiting (IsTrue room) =
+    subst (λ xs. AreSpread at mask.cells (get_or xs cell 0) xs after old waiting (IsTrue room)) same_cells
+    (subst (λ ms. AreSpread at ms (get_or cells cell 0) cells after old waiting (IsTrue room)) same_mask spread) in
+    let held : HasSpread conn rect mask before (record {
+      width = before.width;
+      height = before.height;
+      cells = after;
+    }) cell old waiting room =
+    cell_spreads conn rect mask before cell level at after old waiting room filled grow.below
+    (fits_below rect mask before grow.below grow.fits)
+    (inside cell (Contains-append_left (cell ∷ []) old cell (0, omega arith, refl)))
+    around refl done.raised (λ i waits. inside i (Contains-append_right (cell ∷ []) old i waits)) done.inside
+    done.queued done.less in
+    record {
+      grown = held.grown;
+      inside = held.inside;
+      waits = held.waits;
+      count = done.count;
+      effort = done.effort;
+      fell = done.fell;
+      rose = held.rose;
     }

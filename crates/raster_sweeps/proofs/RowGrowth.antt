@@ -16,9 +16,10 @@ use Rattle.grid_core.specs.Raster.{Raster, IsInside, IsBelow, IsFilled, value_at
 use Rattle.grid_core.specs.Rects.{RectFits, domain_in, in_image, part, IsRowOf}
 use Rattle.grid_core.proofs.Cells.{below_at_each_pixel}
 use Rattle.grid_core.proofs.Reach.{reaches_here, reaches_by_step, reaches_lower, reaches_within_mask}
-use Rattle.raster_sweeps.specs.RowPairs.{AreBeside}
+use Rattle.raster_sweeps.specs.RowPairs.{AreBeside, IsClosedTo, IsFromTo, NoneOpen, NoneOpenToLeft}
 use Rattle.raster_sweeps.specs.RowRaises.{IsRaisedBy, IsRaisedFromLeft, IsRaisedFromRight, AreCellsRaised, IsRowGrown}
-use Rattle.raster_sweeps.proofs.ImageRows.{neighbours_in_row, neighbours_in_rows}
+use Rattle.raster_sweeps.proofs.ImageRows.{neighbours_in_row, neighbours_in_rows, aside_in_row, beside_in_rows}
+use Rattle.raster_sweeps.proofs.ImageRows.{value_in_row}
 use Rattle.raster_sweeps.proofs.Grown.{in_image-inside}
 use Rattle.raster_sweeps.proofs.Replacing.{IsReplaced, replaced_mid}
 use Rattle.raster_sweeps.proofs.RowRaises.{rises_from_left, rises_from_right}
@@ -298,6 +299,46 @@ module _ (conn : Conn) (rect : Rect) (mask before : Raster) (y start : ℕ) (fil
         (reached_from_right (domain_in rect conn) (part rect (value_at mask)) (part rect (value_at before)) below_in y
         inside_y limits (between start (start + rect.w) before.cells) row of_mask row_of raised)
 
+    -- and closes to its left
+    pub none_open_to_left : (n : ℕ) (row : List ℕ) → n ≡ rect.w
+        → IsRaisedFromRight limits (between start (start + rect.w) before.cells) row
+        → NoneOpenToLeft conn rect mask (refilled before (put_mid start n before.cells row)) y
+    none_open_to_left n row same raised p q raises rows left =
+        let after : Raster = refilled before (put_mid start n before.cells row) in
+        let long : length row ≡ rect.w = omega (arith, raised.long, row_of.long) in
+        let replaced : IsReplaced start row before.cells after.cells =
+        replaced_mid start n row before.cells (omega arith) (omega (arith, row_within)) in
+        let value : (r : Pixel) → IsInside rect.w rect.h r → r.y ≡ y
+        → part rect (value_at after) r ≡ get_or row r.x 0 =
+        value_in conn rect mask before after y start row filled below fits inside_y refl refl begins long replaced in
+        let next : q.x + 1 ≡ p.x =
+        omega (arith, aside_in_row conn p q raises.beside (omega (arith, rows.0, rows.1)), left) in
+        let higher : get_or row p.x 0 ≡ get_or row (q.x + 1) 0 = ap (λ x. get_or row x 0) (sym next) in
+        omega (
+          arith,
+          raises.lower,
+          raised.raised q.x (omega (arith, raises.from_inside.0, row_of.long, next)),
+          higher,
+          value p raises.from_inside rows.0,
+          value q raises.to_inside rows.1,
+          value_in_row rect.w (part rect (value_at mask)) y limits q of_mask raises.to_inside.0 rows.1,
+        )
+
+    -- the row of new cells
+    row_replaced : (source : ℕ) (cells : List ℕ) → AreCellsRaised conn limits source start before.cells cells
+        → IsReplaced start (between start (start + length limits) cells) before.cells cells
+    row_replaced source cells raised =
+        let n = length limits in
+        let within : start + n ≤ length cells = omega (arith, row_within, raised.long, of_mask.long) in
+        let long = length-between cells start (start + n) within in
+        record {
+          fits = omega (arith, raised.long, long, within);
+          long = raised.long;
+          inside = λ k less. sym (get_or-between cells start (start + n) k 0 (omega (arith, long)));
+          ahead = raised.ahead;
+          behind = λ i past. raised.behind i (omega (arith, past, long));
+        }
+
     pub grown_by : (z source : ℕ) (cells : List ℕ) → z < rect.h → apart y z ≡ 1
         → source ≡ (rect.y + z) * before.width + rect.x
         → IsRowOf rect.w (part rect (value_at before)) z (between source (source + rect.w) before.cells)
@@ -306,24 +347,48 @@ module _ (conn : Conn) (rect : Rect) (mask before : Raster) (y start : ℕ) (fil
     grown_by z source cells inside_z next source_begins of_source raised =
         let n = length limits in
         let size : n ≡ rect.w = of_mask.long in
-        let within : start + n ≤ length cells = omega (arith, row_within, raised.long) in
         let row = between start (start + n) cells in
-        let long : length row ≡ n = omega (arith, length-between cells start (start + n) within) in
-        let replaced : IsReplaced start row before.cells cells = record {
-          fits = omega (arith, raised.long);
-          long = raised.long;
-          inside = λ k less. sym (get_or-between cells start (start + n) k 0 (omega arith));
-          ahead = raised.ahead;
-          behind = λ i past. raised.behind i (omega arith);
-        } in
         let by : IsRaisedBy (AreBeside conn) limits (between source (source + rect.w) before.cells)
         (between start (start + rect.w) before.cells) row =
         subst
         (λ m. IsRaisedBy (AreBeside conn) limits (between source (source + m) before.cells)
         (between start (start + m) before.cells) row) size raised.row in
         row_grown conn rect mask before (refilled before cells) y start row filled below fits inside_y refl refl begins
-        (omega arith) replaced
+        (omega (arith, by.long, row_of.long)) (row_replaced source cells raised)
         (λ x less. omega (arith, by.rises x (omega (arith, row_of.long)), row_of.values x less))
         (reached_by (domain_in rect conn) (part rect (value_at mask)) (part rect (value_at before)) below_in y inside_y
         limits (between start (start + rect.w) before.cells) row of_mask row_of z
         (between source (source + rect.w) before.cells) inside_z next of_source by)
+
+    -- and closes to that row
+    pub none_open_by : (z source : ℕ) (cells : List ℕ) → z < rect.h → apart y z ≡ 1
+        → IsRowOf rect.w (part rect (value_at before)) z (between source (source + rect.w) before.cells)
+        → AreCellsRaised conn limits source start before.cells cells
+        → IsRowGrown conn rect mask y before (refilled before cells)
+        → NoneOpen conn rect mask (refilled before cells) (IsFromTo z y)
+    none_open_by z source cells inside_z next of_source raised grown p q raises rows =
+        let n = length limits in
+        let size : n ≡ rect.w = of_mask.long in
+        let row = between start (start + n) cells in
+        let replaced = row_replaced source cells raised in
+        let long : length row ≡ rect.w = omega (
+          arith,
+          raised.row.long,
+          length-between before.cells start (start + n)
+              (omega (arith, row_within, size)),
+        ) in
+        let closed : IsClosedTo (AreBeside conn) (between source (source + rect.w) before.cells) limits row =
+        subst (λ m. IsClosedTo (AreBeside conn) (between source (source + m) before.cells) limits row) size
+        raised.closed in
+        let beside : AreBeside conn p.x q.x = beside_in_rows conn p q raises.beside (omega (arith, rows.0, rows.1)) in
+        omega (
+          arith,
+          raises.lower,
+          closed p.x q.x (omega (arith, raises.from_inside.0, long)) (omega (arith, raises.to_inside.0, long)) beside,
+          grown.others p raises.from_inside (λ same. omega (arith, rows.0)),
+          value_in_row rect.w (part rect (value_at before)) z (between source (source + rect.w) before.cells) p
+              of_source raises.from_inside.0 rows.0,
+          value_in conn rect mask before (refilled before cells) y start row filled below fits inside_y refl refl
+              begins long replaced q raises.to_inside rows.1,
+          value_in_row rect.w (part rect (value_at mask)) y limits q of_mask raises.to_inside.0 rows.1,
+        )

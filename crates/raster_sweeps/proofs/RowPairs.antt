@@ -1,6 +1,6 @@
 -- Pairs of pixels in one row or in two rows that touch.
 use Rattle.std.proofs.Common.{◌≡◌, ℕ, ◌+◌, ◌-◌, ◌<◌, ◌≤◌, ◌↔◌, Bool, true, false, List, length, get_or, take, min, refl}
-use Rattle.std.proofs.Common.{sym, ap, subst, ◌∙◌, zero-add}
+use Rattle.std.proofs.Common.{sym, ap, ◌∙◌, zero-add}
 use Rattle.std.proofs.Common.{inl, inr, below_more, arith}
 use Rattle.std.specs.Prelude.{◌||◌, not}
 use Rattle.std.specs.List.{between}
@@ -28,70 +28,36 @@ two_down false false e = (refl, refl)
 two_down false true e = absurd (let no : true ≡ false = e in cc)
 two_down true b e = absurd (let no : true ≡ false = e in cc)
 
-pub four_down : (a b c d : Bool) → ((a || b) || c) || d ≡ false
-    → (a ≡ false) × (b ≡ false) × (c ≡ false) × (d ≡ false)
-four_down a b c d e =
-    let last = two_down ((a || b) || c) d e in
-    let third = two_down (a || b) c last.0 in
-    let first = two_down a b third.0 in
-    (first.0, first.1, third.1, last.1)
+pub three_down : (a b c : Bool) → (a || b) || c ≡ false → (a ≡ false) × (b ≡ false) × (c ≡ false)
+three_down a b c e =
+    let last = two_down (a || b) c e in
+    let first = two_down a b last.0 in
+    (first.0, first.1, last.1)
 
 pub not_down : (a : Bool) → not a ≡ true → a ≡ false
 not_down false e = refl
 not_down true e = absurd (let no : false ≡ true = e in cc)
 
--- in the columns up to i no pixel raises the one to its right or left in the first row, and none the one below or
--- above it
+-- in the columns up to i no pixel of the first row raises the one to its right or the one below it
 pub record AreClosedUpTo (row limits below limits_below : List ℕ) (i : ℕ) : Type 0 where
   pub right : (k : ℕ) → k < i → min (get_or row k 0) (get_or limits (k + 1) 0) ≤ get_or row (k + 1) 0
-  pub left : (k : ℕ) → k < i → min (get_or row (k + 1) 0) (get_or limits k 0) ≤ get_or row k 0
   pub down : (k : ℕ) → k < i → min (get_or row k 0) (get_or limits_below k 0) ≤ get_or below k 0
-  pub up : (k : ℕ) → k < i → min (get_or below k 0) (get_or limits k 0) ≤ get_or row k 0
 
 pub none_closed : (row limits below limits_below : List ℕ) → AreClosedUpTo row limits below limits_below 0
 none_closed row limits below limits_below = record {
   right = λ k less. omega (arith, less);
-  left = λ k less. omega (arith, less);
   down = λ k less. omega (arith, less);
-  up = λ k less. omega (arith, less);
 }
 
-module _ (row limits below limits_below : List ℕ) (i : ℕ) where
-  pub closed_more : AreClosedUpTo row limits below limits_below i
-      → min (get_or row i 0) (get_or limits (i + 1) 0) ≤ get_or row (i + 1) 0
-      → min (get_or row (i + 1) 0) (get_or limits i 0) ≤ get_or row i 0
-      → min (get_or row i 0) (get_or limits_below i 0) ≤ get_or below i 0
-      → min (get_or below i 0) (get_or limits i 0) ≤ get_or row i 0
-      → AreClosedUpTo row limits below limits_below (i + 1)
-  closed_more closed right left down up = record {
-    right =
-        below_more (λ k. min (get_or row k 0) (get_or limits (k + 1) 0) ≤ get_or row (k + 1) 0) i closed.right right;
-    left = below_more (λ k. min (get_or row (k + 1) 0) (get_or limits k 0) ≤ get_or row k 0) i closed.left left;
-    down = below_more (λ k. min (get_or row k 0) (get_or limits_below k 0) ≤ get_or below k 0) i closed.down down;
-    up = below_more (λ k. min (get_or below k 0) (get_or limits k 0) ≤ get_or row k 0) i closed.up up;
-  }
-
-  -- the first row, as the check of both directions says it
-  pub closed_along : ((k : ℕ) → k < i → min (get_or row k 0) (get_or limits (k + 1) 0) ≤ get_or row (k + 1) 0)
-      → ((k : ℕ) → k < i → min (get_or row (k + 1) 0) (get_or limits k 0) ≤ get_or row k 0) → length row ≡ i + 1
-      → IsClosedTo AreAside row limits row
-  closed_along right left long a b within other aside =
-      elim (cases_lt a b) [
-        | inl less ↦ let next : a + 1 ≡ b = omega (arith, aside, less) in
-            subst (λ n. min (get_or row a 0) (get_or limits n 0) ≤ get_or row n 0) next
-            (right a (omega (arith, other, long, less)))
-        | inr more ↦ let next : b + 1 ≡ a = omega (arith, aside, more) in
-            subst (λ n. min (get_or row n 0) (get_or limits b 0) ≤ get_or row b 0) next
-            (left b (omega (arith, within, long, aside, more)))
-      ]
-
-  -- a check of one direction that the last column closes
-  pub closed_straight : (from mask to : List ℕ)
-      → ((k : ℕ) → k < i → min (get_or from k 0) (get_or mask k 0) ≤ get_or to k 0)
-      → min (get_or from i 0) (get_or mask i 0) ≤ get_or to i 0 → length to ≡ i + 1
-      → IsClosedStraight from mask to
-  closed_straight from mask to before last long k less =
-      below_more (λ n. min (get_or from n 0) (get_or mask n 0) ≤ get_or to n 0) i before last k (omega (arith, long))
+pub closed_more : (row limits below limits_below : List ℕ) (i : ℕ) → AreClosedUpTo row limits below limits_below i
+    → min (get_or row i 0) (get_or limits (i + 1) 0) ≤ get_or row (i + 1) 0
+    → min (get_or row i 0) (get_or limits_below i 0) ≤ get_or below i 0
+    → AreClosedUpTo row limits below limits_below (i + 1)
+closed_more row limits below limits_below i closed right down = record {
+  right =
+      below_more (λ k. min (get_or row k 0) (get_or limits (k + 1) 0) ≤ get_or row (k + 1) 0) i closed.right right;
+  down = below_more (λ k. min (get_or row k 0) (get_or limits_below k 0) ≤ get_or below k 0) i closed.down down;
+}
 
 -- the list stands in the other, from a place on
 pub record IsPart (part whole : List ℕ) (start size : ℕ) : Type 0 where
@@ -128,6 +94,20 @@ straight_parts from mask to f m t i j n part_f part_m part_t = (
       omega (arith, closed k within, part_f.reads k within, part_m.reads k within, part_t.reads k within),
 )
 
+-- the second column is the next to the right
+abbrev pub IsLeftOf : ℕ → ℕ → Type 0
+IsLeftOf a b = a + 1 ≡ b
+
+-- columns that are next to one another, from the left and from the right
+pub closed_aside : (from mask to : List ℕ)
+    → ((k : ℕ) → k < length to - 1 → min (get_or from (0 + k) 0) (get_or mask (1 + k) 0) ≤ get_or to (1 + k) 0)
+    → ((k : ℕ) → k < length to - 1 → min (get_or from (1 + k) 0) (get_or mask (0 + k) 0) ≤ get_or to (0 + k) 0)
+    → IsClosedTo AreAside from mask to
+closed_aside from mask to right left a b less_a less_b aside = elim (cases_lt a b) [
+  | inl less ↦ let next : b ≡ 1 + a = omega arith in rw next (simp zero-add at (right a (omega arith)))
+  | inr more ↦ let next : a ≡ 1 + b = omega arith in rw next (simp zero-add at (left b (omega arith)))
+]
+
 module _ (from mask to : List ℕ) (some : 0 < length to) (same_from : length from ≡ length to)
     (same_mask : length mask ≡ length to) where
   -- no pixel raises the one in the next column to the right
@@ -158,10 +138,7 @@ module _ (from mask to : List ℕ) (some : 0 < length to) (same_from : length fr
 
   -- both are what the columns that are next to one another say
   pub closed_aslant : IsClosedRight → IsClosedLeft → IsClosedTo AreAside from mask to
-  closed_aslant right left a b less_a less_b aside = elim (cases_lt a b) [
-    | inl less ↦ let next : b ≡ 1 + a = omega arith in rw next (simp zero-add at (rights.0 right a (omega arith)))
-    | inr more ↦ let next : a ≡ 1 + b = omega arith in rw next (simp zero-add at (lefts.0 left b (omega arith)))
-  ]
+  closed_aslant right left = closed_aside from mask to (rights.0 right) (lefts.0 left)
 
   pub aslant_right : IsClosedTo AreAside from mask to → IsClosedRight
   aslant_right closed =

@@ -6,7 +6,7 @@ use Rattle.std.proofs.lemmas.Bool.{cases_lt, cases_eq}
 use Rattle.grid_core.specs.declared.conn.Conn.{Conn}
 use Rattle.grid_core.specs.declared.conn.Conn.TheVariants.{Four, Eight}
 use Rattle.raster_sweeps.specs.RowPairs.{AreAside, AreBeside, RaisesStraight, RaisesTo, HaveJoined}
-use Rattle.raster_sweeps.proofs.RowPairs.{part_front, part_between}
+use Rattle.raster_sweeps.proofs.RowPairs.{IsLeftOf, part_front, part_between}
 use Rattle.raster_sweeps.proofs.Joining.{RaisesAlong, raises_along, raises_in_part, joined_same, joined_both}
 use Rattle.raster_sweeps.proofs.Joining.{joined_stopped}
 
@@ -129,44 +129,56 @@ module _ (first : ℕ) (from mask to : List ℕ) (some : 0 < length to) (same_fr
         place = omega (arith, along.place);
       }
 
-  pub aside_cases : RaisesTo AreAside first from mask to cell → RaisesRight ⊎ RaisesLeft
-  aside_cases raises =
+  pub left_raises_right : RaisesTo IsLeftOf first from mask to cell → RaisesRight
+  left_raises_right raises =
       let n = length to - 1 in
       let a = raises.column in
+      let here : a ≡ 0 + a = omega arith in
+      let next : raises.other ≡ 1 + a = omega (arith, raises.beside) in
+      let along : RaisesAlong first from mask to 0 1 n cell = record {
+        step = a;
+        within = omega (arith, raises.other_within, next);
+        lower =
+            subst (λ i. get_or to (1 + a) 0 < min (get_or from i 0) (get_or mask (1 + a) 0)) here
+            (subst (λ i. get_or to i 0 < min (get_or from a 0) (get_or mask i 0)) next raises.lower);
+        place = raises.place;
+      } in
+      raises_in_part first from mask to (take n from) (between 1 (length mask) mask) (between 1 (length to) to) 0 1 n
+      (part_front from n (omega arith)) (part_between mask 1 (length mask) n (omega arith) (omega arith))
+      (part_between to 1 (length to) n (omega arith) (omega arith)) cell along
+
+  aside_left : (raises : RaisesTo AreAside first from mask to cell) → raises.other < raises.column → RaisesLeft
+  aside_left raises less =
+      let n = length to - 1 in
       let b = raises.other in
-      elim (cases_lt a b) [
-        | inl less ↦
-            let here : a ≡ 0 + a = omega arith in
-            let next : b ≡ 1 + a = omega (arith, raises.beside) in
-            let less_a : a < n = omega (arith, raises.other_within) in
-            let along : RaisesAlong first from mask to 0 1 n cell = record {
-              step = a;
-              within = less_a;
-              lower =
-                  subst (λ i. get_or to (1 + a) 0 < min (get_or from i 0) (get_or mask (1 + a) 0)) here
-                  (subst (λ i. get_or to i 0 < min (get_or from a 0) (get_or mask i 0)) next raises.lower);
-              place = raises.place;
-            } in
-            inl (raises_in_part first from mask to (take n from) (between 1 (length mask) mask)
-            (between 1 (length to) to) 0 1 n (part_front from n (omega arith))
-            (part_between mask 1 (length mask) n (omega arith) (omega arith))
-            (part_between to 1 (length to) n (omega arith) (omega arith)) cell along)
-        | inr more ↦
-            let here : b ≡ 0 + b = omega arith in
-            let next : a ≡ 1 + b = omega (arith, raises.beside) in
-            let less_b : b < n = omega (arith, raises.within) in
-            let along : RaisesAlong (first + 1) from mask to 1 0 n cell = record {
-              step = b;
-              within = less_b;
-              lower =
-                  subst (λ i. get_or to i 0 < min (get_or from (1 + b) 0) (get_or mask i 0)) here
-                  (subst (λ i. get_or to b 0 < min (get_or from i 0) (get_or mask b 0)) next raises.lower);
-              place = omega (arith, raises.place);
-            } in
-            inr (raises_in_part (first + 1) from mask to (between 1 (length from) from) (take n mask) (take n to) 1 0 n
-            (part_between from 1 (length from) n (omega arith) (omega arith)) (part_front mask n (omega arith))
-            (part_front to n (omega arith)) cell along)
-      ]
+      let here : b ≡ 0 + b = omega arith in
+      let next : raises.column ≡ 1 + b = omega (arith, raises.beside) in
+      let along : RaisesAlong (first + 1) from mask to 1 0 n cell = record {
+        step = b;
+        within = omega (arith, raises.within);
+        lower =
+            subst (λ i. get_or to i 0 < min (get_or from (1 + b) 0) (get_or mask i 0)) here
+            (subst (λ i. get_or to b 0 < min (get_or from i 0) (get_or mask b 0)) next raises.lower);
+        place = omega (arith, raises.place);
+      } in
+      raises_in_part (first + 1) from mask to (between 1 (length from) from) (take n mask) (take n to) 1 0 n
+      (part_between from 1 (length from) n (omega arith) (omega arith)) (part_front mask n (omega arith))
+      (part_front to n (omega arith)) cell along
+
+  pub aside_cases : RaisesTo AreAside first from mask to cell → RaisesRight ⊎ RaisesLeft
+  aside_cases raises = elim (cases_lt raises.column raises.other) [
+    | inl less ↦
+        inl (left_raises_right (record {
+          column = raises.column;
+          other = raises.other;
+          within = raises.within;
+          other_within = raises.other_within;
+          beside = omega (arith, raises.beside);
+          lower = raises.lower;
+          place = raises.place;
+        }))
+    | inr more ↦ inr (aside_left raises (omega (arith, raises.beside)))
+  ]
 
 -- ---- what joined the queue
 

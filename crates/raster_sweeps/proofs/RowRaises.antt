@@ -1,36 +1,39 @@
 -- Rows that are raised, by another row or along themselves.
-use Rattle.std.proofs.Common.{◌≡◌, ℕ, zero, suc, ◌+◌, ◌-◌, ◌<◌, ◌≤◌, List, length, get_or, min, max, refl}
+use Rattle.std.proofs.Common.{◌≡◌, ℕ, zero, suc, ◌+◌, ◌-◌, ◌<◌, ◌≤◌, List, length, get_or, min, max}
 use Rattle.std.proofs.Common.{subst}
 use Rattle.std.proofs.Common.{inl, inr, arith}
 use Rattle.std.specs.List.{between}
 use Rattle.std.proofs.lemmas.Bool.{cases_lt}
 use Rattle.grid_core.specs.declared.conn.Conn.{Conn}
-use Rattle.grid_core.specs.declared.conn.Conn.TheVariants.{Four, Eight}
-use Rattle.raster_sweeps.specs.RowPairs.{AreAside, AreBeside}
+use Rattle.raster_sweeps.specs.RowPairs.{AreBeside, IsClosedTo}
 use Rattle.raster_sweeps.specs.RowRaises.{IsRaisedStraight, IsRaisedBy, IsRaisedFromLeft, IsRaisedFromRight}
 use Rattle.raster_sweeps.specs.RowRaises.{AreCellsRaised}
 use Rattle.raster_sweeps.proofs.RowPairs.{IsPart}
 use Rattle.raster_sweeps.proofs.Replacing.{IsReplaced, replaced_read}
 
 -- a part of a row is raised by a part of another
+pub part_value : (mask by xs ys m b part new : List ℕ) (i j n : ℕ) → IsPart m mask i n → IsPart b by j n
+    → IsPart part xs i n → IsRaisedStraight m b part new → IsReplaced i new xs ys
+    → (s : ℕ) → s < n
+    → get_or ys (i + s) 0 ≡ max (get_or xs (i + s) 0) (min (get_or by (j + s) 0) (get_or mask (i + s) 0))
+part_value mask by xs ys m b part new i j n part_m part_b part_x raised replaced s less =
+    omega (
+      arith,
+      replaced.inside s (omega (arith, raised.long, part_x.long)),
+      raised.raised s (omega (arith, part_x.long)),
+      part_x.reads s less,
+      part_b.reads s less,
+      part_m.reads s less,
+    )
+
+-- and so is then the whole row
 pub part_raised : (AreThese : ℕ → ℕ → Type 0) (mask by xs ys m b part new : List ℕ) (i j n : ℕ)
     → ((s : ℕ) → s < n → AreThese (i + s) (j + s)) → length by ≡ length xs → j + n ≤ length by → IsPart m mask i n
     → IsPart b by j n → IsPart part xs i n → IsRaisedStraight m b part new → IsReplaced i new xs ys
     → IsRaisedBy AreThese mask by xs ys
 part_raised AreThese mask by xs ys m b part new i j n these same_by within part_m part_b part_x raised replaced =
     let long : length new ≡ n = omega (arith, raised.long, part_x.long) in
-    let here : (s : ℕ) → s < n
-    → get_or ys (i + s) 0 ≡ max (get_or xs (i + s) 0) (min (get_or by (j + s) 0) (get_or mask (i + s) 0)) =
-    λ s less.
-    omega (
-      arith,
-      replaced.inside s (omega arith),
-      raised.raised s (omega (arith, part_x.long)),
-      part_x.reads s less,
-      part_b.reads s less,
-      part_m.reads s less,
-    )
-    in
+    let here = part_value mask by xs ys m b part new i j n part_m part_b part_x raised replaced in
     record {
       long = replaced.long;
       rises = λ k less. elim (cases_lt k i) [
@@ -83,50 +86,14 @@ raised_twice AreThese mask by xs ys zs first second = record {
   ];
 }
 
--- a row that is raised by columns of one kind is raised by columns of a wider kind
-raised_wider : (AreThese AreThose : ℕ → ℕ → Type 0) (mask by xs ys : List ℕ)
-    → ((a b : ℕ) → AreThese a b → AreThose a b) → IsRaisedBy AreThese mask by xs ys
-    → IsRaisedBy AreThose mask by xs ys
-raised_wider AreThese AreThose mask by xs ys wider raised = record {
-  long = raised.long;
-  rises = raised.rises;
-  raised = λ k less. elim (raised.raised k less) [
-    | inl same ↦ inl same
-    | inr rose ↦ inr (rose.0, rose.1, wider k rose.0 rose.2, rose.3)
-  ];
-}
-
--- a row that is raised column by column
-raised_equal : (mask by xs ys : List ℕ) → IsRaisedStraight mask by xs ys → IsRaisedBy (λ a b. a ≡ b) mask by xs ys
-raised_equal mask by xs ys raised = record {
-  long = raised.long;
-  rises = λ k less. omega (arith, raised.raised k less);
-  raised = λ k less. elim (cases_lt (get_or xs k 0) (min (get_or by k 0) (get_or mask k 0))) [
-    | inr kept ↦ inl (omega (arith, raised.raised k less))
-    | inl rose ↦ inr (k, less, refl, omega (arith, raised.raised k less))
-  ];
-}
-
-pub straight_raised : (conn : Conn) (mask by xs ys : List ℕ) → IsRaisedStraight mask by xs ys
-    → IsRaisedBy (AreBeside conn) mask by xs ys
-straight_raised Four mask by xs ys raised = raised_equal mask by xs ys raised
-straight_raised Eight mask by xs ys raised =
-    raised_wider (λ a b. a ≡ b) (AreBeside Eight) mask by xs ys (λ a b same. omega arith)
-    (raised_equal mask by xs ys raised)
-
-pub aslant_raised : (mask by xs ys zs : List ℕ) → IsRaisedStraight mask by xs ys → IsRaisedBy AreAside mask by ys zs
-    → IsRaisedBy (AreBeside Eight) mask by xs zs
-aslant_raised mask by xs ys zs straight aslant =
-    raised_twice (AreBeside Eight) mask by xs ys zs (straight_raised Eight mask by xs ys straight)
-    (raised_wider AreAside (AreBeside Eight) mask by ys zs (λ a b aside. omega (arith, aside)) aslant)
-
 -- a row of a list of cells is raised by another
 pub cells_raised : (conn : Conn) (mask row before after : List ℕ) (source target : ℕ) → length row ≡ length mask
     → IsReplaced target row before after
     → IsRaisedBy (AreBeside conn) mask (between source (source + length mask) before)
     (between target (target + length mask) before) row
+    → IsClosedTo (AreBeside conn) (between source (source + length mask) before) mask row
     → AreCellsRaised conn mask source target before after
-cells_raised conn mask row before after source target same replaced raised =
+cells_raised conn mask row before after source target same replaced raised closed =
     let n = length mask in
     let read : row ≡ between target (target + n) after =
     replaced_read target (target + n) row before after (omega arith) replaced in
@@ -135,6 +102,8 @@ cells_raised conn mask row before after source target same replaced raised =
       row =
           subst (λ new. IsRaisedBy (AreBeside conn) mask (between source (source + n) before)
           (between target (target + n) before) new) read raised;
+      closed =
+          subst (IsClosedTo (AreBeside conn) (between source (source + n) before) mask) read closed;
       ahead = replaced.ahead;
       behind = λ i past. replaced.behind i (omega arith);
     }

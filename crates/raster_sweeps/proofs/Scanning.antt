@@ -7,7 +7,8 @@ use Rattle.grid_core.specs.declared.conn.Conn.{Conn}
 use Rattle.grid_core.specs.declared.rect.Rect.{Rect}
 use Rattle.grid_core.specs.Raster.{Raster}
 use Rattle.raster_sweeps.specs.Growth.{IsOpenIn, WaitFrom, AllWait, AreInside, cell_of}
-use Rattle.raster_sweeps.specs.RowPairs.{IsOpenCell, HaveJoined, IsUpper}
+use Rattle.raster_sweeps.specs.RowPairs.{IsOpenCell, HaveJoined, IsFromTo, IsScannedUp, IsUpper, NoneOpen}
+use Rattle.raster_sweeps.specs.RowPairs.{NoneOpenToLeft}
 use Rattle.raster_sweeps.specs.RowRaises.{IsRowGrown}
 use Rattle.raster_sweeps.proofs.Grown.{grown_twice}
 
@@ -18,6 +19,38 @@ pub row_grown_twice : (conn : Conn) (rect : Rect) (mask : Raster) (y : ℕ) (bef
 row_grown_twice conn rect mask y before between after first second = record {
   grown = grown_twice conn rect mask before between after first.grown second.grown;
   others = λ p inside other. second.others p inside other ∙ first.others p inside other;
+}
+
+-- a row that was raised by the row below and then along itself from the right
+pub scanned_up : (conn : Conn) (rect : Rect) (mask : Raster) (y : ℕ) (before after : Raster)
+    → NoneOpen conn rect mask before (IsFromTo (y + 1) y) → IsRowGrown conn rect mask y before after
+    → NoneOpenToLeft conn rect mask after y
+    → IsScannedUp conn rect mask after y
+scanned_up conn rect mask y before after none_up grown none_left = record {
+  left = none_left;
+  up = λ p q raises rows.
+      none_up p q
+      (record {
+        from_inside = raises.from_inside;
+        to_inside = raises.to_inside;
+        beside = raises.beside;
+        lower =
+            omega (
+              arith,
+              raises.lower,
+              grown.others p raises.from_inside (λ same. omega (arith, rows.0)),
+              (grown.grown.lawful q raises.to_inside).0,
+            );
+      }) rows;
+}
+
+-- the last row has none below
+pub last_scanned_up : (conn : Conn) (rect : Rect) (mask image : Raster) (y : ℕ) → rect.h ≤ y + 1
+    → NoneOpenToLeft conn rect mask image y
+    → IsScannedUp conn rect mask image y
+last_scanned_up conn rect mask image y last none_left = record {
+  left = none_left;
+  up = λ p q raises rows. absurd (omega (arith, last, raises.from_inside.1, rows.0));
 }
 
 -- what has joined a queue of cells of the rectangle is inside too

@@ -12,7 +12,7 @@ use Rattle.grid_core.specs.Raster.{IsInside}
 use Rattle.grid_core.proofs.Pixels.{same_pixel}
 use Rattle.raster_sweeps.specs.declared.neighbourhood.Span.{Span}
 use Rattle.raster_sweeps.specs.Growth.{cell_of}
-use Rattle.raster_sweeps.specs.Spans.{AreSpansOf, InSpan}
+use Rattle.raster_sweeps.specs.Spans.{AreAround, InSpan, IsAround}
 
 -- the span holds the neighbours of the pixel in some rows, and nothing else but the pixel itself
 pub record IsSpanOf (conn : Conn) (rect : Rect) (width : ℕ) (p : Pixel) (rows : ℕ → Type 0) (span : Span) : Type 0 where
@@ -45,7 +45,7 @@ near_rows Eight p q near =
 pub spans_of : (conn : Conn) (rect : Rect) (width : ℕ) (p : Pixel) (above beside below : Span)
     → IsSpanOf conn rect width p (λ y. y + 1 ≡ p.y) above → IsSpanOf conn rect width p (λ y. y ≡ p.y) beside
     → IsSpanOf conn rect width p (λ y. y ≡ p.y + 1) below
-    → AreSpansOf conn rect width p (record { above = above; beside = beside; below = below })
+    → AreAround conn rect width p (IsAround (record { above = above; beside = beside; below = below }))
 spans_of conn rect width p above beside below up own down = record {
   each = λ k around. elim around [
     | inl here ↦ up.each k here

@@ -14,3 +14,4 @@ pub mod RowPairs
 pub mod RowRaises
 pub mod Spans
 pub mod Starting
+pub mod Waiting

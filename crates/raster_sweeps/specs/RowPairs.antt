@@ -99,11 +99,25 @@ IsClosedTo IsBeside from mask to =
     (a b : ℕ) → a < length to → b < length to → IsBeside a b
     → min (slice_index from a) (slice_index mask b) ≤ slice_index to b
 
--- no pixel of a row raises one beside it or the one below it, and none of the row below the one above it
-pub record AreClosedCrosswise (row limits below limits_below : List ℕ) : Type 0 where
-  pub along : IsClosedTo AreAside row limits row
+-- no pixel of a row raises the one to its right or the one below it
+pub record AreClosedOnward (row limits below limits_below : List ℕ) : Type 0 where
+  pub right : (k : ℕ) → k + 1 < length row
+      → min (slice_index row k) (slice_index limits (k + 1)) ≤ slice_index row (k + 1)
   pub down : IsClosedStraight row limits_below below
-  pub up : IsClosedStraight below limits row
+
+-- of the pairs of the rectangle whose two rows, counted from its top, are such none is open
+abbrev pub NoneOpen : Conn → Rect → Raster → Raster → (ℕ → ℕ → Type 0) → Type 0
+NoneOpen conn rect mask image AreRows = (p q : Pixel) → IsOpenIn conn rect mask image p q → AreRows p.y q.y → ⊥
+
+-- no pixel of the row raises the one to its left
+abbrev pub NoneOpenToLeft : Conn → Rect → Raster → Raster → ℕ → Type 0
+NoneOpenToLeft conn rect mask image y =
+    (p q : Pixel) → IsOpenIn conn rect mask image p q → IsFromTo y y p.y q.y → q.x < p.x → ⊥
+
+-- the row was raised by the one below it and then from the right, so that it is closed from there
+pub record IsScannedUp (conn : Conn) (rect : Rect) (mask image : Raster) (y : ℕ) : Type 0 where
+  pub left : NoneOpenToLeft conn rect mask image y
+  pub up : NoneOpen conn rect mask image (IsFromTo (y + 1) y)
 
 -- no pixel raises a neighbour, of the pairs whose upper pixel, or both, lie in this row
 abbrev pub IsRowClosed : Domain → (Pixel → ℕ) → (Pixel → ℕ) → ℕ → Type 0

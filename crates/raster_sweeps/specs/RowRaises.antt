@@ -6,7 +6,7 @@ use Rattle.grid_core.specs.declared.rect.Rect.{Rect}
 use Rattle.grid_core.specs.Raster.{Raster, IsInside, value_at}
 use Rattle.grid_core.specs.Rects.{part}
 use Rattle.raster_sweeps.specs.Growth.{IsGrown}
-use Rattle.raster_sweeps.specs.RowPairs.{AreBeside}
+use Rattle.raster_sweeps.specs.RowPairs.{AreBeside, IsClosedTo}
 
 -- each value is raised by the one in the same column of another row, as far as the mask lets it
 pub record IsRaisedStraight (mask by before after : List ℕ) : Type 0 where
@@ -44,12 +44,14 @@ pub record AreApart (size source target cells : ℕ) : Type 0 where
   pub target_within : target + size ≤ cells
   pub apart : (source + size ≤ target) ⊎ (target + size ≤ source)
 
--- of a list of cells, as many from `target` on as the mask has are raised by as many from `source` on, and the others
--- stay
+-- of a list of cells, as many from `target` on as the mask has are raised by as many from `source` on, so that none of
+-- these can raise them further, and the others stay
 pub record AreCellsRaised (conn : Conn) (mask : List ℕ) (source target : ℕ) (before after : List ℕ) : Type 0 where
   pub long : length after ≡ length before
   pub row : IsRaisedBy (AreBeside conn) mask (slice_range before source (source + length mask))
       (slice_range before target (target + length mask)) (slice_range after target (target + length mask))
+  pub closed : IsClosedTo (AreBeside conn) (slice_range before source (source + length mask)) mask
+      (slice_range after target (target + length mask))
   pub ahead : (i : ℕ) → i < target → slice_index after i ≡ slice_index before i
   pub behind : (i : ℕ) → target + length mask ≤ i → slice_index after i ≡ slice_index before i
 

@@ -1,12 +1,14 @@
--- The cells around a cell, row by row, and what raising them by it does. Only private functions have these words in
--- their contracts.
-use Rattle.std.specs.Prelude.{◌≡◌, ℕ, ◌+◌, ◌<◌, ◌≤◌, ◌⊎◌, List, length, min, max, slice_index}
+-- The cells around a cell, and what raising them by it does. Only private functions have these words in their
+-- contracts.
+use Rattle.std.specs.Prelude.{◌≡◌, ℕ, ◌+◌, ◌<◌, ◌≤◌, ◌⊎◌, List, Option, None, Some, length, min, max, slice_index}
 use Rattle.std.specs.List.{Contains}
 use Rattle.grid_core.specs.declared.conn.Conn.{Conn}
 use Rattle.grid_core.specs.declared.pixel.Pixel.{Pixel}
 use Rattle.grid_core.specs.declared.rect.Rect.{Rect}
 use Rattle.grid_core.specs.Neighbours.{AreNeighbours}
 use Rattle.grid_core.specs.Raster.{IsInside, headroom}
+use Rattle.raster_sweeps.specs.declared.neighbourhood.Cross.{Cross}
+use Rattle.raster_sweeps.specs.declared.neighbourhood.Place.{Place}
 use Rattle.raster_sweeps.specs.declared.neighbourhood.Span.{Span}
 use Rattle.raster_sweeps.specs.declared.neighbourhood.Spans.{Spans}
 use Rattle.raster_sweeps.specs.Growth.{cell_of}
@@ -19,11 +21,20 @@ InSpan span k = (span.first ≤ k) × (k < span.end)
 abbrev pub IsAround : Spans → ℕ → Type 0
 IsAround spans k = InSpan spans.above k ⊎ (InSpan spans.beside k ⊎ InSpan spans.below k)
 
--- the three spans hold the neighbours of the pixel in the rectangle, and nothing else but the pixel itself
-pub record AreSpansOf (conn : Conn) (rect : Rect) (width : ℕ) (p : Pixel) (spans : Spans) : Type 0 where
-  pub each : (k : ℕ) → IsAround spans k
+-- it is the cell of the place that there is
+abbrev pub IsCell : Option Place → ℕ → Type 0
+IsCell None k = ⊥
+IsCell (Some place) k = k ≡ place.cell
+
+-- the cell is one of the four of the cross
+abbrev pub IsOnCross : Cross → ℕ → Type 0
+IsOnCross cross k = (IsCell cross.above k ⊎ IsCell cross.left k) ⊎ (IsCell cross.right k ⊎ IsCell cross.below k)
+
+-- the cells at these places are those of the neighbours of the pixel in the rectangle, and no others but its own
+pub record AreAround (conn : Conn) (rect : Rect) (width : ℕ) (p : Pixel) (at : ℕ → Type 0) : Type 0 where
+  pub each : (k : ℕ) → at k
       → (q : Pixel) × IsInside rect.w rect.h q × (cell_of rect width q ≡ k) × ((q ≡ p) ⊎ AreNeighbours conn p q)
-  pub every : (q : Pixel) → IsInside rect.w rect.h q → AreNeighbours conn p q → IsAround spans (cell_of rect width q)
+  pub every : (q : Pixel) → IsInside rect.w rect.h q → AreNeighbours conn p q → at (cell_of rect width q)
 
 -- the cells at these places are raised to the level, as far as the mask lets them, and the others stay
 pub record IsRaised (at : ℕ → Type 0) (mask : List ℕ) (level : ℕ) (before after : List ℕ) : Type 0 where

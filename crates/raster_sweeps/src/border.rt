@@ -12,7 +12,7 @@ ghost use Rattle.raster_sweeps.specs.RowPairs.{AreBeside, HaveJoined, IsOpenCell
 ghost use Rattle.raster_sweeps.specs.RowPairs.{CanGrowRow, IsFromDown};
 
 use crate::open_pairs::{first_cell, queue_between, queue_within};
-use crate::waiting::Waiting;
+use crate::waiting::{Waiting, strip_of};
 use grid_core::{Conn, Grid, MAX_LEVEL, Rect};
 
 /// A column of a rectangle, its first or its last, and the one beside it, or the same where it has no other. Both are
@@ -168,7 +168,7 @@ fn queue_from_column(
         let below = least_in_row(mask, image, rect, column, conn, y + 1);
         let level = value_in(image, rect, column.x, y);
         let least = above.min(here.along).min(below.across);
-        if least < level && !waiting.push(first_cell(image, rect, y) + column.x) {
+        if least < level && !waiting.push(strip_of(y), first_cell(image, rect, y) + column.x) {
             return false;
         }
         above = here.across;

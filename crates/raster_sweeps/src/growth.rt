@@ -13,7 +13,7 @@ use crate::border::queue_border;
 use crate::open_pairs::queue_open_pairs;
 use crate::raising::{drain, spread};
 use crate::scans::{scan_down, scan_up};
-use crate::waiting::Waiting;
+use crate::waiting::{STRIP_ROWS, Waiting};
 use grid_core::{Conn, Grid, Memory, Rect};
 use std::alloc::Global;
 
@@ -40,7 +40,7 @@ impl Room {
     ///
     /// Errors: out of memory.
     pub fn new(alloc: Global, pixels: u32) -> Result<Room, Memory> {
-        let waiting = Waiting::new(alloc, (pixels as usize / 64).max(1024))?;
+        let waiting = Waiting::new(alloc, 1, (pixels as usize / 64).max(1024))?;
         Ok(Room { waiting })
     }
 }
@@ -100,9 +100,11 @@ pub fn grow_in_place(alloc: Global, mask: &Grid, image: &mut Grid, conn: Conn) -
 {
     let w = image.width();
     let h = image.height();
-    let mut room = Room::new(alloc, w * h)?;
+    let strips = h.div_ceil(STRIP_ROWS) as usize;
+    let room = (w as usize * STRIP_ROWS as usize / 8).max(1024);
+    let mut waiting = Waiting::new(alloc, strips, room)?;
     let whole = Rect { x: 0, y: 0, w, h };
-    close(mask, image, whole, conn, &mut room.waiting, Start::Scans);
+    close(mask, image, whole, conn, &mut waiting, Start::Scans);
     Ok(())
 }
 

@@ -1,17 +1,36 @@
-//! The cells around a cell, row by row.
+//! The cells around a cell.
 
 ghost use Rattle.std.specs.Prelude.{◌≡◌, ◌+◌, ◌*◌, ◌≤◌, ◌<◌};
+ghost use Rattle.grid_core.specs.declared.conn.Conn.TheVariants as conns;
 ghost use Rattle.grid_core.specs.Raster.{IsInside, max_pixels};
 ghost use Rattle.raster_sweeps.specs.Growth.{IsCellIn, cell_of};
-ghost use Rattle.raster_sweeps.specs.Spans.{AreSpansOf, IsAround};
+ghost use Rattle.raster_sweeps.specs.Spans.{AreAround, IsAround, IsOnCross};
 
-use grid_core::{Conn, Rect};
+use crate::waiting::strip_of;
+use grid_core::Rect;
 
-/// The cells from `first` to before `end`.
+/// A cell, and the strip of its row.
+#[derive(Clone, Copy)]
+pub struct Place {
+    pub cell: u32,
+    pub strip: usize,
+}
+
+/// The four neighbours of a cell, as far as there are.
+#[derive(Clone, Copy)]
+pub struct Cross {
+    pub above: Option<Place>,
+    pub left: Option<Place>,
+    pub right: Option<Place>,
+    pub below: Option<Place>,
+}
+
+/// The cells from `first` to before `end`, all in one row, and the strip of that row.
 #[derive(Clone, Copy)]
 pub struct Span {
     pub first: u32,
     pub end: u32,
+    pub strip: usize,
 }
 
 /// The neighbours of a cell in the row above, those beside it and itself, and those in the row below.
@@ -22,42 +41,103 @@ pub struct Spans {
     pub below: Span,
 }
 
-/// The cells around a cell of the rectangle, in an image of this width.
+/// The four neighbours of a cell of the rectangle, in an image of this width.
 #[inline(always)]
-pub fn spans_around(width: u32, rect: Rect, conn: Conn, cell: u32) -> Spans
+pub fn cross_around(width: u32, rect: Rect, cell: u32) -> Cross
     requires inside { IsCellIn rect width cell }
     requires columns { rect.x + rect.w ≤ width }
     requires rows { width * (rect.y + rect.h) ≤ max_pixels }
-    ensures { (p : _) → IsInside rect.w rect.h p → cell_of rect width p ≡ cell → AreSpansOf conn rect width p result }
+    ensures { (p : _) → IsInside rect.w rect.h p → cell_of rect width p ≡ cell
+        → AreAround conns.Four rect width p (IsOnCross result) }
+{
+    let x = cell % width;
+    let y = cell / width;
+    let strip = strip_of(y - rect.y);
+    let above = if y > rect.y {
+        Some(Place {
+            cell: cell - width,
+            strip: strip_of(y - 1 - rect.y),
+        })
+    } else {
+        None
+    };
+    let left = if x > rect.x {
+        Some(Place {
+            cell: cell - 1,
+            strip,
+        })
+    } else {
+        None
+    };
+    let right = if x + 1 < rect.x + rect.w {
+        Some(Place {
+            cell: cell + 1,
+            strip,
+        })
+    } else {
+        None
+    };
+    let below = if y + 1 < rect.y + rect.h {
+        Some(Place {
+            cell: cell + width,
+            strip: strip_of(y + 1 - rect.y),
+        })
+    } else {
+        None
+    };
+    Cross {
+        above,
+        left,
+        right,
+        below,
+    }
+}
+
+/// The eight neighbours of a cell of the rectangle and the cell itself, in an image of this width.
+#[inline(always)]
+pub fn spans_around(width: u32, rect: Rect, cell: u32) -> Spans
+    requires inside { IsCellIn rect width cell }
+    requires columns { rect.x + rect.w ≤ width }
+    requires rows { width * (rect.y + rect.h) ≤ max_pixels }
+    ensures { (p : _) → IsInside rect.w rect.h p → cell_of rect width p ≡ cell
+        → AreAround conns.Eight rect width p (IsAround result) }
 {
     let x = cell % width;
     let y = cell / width;
     let row = cell - x;
-    let first = x.max(rect.x + 1) - 1;
-    let end = (x + 2).min(rect.x + rect.w);
-    let (left, right) = match conn {
-        Conn::Four => (x, x + 1),
-        Conn::Eight => (first, end),
-    };
+    let left = x.max(rect.x + 1) - 1;
+    let right = (x + 2).min(rect.x + rect.w);
     let above = if y > rect.y {
         Span {
             first: row - width + left,
             end: row - width + right,
+            strip: strip_of(y - 1 - rect.y),
         }
     } else {
-        Span { first: 0, end: 0 }
+        Span {
+            first: 0,
+            end: 0,
+            strip: 0,
+        }
     };
     let below = if y + 1 < rect.y + rect.h {
         Span {
             first: row + width + left,
             end: row + width + right,
+            strip: strip_of(y + 1 - rect.y),
         }
     } else {
-        Span { first: 0, end: 0 }
+        Span {
+            first: 0,
+            end: 0,
+            strip: 0,
+        }
     };
+    let strip = strip_of(y - rect.y);
     let beside = Span {
-        first: row + first,
-        end: row + end,
+        first: row + left,
+        end: row + right,
+        strip,
     };
     Spans {
         above,

@@ -9,10 +9,10 @@ ghost use Rattle.grid_core.specs.Rects.{RectFits};
 ghost use Rattle.raster_sweeps.specs.Growth.{AllWait, AreOpen, cell_of, CanGrow};
 ghost use Rattle.raster_sweeps.specs.RowPairs.{AreAside, AreBeside, RaisesStraight, RaisesTo, IsOpenCell, HaveJoined};
 ghost use Rattle.raster_sweeps.specs.RowPairs.{AreFullRowsAt, AreJoined, AreRowsAt, CanGrowAcross, CanGrowRow};
-ghost use Rattle.raster_sweeps.specs.RowPairs.{IsFirstOfRow, IsFromTo, IsUpper};
+ghost use Rattle.raster_sweeps.specs.RowPairs.{IsFirstOfRow, IsFromTo, IsScannedUp, IsUpper, NoneOpenToLeft};
 
-use crate::rows::{are_closed_crosswise, is_closed_straight};
-use crate::waiting::Waiting;
+use crate::rows::{are_closed_onward, is_closed_straight};
+use crate::waiting::{Waiting, strip_of};
 use grid_core::{Conn, Grid, Rect};
 
 // How many columns are checked at once.
@@ -53,9 +53,6 @@ pub fn queue_row(
     requires { CanGrowRow rect mask.now image.now y }
     ensures { HaveJoined (IsOpenCell conn rect mask.now image.now (IsUpper y)) result waiting.old waiting.new }
 {
-    if is_row_seen_closed(mask, image, rect, y, conn) {
-        return true;
-    }
     if !queue_within(mask, image, rect, y, waiting) {
         return false;
     }
@@ -66,23 +63,53 @@ pub fn queue_row(
         && queue_between(mask, image, rect, y + 1, y, conn, waiting)
 }
 
-// Whether it is seen at once that no pixel of the rectangle's row `y` raises a neighbour in it or below it, and none of
-// the row below one in it. With eight neighbours, and in the last row, it is not.
+/// Puts the first pixels of the open pairs whose upper pixel, or both, lie in the rectangle's row `y`, which the
+/// anti-raster scan has just raised, into the queue: these pairs lead to the right or into the row below.
+///
+/// It answers whether there was room for all of them.
+pub fn queue_onward(
+    mask: &Grid,
+    image: &Grid,
+    rect: Rect,
+    y: u32,
+    conn: Conn,
+    waiting: &mut Waiting,
+) -> bool
+    requires grow { CanGrowRow rect mask.now image.now y }
+    requires scanned { IsScannedUp conn rect mask.now image.now y }
+    ensures { HaveJoined (IsOpenCell conn rect mask.now image.now (IsUpper y)) result waiting.old waiting.new }
+{
+    if is_row_seen_closed(mask, image, rect, y, conn) {
+        return true;
+    }
+    if !queue_to_right(mask, image, rect, y, waiting) {
+        return false;
+    }
+    if y + 1 == rect.h {
+        return true;
+    }
+    queue_between(mask, image, rect, y, y + 1, conn, waiting)
+}
+
+// Whether it is seen at once that no pixel of the rectangle's row `y` raises the one to its right or one below it. With
+// eight neighbours, and in the last row, it is not.
 fn is_row_seen_closed(mask: &Grid, image: &Grid, rect: Rect, y: u32, conn: Conn) -> bool
     requires { CanGrowRow rect mask.now image.now y }
-    ensures { IsTrue result → (cell : ℕ) → IsOpenCell conn rect mask.now image.now (IsUpper y) cell → ⊥ }
+    ensures { IsTrue result → IsScannedUp conn rect mask.now image.now y
+        → (cell : ℕ) → IsOpenCell conn rect mask.now image.now (IsUpper y) cell → ⊥ }
 {
     match conn {
-        Conn::Four => is_row_seen_closed_crosswise(mask, image, rect, y),
+        Conn::Four => is_row_seen_closed_onward(mask, image, rect, y),
         Conn::Eight => false,
     }
 }
 
-// Whether no pixel of the rectangle's row `y` raises one beside or below it, and none of the row below the one above
-// it. Of the last row it answers that it is not so.
-fn is_row_seen_closed_crosswise(mask: &Grid, image: &Grid, rect: Rect, y: u32) -> bool
+// Whether no pixel of the rectangle's row `y` raises the one to its right or the one below it. Of the last row it
+// answers that it is not so.
+fn is_row_seen_closed_onward(mask: &Grid, image: &Grid, rect: Rect, y: u32) -> bool
     requires { CanGrowRow rect mask.now image.now y }
-    ensures { IsTrue result → (cell : ℕ) → IsOpenCell conns.Four rect mask.now image.now (IsUpper y) cell → ⊥ }
+    ensures { IsTrue result → IsScannedUp conns.Four rect mask.now image.now y
+        → (cell : ℕ) → IsOpenCell conns.Four rect mask.now image.now (IsUpper y) cell → ⊥ }
 {
     if y + 1 == rect.h {
         return false;
@@ -91,7 +118,7 @@ fn is_row_seen_closed_crosswise(mask: &Grid, image: &Grid, rect: Rect, y: u32) -
     let limits = mask.row_in(rect, y);
     let below = image.row_in(rect, y + 1);
     let limits_below = mask.row_in(rect, y + 1);
-    are_closed_crosswise(row, limits, below, limits_below)
+    are_closed_onward(row, limits, below, limits_below)
 }
 
 /// Puts the first pixels of the open pairs within a row into the queue. It answers whether there was room for all of
@@ -104,7 +131,28 @@ pub fn queue_within(mask: &Grid, image: &Grid, rect: Rect, y: u32, waiting: &mut
     let first = first_cell(image, rect, y);
     let row = image.row_in(rect, y);
     let limits = mask.row_in(rect, y);
-    queue_aslant(row, limits, row, first, waiting)
+    queue_aslant(row, limits, row, first, strip_of(y), waiting)
+}
+
+// Puts the cells of a row that raise the one to their right into the queue. It answers whether there was room for all
+// of them.
+fn queue_to_right(mask: &Grid, image: &Grid, rect: Rect, y: u32, waiting: &mut Waiting) -> bool
+    requires { CanGrowRow rect mask.now image.now y }
+    ensures { (conn : _) → NoneOpenToLeft conn rect mask.now image.now y
+        → HaveJoined (IsOpenCell conn rect mask.now image.now (IsFromTo y y)) result waiting.old waiting.new }
+{
+    let first = first_cell(image, rect, y);
+    let row = image.row_in(rect, y);
+    let limits = mask.row_in(rect, y);
+    let last = row.len() - 1;
+    queue_straight(
+        &row[..last],
+        &limits[1..],
+        &row[1..],
+        first,
+        strip_of(y),
+        waiting,
+    )
 }
 
 /// Puts the first pixels of the open pairs from a row to another, which touches it, into the queue. It answers whether
@@ -125,7 +173,15 @@ pub fn queue_between(
     let raising = image.row_in(rect, from);
     let limits = mask.row_in(rect, to);
     let raised = image.row_in(rect, to);
-    queue_to(raising, limits, raised, first, conn, waiting)
+    queue_to(
+        raising,
+        limits,
+        raised,
+        first,
+        strip_of(from),
+        conn,
+        waiting,
+    )
 }
 
 // Puts the cells of the row `from`, which begin at `first`, that raise a neighbour in the row `to`, which touches it,
@@ -135,35 +191,57 @@ fn queue_to(
     mask: &[u16],
     to: &[u16],
     first: u32,
+    strip: usize,
     conn: Conn,
     waiting: &mut Waiting,
 ) -> bool
     requires { AreFullRowsAt first from.now mask.now to.now }
     ensures { HaveJoined (RaisesTo (AreBeside conn) first from.now mask.now to.now) result waiting.old waiting.new }
 {
-    if !queue_straight(from, mask, to, first, waiting) {
+    if !queue_straight(from, mask, to, first, strip, waiting) {
         return false;
     }
     match conn {
         Conn::Four => true,
-        Conn::Eight => queue_aslant(from, mask, to, first, waiting),
+        Conn::Eight => queue_aslant(from, mask, to, first, strip, waiting),
     }
 }
 
 // Puts the cells of the row `from`, which begin at `first`, that raise one in the next column of the row `to`, to the
 // right or the left, into the queue. It answers whether there was room for all of them.
-fn queue_aslant(from: &[u16], mask: &[u16], to: &[u16], first: u32, waiting: &mut Waiting) -> bool
+fn queue_aslant(
+    from: &[u16],
+    mask: &[u16],
+    to: &[u16],
+    first: u32,
+    strip: usize,
+    waiting: &mut Waiting,
+) -> bool
     requires { AreFullRowsAt first from.now mask.now to.now }
     ensures { HaveJoined (RaisesTo AreAside first from.now mask.now to.now) result waiting.old waiting.new }
 {
     let last = to.len() - 1;
-    queue_straight(&from[..last], &mask[1..], &to[1..], first, waiting)
-        && queue_straight(&from[1..], &mask[..last], &to[..last], first + 1, waiting)
+    queue_straight(&from[..last], &mask[1..], &to[1..], first, strip, waiting)
+        && queue_straight(
+            &from[1..],
+            &mask[..last],
+            &to[..last],
+            first + 1,
+            strip,
+            waiting,
+        )
 }
 
 // Puts the cells of the row `from`, which begin at `first`, that raise the one in the same column of the row `to` into
 // the queue. It answers whether there was room for all of them.
-fn queue_straight(from: &[u16], mask: &[u16], to: &[u16], first: u32, waiting: &mut Waiting) -> bool
+fn queue_straight(
+    from: &[u16],
+    mask: &[u16],
+    to: &[u16],
+    first: u32,
+    strip: usize,
+    waiting: &mut Waiting,
+) -> bool
     requires { AreRowsAt first from.now mask.now to.now }
     ensures { HaveJoined (RaisesStraight first from.now mask.now to.now) result waiting.old waiting.new }
 {
@@ -176,6 +254,7 @@ fn queue_straight(from: &[u16], mask: &[u16], to: &[u16], first: u32, waiting: &
             &mask[start..end],
             &to[start..end],
             next,
+            strip,
             waiting,
         ) {
             return false;
@@ -186,7 +265,14 @@ fn queue_straight(from: &[u16], mask: &[u16], to: &[u16], first: u32, waiting: &
 }
 
 // The same for a few columns, which are looked at one by one only where a pair is open.
-fn queue_strip(from: &[u16], mask: &[u16], to: &[u16], first: u32, waiting: &mut Waiting) -> bool
+fn queue_strip(
+    from: &[u16],
+    mask: &[u16],
+    to: &[u16],
+    first: u32,
+    strip: usize,
+    waiting: &mut Waiting,
+) -> bool
     requires { AreRowsAt first from.now mask.now to.now }
     ensures { HaveJoined (RaisesStraight first from.now mask.now to.now) result waiting.old waiting.new }
 {
@@ -194,7 +280,7 @@ fn queue_strip(from: &[u16], mask: &[u16], to: &[u16], first: u32, waiting: &mut
         return true;
     }
     for i in 0..to.len() {
-        if to[i] < from[i].min(mask[i]) && !waiting.push(first + i as u32) {
+        if to[i] < from[i].min(mask[i]) && !waiting.push(strip, first + i as u32) {
             return false;
         }
     }

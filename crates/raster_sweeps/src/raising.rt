@@ -7,10 +7,10 @@ ghost use Rattle.grid_core.specs.Raster.{IsBelow, IsFilled, value_at, headroom};
 ghost use Rattle.grid_core.specs.Reconstruction.{IsClosed};
 ghost use Rattle.grid_core.specs.Rects.{RectFits, domain_in, part};
 ghost use Rattle.raster_sweeps.specs.Growth.{AllWait, AreInside, AreOpen, IsCellIn, IsGrown, CanClose, CanGrow};
-ghost use Rattle.raster_sweeps.specs.Spans.{AreQueued, InSpan, IsAround, IsRaised, AreSpread};
+ghost use Rattle.raster_sweeps.specs.Spans.{AreQueued, InSpan, IsAround, IsCell, IsOnCross, IsRaised, AreSpread};
 ghost use Rattle.raster_sweeps.specs.Growth.{CellHasSpread, IsDrained};
 
-use crate::neighbourhood::{Span, Spans, spans_around};
+use crate::neighbourhood::{Cross, Place, Span, Spans, cross_around, spans_around};
 use crate::waiting::Waiting;
 use grid_core::laws::cells_given_back;
 use grid_core::{Conn, Grid, Rect};
@@ -60,11 +60,84 @@ pub fn spread(
     ensures { CellHasSpread conn rect mask.now image.old image.new cell waiting.old waiting.new result }
 {
     cells_given_back();
-    let spans = spans_around(mask.width(), rect, conn, cell);
+    let width = mask.width();
     let limits = mask.cells();
     let cells = image.cells_mut();
     let level = cells[cell as usize];
-    raise_around(limits, cells, waiting, level, spans)
+    match conn {
+        Conn::Four => {
+            let cross = cross_around(width, rect, cell);
+            raise_cross(limits, cells, waiting, level, cross)
+        }
+        Conn::Eight => {
+            let spans = spans_around(width, rect, cell);
+            raise_around(limits, cells, waiting, level, spans)
+        }
+    }
+}
+
+// Raises the cells of the cross to the level, as far as the mask lets them, and puts those that rise into the queue.
+// It answers whether there was room for all of them.
+#[inline(always)]
+fn raise_cross(
+    mask: &[u16],
+    cells: &mut [u16],
+    waiting: &mut Waiting,
+    level: u16,
+    cross: Cross,
+) -> bool
+    requires within { (k : _) → IsOnCross cross k → k < length cells.old }
+    requires same { length mask.now ≡ length cells.old }
+    ensures { AreSpread (IsOnCross cross) mask.now level cells.old cells.new waiting.old waiting.new (IsTrue result) }
+{
+    let first = raise_two(mask, cells, waiting, level, cross.above, cross.left);
+    let second = raise_two(mask, cells, waiting, level, cross.right, cross.below);
+    first && second
+}
+
+// Raises one cell and another to the level, where there are any.
+#[inline(always)]
+fn raise_two(
+    mask: &[u16],
+    cells: &mut [u16],
+    waiting: &mut Waiting,
+    level: u16,
+    one: Option<Place>,
+    other: Option<Place>,
+) -> bool
+    requires within { (k : _) → IsCell one k ⊎ IsCell other k → k < length cells.old }
+    requires same { length mask.now ≡ length cells.old }
+    ensures { AreSpread (λ k. IsCell one k ⊎ IsCell other k) mask.now level cells.old cells.new
+        waiting.old waiting.new (IsTrue result) }
+{
+    let first = raise_one(mask, cells, waiting, level, one);
+    let second = raise_one(mask, cells, waiting, level, other);
+    first && second
+}
+
+// Raises a cell to the level, where there is one, as far as the mask lets it, and puts it into the queue if it rises.
+// It answers whether there was room for it.
+#[inline(always)]
+fn raise_one(
+    mask: &[u16],
+    cells: &mut [u16],
+    waiting: &mut Waiting,
+    level: u16,
+    one: Option<Place>,
+) -> bool
+    requires within { (k : _) → IsCell one k → k < length cells.old }
+    requires same { length mask.now ≡ length cells.old }
+    ensures { AreSpread (IsCell one) mask.now level cells.old cells.new waiting.old waiting.new (IsTrue result) }
+{
+    if let Some(place) = one {
+        let at = place.cell as usize;
+        let raised = level.min(mask[at]);
+        if cells[at] < raised {
+            cells[at] = raised;
+            return waiting.push(place.strip, place.cell);
+        }
+    }
+    true
 }
 
 // Raises the cells of the spans to the level, as far as the mask lets them, and puts those that rise into the queue.
@@ -101,7 +174,7 @@ fn raise(mask: &[u16], cells: &mut [u16], waiting: &mut Waiting, level: u16, spa
         let raised = level.min(mask[at]);
         if cells[at] < raised {
             cells[at] = raised;
-            room = waiting.push(cell) && room;
+            room = waiting.push(span.strip, cell) && room;
         }
     }
     room

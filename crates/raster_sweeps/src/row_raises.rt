@@ -1,7 +1,7 @@
 //! How a scan raises a row: by another row that touches it, and along itself.
 
 ghost use Rattle.std.specs.Prelude.{◌≡◌, ◌<◌, length, IsTrue};
-ghost use Rattle.raster_sweeps.specs.RowPairs.{AreAside, AreBeside, AreFullRows, AreRows};
+ghost use Rattle.raster_sweeps.specs.RowPairs.{AreAside, AreBeside, AreFullRows, AreRows, IsClosedTo};
 ghost use Rattle.raster_sweeps.specs.RowRaises.{IsRaisedStraight, IsRaisedBy, IsRaisedFromLeft, IsRaisedFromRight};
 
 use crate::rows::is_closed_straight;
@@ -10,10 +10,12 @@ use grid_core::Conn;
 // How many pixels of a row are looked at together for one that is to be raised along the row.
 const STRIP: usize = 64;
 
-/// Raises each pixel of a row by its neighbours in a row that touches it, as far as the mask lets it.
+/// Raises each pixel of a row by its neighbours in a row that touches it, as far as the mask lets it, so that none of
+/// these can raise it further.
 pub fn raise_by(mask: &[u16], by: &[u16], row: &mut [u16], conn: Conn)
     requires { AreFullRows by.now mask.now row.old }
-    ensures { IsRaisedBy (AreBeside conn) mask.now by.now row.old row.new }
+    ensures raised { IsRaisedBy (AreBeside conn) mask.now by.now row.old row.new }
+    ensures closed { IsClosedTo (AreBeside conn) by.now mask.now row.new }
 {
     raise_straight(mask, by, row);
     if conn == Conn::Eight {
@@ -24,7 +26,8 @@ pub fn raise_by(mask: &[u16], by: &[u16], row: &mut [u16], conn: Conn)
 // Raises each pixel of a row by those of another in the columns to its left and right, as far as the mask lets it.
 fn raise_aslant(mask: &[u16], by: &[u16], row: &mut [u16])
     requires { AreFullRows by.now mask.now row.old }
-    ensures { IsRaisedBy AreAside mask.now by.now row.old row.new }
+    ensures raised { IsRaisedBy AreAside mask.now by.now row.old row.new }
+    ensures closed { IsClosedTo AreAside by.now mask.now row.new }
 {
     let last = row.len() - 1;
     raise_straight(&mask[1..], &by[..last], &mut row[1..]);

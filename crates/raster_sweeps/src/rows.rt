@@ -1,7 +1,7 @@
 //! What is asked of rows of pixels, as slices of equal length.
 
 ghost use Rattle.std.specs.Prelude.{◌≡◌, ◌<◌, ◌↔◌, length, IsTrue};
-ghost use Rattle.raster_sweeps.specs.RowPairs.{AreBeside, AreAside, AreClosedCrosswise, IsClosedStraight};
+ghost use Rattle.raster_sweeps.specs.RowPairs.{AreBeside, AreAside, AreClosedOnward, IsClosedStraight};
 ghost use Rattle.raster_sweeps.specs.RowPairs.{AreFullRows, AreRows, IsClosedTo};
 
 use grid_core::Conn;
@@ -36,34 +36,20 @@ pub fn is_closed_to(from: &[u16], mask: &[u16], to: &[u16], conn: Conn) -> bool
     is_closed_straight(from, mask, to) && (conn == Conn::Four || is_closed_aslant(from, mask, to))
 }
 
-// Whether, in a row and the one below it, no pixel raises the one to its right or left in the first row, and none the
-// one below or above it.
+// Whether, in a row and the one below it, no pixel of the first raises the one to its right or the one below it.
 //
 // One pass over both rows makes shorter vector code than a pass for each direction.
 #[inline(never)]
-pub fn are_closed_crosswise(
-    row: &[u16],
-    limits: &[u16],
-    below: &[u16],
-    limits_below: &[u16],
-) -> bool
+pub fn are_closed_onward(row: &[u16], limits: &[u16], below: &[u16], limits_below: &[u16]) -> bool
     requires rows { AreFullRows below.now limits.now row.now }
     requires below { length limits_below.now ≡ length row.now }
-    ensures { IsTrue result → AreClosedCrosswise row.now limits.now below.now limits_below.now }
+    ensures { IsTrue result → AreClosedOnward row.now limits.now below.now limits_below.now }
 {
     let last = row.len() - 1;
-    let last_up = below[last].min(limits[last]);
-    let last_down = row[last].min(limits_below[last]);
-    let mut open = row[last] < last_up;
-    open |= below[last] < last_down;
+    let mut open = below[last] < row[last].min(limits_below[last]);
     for i in 0..last {
-        let around = below[i].max(row[i + 1]);
-        let least = around.min(limits[i]);
-        let right = row[i].min(limits[i + 1]);
-        let down = row[i].min(limits_below[i]);
-        open |= row[i] < least;
-        open |= row[i + 1] < right;
-        open |= below[i] < down;
+        open |= row[i + 1] < row[i].min(limits[i + 1]);
+        open |= below[i] < row[i].min(limits_below[i]);
     }
     !open
 }

@@ -6,10 +6,10 @@ ghost use Rattle.grid_core.specs.Neighbours.{apart};
 ghost use Rattle.grid_core.specs.Raster.{IsBelow};
 ghost use Rattle.grid_core.specs.Rects.{RectFits};
 ghost use Rattle.raster_sweeps.specs.Growth.{AllWait, AreInside, IsGrown, CanGrow, IsScannedInto};
-ghost use Rattle.raster_sweeps.specs.RowPairs.{CanGrowAcross, CanGrowRow};
+ghost use Rattle.raster_sweeps.specs.RowPairs.{CanGrowAcross, CanGrowRow, IsFromTo, NoneOpen, NoneOpenToLeft};
 ghost use Rattle.raster_sweeps.specs.RowRaises.{AreApart, AreCellsRaised, IsRowGrown};
 
-use crate::open_pairs::queue_row;
+use crate::open_pairs::queue_onward;
 use crate::row_raises::{raise_by, raise_from_left, raise_from_right};
 use crate::waiting::Waiting;
 use grid_core::laws::cells_given_back;
@@ -28,8 +28,8 @@ pub fn scan_down(mask: &Grid, image: &mut Grid, rect: Rect, conn: Conn)
     }
 }
 
-/// The anti-raster scan, from the last pixel of the rectangle back. After each row those of its pixels and of the row
-/// below that can still raise a neighbour in these rows are put into the queue.
+/// The anti-raster scan, from the last pixel of the rectangle back. After each row those of its pixels that can still
+/// raise the one to their right or one in the row below are put into the queue.
 ///
 /// It answers whether there was room for all of them. Where there was not, the rows above are raised and not checked.
 pub fn scan_up(mask: &Grid, image: &mut Grid, rect: Rect, conn: Conn, waiting: &mut Waiting) -> bool
@@ -39,19 +39,21 @@ pub fn scan_up(mask: &Grid, image: &mut Grid, rect: Rect, conn: Conn, waiting: &
 {
     let last = rect.h - 1;
     raise_row_from_right(mask, image, rect, last);
-    let mut all = queue_row(mask, image, rect, last, conn, waiting);
+    let mut all = queue_onward(mask, image, rect, last, conn, waiting);
     for y in (0..last).rev() {
         raise_row_by(mask, image, rect, y + 1, y, conn);
         raise_row_from_right(mask, image, rect, y);
-        all = all && queue_row(mask, image, rect, y, conn, waiting);
+        all = all && queue_onward(mask, image, rect, y, conn, waiting);
     }
     all
 }
 
-// Raises the pixels of the rectangle's row `to` by their neighbours in the row `from`, which touches it.
+// Raises the pixels of the rectangle's row `to` by their neighbours in the row `from`, which touches it, so that none of
+// these can raise them further.
 fn raise_row_by(mask: &Grid, image: &mut Grid, rect: Rect, from: u32, to: u32, conn: Conn)
     requires { CanGrowAcross rect mask.now image.old from to }
-    ensures { IsRowGrown conn rect mask.now to image.old image.new }
+    ensures grown { IsRowGrown conn rect mask.now to image.old image.new }
+    ensures closed { NoneOpen conn rect mask.now image.new (IsFromTo from to) }
 {
     cells_given_back();
     let limits = mask.row_in(rect, to);
@@ -102,7 +104,8 @@ fn raise_row_from_left(mask: &Grid, image: &mut Grid, rect: Rect, y: u32)
 // Raises the pixels of the rectangle's row `y`, from the right, by those to their right.
 fn raise_row_from_right(mask: &Grid, image: &mut Grid, rect: Rect, y: u32)
     requires { CanGrowRow rect mask.now image.old y }
-    ensures { (conn : _) → IsRowGrown conn rect mask.now y image.old image.new }
+    ensures grown { (conn : _) → IsRowGrown conn rect mask.now y image.old image.new }
+    ensures closed { (conn : _) → NoneOpenToLeft conn rect mask.now image.new y }
 {
     cells_given_back();
     let limits = mask.row_in(rect, y);

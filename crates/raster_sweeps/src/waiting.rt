@@ -1,70 +1,180 @@
 //! The queue of the cells whose neighbours are still to be raised.
 
-ghost use Rattle.std.specs.Prelude.{◌≡◌, ◌<◌, ◌⊎◌, [], ◌∷◌, ◌++◌, length, if◌then◌else◌, IsTrue, IfOk, MatchOption};
+ghost use Rattle.std.specs.Prelude.{◌≡◌, ◌<◌, ◌≤◌, ◌⊎◌, [], length, IsTrue, IfOk, MatchBool, MatchOption};
+ghost use Rattle.raster_sweeps.specs.Waiting.{AreAllEmpty, AreEmptyLists, AreEmptyWithin, AreOneMore, HasCellAt};
 
 use std::alloc::{AllocError, Global};
 use std::collections::VecDeque;
 use std::marker::Model;
 
-/// A queue of cells, first in, first out, with room for so many that it never grows.
+/// How many rows make a strip.
+pub const STRIP_ROWS: u32 = 32;
+
+/// The strip of the rectangle's row `row`, counted from its first row.
+#[inline(always)]
+pub fn strip_of(row: u32) -> usize {
+    (row / STRIP_ROWS) as usize
+}
+
+/// A queue of cells: a list for each strip of rows, first in, first out, with room for so many that it never grows.
+///
+/// The lists are served down and up again: each until it is empty, and then the next one in the same direction that has
+/// a cell. So cells that are near one another are served one after another. Into which list a cell is put is a matter of
+/// speed alone.
 #[derive(Drop)]
 pub struct Waiting {
-    cells: VecDeque<u32>,
+    strips: Vec<VecDeque<u32>>,
+    // The list that is served, and whether those below it come next.
+    at: usize,
+    downwards: bool,
+    // How many cells wait in all lists.
+    count: usize,
 }
 
 impl Model for Waiting {
-    ghost use Rattle.std.specs.Prelude.{◌<◌, List, ℕ};
-    ghost use Rattle.std.specs.VecDeque.{deque_capacity};
+    ghost use Rattle.std.specs.Prelude.{List, ℕ};
+    ghost use Rattle.raster_sweeps.specs.Waiting.{AreServed, cells_of};
 
     ghost Value = { List ℕ };
 
-    ghost view = { λ w. w.cells.items };
+    ghost view = { λ w. cells_of w.strips.items };
 
-    ghost invariant = { λ w. 0 < deque_capacity w.cells };
+    ghost invariant = { λ w. AreServed w.strips.items w.at w.count };
 }
 
 impl Waiting {
-    /// An empty queue with room for so many cells.
+    /// An empty queue of so many lists, each with room for so many cells.
     ///
     /// Errors: out of memory.
-    pub fn new(alloc: Global, room: usize) -> Result<Waiting, AllocError>
-        requires { 0 < room }
+    pub fn new(alloc: Global, strips: usize, room: usize) -> Result<Waiting, AllocError>
+        requires strips { 0 < strips }
+        requires room { 0 < room }
         ensures { IfOk result (λ w. w ≡ []) }
     {
-        let cells = VecDeque::with_capacity(alloc, room)?;
-        Ok(Waiting { cells })
+        Ok(Waiting {
+            strips: empty_lists(alloc, strips, room)?,
+            at: 0,
+            downwards: true,
+            count: 0,
+        })
     }
 
     /// How many cells wait.
+    #[inline(always)]
     pub fn len(&self) -> usize
         ensures { result ≡ length self.now }
     {
-        self.cells.len()
+        self.count
     }
 
-    /// Puts a cell at the end, and says whether there was room for it.
-    pub fn push(&mut self, cell: u32) -> bool
-        ensures added { self.new ≡ (if result then self.old ++ cell ∷ [] else self.old) }
+    /// Puts a cell into the list of a strip, and says whether there was room for it. A strip that has no list shares
+    /// that of the last one.
+    #[inline(always)]
+    pub fn push(&mut self, strip: usize, cell: u32) -> bool
+        ensures added { MatchBool result (AreOneMore cell self.old self.new) (self.new ≡ self.old) }
         ensures full { IsTrue result ⊎ (0 < length self.old) }
     {
-        let fits = self.cells.len() < self.cells.capacity();
-        if fits {
-            self.cells.push_back_reserved(cell);
+        let last = self.strips.len() - 1;
+        let list = &mut self.strips[strip.min(last)];
+        if list.len() >= list.capacity() || self.count == usize::MAX {
+            return false;
         }
-        fits
+        list.push_back_reserved(cell);
+        self.count += 1;
+        true
     }
 
-    /// Takes the first cell out.
+    /// Takes a cell out.
+    #[inline(always)]
     pub fn pop(&mut self) -> Option<u32>
-        ensures { MatchOption result (self.old ≡ []) (λ cell. self.old ≡ cell ∷ self.new) }
+        ensures { MatchOption result (self.old ≡ []) (λ cell. AreOneMore cell self.new self.old) }
     {
-        self.cells.pop_front()
+        let (at, downwards) = list_to_serve(&self.strips, self.at, self.downwards)?;
+        self.at = at;
+        self.downwards = downwards;
+        let cell = self.strips[at].pop_front()?;
+        self.count -= 1;
+        Some(cell)
     }
 
     /// Takes all cells out.
     pub fn clear(&mut self)
         ensures { self.new ≡ [] }
     {
-        self.cells.clear();
+        for list in self.strips.iter_mut() {
+            list.clear();
+        }
+        self.at = 0;
+        self.downwards = true;
+        self.count = 0;
     }
+}
+
+// So many lists with no cell, each with room for so many.
+fn empty_lists(alloc: Global, count: usize, room: usize) -> Result<Vec<VecDeque<u32>>, AllocError>
+    requires { 0 < room }
+    ensures { IfOk result (λ lists. AreEmptyLists lists.items count) }
+{
+    let mut lists = Vec::with_capacity(alloc, count)?;
+    for _ in 0..count {
+        lists.push_reserved(VecDeque::with_capacity(alloc, room)?);
+    }
+    Ok(lists)
+}
+
+// The list to serve, and the direction after it: the list `at` as long as it has a cell, and then the next one.
+#[inline(always)]
+fn list_to_serve(lists: &[VecDeque<u32>], at: usize, downwards: bool) -> Option<(usize, bool)>
+    requires { at < length lists.now }
+    ensures { MatchOption result (AreAllEmpty lists.now) (λ next. HasCellAt lists.now next.0) }
+{
+    if !lists[at].is_empty() {
+        return Some((at, downwards));
+    }
+    next_list(lists, at, downwards)
+}
+
+// The nearest list with a cell in this direction from the list `at`, and where there is none, in the other; and the
+// direction in which it was found.
+fn next_list(lists: &[VecDeque<u32>], at: usize, downwards: bool) -> Option<(usize, bool)>
+    requires { at < length lists.now }
+    ensures { MatchOption result (AreAllEmpty lists.now) (λ next. HasCellAt lists.now next.0) }
+{
+    if downwards {
+        if let Some(next) = first_from(lists, at) {
+            return Some((next, true));
+        }
+        let next = last_before(lists, at)?;
+        return Some((next, false));
+    }
+    if let Some(next) = last_before(lists, at) {
+        return Some((next, false));
+    }
+    let next = first_from(lists, at)?;
+    Some((next, true))
+}
+
+// The first list that has a cell, of those from `start` on.
+fn first_from(lists: &[VecDeque<u32>], start: usize) -> Option<usize>
+    ensures { MatchOption result (AreEmptyWithin lists.now start (length lists.now)) (HasCellAt lists.now) }
+{
+    for at in start..lists.len() {
+        if !lists[at].is_empty() {
+            return Some(at);
+        }
+    }
+    None
+}
+
+// The last list that has a cell, of those before `end`.
+fn last_before(lists: &[VecDeque<u32>], end: usize) -> Option<usize>
+    requires { end ≤ length lists.now }
+    ensures { MatchOption result (AreEmptyWithin lists.now 0 end) (HasCellAt lists.now) }
+{
+    for at in (0..end).rev() {
+        if !lists[at].is_empty() {
+            return Some(at);
+        }
+    }
+    None
 }

@@ -1,8 +1,9 @@
-use Rattle.std.proofs.Common.{◌≡◌, ◌+◌, ◌<◌, ◌≤◌, ◌∷◌, [], ◌++◌, true, false, length, arith, refl, ◌∙◌, ap, inl, inr}
+use Rattle.std.proofs.Common.{◌≡◌, ◌+◌, ◌<◌, ◌≤◌, true, false, length, arith, refl, subst, sym, ap, inl, inr}
 use Rattle.grid_core.specs.Raster.{max_level}
 use Rattle.raster_sweeps.proofs.BorderColumns.{cell_joins, cell_passes, column_joined, column_stopped, same_to_rise}
 use Rattle.raster_sweeps.specs.Growth.{cell_of}
 use Rattle.raster_sweeps.specs.RowPairs.{AreBeside}
+use Rattle.raster_sweeps.specs.Waiting.{AreOneMore}
 use Rattle.raster_sweeps.proofs.border.queue_from_column.Goals as goal
 use Rattle.raster_sweeps.proofs.border.queue_from_column.Goals.{else-least-level-via-then-least-level+else-not-push}
 use Rattle.raster_sweeps.proofs.border.queue_from_column.Goals.{else-least-level-via-else-least-level}
@@ -44,13 +45,14 @@ loop-y-preserved c =
           elim c.else-least-level.branch [
             | else-least-level-via-then-least-level+else-not-push w ↦
                 let cell = w.first_cell.result + x in
-                let added : c.else-least-level.waiting ≡ now ++ cell ∷ [] =
-                w.waiting-is ∙ w.if-not-push.ensures.added in
-                rw added (cell_joins conn rect mask image x y c.requires.column_is.within c.loop-y-test.true above along
+                let next = c.else-least-level.waiting in
+                let one : AreOneMore cell now next =
+                subst (AreOneMore cell now) (sym w.waiting-is) w.if-not-push.ensures.added in
+                cell_joins conn rect mask image x y c.requires.column_is.within c.loop-y-test.true above along
                 below held.above held.along c.least_in_row-below.ensures.across
                 (omega (arith, fits, c.value_in-level.ensures)) old now cell (omega (arith, w.first_cell.ensures.place))
-                held.joined
-                (omega (arith, w.if-least-level.true, c.min-least.ensures, c.min.ensures)))
+                held.joined next one
+                (omega (arith, w.if-least-level.true, c.min-least.ensures, c.min.ensures))
             | else-least-level-via-else-least-level w ↦
                 rw w.waiting-is (cell_passes conn rect mask image x y c.requires.column_is.within c.loop-y-test.true above
                 along below held.above held.along c.least_in_row-below.ensures.across

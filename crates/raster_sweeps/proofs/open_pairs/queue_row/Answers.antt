@@ -1,5 +1,3 @@
-use Rattle.raster_sweeps.specs.RowPairs.{IsOpenCell, IsUpper}
-use Rattle.raster_sweeps.proofs.Joining.{none_joined}
 use Rattle.raster_sweeps.proofs.OpenRows.{row_stopped, last_row_joined, row_down_stopped, row_joined}
 use Rattle.raster_sweeps.proofs.open_pairs.queue_row.Goals as goal
 
@@ -26,8 +24,3 @@ returns-else-queue_between c =
     rw c.if-queue_between.false (row_down_stopped c.args.conn c.args.rect c.args.mask.now c.args.image.now c.args.y
     c.args.waiting.now c.queue_within.new.waiting c.queue_between.new.waiting
     (c.if-not-queue_within.ensures c.args.conn) c.if-queue_between.ensures)
-
-pub returns-then-is_row_seen_closed : goal.returns-then-is_row_seen_closed
-returns-then-is_row_seen_closed c =
-    none_joined (IsOpenCell c.args.conn c.args.rect c.args.mask.now c.args.image.now (IsUpper c.args.y))
-    c.args.waiting.now (c.is_row_seen_closed.ensures c.if-is_row_seen_closed.true)

@@ -1,4 +1,5 @@
-use Rattle.std.proofs.Common.{◌≡◌, ◌+◌, ◌<◌, ◌∷◌, [], ◌++◌, true, false, length, arith, ◌∙◌, inl, inr}
+use Rattle.std.proofs.Common.{◌≡◌, ◌+◌, ◌<◌, true, false, length, arith, subst, sym, inl, inr}
+use Rattle.raster_sweeps.specs.Waiting.{AreOneMore}
 use Rattle.raster_sweeps.proofs.Joining.{none_checked, closed_joined, checked_joins, checked_passes}
 use Rattle.raster_sweeps.proofs.Joining.{checked_all, checked_some}
 use Rattle.raster_sweeps.proofs.open_pairs.queue_strip.Goals as goal
@@ -24,10 +25,10 @@ loop-i-preserved c =
     let now = c.loop-i.waiting in
     elim c.else-to-i.branch [
       | else-to-i-via-then-to-i+else-not-push w ↦
-          let added : c.else-to-i.waiting ≡ now ++ (first + i) ∷ [] =
-          w.waiting-is ∙ w.if-not-push.ensures.added in
-          rw added (checked_joins first from mask to old i now c.loop-i.invariant c.loop-i-test.true
-          (omega (arith, w.if-to-i.true, c.min.ensures)))
+          let one : AreOneMore (first + i) now c.else-to-i.waiting =
+          subst (AreOneMore (first + i) now) (sym w.waiting-is) w.if-not-push.ensures.added in
+          checked_joins first from mask to old i now c.loop-i.invariant c.else-to-i.waiting one c.loop-i-test.true
+          (omega (arith, w.if-to-i.true, c.min.ensures))
       | else-to-i-via-else-to-i w ↦
           let same : c.else-to-i.waiting ≡ now = w.waiting-is in
           rw same (checked_passes first from mask to old i now c.loop-i.invariant

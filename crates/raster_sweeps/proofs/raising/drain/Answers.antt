@@ -1,8 +1,9 @@
-use Rattle.std.proofs.Common.{◌≤◌, subst, sym, ◌∙◌, arith, inl, inr}
+use Rattle.std.proofs.Common.{◌≤◌, sym, ◌∙◌, arith, inl, inr}
 use Rattle.std.proofs.lemmas.Bool.{false≢true}
-use Rattle.raster_sweeps.specs.Growth.{AllWait}
+use Rattle.raster_sweeps.specs.Growth.{cell_of}
 use Rattle.grid_core.specs.Raster.{headroom}
 use Rattle.raster_sweeps.proofs.Grown.{fits_below, grown_headroom, grown_same, grown_twice}
+use Rattle.raster_sweeps.proofs.Bags.{behind_one, from_behind}
 use Rattle.raster_sweeps.proofs.raising.drain.Goals as goal
 use Rattle.raster_sweeps.proofs.raising.drain.Goals.{then-not-room-via-then-not-room}
 use Rattle.raster_sweeps.proofs.raising.drain.Goals.{then-not-room-via-else-not-room+then-len-before}
@@ -54,7 +55,13 @@ loop-cell-preserved c = record {
   inside = c.spread-room.ensures.inside;
   waits = λ waited.
       c.spread-room.ensures.waits c.if-not-room.false
-      (subst (AllWait c.args.conn c.args.rect c.args.mask.now c.loop-cell.image) c.in-Some.ensures
-      (c.loop-cell.invariant.waits waited));
+      (λ p q raises.
+      behind_one c.in-Some.cell c.pop.new.self c.loop-cell.waiting c.in-Some.ensures
+      (cell_of c.args.rect c.loop-cell.image.width p) (c.loop-cell.invariant.waits waited p q raises));
   some = omega (arith, c.if-len-before.false, c.len.ensures, c.len-in-Some.ensures);
 }
+
+pub spread-room-requires-clause-inside : goal.spread-room-requires-clause-inside
+spread-room-requires-clause-inside c i waits =
+    c.loop-cell.invariant.inside i
+    (from_behind c.in-Some.cell c.pop.new.self c.loop-cell.waiting c.in-Some.ensures i waits)

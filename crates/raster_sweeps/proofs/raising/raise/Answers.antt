@@ -1,11 +1,11 @@
-use Rattle.std.proofs.Common.{◌≡◌, ◌+◌, ◌<◌, ◌≤◌, ◌⊎◌, ◌∷◌, [], ◌++◌, ℕ, List, length, min, set, get_or}
+use Rattle.std.proofs.Common.{◌≡◌, ◌+◌, ◌<◌, ◌≤◌, ◌⊎◌, ℕ, List, length, min, set, get_or}
 use Rattle.std.proofs.Common.{subst, sym, ◌∙◌, ap}
-use Rattle.std.proofs.Common.{arith, inl, inr, length-append}
+use Rattle.std.proofs.Common.{arith, inl, inr}
 use Rattle.std.specs.Prelude.{Contains, IsTrue}
 use Rattle.std.proofs.lemmas.Bool.{false≢true}
-use Rattle.std.proofs.lemmas.List.Elements.{Contains-push_cases}
 use Rattle.grid_core.specs.Raster.{headroom, max_level}
 use Rattle.raster_sweeps.specs.Spans.{InSpan, IsRaised}
+use Rattle.raster_sweeps.specs.Waiting.{AreOneMore}
 use Rattle.grid_core.proofs.Headroom.{headroom_less, headroom_set}
 use Rattle.raster_sweeps.proofs.Raised.{span_to, next_raised, next_not_raised, next_queued, next_not_queued}
 use Rattle.raster_sweeps.proofs.Raised.{queued_at, raised_at, raised_rises}
@@ -38,25 +38,24 @@ loop-cell-preserved c =
       | then-cells-at+then-push w ↦
           let drawn : c.if-cells-at.cells ≡ set cells j (min level (get_or mask j 0)) =
           w.cells-is ∙ ap (λ x. set cells j x) v in
-          let listed : c.if-cells-at.waiting ≡ waiting ++ j ∷ [] = w.waiting-is ∙ w.if-push.ensures.added in
+          let one : AreOneMore j waiting c.if-cells-at.waiting =
+          subst (AreOneMore j waiting) (sym w.waiting-is) w.if-push.ensures.added in
           let lower : get_or cells j 0 < min level (get_or mask j 0) = omega (arith, w.if-cells-at.true, v) in
           let less : headroom c.if-cells-at.cells < headroom cells =
           rw drawn (headroom_set cells j (min level (get_or mask j 0)) within lower (omega (arith, v, top))) in
-          let long : length c.if-cells-at.waiting ≡ length waiting + 1 =
-          ap length listed ∙ length-append waiting (j ∷ []) in
           record {
             raised =
                 rw drawn (next_raised mask level before cells old waiting first j from within held.raised lower);
             inside = λ i waits.
-                elim (Contains-push_cases waiting j i (subst (λ xs. Contains xs i) listed waits)) [
+                elim ((one.each i).0 waits) [
                   | inl earlier ↦ inside_more old first j i (held.inside i earlier)
                   | inr same ↦ inr (omega (arith, from, same), omega (arith, same))
                 ];
             queued = λ room.
-                rw listed (next_queued mask level before cells old waiting first j from within held.raised
-                (held.queued (subst IsTrue w.room-is room)));
-            count = λ room. omega (arith, long, held.count (subst IsTrue w.room-is room));
-            effort = λ room. omega (arith, long, less, held.effort (subst IsTrue w.room-is room));
+                next_queued mask level before cells old waiting first j from within held.raised
+                (held.queued (subst IsTrue w.room-is room)) c.if-cells-at.waiting one;
+            count = λ room. omega (arith, one.count, held.count (subst IsTrue w.room-is room));
+            effort = λ room. omega (arith, one.count, less, held.effort (subst IsTrue w.room-is room));
             fell = inr (omega (arith, less, held.kept));
             ends = inr (omega (arith, c.loop-cell-test.true));
             kept = omega (arith, less, held.kept);

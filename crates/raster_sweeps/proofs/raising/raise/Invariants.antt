@@ -2,15 +2,16 @@ use Rattle.std.proofs.Common.{◌≡◌, ◌+◌, ◌<◌, ◌≤◌, ◌⊎◌,
 use Rattle.std.specs.Prelude.{Contains, IsTrue}
 use Rattle.grid_core.specs.Raster.{headroom}
 use Rattle.raster_sweeps.specs.Spans.{AreQueued, InSpan, IsRaised}
+use Rattle.raster_sweeps.proofs.Raised.{span_to}
 use Rattle.raster_sweeps.proofs.raising.raise.Given as goal
 
 abbrev pub invariant-loop-cell : goal.invariant-loop-cell
 invariant-loop-cell l = record {
-  raised : IsRaised (InSpan (record { first = l.fn.span.first; end = l.cell })) l.mask l.level l.initial.cells l.cells;
+  raised : IsRaised (InSpan (span_to l.fn.span.first l.cell)) l.mask l.level l.initial.cells l.cells;
   inside : (i : ℕ) → Contains l.waiting i
-      → Contains l.initial.waiting i ⊎ InSpan (record { first = l.fn.span.first; end = l.cell }) i;
+      → Contains l.initial.waiting i ⊎ InSpan (span_to l.fn.span.first l.cell) i;
   queued : IsTrue l.room
-      → AreQueued (InSpan (record { first = l.fn.span.first; end = l.cell })) l.mask l.level l.initial.cells
+      → AreQueued (InSpan (span_to l.fn.span.first l.cell)) l.mask l.level l.initial.cells
       l.initial.waiting l.waiting;
   count : IsTrue l.room → length l.initial.waiting ≤ length l.waiting;
   effort : IsTrue l.room

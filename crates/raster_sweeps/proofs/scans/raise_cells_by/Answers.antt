@@ -2,7 +2,7 @@ use Rattle.std.proofs.Common.{◌≡◌, ◌+◌, ◌-◌, ◌≤◌, ◌++◌, 
 use Rattle.std.proofs.lemmas.List.Edits.{length-between}
 use Rattle.std.specs.List.{between}
 use borrow.Rule.Slice.PartMut.{put_mid}
-use Rattle.raster_sweeps.specs.RowPairs.{AreBeside}
+use Rattle.raster_sweeps.specs.RowPairs.{AreBeside, IsClosedTo}
 use Rattle.raster_sweeps.specs.RowRaises.{IsRaisedBy}
 use Rattle.raster_sweeps.proofs.Replacing.{IsReplaced, replaced_mid, replaced_within, between_in_front}
 use Rattle.raster_sweeps.proofs.RowRaises.{cells_raised}
@@ -28,7 +28,7 @@ returns-else-source-target c =
     let long : length new ≡ n =
     omega (
       arith,
-      c.raise_by-else-source-target.ensures.long,
+      c.raise_by-else-source-target.ensures.raised.long,
       length-between above target (target + n) (omega arith),
     ) in
     let replaced : IsReplaced target new cells (put_mid target (target + n - target) above new ++ below) =
@@ -43,4 +43,6 @@ returns-else-source-target c =
     cells_raised conn mask new cells (put_mid target (target + n - target) above new ++ below) source target long
     replaced
     (subst (λ xs. IsRaisedBy (AreBeside conn) mask xs (between target (target + n) cells) new) by
-    (subst (λ xs. IsRaisedBy (AreBeside conn) mask (take n below) xs new) old c.raise_by-else-source-target.ensures))
+    (subst (λ xs. IsRaisedBy (AreBeside conn) mask (take n below) xs new) old
+    c.raise_by-else-source-target.ensures.raised))
+    (subst (λ xs. IsClosedTo (AreBeside conn) xs mask new) by c.raise_by-else-source-target.ensures.closed)

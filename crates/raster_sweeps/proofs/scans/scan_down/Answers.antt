@@ -13,5 +13,5 @@ loop-y-preserved c =
     let between = c.raise_row_by.new.image in
     let after = c.raise_row_from_left-in-loop-y.new.image in
     grown_twice conn rect mask c.args.image.now c.loop-y.image after c.loop-y.invariant
-    (row_grown_twice conn rect mask c.loop-y.y c.loop-y.image between after c.raise_row_by.ensures
+    (row_grown_twice conn rect mask c.loop-y.y c.loop-y.image between after c.raise_row_by.ensures.grown
     (c.raise_row_from_left-in-loop-y.ensures conn)).grown

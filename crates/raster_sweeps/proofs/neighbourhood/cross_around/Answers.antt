@@ -1,0 +1,63 @@
+use Rattle.std.proofs.Common.{◌≡◌, ◌+◌, ◌-◌, ◌/◌, ◌%◌, None, Some, arith, inl, inr, refl}
+use Rattle.raster_sweeps.specs.declared.neighbourhood.Cross.{Cross}
+use Rattle.raster_sweeps.proofs.Crosses.{crossed}
+use Rattle.raster_sweeps.proofs.Spans.{column_of_cell, row_of_cell}
+use Rattle.raster_sweeps.proofs.neighbourhood.cross_around.Goals as goal
+use Rattle.raster_sweeps.proofs.neighbourhood.cross_around.Goals.{then-y-rect, else-y-rect, then-x-rect, else-x-rect}
+use Rattle.raster_sweeps.proofs.neighbourhood.cross_around.Goals.{then-x-rect-2, else-x-rect-2}
+
+pub returns-then-y-rect-2 : goal.returns-then-y-rect-2
+returns-then-y-rect-2 c p inside place =
+    let rect = c.args.rect in
+    let width = c.args.width in
+    let cell = c.args.cell in
+    let x : cell % width ≡ rect.x + p.x = column_of_cell rect width cell p c.requires.columns inside place in
+    let y : cell / width ≡ rect.y + p.y = row_of_cell rect width cell p c.requires.columns inside place in
+    let cross : Cross = record {
+      above = c.if-y-rect.above;
+      left = c.if-x-rect.left;
+      right = c.if-x-rect-2.right;
+      below = Some (record { cell = cell + width; strip = c.strip_of-then-y-rect-2.result });
+    } in
+    crossed rect width cell p cross inside place
+    (elim c.if-y-rect.branch [
+      | then-y-rect w ↦ inl (omega (arith, w.if-y-rect.true, y), (record { cell = cell - width; strip = w.strip_of.result }, w.above-is, refl))
+      | else-y-rect w ↦ inr (omega (arith, w.if-y-rect.false, y), w.above-is)
+    ])
+    (elim c.if-x-rect.branch [
+      | then-x-rect w ↦ inl (omega (arith, w.if-x-rect.true, x), (record { cell = cell - 1; strip = c.strip_of-strip.result }, w.left-is, refl))
+      | else-x-rect w ↦ inr (omega (arith, w.if-x-rect.false, x), w.left-is)
+    ])
+    (elim c.if-x-rect-2.branch [
+      | then-x-rect-2 w ↦ inl (omega (arith, w.if-x-rect-2.true, x), (record { cell = cell + 1; strip = c.strip_of-strip.result }, w.right-is, refl))
+      | else-x-rect-2 w ↦ inr (omega (arith, w.if-x-rect-2.false, x), w.right-is)
+    ])
+    (inl (omega (arith, c.if-y-rect-2.true, y), (record { cell = cell + width; strip = c.strip_of-then-y-rect-2.result }, refl, refl)))
+
+pub returns-else-y-rect-2 : goal.returns-else-y-rect-2
+returns-else-y-rect-2 c p inside place =
+    let rect = c.args.rect in
+    let width = c.args.width in
+    let cell = c.args.cell in
+    let x : cell % width ≡ rect.x + p.x = column_of_cell rect width cell p c.requires.columns inside place in
+    let y : cell / width ≡ rect.y + p.y = row_of_cell rect width cell p c.requires.columns inside place in
+    let cross : Cross = record {
+      above = c.if-y-rect.above;
+      left = c.if-x-rect.left;
+      right = c.if-x-rect-2.right;
+      below = None;
+    } in
+    crossed rect width cell p cross inside place
+    (elim c.if-y-rect.branch [
+      | then-y-rect w ↦ inl (omega (arith, w.if-y-rect.true, y), (record { cell = cell - width; strip = w.strip_of.result }, w.above-is, refl))
+      | else-y-rect w ↦ inr (omega (arith, w.if-y-rect.false, y), w.above-is)
+    ])
+    (elim c.if-x-rect.branch [
+      | then-x-rect w ↦ inl (omega (arith, w.if-x-rect.true, x), (record { cell = cell - 1; strip = c.strip_of-strip.result }, w.left-is, refl))
+      | else-x-rect w ↦ inr (omega (arith, w.if-x-rect.false, x), w.left-is)
+    ])
+    (elim c.if-x-rect-2.branch [
+      | then-x-rect-2 w ↦ inl (omega (arith, w.if-x-rect-2.true, x), (record { cell = cell + 1; strip = c.strip_of-strip.result }, w.right-is, refl))
+      | else-x-rect-2 w ↦ inr (omega (arith, w.if-x-rect-2.false, x), w.right-is)
+    ])
+    (inr (omega (arith, c.if-y-rect-2.false, y), refl))
