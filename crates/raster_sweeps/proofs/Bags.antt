@@ -1,5 +1,5 @@
 -- Lists of cells of which one has a cell more, and the cells of several lists.
-use Rattle.std.proofs.Common.{◌≡◌, ℕ, zero, suc, ◌+◌, ◌-◌, ◌<◌, List, [], ◌∷◌, ◌++◌, length, get_or, set}
+use Rattle.std.proofs.Common.{◌≡◌, ℕ, zero, suc, ◌<◌, List, [], ◌∷◌, ◌++◌, length, get_or, set}
 use Rattle.std.proofs.Common.{refl, sym, ◌∙◌, ap, subst, inl, inr, arith, length-append, length-set}
 use Rattle.std.specs.List.{Contains}
 use Rattle.std.specs.VecDeque.{deque_capacity, deque_items}
@@ -102,12 +102,6 @@ module _ {Z : Type 0} where
       ap (λ xs. xs ++ cells_of lists) (All-head (λ l. deque_items l ≡ []) list lists empty)
       ∙ no_cells lists (All-tail (λ l. deque_items l ≡ []) list lists empty)
 
-  -- lists with no cell are served from the first on
-  pub served_empty : (lists : List (VecDeque ℕ Z)) → AreAllEmpty lists → HaveCapacity lists → 0 < length lists
-      → AreServed lists 0 0
-  served_empty lists empty capacity some =
-      record { capacity = capacity; within = some; counted = sym (ap length (no_cells lists empty)) }
-
   -- a list among others is replaced by one that has a cell more
   one_more_among : (cell : ℕ) (before after : VecDeque ℕ Z) (lists : List (VecDeque ℕ Z)) (at : ℕ)
       → at < length lists → AreOneMore cell (deque_items before) (deque_items after)
@@ -132,7 +126,7 @@ module _ {Z : Type 0} where
         length-append (deque_items first) (cells_of (set lists at list)),
       )
 
-  module _ (cell : ℕ) (before after : VecDeque ℕ Z) (lists : List (VecDeque ℕ Z)) (at : ℕ)
+  module _ (before after : VecDeque ℕ Z) (lists : List (VecDeque ℕ Z)) (at : ℕ)
       (within : at < length lists) (here : before ≡ get_or lists at before) where
     same_lists : set lists at before ≡ lists
     same_lists = ap (set lists at) here ∙ set-get_or lists at before
@@ -144,41 +138,27 @@ module _ {Z : Type 0} where
         omega (arith, same, room)
 
     -- a cell is put at the end of a list
-    pub cell_pushed : deque_items after ≡ deque_items before ++ cell ∷ []
+    pub cell_pushed : (cell : ℕ) → deque_items after ≡ deque_items before ++ cell ∷ []
         → AreOneMore cell (cells_of lists) (cells_of (set lists at after))
-    cell_pushed pushed =
+    cell_pushed cell pushed =
         subst (λ ls. AreOneMore cell (cells_of ls) (cells_of (set lists at after))) same_lists
         (one_more_among cell before after lists at within
         (subst (AreOneMore cell (deque_items before)) (sym pushed) (one_more_last cell (deque_items before))))
 
     -- the first cell of a list is taken
-    pub cell_popped : deque_items before ≡ cell ∷ deque_items after
+    pub cell_popped : (cell : ℕ) → deque_items before ≡ cell ∷ deque_items after
         → AreOneMore cell (cells_of (set lists at after)) (cells_of lists)
-    cell_popped popped =
+    cell_popped cell popped =
         subst (λ ls. AreOneMore cell (cells_of (set lists at after)) (cells_of ls)) same_lists
         (one_more_among cell after before lists at within
         (subst (AreOneMore cell (deque_items after)) (sym popped) (one_more_first cell (deque_items after))))
 
-    -- with a cell more, one of the lists is served
-    pub served_pushed : (served count : ℕ) → AreServed lists served count → deque_capacity after ≡ deque_capacity before
-        → deque_items after ≡ deque_items before ++ cell ∷ []
-        → AreServed (set lists at after) served (count + 1)
-    served_pushed served count was same pushed = record {
-      capacity =
-          All-set (λ l. 0 < deque_capacity l) lists at after (room_kept was.capacity same) was.capacity;
-      within = omega (arith, was.within, length-set lists at after);
-      counted = omega (arith, was.counted, (cell_pushed pushed).count);
-    }
-
-    -- with a cell less, the list from which it was taken is served
-    pub served_popped : (served count : ℕ) → AreServed lists served count → deque_capacity after ≡ deque_capacity before
-        → deque_items before ≡ cell ∷ deque_items after
-        → AreServed (set lists at after) at (count - 1)
-    served_popped served count was same popped = record {
-      capacity =
-          All-set (λ l. 0 < deque_capacity l) lists at after (room_kept was.capacity same) was.capacity;
-      within = omega (arith, within, length-set lists at after);
-      counted = omega (arith, was.counted, (cell_popped popped).count);
+    -- a list of the lists gets or loses cells, and one of them is served
+    pub served_changed : (served : ℕ) → served < length lists → HaveCapacity lists
+        → deque_capacity after ≡ deque_capacity before → AreServed (set lists at after) served
+    served_changed served there capacity same = record {
+      capacity = All-set (λ l. 0 < deque_capacity l) lists at after (room_kept capacity same) capacity;
+      within = omega (arith, there, length-set lists at after);
     }
 
     -- where a list has a cell, all together have one

@@ -246,7 +246,7 @@ spread_none at mask level cells waiting Room all none = record {
 
 -- the span up to the next cell has the cells of the span, and that cell
 abbrev pub span_to : ℕ → ℕ → Span
-span_to first end = record { first = first; end = end; strip = 0 }
+span_to first end = record { first = first; end = end; row = 0 }
 
 pub span_more : (first j k : ℕ) → first ≤ j → InSpan (span_to first j) k ⊎ (k ≡ j) → InSpan (span_to first (j + 1)) k
 span_more first j k from here =

@@ -18,11 +18,10 @@ module _ {Z : Type 0} where
   abbrev pub HaveCapacity : List (VecDeque ℕ Z) → Type 0
   HaveCapacity lists = All (λ list. 0 < deque_capacity list) lists
 
-  -- there is a list at the place that is served, each has room for some cells, and all together have so many
-  pub record AreServed (lists : List (VecDeque ℕ Z)) (at count : ℕ) : Type 0 where
+  -- there is a list at the place that is served, and each has room for some cells
+  pub record AreServed (lists : List (VecDeque ℕ Z)) (at : ℕ) : Type 0 where
     pub capacity : HaveCapacity lists
     pub within : at < length lists
-    pub counted : count ≡ length (cells_of lists)
 
   -- the lists from one place to before another have no cell
   abbrev pub AreEmptyWithin : List (VecDeque ℕ Z) → ℕ → ℕ → Type 0

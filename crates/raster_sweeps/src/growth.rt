@@ -62,8 +62,8 @@ pub fn grow_within(room: &mut Room, mask: &Grid, image: &mut Grid, rect: Rect, c
 /// raise a neighbour in it: where the image was grown there before, and since then pixels of the border have risen. The
 /// image must be at most the mask, and the rectangle lie in it.
 ///
-/// The pixels on the border are checked, and no others; then a queue spreads from these, and where many pixels rise, a
-/// raster and an anti-raster scan come between. It takes no memory.
+/// The pixels on the border are checked, and no others; then a queue spreads from these, and where it is full, a raster
+/// and an anti-raster scan come between. It takes no memory.
 pub fn grow_from_border(room: &mut Room, mask: &Grid, image: &mut Grid, rect: Rect, conn: Conn)
     requires grow { CanGrow rect mask.now image.old }
     requires border { OpenPairsBeginOnBorder conn rect mask.now image.old }
@@ -116,23 +116,10 @@ fn close(mask: &Grid, image: &mut Grid, rect: Rect, conn: Conn, waiting: &mut Wa
     let mut next = start;
     'rounds: loop {
         let all = fill(mask, image, rect, conn, waiting, next);
-        let budget = budget(rect, next);
-        if all && drain(mask, image, rect, conn, waiting, budget) {
+        if all && drain(mask, image, rect, conn, waiting) {
             return;
         }
         next = Start::Scans;
-    }
-}
-
-// How many cells may rise by the queue before the next scans: as many as the rectangle has where it was just scanned,
-// else a sixteenth of them.
-fn budget(rect: Rect, start: Start) -> usize
-    ensures { 0 < result }
-{
-    let pixels = rect.w as usize * rect.h as usize;
-    match start {
-        Start::Border => (pixels / 16).max(1),
-        Start::Scans => pixels.max(1),
     }
 }
 

@@ -6,14 +6,13 @@ ghost use Rattle.grid_core.specs.Raster.{IsInside, max_pixels};
 ghost use Rattle.raster_sweeps.specs.Growth.{IsCellIn, cell_of};
 ghost use Rattle.raster_sweeps.specs.Spans.{AreAround, IsAround, IsOnCross};
 
-use crate::waiting::strip_of;
 use grid_core::Rect;
 
-/// A cell, and the strip of its row.
+/// A cell, and its row, counted from the rectangle's first.
 #[derive(Clone, Copy)]
 pub struct Place {
     pub cell: u32,
-    pub strip: usize,
+    pub row: u32,
 }
 
 /// The four neighbours of a cell, as far as there are.
@@ -25,12 +24,12 @@ pub struct Cross {
     pub below: Option<Place>,
 }
 
-/// The cells from `first` to before `end`, all in one row, and the strip of that row.
+/// The cells from `first` to before `end`, all in one row, which is counted from the rectangle's first.
 #[derive(Clone, Copy)]
 pub struct Span {
     pub first: u32,
     pub end: u32,
-    pub strip: usize,
+    pub row: u32,
 }
 
 /// The neighbours of a cell in the row above, those beside it and itself, and those in the row below.
@@ -52,11 +51,11 @@ pub fn cross_around(width: u32, rect: Rect, cell: u32) -> Cross
 {
     let x = cell % width;
     let y = cell / width;
-    let strip = strip_of(y - rect.y);
+    let here = y - rect.y;
     let above = if y > rect.y {
         Some(Place {
             cell: cell - width,
-            strip: strip_of(y - 1 - rect.y),
+            row: here - 1,
         })
     } else {
         None
@@ -64,7 +63,7 @@ pub fn cross_around(width: u32, rect: Rect, cell: u32) -> Cross
     let left = if x > rect.x {
         Some(Place {
             cell: cell - 1,
-            strip,
+            row: here,
         })
     } else {
         None
@@ -72,7 +71,7 @@ pub fn cross_around(width: u32, rect: Rect, cell: u32) -> Cross
     let right = if x + 1 < rect.x + rect.w {
         Some(Place {
             cell: cell + 1,
-            strip,
+            row: here,
         })
     } else {
         None
@@ -80,7 +79,7 @@ pub fn cross_around(width: u32, rect: Rect, cell: u32) -> Cross
     let below = if y + 1 < rect.y + rect.h {
         Some(Place {
             cell: cell + width,
-            strip: strip_of(y + 1 - rect.y),
+            row: here + 1,
         })
     } else {
         None
@@ -107,37 +106,37 @@ pub fn spans_around(width: u32, rect: Rect, cell: u32) -> Spans
     let row = cell - x;
     let left = x.max(rect.x + 1) - 1;
     let right = (x + 2).min(rect.x + rect.w);
+    let here = y - rect.y;
     let above = if y > rect.y {
         Span {
             first: row - width + left,
             end: row - width + right,
-            strip: strip_of(y - 1 - rect.y),
+            row: here - 1,
         }
     } else {
         Span {
             first: 0,
             end: 0,
-            strip: 0,
+            row: 0,
         }
     };
     let below = if y + 1 < rect.y + rect.h {
         Span {
             first: row + width + left,
             end: row + width + right,
-            strip: strip_of(y + 1 - rect.y),
+            row: here + 1,
         }
     } else {
         Span {
             first: 0,
             end: 0,
-            strip: 0,
+            row: 0,
         }
     };
-    let strip = strip_of(y - rect.y);
     let beside = Span {
         first: row + left,
         end: row + right,
-        strip,
+        row: here,
     };
     Spans {
         above,

@@ -11,34 +11,22 @@ ghost use Rattle.raster_sweeps.specs.Spans.{AreQueued, InSpan, IsAround, IsCell,
 ghost use Rattle.raster_sweeps.specs.Growth.{CellHasSpread, IsDrained};
 
 use crate::neighbourhood::{Cross, Place, Span, Spans, cross_around, spans_around};
-use crate::waiting::Waiting;
+use crate::waiting::{Waiting, strip_of};
 use grid_core::laws::cells_given_back;
 use grid_core::{Conn, Grid, Rect};
 
 /// Lets the waiting cells spread until none waits, which it answers by `true`.
 ///
-/// Where the queue was full, or `budget` cells rose, it stops with `false`.
-pub fn drain(
-    mask: &Grid,
-    image: &mut Grid,
-    rect: Rect,
-    conn: Conn,
-    waiting: &mut Waiting,
-    budget: usize,
-) -> bool
+/// Where the queue was full it stops with `false`.
+pub fn drain(mask: &Grid, image: &mut Grid, rect: Rect, conn: Conn, waiting: &mut Waiting) -> bool
     requires close { CanClose rect mask.now image.old }
     requires inside { AreInside rect image.old.width waiting.old }
-    requires some { 0 < budget }
     ensures { IsDrained conn rect mask.now image.old image.new waiting.old result }
 {
-    let mut left = budget;
     while let Some(cell) = waiting.pop() {
-        let before = waiting.len();
-        let room = spread(mask, image, rect, conn, waiting, cell);
-        if !room || waiting.len() - before >= left {
+        if !spread(mask, image, rect, conn, waiting, cell) {
             return false;
         }
-        left -= waiting.len() - before;
     }
     true
 }
@@ -134,7 +122,7 @@ fn raise_one(
         let raised = level.min(mask[at]);
         if cells[at] < raised {
             cells[at] = raised;
-            return waiting.push(place.strip, place.cell);
+            return waiting.push(strip_of(place.row), place.cell);
         }
     }
     true
@@ -174,7 +162,7 @@ fn raise(mask: &[u16], cells: &mut [u16], waiting: &mut Waiting, level: u16, spa
         let raised = level.min(mask[at]);
         if cells[at] < raised {
             cells[at] = raised;
-            room = waiting.push(span.strip, cell) && room;
+            room = waiting.push(strip_of(span.row), cell) && room;
         }
     }
     room

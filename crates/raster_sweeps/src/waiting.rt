@@ -27,8 +27,6 @@ pub struct Waiting {
     // The list that is served, and whether those below it come next.
     at: usize,
     downwards: bool,
-    // How many cells wait in all lists.
-    count: usize,
 }
 
 impl Model for Waiting {
@@ -39,7 +37,7 @@ impl Model for Waiting {
 
     ghost view = { λ w. cells_of w.strips.items };
 
-    ghost invariant = { λ w. AreServed w.strips.items w.at w.count };
+    ghost invariant = { λ w. AreServed w.strips.items w.at };
 }
 
 impl Waiting {
@@ -55,16 +53,7 @@ impl Waiting {
             strips: empty_lists(alloc, strips, room)?,
             at: 0,
             downwards: true,
-            count: 0,
         })
-    }
-
-    /// How many cells wait.
-    #[inline(always)]
-    pub fn len(&self) -> usize
-        ensures { result ≡ length self.now }
-    {
-        self.count
     }
 
     /// Puts a cell into the list of a strip, and says whether there was room for it. A strip that has no list shares
@@ -76,11 +65,10 @@ impl Waiting {
     {
         let last = self.strips.len() - 1;
         let list = &mut self.strips[strip.min(last)];
-        if list.len() >= list.capacity() || self.count == usize::MAX {
+        if list.len() >= list.capacity() {
             return false;
         }
         list.push_back_reserved(cell);
-        self.count += 1;
         true
     }
 
@@ -89,11 +77,22 @@ impl Waiting {
     pub fn pop(&mut self) -> Option<u32>
         ensures { MatchOption result (self.old ≡ []) (λ cell. AreOneMore cell self.new self.old) }
     {
-        let (at, downwards) = list_to_serve(&self.strips, self.at, self.downwards)?;
+        if self.strips[self.at].is_empty() {
+            return self.pop_next();
+        }
+        let cell = self.strips[self.at].pop_front()?;
+        Some(cell)
+    }
+
+    // Takes a cell out of the next list that has one.
+    #[inline(never)]
+    fn pop_next(&mut self) -> Option<u32>
+        ensures { MatchOption result (self.old ≡ []) (λ cell. AreOneMore cell self.new self.old) }
+    {
+        let (at, downwards) = next_list(&self.strips, self.at, self.downwards)?;
         self.at = at;
         self.downwards = downwards;
         let cell = self.strips[at].pop_front()?;
-        self.count -= 1;
         Some(cell)
     }
 
@@ -106,7 +105,6 @@ impl Waiting {
         }
         self.at = 0;
         self.downwards = true;
-        self.count = 0;
     }
 }
 
@@ -120,18 +118,6 @@ fn empty_lists(alloc: Global, count: usize, room: usize) -> Result<Vec<VecDeque<
         lists.push_reserved(VecDeque::with_capacity(alloc, room)?);
     }
     Ok(lists)
-}
-
-// The list to serve, and the direction after it: the list `at` as long as it has a cell, and then the next one.
-#[inline(always)]
-fn list_to_serve(lists: &[VecDeque<u32>], at: usize, downwards: bool) -> Option<(usize, bool)>
-    requires { at < length lists.now }
-    ensures { MatchOption result (AreAllEmpty lists.now) (λ next. HasCellAt lists.now next.0) }
-{
-    if !lists[at].is_empty() {
-        return Some((at, downwards));
-    }
-    next_list(lists, at, downwards)
 }
 
 // The nearest list with a cell in this direction from the list `at`, and where there is none, in the other; and the

@@ -17,22 +17,22 @@ returns-then-y-rect-2 c p inside place =
       above = c.if-y-rect.above;
       left = c.if-x-rect.left;
       right = c.if-x-rect-2.right;
-      below = Some (record { cell = cell + width; strip = c.strip_of-then-y-rect-2.result });
+      below = Some (record { cell = cell + width; row = cell / width - rect.y + 1 });
     } in
     crossed rect width cell p cross inside place
     (elim c.if-y-rect.branch [
-      | then-y-rect w ↦ inl (omega (arith, w.if-y-rect.true, y), (record { cell = cell - width; strip = w.strip_of.result }, w.above-is, refl))
+      | then-y-rect w ↦ inl (omega (arith, w.if-y-rect.true, y), (record { cell = cell - width; row = cell / width - rect.y - 1 }, w.above-is, refl))
       | else-y-rect w ↦ inr (omega (arith, w.if-y-rect.false, y), w.above-is)
     ])
     (elim c.if-x-rect.branch [
-      | then-x-rect w ↦ inl (omega (arith, w.if-x-rect.true, x), (record { cell = cell - 1; strip = c.strip_of-strip.result }, w.left-is, refl))
+      | then-x-rect w ↦ inl (omega (arith, w.if-x-rect.true, x), (record { cell = cell - 1; row = cell / width - rect.y }, w.left-is, refl))
       | else-x-rect w ↦ inr (omega (arith, w.if-x-rect.false, x), w.left-is)
     ])
     (elim c.if-x-rect-2.branch [
-      | then-x-rect-2 w ↦ inl (omega (arith, w.if-x-rect-2.true, x), (record { cell = cell + 1; strip = c.strip_of-strip.result }, w.right-is, refl))
+      | then-x-rect-2 w ↦ inl (omega (arith, w.if-x-rect-2.true, x), (record { cell = cell + 1; row = cell / width - rect.y }, w.right-is, refl))
       | else-x-rect-2 w ↦ inr (omega (arith, w.if-x-rect-2.false, x), w.right-is)
     ])
-    (inl (omega (arith, c.if-y-rect-2.true, y), (record { cell = cell + width; strip = c.strip_of-then-y-rect-2.result }, refl, refl)))
+    (inl (omega (arith, c.if-y-rect-2.true, y), (record { cell = cell + width; row = cell / width - rect.y + 1 }, refl, refl)))
 
 pub returns-else-y-rect-2 : goal.returns-else-y-rect-2
 returns-else-y-rect-2 c p inside place =
@@ -49,15 +49,15 @@ returns-else-y-rect-2 c p inside place =
     } in
     crossed rect width cell p cross inside place
     (elim c.if-y-rect.branch [
-      | then-y-rect w ↦ inl (omega (arith, w.if-y-rect.true, y), (record { cell = cell - width; strip = w.strip_of.result }, w.above-is, refl))
+      | then-y-rect w ↦ inl (omega (arith, w.if-y-rect.true, y), (record { cell = cell - width; row = cell / width - rect.y - 1 }, w.above-is, refl))
       | else-y-rect w ↦ inr (omega (arith, w.if-y-rect.false, y), w.above-is)
     ])
     (elim c.if-x-rect.branch [
-      | then-x-rect w ↦ inl (omega (arith, w.if-x-rect.true, x), (record { cell = cell - 1; strip = c.strip_of-strip.result }, w.left-is, refl))
+      | then-x-rect w ↦ inl (omega (arith, w.if-x-rect.true, x), (record { cell = cell - 1; row = cell / width - rect.y }, w.left-is, refl))
       | else-x-rect w ↦ inr (omega (arith, w.if-x-rect.false, x), w.left-is)
     ])
     (elim c.if-x-rect-2.branch [
-      | then-x-rect-2 w ↦ inl (omega (arith, w.if-x-rect-2.true, x), (record { cell = cell + 1; strip = c.strip_of-strip.result }, w.right-is, refl))
+      | then-x-rect-2 w ↦ inl (omega (arith, w.if-x-rect-2.true, x), (record { cell = cell + 1; row = cell / width - rect.y }, w.right-is, refl))
       | else-x-rect-2 w ↦ inr (omega (arith, w.if-x-rect-2.false, x), w.right-is)
     ])
     (inr (omega (arith, c.if-y-rect-2.false, y), refl))

@@ -22,7 +22,7 @@ returns c p inside place =
     let beside : Span = record {
       first = cell - cell % width + (c.max-left.result - 1);
       end = cell - cell % width + c.min-right.result;
-      strip = c.strip_of-strip.result;
+      row = cell / width - rect.y;
     } in
     spans_of conn rect width p c.if-y-rect.above
     beside

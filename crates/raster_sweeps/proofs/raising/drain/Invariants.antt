@@ -1,4 +1,4 @@
-use Rattle.std.proofs.Common.{◌+◌, ◌<◌, length}
+use Rattle.std.proofs.Common.{◌+◌, length}
 use Rattle.raster_sweeps.specs.Growth.{AllWait, AreInside, IsGrown}
 use Rattle.grid_core.specs.Raster.{headroom}
 use Rattle.raster_sweeps.proofs.raising.drain.Given as goal
@@ -9,7 +9,6 @@ invariant-loop-cell l = record {
   inside : AreInside l.rect l.image.width l.waiting;
   waits : AllWait l.conn l.rect l.mask l.initial.image l.initial.waiting
       → AllWait l.conn l.rect l.mask l.image l.waiting;
-  some : 0 < l.left;
 }
 
 abbrev pub decreases-loop-cell : goal.decreases-loop-cell

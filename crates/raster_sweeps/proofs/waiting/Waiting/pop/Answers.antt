@@ -1,40 +1,18 @@
-use Rattle.std.proofs.Common.{◌≡◌, [], set, subst, sym, ◌∙◌, arith}
-use Rattle.raster_sweeps.specs.Waiting.{AreAllEmpty, AreOneMore, HasCellAt, cells_of}
-use Rattle.raster_sweeps.proofs.Bags.{cell_popped, no_cells, served_popped}
+use Rattle.std.proofs.Common.{set, subst}
+use Rattle.raster_sweeps.specs.Waiting.{AreOneMore, cells_of}
+use Rattle.raster_sweeps.proofs.Bags.{cell_popped, served_changed}
 use Rattle.raster_sweeps.proofs.waiting.Waiting.pop.Goals as goal
-
-pub returns-in_err-at : goal.returns-in_err-at
-returns-in_err-at c =
-    let none : c.args.self.now ≡ [] =
-    sym c.self.view_is ∙ no_cells c.self.inside.strips.items
-    (subst AreAllEmpty c.deref.ensures.value c.in_err-at.ensures) in
-    rw c.from_residual.ensures none
-
-pub overflow_sub-self : goal.overflow_sub-self
-overflow_sub-self c =
-    let found : HasCellAt c.self.inside.strips.items c.in_ok-at.at =
-    subst (λ lists. HasCellAt lists c.in_ok-at.at) c.deref.ensures.value c.in_ok-at.ensures in
-    omega (
-      arith,
-      (cell_popped c.in_ok-cell.cell c.index_mut.result.now c.pop_front.new.self c.self.inside.strips.items
-          c.in_ok-at.at found.within c.index_mut.ensures.value c.in_ok-cell.ensures.items).count,
-      c.self.invariant.counted,
-    )
 
 pub invariant_of-self-2 : goal.invariant_of-self-2
 invariant_of-self-2 c =
-    let found : HasCellAt c.self.inside.strips.items c.in_ok-at.at =
-    subst (λ lists. HasCellAt lists c.in_ok-at.at) c.deref.ensures.value c.in_ok-at.ensures in
-    served_popped c.in_ok-cell.cell c.index_mut.result.now c.pop_front.new.self c.self.inside.strips.items
-    c.in_ok-at.at found.within c.index_mut.ensures.value c.self.inside.at c.self.inside.count c.self.invariant
-    c.in_ok-cell.ensures.capacity c.in_ok-cell.ensures.items
+    served_changed c.index_mut.result.now c.pop_front.new.self c.self.inside.strips.items c.self.inside.at
+    c.self.invariant.within c.index_mut.ensures.value c.self.inside.at c.self.invariant.within
+    c.self.invariant.capacity c.in_ok-cell.ensures.capacity
 
 pub returns : goal.returns
 returns c =
     let lists = c.self.inside.strips.items in
     let list = c.pop_front.new.self in
-    let found : HasCellAt lists c.in_ok-at.at =
-    subst (λ ls. HasCellAt ls c.in_ok-at.at) c.deref.ensures.value c.in_ok-at.ensures in
-    subst (AreOneMore c.in_ok-cell.cell (cells_of (set lists c.in_ok-at.at list))) c.self.view_is
-    (cell_popped c.in_ok-cell.cell c.index_mut.result.now list lists c.in_ok-at.at found.within
-    c.index_mut.ensures.value c.in_ok-cell.ensures.items)
+    subst (AreOneMore c.in_ok-cell.cell (cells_of (set lists c.self.inside.at list))) c.self.view_is
+    (cell_popped c.index_mut.result.now list lists c.self.inside.at c.self.invariant.within
+    c.index_mut.ensures.value c.in_ok-cell.cell c.in_ok-cell.ensures.items)
