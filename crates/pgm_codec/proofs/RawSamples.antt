@@ -2,7 +2,9 @@
 use Rattle.std.proofs.Common.{◌≡◌, ℕ, zero, suc, ◌+◌, ◌-◌, ◌*◌, ◌/◌, min, ◌<◌, ◌≤◌, Bool, true, false, List, [], ◌∷◌}
 use Rattle.std.proofs.Common.{length, drop, slice_index, Ok, Err, refl, sym, ap, subst, ◌∙◌, arith, All, length-drop}
 use Rattle.std.proofs.Common.{inl, inr}
-use Rattle.std.specs.Prelude.{nat_lt}
+use Rattle.std.specs.Prelude.{nat_lt, map, take}
+use Rattle.std.specs.Int.{w16, from_be_bytes}
+use Rattle.std.specs.Simd.{first_chunks}
 use Rattle.std.specs.List.{AllByRecursion, list_any}
 use Rattle.std.proofs.lemmas.Bool.{cond-true, cond-false, cases_Bool, or_parts, or_cases, ltb-false}
 use Rattle.std.proofs.lemmas.List.{append-nil, drop-drop, get_or-drop}
@@ -13,7 +15,8 @@ use Rattle.pgm_codec.specs.declared.error.PgmError.TheVariants.{SampleRange, Tru
 use Rattle.pgm_codec.specs.declared.grammar.Encoding.TheVariants.{Raw}
 use Rattle.pgm_codec.specs.Spelling.{is_wide}
 use Rattle.pgm_codec.specs.FirstFault.{IsShort}
-use Rattle.pgm_codec.specs.Reading.{◌>>=◌, bytes_at, within, sample_width, raw_value, sample_at, samples_at}
+use Rattle.pgm_codec.specs.Reading.{◌>>=◌, bytes_at, within, sample_width, raw_value, AreRawValues, sample_at}
+use Rattle.pgm_codec.specs.Reading.{samples_at}
 use Rattle.pgm_codec.proofs.Fields.{Found, sample_fault_read}
 use Rattle.pgm_codec.proofs.Rasters.{Many, then_more, step_read, step_fails}
 use Rattle.pgm_codec.proofs.SampleLoop.{with_front}
@@ -43,6 +46,39 @@ next_value true text k =
     ap (slice_index text) f ∙ sym (get_or-drop 2 text (k * 2 + 1) 0) in
     ap (λ (n : ℕ). n * 256 + slice_index text (suc k * 2 + 1)) high
     ∙ ap (λ (n : ℕ). slice_index (drop 2 text) (k * 2) * 256 + n) low
+
+-- the first two bytes, joined, are the first value of two bytes
+first_pair : (text : List ℕ) → from_be_bytes w16 (take 2 text) ≡ raw_value true text 0
+first_pair [] = refl
+first_pair (b ∷ []) = refl
+first_pair (high ∷ low ∷ rest) = refl
+
+-- the first pairs of bytes, joined, are the first values of two bytes each
+pair_value : (count n k : ℕ) (text : List ℕ) → count ≤ n → k < count
+    → slice_index (map (from_be_bytes w16) (take count (first_chunks 2 n text))) k ≡ raw_value true text k
+pair_value zero n k text le lt = absurd (omega arith)
+pair_value (suc count) zero k text le lt = absurd (omega arith)
+pair_value (suc count) (suc n) zero text le lt = first_pair text
+pair_value (suc count) (suc n) (suc k) text le lt =
+    pair_value count n k (drop 2 text) (omega arith) (omega arith) ∙ sym (next_value true text k)
+
+pairs_len : (count n : ℕ) (text : List ℕ) → count ≤ n
+    → length (map (from_be_bytes w16) (take count (first_chunks 2 n text))) ≡ count
+pairs_len zero n text le = refl
+pairs_len (suc count) zero text le = absurd (omega arith)
+pairs_len (suc count) (suc n) text le = ap suc (pairs_len count n (drop 2 text) (omega arith))
+
+-- so pairs of bytes are joined to the raw values of a text, where they have two bytes
+pub pairs_are_values : (wide : Bool) (count : ℕ) (text : List ℕ) → wide ≡ true
+    → count * sample_width wide ≤ length text
+    → AreRawValues wide count text (map (from_be_bytes w16) (take count (first_chunks 2 (length text / 2) text)))
+pairs_are_values false count text is_two le = absurd cc
+pairs_are_values true count text is_two le =
+    let enough : count ≤ length text / 2 = omega (arith, le) in
+    record {
+      length = pairs_len count (length text / 2) text enough;
+      values = λ k lt. pair_value count (length text / 2) k text enough lt;
+    }
 
 front_none : (r : Many) → r ≡ with_front [] r
 front_none (Ok x) = refl

@@ -1,13 +1,16 @@
 //! The samples of a file, in decimal numbers or in bytes.
-ghost use Rattle.std.specs.Prelude.{◌≡◌, ◌*◌, ◌≤◌, true, length, IfOk};
+ghost use Rattle.std.specs.Prelude.{◌≡◌, ◌*◌, ◌≤◌, false, nat_lt, length, map, IfOk};
+ghost use Rattle.std.specs.Int.{w16, from_be_bytes};
+ghost use Rattle.std.specs.List.{list_any};
 ghost use Rattle.pgm_codec.specs.declared.grammar.Encoding.TheVariants.{Plain, Raw};
+ghost use Rattle.pgm_codec.specs.Spelling.{is_wide};
 ghost use Rattle.pgm_codec.specs.Reading.{Gives, GivesOrMemory, AreSamples, AreRawValues};
 ghost use Rattle.pgm_codec.specs.Reading.{sample_at, sample_width, samples_at, end_at};
 
 use crate::error::PgmError;
 use crate::grammar::{Encoding, Place};
 use crate::numbers::{after_gap, is_white, number};
-use crate::samples::is_any_above;
+use crate::samples::{is_any_above, no_byte_is_above};
 use std::alloc::{AllocError, Global};
 
 // The next sample of a plain raster, and the text behind its digits.
@@ -49,19 +52,21 @@ fn plain_samples(
 
 // The values of single bytes.
 fn widened(alloc: Global, bytes: &[u8]) -> Result<Vec<u16>, AllocError>
-    ensures { IfOk result (λ v. v.items ≡ bytes.now) }
+    ensures values { IfOk result (λ v. v.items ≡ bytes.now) }
+    ensures within { IfOk result (λ v. list_any (λ s. nat_lt 255 s) v.items ≡ false) }
 {
+    no_byte_is_above(bytes);
     bytes.iter().map(|b| u16::from(*b)).collect(alloc)
 }
 
 // The values of pairs of bytes, the more significant first.
-fn join(bytes: &[u8], samples: &mut [u16])
-    requires { length samples.old * 2 ≤ length bytes.now }
-    ensures { AreRawValues true (length samples.old) bytes.now samples.new }
+fn joined(alloc: Global, pairs: &[[u8; 2]]) -> Result<Vec<u16>, AllocError>
+    ensures { IfOk result (λ v. v.items ≡ map (from_be_bytes w16) pairs.now) }
 {
-    for i in 0..samples.len() {
-        samples[i] = u16::from(bytes[i * 2]) * 256 + u16::from(bytes[i * 2 + 1]);
-    }
+    pairs
+        .iter()
+        .map(|pair| u16::from_be_bytes(*pair))
+        .collect(alloc)
 }
 
 // How many bytes a raw sample has.
@@ -74,14 +79,22 @@ fn sample_width(wide: bool) -> usize
 // The first values of a raw raster, of two bytes each or of one.
 fn raw_values(alloc: Global, text: &[u8], wide: bool, count: usize) -> Result<Vec<u16>, AllocError>
     requires { count * sample_width wide ≤ length text.now }
-    ensures { IfOk result (λ v. AreRawValues wide count text.now v.items) }
+    ensures values { IfOk result (λ v. AreRawValues wide count text.now v.items) }
+    ensures within { IfOk result (λ v. wide ≡ false → list_any (λ s. nat_lt 255 s) v.items ≡ false) }
 {
     if !wide {
         return widened(alloc, &text[..count]);
     }
-    let mut samples = vec![in alloc; 0; count]?;
-    join(text, &mut samples);
-    Ok(samples)
+    let (pairs, _) = text.as_chunks::<2>();
+    joined(alloc, &pairs[..count])
+}
+
+// Whether some raw value is above maxval. Where all that its bytes can hold is allowed, none is looked at.
+fn is_value_above(values: &[u16], maxval: u16) -> bool
+    requires { is_wide maxval ≡ false → list_any (λ s. nat_lt 255 s) values.now ≡ false }
+    ensures { result ≡ list_any (λ s. nat_lt maxval s) values.now }
+{
+    maxval != 255 && is_any_above(values, maxval)
 }
 
 // As many samples of a raw raster, and the text behind the last. It takes no more memory than the
@@ -99,7 +112,7 @@ fn raw_samples(
     let width = sample_width(wide);
     let whole = count.min(text.len() / width);
     let samples = raw_values(alloc, text, wide, whole)?;
-    if is_any_above(&samples, maxval) {
+    if is_value_above(&samples, maxval) {
         return Err(PgmError::SampleRange);
     }
     if whole < count {

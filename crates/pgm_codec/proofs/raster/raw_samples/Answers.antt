@@ -18,29 +18,29 @@ first_values m count whole width small text ss w e len values = record {
   values = λ k lt. values k (subst (λ (n : ℕ). k < n) len lt);
 }
 
-pub returns-then-is_any_above-clause-read : goal.returns-then-is_any_above-clause-read
-returns-then-is_any_above-clause-read c =
+pub returns-then-is_value_above-clause-read : goal.returns-then-is_value_above-clause-read
+returns-then-is_value_above-clause-read c =
     let m = c.args.maxval in
     let small : m ≤ max_level = omega (arith, c.ranges.maxval.fits) in
     let samples = c.in_ok-samples.samples.items in
-    let made = c.in_ok-samples.ensures in
+    let made = c.in_ok-samples.ensures.values in
     inr (above_gives m small c.args.text.now samples c.args.count
     (first_values m c.args.count c.min-whole.result c.sample_width-width.result small c.args.text.now samples
     c.sample_width-width.ensures
     c.min-whole.ensures made.length made.values)
-    (ap (list_any (λ s. nat_lt m s)) (sym c.deref.ensures.value) ∙ sym c.is_any_above.ensures ∙ c.if-is_any_above.true))
+    (ap (list_any (λ s. nat_lt m s)) (sym c.deref.ensures.value) ∙ sym c.is_value_above.ensures ∙ c.if-is_value_above.true))
 
 pub returns-then-whole-count-clause-read : goal.returns-then-whole-count-clause-read
 returns-then-whole-count-clause-read c =
     let m = c.args.maxval in
     let small : m ≤ max_level = omega (arith, c.ranges.maxval.fits) in
     let samples = c.in_ok-samples.samples.items in
-    let made = c.in_ok-samples.ensures in
+    let made = c.in_ok-samples.ensures.values in
     inr (short_gives m small c.args.text.now samples c.args.count
     (first_values m c.args.count c.min-whole.result c.sample_width-width.result small c.args.text.now samples
     c.sample_width-width.ensures
     c.min-whole.ensures made.length made.values)
-    (ap (list_any (λ s. nat_lt m s)) (sym c.deref.ensures.value) ∙ sym c.is_any_above.ensures ∙ c.if-is_any_above.false)
+    (ap (list_any (λ s. nat_lt m s)) (sym c.deref.ensures.value) ∙ sym c.is_value_above.ensures ∙ c.if-is_value_above.false)
     (subst (λ (n : ℕ). n < c.args.count) (sym made.length) c.if-whole-count.true))
 
 pub returns-clause-read : goal.returns-clause-read
@@ -48,13 +48,13 @@ returns-clause-read c =
     let m = c.args.maxval in
     let small : m ≤ max_level = omega (arith, c.ranges.maxval.fits) in
     let samples = c.in_ok-samples.samples.items in
-    let made = c.in_ok-samples.ensures in
+    let made = c.in_ok-samples.ensures.values in
     let behind = c.min-whole.result * c.sample_width-width.result in
     enough_gives m small c.args.text.now samples c.args.count
     (first_values m c.args.count c.min-whole.result c.sample_width-width.result small c.args.text.now samples
     c.sample_width-width.ensures
     c.min-whole.ensures made.length made.values)
-    (ap (list_any (λ s. nat_lt m s)) (sym c.deref.ensures.value) ∙ sym c.is_any_above.ensures ∙ c.if-is_any_above.false)
+    (ap (list_any (λ s. nat_lt m s)) (sym c.deref.ensures.value) ∙ sym c.is_value_above.ensures ∙ c.if-is_value_above.false)
     (subst (λ (n : ℕ). c.args.count ≤ n) (sym made.length) c.if-whole-count.false)
     ∙ ap (λ (n : ℕ). Ok (samples, drop (n * sample_width (is_wide m)) c.args.text.now)) made.length
     ∙ ap (λ (n : ℕ). Ok (samples, drop (c.min-whole.result * n) c.args.text.now)) (sym c.sample_width-width.ensures)
@@ -66,8 +66,8 @@ returns-clause-made c =
     let small : m ≤ max_level = omega (arith, c.ranges.maxval.fits) in
     let whole : c.args.count ≤ c.min-whole.result = c.if-whole-count.false in
     record {
-      length = omega (arith, c.in_ok-samples.ensures.length, c.min-whole.ensures, whole);
+      length = omega (arith, c.in_ok-samples.ensures.values.length, c.min-whole.ensures, whole);
       range = all_within m small c.in_ok-samples.samples.items
-          (ap (list_any (λ s. nat_lt m s)) (sym c.deref.ensures.value) ∙ sym c.is_any_above.ensures
-          ∙ c.if-is_any_above.false);
+          (ap (list_any (λ s. nat_lt m s)) (sym c.deref.ensures.value) ∙ sym c.is_value_above.ensures
+          ∙ c.if-is_value_above.false);
     }
