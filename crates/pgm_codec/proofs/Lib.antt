@@ -13,3 +13,4 @@ pub mod PlainLoop
 pub mod PlainTexts
 pub mod Maxval
 pub mod Pieces
+pub mod Blocks

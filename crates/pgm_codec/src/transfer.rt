@@ -1,15 +1,19 @@
 //! Images from a source and to a sink.
-ghost use Rattle.std.specs.Prelude.{◌⊎◌, IfOk, IfErr};
-ghost use Rattle.byte_devices.specs.Transfer.{IsInputOf, ReadsToEnd, most_pulls};
+ghost use Rattle.std.specs.Prelude.{◌≡◌, ◌⊎◌, ◌*◌, ◌≤◌, length, vec_len, All, IfOk, IfErr};
+ghost use Rattle.std.specs.List.{flat_map};
+ghost use Rattle.byte_devices.specs.Transfer.{IsInputOf, ReadsToEnd, PutsAll, most_pulls};
 ghost use Rattle.pgm_codec.specs.Transfer.{IsOfMemory, IsOfDevice, ReadsImage, WritesFile};
-ghost use Rattle.pgm_codec.specs.Writing.{raw_text};
+ghost use Rattle.pgm_codec.specs.Writing.{sample_bytes, sample_len, raw_header, raw_text};
 
 use crate::error::PgmError;
 use crate::image::Image;
 use crate::reading::read;
-use crate::writing::write_raw;
-use byte_devices::{Sink, Source, put_all};
-use std::alloc::Global;
+use crate::writing::{header, put_samples, sample_len};
+use byte_devices::{Fault, Sink, Source, put_all};
+use std::alloc::{AllocError, Global};
+
+// How many samples are put at once.
+const BLOCK_SAMPLES: usize = 32_768;
 
 /// Everything that the source has left, up to its end, as [`byte_devices::read_all`] gives it.
 ///
@@ -36,14 +40,76 @@ pub fn read_from<S: Source>(alloc: Global, source: &mut S) -> Result<Image, PgmE
     read(alloc, &text)
 }
 
-/// Puts the raw file of an image, its text as [`write_raw`] gives it.
+// Puts the bytes of samples, which the block has room for.
+fn put_block<K: Sink>(
+    sink: &mut K,
+    block: &mut [u8],
+    maxval: u16,
+    samples: &[u16],
+) -> Result<(), Fault>
+    requires within { All (λ s. s ≤ maxval) samples.now }
+    requires room { length samples.now * sample_len maxval ≤ length block.old }
+    ensures len { length block.new ≡ length block.old }
+    ensures put { PutsAll result (K.seen sink.old) (K.seen sink.new) (flat_map (sample_bytes maxval) samples.now) }
+{
+    let bytes = &mut block[..samples.len() * sample_len(maxval)];
+    put_samples(bytes, 0, maxval, samples);
+    put_all(sink, bytes)
+}
+
+// Puts the bytes of samples, one block after the other.
+fn put_raster<K: Sink>(
+    sink: &mut K,
+    block: &mut [u8],
+    maxval: u16,
+    samples: &[u16],
+) -> Result<(), Fault>
+    requires within { All (λ s. s ≤ maxval) samples.now }
+    requires room { 65536 ≤ length block.old }
+    ensures { PutsAll result (K.seen sink.old) (K.seen sink.new) (flat_map (sample_bytes maxval) samples.now) }
+{
+    let mut rest = samples;
+    while !rest.is_empty() {
+        let (next, behind) = rest.split_at(BLOCK_SAMPLES.min(rest.len()));
+        put_block(sink, block, maxval, next)?;
+        rest = behind;
+    }
+    Ok(())
+}
+
+// Puts the raw file of an image, behind its header.
+fn put_file<K: Sink>(
+    sink: &mut K,
+    header: &[u8],
+    block: &mut [u8],
+    image: &Image,
+) -> Result<(), Fault>
+    requires header { header.now ≡ raw_header image.now }
+    requires room { 65536 ≤ length block.old }
+    ensures { PutsAll result (K.seen sink.old) (K.seen sink.new) (raw_text image.now) }
+{
+    let (maxval, samples) = (image.maxval(), image.samples());
+    put_all(sink, header)?;
+    put_raster(sink, block, maxval, samples)
+}
+
+// The room of a block.
+fn zeros(alloc: Global) -> Result<Vec<u8>, AllocError>
+    ensures { IfOk result (λ v. vec_len v ≡ 65536) }
+{
+    vec![in alloc; 0; 65_536]
+}
+
+/// Puts the raw file of an image, its text as [`write_raw`](crate::write_raw) gives it, in blocks. It takes memory for
+/// the header and for one block.
 ///
 /// Errors: P10, and then nothing was put; P11 where a put failed, and then some front of the text was
 /// taken.
 pub fn write_to<K: Sink>(alloc: Global, image: &Image, sink: &mut K) -> Result<(), PgmError>
     ensures { WritesFile (raw_text image.now) result K.seen sink.old sink.new }
 {
-    let text = write_raw(alloc, image)?;
-    put_all(sink, &text)?;
+    let header = header(alloc, image)?;
+    let mut block = zeros(alloc)?;
+    put_file(sink, header.as_bytes(), &mut block, image)?;
     Ok(())
 }

@@ -55,7 +55,7 @@ pub fn put_samples(out: &mut [u8], at: usize, maxval: u16, samples: &[u16])
 }
 
 // The header of the raw file.
-fn header(alloc: Global, image: &Image) -> Result<String, AllocError>
+pub(crate) fn header(alloc: Global, image: &Image) -> Result<String, AllocError>
     ensures { IfOk result (λ t. string_bytes t ≡ raw_header image.now) }
 {
     let (width, height, maxval) = (image.width(), image.height(), image.maxval());
