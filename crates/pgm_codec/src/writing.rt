@@ -1,5 +1,5 @@
 //! Writing raw files.
-ghost use Rattle.std.specs.Prelude.{◌≡◌, ◌+◌, ◌*◌, ◌<◌, ◌≤◌, ◌++◌, length, take, string_bytes, All, IfOk, IsOkUnless};
+ghost use Rattle.std.specs.Prelude.{◌≡◌, ◌+◌, ◌*◌, ◌<◌, ◌≤◌, ◌++◌, length, take, string_bytes, All, IfOk, OnOk, IsOkUnless};
 ghost use Rattle.std.specs.List.{flat_map};
 ghost use Rattle.pgm_codec.specs.declared.error.PgmError.TheVariants as errors;
 ghost use Rattle.pgm_codec.specs.Writing.{sample_bytes, sample_len, raw_header, raw_text};
@@ -54,6 +54,38 @@ pub fn put_samples(out: &mut [u8], at: usize, maxval: u16, samples: &[u16])
     }
 }
 
+// Appends the bytes of samples, which the block has room for.
+fn append_block(
+    out: &mut Vec<u8>,
+    block: &mut [u8],
+    maxval: u16,
+    samples: &[u16],
+) -> Result<(), AllocError>
+    requires within { All (λ s. s ≤ maxval) samples.now }
+    requires room { length samples.now * sample_len maxval ≤ length block.old }
+    ensures len { length block.new ≡ length block.old }
+    ensures items { OnOk result (out.new.items ≡ out.old.items ++ flat_map (sample_bytes maxval) samples.now) }
+{
+    let bytes = &mut block[..samples.len() * sample_len(maxval)];
+    put_samples(bytes, 0, maxval, samples);
+    out.extend_from_slice(bytes)
+}
+
+// Appends the bytes of samples, one block after the other.
+fn append_samples(out: &mut Vec<u8>, maxval: u16, samples: &[u16]) -> Result<(), AllocError>
+    requires within { All (λ s. s ≤ maxval) samples.now }
+    ensures { OnOk result (out.new.items ≡ out.old.items ++ flat_map (sample_bytes maxval) samples.now) }
+{
+    let mut block = [0; 4096];
+    let mut rest = samples;
+    while !rest.is_empty() {
+        let (next, behind) = rest.split_at(rest.len().min(2048));
+        append_block(out, &mut block, maxval, next)?;
+        rest = behind;
+    }
+    Ok(())
+}
+
 // The header of the raw file.
 pub(crate) fn header(alloc: Global, image: &Image) -> Result<String, AllocError>
     ensures { IfOk result (λ t. string_bytes t ≡ raw_header image.now) }
@@ -76,7 +108,6 @@ pub fn write_raw(alloc: Global, image: &Image) -> Result<Vec<u8>, PgmError>
     let length = header.len() + samples.len() * sample_len(maxval);
     let mut out = Vec::with_capacity(alloc, length)?;
     out.extend_from_slice(header.as_bytes())?;
-    out.resize(length, 0)?;
-    put_samples(&mut out, header.len(), maxval, samples);
+    append_samples(&mut out, maxval, samples)?;
     Ok(out)
 }
