@@ -13,6 +13,8 @@ spiral  a corridor one pixel wide that winds inwards, one seed at its outer end
 maze    a perfect maze of corridors one pixel wide, one seed
 noise   16-bit white noise, a few seeds
 rising  a flat plate with 64 seeds from top to bottom, each brighter than the one above it
+corner  cells on a noisy ground that is nowhere 0, one seed in the lower right corner that lights all of it
+snake   a corridor one pixel wide that winds up and down through the whole image, one seed at its right end
 
 A family of many strokes, for `strokes.py`, with `--discs N` and `--withdrawn K`:
 
@@ -268,6 +270,27 @@ def rising(width, height, generator):
     return mask, 255, strokes
 
 
+def corner(width, height, generator):
+    """Cells on a noisy ground that is nowhere 0; all light comes from the lower right corner."""
+    mask, maxval, _ = lit_ground(width, height, generator)
+    strokes = Strokes(width, height)
+    strokes.disc(height - 1, width - 1, 3, 255)
+    return mask, maxval, strokes
+
+
+def snake(width, height, generator):
+    """Every other column, each joined to the next: the last two at the top, the two before at the bottom, and so on."""
+    level = generator.randint(190, 211)
+    mask = numpy.zeros((height, width), numpy.uint8)
+    last = (width - 1) // 2 * 2
+    walls = numpy.arange(last - 1, 0, -2)
+    mask[:, ::2] = level
+    mask[0, walls[::2]] = mask[-1, walls[1::2]] = level
+    strokes = Strokes(width, height)
+    strokes.dash(height - 1, last, 0, 255)
+    return mask, 255, strokes
+
+
 def discs(width, height, generator, count=30_000, withdrawn=0):
     """Plates under many small discs, some of which are withdrawn again."""
     mask, maxval, _ = plates(width, height, generator)
@@ -323,7 +346,8 @@ def relief(width, height, generator):
 
 
 FAMILIES = {"cells": cells, "plates": plates, "map": height_lines,
-            "spiral": spiral, "maze": maze, "noise": noise, "rising": rising, "discs": discs,
+            "spiral": spiral, "maze": maze, "noise": noise, "rising": rising,
+            "corner": corner, "snake": snake, "discs": discs,
             "few-lit": few_lit, "all-lit": all_lit, "lit-ground": lit_ground,
             "relief": relief}
 
