@@ -26,8 +26,7 @@ import tempfile
 
 HERE = pathlib.Path(__file__).resolve().parent
 KEPT = pathlib.Path(tempfile.gettempdir()) / f"seedpaint-bench-{os.getuid()}"
-FAMILIES = ["cells", "plates", "map", "spiral", "maze", "noise", "rising"]
-CELL = 4  # bytes of a cell of Seedpaint's grids
+FAMILIES = ["cells", "plates", "map", "spiral", "maze", "noise", "rising", "corner", "snake"]
 
 
 def say(text):
@@ -110,11 +109,15 @@ class Filter:
         return usage.ru_utime + usage.ru_stime, usage.ru_maxrss * 1024
 
 
-class Leptonica(Filter):
-    """leptonica.c, which reads mask and marker and can do 8 bits; measured as a process."""
+class OnPictures(Filter):
+    """A program that reads mask and marker, with samples up to `top`; measured as a process."""
+
+    def __init__(self, name, command, top):
+        super().__init__(name, command)
+        self.top = top
 
     def takes(self, source):
-        return source.maxval() < 256
+        return source.maxval() <= self.top
 
     def run(self, source, target):
         command = self.command + [source.mask, source.marker]
@@ -140,14 +143,44 @@ def compiled(name, *libraries):
     return program if subprocess.run(command, stderr=quiet, check=False).returncode == 0 else None
 
 
+def compiled_itk():
+    """The path of itk.cxx once it is compiled for the ITK that is installed, or None; it takes long, so it is kept."""
+    source = HERE / "itk.cxx"
+    headers = [folder for prefix in ("/usr", "/usr/local") for folder in pathlib.Path(prefix, "include").glob("ITK-*")]
+    if not headers or not shutil.which("c++"):
+        return None
+    version = headers[-1].name.removeprefix("ITK-")
+    program = KEPT / f"itk-{version}"
+    if program.exists() and program.stat().st_mtime > source.stat().st_mtime:
+        return program
+    say(f"compiling {source.name}")
+    libraries = [f"-l{name}-{version}" for name in ("ITKCommon", "itksys", "itkvnl", "itkvnl_algo")]
+    command = ["c++", "-O2", "-I", headers[-1], "-o", program, source, *libraries]
+    return program if subprocess.run(command, stderr=subprocess.DEVNULL, check=False).returncode == 0 else None
+
+
+def has_scikit_image():
+    """Whether this Python has scikit-image."""
+    command = [sys.executable, "-c", "import skimage.morphology"]
+    return subprocess.run(command, stderr=subprocess.DEVNULL, check=False).returncode == 0
+
+
 def others(conn):
-    """The other tools that are installed here."""
-    leptonica = compiled("leptonica", "-llept")
-    if leptonica:
-        yield Leptonica("Leptonica", [leptonica, conn])
-    if subprocess.run([sys.executable, "-c", "import skimage.morphology"], stderr=subprocess.DEVNULL,
-                      check=False).returncode == 0:
-        yield ScikitImage("scikit-image", [sys.executable, HERE / "scikit_image.py", conn])
+    """The other tools that are installed here; a line tells which are not."""
+    leptonica, itk = compiled("leptonica", "-llept"), compiled_itk()
+    tools = {"Leptonica": leptonica and OnPictures("Leptonica", [leptonica, conn], 255),
+             "ITK": itk and OnPictures("ITK", [itk, conn], 65535),
+             "scikit-image": has_scikit_image()
+                             and ScikitImage("scikit-image", [sys.executable, HERE / "scikit_image.py", conn])}
+    tell_missing(name for name, tool in tools.items() if not tool)
+    return [tool for tool in tools.values() if tool]
+
+
+def tell_missing(names):
+    """Print which tools are left out."""
+    missing = ", ".join(names)
+    if missing:
+        print(f"Left out, for they are not installed here: {missing}.\n", flush=True)
 
 
 # ---- Measuring ----
@@ -179,19 +212,6 @@ def measure(source, programs, runs):
     return medians
 
 
-def instructions(program, source):
-    """The instructions that callgrind counts in one run."""
-    command = ["valgrind", "--tool=callgrind", "--callgrind-out-file=/dev/null", *program.command]
-    with open(source.path, "rb") as reader:
-        done = subprocess.run(command, stdin=reader, stdout=subprocess.DEVNULL, stderr=subprocess.PIPE,
-                              text=True, check=False)
-    counted = re.search(r"Collected : (\d+)", done.stderr)
-    if done.returncode != 0 or not counted:
-        stop(f"valgrind failed on {program.name}:\n{done.stderr}")
-    say(f"{source.family} {source.side}: {program.name} {int(counted[1]) / 1e6:.1f} million instructions")
-    return int(counted[1])
-
-
 # ---- Tables ----
 
 def table(heading, rows):
@@ -202,9 +222,9 @@ def table(heading, rows):
 
 
 def memory(peak, side):
-    """A peak as a multiple of the mask's cells, where it stands above what this script itself takes."""
+    """A peak in bytes a pixel of the file, where it stands above what this script itself takes."""
     own = resource.getrusage(resource.RUSAGE_SELF).ru_maxrss * 1024
-    return f"{peak / (CELL * side * side):.2f}" if peak > own else "-"
+    return f"{peak / (side * side):.1f}" if peak > own else "-"
 
 
 def machine():
@@ -220,7 +240,7 @@ def machine():
             f" {platform.release()}; {version.splitlines()[0]}")
 
 
-def ratios(families, side, programs, runs, count):
+def ratios(families, side, programs, runs):
     """Measure the families at one size, and print the table of ratios; give the medians."""
     program, baseline, *others = programs
     rows, results = [], {}
@@ -231,11 +251,8 @@ def ratios(families, side, programs, runs, count):
         figures = results[family] = measure(source, [each for each in programs if each.takes(source)], runs)
         unit = figures[baseline.name][0]
         row = [family, f"{figures[program.name][0] / unit:.2f}", memory(figures[program.name][1], side)]
-        if count:
-            row.append(f"{instructions(program, source) / instructions(baseline, source):.2f}")
         rows.append(row + [f"{figures[each.name][0] / unit:.2f}" if each.name in figures else "-" for each in others])
-    heading = [f"{side} by {side}", "time", "memory"] + ["instructions"] * count + [each.name for each in others]
-    table(heading, rows)
+    table([f"{side} by {side}", "time", "bytes a pixel"] + [each.name for each in others], rows)
     return results
 
 
@@ -280,16 +297,12 @@ def read_words():
     parser.add_argument("--conn", type=int, default=4, choices=(4, 8), help="neighbours of a pixel (4)")
     parser.add_argument("--sides", type=read_sides, metavar="N,N..",
                         help="compare tiles of these sides instead, as 16,32,64,128,256; nothing but time is measured")
-    parser.add_argument("--callgrind", action="store_true", help="count instructions too, where valgrind is there")
-    parser.add_argument("--no-others", action="store_true", help="leave scikit-image and Leptonica out")
+    parser.add_argument("--no-others", action="store_true", help="leave Leptonica, ITK and scikit-image out")
     words = parser.parse_args()
     if words.runs < 1 or min(words.sizes) < 1:
         parser.error("runs and sizes are at least 1")
     if not words.program.is_file():
         parser.error(f"{words.program} is not there; `rt run` in crates/seedpaint makes the program")
-    if words.callgrind and not shutil.which("valgrind"):
-        say("valgrind is not installed: no instructions are counted")
-        words.callgrind = False
     return words
 
 
@@ -313,7 +326,7 @@ def main():
     programs = [Filter("program", view), baseline]
     if not words.no_others:
         programs += others(conn)
-    results = {size: ratios(words.families, size, programs, words.runs, words.callgrind) for size in sizes}
+    results = {size: ratios(words.families, size, programs, words.runs) for size in sizes}
     if len(results) > 1:
         growth(results, programs)
 

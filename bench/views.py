@@ -115,12 +115,13 @@ def main():
     baseline = run.compiled("baseline")
     if baseline is None:
         run.stop("cc failed")
-    quiet = {"stderr": subprocess.DEVNULL, "check": False}
-    others = not words.no_others and subprocess.run([sys.executable, "-c", "import skimage.morphology"],
-                                                    **quiet).returncode == 0
     print(f"{run.machine()}; {words.conn} neighbours, the median of {words.runs} runs each.\n", flush=True)
+    others = not words.no_others and run.has_scikit_image()
+    if not words.no_others and not others:
+        run.tell_missing(["scikit-image"])
     rows = [row(words, baseline, family, view, others) for family in words.families for view in VIEWS]
-    run.table([f"{words.size} by {words.size}", "view", "time", "memory"] + ["scikit-image", "h_maxima"] * others, rows)
+    run.table([f"{words.size} by {words.size}", "view", "time", "bytes a pixel"] + ["scikit-image", "h_maxima"] * others,
+              rows)
 
 
 if __name__ == "__main__":
