@@ -48,7 +48,13 @@ def rows(source, program, side, whole):
         reset, swept, nanoseconds = (statistics.median(column) for column in zip(*figures[kind]))
         run.say(f"{source.family}, tile {side}, {kind}: {nanoseconds / 1000:.0f} microseconds")
         yield [source.family, kind, f"{1000 * whole:.0f}", f"{nanoseconds / 1000:.0f}",
-               f"{whole / nanoseconds * 1e9:.0f}", f"{reset:g}", f"{swept:g}"]
+               part(nanoseconds / 1e9, whole), f"{reset:g}", f"{swept:g}"]
+
+
+def part(edit, whole):
+    """The seconds of an edit as a part of those of a whole run, as 1/400."""
+    times = whole / edit
+    return f"1/{times:.0f}" if times >= 10 else f"1/{times:.1f}"
 
 
 def read_words():
@@ -81,7 +87,7 @@ def main():
     whole = [baseline_seconds(baseline, source, words.runs) for source in sources]
     print(f"{run.machine()}; 4 neighbours; the baseline's median of {words.runs} runs.\n", flush=True)
     for side in words.sides:
-        run.table([f"{words.size} by {words.size}, tile {side}", "edit", "baseline ms", "edit µs", "baseline / edit",
+        run.table([f"{words.size} by {words.size}, tile {side}", "edit", "baseline ms", "edit µs", "part of baseline",
                    "tiles reset", "tiles swept"],
                   [row for source, seconds in zip(sources, whole)
                    for row in rows(source, words.program.resolve(), side, seconds)])
