@@ -120,8 +120,8 @@ def main():
     if not words.no_others and not others:
         run.tell_missing(["scikit-image"])
     rows = [row(words, baseline, family, view, others) for family in words.families for view in VIEWS]
-    run.table([f"{words.size} by {words.size}", "view", "time", "bytes a pixel"] + ["scikit-image", "h_maxima"] * others,
-              rows)
+    heading = [f"{words.size} by {words.size}", "view", "time", "bytes a pixel"]
+    run.table(heading + ["scikit-image", "h_maxima"] * others, rows)
 
 
 if __name__ == "__main__":
