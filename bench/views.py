@@ -10,6 +10,7 @@ says what the columns mean.
 """
 
 import argparse
+import multiprocessing
 import pathlib
 import subprocess
 import sys
@@ -30,8 +31,12 @@ class Image:
         source = run.Input(family, side)
         self.path = source.path.with_suffix(".image.pgm")
         self.maxval = source.maxval()
-        if not self.path.exists():
-            write_image(source.path, self.path)
+        if not self.path.exists():  # in a process of its own: peaks of memory show only above that of this one
+            writing = multiprocessing.Process(target=write_image, args=(source.path, self.path))
+            writing.start()
+            writing.join()
+            if writing.exitcode != 0:
+                run.stop(f"{self.path} cannot be written")
 
     def height(self):
         """The height of the domes that are cut down."""
