@@ -11,7 +11,8 @@ use Rattle.byte_devices.specs.Transfer.{AppendsFront, PutsAll}
 -- what is left, in two pieces
 two_pieces : (n : ℕ) (rest next behind : List ℕ) → next ≡ take n rest → behind ≡ drop n rest → rest ≡ next ++ behind
 two_pieces n rest next behind e f =
-    sym (take-append-drop n rest) ∙ ap (λ (l : List ℕ). l ++ drop n rest) (sym e) ∙ ap (λ (l : List ℕ). next ++ l) (sym f)
+    sym (take-append-drop n rest) ∙ ap (λ (l : List ℕ). l ++ drop n rest) (sym e)
+    ∙ ap (λ (l : List ℕ). next ++ l) (sym f)
 
 -- the next samples were put behind those that are done
 pub block_more : (f : ℕ → List ℕ) (all done rest next behind : List ℕ) (n : ℕ) (old mid new : Option (List ℕ))

@@ -6,7 +6,8 @@ use Rattle.std.specs.VecDeque.{deque_capacity, deque_items}
 use Rattle.std.specs.declared.collections.VecDeque.{VecDeque}
 use Rattle.std.proofs.lemmas.List.{set-get_or}
 use Rattle.std.proofs.lemmas.List.Elements.{All-head, All-set, All-tail, Contains-append_cases}
-use Rattle.std.proofs.lemmas.List.Elements.{Contains-append_left, Contains-append_right, Contains-push, Contains-push_cases}
+use Rattle.std.proofs.lemmas.List.Elements.{Contains-append_left, Contains-append_right, Contains-push}
+use Rattle.std.proofs.lemmas.List.Elements.{Contains-push_cases}
 use Rattle.raster_sweeps.specs.Waiting.{AreAllEmpty, AreOneMore, AreServed, HaveCapacity, cells_of}
 
 -- a cell more at the end

@@ -98,7 +98,7 @@ cross_of rect width p cross above left right below = record {
 
 -- the place there is has this cell
 abbrev pub IsPlaceOf : Option Place → ℕ → Type 0
-IsPlaceOf there cell = (place : Place) × (there ≡ Some place) × (place.cell ≡ cell)
+IsPlaceOf there cell = (row : ℕ) × (there ≡ Some (record { cell = cell; row = row }))
 
 -- where each direction was tested, and its cell taken from that of the pixel, they make a cross
 pub crossed : (rect : Rect) (width cell : ℕ) (p : Pixel) (cross : Cross) → IsInside rect.w rect.h p
@@ -115,25 +115,28 @@ crossed rect width cell p cross inside place above left right below =
           let up : Pixel = record { x = p.x; y = p.y - 1 } in
           let next : up.y + 1 ≡ p.y = omega (arith, is.0) in
           let start : (rect.y + (up.y + 1)) * width ≡ (rect.y + p.y) * width = ap (λ r. (rect.y + r) * width) next in
-          arm rect width p (IsAbove p) up cross.above is.1.0 (inside.0, omega (arith, inside.1))
+          arm rect width p (IsAbove p) up cross.above
+          (record { cell = cell - width; row = is.1.0 }) (inside.0, omega (arith, inside.1))
           (omega (arith, next))
           (λ r there. same_pixel r up there.0 (omega (arith, there.1, next))) is.1.1
-          (omega (arith, place, start, is.1.2))
+          (omega (arith, place, start))
       | inr is ↦ no_arm rect width p (IsAbove p) cross.above is.1 (λ q inside_q there. omega (arith, there.1, is.0))
     ])
     (elim left [
       | inl is ↦
           let beside : Pixel = record { x = p.x - 1; y = p.y } in
-          arm rect width p (IsLeft p) beside cross.left is.1.0 (omega (arith, inside.0), inside.1)
+          arm rect width p (IsLeft p) beside cross.left
+          (record { cell = cell - 1; row = is.1.0 }) (omega (arith, inside.0), inside.1)
           (omega (arith, is.0))
-          (λ r there. same_pixel r beside (omega (arith, there.0)) there.1) is.1.1 (omega (arith, place, is.0, is.1.2))
+          (λ r there. same_pixel r beside (omega (arith, there.0)) there.1) is.1.1 (omega (arith, place, is.0))
       | inr is ↦ no_arm rect width p (IsLeft p) cross.left is.1 (λ q inside_q there. omega (arith, there.0, is.0))
     ])
     (elim right [
       | inl is ↦
           let beside : Pixel = record { x = p.x + 1; y = p.y } in
-          arm rect width p (IsRight p) beside cross.right is.1.0 (is.0, inside.1) (omega arith)
-          (λ r there. same_pixel r beside there.0 there.1) is.1.1 (omega (arith, place, is.1.2))
+          arm rect width p (IsRight p) beside cross.right
+          (record { cell = cell + 1; row = is.1.0 }) (is.0, inside.1) (omega arith)
+          (λ r there. same_pixel r beside there.0 there.1) is.1.1 (omega (arith, place))
       | inr is ↦
           no_arm rect width p (IsRight p) cross.right is.1
           (λ q inside_q there. omega (arith, there.0, is.0, inside_q.0))
@@ -141,8 +144,9 @@ crossed rect width cell p cross inside place above left right below =
     (elim below [
       | inl is ↦
           let down : Pixel = record { x = p.x; y = p.y + 1 } in
-          arm rect width p (IsBelowIt p) down cross.below is.1.0 (inside.0, is.0) (omega arith)
-          (λ r there. same_pixel r down there.0 there.1) is.1.1 (omega (arith, place, is.1.2))
+          arm rect width p (IsBelowIt p) down cross.below
+          (record { cell = cell + width; row = is.1.0 }) (inside.0, is.0) (omega arith)
+          (λ r there. same_pixel r down there.0 there.1) is.1.1 (omega (arith, place))
       | inr is ↦
           no_arm rect width p (IsBelowIt p) cross.below is.1
           (λ q inside_q there. omega (arith, there.1, is.0, inside_q.1))

@@ -80,7 +80,8 @@ module _ (conn : Conn) (rect : Rect) (mask image : Raster) (y z first : ℕ) (fr
       (aside_in_row conn o.pixel o.other o.raises.beside (omega (arith, o.rows.0, o.rows.1)))
 
   -- where no pixel of the row raises the one to its left
-  pub open_to_right : y ≡ z → NoneOpenToLeft conn rect mask image y → IsOpenCell conn rect mask image (IsFromTo y z) cell
+  pub open_to_right : y ≡ z → NoneOpenToLeft conn rect mask image y
+      → IsOpenCell conn rect mask image (IsFromTo y z) cell
       → RaisesTo IsLeftOf first from limits to cell
   open_to_right same none_left o =
       let aside = aside_in_row conn o.pixel o.other o.raises.beside (omega (arith, o.rows.0, o.rows.1)) in

@@ -48,8 +48,8 @@ pub fn scan_up(mask: &Grid, image: &mut Grid, rect: Rect, conn: Conn, waiting: &
     all
 }
 
-// Raises the pixels of the rectangle's row `to` by their neighbours in the row `from`, which touches it, so that none of
-// these can raise them further.
+// Raises the pixels of the rectangle's row `to` by their neighbours in the row `from`, which touches it, so that none
+// of these can raise them further.
 fn raise_row_by(mask: &Grid, image: &mut Grid, rect: Rect, from: u32, to: u32, conn: Conn)
     requires { CanGrowAcross rect mask.now image.old from to }
     ensures grown { IsRowGrown conn rect mask.now to image.old image.new }

@@ -19,8 +19,8 @@ pub fn strip_of(row: u32) -> usize {
 /// A queue of cells: a list for each strip of rows, first in, first out, with room for so many that it never grows.
 ///
 /// The lists are served down and up again: each until it is empty, and then the next one in the same direction that has
-/// a cell. So cells that are near one another are served one after another. Into which list a cell is put is a matter of
-/// speed alone.
+/// a cell. So cells that are near one another are served one after another. Into which list a cell is put is a matter
+/// of speed alone.
 #[derive(Drop)]
 pub struct Waiting {
     strips: Vec<VecDeque<u32>>,

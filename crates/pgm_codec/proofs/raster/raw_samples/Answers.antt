@@ -28,7 +28,8 @@ returns-then-is_value_above-clause-read c =
     (first_values m c.args.count c.min-whole.result c.sample_width-width.result small c.args.text.now samples
     c.sample_width-width.ensures
     c.min-whole.ensures made.length made.values)
-    (ap (list_any (λ s. nat_lt m s)) (sym c.deref.ensures.value) ∙ sym c.is_value_above.ensures ∙ c.if-is_value_above.true))
+    (ap (list_any (λ s. nat_lt m s)) (sym c.deref.ensures.value) ∙ sym c.is_value_above.ensures
+    ∙ c.if-is_value_above.true))
 
 pub returns-then-whole-count-clause-read : goal.returns-then-whole-count-clause-read
 returns-then-whole-count-clause-read c =
@@ -40,7 +41,8 @@ returns-then-whole-count-clause-read c =
     (first_values m c.args.count c.min-whole.result c.sample_width-width.result small c.args.text.now samples
     c.sample_width-width.ensures
     c.min-whole.ensures made.length made.values)
-    (ap (list_any (λ s. nat_lt m s)) (sym c.deref.ensures.value) ∙ sym c.is_value_above.ensures ∙ c.if-is_value_above.false)
+    (ap (list_any (λ s. nat_lt m s)) (sym c.deref.ensures.value) ∙ sym c.is_value_above.ensures
+    ∙ c.if-is_value_above.false)
     (subst (λ (n : ℕ). n < c.args.count) (sym made.length) c.if-whole-count.true))
 
 pub returns-clause-read : goal.returns-clause-read
@@ -54,7 +56,8 @@ returns-clause-read c =
     (first_values m c.args.count c.min-whole.result c.sample_width-width.result small c.args.text.now samples
     c.sample_width-width.ensures
     c.min-whole.ensures made.length made.values)
-    (ap (list_any (λ s. nat_lt m s)) (sym c.deref.ensures.value) ∙ sym c.is_value_above.ensures ∙ c.if-is_value_above.false)
+    (ap (list_any (λ s. nat_lt m s)) (sym c.deref.ensures.value) ∙ sym c.is_value_above.ensures
+    ∙ c.if-is_value_above.false)
     (subst (λ (n : ℕ). c.args.count ≤ n) (sym made.length) c.if-whole-count.false)
     ∙ ap (λ (n : ℕ). Ok (samples, drop (n * sample_width (is_wide m)) c.args.text.now)) made.length
     ∙ ap (λ (n : ℕ). Ok (samples, drop (c.min-whole.result * n) c.args.text.now)) (sym c.sample_width-width.ensures)

@@ -11,5 +11,6 @@ returns-clause-values c =
     let text = c.args.text.now in
     let values = pairs_are_values c.args.wide count text c.if-not-wide.false c.requires in
     IfOk-weaker c.joined.result _ _ (λ v joined. subst (AreRawValues c.args.wide count text)
-    (sym (joined ∙ ap (λ (pairs : List (List ℕ)). map (from_be_bytes w16) (take count pairs)) c.as_chunks.ensures.front))
+    (sym (joined
+    ∙ ap (λ (pairs : List (List ℕ)). map (from_be_bytes w16) (take count pairs)) c.as_chunks.ensures.front))
     values) c.joined.ensures

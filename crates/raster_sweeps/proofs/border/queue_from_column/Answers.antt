@@ -54,8 +54,8 @@ loop-y-preserved c =
                 held.joined next one
                 (omega (arith, w.if-least-level.true, c.min-least.ensures, c.min.ensures))
             | else-least-level-via-else-least-level w ↦
-                rw w.waiting-is (cell_passes conn rect mask image x y c.requires.column_is.within c.loop-y-test.true above
-                along below held.above held.along c.least_in_row-below.ensures.across
+                rw w.waiting-is (cell_passes conn rect mask image x y c.requires.column_is.within c.loop-y-test.true
+                above along below held.above held.along c.least_in_row-below.ensures.across
                 (omega (arith, fits, c.value_in-level.ensures)) old now
                 (cell_of rect image.width (record { x = x; y = y })) refl held.joined
                 (omega (arith, w.if-least-level.false, c.min-least.ensures, c.min.ensures)))

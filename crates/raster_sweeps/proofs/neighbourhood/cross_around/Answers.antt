@@ -1,4 +1,4 @@
-use Rattle.std.proofs.Common.{◌≡◌, ◌+◌, ◌-◌, ◌/◌, ◌%◌, None, Some, arith, inl, inr, refl}
+use Rattle.std.proofs.Common.{◌≡◌, ℕ, ◌+◌, ◌-◌, ◌/◌, ◌%◌, None, Some, arith, inl, inr, refl}
 use Rattle.raster_sweeps.specs.declared.neighbourhood.Cross.{Cross}
 use Rattle.raster_sweeps.proofs.Crosses.{crossed}
 use Rattle.raster_sweeps.proofs.Spans.{column_of_cell, row_of_cell}
@@ -11,34 +11,36 @@ returns-then-y-rect-2 c p inside place =
     let rect = c.args.rect in
     let width = c.args.width in
     let cell = c.args.cell in
+    let here : ℕ = cell / width - rect.y in
     let x : cell % width ≡ rect.x + p.x = column_of_cell rect width cell p c.requires.columns inside place in
     let y : cell / width ≡ rect.y + p.y = row_of_cell rect width cell p c.requires.columns inside place in
     let cross : Cross = record {
       above = c.if-y-rect.above;
       left = c.if-x-rect.left;
       right = c.if-x-rect-2.right;
-      below = Some (record { cell = cell + width; row = cell / width - rect.y + 1 });
+      below = Some (record { cell = cell + width; row = here + 1 });
     } in
     crossed rect width cell p cross inside place
     (elim c.if-y-rect.branch [
-      | then-y-rect w ↦ inl (omega (arith, w.if-y-rect.true, y), (record { cell = cell - width; row = cell / width - rect.y - 1 }, w.above-is, refl))
+      | then-y-rect w ↦ inl (omega (arith, w.if-y-rect.true, y), (here - 1, w.above-is))
       | else-y-rect w ↦ inr (omega (arith, w.if-y-rect.false, y), w.above-is)
     ])
     (elim c.if-x-rect.branch [
-      | then-x-rect w ↦ inl (omega (arith, w.if-x-rect.true, x), (record { cell = cell - 1; row = cell / width - rect.y }, w.left-is, refl))
+      | then-x-rect w ↦ inl (omega (arith, w.if-x-rect.true, x), (here, w.left-is))
       | else-x-rect w ↦ inr (omega (arith, w.if-x-rect.false, x), w.left-is)
     ])
     (elim c.if-x-rect-2.branch [
-      | then-x-rect-2 w ↦ inl (omega (arith, w.if-x-rect-2.true, x), (record { cell = cell + 1; row = cell / width - rect.y }, w.right-is, refl))
+      | then-x-rect-2 w ↦ inl (omega (arith, w.if-x-rect-2.true, x), (here, w.right-is))
       | else-x-rect-2 w ↦ inr (omega (arith, w.if-x-rect-2.false, x), w.right-is)
     ])
-    (inl (omega (arith, c.if-y-rect-2.true, y), (record { cell = cell + width; row = cell / width - rect.y + 1 }, refl, refl)))
+    (inl (omega (arith, c.if-y-rect-2.true, y), (here + 1, refl)))
 
 pub returns-else-y-rect-2 : goal.returns-else-y-rect-2
 returns-else-y-rect-2 c p inside place =
     let rect = c.args.rect in
     let width = c.args.width in
     let cell = c.args.cell in
+    let here : ℕ = cell / width - rect.y in
     let x : cell % width ≡ rect.x + p.x = column_of_cell rect width cell p c.requires.columns inside place in
     let y : cell / width ≡ rect.y + p.y = row_of_cell rect width cell p c.requires.columns inside place in
     let cross : Cross = record {
@@ -49,15 +51,15 @@ returns-else-y-rect-2 c p inside place =
     } in
     crossed rect width cell p cross inside place
     (elim c.if-y-rect.branch [
-      | then-y-rect w ↦ inl (omega (arith, w.if-y-rect.true, y), (record { cell = cell - width; row = cell / width - rect.y - 1 }, w.above-is, refl))
+      | then-y-rect w ↦ inl (omega (arith, w.if-y-rect.true, y), (here - 1, w.above-is))
       | else-y-rect w ↦ inr (omega (arith, w.if-y-rect.false, y), w.above-is)
     ])
     (elim c.if-x-rect.branch [
-      | then-x-rect w ↦ inl (omega (arith, w.if-x-rect.true, x), (record { cell = cell - 1; row = cell / width - rect.y }, w.left-is, refl))
+      | then-x-rect w ↦ inl (omega (arith, w.if-x-rect.true, x), (here, w.left-is))
       | else-x-rect w ↦ inr (omega (arith, w.if-x-rect.false, x), w.left-is)
     ])
     (elim c.if-x-rect-2.branch [
-      | then-x-rect-2 w ↦ inl (omega (arith, w.if-x-rect-2.true, x), (record { cell = cell + 1; row = cell / width - rect.y }, w.right-is, refl))
+      | then-x-rect-2 w ↦ inl (omega (arith, w.if-x-rect-2.true, x), (here, w.right-is))
       | else-x-rect-2 w ↦ inr (omega (arith, w.if-x-rect-2.false, x), w.right-is)
     ])
     (inr (omega (arith, c.if-y-rect-2.false, y), refl))

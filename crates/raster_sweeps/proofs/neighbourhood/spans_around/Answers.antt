@@ -32,7 +32,8 @@ returns c p inside place =
           let up : ℕ = p.y - 1 in
           let next : up + 1 ≡ p.y = omega (arith, w.if-y-rect.true, y) in
           let start : (rect.y + (up + 1)) * width ≡ (rect.y + p.y) * width = ap (λ r. (rect.y + r) * width) next in
-          span_above conn rect width p inside (c.max-left.result - 1) c.min-right.result columns c.if-y-rect.above up next
+          span_above conn rect width p inside (c.max-left.result - 1) c.min-right.result columns c.if-y-rect.above up
+          next
           (omega (arith, ap (λ s. s.first) w.above-is, row, start))
           (omega (arith, ap (λ s. s.end) w.above-is, row, start))
       | else-y-rect w ↦

@@ -19,7 +19,8 @@ returns-then-first c =
     c.raise_two-second.new.cells c.args.waiting.now c.raise_two-second.new.waiting
     (IsTrue c.raise_two-first.result × IsTrue c.raise_two-second.result) (IsTrue c.raise_two-second.result)
     (λ all. (c.if-first.true, all)) (λ all. all.1)
-    (spread_twice (λ k. IsCell cross.above k ⊎ IsCell cross.left k) (λ k. IsCell cross.right k ⊎ IsCell cross.below k) c.args.mask.now c.args.level c.args.cells.now
+    (spread_twice (λ k. IsCell cross.above k ⊎ IsCell cross.left k)
+    (λ k. IsCell cross.right k ⊎ IsCell cross.below k) c.args.mask.now c.args.level c.args.cells.now
     c.raise_two-first.new.cells c.raise_two-second.new.cells c.args.waiting.now c.raise_two-first.new.waiting
     c.raise_two-second.new.waiting (IsTrue c.raise_two-first.result) (IsTrue c.raise_two-second.result)
     c.raise_two-first.ensures c.raise_two-second.ensures)
@@ -31,7 +32,8 @@ returns-else-first c =
     c.raise_two-second.new.cells c.args.waiting.now c.raise_two-second.new.waiting
     (IsTrue c.raise_two-first.result × IsTrue c.raise_two-second.result) (IsTrue c.raise_two-first.result)
     (λ yes. absurd (false≢true (sym c.if-first.false ∙ yes))) (λ all. all.0)
-    (spread_twice (λ k. IsCell cross.above k ⊎ IsCell cross.left k) (λ k. IsCell cross.right k ⊎ IsCell cross.below k) c.args.mask.now c.args.level c.args.cells.now
+    (spread_twice (λ k. IsCell cross.above k ⊎ IsCell cross.left k)
+    (λ k. IsCell cross.right k ⊎ IsCell cross.below k) c.args.mask.now c.args.level c.args.cells.now
     c.raise_two-first.new.cells c.raise_two-second.new.cells c.args.waiting.now c.raise_two-first.new.waiting
     c.raise_two-second.new.waiting (IsTrue c.raise_two-first.result) (IsTrue c.raise_two-second.result)
     c.raise_two-first.ensures c.raise_two-second.ensures)

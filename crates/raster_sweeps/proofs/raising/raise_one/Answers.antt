@@ -15,7 +15,9 @@ bounds-mask-at c =
     )
 
 pub bounds-cells-at : goal.bounds-cells-at
-bounds-cells-at c = c.requires.within c.in-Some.place.cell (subst (λ one. IsCell one c.in-Some.place.cell) (sym c.in-Some.is) refl)
+bounds-cells-at c =
+    c.requires.within c.in-Some.place.cell
+    (subst (λ one. IsCell one c.in-Some.place.cell) (sym c.in-Some.is) refl)
 
 pub returns-then-cells-at : goal.returns-then-cells-at
 returns-then-cells-at c =
@@ -46,7 +48,8 @@ pub returns-else-cells-at : goal.returns-else-cells-at
 returns-else-cells-at c =
     subst (λ one. AreSpread (IsCell one) c.args.mask.now c.args.level c.args.cells.now c.args.cells.now
     c.args.waiting.now c.args.waiting.now (IsTrue true)) (sym c.in-Some.is)
-    (spread_stays c.args.mask.now c.args.level c.args.cells.now c.in-Some.place.cell c.args.waiting.now (IsTrue true) refl
+    (spread_stays c.args.mask.now c.args.level c.args.cells.now c.in-Some.place.cell c.args.waiting.now (IsTrue true)
+    refl
     (omega (arith, c.if-cells-at.false, c.min-raised.ensures)))
 
 pub returns-in_default : goal.returns-in_default

@@ -111,7 +111,8 @@ returns-in-Eight c =
     c.raise_around.ensures.raised.filled ∙ ap length c.cells_mut-cells.ensures.values in
     let drawn : with_cells image after ≡ record { width = image.width; height = image.height; cells = after } =
     c.cells_given_back.ensures image after filled in
-    subst (λ conn. CellHasSpread conn rect mask image (with_cells image after) cell old waiting room) (sym c.in-Eight.is)
+    subst (λ conn. CellHasSpread conn rect mask image (with_cells image after) cell old waiting room)
+    (sym c.in-Eight.is)
     (subst (λ r. CellHasSpread Eight rect mask image r cell old waiting room) (sym drawn)
     (cell_has_spread Eight rect mask image cell (IsAround c.spans_around-spans.result) c.cells-limits.result.now
     c.cells_mut-cells.result.now after old waiting room c.requires.grow c.cells_mut-cells.ensures.sized.filled

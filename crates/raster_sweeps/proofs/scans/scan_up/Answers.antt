@@ -47,7 +47,8 @@ loop-y-init c =
     let rect = c.args.rect in
     let mask = c.args.mask.now in
     let image = c.raise_row_from_right.new.image in
-    let grown : IsRowGrown conn rect mask (rect.h - 1) c.args.image.now image = c.raise_row_from_right.ensures.grown conn in
+    let grown : IsRowGrown conn rect mask (rect.h - 1) c.args.image.now image =
+    c.raise_row_from_right.ensures.grown conn in
     record {
       grown = grown.grown;
       inside =

@@ -20,4 +20,6 @@ returns c =
     let long : length lists ≡ c.self.inside.strips.len =
     c.loop-list.auto.list-items ∙ c.deref_mut-list-items.ensures.len in
     ap cells_of (with_items_is c.self.inside.strips lists long)
-    ∙ no_cells lists (λ k d within. c.loop-list.invariant.empty k d (omega arith) (omega (arith, within, c.loop-list.auto.list-items, c.loop-list-test.false)))
+    ∙ no_cells lists (λ k d within.
+    c.loop-list.invariant.empty k d (omega arith)
+    (omega (arith, within, c.loop-list.auto.list-items, c.loop-list-test.false)))
