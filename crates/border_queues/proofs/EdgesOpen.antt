@@ -61,7 +61,7 @@ hints_are s =
 
 -- ---- which edges they are
 
-open_tells : (s : Sender) (value : ℕ) (q : Pixel) → is_open s value q ≡ true
+pub open_tells : (s : Sender) (value : ℕ) (q : Pixel) → is_open s value q ≡ true
     → (tile_of s.tiles q ≢ s.tile) × (s.image q < level_to s value q)
 open_tells s value q passes =
     let other = not (nat_eq (tile_of s.tiles q) s.tile) in

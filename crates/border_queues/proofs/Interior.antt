@@ -5,7 +5,6 @@ use Rattle.std.specs.Prelude.{◌&&◌, not, nat_eq, nat_lt, Contains}
 use Rattle.std.specs.List.{filter, flat_map, range_with_len}
 use Rattle.std.proofs.lemmas.Bool.{eq-eqb, le-ltb}
 use Rattle.std.proofs.lemmas.List.Elements.{Contains-append_right}
-use Rattle.std.proofs.lemmas.List.Folds.{flat_map-map}
 use Rattle.grid_core.specs.declared.conn.Conn.{Conn}
 use Rattle.grid_core.specs.declared.pixel.Pixel.{Pixel}
 use Rattle.grid_core.specs.declared.rect.Rect.{Rect}
@@ -19,11 +18,11 @@ use Rattle.border_queues.specs.declared.hint.Hint.{Hint}
 use Rattle.grid_core.proofs.Common.{and_false}
 use Rattle.grid_core.proofs.Pixels.{near}
 use Rattle.border_queues.specs.declared.border.Border.{Border}
-use Rattle.border_queues.specs.OpenEdges.{Sender, hint_to, is_open, hints_to, hints_from, level_to, row_of}
-use Rattle.border_queues.specs.Borders.{sender_of, IsBorder}
+use Rattle.border_queues.specs.OpenEdges.{Sender, hint_to, is_open, hints_to, hints_from, level_to}
+use Rattle.border_queues.specs.Borders.{sender_of, told_to, IsBorder}
 
 -- a test that each element fails keeps none
-filter_none : (test : Pixel → Bool) (qs : List Pixel) → ((q : Pixel) → Contains qs q → test q ≡ false)
+pub filter_none : (test : Pixel → Bool) (qs : List Pixel) → ((q : Pixel) → Contains qs q → test q ≡ false)
     → filter test qs ≡ []
 filter_none test [] fails = refl
 filter_none test (q ∷ qs) fails =
@@ -61,9 +60,18 @@ interior_tells_none b p border by_rows interior =
     let same = (border.own q beside.1).0 (neighbour_in_rect b.rect b.conn p q interior beside.0) in
     ap (λ t. not t && nat_lt (s.image q) (level_to s (s.image p) q)) (eq-eqb (tile_of b.tiling q) b.tile same)))
 
+-- nor is the tile's own pixel told anything
+pub own_told_none : (b : Border) (value : ℕ) (q : Pixel) → IsBorder b → IsInside b.tiling.width b.tiling.height q
+    → IsInRect b.rect q → told_to b value (q ∷ []) ≡ []
+own_told_none b value q border inside own =
+    let s = sender_of b in
+    let same = (border.own q inside).0 own in
+    ap (λ t. map (hint_to s value) (cond (not t && nat_lt (s.image q) (level_to s value q)) (q ∷ []) []))
+    (eq-eqb (tile_of b.tiling q) b.tile same)
+
 -- ---- a row tells what its ends tell
 
-none_told : (f : ℕ → List Hint) (a n : ℕ) → ((k : ℕ) → a ≤ k → k < a + n → f k ≡ [])
+pub none_told : (f : ℕ → List Hint) (a n : ℕ) → ((k : ℕ) → a ≤ k → k < a + n → f k ≡ [])
     → flat_map f (range_with_len a n) ≡ []
 none_told f a zero none = refl
 none_told f a (suc n) none =
@@ -88,12 +96,6 @@ ends_told f a n none =
 -- a row with one pixel
 pub end_told : (f : ℕ → List Hint) (a : ℕ) → flat_map f (range_with_len a 1) ≡ f a
 end_told f a = append-nil (f a)
-
--- the hints of a row, column by column
-pub by_columns : (s : Sender) (rect : Rect) (y : ℕ)
-    → flat_map (hints_from s) (row_of rect y)
-    ≡ flat_map (λ x. hints_from s (record { x = x; y = y })) (range_with_len rect.x rect.w)
-by_columns s rect y = flat_map-map (hints_from s) (λ x. record { x = x; y = y }) (range_with_len rect.x rect.w)
 
 -- ---- a pixel of value 0 tells nothing
 

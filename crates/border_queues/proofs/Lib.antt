@@ -4,3 +4,4 @@ pub mod Interior
 pub mod SameEdges
 pub mod InOrder
 pub mod EdgesOpen
+pub mod Bounded

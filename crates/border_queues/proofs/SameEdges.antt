@@ -9,7 +9,7 @@ use Rattle.grid_core.specs.Raster.{IsInside}
 use Rattle.grid_core.specs.RasterLaws.{NeighboursByRows}
 use Rattle.grid_core.specs.Rects.{IsInRect, RectFits}
 use Rattle.grid_core.specs.Rows.{rows_around}
-use Rattle.grid_core.specs.TileLaws.{TilesLieInside}
+use Rattle.grid_core.specs.TileLaws.{EachPixelInOneTile, TilesLieInside}
 use Rattle.grid_core.specs.Tiles.{Tiles, IsTiled, count_of, tile_of, rect_of}
 use Rattle.border_queues.specs.OpenEdges.{Sender, hint_to, is_open, hints_to, hints_from, row_of, pixels_of, open_edges}
 use Rattle.border_queues.specs.OpenEdges.{from_corner, with_tile}
@@ -56,7 +56,7 @@ same_image_same_edges by_rows lie_inside s image tiled within same =
     same_from s image p by_rows same (pixels_inside s.tiles.width s.tiles.height rect p fits there))
 
 -- an image with its own values on a tile is itself
-pub own_part : (t : Tiles) (tile : ℕ) (image : Pixel → ℕ) (corner p : Pixel) → corner.x ≡ (rect_of t tile).x
+own_part : (t : Tiles) (tile : ℕ) (image : Pixel → ℕ) (corner p : Pixel) → corner.x ≡ (rect_of t tile).x
     → corner.y ≡ (rect_of t tile).y → (tile_of t p ≡ tile → IsInRect (rect_of t tile) p)
     → with_tile t tile (λ q. image (moved corner q)) image p ≡ image p
 own_part t tile image corner p left top own =
@@ -69,3 +69,11 @@ own_part t tile image corner p left top own =
           ap (λ b. if b then there else image p) passes ∙ (λ i. image (record { x = column i; y = row i }))
       | inr (fails, other) ↦ ap (λ b. if b then there else image p) fails
     ]
+
+-- and so at each pixel of the tiling
+pub own_image : EachPixelInOneTile → (t : Tiles) (tile : ℕ) (image : Pixel → ℕ) (rect : Rect) → IsTiled t
+    → tile < count_of t → rect ≡ rect_of t tile → (p : Pixel) → IsInside t.width t.height p
+    → with_tile t tile (λ q. image (moved (record { x = rect.x; y = rect.y }) q)) image p ≡ image p
+own_image in_one t tile image rect tiled within same p inside =
+    own_part t tile image (record { x = rect.x; y = rect.y }) p (ap (λ (r : Rect). r.x) same)
+    (ap (λ (r : Rect). r.y) same) (((in_one t p tiled inside).1 tile within).1)

@@ -1,9 +1,11 @@
 -- Hints that are told part by part.
-use Rattle.std.proofs.Common.{◌≡◌, ℕ, ◌+◌, List, [], ◌∷◌, ◌++◌, map, refl, ap, sym, ◌∙◌, append_assoc, append-nil}
+use Rattle.std.proofs.Common.{◌≡◌, ℕ, ◌+◌, ◌-◌, ◌≤◌, List, [], ◌∷◌, ◌++◌, map, refl, ap, sym, ◌∙◌, arith}
+use Rattle.std.proofs.Common.{append_assoc, append-nil}
 use Rattle.std.specs.List.{filter, flat_map, range_with_len}
 use Rattle.std.proofs.lemmas.List.{map-append, flat_map_more}
 use Rattle.std.proofs.lemmas.List.{map-id}
 use Rattle.std.proofs.lemmas.List.Concat.{flat_map-append}
+use Rattle.std.proofs.lemmas.List.Folds.{flat_map-map}
 use Rattle.std.proofs.lemmas.List.FromFn.{map-range_with_len_more}
 use Rattle.std.proofs.lemmas.List.Elements.{filter-append}
 use Rattle.grid_core.specs.declared.pixel.Pixel.{Pixel}
@@ -35,32 +37,39 @@ told_around s value old above left right below =
     ∙ ap (λ qs. old ++ to (qs ++ below)) (append_assoc above left right)
     ∙ ap (λ qs. old ++ to (above ++ (qs ++ right) ++ below)) (sym (append-nil left))
 
--- one more pixel of a row is told
-pub told_more : (s : Sender) (old : List Hint) (rect : Rect) (y n : ℕ)
-    → (old ++ flat_map (hints_from s) (row_of (record rect { w = n }) y))
-    ++ hints_from s (record { x = rect.x + n; y = y })
-    ≡ old ++ flat_map (hints_from s) (row_of (record rect { w = n + 1 }) y)
-told_more s old rect y n =
-    let pixel : ℕ → Pixel = λ x. record { x = x; y = y } in
-    flat_map_more (hints_from s) old (row_of (record rect { w = n }) y) (pixel (rect.x + n))
-    ∙ ap (λ ps. old ++ flat_map (hints_from s) ps) (sym (map-range_with_len_more pixel rect.x n (rect.x + n) refl))
-
 range_more : (a n : ℕ) → range_with_len a n ++ (a + n) ∷ [] ≡ range_with_len a (n + 1)
 range_more a n =
     let same : ℕ → ℕ = λ k. k in
     ap (λ ks. ks ++ (a + n) ∷ []) (sym (map-id (range_with_len a n)))
     ∙ sym (map-range_with_len_more same a n (a + n) refl) ∙ map-id (range_with_len a (n + 1))
 
--- one more row of a rectangle is told
-pub told_row : (s : Sender) (old : List Hint) (rect : Rect) (n : ℕ)
-    → (old ++ flat_map (hints_from s) (pixels_of (record rect { h = n })))
-    ++ flat_map (hints_from s) (row_of rect (rect.y + n))
-    ≡ old ++ flat_map (hints_from s) (pixels_of (record rect { h = n + 1 }))
-told_row s old rect n =
-    let above = flat_map (row_of rect) (range_with_len rect.y n) in
-    let row = row_of rect (rect.y + n) in
-    append_assoc old (flat_map (hints_from s) above) (flat_map (hints_from s) row)
-    ∙ ap (λ hs. old ++ hs) (sym (flat_map-append (hints_from s) above row))
-    ∙ ap (λ ps. old ++ flat_map (hints_from s) ps)
-    (flat_map_more (row_of rect) [] (range_with_len rect.y n) (rect.y + n)
-    ∙ ap (flat_map (row_of rect)) (range_more rect.y n))
+-- what the numbers from one on tell, up to before another, which is told next
+pub told_next : (f : ℕ → List Hint) (old : List Hint) (from k : ℕ) → from ≤ k
+    → (old ++ flat_map f (range_with_len from (k - from))) ++ f k
+    ≡ old ++ flat_map f (range_with_len from (k + 1 - from))
+told_next f old from k reached =
+    let here : k ≡ from + (k - from) = omega arith in
+    let more : k - from + 1 ≡ k + 1 - from = omega arith in
+    let before : List ℕ = range_with_len from (k - from) in
+    flat_map_more f old before k
+    ∙ ap (λ j. old ++ flat_map f (before ++ j ∷ [])) here
+    ∙ ap (λ ks. old ++ flat_map f ks) (range_more from (k - from))
+    ∙ ap (λ n. old ++ flat_map f (range_with_len from n)) more
+
+-- the hints of a row, column by column
+pub by_columns : (s : Sender) (rect : Rect) (y : ℕ)
+    → flat_map (hints_from s) (row_of rect y)
+    ≡ flat_map (λ x. hints_from s (record { x = x; y = y })) (range_with_len rect.x rect.w)
+by_columns s rect y = flat_map-map (hints_from s) (λ x. record { x = x; y = y }) (range_with_len rect.x rect.w)
+
+flat_map_rows : (f : Pixel → List Hint) (row : ℕ → List Pixel) (ys : List ℕ)
+    → flat_map f (flat_map row ys) ≡ flat_map (λ y. flat_map f (row y)) ys
+flat_map_rows f row [] = refl
+flat_map_rows f row (y ∷ ys) =
+    flat_map-append f (row y) (flat_map row ys) ∙ ap (λ hs. flat_map f (row y) ++ hs) (flat_map_rows f row ys)
+
+-- the hints of a rectangle, row by row
+pub by_rows : (s : Sender) (rect : Rect)
+    → flat_map (hints_from s) (pixels_of rect)
+    ≡ flat_map (λ y. flat_map (hints_from s) (row_of rect y)) (range_with_len rect.y rect.h)
+by_rows s rect = flat_map_rows (hints_from s) (row_of rect) (range_with_len rect.y rect.h)

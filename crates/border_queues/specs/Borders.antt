@@ -1,15 +1,18 @@
 -- A tile's border, as the private functions walk it.
 use Rattle.std.specs.Prelude.{◌≡◌, ℕ, ◌+◌, ◌≤◌, ◌↔◌, Bool, true, if◌then◌else◌, List, []}
 use Rattle.std.specs.List.{flat_map}
+use Rattle.grid_core.specs.declared.conn.Conn.{Conn}
 use Rattle.grid_core.specs.declared.pixel.Pixel.{Pixel}
+use Rattle.grid_core.specs.Bounds.{LieIn}
 use Rattle.grid_core.specs.Raster.{IsInside, IsImageSize, value_at}
 use Rattle.grid_core.specs.Rects.{IsInRect, RectFits}
-use Rattle.grid_core.specs.Rows.{row_around}
+use Rattle.grid_core.specs.Rows.{row_around, rows_around}
 use Rattle.grid_core.specs.Tiles.{IsTiled, tile_of, rect_of}
 use Rattle.border_queues.specs.declared.border.Border.{Border}
 use Rattle.border_queues.specs.declared.hint.Hint.{Hint}
 use Rattle.border_queues.specs.Waiting.{Waiting}
-use Rattle.border_queues.specs.OpenEdges.{Sender, IsOnTiling, hints_from, hints_to, pixels_of, row_of, with_tile}
+use Rattle.border_queues.specs.OpenEdges.{Sender, EdgesBeginIn, IsOnTiling, hints_from, hints_to, pixels_of}
+use Rattle.border_queues.specs.OpenEdges.{row_of, with_tile}
 
 -- the pixel of `inside` where the tile's pixel stands that is p from the tile's corner
 abbrev pub moved : Pixel → Pixel → Pixel
@@ -30,9 +33,13 @@ sender_of b = record {
 abbrev pub told_to : Border → ℕ → List Pixel → List Hint
 told_to b value qs = hints_to (sender_of b) value qs
 
--- the pixels of row y around the column, if the row is wanted, with those at the sides, if they are too
-abbrev pub row_if : Border → Bool → ℕ → ℕ → Bool → List Pixel
-row_if b wanted x y sides = if wanted then row_around b.tiling.width x y sides true else []
+-- the three pixels of row y around the column, as far as the row has them, if the row is wanted
+abbrev pub row_if : Border → Bool → ℕ → ℕ → List Pixel
+row_if b wanted x y = if wanted then row_around b.tiling.width x y true true else []
+
+-- the neighbours of the pixel at x and y
+abbrev pub around : Border → Conn → ℕ → ℕ → List Pixel
+around b conn x y = rows_around conn b.tiling.width b.tiling.height (record { x = x; y = y })
 
 -- the hints of the open edges from the pixels of a row of the tile
 abbrev pub hints_of_row : Border → ℕ → List Hint
@@ -53,6 +60,8 @@ pub record IsBorder (b : Border) : Type 0 where
   pub inside_rows : b.corner.y + b.rect.h ≤ b.inside.now.height
   pub fits : RectFits b.tiling.width b.tiling.height b.rect
   pub own : (p : Pixel) → IsInside b.tiling.width b.tiling.height p → IsInRect b.rect p ↔ (tile_of b.tiling p ≡ b.tile)
+  pub lie : LieIn b.bounds b.rect
+  pub begin : EdgesBeginIn (sender_of b) b.bounds
 
 -- the walk can go on, with room for so many hints
 pub record CanTell (b : Border) (inbox : Waiting) (hints : ℕ) : Type 0 where

@@ -1,11 +1,13 @@
 -- Laws of open edges, as statements. Public functions have them as their contracts.
 use Rattle.std.specs.Prelude.{◌≡◌, ℕ, ◌<◌, ◌⊎◌, ◌↔◌, List, [], ◌∷◌, map, Contains}
 use Rattle.std.specs.List.{AllByRecursion}
+use Rattle.grid_core.specs.declared.bounds.Bounds.{Bounds}
 use Rattle.grid_core.specs.declared.pixel.Pixel.{Pixel}
+use Rattle.grid_core.specs.Bounds.{bounds_of}
 use Rattle.grid_core.specs.Raster.{IsInside}
 use Rattle.grid_core.specs.Neighbours.{IsBefore}
-use Rattle.grid_core.specs.Tiles.{IsTiled, count_of}
-use Rattle.border_queues.specs.OpenEdges.{Sender, IsOpenEdge, hint_to, open_edges}
+use Rattle.grid_core.specs.Tiles.{IsTiled, count_of, rect_of}
+use Rattle.border_queues.specs.OpenEdges.{Sender, EdgesBeginIn, IsOpenEdge, hint_to, open_edges}
 
 -- senders whose images are equal at each pixel have the same open edges
 abbrev pub SameImageSameEdges : Type 0
@@ -13,6 +15,12 @@ SameImageSameEdges =
     (s : Sender) (image : Pixel → ℕ) → IsTiled s.tiles → s.tile < count_of s.tiles
     → ((p : Pixel) → IsInside s.tiles.width s.tiles.height p → s.image p ≡ image p)
     → open_edges s ≡ open_edges (record s { image = image })
+
+-- the open edges of a tile begin within the bounds of its pixels
+abbrev pub EdgesBeginInTile : Type 0
+EdgesBeginInTile =
+    (s : Sender) (bounds : Bounds) → IsTiled s.tiles → s.tile < count_of s.tiles
+    → bounds ≡ bounds_of (rect_of s.tiles s.tile) → EdgesBeginIn s bounds
 
 -- a pair comes before another: its inner pixel does, or it is the same and its outer pixel does
 abbrev pub IsPairBefore : Pixel × Pixel → Pixel × Pixel → Type 0

@@ -2,9 +2,11 @@
 use Rattle.std.specs.Prelude.{◌≡◌, ◌≢◌, ℕ, ◌-◌, ◌*◌, ◌<◌, Bool, ◌&&◌, not, nat_eq, nat_lt, if◌then◌else◌, min}
 use Rattle.std.specs.Prelude.{List, map}
 use Rattle.std.specs.List.{filter, flat_map, range_with_len}
+use Rattle.grid_core.specs.declared.bounds.Bounds.{Bounds}
 use Rattle.grid_core.specs.declared.conn.Conn.{Conn}
 use Rattle.grid_core.specs.declared.pixel.Pixel.{Pixel}
 use Rattle.grid_core.specs.declared.rect.Rect.{Rect}
+use Rattle.grid_core.specs.Bounds.{IsInBounds}
 use Rattle.grid_core.specs.Raster.{Raster, IsInside}
 use Rattle.grid_core.specs.Neighbours.{AreNeighbours}
 use Rattle.grid_core.specs.Rows.{rows_around}
@@ -59,6 +61,10 @@ pub record IsOpenEdge (s : Sender) (p q : Pixel) : Type 0 where
   pub to_other : tile_of s.tiles q ≢ s.tile
   pub beside : AreNeighbours s.conn p q
   pub lower : s.image q < level_to s (s.image p) q
+
+-- each open edge begins within the bounds
+abbrev pub EdgesBeginIn : Sender → Bounds → Type 0
+EdgesBeginIn s bounds = (p q : Pixel) → IsOpenEdge s p q → IsInBounds bounds p
 
 -- the hint to q of a pixel of this value
 abbrev pub hint_to : Sender → ℕ → Pixel → Hint

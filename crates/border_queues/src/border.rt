@@ -1,20 +1,21 @@
 //! The walk along a tile's border.
 
 ghost use Rattle.std.specs.Prelude.{◌≡◌, ◌+◌, ◌*◌, ◌<◌, ◌≤◌, [], ◌∷◌, true, if◌then◌else◌};
-ghost use Rattle.std.specs.Prelude.{IsTrue, ◌++◌};
+ghost use Rattle.std.specs.Prelude.{IsTrue, ◌↔◌, ◌++◌};
 ghost use Rattle.std.specs.List.{flat_map};
+ghost use Rattle.grid_core.specs.declared.conn.Conn.TheVariants.{Eight, Four};
 ghost use Rattle.grid_core.specs.Raster.{IsInside, value_at};
 ghost use Rattle.grid_core.specs.Rects.{IsInRect};
-ghost use Rattle.grid_core.specs.Rows.{has_diagonals, pixel_if, row_around};
+ghost use Rattle.grid_core.specs.Rows.{pixel_if};
 ghost use Rattle.border_queues.specs.Waiting.{Adds, AddsWithin};
 ghost use Rattle.border_queues.specs.OpenEdges.{hints_from};
-ghost use Rattle.border_queues.specs.Borders.{hints_of_all, hints_of_row, row_if, sender_of, told_to};
+ghost use Rattle.border_queues.specs.Borders.{around, hints_of_all, hints_of_row, row_if, sender_of, told_to};
 ghost use Rattle.border_queues.specs.Borders.{CanTell, IsBorder};
 
 use crate::hint::Hint;
 use crate::inbox::Inbox;
 use grid_core::laws::neighbours_by_rows;
-use grid_core::{Conn, Grid, Pixel, Rect, Tiling};
+use grid_core::{Bounds, Conn, Grid, Pixel, Rect, Tiling};
 
 /// A tile, and the images in which its open edges are looked for.
 #[derive(Clone, Copy)]
@@ -31,6 +32,8 @@ pub struct Border<'a> {
     pub generation: u64,
     // The tile's rectangle.
     pub rect: Rect,
+    // Parts of it, within which each open edge begins.
+    pub bounds: Bounds,
 }
 
 impl Border<'_> {
@@ -47,16 +50,22 @@ impl Border<'_> {
         })
     }
 
-    // Tells a neighbour of a pixel of this value, if it lies in another tile and can rise.
+    // Whether the pixel at `x` and `y` lies in the tile.
     #[inline(always)]
-    fn push_open(&self, value: u16, q: Pixel, out: &mut Inbox)
+    fn is_own(&self, x: u32, y: u32) -> bool
+        ensures { IsTrue result ↔ IsInRect self.now.rect (record { x = x; y = y }) }
+    {
+        self.rect.contains(Pixel { x, y })
+    }
+
+    // Tells a neighbour in another tile of a pixel of this value, if it can rise.
+    #[inline(always)]
+    fn push_outer(&self, value: u16, q: Pixel, out: &mut Inbox)
         requires ready { CanTell self.now out.old 1 }
         requires inside { IsInside self.now.tiling.width self.now.tiling.height q }
+        requires outer { ¬ (IsInRect self.now.rect q) }
         ensures { AddsWithin out.old out.new (told_to self.now value (q ∷ [])) 1 }
     {
-        if self.rect.contains(q) {
-            return;
-        }
         let now = self.image.get(q);
         if now < value && now < self.mask.get(q) {
             let _ = out.push(Hint {
@@ -68,32 +77,66 @@ impl Border<'_> {
         }
     }
 
-    // Tells the pixel at `x` and `y`, where it is wanted.
+    // Tells the pixel at `x` and `y`, where it is wanted, unless it is one of the tile's own.
     #[inline(always)]
-    fn push_if(&self, wanted: bool, value: u16, x: u32, y: u32, out: &mut Inbox)
+    fn push_if(&self, wanted: bool, own: bool, value: u16, x: u32, y: u32, out: &mut Inbox)
         requires ready { CanTell self.now out.old 1 }
         requires at { IsTrue wanted → IsInside self.now.tiling.width self.now.tiling.height (record { x = x; y = y }) }
+        requires own { IsTrue wanted → (IsTrue own ↔ IsInRect self.now.rect (record { x = x; y = y })) }
         ensures { AddsWithin out.old out.new (told_to self.now value (pixel_if wanted x y)) 1 }
     {
-        if wanted {
-            self.push_open(value, Pixel { x, y }, out);
+        if wanted && !own {
+            self.push_outer(value, Pixel { x, y }, out);
         }
     }
 
-    // Tells the pixel at `x` of row `y`, where the row is wanted, and those at its sides, if `sides`.
+    // Tells the pixels at `x`, to its left and to its right in row `y`, where the row is wanted.
     #[inline(always)]
-    fn push_row(&self, wanted: bool, value: u16, x: u32, y: u32, sides: bool, out: &mut Inbox)
+    fn push_row(&self, wanted: bool, value: u16, x: u32, y: u32, out: &mut Inbox)
         requires ready { CanTell self.now out.old 3 }
         requires column { x < self.now.tiling.width }
         requires row { IsTrue wanted → y < self.now.tiling.height }
-        ensures { AddsWithin out.old out.new (told_to self.now value (row_if self.now wanted x y sides)) 3 }
+        ensures { AddsWithin out.old out.new (told_to self.now value (row_if self.now wanted x y)) 3 }
     {
         if !wanted {
             return;
         }
-        self.push_if(sides && x > 0, value, x.saturating_sub(1), y, out);
-        self.push_if(true, value, x, y, out);
-        self.push_if(sides && x + 1 < self.tiling.width(), value, x + 1, y, out);
+        let (left, right) = (x.saturating_sub(1), x + 1);
+        let at_right = right < self.tiling.width();
+        self.push_if(x > 0, self.is_own(left, y), value, left, y, out);
+        self.push_if(true, self.is_own(x, y), value, x, y, out);
+        self.push_if(at_right, self.is_own(right, y), value, right, y, out);
+    }
+
+    // Tells the neighbours of the pixel of the tile at `x` and `y`, of this value, if it has eight.
+    fn push_eight(&self, value: u16, x: u32, y: u32, out: &mut Inbox)
+        requires ready { CanTell self.now out.old 8 }
+        requires own { IsInRect self.now.rect (record { x = x; y = y }) }
+        ensures { AddsWithin out.old out.new (told_to self.now value (around self.now Eight x y)) 8 }
+    {
+        let own = self.rect;
+        let right = x + 1 < self.tiling.width();
+        let below = y + 1 < self.tiling.height();
+        self.push_row(y > 0, value, x, y.saturating_sub(1), out);
+        self.push_if(x > 0, x > own.x, value, x.saturating_sub(1), y, out);
+        self.push_if(right, x + 1 < own.x + own.w, value, x + 1, y, out);
+        self.push_row(below, value, x, y + 1, out);
+    }
+
+    // And if it has four. Each of those lies in the tile, unless the pixel lies at the edge towards it.
+    #[inline(always)]
+    fn push_four(&self, value: u16, x: u32, y: u32, out: &mut Inbox)
+        requires ready { CanTell self.now out.old 8 }
+        requires own { IsInRect self.now.rect (record { x = x; y = y }) }
+        ensures { AddsWithin out.old out.new (told_to self.now value (around self.now Four x y)) 8 }
+    {
+        let own = self.rect;
+        let right = x + 1 < self.tiling.width();
+        let below = y + 1 < self.tiling.height();
+        self.push_if(y > 0, y > own.y, value, x, y.saturating_sub(1), out);
+        self.push_if(x > 0, x > own.x, value, x.saturating_sub(1), y, out);
+        self.push_if(right, x + 1 < own.x + own.w, value, x + 1, y, out);
+        self.push_if(below, y + 1 < own.y + own.h, value, x, y + 1, out);
     }
 
     // Tells the neighbours of the pixel of the tile at `x` and `y`.
@@ -107,23 +150,34 @@ impl Border<'_> {
         if value == 0 {
             return;
         }
-        let sides = diagonals(self.conn);
-        let right = x + 1 < self.tiling.width();
-        let below = y + 1 < self.tiling.height();
-        self.push_row(y > 0, value, x, y.saturating_sub(1), sides, out);
-        self.push_if(x > 0, value, x.saturating_sub(1), y, out);
-        self.push_if(right, value, x + 1, y, out);
-        self.push_row(below, value, x, y + 1, sides, out);
+        match self.conn {
+            Conn::Four => self.push_four(value, x, y, out),
+            Conn::Eight => self.push_eight(value, x, y, out),
+        }
     }
 
-    // Tells the neighbours of all pixels of a row of the tile.
+    // Tells the neighbours of the pixel of the tile at `x` and `y`, where its column lies within the bounds.
+    #[inline(always)]
+    fn push_within(&self, x: u32, y: u32, out: &mut Inbox)
+        requires ready { CanTell self.now out.old 8 }
+        requires own { IsInRect self.now.rect (record { x = x; y = y }) }
+        ensures { AddsWithin out.old out.new (hints_from (sender_of self.now) (record { x = x; y = y })) 8 }
+    {
+        neighbours_by_rows();
+        if self.bounds.left <= x && x < self.bounds.right {
+            self.push_from(x, y, out);
+        }
+    }
+
+    // Tells the neighbours of all pixels of a row of the tile. Those outside the bounds have none to tell.
     fn push_line(&self, y: u32, out: &mut Inbox)
         requires ready { CanTell self.now out.old (8 * self.now.rect.w) }
         requires row { (self.now.rect.y ≤ y) × (y < self.now.rect.y + self.now.rect.h) }
         ensures { AddsWithin out.old out.new (hints_of_row self.now y) (8 * self.now.rect.w) }
     {
-        for i in 0..self.rect.w {
-            self.push_from(self.rect.x + i, y, out);
+        neighbours_by_rows();
+        for x in self.bounds.left..self.bounds.right {
+            self.push_from(x, y, out);
         }
     }
 
@@ -136,33 +190,25 @@ impl Border<'_> {
     {
         neighbours_by_rows();
         let last = self.rect.w - 1;
-        self.push_from(self.rect.x, y, out);
+        self.push_within(self.rect.x, y, out);
         if last > 0 {
-            self.push_from(self.rect.x + last, y, out);
+            self.push_within(self.rect.x + last, y, out);
         }
     }
 
-    // Tells the neighbours of all pixels of the tile.
+    // Tells the neighbours of all pixels of the tile. Rows outside the bounds have none to tell.
     pub fn push_all(&self, out: &mut Inbox)
         requires { CanTell self.now out.old (16 * self.now.rect.w + 16 * self.now.rect.h) }
         ensures { Adds out.old out.new (hints_of_all self.now) }
     {
-        let last = self.rect.h - 1;
-        self.push_line(self.rect.y, out);
-        for i in 1..last {
-            self.push_ends(self.rect.y + i, out);
+        neighbours_by_rows();
+        let last = self.rect.y + (self.rect.h - 1);
+        for y in self.bounds.top..self.bounds.bottom {
+            if y == self.rect.y || y == last {
+                self.push_line(y, out);
+            } else {
+                self.push_ends(y, out);
+            }
         }
-        if last > 0 {
-            self.push_line(self.rect.y + last, out);
-        }
-    }
-}
-
-fn diagonals(conn: Conn) -> bool
-    ensures { result ≡ has_diagonals conn }
-{
-    match conn {
-        Conn::Four => false,
-        Conn::Eight => true,
     }
 }

@@ -1,18 +1,20 @@
 //! The hints of a tile's open edges.
 
 ghost use Rattle.std.specs.Prelude.{◌≡◌, ◌+◌, ◌≤◌};
+ghost use Rattle.grid_core.specs.Bounds.{LieIn};
 ghost use Rattle.grid_core.specs.Raster.{value_at};
 ghost use Rattle.grid_core.specs.Tiles.{rect_of};
 ghost use Rattle.border_queues.specs.Waiting.{AddsOrFails};
-ghost use Rattle.border_queues.specs.OpenEdges.{HasTileSize, HaveTile, open_edges, room_for_edges, sender_by, with_tile};
+ghost use Rattle.border_queues.specs.OpenEdges.{EdgesBeginIn, HasTileSize, HaveTile, open_edges, room_for_edges};
+ghost use Rattle.border_queues.specs.OpenEdges.{sender_by, with_tile};
 ghost use Rattle.border_queues.specs.Borders.{moved, sender_of, IsBorder};
 
 use crate::border::Border;
 use crate::error::QueueError;
 use crate::inbox::Inbox;
-use crate::laws::same_image_same_edges;
+use crate::laws::{edges_begin_in_tile, same_image_same_edges};
 use grid_core::laws::each_pixel_in_one_tile;
-use grid_core::{Conn, Grid, Pixel, Tiling};
+use grid_core::{Bounds, Conn, Grid, Pixel, Tiling};
 
 /// The room with which [`open_edges`] takes no memory: eight hints for each pixel of a whole tile's border.
 pub fn room_for_edges(tiling: &Tiling) -> usize
@@ -42,7 +44,11 @@ pub fn open_edges(
     ensures { AddsOrFails out.old out.new (open_edges (sender_by tiling.now conn (value_at mask.now) (with_tile
         tiling.now tile (value_at inside.now) (value_at image.now)) tile generation)) (room_for_edges tiling.now) result }
 {
+    edges_begin_in_tile();
+    // The side tells the prover that the tiling is one.
+    let _ = tiling.side();
     out.reserve(room_for_edges(tiling))?;
+    let bounds = Bounds::of(tiling.rect(tile));
     let border = border_of(
         inside,
         Pixel { x: 0, y: 0 },
@@ -52,12 +58,14 @@ pub fn open_edges(
         tile,
         generation,
         conn,
+        bounds,
     );
     border.push_all(out);
     Ok(())
 }
 
-/// As [`open_edges`] where J is the image itself, on the tile too.
+/// As [`open_edges`] where J is the image itself, on the tile too, and each open edge begins within the bounds. Only
+/// the tile's border within them is looked at.
 ///
 /// Errors: Q1, where `out` keeps its hints. With a room of [`room_for_edges`] it takes no memory.
 pub fn open_edges_in(
@@ -67,9 +75,13 @@ pub fn open_edges_in(
     tile: usize,
     generation: u64,
     conn: Conn,
+    bounds: Bounds,
     out: &mut Inbox,
 ) -> Result<(), QueueError>
-    requires { HaveTile tiling.now image.now mask.now tile }
+    requires parts { HaveTile tiling.now image.now mask.now tile }
+    requires lie { LieIn bounds (rect_of tiling.now tile) }
+    requires bounds { EdgesBeginIn (sender_by tiling.now conn (value_at mask.now) (value_at image.now) tile generation)
+        bounds }
     ensures { AddsOrFails out.old out.new (open_edges (sender_by tiling.now conn (value_at mask.now)
         (value_at image.now) tile generation)) (room_for_edges tiling.now) result }
 {
@@ -83,7 +95,9 @@ pub fn open_edges_in(
         x: rect.x,
         y: rect.y,
     };
-    let border = border_of(image, corner, image, mask, tiling, tile, generation, conn);
+    let border = border_of(
+        image, corner, image, mask, tiling, tile, generation, conn, bounds,
+    );
     border.push_all(out);
     Ok(())
 }
@@ -98,8 +112,13 @@ fn border_of<'a>(
     tile: usize,
     generation: u64,
     conn: Conn,
+    bounds: Bounds,
 ) -> Border<'a>
     requires parts { HaveTile tiling.now image.now mask.now tile }
+    requires lie { LieIn bounds (rect_of tiling.now tile) }
+    requires bounds { EdgesBeginIn (sender_by tiling.now conn (value_at mask.now)
+        (with_tile tiling.now tile (λ p. value_at inside.now (moved corner p)) (value_at image.now)) tile generation)
+        bounds }
     requires columns { corner.x + (rect_of tiling.now tile).w ≤ inside.now.width }
     requires rows { corner.y + (rect_of tiling.now tile).h ≤ inside.now.height }
     ensures border { IsBorder result }
@@ -120,5 +139,6 @@ fn border_of<'a>(
         tile,
         generation,
         rect,
+        bounds,
     }
 }

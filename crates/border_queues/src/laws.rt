@@ -1,6 +1,6 @@
 //! Laws of open edges. Each is the contract of a function that does nothing.
 
-ghost use Rattle.border_queues.specs.Laws.{SameImageSameEdges, EdgesAreOpen};
+ghost use Rattle.border_queues.specs.Laws.{EdgesAreOpen, EdgesBeginInTile, SameImageSameEdges};
 
 use grid_core::laws::{
     each_pixel_in_one_tile, neighbours_by_rows, rect_pixels_lie_in_rect, tiles_lie_inside,
@@ -12,6 +12,13 @@ pub fn same_image_same_edges()
 {
     neighbours_by_rows();
     tiles_lie_inside();
+}
+
+/// The open edges of a tile begin within the bounds of its pixels.
+pub fn edges_begin_in_tile()
+    ensures { EdgesBeginInTile }
+{
+    each_pixel_in_one_tile();
 }
 
 /// The hints of a tile are those of its open edges, in raster order of the inner and then of the outer pixel.

@@ -11,7 +11,8 @@
 //! let mut image = Grid::new(alloc, 16, 8, 0)?;
 //! image.set(Pixel { x: 7, y: 0 }, 6);                   // at the right border of tile 0
 //! let mut out = Inbox::new(alloc);
-//! open_edges_in(&image, &mask, &tiling, 0, 0, Conn::Four, &mut out)?;
+//! let bounds = Bounds::of(tiling.rect(0));              // within which each open edge of tile 0 begins
+//! open_edges_in(&image, &mask, &tiling, 0, 0, Conn::Four, bounds, &mut out)?;
 //! out.as_slice();                                       // one hint: to (8, 0), of the value 6
 //! ```
 //!

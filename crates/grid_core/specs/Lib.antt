@@ -6,6 +6,7 @@ pub mod Path
 pub mod Reconstruction
 pub mod Owed
 pub mod Rects
+pub mod Bounds
 pub mod Tiles
 pub mod TileLaws
 pub mod Laws

@@ -26,6 +26,7 @@
 //! reconstruction is, and in `specs/Owed.antt` for how much an image still lacks of it; in `specs/Rects.antt` and
 //! `specs/Tiles.antt` for rectangles and tiles; and in [`laws`] for what growing methods rest on.
 
+mod bounds;
 mod conn;
 mod grid;
 pub mod laws;
@@ -35,6 +36,7 @@ mod pixel;
 mod rect;
 mod tiling;
 
+pub use bounds::Bounds;
 pub use conn::Conn;
 pub use grid::{Grid, GridError, MAX_LEVEL, MAX_PIXELS, MAX_SIDE, is_image_size};
 pub use memory::Memory;

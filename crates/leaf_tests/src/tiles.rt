@@ -4,8 +4,9 @@ ghost use Rattle.std.specs.Prelude.{IsTrue};
 ghost use Rattle.border_queues.specs.OpenEdges.{IsOnTiling};
 
 use crate::grids::grid_of;
+use border_queues::laws::edges_begin_in_tile;
 use border_queues::{Hint, Inbox, open_edges_in};
-use grid_core::{Conn, Grid, Pixel, Tiling};
+use grid_core::{Bounds, Conn, Grid, Pixel, Tiling};
 use std::alloc::Global;
 use tile_generations::Generations;
 
@@ -26,14 +27,13 @@ fn is_on(image: &Grid, tiling: &Tiling) -> bool
 
 // Puts the hints of the left tile into the inbox, and says whether there is such a tile and memory.
 fn tell(image: &Grid, mask: &Grid, out: &mut Inbox) -> bool {
+    edges_begin_in_tile();
     match Tiling::new(128, 1, 64) {
-        Ok(tiling) => {
-            tiling.count() > 0
-                && is_on(image, &tiling)
-                && is_on(mask, &tiling)
-                && open_edges_in(image, mask, &tiling, 0, 5, Conn::Four, out).is_ok()
+        Ok(tiling) if tiling.count() > 0 && is_on(image, &tiling) && is_on(mask, &tiling) => {
+            let bounds = Bounds::of(tiling.rect(0));
+            open_edges_in(image, mask, &tiling, 0, 5, Conn::Four, bounds, out).is_ok()
         }
-        Err(_) => false,
+        _ => false,
     }
 }
 

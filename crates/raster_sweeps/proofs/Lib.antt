@@ -17,7 +17,6 @@ pub mod Crosses
 pub mod Strips
 pub mod RowGrowth
 pub mod Scanning
-pub mod Borders
-pub mod BorderPairs
-pub mod BorderColumns
+pub mod OpenPairs
+pub mod OpenBounds
 pub mod Bags

@@ -1,6 +1,7 @@
 -- Cells that are raised to one level, as far as the mask lets them, and the queue of those that rose.
 use Rattle.std.proofs.Common.{◌≡◌, ℕ, ◌+◌, ◌<◌, ◌≤◌, ◌⊎◌, List, length, min, max, set, sym, ◌∙◌, subst}
 use Rattle.std.proofs.Common.{arith, inl, inr, refl, get_or, Contains}
+use Rattle.std.specs.Prelude.{◌≢◌}
 use Rattle.std.proofs.lemmas.Bool.{cases_eq, cases_lt}
 use Rattle.std.proofs.lemmas.List.{length-set, get_or-set_same, get_or-set_other}
 use Rattle.grid_core.specs.Raster.{headroom, max_level}
@@ -142,6 +143,23 @@ queued_twice at other mask level before between old middle new raised first seco
     ]
   ];
 }
+
+-- each cell that waited waits, and each that rose
+pub queued_stays : (at : ℕ → Type 0) (mask : List ℕ) (level : ℕ) (before after old new : List ℕ)
+    → IsRaised at mask level before after → AreQueued at mask level before old new → (k : ℕ)
+    → Contains old k ⊎ (get_or after k 0 ≢ get_or before k 0)
+    → Contains new k
+queued_stays at mask level before after old new raised queued k why =
+    elim why [
+      | inl waited ↦ queued.kept k waited
+      | inr changed ↦ elim (raised.each k) [
+        | inl same ↦ absurd (changed same)
+        | inr rose ↦ elim (cases_lt (get_or before k 0) (min level (get_or mask k 0))) [
+          | inl lower ↦ queued.added k rose.0 lower
+          | inr high ↦ absurd (changed (omega (arith, rose.1, high)))
+        ]
+      ]
+    ]
 
 -- cells are raised and queued, and then others
 pub spread_twice : (at other : ℕ → Type 0) (mask : List ℕ) (level : ℕ) (before between after old middle new : List ℕ)

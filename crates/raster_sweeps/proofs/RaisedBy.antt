@@ -21,7 +21,7 @@ use Rattle.raster_sweeps.specs.Growth.{AllWait, AreInside, AreOpen, CanGrow, Cel
 use Rattle.raster_sweeps.specs.Growth.{IsOpenIn, cell_of}
 use Rattle.raster_sweeps.specs.Spans.{AreAround, AreQueued, AreSpread, IsRaised}
 use Rattle.raster_sweeps.proofs.Grown.{fits_below, in_image-inside}
-use Rattle.raster_sweeps.proofs.Raised.{raised_rises}
+use Rattle.raster_sweeps.proofs.Raised.{queued_stays, raised_rises}
 
 -- pixels of a rectangle that have one cell are one pixel
 pub same_cell : (width height : ℕ) (rect : Rect) (p q : Pixel) → RectFits width height rect
@@ -38,7 +38,7 @@ single x y found =
     elim (Contains-push_cases [] x y found) [ inl none ↦ absurd (omega (arith, none.1)) | inr same ↦ same ]
 
 -- a pixel of the rectangle, seen in the image, lies in it
-in_image-in_rect : (rect : Rect) (p : Pixel) → IsInside rect.w rect.h p → IsInRect rect (in_image rect p)
+pub in_image-in_rect : (rect : Rect) (p : Pixel) → IsInside rect.w rect.h p → IsInRect rect (in_image rect p)
 in_image-in_rect rect p inside = (omega arith, omega (arith, inside.0), omega arith, omega (arith, inside.1))
 
 module _ (conn : Conn) (rect : Rect) (mask before : Raster) (after : List ℕ) (p : Pixel) (at : ℕ → Type 0)
@@ -329,4 +329,5 @@ cell_has_spread conn rect mask before cell at limits cells after old waiting roo
       effort = done.effort;
       fell = done.fell;
       rose = held.rose;
+      stays = λ all. queued_stays at mask.cells level before.cells after old waiting done.raised (done.queued all);
     }

@@ -299,7 +299,7 @@ module _ (conn : Conn) (rect : Rect) (mask before : Raster) (y start : ℕ) (fil
         (reached_from_right (domain_in rect conn) (part rect (value_at mask)) (part rect (value_at before)) below_in y
         inside_y limits (between start (start + rect.w) before.cells) row of_mask row_of raised)
 
-    -- and closes to its left
+    -- no pixel of the row then raises the one to its left
     pub none_open_to_left : (n : ℕ) (row : List ℕ) → n ≡ rect.w
         → IsRaisedFromRight limits (between start (start + rect.w) before.cells) row
         → NoneOpenToLeft conn rect mask (refilled before (put_mid start n before.cells row)) y
@@ -324,7 +324,7 @@ module _ (conn : Conn) (rect : Rect) (mask before : Raster) (y start : ℕ) (fil
           value_in_row rect.w (part rect (value_at mask)) y limits q of_mask raises.to_inside.0 rows.1,
         )
 
-    -- the row of new cells
+    -- a row that is raised by another, as the cells of the image have it
     row_replaced : (source : ℕ) (cells : List ℕ) → AreCellsRaised conn limits source start before.cells cells
         → IsReplaced start (between start (start + length limits) cells) before.cells cells
     row_replaced source cells raised =
@@ -360,7 +360,7 @@ module _ (conn : Conn) (rect : Rect) (mask before : Raster) (y start : ℕ) (fil
         limits (between start (start + rect.w) before.cells) row of_mask row_of z
         (between source (source + rect.w) before.cells) inside_z next of_source by)
 
-    -- and closes to that row
+    -- no pixel of the other row then raises one of this row
     pub none_open_by : (z source : ℕ) (cells : List ℕ) → z < rect.h → apart y z ≡ 1
         → IsRowOf rect.w (part rect (value_at before)) z (between source (source + rect.w) before.cells)
         → AreCellsRaised conn limits source start before.cells cells
@@ -371,12 +371,9 @@ module _ (conn : Conn) (rect : Rect) (mask before : Raster) (y start : ℕ) (fil
         let size : n ≡ rect.w = of_mask.long in
         let row = between start (start + n) cells in
         let replaced = row_replaced source cells raised in
-        let long : length row ≡ rect.w = omega (
-          arith,
-          raised.row.long,
-          length-between before.cells start (start + n)
-              (omega (arith, row_within, size)),
-        ) in
+        let within : start + n ≤ length before.cells = omega (arith, row_within, size) in
+        let long : length row ≡ rect.w =
+        omega (arith, raised.row.long, length-between before.cells start (start + n) within) in
         let closed : IsClosedTo (AreBeside conn) (between source (source + rect.w) before.cells) limits row =
         subst (λ m. IsClosedTo (AreBeside conn) (between source (source + m) before.cells) limits row) size
         raised.closed in

@@ -22,42 +22,32 @@ flag_more P i false test before here = (
   λ all. here.1 (all i (omega arith)),
 )
 
--- flags that are all down
-pub two_down : (a b : Bool) → a || b ≡ false → (a ≡ false) × (b ≡ false)
-two_down false false e = (refl, refl)
-two_down false true e = absurd (let no : true ≡ false = e in cc)
-two_down true b e = absurd (let no : true ≡ false = e in cc)
+-- the same where two tests were made there, and another one before all of them
+pub flag_more_by_two : (Before : Type 0) (P Q : ℕ → Type 0) (i : ℕ) (flag first second : Bool)
+    → (flag ≡ false) ↔ (Before × ((k : ℕ) → k < i → P k × Q k))
+    → (first ≡ false) ↔ P i
+    → (second ≡ false) ↔ Q i
+    → ((flag || first) || second ≡ false) ↔ (Before × ((k : ℕ) → k < i + 1 → P k × Q k))
+flag_more_by_two Before P Q i true first second before of_first of_second = (
+  λ e. absurd cc,
+  λ all. absurd (let no : true ≡ false = before.1 (all.0, λ k h. all.1 k (omega arith)) in cc),
+)
+flag_more_by_two Before P Q i false true second before of_first of_second = (
+  λ e. absurd cc,
+  λ all. absurd (let no : true ≡ false = of_first.1 (all.1 i (omega arith)).0 in cc),
+)
+flag_more_by_two Before P Q i false false second before of_first of_second = (
+  λ e.
+      ((before.0 refl).0, below_more (λ k. P k × Q k) i (before.0 refl).1 (of_first.0 refl, of_second.0 e)),
+  λ all. of_second.1 (all.1 i (omega arith)).1,
+)
 
-pub three_down : (a b c : Bool) → (a || b) || c ≡ false → (a ≡ false) × (b ≡ false) × (c ≡ false)
-three_down a b c e =
-    let last = two_down (a || b) c e in
-    let first = two_down a b last.0 in
-    (first.0, first.1, last.1)
-
-pub not_down : (a : Bool) → not a ≡ true → a ≡ false
-not_down false e = refl
-not_down true e = absurd (let no : false ≡ true = e in cc)
-
--- in the columns up to i no pixel of the first row raises the one to its right or the one below it
-pub record AreClosedUpTo (row limits below limits_below : List ℕ) (i : ℕ) : Type 0 where
-  pub right : (k : ℕ) → k < i → min (get_or row k 0) (get_or limits (k + 1) 0) ≤ get_or row (k + 1) 0
-  pub down : (k : ℕ) → k < i → min (get_or row k 0) (get_or limits_below k 0) ≤ get_or below k 0
-
-pub none_closed : (row limits below limits_below : List ℕ) → AreClosedUpTo row limits below limits_below 0
-none_closed row limits below limits_below = record {
-  right = λ k less. omega (arith, less);
-  down = λ k less. omega (arith, less);
-}
-
-pub closed_more : (row limits below limits_below : List ℕ) (i : ℕ) → AreClosedUpTo row limits below limits_below i
-    → min (get_or row i 0) (get_or limits (i + 1) 0) ≤ get_or row (i + 1) 0
-    → min (get_or row i 0) (get_or limits_below i 0) ≤ get_or below i 0
-    → AreClosedUpTo row limits below limits_below (i + 1)
-closed_more row limits below limits_below i closed right down = record {
-  right =
-      below_more (λ k. min (get_or row k 0) (get_or limits (k + 1) 0) ≤ get_or row (k + 1) 0) i closed.right right;
-  down = below_more (λ k. min (get_or row k 0) (get_or limits_below k 0) ≤ get_or below k 0) i closed.down down;
-}
+pub not_down : (flag : Bool) → (not flag ≡ true) ↔ (flag ≡ false)
+not_down false = (λ e. refl, λ e. refl)
+not_down true = (
+  λ e. absurd (let no : false ≡ true = e in cc),
+  λ e. absurd (let no : true ≡ false = e in cc),
+)
 
 -- the list stands in the other, from a place on
 pub record IsPart (part whole : List ℕ) (start size : ℕ) : Type 0 where

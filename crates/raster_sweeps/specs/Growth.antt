@@ -1,7 +1,8 @@
 -- Growing an image in place, inside a rectangle. Only private functions have these words in their contracts, but for
--- open pairs, of which `specs/Borders.antt` speaks. What a reconstruction is stands in `specs/Reconstruction.antt` of
--- `grid_core`, and what a rectangle is in `specs/Rects.antt` there.
-use Rattle.std.specs.Prelude.{◌≡◌, ℕ, ◌+◌, ◌<◌, ◌≤◌, ◌⊎◌, Bool, IsTrue, List, [], ◌∷◌, length}
+-- open pairs, of which `specs/OpenBounds.antt` speaks. What a reconstruction is stands in `grid_core`'s
+-- `specs/Reconstruction.antt`, and what a rectangle is in `specs/Rects.antt` there.
+use Rattle.std.specs.Prelude.{◌≡◌, ◌≢◌, ℕ, ◌+◌, ◌<◌, ◌≤◌, ◌⊎◌, Bool, IsTrue, List, [], ◌∷◌, length}
+use Rattle.std.specs.Prelude.{slice_index}
 use Rattle.std.specs.List.{Contains}
 use Rattle.grid_core.specs.declared.conn.Conn.{Conn}
 use Rattle.grid_core.specs.declared.pixel.Pixel.{Pixel}
@@ -63,6 +64,10 @@ abbrev pub AllWait : Conn → Rect → Raster → Raster → List ℕ → Type 0
 AllWait conn rect mask image waiting =
     (p q : Pixel) → IsOpenIn conn rect mask image p q → Contains waiting (cell_of rect image.width p)
 
+-- the pixel is the one of this cell, in an image of this width
+abbrev pub IsPixelOf : ℕ → ℕ → Pixel → Type 0
+IsPixelOf width cell pixel = (p : Pixel) → p.x < width → index_of width p ≡ cell → pixel ≡ p
+
 -- the cell is that of a pixel of the rectangle
 abbrev pub IsCellIn : Rect → ℕ → ℕ → Type 0
 IsCellIn rect width i = (p : Pixel) × IsInside rect.w rect.h p × (cell_of rect width p ≡ i)
@@ -104,7 +109,7 @@ pub record IsScannedInto (conn : Conn) (rect : Rect) (mask before after : Raster
   pub waits : IsTrue room → AllWait conn rect mask after waiting
 
 -- the cell has spread: the image has grown, and of its open pairs each that waited waits, if there was room for the
--- cells that rose; with these the queue grew by no more than the headroom fell
+-- cells that rose, as does each cell that waited or rose; with these the queue grew by no more than the headroom fell
 pub record CellHasSpread (conn : Conn) (rect : Rect) (mask before after : Raster) (cell : ℕ) (old new : List ℕ)
     (room : Bool) : Type 0 where
   pub grown : IsGrown conn rect mask before after
@@ -114,6 +119,8 @@ pub record CellHasSpread (conn : Conn) (rect : Rect) (mask before after : Raster
   pub effort : IsTrue room → length new + headroom after.cells ≤ length old + headroom before.cells
   pub fell : IsTrue room ⊎ (headroom after.cells < headroom before.cells)
   pub rose : AreOpen conn rect mask before (cell ∷ []) → headroom after.cells < headroom before.cells
+  pub stays : IsTrue room → (k : ℕ) → Contains old k ⊎ (slice_index after.cells k ≢ slice_index before.cells k)
+      → Contains new k
 
 -- the waiting cells have spread: the image has grown, and if the queue is done, and had each open pair, it is closed;
 -- else a cell has risen

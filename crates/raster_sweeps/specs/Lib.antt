@@ -3,15 +3,13 @@ pub use Rattle.grid_core.specs.Path
 pub use Rattle.grid_core.specs.Raster
 pub use Rattle.grid_core.specs.Reconstruction
 pub use Rattle.grid_core.specs.Rects
-pub mod BorderColumns
-pub mod Borders
 pub mod Flood
 pub mod Flooding
 pub mod Growth
 pub mod Laws
+pub mod OpenBounds
 pub mod Regrowth
 pub mod RowPairs
 pub mod RowRaises
 pub mod Spans
-pub mod Starting
 pub mod Waiting

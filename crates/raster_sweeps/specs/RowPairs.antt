@@ -59,25 +59,9 @@ pub record IsFirstOfRow (rect : Rect) (width y cell : ℕ) : Type 0 where
 abbrev pub IsFromTo : ℕ → ℕ → ℕ → ℕ → Type 0
 IsFromTo y z a b = (a ≡ y) × (b ≡ z)
 
--- the first pixel lies in this row, and the second in the one above
-abbrev pub IsFromUp : ℕ → ℕ → ℕ → Type 0
-IsFromUp y a b = (a ≡ y) × (b + 1 ≡ y)
-
--- the first pixel lies in this row, and the second in the one below
-abbrev pub IsFromDown : ℕ → ℕ → ℕ → Type 0
-IsFromDown y a b = (a ≡ y) × (b ≡ y + 1)
-
 -- the upper of the two rows is this one
 abbrev pub IsUpper : ℕ → ℕ → ℕ → Type 0
 IsUpper y a b = min a b ≡ y
-
--- the pixel lies in the first or the last row of the rectangle
-abbrev pub IsInEndRow : Rect → Pixel → Type 0
-IsInEndRow rect p = (p.y ≡ 0) ⊎ (p.y + 1 ≡ rect.h)
-
--- the pixel lies in its first or its last column
-abbrev pub IsInEndColumn : Rect → Pixel → Type 0
-IsInEndColumn rect p = (p.x ≡ 0) ⊎ (p.x + 1 ≡ rect.w)
 
 -- the pixels at these columns of two rows that touch are neighbours
 abbrev pub AreBeside : Conn → ℕ → ℕ → Type 0
@@ -114,7 +98,7 @@ abbrev pub NoneOpenToLeft : Conn → Rect → Raster → Raster → ℕ → Type
 NoneOpenToLeft conn rect mask image y =
     (p q : Pixel) → IsOpenIn conn rect mask image p q → IsFromTo y y p.y q.y → q.x < p.x → ⊥
 
--- the row was raised by the one below it and then from the right, so that it is closed from there
+-- as the anti-raster scan leaves a row: no pixel of it raises the one to its left, and none of the row below one of it
 pub record IsScannedUp (conn : Conn) (rect : Rect) (mask image : Raster) (y : ℕ) : Type 0 where
   pub left : NoneOpenToLeft conn rect mask image y
   pub up : NoneOpen conn rect mask image (IsFromTo (y + 1) y)

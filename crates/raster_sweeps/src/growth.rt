@@ -3,18 +3,16 @@
 
 ghost use Rattle.std.specs.Prelude.{◌≡◌, ◌<◌, [], IfOk, OnErr, OnOk, false};
 ghost use Rattle.grid_core.specs.Raster.{IsBelow};
-ghost use Rattle.raster_sweeps.specs.declared.growth.Start.TheVariants as starts;
-ghost use Rattle.raster_sweeps.specs.Borders.{OpenPairsBeginOnBorder};
+ghost use Rattle.grid_core.specs.Bounds.{LieIn};
 ghost use Rattle.raster_sweeps.specs.Growth.{AreSomeOpen, IsGrownUp, IsQueueFilled, CanClose, CanGrow};
+ghost use Rattle.raster_sweeps.specs.OpenBounds.{IsRaisedFrom, OpenPairsBeginIn, RiseWithin};
 ghost use Rattle.raster_sweeps.specs.Regrowth.{IsRegrown, IsRegrownIn};
-ghost use Rattle.raster_sweeps.specs.Starting.{CanBegin};
 
-use crate::border::queue_border;
 use crate::open_pairs::queue_open_pairs;
-use crate::raising::{drain, spread};
+use crate::raising::{drain, drain_within, spread};
 use crate::scans::{scan_down, scan_up};
 use crate::waiting::{STRIP_ROWS, Waiting};
-use grid_core::{Conn, Grid, Memory, Rect};
+use grid_core::{Bounds, Conn, Grid, Memory, Rect};
 use std::alloc::Global;
 
 /// The memory that growing needs: room for the cells whose neighbours are still to be raised.
@@ -24,15 +22,6 @@ use std::alloc::Global;
 #[derive(Drop)]
 pub struct Room {
     waiting: Waiting,
-}
-
-// How a growth begins, where cells are to be found whose neighbours can be raised.
-#[derive(Clone, Copy)]
-enum Start {
-    // By the check of the pixels on the rectangle's border.
-    Border,
-    // By the raster and the anti-raster scan.
-    Scans,
 }
 
 impl Room {
@@ -55,23 +44,40 @@ pub fn grow_within(room: &mut Room, mask: &Grid, image: &mut Grid, rect: Rect, c
 {
     // The width tells the prover that the image has a cell for each pixel.
     let _ = image.width();
-    close(mask, image, rect, conn, &mut room.waiting, Start::Scans);
+    close(mask, image, rect, conn, &mut room.waiting);
 }
 
-/// Raises an image inside a rectangle as [`grow_within`] does, where only pixels on the rectangle's border can still
-/// raise a neighbour in it: where the image was grown there before, and since then pixels of the border have risen. The
-/// image must be at most the mask, and the rectangle lie in it.
+/// Raises an image inside a rectangle as [`grow_within`] does, where only pixels within the bounds can still raise a
+/// neighbour in it: where the image was grown there before, and since then pixels within the bounds have risen. The
+/// image must be at most the mask, the rectangle lie in it, and the bounds in the rectangle.
 ///
-/// The pixels on the border are checked, and no others; then a queue spreads from these, and where it is full, a raster
-/// and an anti-raster scan come between. It takes no memory.
-pub fn grow_from_border(room: &mut Room, mask: &Grid, image: &mut Grid, rect: Rect, conn: Conn)
+/// It answers bounds within which these lie and every pixel that rises.
+///
+/// The pixels within the bounds are checked, and no others, and a queue spreads from these. Where it is full, and where
+/// the bounds are those of the whole rectangle, it goes on with the scans. It takes no memory.
+pub fn grow_from_bounds(
+    room: &mut Room,
+    mask: &Grid,
+    image: &mut Grid,
+    rect: Rect,
+    conn: Conn,
+    bounds: Bounds,
+) -> Bounds
     requires grow { CanGrow rect mask.now image.old }
-    requires border { OpenPairsBeginOnBorder conn rect mask.now image.old }
-    ensures { IsRegrownIn conn rect mask.now image.old image.new }
+    requires bounds { OpenPairsBeginIn conn rect mask.now image.old bounds }
+    requires lie { LieIn bounds rect }
+    ensures regrown { IsRegrownIn conn rect mask.now image.old image.new }
+    ensures rises { RiseWithin rect image.old image.new bounds result }
+    ensures lie { LieIn result rect }
 {
     // The width tells the prover that the image has a cell for each pixel.
     let _ = image.width();
-    close(mask, image, rect, conn, &mut room.waiting, Start::Border);
+    let risen = raise_from_bounds(mask, image, rect, conn, &mut room.waiting, bounds);
+    if let Some(risen) = risen {
+        return risen;
+    }
+    close(mask, image, rect, conn, &mut room.waiting);
+    Bounds::of(rect)
 }
 
 /// The reconstruction by dilation of `mask` from `marker`, `w * h` cells row by row.
@@ -104,52 +110,63 @@ pub fn grow_in_place(alloc: Global, mask: &Grid, image: &mut Grid, conn: Conn) -
     let room = (w as usize * STRIP_ROWS as usize / 8).max(1024);
     let mut waiting = Waiting::new(alloc, strips, room)?;
     let whole = Rect { x: 0, y: 0, w, h };
-    close(mask, image, whole, conn, &mut waiting, Start::Scans);
+    close(mask, image, whole, conn, &mut waiting);
     Ok(())
 }
 
-// Raises the image inside the rectangle until no pair of neighbours there is open.
-fn close(mask: &Grid, image: &mut Grid, rect: Rect, conn: Conn, waiting: &mut Waiting, start: Start)
-    requires { CanBegin conn rect mask.now image.old start }
-    ensures { IsGrownUp conn rect mask.now image.old image.new }
-{
-    let mut next = start;
-    'rounds: loop {
-        let all = fill(mask, image, rect, conn, waiting, next);
-        if all && drain(mask, image, rect, conn, waiting) {
-            return;
-        }
-        next = Start::Scans;
-    }
-}
-
-// Fills the queue with the cells whose neighbours can be raised, and says whether there was room for all of them. Where
-// there was not, some cell has risen.
-fn fill(
+// Lets the open pairs within the bounds spread until none is left, and answers the bounds within which pixels rose.
+//
+// It answers none where the bounds are those of the whole rectangle, and where the queue is full.
+fn raise_from_bounds(
     mask: &Grid,
     image: &mut Grid,
     rect: Rect,
     conn: Conn,
     waiting: &mut Waiting,
-    start: Start,
-) -> bool
-    requires { CanBegin conn rect mask.now image.old start }
-    ensures { IsQueueFilled conn rect mask.now image.old image.new result waiting.new }
+    bounds: Bounds,
+) -> Option<Bounds>
+    requires close { CanClose rect mask.now image.old }
+    requires bounds { OpenPairsBeginIn conn rect mask.now image.old bounds }
+    requires lie { LieIn bounds rect }
+    ensures { IsRaisedFrom conn rect mask.now image.old image.new bounds result }
 {
+    // The width tells the prover how large the image may be.
+    let _ = image.width();
+    if bounds.is_empty() {
+        return Some(bounds);
+    }
+    let whole = Bounds::of(rect);
+    if bounds == whole {
+        return None;
+    }
     waiting.clear();
-    match start {
-        Start::Border => check_border(mask, image, rect, conn, waiting),
-        Start::Scans => scan(mask, image, rect, conn, waiting),
+    let near = bounds.wider().intersection(whole).rect();
+    if !queue_open_pairs(mask, image, near, conn, waiting) {
+        return None;
+    }
+    drain_within(mask, image, rect, conn, waiting, bounds)
+}
+
+// Raises the image inside the rectangle until no pair of neighbours there is open.
+fn close(mask: &Grid, image: &mut Grid, rect: Rect, conn: Conn, waiting: &mut Waiting)
+    requires { CanClose rect mask.now image.old }
+    ensures { IsGrownUp conn rect mask.now image.old image.new }
+{
+    'rounds: loop {
+        let all = fill(mask, image, rect, conn, waiting);
+        if all && drain(mask, image, rect, conn, waiting) {
+            return;
+        }
     }
 }
 
-// Fills the queue by the raster and the anti-raster scan, and says whether there was room for all open pairs. Where
-// there was not, the rows are checked.
-fn scan(mask: &Grid, image: &mut Grid, rect: Rect, conn: Conn, waiting: &mut Waiting) -> bool
-    requires close { CanClose rect mask.now image.old }
-    requires empty { waiting.old ≡ [] }
+// Fills the queue with the cells whose neighbours can be raised, by the raster and the anti-raster scan, and says
+// whether there was room for all of them. Where there was not, the rows are checked.
+fn fill(mask: &Grid, image: &mut Grid, rect: Rect, conn: Conn, waiting: &mut Waiting) -> bool
+    requires { CanClose rect mask.now image.old }
     ensures { IsQueueFilled conn rect mask.now image.old image.new result waiting.new }
 {
+    waiting.clear();
     scan_down(mask, image, rect, conn);
     if scan_up(mask, image, rect, conn, waiting) {
         return true;
@@ -166,26 +183,6 @@ fn check(mask: &Grid, image: &mut Grid, rect: Rect, conn: Conn, waiting: &mut Wa
     ensures { IsQueueFilled conn rect mask.now image.old image.new result waiting.new }
 {
     if queue_open_pairs(mask, image, rect, conn, waiting) {
-        return true;
-    }
-    spread_first(mask, image, rect, conn, waiting);
-    false
-}
-
-// Fills the queue by the check of the pixels on the border, and says whether there was room for all open pairs. Where
-// there was not, the first cell has spread.
-fn check_border(
-    mask: &Grid,
-    image: &mut Grid,
-    rect: Rect,
-    conn: Conn,
-    waiting: &mut Waiting,
-) -> bool
-    requires begin { CanBegin conn rect mask.now image.old starts.Border }
-    requires empty { waiting.old ≡ [] }
-    ensures { IsQueueFilled conn rect mask.now image.old image.new result waiting.new }
-{
-    if queue_border(mask, image, rect, conn, waiting) {
         return true;
     }
     spread_first(mask, image, rect, conn, waiting);

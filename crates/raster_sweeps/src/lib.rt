@@ -18,7 +18,7 @@
 //!
 //! [`grow_in_place`] does the same to an image that is there already, and [`grow_within`] inside a rectangle of one,
 //! where it leaves every pixel outside as it was. That takes no memory: the caller lends it a [`Room`], and may use
-//! that again. [`grow_from_border`] checks the rectangle's border instead of scanning it, where that is enough.
+//! that again. [`grow_from_bounds`] looks only within bounds, where no pixel outside of them can raise a neighbour.
 //!
 //! [`slow`] floods one threshold after another, as the definition says it, and so takes time for each level. It is
 //! there to compare with.
@@ -27,7 +27,6 @@
 //! `specs/Reconstruction.antt` what a reconstruction is, and its `specs/Rects.antt` what a rectangle is; and then at
 //! [`grow_within`].
 
-mod border;
 mod closed;
 mod growth;
 pub mod laws;
@@ -41,5 +40,5 @@ mod thresholds;
 mod waiting;
 
 pub use closed::is_closed;
-pub use growth::{Room, grow, grow_from_border, grow_in_place, grow_within};
+pub use growth::{Room, grow, grow_from_bounds, grow_in_place, grow_within};
 pub use thresholds::slow;

@@ -121,9 +121,9 @@ fn is_row_seen_closed_onward(mask: &Grid, image: &Grid, rect: Rect, y: u32) -> b
     are_closed_onward(row, limits, below, limits_below)
 }
 
-/// Puts the first pixels of the open pairs within a row into the queue. It answers whether there was room for all of
-/// them.
-pub fn queue_within(mask: &Grid, image: &Grid, rect: Rect, y: u32, waiting: &mut Waiting) -> bool
+// Puts the first pixels of the open pairs within a row into the queue. It answers whether there was room for all of
+// them.
+fn queue_within(mask: &Grid, image: &Grid, rect: Rect, y: u32, waiting: &mut Waiting) -> bool
     requires { CanGrowRow rect mask.now image.now y }
     ensures { (conn : _) → HaveJoined (IsOpenCell conn rect mask.now image.now (IsFromTo y y)) result
         waiting.old waiting.new }
@@ -155,9 +155,9 @@ fn queue_to_right(mask: &Grid, image: &Grid, rect: Rect, y: u32, waiting: &mut W
     )
 }
 
-/// Puts the first pixels of the open pairs from a row to another, which touches it, into the queue. It answers whether
-/// there was room for all of them.
-pub fn queue_between(
+// Puts the first pixels of the open pairs from a row to another, which touches it, into the queue. It answers whether
+// there was room for all of them.
+fn queue_between(
     mask: &Grid,
     image: &Grid,
     rect: Rect,
@@ -287,8 +287,8 @@ fn queue_strip(
     true
 }
 
-/// The cell of the first pixel of the rectangle's row `y`.
-pub fn first_cell(image: &Grid, rect: Rect, y: u32) -> u32
+// The cell of the first pixel of the rectangle's row `y`.
+fn first_cell(image: &Grid, rect: Rect, y: u32) -> u32
     requires fits { RectFits image.now.width image.now.height rect }
     requires row { y < rect.h }
     ensures { IsFirstOfRow rect image.now.width y result }

@@ -2,18 +2,20 @@
 
 ghost use Rattle.std.specs.Prelude.{◌≡◌, ◌+◌, ◌<◌, ◌≤◌, ◌⊎◌, ◌∷◌, [], length, min, slice_index};
 ghost use Rattle.std.specs.Prelude.{Contains, IsTrue};
+ghost use Rattle.grid_core.specs.Bounds.{LieIn};
 ghost use Rattle.grid_core.specs.Path.{domain_of};
 ghost use Rattle.grid_core.specs.Raster.{IsBelow, IsFilled, value_at, headroom};
 ghost use Rattle.grid_core.specs.Reconstruction.{IsClosed};
 ghost use Rattle.grid_core.specs.Rects.{RectFits, domain_in, part};
 ghost use Rattle.raster_sweeps.specs.Growth.{AllWait, AreInside, AreOpen, IsCellIn, IsGrown, CanClose, CanGrow};
 ghost use Rattle.raster_sweeps.specs.Spans.{AreQueued, InSpan, IsAround, IsCell, IsOnCross, IsRaised, AreSpread};
-ghost use Rattle.raster_sweeps.specs.Growth.{CellHasSpread, IsDrained};
+ghost use Rattle.raster_sweeps.specs.Growth.{CellHasSpread, IsDrained, IsPixelOf};
+ghost use Rattle.raster_sweeps.specs.OpenBounds.{IsRaisedFrom};
 
 use crate::neighbourhood::{Cross, Place, Span, Spans, cross_around, spans_around};
 use crate::waiting::{Waiting, strip_of};
 use grid_core::laws::cells_given_back;
-use grid_core::{Conn, Grid, Rect};
+use grid_core::{Bounds, Conn, Grid, Pixel, Rect};
 
 /// Lets the waiting cells spread until none waits, which it answers by `true`.
 ///
@@ -29,6 +31,47 @@ pub fn drain(mask: &Grid, image: &mut Grid, rect: Rect, conn: Conn, waiting: &mu
         }
     }
     true
+}
+
+/// Lets the waiting cells spread as [`drain`] does, where each open pair waits, and answers bounds within which these
+/// lie and every pixel that rises.
+///
+/// Where the queue was full it stops with none.
+pub fn drain_within(
+    mask: &Grid,
+    image: &mut Grid,
+    rect: Rect,
+    conn: Conn,
+    waiting: &mut Waiting,
+    bounds: Bounds,
+) -> Option<Bounds>
+    requires close { CanClose rect mask.now image.old }
+    requires inside { AreInside rect image.old.width waiting.old }
+    requires all { AllWait conn rect mask.now image.old waiting.old }
+    requires lie { LieIn bounds rect }
+    ensures { IsRaisedFrom conn rect mask.now image.old image.new bounds result }
+{
+    let width = mask.width();
+    let mut risen = bounds;
+    while let Some(cell) = waiting.pop() {
+        risen = risen.including(pixel_of(width, cell));
+        if !spread(mask, image, rect, conn, waiting, cell) {
+            return None;
+        }
+    }
+    Some(risen)
+}
+
+// The pixel of a cell, in an image of this width.
+#[inline(always)]
+fn pixel_of(width: u32, cell: u32) -> Pixel
+    requires { 0 < width }
+    ensures { IsPixelOf width cell result }
+{
+    Pixel {
+        x: cell % width,
+        y: cell / width,
+    }
 }
 
 /// Raises the cells around a cell by it, as far as the mask lets them, and puts those that rise into the queue.

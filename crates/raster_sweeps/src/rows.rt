@@ -43,7 +43,7 @@ pub fn is_closed_to(from: &[u16], mask: &[u16], to: &[u16], conn: Conn) -> bool
 pub fn are_closed_onward(row: &[u16], limits: &[u16], below: &[u16], limits_below: &[u16]) -> bool
     requires rows { AreFullRows below.now limits.now row.now }
     requires below { length limits_below.now ≡ length row.now }
-    ensures { IsTrue result → AreClosedOnward row.now limits.now below.now limits_below.now }
+    ensures { IsTrue result ↔ AreClosedOnward row.now limits.now below.now limits_below.now }
 {
     let last = row.len() - 1;
     let mut open = below[last] < row[last].min(limits_below[last]);

@@ -8,6 +8,5 @@ pub mod TellingHands
 pub mod TellingOrder
 pub mod TellingSweeps
 pub mod MergeSteps
-pub mod Closing
-pub mod ClosingHints
+pub mod Bounding
 pub mod Scheduling

@@ -26,6 +26,8 @@ use Rattle.core_rules.specs.Invariant.{IsSound}
 use Rattle.tile_work.specs.TileSet.{Has}
 use Rattle.tile_resets.specs.Renewing.{IsTileKept, TouchesMarked, IsUnder}
 use Rattle.tile_resets.specs.Renewing.{AreMarkedReset, IsRaisedByTags}
+use Rattle.reset_core.specs.Bounding.{AreBounded}
+use Rattle.reset_core.proofs.Bounding.{bounded_like, bounded_still}
 use Rattle.reset_core.specs.declared.replica.Core.TheInside.{Inside as Parts}
 use Rattle.reset_core.specs.Replica.{core_of, IsStored}
 use Rattle.reset_core.specs.MergeSteps.{IsMarked, HasSpentMark, IsGrown, IsRenewed}
@@ -336,6 +338,12 @@ module _ (before after : Parts) (delta : State) (turnover : Turnover) (stored : 
   pub renewed_is_stored : IsStored after
   renewed_is_stored = record {
     sound = merge_keeps_sound (core_of before) (core_of after) delta turnover stored.sound renewed_is_merged;
+    bounded =
+        subst (λ core. AreBounded core after.bounds) same_core (bounded_like (record (core_of before) {
+          image = after.image;
+        }) after.state after.work (core_of before).serial after.bounds
+        (bounded_still (core_of before) after.image before.bounds after.bounds stored.sound.shape.tiled stored.bounded
+        renewed.bounds));
     marks =
         subst (λ (m : Raster). IsMarkerOf m after.state after.markers.marker) (sym renewed.mask)
         renewed.grown.marker_is;

@@ -1,5 +1,11 @@
 -- Cores as they are stored: what an event leaves as it is, and what it changes.
-use Rattle.std.proofs.Common.{◌≡◌, ℕ, ◌<◌, ◌≤◌, true, false, List, length, replicate, refl, sym, ◌∙◌, ap, subst, arith}
+use Rattle.std.proofs.Common.{◌≡◌, ℕ, ◌<◌, ◌≤◌, true, false, List, length, replicate, set, refl, sym, ◌∙◌, ap, subst}
+use Rattle.std.proofs.Common.{arith}
+use Rattle.grid_core.specs.declared.bounds.Bounds.{Bounds}
+use Rattle.grid_core.specs.Bounds.{bounds_at, joined, no_bounds}
+use Rattle.tile_work.specs.OpenBounds.{bounds_for}
+use Rattle.reset_core.specs.Bounding.{AreBounded}
+use Rattle.reset_core.proofs.Bounding.{blank_is_black, bounded_still, follow_rise, none_bounded}
 use Rattle.std.specs.Prelude.{Bool, Some, slice_set, remove}
 use Rattle.std.proofs.lemmas.List.{length-set, length-replicate}
 use Rattle.grid_core.specs.Raster.{IsFilled}
@@ -50,12 +56,16 @@ pub empty_still : (old new : List TileWork) (set : List Bool) → length new ≡
     → IsEmptySet new set
 empty_still old new set count empty = empty ∙ ap (λ n. replicate n false) (sym count)
 
--- an event that changes image, work and serial alone leaves a stored core where it leaves a sound one
-pub stored_still : (old : Parts) (image : Raster) (work : List TileWork) (serial : ℕ) → IsStored old
-    → length work ≡ length old.work → IsSound (core_of (record old { image = image; work = work; serial = serial }))
-    → IsStored (record old { image = image; work = work; serial = serial })
-stored_still old image work serial stored count sound = record {
+-- an event that changes image, work, bounds and serial alone leaves a stored core where it leaves a sound one, and nothing
+-- open outside the bounds
+pub stored_still : (old : Parts) (image : Raster) (work : List TileWork) (bounds : List Bounds) (serial : ℕ) → IsStored old
+    → length work ≡ length old.work
+    → AreBounded (record (core_of old) { image = image }) bounds
+    → IsSound (core_of (record old { image = image; work = work; bounds = bounds; serial = serial }))
+    → IsStored (record old { image = image; work = work; bounds = bounds; serial = serial })
+stored_still old image work bounds serial stored count bounded sound = record {
   sound = sound;
+  bounded = record { count = bounded.count; lie = bounded.lie; begin = bounded.begin };
   marks = stored.marks;
   no_marks = empty_still old.work work old.marks count stored.no_marks;
   none_queued = empty_still old.work work old.queue count stored.none_queued;
@@ -66,6 +76,7 @@ pub unmarked_is_stored : (parts : Parts) (marks queue : List Bool) → IsStored 
     → IsEmptySet parts.work queue → IsStored (record parts { marks = marks; queue = queue })
 unmarked_is_stored parts marks queue stored no_marks none_queued = record {
   sound = stored.sound;
+  bounded = stored.bounded;
   marks = stored.marks;
   no_marks = no_marks;
   none_queued = none_queued;
@@ -90,10 +101,11 @@ module _ (parts : Parts) (stored : IsStored parts) (t i : ℕ) (hint : Hint)
       → IsHanded (core_of parts) t i handed (without_hint (core_of parts) t i)
       → IsStored (record parts { work = (without_hint (core_of parts) t i).tiles })
   lost_is_stored handed happens =
-      stored_still parts parts.image (without_hint (core_of parts) t i).tiles parts.serial stored
+      stored_still parts parts.image (without_hint (core_of parts) t i).tiles parts.bounds parts.serial stored
       (length-set parts.work t (record (work_at (core_of parts) t) {
         inbox = remove (work_at (core_of parts) t).inbox i;
       }))
+      stored.bounded
       (hand_keeps_sound (core_of parts) (without_hint (core_of parts) t i) t i handed stored.sound happens)
 
   -- the hint leaves its inbox, its pixel is raised, and its tile is dirty
@@ -105,16 +117,26 @@ module _ (parts : Parts) (stored : IsStored parts) (t i : ℕ) (hint : Hint)
     pub raised_is_stored : IsStored (record parts {
       image = with_value parts.image hint.to_pixel hint.value;
       work = (raised (without_hint (core_of parts) t i) hint).tiles;
+      bounds = set parts.bounds t (joined (bounds_for parts.bounds t) (joined no_bounds (bounds_at hint.to_pixel)));
     })
     raised_is_stored =
         let home = tile_of (tiling (core_of parts)) hint.to_pixel in
         let lost = without_hint (core_of parts) t i in
-        stored_still parts (with_value parts.image hint.to_pixel hint.value) (raised lost hint).tiles parts.serial
-        stored
+        let tiles = tiling (core_of parts) in
+        let shape = stored.sound.shape in
+        stored_still parts (with_value parts.image hint.to_pixel hint.value) (raised lost hint).tiles
+        (set parts.bounds t (joined (bounds_for parts.bounds t) (joined no_bounds (bounds_at hint.to_pixel))))
+        parts.serial stored
         (length-set lost.tiles home (record (work_at lost home) { dirty = true })
         ∙ length-set parts.work t (record (work_at (core_of parts) t) {
           inbox = remove (work_at (core_of parts) t).inbox i;
         }))
+        (bounded_still (core_of parts) (with_value parts.image hint.to_pixel hint.value) parts.bounds
+        (set parts.bounds t (joined (bounds_for parts.bounds t) (joined no_bounds (bounds_at hint.to_pixel))))
+        shape.tiled stored.bounded
+        (follow_rise tiles parts.conn parts.image parts.bounds hint.to_pixel hint.value t shape.tiled
+        stored.bounded.count shape.image.filled shape.image.width shape.image.height goes_to_tile.inside
+        goes_to_tile.tile above))
         (hand_keeps_sound (core_of parts) (raised lost hint) t i Raised stored.sound raised_happens)
 
 -- ---- opening
@@ -144,13 +166,19 @@ pub opened_is_stored : (parts : Parts) (mask : Raster) (side first : ℕ) → Is
     → core_of parts ≡ opened mask parts.conn side first → IsMarkerOf parts.markers.mask nothing parts.markers.marker
     → parts.marks ≡ replicate (count_of (record { width = mask.width; height = mask.height; side = side })) false
     → parts.queue ≡ replicate (count_of (record { width = mask.width; height = mask.height; side = side })) false
+    → parts.bounds ≡ replicate (count_of (record { width = mask.width; height = mask.height; side = side })) no_bounds
     → IsStored parts
-opened_is_stored parts mask side first filled tiled bound is_open marks no_marks none_queued =
+opened_is_stored parts mask side first filled tiled bound is_open marks no_marks none_queued bounds_are =
     let tiling : Tiles = record { width = mask.width; height = mask.height; side = side } in
     let count : length parts.work ≡ count_of tiling =
     ap (λ (core : Core). length core.tiles) is_open ∙ length-replicate (count_of tiling) (fresh first) in
     record {
       sound = subst IsSound (sym is_open) (opened_is_sound mask parts.conn side first filled tiled bound);
+      bounded =
+          subst (λ core. AreBounded core parts.bounds) (sym is_open)
+          (subst (AreBounded (opened mask parts.conn side first)) (sym bounds_are)
+          (none_bounded (opened mask parts.conn side first) (count_of tiling) tiled refl
+          (λ p inside. blank_is_black mask p filled inside)));
       marks =
           subst (λ s. IsMarkerOf parts.markers.mask s parts.markers.marker)
           (sym (ap (λ (core : Core). core.state) is_open)) marks;
@@ -165,5 +193,6 @@ pub let_go_is_stored : (parts : Parts) → IsStored parts → (t : ℕ) (ticket 
     → IsAbandoned (core_of parts) ticket true (with_work (core_of parts) t work)
     → IsStored (record parts { work = slice_set parts.work t work })
 let_go_is_stored parts stored t ticket work happens =
-    stored_still parts parts.image (slice_set parts.work t work) parts.serial stored (length-set parts.work t work)
+    stored_still parts parts.image (slice_set parts.work t work) parts.bounds parts.serial stored
+    (length-set parts.work t work) stored.bounded
     (abandon_keeps_sound (core_of parts) (with_work (core_of parts) t work) ticket true stored.sound happens)

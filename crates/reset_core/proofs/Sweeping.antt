@@ -33,6 +33,9 @@ use Rattle.reset_core.specs.Parts.{IsRaisedPart}
 use Rattle.tile_work.specs.WorkTable.{IsToTouching, AreReceived}
 use Rattle.reset_core.specs.declared.replica.Core.TheInside.{Inside as Parts}
 use Rattle.reset_core.specs.Replica.{core_of, IsStored}
+use Rattle.grid_core.specs.Bounds.{bounds_of}
+use Rattle.reset_core.specs.Bounding.{FollowChange}
+use Rattle.reset_core.proofs.Bounding.{bounded_still, follow_join}
 use Rattle.reset_core.proofs.Storing.{stored_still}
 use Rattle.core_rules.proofs.Cores.{inside_image}
 use Rattle.core_rules.proofs.Removals.{passed_was_there, passed_test, from_map}
@@ -57,7 +60,8 @@ taken_is_stored keeps parts core t job work view stored ready next is =
     let serial = (parts.serial + 1) % 2 ^ 64 in
     let old = core_of parts in
     let change = gone_out (slice_index_or parts.work t idle) parts.serial in
-    stored_still parts parts.image work serial stored (ap length is ∙ length-set parts.work t change)
+    stored_still parts parts.image work parts.bounds serial stored (ap length is ∙ length-set parts.work t change)
+    stored.bounded
     (keeps old (core_of (record parts { work = work; serial = serial })) t (Some job) stored.sound (
       subst (λ c. IsReady c t) (sym view) ready,
       subst (λ c. IsNextJob c t job) (sym view) next,
@@ -71,8 +75,8 @@ pub abandoned_is_stored : AbandonKeepsSound → (parts : Parts) (core : Core) (t
 abandoned_is_stored keeps parts core ticket work view stored out is =
     let old = core_of parts in
     let change = let_go (slice_index_or parts.work ticket.tile idle) in
-    stored_still parts parts.image work parts.serial stored
-    (ap length is ∙ length-set parts.work ticket.tile change)
+    stored_still parts parts.image work parts.bounds parts.serial stored
+    (ap length is ∙ length-set parts.work ticket.tile change) stored.bounded
     (keeps old (core_of (record parts { work = work })) ticket true stored.sound (
       subst (λ c. IsOut c ticket) (sym view) out,
       λ i. record old { tiles = is i },
@@ -314,10 +318,29 @@ module _ (parts : Parts) (core : Core) (swept : Swept) (tiles : Tiles) (tile : �
 
   pub joined_is_stored : GiveBackKeepsSound → IsStored parts → IsSwept swept → IsKnown core swept.job
       → IsOut core swept.job.ticket → IsUnchanged core swept.job ⊎ HasOnlyRisen core swept.job
-      → IsStored (record parts { image = image; work = done })
+      → IsStored (record parts { image = image; work = done; bounds = slice_set parts.bounds tile (bounds_of rect) })
   joined_is_stored keeps stored is_swept known out base =
       let change = come_back (slice_index_or told tile idle) in
-      stored_still parts image done parts.serial stored
+      let shape = stored.sound.shape in
+      let rect_at : rect ≡ tile_rect (core_of parts) tile = rect_is ∙ ap (λ (c : Core). tile_rect c tile) (sym view) in
+      let within : tile < count_of (tiling (core_of parts)) =
+      omega (
+        arith,
+        is_tile,
+        ap (λ (c : Core). length c.tiles) view,
+        tile_is,
+        shape.tiles,
+      ) in
+      let follow : FollowChange (tiling (core_of parts)) parts.conn parts.image image parts.bounds
+      (slice_set parts.bounds tile (bounds_of rect)) =
+      subst (λ r. FollowChange (tiling (core_of parts)) parts.conn parts.image image parts.bounds
+      (slice_set parts.bounds tile (bounds_of r))) (sym rect_at)
+      (follow_join (tiling (core_of parts)) parts.conn parts.image image parts.bounds tile pixels shape.tiled
+      stored.bounded.count within stored.bounded.lie shape.image.width shape.image.height
+      (subst (λ r. IsJoinedWith r pixels parts.image image) rect_at raise)) in
+      stored_still parts image done (slice_set parts.bounds tile (bounds_of rect)) parts.serial stored
       (ap length done_is ∙ length-set told tile change ∙ receive.count)
+      (bounded_still (core_of parts) image parts.bounds (slice_set parts.bounds tile (bounds_of rect)) shape.tiled
+      stored.bounded follow)
       (join_keeps_sound keeps core (core_of (record parts { image = image; work = done })) swept
       (subst IsSound view stored.sound) is_swept known out base parts_joined)

@@ -1,12 +1,12 @@
 -- Hints that are handed over, one after another.
 use Rattle.std.proofs.Common.{◌≡◌, ℕ, ◌+◌, ◌*◌, ◌<◌, ◌≤◌, true, cond, List, [], ◌∷◌, ◌++◌, length, get_or, take, refl}
-use Rattle.std.proofs.Common.{sym, ap, ◌∙◌, subst, arith}
-use Rattle.std.specs.Prelude.{◌==◌, if◌then◌else◌, slice_index_or, slice_set}
+use Rattle.std.proofs.Common.{sym, ap, ◌∙◌, subst, arith, inl, inr}
+use Rattle.std.specs.Prelude.{◌==◌, if◌then◌else◌, slice_index_or, slice_set, Contains}
 use Rattle.std.specs.List.{flat_map}
 use Rattle.std.proofs.lemmas.Nat.{mul-add-lt}
-use Rattle.std.proofs.lemmas.Bool.{lt-ltb, le-ltb, eq-eqb, ne_eqb}
-use Rattle.std.proofs.lemmas.List.{length-set, append-nil}
-use Rattle.std.proofs.lemmas.List.Elements.{filter-append}
+use Rattle.std.proofs.lemmas.Bool.{cases_lt, lt-ltb, le-ltb, eq-eqb, ne_eqb}
+use Rattle.std.proofs.lemmas.List.{get_or-set_other, length-set, append-nil}
+use Rattle.std.proofs.lemmas.List.Elements.{Contains-append_left, Contains-append_right, filter-append}
 use Rattle.std.proofs.lemmas.Grind.{flat_map-append}
 use Rattle.std.proofs.lemmas.List.{take_more}
 use Rattle.std.proofs.lemmas.List.Sums.{sum_by-set}
@@ -174,3 +174,21 @@ tile_handed_next tiles hints ts i a b c within first second =
     ∙ ap (λ hs. flat_map f (take i ts) ++ hs) last in
     subst (λ hs. AreHandedOver tiles hs a c) (sym more)
     (handed_more tiles (flat_map f (take i ts)) (f (get_or ts i 0)) a b c first second)
+
+-- a tile for which there is no hint keeps its work
+pub work_elsewhere_stays : (tiles : Tiles) (hints : List Hint) (s : ImageAndWork) (t : ℕ)
+    → ((hint : Hint) → Contains hints hint → tile_of tiles hint.to_pixel ≡ t → ⊥)
+    → slice_index_or (all_handed tiles hints s).rows t idle ≡ slice_index_or s.rows t idle
+work_elsewhere_stays tiles [] s t none = refl
+work_elsewhere_stays tiles (hint ∷ hints) s t none =
+    work_elsewhere_stays tiles hints (handed tiles hint s) t
+    (λ later there. none later (Contains-append_right (hint ∷ []) hints later there))
+    ∙ elim (cases_lt (value_at s.image hint.to_pixel) hint.value) [
+      | inl above ↦
+          let u : ℕ = tile_of tiles hint.to_pixel in
+          let changed : TileWork = record (slice_index_or s.rows u idle) { dirty = true } in
+          ap (λ (after : ImageAndWork). slice_index_or after.rows t idle) (hint_rises tiles hint s above)
+          ∙ get_or-set_other s.rows u t changed idle (λ same.
+          none hint (Contains-append_left (hint ∷ []) hints hint (0, omega arith, refl)) (sym same))
+      | inr enough ↦ ap (λ (after : ImageAndWork). slice_index_or after.rows t idle) (hint_stays tiles hint s enough)
+    ]

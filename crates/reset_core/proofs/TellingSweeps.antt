@@ -177,7 +177,7 @@ module _ (edges_open : EdgesAreOpen) (before : Core) (t : ℕ) (sound : IsSound 
       (reaches_here d (part (tile_rect before t) (mask_at before)) (part (tile_rect before t) (image_at before)) p
       (image_at before r) inside below (omega arith))
 
-  rises : (p : Pixel) → IsInside before.image.width before.image.height p → image_at before p ≤ value_at image p
+  pub rises : (p : Pixel) → IsInside before.image.width before.image.height p → image_at before p ≤ value_at image p
   rises p inside =
       let in_domain = inside_domain p inside in
       elim (cases_eq (tile_of (tiling before) p) t) [

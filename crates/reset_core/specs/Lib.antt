@@ -24,10 +24,10 @@ pub use Rattle.core_rules.specs.Schedule
 pub use Rattle.core_rules.specs.Counting
 pub mod Replica
 pub mod Answers
+pub mod Bounding
 pub mod Telling
 pub mod Settling
 pub mod Parts
 pub mod Sweeping
 pub mod MergeSteps
-pub mod Closing
 pub mod Scheduling

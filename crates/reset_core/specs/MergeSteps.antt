@@ -10,6 +10,7 @@ use Rattle.core_rules.specs.Work.{Core, tiling, work_at}
 use Rattle.border_queues.specs.OpenEdges.{IsOnTiling}
 use Rattle.border_queues.specs.TileWork.{TileWork, work_of}
 use Rattle.tile_resets.specs.Marks.{AreHits}
+use Rattle.reset_core.specs.Bounding.{FollowChange}
 use Rattle.tile_work.specs.TileSet.{Has}
 use Rattle.reset_core.specs.declared.replica.Core.TheInside.{Inside as Parts}
 use Rattle.reset_core.specs.Replica.{core_of}
@@ -71,7 +72,7 @@ pub record AreRenewed (old : Kept) (marks : List Bool) (image : Raster) (work : 
   pub image_is : IsImageRenewed old.tiling marks change state new.marker image image_after work work_after
 
 -- the parts that are stored before and after: the hits of the delta were marked and none of them had spent its
--- generations, the strokes were joined, marker and image were renewed, and the marks were cleared
+-- generations, the strokes were joined, marker and image were renewed, the bounds followed, and the marks were cleared
 pub record IsRenewed (before : Parts) (delta : State) (turnover : Turnover) (after : Parts) : Type 0 where
   pub marks : List Bool
   pub marked : IsMarked (core_of before) delta marks
@@ -79,6 +80,7 @@ pub record IsRenewed (before : Parts) (delta : State) (turnover : Turnover) (aft
   pub grown : IsGrown (core_of before) delta turnover after.state after.markers.marker
   pub image : IsImageRenewed (tiling (core_of before)) marks turnover after.state after.markers.marker before.image
       after.image before.work after.work
+  pub bounds : FollowChange (tiling (core_of before)) before.conn before.image after.image before.bounds after.bounds
   pub cleared : after.marks ≡ replicate (length marks) false
   pub queue : after.queue ≡ before.queue
   pub mask : after.markers.mask ≡ before.markers.mask

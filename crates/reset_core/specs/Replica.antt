@@ -9,6 +9,8 @@ use Rattle.core_rules.specs.Work.{Core}
 use Rattle.core_rules.specs.Opening.{blank}
 use Rattle.border_queues.specs.TileWork.{TileWork, fresh}
 use Rattle.core_rules.specs.Invariant.{IsSound}
+use Rattle.grid_core.specs.Bounds.{no_bounds}
+use Rattle.reset_core.specs.Bounding.{AreBounded}
 use Rattle.reset_core.specs.declared.replica.Core.TheInside.{Inside as Parts}
 use Rattle.reset_core.specs.declared.replica.Beginning.{Beginning}
 
@@ -31,6 +33,7 @@ at_first mask count first = record {
   state = nothing;
   image = blank mask;
   work = replicate count (fresh first);
+  bounds = replicate count no_bounds;
   marks = replicate count false;
   queue = replicate count false;
 }
@@ -43,6 +46,7 @@ begun beginning conn markers = record {
   markers = markers;
   image = beginning.image;
   work = beginning.work;
+  bounds = beginning.bounds;
   serial = 0;
   marks = beginning.marks;
   queue = beginning.queue;
@@ -52,10 +56,11 @@ begun beginning conn markers = record {
 abbrev pub IsEmptySet : List TileWork → List Bool → Type 0
 IsEmptySet work set = set ≡ replicate (length work) false
 
--- the core is sound, the marker is that of its strokes, and between merges no tile is marked and none waits to be
--- looked at
+-- the core is sound, nothing open begins outside the bounds of a tile, the marker is that of the strokes, and between
+-- merges no tile is marked and none waits to be looked at
 pub record IsStored (parts : Parts) : Type 0 where
   pub sound : IsSound (core_of parts)
+  pub bounded : AreBounded (core_of parts) parts.bounds
   pub marks : IsMarkerOf parts.markers.mask parts.state parts.markers.marker
   pub no_marks : IsEmptySet parts.work parts.marks
   pub none_queued : IsEmptySet parts.work parts.queue

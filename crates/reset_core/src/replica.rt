@@ -22,7 +22,7 @@ use std::alloc::Global;
 use std::marker::Model;
 use stroke_lattice::{State, StateError};
 use tile_generations::Ticket;
-use tile_work::{TileSet, WorkTable};
+use tile_work::{OpenBounds, TileSet, WorkTable};
 
 mod handing;
 mod in_place;
@@ -54,6 +54,8 @@ pub struct Core {
     markers: Markers,
     image: Grid,
     work: WorkTable,
+    // An open pair begins within the bounds of the tile of its first pixel.
+    bounds: OpenBounds,
     serial: u64,
     // Both are empty but within a merge.
     marks: TileSet,
@@ -310,6 +312,7 @@ struct Beginning {
     state: State,
     image: Grid,
     work: WorkTable,
+    bounds: OpenBounds,
     marks: TileSet,
     queue: TileSet,
 }
@@ -324,11 +327,13 @@ impl Beginning {
         let cells = vec![in alloc; 0; mask.cells().len()]?;
         let state = State::empty(alloc)?;
         let (work, marks, queue) = without_work(alloc, count, first)?;
+        let bounds = OpenBounds::none(alloc, count)?;
         let image = Grid::from_cells(mask.width(), mask.height(), cells);
         Ok(Beginning {
             state,
             image,
             work,
+            bounds,
             marks,
             queue,
         })
@@ -343,6 +348,7 @@ impl Beginning {
             state,
             image,
             work,
+            bounds,
             marks,
             queue,
         } = self;
@@ -352,6 +358,7 @@ impl Beginning {
             markers,
             image,
             work,
+            bounds,
             serial: 0,
             marks,
             queue,

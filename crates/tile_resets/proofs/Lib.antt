@@ -5,6 +5,7 @@ pub mod HittingRects
 pub mod HittingSpans
 pub mod HittingTouching
 pub mod HittingWalk
+pub mod RenewingBounds
 pub mod RenewingRects
 pub mod RenewingResets
 pub mod RenewingRises

@@ -7,7 +7,7 @@ use Rattle.grid_core.specs.declared.pixel.Pixel.{Pixel}
 use Rattle.grid_core.specs.Raster.{Raster, value_at}
 use Rattle.grid_core.specs.Tiles.{Tiles, AreTouching}
 use Rattle.border_queues.specs.TileWork.{TileWork, reset_work, work_of}
-use Rattle.tile_work.specs.TileSet.{Has, IsFirstFrom}
+use Rattle.tile_work.specs.TileSet.{Has, HasNoneFrom, IsFirstFrom}
 use Rattle.tile_resets.specs.Renewing.{IsDirtyIf, TouchesMarked, IsTileKept, AreReset}
 use Rattle.core_rules.specs.Merge.{IsReset}
 use Rattle.core_rules.specs.Hits.{IsInTile}
@@ -73,19 +73,27 @@ reset_alike tiling a b marker old new before after same are t within = elim (are
   )
 ]
 
+-- where none is marked from a place on, each marked tile comes before it
+pub all_before : (marks : List Bool) (from t : ℕ) → HasNoneFrom marks from → Has marks t → t < from
+all_before marks from t none has = elim (cases_lt t from) [
+  | inl below ↦ below
+  | inr above ↦ absurd (none t above has)
+]
+
+-- a marked tile up to the first one from a place on is that one or comes before the place
+pub last_or_before : (marks : List Bool) (from tile t : ℕ) → IsFirstFrom marks from tile
+    → IsMarkedBefore marks (tile + 1) t → IsMarkedBefore marks from t ⊎ (t ≡ tile)
+last_or_before marks from tile t first (has, below) = elim (cases_lt t from) [
+  | inl earlier ↦ inl (has, earlier)
+  | inr later ↦ inr (let at_least : tile ≤ t = first.first t later has in omega arith)
+]
+
 -- one tile more is reset, the first marked one from a place on
 module _ (tiling : Tiles) (marks : List Bool) (from tile : ℕ) (marker old middle new : Raster)
     (before between after : List TileWork) (count : length between ≡ length before)
     (first : IsFirstFrom marks from tile)
     (so_far : AreReset tiling (IsMarkedBefore marks from) marker old middle before between)
     (one : IsOneReset tiling marker middle new between after tile) where
-  -- a marked tile up to this one is this one or an earlier one
-  last_or_before : (t : ℕ) → IsMarkedBefore marks (tile + 1) t → IsMarkedBefore marks from t ⊎ (t ≡ tile)
-  last_or_before t (has, below) = elim (cases_lt t from) [
-    | inl earlier ↦ inl (has, earlier)
-    | inr later ↦ inr (let at_least : tile ≤ t = first.first t later has in omega arith)
-  ]
-
   before_or_last : (t : ℕ) → IsMarkedBefore marks from t → IsMarkedBefore marks (tile + 1) t
   before_or_last t (has, below) = (has, omega (arith, first.from))
 
@@ -93,7 +101,7 @@ module _ (tiling : Tiles) (marks : List Bool) (from tile : ℕ) (marker old midd
   touches_more : (t : ℕ) → TouchesMarked tiling (IsMarkedBefore marks (tile + 1)) t
       ↔ (TouchesMarked tiling (IsMarkedBefore marks from) t ⊎ AreTouching tiling t tile)
   touches_more t = (
-    λ touches. elim (last_or_before touches.u touches.marked) [
+    λ touches. elim (last_or_before marks from tile touches.u first touches.marked) [
       | inl earlier ↦ inl (record { u = touches.u; marked = earlier; touching = touches.touching })
       | inr this ↦ inr (subst (λ u. AreTouching tiling t u) this touches.touching)
     ],
@@ -138,7 +146,7 @@ module _ (tiling : Tiles) (marks : List Bool) (from tile : ℕ) (marker old midd
           },
         )
         | inr (not_marked, kept) ↦ inr (
-          λ marked. elim (last_or_before t marked) [
+          λ marked. elim (last_or_before marks from tile t first marked) [
             | inl earlier ↦ not_marked earlier
             | inr this ↦ other this
           ],

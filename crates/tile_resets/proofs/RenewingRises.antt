@@ -117,7 +117,7 @@ same_column x first end side some after before within =
 abbrev pub corner_of : Span → Pixel
 corner_of s = record { x = s.first; y = s.y }
 
-tile_of_piece : (tiling : Tiles) (piece : Span) (p : Pixel) → 0 < tiling.side
+pub tile_of_piece : (tiling : Tiles) (piece : Span) (p : Pixel) → 0 < tiling.side
     → piece.end ≤ (piece.first / tiling.side + 1) * tiling.side → span_has piece p ≡ true
     → tile_of tiling p ≡ tile_of tiling (corner_of piece)
 tile_of_piece tiling piece p some within has =
@@ -129,11 +129,11 @@ tile_of_piece tiling piece p some within has =
     λ i. (row i / tiling.side) * columns_of tiling + column i
 
 -- where no value was made there is no rise
-risen_is_tested : (b : Bool) (old marker new : ℕ) → new ≡ made_if b greater_value old marker → old < new → b ≡ true
+pub risen_is_tested : (b : Bool) (old marker new : ℕ) → new ≡ made_if b greater_value old marker → old < new → b ≡ true
 risen_is_tested true old marker new is rose = refl
 risen_is_tested false old marker new is rose = absurd (omega arith)
 
-risen_in_piece : (tiling : Tiles) (t : ℕ) (piece : Span) (marker old new : Raster) → IsOnTiling tiling old
+pub risen_in_piece : (tiling : Tiles) (t : ℕ) (piece : Span) (marker old new : Raster) → IsOnTiling tiling old
     → IsMadeWhere (span_has piece) greater_value marker old new → HasRisen tiling t old new
     → RisesWhere (span_has piece) old new
 risen_in_piece tiling t piece marker old new on made risen =

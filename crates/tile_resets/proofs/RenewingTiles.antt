@@ -19,25 +19,21 @@ use Rattle.tile_resets.proofs.RenewingResets.{reset_stays}
 use Rattle.tile_resets.proofs.RenewingWork.{dirty_alike}
 
 -- touching is mutual
-touching_back : (tiling : Tiles) (a b : ℕ) → AreTouching tiling a b → AreTouching tiling b a
+pub touching_back : (tiling : Tiles) (a b : ℕ) → AreTouching tiling a b → AreTouching tiling b a
 touching_back tiling a b touching = record {
   other = λ e. touching.other (sym e);
   columns = omega (arith, touching.columns);
   rows = omega (arith, touching.rows);
 }
 
--- the tiles around a tile have rows in the table
-pub touching_are_tiles : (tiling : Tiles) (tile : ℕ) (before middle : List TileWork) (around listed : List ℕ)
-    → listed ≡ around → length before ≡ count_of tiling
-    → middle ≡ slice_set before tile (reset_work (work_of before tile))
+-- those listed are tiles
+pub touching_are_tiles : (tiling : Tiles) (tile : ℕ) (around listed : List ℕ) → listed ≡ around
     → ((other : ℕ) → Contains around other ↔ (AreTouching tiling tile other × (other < count_of tiling)))
-    → (k : ℕ) → k < length listed → slice_index listed k < length middle
-touching_are_tiles tiling tile before middle around listed is_listed count is_reset members k within =
-    let same : length middle ≡ length before =
-    ap length is_reset ∙ length-set before tile (reset_work (work_of before tile)) in
+    → (k : ℕ) → k < length listed → slice_index listed k < count_of tiling
+touching_are_tiles tiling tile around listed is_listed members k within =
     let there : Contains around (get_or listed k 0) =
     subst (λ (l : List ℕ). Contains l (get_or listed k 0)) is_listed (Contains-get_or listed k 0 within) in
-    omega (arith, ((members (get_or listed k 0)).0 there).1, same, count)
+    ((members (get_or listed k 0)).0 there).1
 
 -- the pixels of a tile are copied, its work is reset, and the tiles around it are made dirty
 module _ (tiling : Tiles) (tile : ℕ) (rect : Rect) (marker old new : Raster) (before middle after : List TileWork)

@@ -2,11 +2,15 @@
 use Rattle.std.specs.Prelude.{◌≡◌, ℕ, ◌+◌, ◌*◌, ◌/◌, ◌<◌, ◌≤◌, ◌⊎◌, ◌↔◌, Bool, max, if◌then◌else◌, IsTrue}
 use Rattle.std.specs.Prelude.{List, length, slice_index}
 use Rattle.std.specs.List.{Contains}
+use Rattle.grid_core.specs.declared.bounds.Bounds.{Bounds}
+use Rattle.grid_core.specs.declared.conn.Conn.{Conn}
 use Rattle.grid_core.specs.declared.pixel.Pixel.{Pixel}
 use Rattle.grid_core.specs.declared.rect.Rect.{Rect}
+use Rattle.grid_core.specs.Bounds.{IsInBounds}
+use Rattle.grid_core.specs.Neighbours.{AreNeighbours}
 use Rattle.grid_core.specs.Raster.{Raster, IsInside, value_at}
 use Rattle.grid_core.specs.Rects.{IsInRect}
-use Rattle.grid_core.specs.Tiles.{Tiles, tile_of, count_of, AreTouching}
+use Rattle.grid_core.specs.Tiles.{Tiles, tile_of, rect_of, count_of, AreTouching}
 use Rattle.border_queues.specs.OpenEdges.{IsOnTiling}
 use Rattle.stroke_core.specs.Seed.{Seed, covers}
 use Rattle.stroke_core.specs.declared.span.Span.{Span}
@@ -15,6 +19,7 @@ use Rattle.core_rules.specs.Image.{IsOfSize}
 use Rattle.core_rules.specs.Hits.{IsInTile}
 use Rattle.core_rules.specs.Merge.{HasRisen, IsReset}
 use Rattle.border_queues.specs.TileWork.{TileWork, work_of, reset_work}
+use Rattle.tile_work.specs.OpenBounds.{AreWidened, IsWithinItsBounds, bounds_for}
 use Rattle.tile_work.specs.TileSet.{Has}
 
 -- the work is dirty if it was or if the tile is hit, and nothing else of it changes
@@ -159,6 +164,34 @@ pub record IsRaisedUnder (s : State) (tags : List ℕ) (marker old new : Raster)
   pub under : (p : Pixel) → IsInside old.width old.height p → IsUnder s tags p
       → value_at new p ≡ max (value_at old p) (value_at marker p)
   pub beyond : (p : Pixel) → IsInside old.width old.height p → (IsUnder s tags p → ⊥) → value_at new p ≡ value_at old p
+
+-- ---- bounds outside which nothing open begins
+
+-- the bounds of the pixels of a span
+abbrev pub span_bounds : Span → Bounds
+span_bounds s = record { left = s.first; right = s.end; top = s.y; bottom = s.y + 1 }
+
+-- these tiles are widened by their pixels within the bounds `near`
+pub record AreWidenedNear (tiles : Tiles) (near : Bounds) (is_listed : ℕ → Type 0) (old new : List Bounds)
+    : Type 0 where
+  pub widened : AreWidened tiles old new
+  pub within : (t : ℕ) (p : Pixel) → is_listed t → IsInRect (rect_of tiles t) p → IsInBounds near p
+      → IsInBounds (bounds_for new t) p
+
+-- each pixel of a marked tile is within its bounds, and so is each that has a neighbour in one
+pub record AreResetsWithin (tiles : Tiles) (is_marked : ℕ → Type 0) (old new : List Bounds) : Type 0 where
+  pub widened : AreWidened tiles old new
+  pub own : (p : Pixel) → IsInside tiles.width tiles.height p → is_marked (tile_of tiles p)
+      → IsWithinItsBounds tiles new p
+  pub beside : (conn : Conn) (p q : Pixel) → IsInside tiles.width tiles.height p
+      → IsInside tiles.width tiles.height q → AreNeighbours conn p q → is_marked (tile_of tiles q)
+      → IsWithinItsBounds tiles new p
+
+-- each pixel that rises is within its bounds
+pub record AreRisesWithin (tiles : Tiles) (old new : Raster) (before after : List Bounds) : Type 0 where
+  pub widened : AreWidened tiles before after
+  pub rises : (p : Pixel) → IsInside tiles.width tiles.height p → value_at old p < value_at new p
+      → IsWithinItsBounds tiles after p
 
 -- ---- what a merge does
 

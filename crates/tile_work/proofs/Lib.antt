@@ -1,4 +1,5 @@
 -- The lemmas of this crate, file by file.
+pub mod OpenBoundsWidened
 pub mod TileSetWords
 pub mod TileSets
 pub mod WorkTables

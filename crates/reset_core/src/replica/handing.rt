@@ -6,6 +6,7 @@ ghost use Rattle.core_rules.specs.Hints.{IsHanded, IsPresent};
 use super::Core;
 use border_queues::Hint;
 use core_rules::Handed;
+use grid_core::Bounds;
 
 impl Core {
     /// Hands over the hint at place `i` of a tile's inbox: it leaves the inbox, and raises its pixel where the tile
@@ -30,6 +31,8 @@ impl Core {
         }
         self.image.set(hint.to_pixel, hint.value);
         self.work.mark_dirty(tile);
+        self.bounds
+            .widen(tile, Bounds::none().including(hint.to_pixel));
         Handed::Raised
     }
 

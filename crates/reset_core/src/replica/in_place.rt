@@ -1,106 +1,91 @@
 //! The one step of settling: a dirty tile is swept in place, and its hints are handed over at once.
 
 ghost use Rattle.std.specs.Prelude.{◌≡◌, ◌<◌, ◌≤◌, ◌↔◌, [], ◌∷◌, Contains, IsTrue, true, length};
-ghost use Rattle.std.specs.Prelude.{slice_index_or, slice_set};
+ghost use Rattle.std.specs.Prelude.{slice_index_or};
 ghost use Rattle.std.specs.List.{flat_map};
 ghost use Rattle.grid_core.specs.Raster.{value_at};
 ghost use Rattle.grid_core.specs.Rects.{IsInRect};
-ghost use Rattle.grid_core.specs.Tiles.{tile_of};
-ghost use Rattle.border_queues.specs.OpenEdges.{IsOnTiling, sender_by, room_for_edges, open_edges};
+ghost use Rattle.grid_core.specs.Bounds.{LieIn};
+ghost use Rattle.grid_core.specs.Tiles.{count_of, rect_of, tile_of};
+ghost use Rattle.border_queues.specs.OpenEdges.{EdgesBeginIn, IsOnTiling, sender_by, room_for_edges, open_edges};
 ghost use Rattle.border_queues.specs.Waiting.{places};
-ghost use Rattle.raster_sweeps.specs.Borders.{OpenPairsBeginOnBorder};
-ghost use Rattle.raster_sweeps.specs.Growth.{CanGrow};
-ghost use Rattle.raster_sweeps.specs.Regrowth.{IsRegrownIn};
 ghost use Rattle.core_rules.specs.Work.{tiling};
 ghost use Rattle.border_queues.specs.TileWork.{idle};
 ghost use Rattle.core_rules.specs.Events.{Take};
 ghost use Rattle.core_rules.specs.Runs.{IsNext};
-ghost use Rattle.reset_core.specs.Closing.{CanSweepInPlace};
 ghost use Rattle.reset_core.specs.Settling.{IsOneWorkedOff};
 ghost use Rattle.reset_core.specs.Telling.{both, hints_in, AreOfTiles, AreToInside, AreTold, HaveWorkAt, IsHandOver};
+ghost use Rattle.reset_core.specs.Bounding.{FollowChange};
 ghost use Rattle.tile_work.specs.WorkTable.{IsToInside};
 
 use crate::replica::Core;
 use border_queues::laws::edges_are_open;
 use border_queues::{Hint, Inbox, open_edges_in};
 use grid_core::laws::{each_pixel_in_one_tile, neighbours_lie_in_touching_tiles};
-use grid_core::{Conn, Grid, Rect, Tiling};
-use raster_sweeps::{Room, grow_from_border, grow_within};
-use tile_work::{TileSet, WorkTable};
+use grid_core::{Bounds, Conn, Grid, Rect, Tiling};
+use raster_sweeps::{Room, grow_from_bounds};
+use tile_work::{OpenBounds, WorkTable};
 
 impl Core {
     /// Sweeps the next tile in place, and hands over the hints that this makes. It takes no memory.
     ///
-    /// `told` needs room for the hints of one tile; what it holds is dropped. In the tiles of `swept` nothing is left
-    /// to grow but from their borders; the tile is one of them afterwards.
-    pub(crate) fn work_off(
-        &mut self,
-        tile: usize,
-        room: &mut Room,
-        told: &mut Inbox,
-        swept: &mut TileSet,
-    )
+    /// `told` needs room for the hints of one tile; what it holds is dropped.
+    pub(crate) fn work_off(&mut self, tile: usize, room: &mut Room, told: &mut Inbox)
         requires next { IsNext self.old (Take tile) }
-        requires ready { CanSweepInPlace self.old (places told.old) swept.old }
+        requires enough { room_for_edges (tiling self.old) ≤ places told.old }
         ensures worked { IsOneWorkedOff self.old self.new × (tiling self.new ≡ tiling self.old) }
-        ensures ready { CanSweepInPlace self.new (places told.new) swept.new }
-        ensures swept { swept.new ≡ slice_set swept.old tile true }
+        ensures enough { places told.old ≤ places told.new }
     {
         edges_are_open();
         let tiling = self.markers.tiling();
         let mask = self.markers.mask();
-        let again = swept.contains(tile);
-        swept.insert(tile);
         self.serial = self.serial.wrapping_add(1);
         self.work.mark_clean(tile);
-        sweep(
+        let area = grow_from_bounds(
             room,
             mask,
             &mut self.image,
             tiling.rect(tile),
             self.conn,
-            again,
+            self.bounds.get(tile),
         );
+        self.bounds.set(tile, Bounds::none());
         tell(
             &mut self.image,
             &mut self.work,
+            &mut self.bounds,
             mask,
             &tiling,
             tile,
             self.conn,
+            area,
             told,
         );
     }
 }
 
-// Grows the image in the rectangle: from the border alone where nothing else is left to grow.
-fn sweep(room: &mut Room, mask: &Grid, image: &mut Grid, rect: Rect, conn: Conn, from_border: bool)
-    requires grow { CanGrow rect mask.now image.old }
-    requires border { IsTrue from_border → OpenPairsBeginOnBorder conn rect mask.now image.old }
-    ensures { IsRegrownIn conn rect mask.now image.old image.new }
-{
-    if from_border {
-        grow_from_border(room, mask, image, rect, conn);
-    } else {
-        grow_within(room, mask, image, rect, conn);
-    }
-}
-
-// Tells the hints of the tile's open edges, and hands them over, tile by tile.
+// Tells the hints of the tile's open edges, which begin within the bounds `area`, and hands them over, tile by tile.
 fn tell(
     image: &mut Grid,
     work: &mut WorkTable,
+    bounds: &mut OpenBounds,
     mask: &Grid,
     tiling: &Tiling,
     tile: usize,
     conn: Conn,
+    area: Bounds,
     told: &mut Inbox,
 )
     requires tile { HaveWorkAt tiling.now image.old work.old tile }
     requires mask { IsOnTiling tiling.now mask.now }
+    requires area { EdgesBeginIn (sender_by tiling.now conn (value_at mask.now) (value_at image.old) tile
+        (slice_index_or work.old tile idle).generation) area }
+    requires lie { LieIn area (rect_of tiling.now tile) }
+    requires bounds { length bounds.old ≡ count_of tiling.now }
     requires enough { room_for_edges tiling.now ≤ places told.old }
     ensures hints { AreTold tiling.now (open_edges (sender_by tiling.now conn (value_at mask.now) (value_at image.old)
         tile (slice_index_or work.old tile idle).generation)) (both image.old work.old) (both image.new work.new) }
+    ensures bounds { (conn : _) → FollowChange tiling.now conn image.old image.new bounds.old bounds.new }
     ensures enough { places told.old ≤ places told.new }
 {
     edges_are_open();
@@ -108,18 +93,26 @@ fn tell(
     each_pixel_in_one_tile();
     told.clear();
     let generation = work.generation(tile);
-    let _ = open_edges_in(image, mask, tiling, tile, generation, conn, told);
+    let _ = open_edges_in(image, mask, tiling, tile, generation, conn, area, told);
     if told.is_empty() {
         return;
     }
     let touching = tiling.touching(tile);
-    hand_over_all(image, work, tiling, touching.as_slice(), told.as_slice());
+    hand_over_all(
+        image,
+        work,
+        bounds,
+        tiling,
+        touching.as_slice(),
+        told.as_slice(),
+    );
 }
 
 // Hands over a hint, if its pixel lies in the tile, whose rectangle is `rect`.
 fn hand_over(
     image: &mut Grid,
     work: &mut WorkTable,
+    bounds: &mut OpenBounds,
     tiling: &Tiling,
     tile: usize,
     rect: Rect,
@@ -128,11 +121,14 @@ fn hand_over(
     requires tile { HaveWorkAt tiling.now image.old work.old tile }
     requires rect { IsInRect rect hint.to_pixel ↔ (tile_of tiling.now hint.to_pixel ≡ tile) }
     requires inside { IsToInside tiling.now hint }
-    ensures { IsHandOver tiling.now (hints_in tiling.now (hint ∷ []) tile) image.old work.old image.new work.new }
+    requires bounds { length bounds.old ≡ count_of tiling.now }
+    ensures handed { IsHandOver tiling.now (hints_in tiling.now (hint ∷ []) tile) image.old work.old image.new work.new }
+    ensures bounds { (conn : _) → FollowChange tiling.now conn image.old image.new bounds.old bounds.new }
 {
     if rect.contains(hint.to_pixel) && image.get(hint.to_pixel) < hint.value {
         image.set(hint.to_pixel, hint.value);
         work.mark_dirty(tile);
+        bounds.widen(tile, Bounds::none().including(hint.to_pixel));
     }
 }
 
@@ -140,18 +136,21 @@ fn hand_over(
 fn hand_over_in(
     image: &mut Grid,
     work: &mut WorkTable,
+    bounds: &mut OpenBounds,
     tiling: &Tiling,
     tile: usize,
     hints: &[Hint],
 )
     requires tile { HaveWorkAt tiling.now image.old work.old tile }
     requires inside { AreToInside tiling.now hints.now }
-    ensures { IsHandOver tiling.now (hints_in tiling.now hints.now tile) image.old work.old image.new work.new }
+    requires bounds { length bounds.old ≡ count_of tiling.now }
+    ensures handed { IsHandOver tiling.now (hints_in tiling.now hints.now tile) image.old work.old image.new work.new }
+    ensures bounds { (conn : _) → FollowChange tiling.now conn image.old image.new bounds.old bounds.new }
 {
     each_pixel_in_one_tile();
     let rect = tiling.rect(tile);
     for hint in hints {
-        hand_over(image, work, tiling, tile, rect, *hint);
+        hand_over(image, work, bounds, tiling, tile, rect, *hint);
     }
 }
 
@@ -159,6 +158,7 @@ fn hand_over_in(
 fn hand_over_all(
     image: &mut Grid,
     work: &mut WorkTable,
+    bounds: &mut OpenBounds,
     tiling: &Tiling,
     tiles: &[usize],
     hints: &[Hint],
@@ -166,10 +166,12 @@ fn hand_over_all(
     requires parts { AreOfTiles tiling.now image.old work.old }
     requires tiles { (tile : _) → Contains tiles.now tile → tile < length work.old }
     requires inside { AreToInside tiling.now hints.now }
-    ensures { IsHandOver tiling.now (flat_map (hints_in tiling.now hints.now) tiles.now) image.old work.old image.new
+    requires bounds { length bounds.old ≡ count_of tiling.now }
+    ensures handed { IsHandOver tiling.now (flat_map (hints_in tiling.now hints.now) tiles.now) image.old work.old image.new
         work.new }
+    ensures bounds { (conn : _) → FollowChange tiling.now conn image.old image.new bounds.old bounds.new }
 {
     for tile in tiles {
-        hand_over_in(image, work, tiling, *tile, hints);
+        hand_over_in(image, work, bounds, tiling, *tile, hints);
     }
 }

@@ -1,11 +1,13 @@
 //! Deltas that are merged.
 
-ghost use Rattle.std.specs.Prelude.{◌≡◌, IfOk, IfErr, IsErrOf, OnOk, OnErr};
+ghost use Rattle.std.specs.Prelude.{◌≡◌, length, IfOk, IfErr, IsErrOf, OnOk, OnErr};
 ghost use Rattle.reset_core.specs.Answers.{IsNotMerged};
 ghost use Rattle.reset_core.specs.MergeSteps.{CanRenew, AreRenewed};
 ghost use Rattle.core_rules.specs.declared.error.CoreError.{CoreError};
 ghost use Rattle.stroke_lattice.specs.State.{StateFits, AreCompatible};
 ghost use Rattle.core_rules.specs.Merge.{IsMerged, IsRefused};
+ghost use Rattle.grid_core.specs.Tiles.{count_of};
+ghost use Rattle.reset_core.specs.Bounding.{FollowChange};
 
 use super::Core;
 use core_rules::CoreError;
@@ -14,7 +16,7 @@ use marker_tiles::Markers;
 use std::alloc::Global;
 use stroke_lattice::{Change, Delta, State};
 use tile_resets::{is_one_spent, mark_hits, raise_to_marker, reset_marked};
-use tile_work::{TileSet, WorkTable};
+use tile_work::{OpenBounds, TileSet, WorkTable};
 
 impl Core {
     /// Merges a delta: the strokes become the join, the tiles that a withdrawal hits are reset, and the image is raised
@@ -54,6 +56,7 @@ impl Core {
                     &mut self.image,
                     &mut self.markers,
                     &mut self.work,
+                    &mut self.bounds,
                     &self.state,
                     &change,
                 );
@@ -92,16 +95,21 @@ fn renew(
     image: &mut Grid,
     markers: &mut Markers,
     work: &mut WorkTable,
+    bounds: &mut OpenBounds,
     state: &State,
     change: &Change,
 )
-    requires { CanRenew markers.old marks.old image.old work.old state.now change.now }
-    ensures { AreRenewed markers.old marks.old image.old work.old state.now change.now markers.new marks.new image.new
-        work.new }
+    requires renew { CanRenew markers.old marks.old image.old work.old state.now change.now }
+    requires bounds { length bounds.old ≡ count_of markers.old.tiling }
+    ensures renewed { AreRenewed markers.old marks.old image.old work.old state.now change.now markers.new marks.new
+        image.new work.new }
+    ensures bounds { (conn : _) → FollowChange markers.old.tiling conn image.old image.new bounds.old bounds.new }
 {
     let tiling = markers.tiling();
+    // The side tells the prover that the tiling is one.
+    let _ = tiling.side();
     markers.apply(state, change);
     let marker = markers.marker();
-    reset_marked(marks, image, marker, &tiling, work);
-    raise_to_marker(image, marker, &tiling, work, state, change.born());
+    reset_marked(marks, image, marker, &tiling, work, bounds);
+    raise_to_marker(image, marker, &tiling, work, bounds, state, change.born());
 }

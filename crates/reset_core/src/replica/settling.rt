@@ -2,10 +2,10 @@
 
 ghost use Rattle.std.specs.Prelude.{◌≡◌, ◌≤◌, ℕ, List, length, IfOk, OnErr};
 ghost use Rattle.border_queues.specs.Waiting.{places};
-ghost use Rattle.core_rules.specs.Work.{IsQuiet};
+ghost use Rattle.border_queues.specs.OpenEdges.{room_for_edges};
+ghost use Rattle.core_rules.specs.Work.{IsQuiet, tiling};
 ghost use Rattle.core_rules.specs.Runs.{Entry, IsRun, IsCutShort, NoneOut, HasHints, IsDirty, abandoned, tickets_out};
 ghost use Rattle.reset_core.specs.Answers.{IsSettledBy};
-ghost use Rattle.reset_core.specs.Closing.{CanSweepInPlace};
 ghost use Rattle.reset_core.specs.Settling.{AreHanded, IsFirstAbandoned, IsFirstHanded, IsAllWorkedOff, HasOnlySweeps};
 
 use super::Core;
@@ -14,7 +14,6 @@ use core_rules::laws::{one_job_out_a_tile, settling_is_within_work};
 use grid_core::Memory;
 use raster_sweeps::Room;
 use std::alloc::Global;
-use tile_work::TileSet;
 
 /// What settling took.
 #[derive(Clone, Copy, Debug, PartialEq, Eq)]
@@ -29,7 +28,7 @@ impl Core {
     /// Works until no work is left. The image is then the reconstruction of the mask from the marker of the strokes.
     ///
     /// Each job that is out is abandoned. Then, again and again, each waiting hint is handed over, tile by tile, and
-    /// the first dirty tile is swept. A tile that was swept before is checked on its border alone.
+    /// the first dirty tile is swept: from where something open can begin, and no more of it is looked at.
     ///
     /// No more tiles are swept than there is work: one for each tile that was dirty, one for each unit that the image
     /// lacked of the reconstruction in all, and one for each job that was abandoned.
@@ -117,22 +116,20 @@ impl Core {
         let mut room = Room::new(alloc, tiling.side() * tiling.side())?;
         let mut told = Inbox::new(alloc);
         told.reserve(room_for_edges(&tiling)).map_err(|_| Memory)?;
-        let mut swept = TileSet::empty(alloc, tiling.count())?;
-        Ok(self.work_all_off(&mut room, &mut told, &mut swept))
+        Ok(self.work_all_off(&mut room, &mut told))
     }
 
-    // Sweeps the first dirty tile in place until none is dirty, and says how often. In the tiles of `swept` nothing is
-    // left to grow but from their borders.
-    fn work_all_off(&mut self, room: &mut Room, told: &mut Inbox, swept: &mut TileSet) -> u64
+    // Sweeps the first dirty tile in place until none is dirty, and says how often.
+    fn work_all_off(&mut self, room: &mut Room, told: &mut Inbox) -> u64
         requires left { HasOnlySweeps self.old }
-        requires ready { CanSweepInPlace self.old (places told.old) swept.old }
+        requires enough { room_for_edges (tiling self.old) ≤ places told.old }
         ensures { IsAllWorkedOff self.old result self.new }
     {
         let _ = self.tiling();
         let _ = self.image();
         let mut jobs = 0;
         while let Some(tile) = self.work.first_dirty() {
-            self.work_off(tile, room, told, swept);
+            self.work_off(tile, room, told);
             jobs += 1;
         }
         jobs

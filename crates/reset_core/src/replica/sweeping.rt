@@ -14,7 +14,7 @@ use border_queues::laws::{edges_are_open, same_image_same_edges};
 use border_queues::{Inbox, open_edges};
 use core_rules::Back;
 use core_rules::laws::{abandon_keeps_sound, give_back_keeps_sound, take_keeps_sound};
-use grid_core::{Memory, Rect};
+use grid_core::{Bounds, Memory, Rect};
 use std::alloc::Global;
 use tile_generations::{Job, Swept, Ticket};
 
@@ -161,6 +161,7 @@ impl Core {
         let tiling = self.markers.tiling();
         self.work.receive(&tiling, tile, hints.as_slice())?;
         raise_part(&mut self.image, rect, swept.pixels());
+        self.bounds.set(tile, Bounds::of(rect));
         self.work.end_job(tile);
         Ok(())
     }

@@ -22,4 +22,6 @@ returns-clause-border c =
       fits = fits;
       own = λ p inside. subst (λ (rect : Rect). IsInRect rect p ↔ (tile_of t p ≡ tile)) (sym same)
           ((c.each_pixel_in_one_tile.ensures t p c.side.ensures.tiled inside).1 tile c.requires.parts.tile);
+      lie = rw same c.requires.lie;
+      begin = c.requires.bounds;
     }

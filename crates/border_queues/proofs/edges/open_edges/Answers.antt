@@ -1,12 +1,24 @@
 use Rattle.std.proofs.Common.{◌≡◌, ℕ, ◌++◌, ap, ◌∙◌, arith, rules, List, length, zero-add}
 use Rattle.std.specs.List.{flat_map}
 use Rattle.grid_core.specs.declared.pixel.Pixel.{Pixel}
+use Rattle.grid_core.specs.Bounds.{bounds_of}
 use Rattle.grid_core.specs.Raster.{value_at}
 use Rattle.grid_core.specs.Tiles.{rect_of}
 use Rattle.border_queues.specs.declared.hint.Hint.{Hint}
 use Rattle.border_queues.specs.OpenEdges.{Sender, hints_from, pixels_of, with_tile}
 use Rattle.border_queues.specs.Borders.{moved, sender_of}
 use Rattle.border_queues.proofs.edges.open_edges.Goals as goal
+
+pub of-bounds-requires : goal.of-bounds-requires
+of-bounds-requires c =
+    let fits = c.rect.ensures.fits in
+    let size = c.side.ensures.tiled.size in
+    record { columns = omega (arith, fits.columns, size); rows = omega (arith, fits.rows, size) }
+
+pub border_of-border-requires-clause-bounds : goal.border_of-border-requires-clause-bounds
+border_of-border-requires-clause-bounds c =
+    c.edges_begin_in_tile.ensures _ c.of-bounds.result c.side.ensures.tiled c.requires.parts.tile
+    (c.of-bounds.ensures ∙ ap bounds_of c.rect.ensures.value)
 
 pub returns : goal.returns
 returns c =

@@ -1,14 +1,20 @@
 use Rattle.std.proofs.Common.{◌≡◌, ◌++◌, ap, ◌∙◌, arith, rules, List, length}
 use Rattle.std.specs.List.{flat_map}
 use Rattle.grid_core.specs.declared.pixel.Pixel.{Pixel}
-use Rattle.grid_core.specs.declared.rect.Rect.{Rect}
 use Rattle.grid_core.specs.Raster.{value_at}
 use Rattle.grid_core.specs.Tiles.{rect_of}
 use Rattle.border_queues.specs.declared.hint.Hint.{Hint}
 use Rattle.border_queues.specs.OpenEdges.{Sender, hints_from, pixels_of, open_edges, with_tile}
 use Rattle.border_queues.specs.Borders.{moved}
-use Rattle.border_queues.proofs.SameEdges.{own_part}
+use Rattle.border_queues.proofs.Bounded.{same_begin}
+use Rattle.border_queues.proofs.SameEdges.{own_image}
 use Rattle.border_queues.proofs.edges.open_edges_in.Goals as goal
+
+pub border_of-border-requires-clause-bounds : goal.border_of-border-requires-clause-bounds
+border_of-border-requires-clause-bounds c =
+    let image = value_at c.args.image.now in
+    same_begin _ image c.args.bounds (own_image c.each_pixel_in_one_tile.ensures c.args.tiling.now c.args.tile image
+    c.rect-rect.result c.side.ensures.tiled c.requires.parts.tile c.rect-rect.ensures.value) c.requires.bounds
 
 pub returns : goal.returns
 returns c =
@@ -26,12 +32,9 @@ returns c =
       tile = tile;
       generation = c.args.generation;
     } in
-    let same = ap (λ (r : Rect). r.x) c.rect-rect.ensures.value in
-    let same_top = ap (λ (r : Rect). r.y) c.rect-rect.ensures.value in
     let itself : open_edges s ≡ open_edges (record s { image = image }) =
-    c.same_image_same_edges.ensures s image tiled c.requires.tile (λ p inside.
-    own_part t tile image corner p same same_top (λ there.
-    ((c.each_pixel_in_one_tile.ensures t p tiled inside).1 tile c.requires.tile).1 there)) in
+    c.same_image_same_edges.ensures s image tiled c.requires.parts.tile (own_image c.each_pixel_in_one_tile.ensures t tile
+    image rect tiled c.requires.parts.tile c.rect-rect.ensures.value) in
     let same_rect = c.border_of-border.ensures.border.rect ∙ ap (λ (s : Sender). rect_of s.tiles s.tile) c.border_of-border.ensures.sender in
     record {
       hints = c.push_all.ensures.behind

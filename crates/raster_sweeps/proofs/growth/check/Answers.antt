@@ -1,6 +1,6 @@
 use Rattle.std.proofs.Common.{◌≡◌, true, false, refl, sym, ◌∙◌, inl, inr}
 use Rattle.grid_core.specs.Raster.{IsInside}
-use Rattle.raster_sweeps.proofs.BorderPairs.{begun_open, begun_wait}
+use Rattle.raster_sweeps.proofs.OpenPairs.{begun_open, begun_wait}
 use Rattle.raster_sweeps.proofs.Grown.{fits_below, grown_same, open_inside}
 use Rattle.raster_sweeps.proofs.growth.check.Goals as goal
 
@@ -11,11 +11,12 @@ returns-then-queue_open_pairs c = record {
       (fits_below c.args.rect c.args.mask.now c.args.image.now c.requires.close.below c.requires.close.fits);
   inside =
       open_inside c.args.conn c.args.rect c.args.mask.now c.args.image.now c.queue_open_pairs.new.waiting
-      (begun_open c.args.conn c.args.rect c.args.mask.now c.args.image.now
-      (IsInside c.args.rect.w c.args.rect.h) true c.args.waiting.now c.queue_open_pairs.new.waiting c.requires.empty c.if-queue_open_pairs.ensures);
+      (begun_open c.args.conn c.args.rect c.args.mask.now c.args.image.now (IsInside c.args.rect.w c.args.rect.h) true
+      c.args.waiting.now c.queue_open_pairs.new.waiting c.requires.empty c.if-queue_open_pairs.ensures);
   waits = λ all.
       begun_wait c.args.conn c.args.rect c.args.mask.now c.args.image.now (IsInside c.args.rect.w c.args.rect.h)
-      true c.args.waiting.now c.queue_open_pairs.new.waiting refl c.if-queue_open_pairs.ensures (λ p q raises. raises.from_inside);
+      true c.args.waiting.now c.queue_open_pairs.new.waiting refl c.if-queue_open_pairs.ensures
+      (λ p q raises. raises.from_inside);
   rose = inl refl;
 }
 
@@ -23,7 +24,8 @@ pub spread_first-requires-clause-open : goal.spread_first-requires-clause-open
 spread_first-requires-clause-open c = record {
   each =
       begun_open c.args.conn c.args.rect c.args.mask.now c.args.image.now (IsInside c.args.rect.w c.args.rect.h)
-      c.queue_open_pairs.result c.args.waiting.now c.queue_open_pairs.new.waiting c.requires.empty c.queue_open_pairs.ensures;
+      c.queue_open_pairs.result c.args.waiting.now c.queue_open_pairs.new.waiting c.requires.empty
+      c.queue_open_pairs.ensures;
   some = elim c.queue_open_pairs.ensures.full [
     | inl room ↦ absurd (let no : false ≡ true = sym c.if-queue_open_pairs.false ∙ room in cc)
     | inr some ↦ some

@@ -1,29 +1,22 @@
-use Rattle.std.proofs.Common.{◌≡◌, ◌<◌, ◌≤◌, sym, ◌∙◌, arith, inl, inr}
+use Rattle.std.proofs.Common.{◌<◌, ◌≤◌, sym, ◌∙◌, arith, inl, inr}
 use Rattle.std.proofs.lemmas.Bool.{false≢true}
 use Rattle.grid_core.specs.Raster.{IsFilled, headroom}
-use Rattle.raster_sweeps.specs.declared.growth.Start.TheVariants.{Border, Scans}
 use Rattle.raster_sweeps.proofs.Grown.{fits_below, grown_filled, grown_headroom, grown_same, grown_twice}
 use Rattle.raster_sweeps.proofs.growth.close.Goals as goal
 use Rattle.raster_sweeps.proofs.growth.close.Goals.{else-all-via-then-all+else-drain, else-all-via-else-all}
 
 pub rounds-init : goal.rounds-init
-rounds-init c = record {
-  grown =
-      grown_same c.args.conn c.args.rect c.args.mask.now c.args.image.now c.requires.close.filled c.requires.close.below
-      (fits_below c.args.rect c.args.mask.now c.args.image.now c.requires.close.below c.requires.close.fits);
-  border = c.requires.border;
-}
+rounds-init c =
+    grown_same c.args.conn c.args.rect c.args.mask.now c.args.image.now c.requires.filled c.requires.below
+    (fits_below c.args.rect c.args.mask.now c.args.image.now c.requires.below c.requires.fits)
 
 pub fill-all-requires : goal.fill-all-requires
 fill-all-requires c = record {
-  close = record {
-    filled =
-        grown_filled c.args.conn c.args.rect c.args.mask.now c.args.image.now c.rounds.image c.requires.close.filled
-        c.rounds.invariant.grown;
-    below = c.rounds.invariant.grown.below;
-    fits = c.requires.close.fits;
-  };
-  border = c.rounds.invariant.border;
+  filled =
+      grown_filled c.args.conn c.args.rect c.args.mask.now c.args.image.now c.rounds.image c.requires.filled
+      c.rounds.invariant;
+  below = c.rounds.invariant.below;
+  fits = c.requires.fits;
 }
 
 pub returns-then-drain : goal.returns-then-drain
@@ -31,7 +24,7 @@ returns-then-drain c = record {
   grown =
       grown_twice c.args.conn c.args.rect c.args.mask.now c.args.image.now c.fill-all.new.image c.drain.new.image
       (grown_twice c.args.conn c.args.rect c.args.mask.now c.args.image.now c.rounds.image c.fill-all.new.image
-      c.rounds.invariant.grown c.fill-all.ensures.grown)
+      c.rounds.invariant c.fill-all.ensures.grown)
       c.drain.ensures.grown;
   closed = c.drain.ensures.closed c.if-drain.true (c.fill-all.ensures.waits c.if-all.true);
 }
@@ -39,8 +32,8 @@ returns-then-drain c = record {
 pub rounds-smaller : goal.rounds-smaller
 rounds-smaller c =
     let filled : IsFilled c.rounds.image =
-    grown_filled c.args.conn c.args.rect c.args.mask.now c.args.image.now c.rounds.image c.requires.close.filled
-    c.rounds.invariant.grown in
+    grown_filled c.args.conn c.args.rect c.args.mask.now c.args.image.now c.rounds.image c.requires.filled
+    c.rounds.invariant in
     let by_fill : headroom c.fill-all.new.image.cells ≤ headroom c.rounds.image.cells =
     grown_headroom c.args.conn c.args.rect c.args.mask.now c.rounds.image c.fill-all.new.image filled
     c.fill-all.ensures.grown in
@@ -61,14 +54,10 @@ pub rounds-preserved : goal.rounds-preserved
 rounds-preserved c =
     let filled =
     grown_twice c.args.conn c.args.rect c.args.mask.now c.args.image.now c.rounds.image c.fill-all.new.image
-    c.rounds.invariant.grown c.fill-all.ensures.grown in
-    record {
-      grown =
-          elim c.else-all.branch [
-            | else-all-via-then-all+else-drain w ↦
-                rw w.image-is (grown_twice c.args.conn c.args.rect c.args.mask.now c.args.image.now
-                c.fill-all.new.image w.drain.new.image filled w.drain.ensures.grown)
-            | else-all-via-else-all w ↦ rw w.image-is filled
-          ];
-      border = λ same. absurd (let no : Scans ≡ Border = same in cc);
-    }
+    c.rounds.invariant c.fill-all.ensures.grown in
+    elim c.else-all.branch [
+      | else-all-via-then-all+else-drain w ↦
+          rw w.image-is (grown_twice c.args.conn c.args.rect c.args.mask.now c.args.image.now c.fill-all.new.image
+          w.drain.new.image filled w.drain.ensures.grown)
+      | else-all-via-else-all w ↦ rw w.image-is filled
+    ]

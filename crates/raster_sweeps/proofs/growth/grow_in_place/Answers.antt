@@ -1,11 +1,10 @@
-use Rattle.std.proofs.Common.{◌≡◌, ◌*◌, ℕ, subst, sym, ◌∙◌, arith}
+use Rattle.std.proofs.Common.{◌*◌, ℕ, subst, sym, ◌∙◌, arith}
 use Rattle.std.proofs.lemmas.Grind.{common_steps}
 use Rattle.grid_core.specs.Raster.{value_at}
 use Rattle.grid_core.specs.Reconstruction.{IsReconstruction}
 use Rattle.grid_core.specs.Rects.{domain_in, part}
 use Rattle.grid_core.proofs.Images.{closed_is_reconstruction}
 use Rattle.raster_sweeps.proofs.Whole.{whole, whole_reconstruction}
-use Rattle.raster_sweeps.specs.declared.growth.Start.TheVariants.{Border, Scans}
 use Rattle.raster_sweeps.proofs.growth.grow_in_place.Goals as goal
 
 pub returns-clause-grown : goal.returns-clause-grown
@@ -37,10 +36,7 @@ returns-clause-grown c =
 
 pub close-requires : goal.close-requires
 close-requires c = record {
-  close = record {
-    filled = c.width-w.ensures.sized.filled;
-    below = c.requires;
-    fits = grind (arith, common_steps);
-  };
-  border = λ same. absurd (let no : Scans ≡ Border = same in cc);
+  filled = c.width-w.ensures.sized.filled;
+  below = c.requires;
+  fits = grind (arith, common_steps);
 }

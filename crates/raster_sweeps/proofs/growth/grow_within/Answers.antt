@@ -1,5 +1,3 @@
-use Rattle.std.proofs.Common.{◌≡◌}
-use Rattle.raster_sweeps.specs.declared.growth.Start.TheVariants.{Border, Scans}
 use Rattle.raster_sweeps.proofs.Grown.{regrown}
 use Rattle.raster_sweeps.proofs.growth.grow_within.Goals as goal
 
@@ -9,7 +7,5 @@ returns c =
     c.close.ensures.grown c.close.ensures.closed
 
 pub close-requires : goal.close-requires
-close-requires c = record {
-  close = record { filled = c.width.ensures.sized.filled; below = c.requires.below; fits = c.requires.fits };
-  border = λ same. absurd (let no : Scans ≡ Border = same in cc);
-}
+close-requires c =
+    record { filled = c.width.ensures.sized.filled; below = c.requires.below; fits = c.requires.fits }

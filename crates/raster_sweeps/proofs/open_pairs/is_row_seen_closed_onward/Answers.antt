@@ -20,7 +20,7 @@ returns c seen scanned cell o =
     let here : y < rect.h = c.requires.row in
     let low : y + 1 < rect.h = omega arith in
     let next : apart y (y + 1) ≡ 1 = omega arith in
-    let onward = c.are_closed_onward.ensures seen in
+    let onward = c.are_closed_onward.ensures.0 seen in
     elim (row_cases Four rect mask image y cell o) [
       | inl along ↦
           let raises =

@@ -1,44 +1,64 @@
-use Rattle.std.proofs.Common.{◌≡◌, ℕ, ◌+◌, ◌-◌, ◌++◌, ap, ◌∙◌, arith}
-use Rattle.std.specs.List.{flat_map}
-use Rattle.border_queues.specs.OpenEdges.{hints_from, row_of, pixels_of}
-use Rattle.border_queues.specs.Borders.{sender_of}
-use Rattle.border_queues.proofs.Told.{told_row}
+use Rattle.std.proofs.Common.{◌≡◌, ◌-◌, ◌*◌, ◌++◌, ap, ◌∙◌, inl, inr, arith}
+use Rattle.std.specs.List.{flat_map, range_with_len}
+use Rattle.border_queues.specs.Waiting.{AddsWithin}
+use Rattle.border_queues.specs.Borders.{hints_of_row}
+use Rattle.border_queues.proofs.Bounded.{rows_told}
+use Rattle.border_queues.proofs.Told.{told_next}
 use Rattle.border_queues.proofs.border.Border.push_all.Goals as goal
+use Rattle.border_queues.proofs.border.Border.push_all.Goals.{then-y-last, else-y-last}
 
-pub loop-i-preserved : goal.loop-i-preserved
-loop-i-preserved c =
+pub loop-y-preserved : goal.loop-y-preserved
+loop-y-preserved c =
     let b = c.args.self.now in
-    let i = c.loop-i.i in
-    let s = sender_of b in
+    let y = c.loop-y.y in
+    let invariant = c.loop-y.invariant in
+    let lie = c.requires.border.lie in
+    let now_told = λ (behind : c.if-y-last.out.hints ≡ c.loop-y.out.hints ++ hints_of_row b y).
+    behind ∙ ap (λ hs. hs ++ hints_of_row b y) invariant.hints
+    ∙ told_next (hints_of_row b) c.args.out.now.hints b.bounds.top y c.loop-y.auto.y in
+    elim c.if-y-last.branch [
+      | then-y-last w ↦
+          let told : AddsWithin c.loop-y.out c.if-y-last.out (hints_of_row b y) (8 * b.rect.w) =
+          rw w.out-is w.push_line.ensures in
+          elim w.if-y-last.either [
+            | inl first ↦ record {
+              upto = omega arith;
+              hints = now_told told.behind;
+              at_first = λ above. absurd (omega (arith, lie));
+              before_last = λ more. omega (arith, told.room, invariant.at_first (omega (arith, first)));
+              room = omega (arith, told.room, invariant.at_first (omega (arith, first)));
+              kept = omega (arith, told.kept, invariant.kept);
+            }
+            | inr last ↦ record {
+              upto = omega arith;
+              hints = now_told told.behind;
+              at_first = λ above. absurd (omega (arith, lie));
+              before_last = λ more. absurd (omega (arith, last.1));
+              room = omega (arith, told.room, lie, invariant.before_last (omega (arith, lie)));
+              kept = omega (arith, told.kept, invariant.kept);
+            }
+          ]
+      | else-y-last w ↦
+          let told : AddsWithin c.loop-y.out c.if-y-last.out (hints_of_row b y) 16 =
+          rw w.out-is w.push_ends.ensures in
+          record {
+            upto = omega arith;
+            hints = now_told told.behind;
+            at_first = λ above. absurd (omega (arith, lie));
+            before_last = λ more. omega (arith, told.room, lie, invariant.before_last (omega (arith, lie)));
+            room = omega (arith, told.room, lie, invariant.room);
+            kept = omega (arith, told.kept, invariant.kept);
+          }
+    ]
+
+pub returns : goal.returns
+returns c =
+    let b = c.args.self.now in
+    let here : c.loop-y.y - b.bounds.top ≡ b.bounds.bottom - b.bounds.top =
+    omega (arith, c.loop-y.invariant.upto) in
     record {
-      upto = omega arith;
-      hints = c.push_ends.ensures.behind
-          ∙ ap (λ hs. hs ++ flat_map (hints_from s) (row_of b.rect (b.rect.y + i))) c.loop-i.invariant.hints
-          ∙ told_row s c.args.out.now.hints b.rect i;
-      room = omega (arith, c.push_ends.ensures.room, c.loop-i.invariant.room);
-      kept = omega (arith, c.push_ends.ensures.kept, c.loop-i.invariant.kept);
+      behind = c.loop-y.invariant.hints
+          ∙ ap (λ n. c.args.out.now.hints ++ flat_map (hints_of_row b) (range_with_len b.bounds.top n)) here
+          ∙ ap (λ hs. c.args.out.now.hints ++ hs) (rows_told b c.requires.border c.neighbours_by_rows.ensures);
+      kept = c.loop-y.invariant.kept;
     }
-
-pub returns-then-last-gt0 : goal.returns-then-last-gt0
-returns-then-last-gt0 c =
-    let b = c.args.self.now in
-    let s = sender_of b in
-    let old = c.args.out.now.hints in
-    let told = λ (n : ℕ). old ++ flat_map (hints_from s) (pixels_of (record b.rect { h = n })) in
-    let here : c.loop-i.i ≡ b.rect.h - 1 = omega (arith, c.loop-i.invariant.upto) in
-    let all : b.rect.h - 1 + 1 ≡ b.rect.h = omega arith in
-    record {
-      behind = c.push_line-then-last-gt0.ensures.behind
-          ∙ ap (λ hs. hs ++ flat_map (hints_from s) (row_of b.rect (b.rect.y + (b.rect.h - 1))))
-          (c.loop-i.invariant.hints ∙ ap told here)
-          ∙ told_row s old b.rect (b.rect.h - 1) ∙ ap told all;
-      kept = omega (arith, c.push_line-then-last-gt0.ensures.kept, c.loop-i.invariant.kept);
-    }
-
-pub returns-else-last-gt0 : goal.returns-else-last-gt0
-returns-else-last-gt0 c =
-    let b = c.args.self.now in
-    let s = sender_of b in
-    let told = λ (n : ℕ). c.args.out.now.hints ++ flat_map (hints_from s) (pixels_of (record b.rect { h = n })) in
-    let all : c.loop-i.i ≡ b.rect.h = omega (arith, c.loop-i.invariant.upto) in
-    record { behind = c.loop-i.invariant.hints ∙ ap told all; kept = c.loop-i.invariant.kept }

@@ -1,19 +1,22 @@
-use Rattle.std.proofs.Common.{◌≡◌, ◌+◌, ◌-◌, ◌*◌, ◌≤◌, ◌++◌}
+use Rattle.std.proofs.Common.{◌≡◌, ◌+◌, ◌-◌, ◌*◌, ◌<◌, ◌≤◌, ◌++◌}
 use Rattle.std.specs.Prelude.{max}
-use Rattle.std.specs.List.{flat_map}
-use Rattle.grid_core.specs.declared.rect.Rect.{Rect}
+use Rattle.std.specs.List.{flat_map, range_with_len}
 use Rattle.border_queues.specs.Waiting.{places}
-use Rattle.border_queues.specs.OpenEdges.{hints_from, pixels_of}
-use Rattle.border_queues.specs.Borders.{sender_of}
+use Rattle.border_queues.specs.Borders.{hints_of_row}
 use Rattle.border_queues.proofs.border.Border.push_all.Given as goal
 
--- the hints of the first row and of those so far are told
-abbrev pub invariant-loop-i : goal.invariant-loop-i
-invariant-loop-i l =
-    let so_far : Rect = record l.self.rect { h = l.i } in
+-- the hints of the rows so far are told
+abbrev pub invariant-loop-y : goal.invariant-loop-y
+invariant-loop-y l =
+    let rect = l.self.rect in
+    let top = l.self.bounds.top in
     record {
-      upto : l.i ≤ max 1 (l.self.rect.h - 1);
-      hints : l.out.hints ≡ l.fn.out.hints ++ flat_map (hints_from (sender_of l.self)) (pixels_of so_far);
-      room : l.initial.out.room + 16 ≤ l.out.room + 16 * l.i;
-      kept : places l.fn.out ≤ places l.out;
+      upto : l.y ≤ max top l.self.bounds.bottom;
+      hints : l.out.hints
+          ≡ l.initial.out.hints ++ flat_map (hints_of_row l.self) (range_with_len top (l.y - top));
+      at_first : l.y ≤ rect.y → l.initial.out.room ≤ l.out.room;
+      before_last : l.y < rect.y + rect.h
+          → l.initial.out.room ≤ l.out.room + 16 * (l.y - rect.y) + 8 * rect.w;
+      room : l.initial.out.room ≤ l.out.room + 16 * (l.y - rect.y) + 16 * rect.w;
+      kept : places l.initial.out ≤ places l.out;
     }

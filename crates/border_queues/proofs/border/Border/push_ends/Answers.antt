@@ -5,7 +5,8 @@ use Rattle.border_queues.specs.declared.hint.Hint.{Hint}
 use Rattle.border_queues.specs.declared.border.Border.{Border}
 use Rattle.border_queues.specs.OpenEdges.{hints_from, row_of}
 use Rattle.border_queues.specs.Borders.{sender_of, IsBorder}
-use Rattle.border_queues.proofs.Interior.{interior_tells_none, ends_told, end_told, by_columns}
+use Rattle.border_queues.proofs.Interior.{interior_tells_none, ends_told, end_told}
+use Rattle.border_queues.proofs.Told.{by_columns}
 use Rattle.border_queues.proofs.border.Border.push_ends.Goals as goal
 
 -- a row of more than one pixel tells what its ends tell
@@ -34,12 +35,12 @@ returns-then-last-gt0 c =
     let first = hints_from (sender_of b) (record { x = b.rect.x; y = y }) in
     let last = hints_from (sender_of b) (record { x = b.rect.x + (b.rect.w - 1); y = y }) in
     record {
-      behind = c.push_from-then-last-gt0.ensures.behind ∙ ap (λ hs. hs ++ last) c.push_from.ensures.behind
+      behind = c.push_within-then-last-gt0.ensures.behind ∙ ap (λ hs. hs ++ last) c.push_within.ensures.behind
           ∙ append_assoc c.args.out.now.hints first last
           ∙ ap (λ hs. c.args.out.now.hints ++ hs) (sym (row_tells b y c.requires.ready.border c.neighbours_by_rows.ensures
           c.requires.between.0 c.requires.between.1 (omega arith)));
-      room = omega (arith, c.push_from.ensures.room, c.push_from-then-last-gt0.ensures.room);
-      kept = omega (arith, c.push_from.ensures.kept, c.push_from-then-last-gt0.ensures.kept);
+      room = omega (arith, c.push_within.ensures.room, c.push_within-then-last-gt0.ensures.room);
+      kept = omega (arith, c.push_within.ensures.kept, c.push_within-then-last-gt0.ensures.kept);
     }
 
 pub returns-else-last-gt0 : goal.returns-else-last-gt0
@@ -49,9 +50,9 @@ returns-else-last-gt0 c =
     let f : ℕ → List Hint = λ x. hints_from (sender_of b) (record { x = x; y = y }) in
     let one : b.rect.w ≡ 1 = omega arith in
     record {
-      behind = c.push_from.ensures.behind
+      behind = c.push_within.ensures.behind
           ∙ ap (λ hs. c.args.out.now.hints ++ hs) (sym (by_columns (sender_of b) b.rect y
           ∙ ap (λ w. flat_map f (range_with_len b.rect.x w)) one ∙ end_told f b.rect.x));
-      room = omega (arith, c.push_from.ensures.room);
-      kept = c.push_from.ensures.kept;
+      room = omega (arith, c.push_within.ensures.room);
+      kept = c.push_within.ensures.kept;
     }

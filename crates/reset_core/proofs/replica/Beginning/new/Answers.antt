@@ -15,6 +15,7 @@ returns-clause-value c =
       state = empty i;
       image = image i;
       work = (work i).0;
+      bounds = c.in_ok-bounds.ensures i;
       marks = (work i).1;
       queue = (work i).2;
     }

@@ -1,6 +1,9 @@
 -- What the tactics leave open of `hand`.
 use Rattle.std.proofs.Common.{◌≡◌, ◌<◌, ◌≤◌, true, false, List, refl, sym, ◌∙◌, ap, subst, IsTrue, slice_index_or}
-use Rattle.std.proofs.Common.{slice_set}
+use Rattle.std.proofs.Common.{slice_set, set, arith}
+use Rattle.grid_core.specs.declared.bounds.Bounds.{Bounds}
+use Rattle.grid_core.specs.Bounds.{bounds_at, joined, no_bounds}
+use Rattle.tile_work.specs.OpenBounds.{bounds_for}
 use Rattle.grid_core.specs.Raster.{Raster, with_value}
 use Rattle.core_rules.specs.declared.answers.Handed.TheVariants.{Raised, Same, Stale}
 use Rattle.core_rules.specs.Work.{image_at, work_at, with_work}
@@ -66,12 +69,30 @@ invariant_of-self-2 c =
     (record (slice_index_or work c.args.tile idle) { dirty = true })) c.remove_hint.ensures
     ∙ ap (λ t. (with_work (without_hint (core_of parts) c.args.tile c.args.i) t
     (record (work_at (without_hint (core_of parts) c.args.tile c.args.i) t) { dirty = true })).tiles) (sym home) in
-    subst (λ (work : List TileWork). IsStored (record parts { image = c.set.new.self; work = work })) (sym work)
+    let bounds : c.widen.new.self
+    ≡ set parts.bounds c.args.tile
+    (joined (bounds_for parts.bounds c.args.tile) (joined no_bounds (bounds_at c.in-Some.hint.to_pixel))) =
+    c.widen.ensures
+    ∙ ap (λ (more : Bounds). set parts.bounds c.args.tile (joined (bounds_for parts.bounds c.args.tile) more))
+    (c.including.ensures ∙ ap (λ (none : Bounds). joined none (bounds_at c.in-Some.hint.to_pixel)) c.none.ensures) in
+    subst (λ (table : List Bounds). IsStored (record parts {
+      image = c.set.new.self;
+      work = c.mark_dirty.new.self;
+      bounds = table;
+    })) (sym bounds)
+    (subst (λ (work : List TileWork). IsStored (record parts {
+      image = c.set.new.self;
+      work = work;
+      bounds = set parts.bounds c.args.tile
+          (joined (bounds_for parts.bounds c.args.tile) (joined no_bounds (bounds_at c.in-Some.hint.to_pixel)));
+    })) (sym work)
     (subst (λ (image : Raster). IsStored (record parts {
       image = image;
       work = (raised (without_hint (core_of parts) c.args.tile c.args.i) c.in-Some.hint).tiles;
+      bounds = set parts.bounds c.args.tile
+          (joined (bounds_for parts.bounds c.args.tile) (joined no_bounds (bounds_at c.in-Some.hint.to_pixel)));
     })) (sym c.set.ensures)
-    (raised_is_stored parts c.self.invariant c.args.tile c.args.i c.in-Some.hint there present above))
+    (raised_is_stored parts c.self.invariant c.args.tile c.args.i c.in-Some.hint there present above)))
 
 -- src/replica/handing.rt:14:5
 pub returns : goal.returns
@@ -104,3 +125,20 @@ returns c =
             work = work;
           })) work,
     )
+
+-- src/replica/handing.rt:35:26
+pub including-requires-clause-column : goal.including-requires-clause-column
+including-requires-clause-column c =
+    let parts = c.self.inside in
+    let there = sym c.hint.ensures ∙ c.in-Some.is in
+    let inside = goes_inside parts c.self.invariant c.args.tile c.args.i c.in-Some.hint there in
+    let size = c.self.invariant.sound.shape in
+    omega (arith, inside.0, size.image.width, size.tiled.size.width_within)
+
+pub including-requires-clause-row : goal.including-requires-clause-row
+including-requires-clause-row c =
+    let parts = c.self.inside in
+    let there = sym c.hint.ensures ∙ c.in-Some.is in
+    let inside = goes_inside parts c.self.invariant c.args.tile c.args.i c.in-Some.hint there in
+    let size = c.self.invariant.sound.shape in
+    omega (arith, inside.1, size.image.height, size.tiled.size.height_within)

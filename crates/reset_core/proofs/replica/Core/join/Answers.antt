@@ -1,6 +1,9 @@
 -- What the tactics leave open of `join`.
 use Rattle.std.specs.Prelude.{All}
-use Rattle.std.proofs.Common.{ap, subst, sym}
+use Rattle.std.proofs.Common.{◌≡◌, List, slice_set, ap, subst, sym, ◌∙◌}
+use Rattle.grid_core.specs.declared.bounds.Bounds.{Bounds}
+use Rattle.grid_core.specs.Bounds.{bounds_of}
+use Rattle.reset_core.specs.Replica.{IsStored}
 use Rattle.grid_core.specs.Tiles.{Tiles}
 use Rattle.tile_generations.specs.declared.ticket.Ticket.{Ticket}
 use Rattle.tile_work.specs.WorkTable.{IsToTouching}
@@ -29,12 +32,19 @@ invariant_of-self-2 c =
     let tile_is = ap (λ (k : Ticket). k.tile) c.ticket-tile.ensures in
     let tiling = c.tiling-tiling.ensures in
     let tiles = tiling_is parts core c.tiling-tiling.result c.self.view_is tiling.value tiling.width tiling.height in
-    joined_is_stored parts core swept c.tiling-tiling.result c.ticket-tile.result.tile c.rect-rect.result
+    let bounds : c.set.new.self
+    ≡ slice_set parts.bounds c.ticket-tile.result.tile (bounds_of c.rect-rect.result) =
+    c.set.ensures ∙ ap (slice_set parts.bounds c.ticket-tile.result.tile) c.of.ensures in
+    subst (λ (table : List Bounds). IsStored (record parts {
+      image = c.raise_part.new.whole;
+      work = c.end_job.new.self;
+      bounds = table;
+    })) (sym bounds) (joined_is_stored parts core swept c.tiling-tiling.result c.ticket-tile.result.tile c.rect-rect.result
     c.pixels.result.now c.raise_part.new.whole c.receive.new.self c.end_job.new.self c.in_ok-hints.hints.hints
     c.as_slice.result.now c.self.view_is tiles tile_is c.rect-rect.ensures.rect c.pixels.ensures.value
     c.raise_part.ensures c.in_ok-hints.ensures.touching c.as_slice.ensures c.in_ok-receive.ensures.ok c.end_job.ensures
     c.in_ok-hints.ensures.hints c.requires.known.is_tile c.give_back_keeps_sound.ensures c.self.invariant
-    c.pixels.ensures.swept c.requires.known c.requires.out c.requires.base
+    c.pixels.ensures.swept c.requires.known c.requires.out c.requires.base)
 
 pub returns-clause-joined : goal.returns-clause-joined
 returns-clause-joined c =

@@ -6,6 +6,7 @@ use Rattle.marker_tiles.specs.Kept.{IsMarkerOf}
 use Rattle.core_rules.specs.declared.error.CoreError.TheVariants as errors
 use Rattle.core_rules.specs.Work.{Core, tiling}
 use Rattle.core_rules.specs.Merge.{IsMerged, IsRefused, IsAcceptable}
+use Rattle.reset_core.specs.Bounding.{FollowChange}
 use Rattle.reset_core.specs.declared.replica.Core.TheInside.{Inside as Parts}
 use Rattle.stroke_lattice.specs.State.{State}
 use Rattle.reset_core.specs.Replica.{core_of, IsStored}
@@ -94,9 +95,9 @@ join-requires c =
     let at = (goal.at.join-requires c).After-mark_hits in
     (is_marked at).compatible
 
-pub renew-requires : goal.renew-requires
-renew-requires c =
-    let at = (goal.at.renew-requires c).After-mark_hits in
+pub renew-requires-clause-renew : goal.renew-requires-clause-renew
+renew-requires-clause-renew c =
+    let at = (goal.at.renew-requires-clause-renew c).After-mark_hits in
     let tiles = ap count_of (sym (tiles_are at) ∙ c.tiling-tiling.ensures.value) in
     record {
       fits =
@@ -130,6 +131,7 @@ parts_after c = record c.self.inside {
   markers = c.renew.new.markers;
   image = c.renew.new.image;
   work = c.renew.new.work;
+  bounds = c.renew.new.bounds;
   marks = c.renew.new.marks;
   queue = c.mark_hits.new.queue;
 }
@@ -148,17 +150,21 @@ is_renewed c =
         join = c.in-Ok.ensures.join;
         change = c.in-Ok.ensures.change;
         marker_is =
-            subst (λ mask. IsMarkerOf mask c.join.new.self c.renew.new.markers.marker) c.renew.ensures.marker.mask
-            c.renew.ensures.marker.marker;
+            subst (λ mask. IsMarkerOf mask c.join.new.self c.renew.new.markers.marker) c.renew.ensures.renewed.marker.mask
+            c.renew.ensures.renewed.marker.marker;
       };
       image =
           subst (λ tiles. IsImageRenewed tiles c.mark_hits.new.marks c.in-Ok.change c.join.new.self
           c.renew.new.markers.marker c.self.inside.image c.renew.new.image c.self.inside.work c.renew.new.work)
-          (sym c.tiling-tiling.ensures.value ∙ tiles_are at) c.renew.ensures.image_is;
-      cleared = c.renew.ensures.marks_are;
+          (sym c.tiling-tiling.ensures.value ∙ tiles_are at) c.renew.ensures.renewed.image_is;
+      bounds =
+          subst (λ tiles. FollowChange tiles c.self.inside.conn c.self.inside.image c.renew.new.image
+          c.self.inside.bounds c.renew.new.bounds) (sym c.tiling-tiling.ensures.value ∙ tiles_are at)
+          (c.renew.ensures.bounds c.self.inside.conn);
+      cleared = c.renew.ensures.renewed.marks_are;
       queue = c.mark_hits.ensures.queue;
-      mask = c.renew.ensures.marker.mask;
-      tiling_is = c.renew.ensures.marker.tiling;
+      mask = c.renew.ensures.renewed.marker.mask;
+      tiling_is = c.renew.ensures.renewed.marker.tiling;
       conn = refl;
       serial = refl;
     }

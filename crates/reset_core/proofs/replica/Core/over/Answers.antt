@@ -3,6 +3,7 @@ use Rattle.std.proofs.Common.{refl, ◌∙◌, ap, subst, replicate, false}
 use Rattle.grid_core.specs.Tiles.{Tiles, IsTiled, count_of}
 use Rattle.border_queues.specs.TileWork.{fresh}
 use Rattle.reset_core.specs.declared.replica.Beginning.{Beginning}
+use Rattle.grid_core.specs.Bounds.{no_bounds}
 use Rattle.reset_core.specs.Replica.{begun}
 use Rattle.reset_core.proofs.Storing.{is_opened, opened_is_stored}
 use Rattle.reset_core.proofs.replica.Core.over.Goals as goal
@@ -21,3 +22,4 @@ with_markers-requires c =
     (ap (λ (b : Beginning). b.work) begun ∙ ap (λ n. replicate n (fresh c.args.first)) count) refl)
     made.marks (ap (λ (b : Beginning). b.marks) begun ∙ ap (λ n. replicate n false) count)
     (ap (λ (b : Beginning). b.queue) begun ∙ ap (λ n. replicate n false) count)
+    (ap (λ (b : Beginning). b.bounds) begun ∙ ap (λ n. replicate n no_bounds) count)

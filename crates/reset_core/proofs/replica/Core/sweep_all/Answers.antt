@@ -1,10 +1,7 @@
-use Rattle.std.proofs.Common.{[], refl, sym, ap, ◌∙◌, subst, arith}
+use Rattle.std.proofs.Common.{[], refl, subst, arith}
 use Rattle.std.proofs.lemmas.Grind.{common_steps}
-use Rattle.grid_core.specs.Tiles.{count_of}
 use Rattle.core_rules.specs.Work.{Core}
 use Rattle.core_rules.specs.Runs.{IsDirty}
-use Rattle.reset_core.specs.Closing.{AreClosedInside}
-use Rattle.reset_core.proofs.Closing.{none_swept}
 use Rattle.reset_core.proofs.Settling.{quiet_from}
 use Rattle.reset_core.proofs.replica.Core.sweep_all.Goals as goal
 
@@ -16,10 +13,5 @@ returns-in_default-clause-works c =
       quiet = quiet_from c.args.self.now c.requires.none_out c.requires.no_hints none;
     }
 
-pub work_all_off-requires-clause-ready : goal.work_all_off-requires-clause-ready
-work_all_off-requires-clause-ready c = record {
-  enough = grind (arith, common_steps);
-  closed =
-      subst (AreClosedInside c.args.self.now) (sym c.in_ok-swept.ensures)
-      (none_swept c.args.self.now c.count.result (c.count.ensures.value ∙ ap count_of c.tiling-tiling.ensures.value));
-}
+pub work_all_off-requires-clause-enough : goal.work_all_off-requires-clause-enough
+work_all_off-requires-clause-enough c = grind (arith, common_steps)

@@ -1,4 +1,6 @@
-use Rattle.std.proofs.Common.{arith, [], refl, subst}
+use Rattle.std.proofs.Common.{◌≤◌, arith, [], refl, subst, sym}
+use Rattle.border_queues.specs.OpenEdges.{room_for_edges}
+use Rattle.border_queues.specs.Waiting.{places}
 use Rattle.core_rules.specs.Work.{Core}
 use Rattle.core_rules.specs.Runs.{IsDirty}
 use Rattle.border_queues.specs.TileWork.{IsLeast}
@@ -16,7 +18,7 @@ loop-tile-init c = (
     tiling = refl;
     spent = omega arith;
   },
-  c.requires.ready,
+  c.requires.enough,
 )
 
 pub work_off-requires-clause-next : goal.work_off-requires-clause-next
@@ -28,8 +30,8 @@ work_off-requires-clause-next c =
       least,
     )
 
-pub work_off-requires-clause-ready : goal.work_off-requires-clause-ready
-work_off-requires-clause-ready c = c.loop-tile.invariant.1
+pub work_off-requires-clause-enough : goal.work_off-requires-clause-enough
+work_off-requires-clause-enough c = c.loop-tile.invariant.1
 
 pub overflow_add-jobs : goal.overflow_add-jobs
 overflow_add-jobs c =
@@ -46,7 +48,8 @@ pub loop-tile-preserved : goal.loop-tile-preserved
 loop-tile-preserved c = (
   one_more_swept c.args.self.now c.loop-tile.self c.work_off.new.self c.loop-tile.jobs c.loop-tile.invariant.0
       c.work_off.ensures.worked.0 c.work_off.ensures.worked.1,
-  c.work_off.ensures.ready,
+  subst (λ tiles. room_for_edges tiles ≤ places c.work_off.new.told) (sym c.work_off.ensures.worked.1)
+      (omega (arith, c.loop-tile.invariant.1, c.work_off.ensures.enough)),
 )
 
 pub returns : goal.returns

@@ -1,5 +1,5 @@
 -- What the tactics leave open of `work_off`.
-use Rattle.std.proofs.Common.{◌≡◌, ◌≤◌, arith, ℕ, List, length, set, get_or, ◌∙◌, sym, ap, subst}
+use Rattle.std.proofs.Common.{◌≡◌, ◌<◌, ◌≤◌, false, arith, slice_index_or, ℕ, List, length, set, get_or, ◌∙◌, sym, ap, subst}
 use Rattle.std.proofs.lemmas.List.{length-set}
 use Rattle.std.proofs.lemmas.Grind.{common_steps}
 use Rattle.grid_core.specs.declared.pixel.Pixel.{Pixel}
@@ -7,24 +7,31 @@ use Rattle.grid_core.specs.declared.rect.Rect.{Rect}
 use Rattle.grid_core.specs.Raster.{Raster, IsInside, IsBelow, value_at}
 use Rattle.grid_core.specs.Reconstruction.{IsReconstruction}
 use Rattle.grid_core.specs.Rects.{IsInRect, domain_in, part}
-use Rattle.grid_core.specs.Tiles.{Tiles, rect_of}
-use Rattle.border_queues.specs.OpenEdges.{open_edges, room_for_edges}
-use Rattle.border_queues.specs.Waiting.{places}
-use Rattle.core_rules.specs.Work.{Core, tiling, IsTile, work_at}
-use Rattle.border_queues.specs.TileWork.{TileWork, idle}
-use Rattle.core_rules.specs.Sweeps.{tile_rect, hints_of}
+use Rattle.grid_core.specs.Tiles.{Tiles, count_of, rect_of}
+use Rattle.grid_core.proofs.Tilings.{each_pixel_in_one_tile, neighbours_lie_in_touching_tiles}
+use Rattle.border_queues.specs.OpenEdges.{EdgesBeginIn, open_edges, sender_by}
+use Rattle.grid_core.specs.Path.{Inside}
+use Rattle.core_rules.specs.Work.{Core, domain, tiling, image_at, IsTile, work_at}
+use Rattle.border_queues.specs.TileWork.{TileWork, idle, work_of}
+use Rattle.grid_core.specs.Bounds.{LieIn, no_bounds}
+use Rattle.raster_sweeps.specs.OpenBounds.{OpenPairsBeginIn, RiseWithin}
+use Rattle.tile_work.specs.OpenBounds.{bounds_for}
+use Rattle.reset_core.specs.Bounding.{FollowChange}
+use Rattle.core_rules.specs.Sweeps.{tile_rect, hints_of, sender_of}
 use Rattle.core_rules.specs.Events.{Take}
 use Rattle.core_rules.specs.Runs.{IsNext}
 use Rattle.reset_core.specs.declared.replica.Core.TheInside.{Inside as Parts}
 use Rattle.reset_core.specs.Replica.{core_of}
-use Rattle.reset_core.specs.Telling.{ImageAndWork, image_and_work, AreTold}
-use Rattle.reset_core.specs.Closing.{AreClosedInside}
+use Rattle.reset_core.specs.Bounding.{AreBounded}
+use Rattle.reset_core.specs.Telling.{ImageAndWork, image_and_work, all_handed, AreTold}
 use Rattle.reset_core.specs.Settling.{IsOneWorkedOff}
 use Rattle.core_rules.specs.Invariant.{IsSound}
 use Rattle.core_rules.proofs.Cores.{work_there}
-use Rattle.reset_core.proofs.Closing.{closed_in_rect, swept_are_closed}
+use Rattle.reset_core.proofs.Bounding.{begins_in_tile, edges_begin, swept_bounded}
 use Rattle.reset_core.proofs.Storing.{image_below_mask, stored_still}
-use Rattle.reset_core.proofs.TellingSweeps.{IsGrownAt, clean, grown_core, one_step, worked_parts}
+use Rattle.reset_core.proofs.TellingHands.{work_elsewhere_stays}
+use Rattle.reset_core.proofs.TellingOrder.{told_by}
+use Rattle.reset_core.proofs.TellingSweeps.{IsGrownAt, clean, grown_core, one_step, rises, worked_parts}
 use Rattle.reset_core.proofs.replica.Core.work_off.Goals as goal
 use Rattle.reset_core.proofs.replica.Core.work_off.Goals.{After-rect, After-tell}
 
@@ -48,12 +55,12 @@ tiling_of c =
 rect_of_tile : (c : After-rect) → c.rect.result ≡ tile_rect (core_of (stored c)) c.args.tile
 rect_of_tile c = c.rect.ensures.value ∙ ap (λ (t : Tiles). rect_of t c.args.tile) (tiling_of c)
 
-closed_before : (c : After-rect) → AreClosedInside (core_of (stored c)) c.args.swept.now
-closed_before c = subst (λ core. AreClosedInside core c.args.swept.now) (sym c.self.view_is) c.requires.ready.closed
+is_tile_of : (c : After-rect) → c.args.tile < count_of (tiling (core_of (stored c)))
+is_tile_of c = omega (arith, (is_next_of c).2.0.0, c.self.invariant.sound.shape.tiles)
 
-pub sweep-requires-clause-grow : goal.sweep-requires-clause-grow
-sweep-requires-clause-grow c =
-    let at = (goal.at.sweep-requires-clause-grow c).After-rect in
+pub grow_from_bounds-area-requires-clause-grow : goal.grow_from_bounds-area-requires-clause-grow
+grow_from_bounds-area-requires-clause-grow c =
+    let at = (goal.at.grow_from_bounds-area-requires-clause-grow c).After-rect in
     record {
       below =
           subst (IsBelow c.self.inside.image) (sym c.mask-mask.ensures.value)
@@ -61,12 +68,25 @@ sweep-requires-clause-grow c =
       fits = grind (arith, common_steps);
     }
 
-pub sweep-requires-clause-border : goal.sweep-requires-clause-border
-sweep-requires-clause-border c = λ again.
-    let at = (goal.at.sweep-requires-clause-border c).After-rect in
-    closed_in_rect (core_of (stored at)) c.args.tile c.args.swept.now c.rect.result c.mask-mask.result.now
-    (closed_before at) c.self.invariant.sound (is_next_of at).2.0.0 (sym c.contains-again.ensures ∙ again)
-    (rect_of_tile at) c.mask-mask.ensures.value
+pub grow_from_bounds-area-requires-clause-bounds : goal.grow_from_bounds-area-requires-clause-bounds
+grow_from_bounds-area-requires-clause-bounds c =
+    let at = (goal.at.grow_from_bounds-area-requires-clause-bounds c).After-rect in
+    subst (λ bounds. OpenPairsBeginIn c.self.inside.conn c.rect.result c.mask-mask.result.now c.self.inside.image bounds)
+    (sym c.get.ensures)
+    (subst (λ rect. OpenPairsBeginIn c.self.inside.conn rect c.mask-mask.result.now c.self.inside.image
+    (bounds_for c.self.inside.bounds c.args.tile)) (sym (rect_of_tile at))
+    (subst (λ mask. OpenPairsBeginIn c.self.inside.conn (tile_rect (core_of (stored at)) c.args.tile) mask
+    c.self.inside.image (bounds_for c.self.inside.bounds c.args.tile)) (sym c.mask-mask.ensures.value)
+    (begins_in_tile (core_of (stored at)) c.self.inside.bounds c.args.tile c.self.invariant.sound.shape.tiled
+    c.self.invariant.bounded (is_tile_of at))))
+
+pub grow_from_bounds-area-requires-clause-lie : goal.grow_from_bounds-area-requires-clause-lie
+grow_from_bounds-area-requires-clause-lie c =
+    let at = (goal.at.grow_from_bounds-area-requires-clause-lie c).After-rect in
+    subst (λ bounds. LieIn bounds c.rect.result) (sym c.get.ensures)
+    (subst (LieIn (bounds_for c.self.inside.bounds c.args.tile)) (sym (rect_of_tile at))
+    (c.self.invariant.bounded.lie c.args.tile
+    (omega (arith, is_tile_of at, c.self.invariant.bounded.count))))
 
 -- ---- the same, once the tile is swept
 
@@ -90,29 +110,29 @@ rect_is c = rect_of_tile (early c)
 
 -- ---- the sweep, and the hints
 
-grown : (c : After-tell) → IsGrownAt (before c) c.args.tile c.sweep.new.image
+grown : (c : After-tell) → IsGrownAt (before c) c.args.tile c.grow_from_bounds-area.new.image
 grown c =
     let old = c.self.inside.image in
-    let new = c.sweep.new.image in
+    let new = c.grow_from_bounds-area.new.image in
     let to_rect : Rect → Raster → Type 0 = λ rect mask.
     IsReconstruction (domain_in rect c.self.inside.conn) (part rect (value_at mask)) (part rect (value_at old))
     (part rect (value_at new)) in
     record {
       size = record {
-        width = c.sweep.ensures.patch.size.width;
-        height = c.sweep.ensures.patch.size.height;
-        filled = c.sweep.ensures.patch.size.filled;
+        width = c.grow_from_bounds-area.ensures.regrown.patch.size.width;
+        height = c.grow_from_bounds-area.ensures.regrown.patch.size.height;
+        filled = c.grow_from_bounds-area.ensures.regrown.patch.size.filled;
       };
       grown =
           subst (λ rect. to_rect rect c.self.inside.markers.mask) (rect_is c)
-          (subst (λ mask. to_rect c.rect.result mask) c.mask-mask.ensures.value c.sweep.ensures.reconstruction);
+          (subst (λ mask. to_rect c.rect.result mask) c.mask-mask.ensures.value c.grow_from_bounds-area.ensures.regrown.reconstruction);
       beyond =
           subst (λ rect. (p : Pixel) → IsInside old.width old.height p → (IsInRect rect p → ⊥)
-          → value_at new p ≡ value_at old p) (rect_is c) c.sweep.ensures.patch.beyond;
+          → value_at new p ≡ value_at old p) (rect_is c) c.grow_from_bounds-area.ensures.regrown.patch.beyond;
     }
 
 abbrev middle : After-tell → Core
-middle c = grown_core (before c) c.args.tile c.sweep.new.image
+middle c = grown_core (before c) c.args.tile c.grow_from_bounds-area.new.image
 
 abbrev reached : After-tell → ImageAndWork
 reached c = record { image = c.tell.new.image; rows = c.tell.new.work }
@@ -133,7 +153,7 @@ generation_is c =
 told : (c : After-tell)
     → AreTold (tiling (before c)) (hints_of (before c) (middle c) c.args.tile) (image_and_work (middle c)) (reached c)
 told c =
-    let image = c.sweep.new.image in
+    let image = c.grow_from_bounds-area.new.image in
     let to : Tiles → Raster → ℕ → List TileWork → Type 0 = λ tiles mask generation rows.
     AreTold tiles (open_edges (record {
       tiles = tiles;
@@ -157,33 +177,94 @@ step : (c : After-tell) → IsOneWorkedOff (before c) (core_of (worked_parts (pa
     × IsSound (core_of (worked_parts (parts c) (reached c)))
 step c =
     one_step c.edges_are_open.ensures (before c) c.args.tile c.self.invariant.sound (is_next c)
-    c.sweep.new.image (grown c) (reached c) (told c)
+    c.grow_from_bounds-area.new.image (grown c) (reached c) (told c)
 
 -- ---- the core afterwards
+
+clean_still : (c : After-tell) → (work_of c.tell.new.work c.args.tile).dirty ≡ false
+clean_still c =
+    let within : c.args.tile < count_of (tiling (before c)) = is_tile_of (early c) in
+    let told_hints = told c in
+    let kept : slice_index_or (all_handed (tiling (before c)) told_hints.by_tile (image_and_work (middle c))).rows
+    c.args.tile idle
+    ≡ slice_index_or (middle c).tiles c.args.tile idle =
+    work_elsewhere_stays (tiling (before c)) told_hints.by_tile (image_and_work (middle c)) c.args.tile
+    (λ hint there home.
+    let by = told_by c.edges_are_open.ensures neighbours_lie_in_touching_tiles each_pixel_in_one_tile
+    (record (sender_of (before c) c.args.tile) {
+      image = value_at c.grow_from_bounds-area.new.image;
+    }) c.self.invariant.sound.shape.tiled within hint
+    (told_hints.sorted.those hint there) in
+    by.touching.other (sym home)) in
+    ap (λ (s : ImageAndWork). (slice_index_or s.rows c.args.tile idle).dirty) (sym told_hints.over.result)
+    ∙ ap (λ (work : TileWork). work.dirty) kept
+    ∙ ap (λ (work : TileWork). work.dirty)
+    (work_there (before c) c.args.tile (clean (before c) c.args.tile) (is_tile c))
+
+never_falls : (c : After-tell) (p : Pixel) → Inside (domain (before c)) p
+    → image_at (before c) p ≤ value_at c.grow_from_bounds-area.new.image p
+never_falls c p inside =
+    let shape = c.self.invariant.sound.shape.image in
+    rises c.edges_are_open.ensures (before c) c.args.tile c.self.invariant.sound (is_next c)
+    c.grow_from_bounds-area.new.image (grown c) p
+    (omega (arith, inside.0, shape.width), omega (arith, inside.1, shape.height))
+
+pub tell-requires-clause-area : goal.tell-requires-clause-area
+tell-requires-clause-area c =
+    let at = (goal.at.tell-requires-clause-area c).After-rect in
+    let image = c.grow_from_bounds-area.new.image in
+    let area = c.grow_from_bounds-area.result in
+    let patch = c.grow_from_bounds-area.ensures.regrown.patch in
+    let tiles = tiling (core_of (stored at)) in
+    let generation = (get_or c.mark_clean.new.self c.args.tile idle).generation in
+    let beyond : (p : Pixel) → IsInside c.self.inside.image.width c.self.inside.image.height p
+    → (IsInRect (tile_rect (core_of (stored at)) c.args.tile) p → ⊥)
+    → value_at image p ≡ value_at c.self.inside.image p =
+    subst (λ rect. (p : Pixel) → IsInside c.self.inside.image.width c.self.inside.image.height p
+    → (IsInRect rect p → ⊥) → value_at image p ≡ value_at c.self.inside.image p) (rect_of_tile at) patch.beyond in
+    let rise : RiseWithin (tile_rect (core_of (stored at)) c.args.tile) c.self.inside.image image
+    (bounds_for c.self.inside.bounds c.args.tile) area =
+    subst (λ rect. RiseWithin rect c.self.inside.image image (bounds_for c.self.inside.bounds c.args.tile) area)
+    (rect_of_tile at)
+    (subst (λ bounds. RiseWithin c.rect.result c.self.inside.image image bounds area) c.get.ensures
+    c.grow_from_bounds-area.ensures.rises) in
+    subst (λ (t : Tiles). EdgesBeginIn (sender_by t c.self.inside.conn (value_at c.mask-mask.result.now)
+    (value_at image) c.args.tile generation) area) (sym (tiling_of at))
+    (subst (λ (mask : Raster). EdgesBeginIn (sender_by tiles c.self.inside.conn (value_at mask) (value_at image)
+    c.args.tile generation) area) (sym c.mask-mask.ensures.value)
+    (edges_begin (core_of (stored at)) c.self.inside.bounds c.args.tile generation image area
+    c.self.invariant.sound.shape.tiled c.self.invariant.sound.shape.image c.self.invariant.bounded (is_tile_of at)
+    beyond rise))
+
+pub tell-requires-clause-lie : goal.tell-requires-clause-lie
+tell-requires-clause-lie c =
+    subst (LieIn c.grow_from_bounds-area.result) c.rect.ensures.value c.grow_from_bounds-area.ensures.lie
 
 pub invariant_of-self : goal.invariant_of-self
 invariant_of-self c =
     let count : length c.tell.new.work ≡ length c.self.inside.work =
     (told c).over.count ∙ length-set c.self.inside.work c.args.tile (clean (before c) c.args.tile) in
     let after = worked_parts (parts c) (reached c) in
-    stored_still (parts c) after.image after.work after.serial c.self.invariant count (step c).1
+    let off = (step c).0 in
+    let image = c.grow_from_bounds-area.new.image in
+    let follow : FollowChange (tiling (before c)) c.self.inside.conn image c.tell.new.image
+    (set c.self.inside.bounds c.args.tile no_bounds) c.tell.new.bounds =
+    subst (λ tiles. FollowChange tiles c.self.inside.conn image c.tell.new.image
+    (set c.self.inside.bounds c.args.tile no_bounds) c.tell.new.bounds) (tiling_is c)
+    (subst (λ table. FollowChange c.tiling-tiling.result c.self.inside.conn image c.tell.new.image table
+    c.tell.new.bounds) (c.set.ensures ∙ ap (set c.self.inside.bounds c.args.tile) c.none.ensures)
+    (c.tell.ensures.bounds c.self.inside.conn)) in
+    let bounded : AreBounded (core_of after) c.tell.new.bounds =
+    swept_bounded (before c) c.args.tile image c.tell.new.image c.tell.new.work after.serial c.self.inside.bounds
+    c.tell.new.bounds c.self.invariant.sound (step c).1 c.self.invariant.bounded (is_tile_of (early c))
+    (grown c).beyond (never_falls c) (clean_still c) off.none_out off.no_hints follow in
+    stored_still (parts c) after.image after.work c.tell.new.bounds after.serial c.self.invariant count
+    (record { count = bounded.count; lie = bounded.lie; begin = bounded.begin }) (step c).1
 
 pub returns-clause-worked : goal.returns-clause-worked
 returns-clause-worked c =
     let final = core_of (worked_parts (parts c) (reached c)) in
     (subst (λ core. IsOneWorkedOff core final) c.self.view_is (step c).0, ap tiling c.self.view_is)
 
-pub returns-clause-ready : goal.returns-clause-ready
-returns-clause-ready c =
-    let final = core_of (worked_parts (parts c) (reached c)) in
-    let enough = c.requires.ready.enough in
-    let kept = c.tell.ensures.enough in
-    record {
-      enough =
-          subst (λ tiles. room_for_edges tiles ≤ places c.tell.new.told) (sym (ap tiling c.self.view_is))
-          (omega (arith, enough, kept));
-      closed =
-          subst (AreClosedInside final) (sym c.insert.ensures)
-          (swept_are_closed (before c) c.args.tile c.self.invariant.sound (is_tile c) c.sweep.new.image (grown c)
-          c.edges_are_open.ensures (reached c) (told c) c.args.swept.now (closed_before (early c)));
-    }
+pub returns-clause-enough : goal.returns-clause-enough
+returns-clause-enough c = c.tell.ensures.enough

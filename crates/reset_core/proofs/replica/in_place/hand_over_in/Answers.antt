@@ -1,11 +1,13 @@
-use Rattle.std.proofs.Common.{◌≡◌, ◌<◌, get_or, take, sym, subst, arith}
+use Rattle.std.proofs.Common.{◌∙◌, ◌≡◌, ◌<◌, get_or, take, sym, subst, arith}
 use Rattle.std.specs.Prelude.{◌↔◌}
 use Rattle.std.proofs.lemmas.List.Elements.{Contains-get_or}
 use Rattle.grid_core.specs.Rects.{IsInRect}
 use Rattle.grid_core.specs.Tiles.{count_of, tile_of}
 use Rattle.border_queues.specs.declared.hint.Hint.{Hint}
 use Rattle.reset_core.specs.Telling.{hints_in}
-use Rattle.reset_core.proofs.TellingHands.{handed_next, still_of_tiles}
+use Rattle.grid_core.specs.declared.conn.Conn.TheVariants.{Four}
+use Rattle.reset_core.proofs.Bounding.{follow_same, follow_twice}
+use Rattle.reset_core.proofs.TellingHands.{handed_next, none_handed, still_of_tiles}
 use Rattle.reset_core.proofs.replica.in_place.hand_over_in.Goals as goal
 
 abbrev none : Hint
@@ -16,13 +18,25 @@ hand_over-requires-clause-inside c =
     let i = c.loop-hint.hint-index in
     c.requires.inside (get_or c.args.hints.now i none) (Contains-get_or c.args.hints.now i none c.loop-hint-test.true)
 
+pub loop-hint-init : goal.loop-hint-init
+loop-hint-init c = record {
+  handed = none_handed c.args.tiling.now (record { image = c.args.image.now; rows = c.args.work.now });
+  bounds = λ conn. follow_same c.args.tiling.now conn c.args.image.now c.args.bounds.now;
+}
+
 pub loop-hint-preserved : goal.loop-hint-preserved
-loop-hint-preserved c =
-    handed_next c.args.tiling.now c.args.hints.now c.args.tile c.loop-hint.hint-index none
-    (record { image = c.args.image.now; rows = c.args.work.now })
-    (record { image = c.loop-hint.image; rows = c.loop-hint.work })
-    (record { image = c.hand_over.new.image; rows = c.hand_over.new.work }) c.loop-hint-test.true
-    c.loop-hint.invariant c.hand_over.ensures
+loop-hint-preserved c = record {
+  handed =
+      handed_next c.args.tiling.now c.args.hints.now c.args.tile c.loop-hint.hint-index none
+      (record { image = c.args.image.now; rows = c.args.work.now })
+      (record { image = c.loop-hint.image; rows = c.loop-hint.work })
+      (record { image = c.hand_over.new.image; rows = c.hand_over.new.work }) c.loop-hint-test.true
+      c.loop-hint.invariant.handed c.hand_over.ensures.handed;
+  bounds = λ conn.
+      follow_twice c.args.tiling.now conn c.args.image.now c.loop-hint.image c.hand_over.new.image c.args.bounds.now
+      c.loop-hint.bounds c.hand_over.new.bounds c.requires.tile.parts.tiled c.requires.bounds
+      (c.loop-hint.invariant.bounds conn) (c.hand_over.ensures.bounds conn);
+}
 
 pub hand_over-requires-clause-rect : goal.hand_over-requires-clause-rect
 hand_over-requires-clause-rect c =
@@ -38,13 +52,16 @@ hand_over-requires-clause-rect c =
 
 pub hand_over-requires-clause-tile : goal.hand_over-requires-clause-tile
 hand_over-requires-clause-tile c =
-    let count = c.loop-hint.invariant.count in
+    let count = c.loop-hint.invariant.handed.count in
     let within = c.requires.tile.within in
     record {
       parts =
           still_of_tiles c.args.tiling.now
           (hints_in c.args.tiling.now (take c.loop-hint.hint-index c.args.hints.now) c.args.tile)
-          c.args.image.now c.args.work.now c.loop-hint.image c.loop-hint.work c.loop-hint.invariant
+          c.args.image.now c.args.work.now c.loop-hint.image c.loop-hint.work c.loop-hint.invariant.handed
           c.requires.tile.parts;
       within = omega (arith, count, within);
     }
+
+pub hand_over-requires-clause-bounds : goal.hand_over-requires-clause-bounds
+hand_over-requires-clause-bounds c = (c.loop-hint.invariant.bounds Four).widened.count ∙ c.requires.bounds

@@ -74,7 +74,7 @@ returns-clause-hints c =
     let all : AreTold c.args.tiling.now c.as_slice-2.result.now before after = record {
       by_tile = flat_map (hints_in c.args.tiling.now c.as_slice-2.result.now) c.as_slice.result.now;
       sorted = sorted at;
-      over = c.hand_over_all.ensures;
+      over = c.hand_over_all.ensures.handed;
     } in
     subst (λ g. AreTold c.args.tiling.now (open_edges (record (sender at) { generation = g })) before after)
     c.generation-generation.ensures.value

@@ -1,6 +1,8 @@
 -- What the tactics leave open of `renew`.
-use Rattle.std.proofs.Common.{ap, ◌∙◌, rules, sym, subst}
-use Rattle.grid_core.specs.Tiles.{Tiles}
+use Rattle.std.proofs.Common.{◌≡◌, length, ap, ◌∙◌, rules, sym, subst}
+use Rattle.grid_core.specs.Tiles.{Tiles, count_of}
+use Rattle.reset_core.specs.Bounding.{FollowChange}
+use Rattle.reset_core.proofs.Bounding.{births_rise, follow_resets, follow_rises, follow_twice}
 use Rattle.stroke_lattice.specs.State.{StateFits}
 use Rattle.reset_core.proofs.MergeSteps.{marked_are_reset, births_are_raised}
 use Rattle.reset_core.proofs.replica.merging.renew.Goals as goal
@@ -11,10 +13,10 @@ raise_to_marker-requires-clause-fits c =
     let width = ap (λ (t : Tiles). t.width) known.value ∙ known.width in
     let height = ap (λ (t : Tiles). t.height) known.value ∙ known.height in
     subst (λ h. StateFits c.tiling-tiling.result.width h c.args.state.now) (sym height)
-    (subst (λ w. StateFits w c.args.markers.now.mask.height c.args.state.now) (sym width) c.requires.fits)
+    (subst (λ w. StateFits w c.args.markers.now.mask.height c.args.state.now) (sym width) c.requires.renew.fits)
 
-pub returns : goal.returns
-returns c =
+pub returns-clause-renewed : goal.returns-clause-renewed
+returns-clause-renewed c =
     let tiles = c.tiling-tiling.ensures.value in
     let marker = c.marker-marker.ensures.value in
     record {
@@ -31,6 +33,33 @@ returns c =
             births_are_raised c.tiling-tiling.result c.args.markers.now.tiling tiles c.marker-marker.result.now
             c.apply.new.self.marker marker c.args.change.now c.args.state.now c.reset_marked.new.image
             c.raise_to_marker.new.image c.reset_marked.new.work c.raise_to_marker.new.work c.born.result.now
-            c.born.ensures c.raise_to_marker.ensures;
+            c.born.ensures c.raise_to_marker.ensures.raised;
       };
     }
+
+pub returns-clause-bounds : goal.returns-clause-bounds
+returns-clause-bounds c conn =
+    let tiles = c.tiling-tiling.result in
+    let old = c.args.image.now in
+    let middle = c.reset_marked.new.image in
+    let new = c.raise_to_marker.new.image in
+    let tiled = c.side.ensures.tiled in
+    let same = c.tiling-tiling.ensures.value in
+    let count : length c.args.bounds.now ≡ count_of tiles = c.requires.bounds ∙ ap count_of (sym same) in
+    let works : length c.args.work.now ≡ count_of tiles = c.requires.renew.unspent.works ∙ ap count_of (sym same) in
+    let resets = c.reset_marked.ensures in
+    let first : FollowChange tiles conn old middle c.args.bounds.now c.reset_marked.new.bounds =
+    follow_resets tiles conn c.args.marks.now c.marker-marker.result.now old middle c.args.work.now
+    c.reset_marked.new.work c.args.bounds.now c.reset_marked.new.bounds tiled works resets.reset resets.bounds in
+    let width : middle.width ≡ tiles.width =
+    resets.reset.size.width ∙ c.requires.renew.on_tiling.width ∙ ap (λ (t : Tiles). t.width) (sym same) in
+    let height : middle.height ≡ tiles.height =
+    resets.reset.size.height ∙ c.requires.renew.on_tiling.height ∙ ap (λ (t : Tiles). t.height) (sym same) in
+    let second : FollowChange tiles conn middle new c.reset_marked.new.bounds c.raise_to_marker.new.bounds =
+    follow_rises tiles conn middle new c.reset_marked.new.bounds c.raise_to_marker.new.bounds
+    (births_rise tiles c.born.result.now c.args.state.now c.marker-marker.result.now middle new
+    c.reset_marked.new.work c.raise_to_marker.new.work width height c.raise_to_marker.ensures.raised)
+    c.raise_to_marker.ensures.bounds in
+    subst (λ (t : Tiles). FollowChange t conn old new c.args.bounds.now c.raise_to_marker.new.bounds) same
+    (follow_twice tiles conn old middle new c.args.bounds.now c.reset_marked.new.bounds
+    c.raise_to_marker.new.bounds tiled count first second)

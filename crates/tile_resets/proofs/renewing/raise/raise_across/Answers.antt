@@ -1,6 +1,7 @@
 -- What the tactics leave open of `raise_across`.
-use Rattle.std.proofs.Common.{◌+◌, ◌*◌, ◌/◌, ◌<◌, ◌≤◌, arith, inl, inr, refl, rules, subst}
+use Rattle.std.proofs.Common.{◌+◌, ◌*◌, ◌/◌, ◌<◌, ◌≤◌, ◌∙◌, arith, inl, inr, refl, rules, subst}
 use Rattle.stroke_core.specs.Spans.{span_has}
+use Rattle.tile_resets.proofs.RenewingBounds.{none_rises, rises_also}
 use Rattle.tile_resets.proofs.RenewingRises.{on_marker, raised_also, raised_nothing, raised_alike, next_tile}
 use Rattle.tile_resets.proofs.RenewingStrokes.{part_of, empty_part, part_more, whole_part}
 use Rattle.tile_resets.proofs.renewing.raise.raise_across.Goals as goal
@@ -12,6 +13,7 @@ loop-first-init c = (
   raised_nothing c.args.tiling.now (span_has (part_of c.args.span c.args.span.first c.args.span.first))
       c.args.marker.now c.args.image.now c.args.work.now c.requires.at_hand.size.filled
       (λ p _. empty_part c.args.span p),
+  none_rises c.args.tiling.now c.args.image.now c.args.bounds.now,
 )
 
 pub raise_piece-requires-clause-piece : goal.raise_piece-requires-clause-piece
@@ -46,12 +48,17 @@ loop-first-preserved c =
           (span_has (part_of s s.first next)) c.args.marker.now c.args.image.now c.loop-first.image
           c.raise_piece.new.image c.args.work.now c.loop-first.work c.raise_piece.new.work
           (on_marker c.args.tiling.now c.args.marker.now c.args.image.now given.marker_is given.size)
-          c.loop-first.invariant.2 c.raise_piece.ensures
+          c.loop-first.invariant.2 c.raise_piece.ensures.raised
           (λ p _. part_more s at next p c.loop-first.invariant.0 (omega arith)),
+      rises_also c.args.tiling.now c.args.image.now c.loop-first.image c.raise_piece.new.image c.args.bounds.now
+          c.loop-first.bounds c.raise_piece.new.bounds c.loop-first.invariant.3 c.raise_piece.ensures.bounds,
     )
 
-pub returns : goal.returns
-returns c =
+pub raise_piece-requires-clause-bounds : goal.raise_piece-requires-clause-bounds
+raise_piece-requires-clause-bounds c = c.loop-first.invariant.3.widened.count ∙ c.requires.bounds
+
+pub returns-clause-raised : goal.returns-clause-raised
+returns-clause-raised c =
     let s = c.args.span in
     let at = c.loop-first.first in
     raised_alike c.args.tiling.now (span_has (part_of s s.first at)) (span_has s) c.args.marker.now

@@ -1,7 +1,7 @@
 -- What the loop of `raise_across` keeps.
 use Rattle.std.proofs.Common.{◌≡◌, ◌-◌, ◌≤◌, ◌⊎◌}
 use Rattle.stroke_core.specs.Spans.{span_has}
-use Rattle.tile_resets.specs.Renewing.{IsRaisedWhere}
+use Rattle.tile_resets.specs.Renewing.{AreRisesWithin, IsRaisedWhere}
 use Rattle.tile_resets.proofs.RenewingStrokes.{part_of}
 use Rattle.tile_resets.proofs.renewing.raise.raise_across.Given as goal
 
@@ -10,7 +10,7 @@ abbrev pub invariant-loop-first : goal.invariant-loop-first
 invariant-loop-first l =
     (l.fn.span.first ≤ l.first) × ((l.first ≤ l.fn.span.end) ⊎ (l.first ≡ l.fn.span.first))
     × IsRaisedWhere l.tiling (span_has (part_of l.fn.span l.fn.span.first l.first)) l.marker l.fn.image l.image
-    l.fn.work l.work
+    l.fn.work l.work × AreRisesWithin l.tiling l.fn.image l.image l.fn.bounds l.bounds
 
 -- the columns that are left
 abbrev pub decreases-loop-first : goal.decreases-loop-first

@@ -1,10 +1,11 @@
 -- What the tactics leave open of `reset_marked`.
-use Rattle.std.proofs.Common.{◌≡◌, refl, sym, ◌∙◌, arith, inl, inr}
-use Rattle.std.proofs.lemmas.Bool.{cases_lt}
+use Rattle.std.proofs.Common.{◌≡◌, ◌+◌, refl, sym, ◌∙◌, arith}
 use Rattle.tile_work.specs.TileSet.{Has}
 use Rattle.border_queues.specs.TileWork.{work_of}
+use Rattle.tile_resets.proofs.RenewingBounds.{none_within, resets_also, resets_of_some}
 use Rattle.tile_resets.proofs.RenewingSpans.{sizes_join}
-use Rattle.tile_resets.proofs.RenewingResets.{IsMarkedBefore, reset_none, reset_alike, reset_more, same_generation}
+use Rattle.tile_resets.proofs.RenewingResets.{IsMarkedBefore, all_before, last_or_before, reset_none, reset_alike}
+use Rattle.tile_resets.proofs.RenewingResets.{reset_more, same_generation}
 use Rattle.tile_resets.proofs.renewing.reset.reset_marked.Goals as goal
 
 pub loop-tile-init : goal.loop-tile-init
@@ -13,6 +14,8 @@ loop-tile-init c = (
   refl,
   reset_none c.args.tiling.now (IsMarkedBefore c.args.marks.now 0) c.args.marker.now c.args.image.now
       c.args.work.now (λ t marked. omega (arith, marked.1)),
+  none_within c.args.tiling.now (IsMarkedBefore c.args.marks.now 0) c.args.bounds.now
+      (λ t marked. omega (arith, marked.1)),
 )
 
 pub reset_tile-requires-clause-at_hand : goal.reset_tile-requires-clause-at_hand
@@ -41,11 +44,16 @@ reset_tile-requires-clause-unspent c =
 pub loop-tile-preserved : goal.loop-tile-preserved
 loop-tile-preserved c = (
   sizes_join c.args.image.now c.loop-tile.image c.reset_tile.new.image c.loop-tile.invariant.0
-      c.reset_tile.ensures.size,
-  c.reset_tile.ensures.count ∙ c.loop-tile.invariant.1,
+      c.reset_tile.ensures.reset.size,
+  c.reset_tile.ensures.reset.count ∙ c.loop-tile.invariant.1,
   reset_more c.args.tiling.now c.args.marks.now c.loop-tile.from c.in-Some.tile c.args.marker.now
       c.args.image.now c.loop-tile.image c.reset_tile.new.image c.args.work.now c.loop-tile.work
-      c.reset_tile.new.work c.loop-tile.invariant.1 c.in-Some.ensures c.loop-tile.invariant.2 c.reset_tile.ensures,
+      c.reset_tile.new.work c.loop-tile.invariant.1 c.in-Some.ensures c.loop-tile.invariant.2
+      c.reset_tile.ensures.reset,
+  resets_also c.args.tiling.now (IsMarkedBefore c.args.marks.now c.loop-tile.from) (λ t. t ≡ c.in-Some.tile)
+      (IsMarkedBefore c.args.marks.now (c.in-Some.tile + 1)) c.args.bounds.now c.loop-tile.bounds
+      c.reset_tile.new.bounds c.loop-tile.invariant.3 c.reset_tile.ensures.bounds
+      (λ t marked. last_or_before c.args.marks.now c.loop-tile.from c.in-Some.tile t c.in-Some.ensures marked),
 )
 
 pub returns-clause-reset : goal.returns-clause-reset
@@ -57,14 +65,13 @@ returns-clause-reset c = record {
       let from = c.loop-tile.from in
       reset_alike c.args.tiling.now (IsMarkedBefore marks from) (Has marks) c.args.marker.now c.args.image.now
       c.loop-tile.image c.args.work.now c.loop-tile.work
-      (λ t. (
-        λ marked. marked.0,
-        λ has. (
-          has,
-          elim (cases_lt t from) [
-            | inl below ↦ below
-            | inr above ↦ absurd (c.in_default.ensures t above has)
-          ],
-        ),
-      )) c.loop-tile.invariant.2;
+      (λ t. (λ marked. marked.0, λ has. (has, all_before marks from t c.in_default.ensures has)))
+      c.loop-tile.invariant.2;
 }
+
+pub returns-clause-bounds : goal.returns-clause-bounds
+returns-clause-bounds c =
+    let marks = c.args.marks.now in
+    let from = c.loop-tile.from in
+    resets_of_some c.args.tiling.now (IsMarkedBefore marks from) (Has marks) c.args.bounds.now c.loop-tile.bounds
+    c.loop-tile.invariant.3 (λ t has. (has, all_before marks from t c.in_default.ensures has))

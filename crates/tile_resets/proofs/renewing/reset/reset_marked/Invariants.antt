@@ -1,7 +1,7 @@
 -- What the loop of `reset_marked` keeps.
 use Rattle.std.proofs.Common.{◌≡◌, ◌-◌, length}
 use Rattle.core_rules.specs.Image.{IsOfSize}
-use Rattle.tile_resets.specs.Renewing.{AreReset}
+use Rattle.tile_resets.specs.Renewing.{AreReset, AreResetsWithin}
 use Rattle.tile_resets.proofs.RenewingResets.{IsMarkedBefore}
 use Rattle.tile_resets.proofs.renewing.reset.reset_marked.Given as goal
 
@@ -10,6 +10,7 @@ abbrev pub invariant-loop-tile : goal.invariant-loop-tile
 invariant-loop-tile l =
     IsOfSize l.fn.image l.image × (length l.work ≡ length l.fn.work)
     × AreReset l.tiling (IsMarkedBefore l.marks l.from) l.marker l.fn.image l.image l.fn.work l.work
+    × AreResetsWithin l.tiling (IsMarkedBefore l.marks l.from) l.fn.bounds l.bounds
 
 -- the tiles that are left to look at
 abbrev pub decreases-loop-tile : goal.decreases-loop-tile
