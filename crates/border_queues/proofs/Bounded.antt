@@ -77,7 +77,8 @@ pub columns_told : (b : Border) (y : ℕ) → IsBorder b → NeighboursByRows �
     → flat_map (λ x. hints_from (sender_of b) (record { x = x; y = y }))
     (range_with_len b.bounds.left (b.bounds.right - b.bounds.left)) ≡ hints_of_row b y
 columns_told b y border around above below =
-    told_between (λ x. hints_from (sender_of b) (record { x = x; y = y })) b.rect.x b.rect.w b.bounds.left b.bounds.right
+    told_between (λ x. hints_from (sender_of b) (record { x = x; y = y })) b.rect.x b.rect.w b.bounds.left
+    b.bounds.right
     border.lie.0 border.lie.1 (λ x left right outside.
     outside_tells_none b (record { x = x; y = y }) border around (left, right, above, below) (λ within.
     outside (within.0, within.1)))

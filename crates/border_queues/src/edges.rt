@@ -42,7 +42,8 @@ pub fn open_edges(
     requires parts { HaveTile tiling.now image.now mask.now tile }
     requires size { HasTileSize tiling.now tile inside.now }
     ensures { AddsOrFails out.old out.new (open_edges (sender_by tiling.now conn (value_at mask.now) (with_tile
-        tiling.now tile (value_at inside.now) (value_at image.now)) tile generation)) (room_for_edges tiling.now) result }
+        tiling.now tile (value_at inside.now) (value_at image.now)) tile generation)) (room_for_edges tiling.now)
+        result }
 {
     edges_begin_in_tile();
     // The side tells the prover that the tiling is one.

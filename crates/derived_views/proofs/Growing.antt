@@ -15,7 +15,8 @@ use Rattle.pgm_codec.specs.Graymap.{Graymap, IsGraymap}
 use Rattle.derived_views.specs.HMaxima.{IsHMaxima, less}
 use Rattle.derived_views.specs.Holes.{IsFill}
 use Rattle.derived_views.specs.Plateaus.{IsRegionalMaxima}
-use Rattle.derived_views.specs.Rasters.{mapped, raised, complement_of, AgreeAt, IsPartOfBorder, MarksEqual, IsWhereEqual}
+use Rattle.derived_views.specs.Rasters.{mapped, raised, complement_of, AgreeAt, IsPartOfBorder}
+use Rattle.derived_views.specs.Rasters.{MarksEqual, IsWhereEqual}
 use Rattle.derived_views.proofs.Filling.{fill_by_growing}
 use Rattle.derived_views.proofs.Climbing.{maxima_by_growing}
 use Rattle.derived_views.proofs.Rasters.{mapped_value, value_within}

@@ -1,5 +1,6 @@
--- Bounds outside which nothing area begins stay so where they follow each change of the image.
-use Rattle.std.proofs.Common.{◌≡◌, ℕ, ◌<◌, ◌≤◌, ◌⊎◌, false, true, Bool, List, [], length, replicate, set, arith, inl, inr}
+-- Bounds outside which nothing open begins stay so where they follow each change of the image.
+use Rattle.std.proofs.Common.{◌≡◌, ℕ, ◌<◌, ◌≤◌, ◌⊎◌, false, true, Bool, List, [], length, replicate, set, arith}
+use Rattle.std.proofs.Common.{inl, inr}
 use Rattle.std.proofs.Common.{refl, subst, sym, ◌∙◌}
 use Rattle.std.specs.Prelude.{◌≢◌, Contains}
 use Rattle.std.proofs.lemmas.Bool.{cases_eq, cases_lt, false≢true}
@@ -236,7 +237,8 @@ pub follow_resets : (tiles : Tiles) (conn : Conn) (marks : List Bool) (marker ol
 follow_resets tiles conn marks marker old new work after before table tiled count reset within =
     let stays : (p : Pixel) → IsInside tiles.width tiles.height p
     → Has marks (tile_of tiles p) ⊎ (value_at new p ≡ value_at old p) =
-    λ p inside. elim (reset.each (tile_of tiles p) (omega (arith, (each_pixel_in_one_tile tiles p tiled inside).0, count))) [
+    λ p inside. elim (reset.each (tile_of tiles p)
+    (omega (arith, (each_pixel_in_one_tile tiles p tiled inside).0, count))) [
       | inl marked ↦ inl marked.0
       | inr kept ↦ inr (kept.1.values p (record { inside = inside; tile = refl }))
     ] in
@@ -261,7 +263,8 @@ births_rise tiles tags state marker old new work after width height raised p ins
     elim (cases_lt (value_at new p) (value_at old p)) [
       | inr high ↦ high
       | inl fell ↦
-          let here : IsInside old.width old.height p = (omega (arith, inside.0, width), omega (arith, inside.1, height)) in
+          let here : IsInside old.width old.height p =
+          (omega (arith, inside.0, width), omega (arith, inside.1, height)) in
           let same : value_at new p ≡ value_at old p =
           raised.values.beyond p here (λ under. absurd (omega (arith, raised.values.under p here under, fell))) in
           absurd (omega (arith, same, fell))
@@ -300,7 +303,8 @@ follow_tile tiles conn old new table t tiled count within lay rises beyond =
         kept = λ u p within_u was. elim (cases_eq u t) [
           | inl same ↦
               let lies : LieIn (bounds_for table t) rect = lay t there in
-              let inside : IsInBounds (bounds_for table t) p = subst (λ n. IsInBounds (bounds_for table n) p) same was in
+              let inside : IsInBounds (bounds_for table t) p =
+              subst (λ n. IsInBounds (bounds_for table n) p) same was in
               subst (λ n. IsInBounds (bounds_for after n) p) (sym same) (subst (λ b. IsInBounds b p) (sym here) (
                 omega (arith, inside.0, lies.0),
                 omega (arith, inside.1, lies.1),

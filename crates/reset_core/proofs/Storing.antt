@@ -56,9 +56,10 @@ pub empty_still : (old new : List TileWork) (set : List Bool) → length new ≡
     → IsEmptySet new set
 empty_still old new set count empty = empty ∙ ap (λ n. replicate n false) (sym count)
 
--- an event that changes image, work, bounds and serial alone leaves a stored core where it leaves a sound one, and nothing
--- open outside the bounds
-pub stored_still : (old : Parts) (image : Raster) (work : List TileWork) (bounds : List Bounds) (serial : ℕ) → IsStored old
+-- an event that changes image, work, bounds and serial alone leaves a stored core where it leaves a sound one, and
+-- nothing open outside the bounds
+pub stored_still : (old : Parts) (image : Raster) (work : List TileWork) (bounds : List Bounds) (serial : ℕ)
+    → IsStored old
     → length work ≡ length old.work
     → AreBounded (record (core_of old) { image = image }) bounds
     → IsSound (core_of (record old { image = image; work = work; bounds = bounds; serial = serial }))

@@ -10,8 +10,8 @@ use Rattle.tile_work.specs.OpenBounds.{AreWidened, IsWithinItsBounds, LieInTiles
 use Rattle.core_rules.specs.Image.{IsOpen}
 use Rattle.core_rules.specs.Work.{Core, domain, tiling, mask_at, image_at}
 
--- there are bounds for each tile, which lie in it; and nothing open begins outside them: an open pair, to a pixel of the
--- same tile or of another, begins within the bounds of the tile of its first pixel
+-- there are bounds for each tile, which lie in it; and nothing open begins outside them: an open pair, to a pixel of
+-- the same tile or of another, begins within the bounds of the tile of its first pixel
 pub record AreBounded (core : Core) (bounds : List Bounds) : Type 0 where
   pub count : length bounds ≡ count_of (tiling core)
   pub lie : LieInTiles (tiling core) bounds

@@ -122,7 +122,8 @@ fn hand_over(
     requires rect { IsInRect rect hint.to_pixel ↔ (tile_of tiling.now hint.to_pixel ≡ tile) }
     requires inside { IsToInside tiling.now hint }
     requires bounds { length bounds.old ≡ count_of tiling.now }
-    ensures handed { IsHandOver tiling.now (hints_in tiling.now (hint ∷ []) tile) image.old work.old image.new work.new }
+    ensures handed { IsHandOver tiling.now (hints_in tiling.now (hint ∷ []) tile)
+        image.old work.old image.new work.new }
     ensures bounds { (conn : _) → FollowChange tiling.now conn image.old image.new bounds.old bounds.new }
 {
     if rect.contains(hint.to_pixel) && image.get(hint.to_pixel) < hint.value {
@@ -167,8 +168,8 @@ fn hand_over_all(
     requires tiles { (tile : _) → Contains tiles.now tile → tile < length work.old }
     requires inside { AreToInside tiling.now hints.now }
     requires bounds { length bounds.old ≡ count_of tiling.now }
-    ensures handed { IsHandOver tiling.now (flat_map (hints_in tiling.now hints.now) tiles.now) image.old work.old image.new
-        work.new }
+    ensures handed { IsHandOver tiling.now (flat_map (hints_in tiling.now hints.now) tiles.now)
+        image.old work.old image.new work.new }
     ensures bounds { (conn : _) → FollowChange tiling.now conn image.old image.new bounds.old bounds.new }
 {
     for tile in tiles {

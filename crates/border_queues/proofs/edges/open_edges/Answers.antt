@@ -38,12 +38,18 @@ returns c =
       generation = c.args.generation;
     } in
     let sender : sender_of border ≡ to_sender inside = c.border_of-border.ensures.sender ∙ ap to_sender unmoved in
-    let same_rect = c.border_of-border.ensures.border.rect ∙ ap (λ (s : Sender). rect_of s.tiles s.tile) c.border_of-border.ensures.sender in
+    let same_rect = c.border_of-border.ensures.border.rect ∙ ap (λ (s : Sender). rect_of s.tiles s.tile)
+    c.border_of-border.ensures.sender in
     record {
       hints = c.push_all.ensures.behind
           ∙ (λ i. c.reserve.ensures.hints i
           ++ flat_map (hints_from (sender i)) (pixels_of (same_rect i)));
       enough = λ _. search rules;
-      kept = omega (arith, c.push_all.ensures.kept, ap (λ (hs : List Hint). length hs) c.reserve.ensures.hints, c.reserve.ensures.grown);
+      kept = omega (
+        arith,
+        c.push_all.ensures.kept,
+        ap (λ (hs : List Hint). length hs) c.reserve.ensures.hints,
+        c.reserve.ensures.grown,
+      );
       err = search rules;
     }

@@ -33,15 +33,22 @@ returns c =
       generation = c.args.generation;
     } in
     let itself : open_edges s ≡ open_edges (record s { image = image }) =
-    c.same_image_same_edges.ensures s image tiled c.requires.parts.tile (own_image c.each_pixel_in_one_tile.ensures t tile
+    c.same_image_same_edges.ensures s image tiled c.requires.parts.tile
+    (own_image c.each_pixel_in_one_tile.ensures t tile
     image rect tiled c.requires.parts.tile c.rect-rect.ensures.value) in
-    let same_rect = c.border_of-border.ensures.border.rect ∙ ap (λ (s : Sender). rect_of s.tiles s.tile) c.border_of-border.ensures.sender in
+    let same_rect = c.border_of-border.ensures.border.rect ∙ ap (λ (s : Sender). rect_of s.tiles s.tile)
+    c.border_of-border.ensures.sender in
     record {
       hints = c.push_all.ensures.behind
           ∙ (λ i. c.reserve.ensures.hints i
           ++ flat_map (hints_from (c.border_of-border.ensures.sender i)) (pixels_of (same_rect i)))
           ∙ ap (λ hs. c.args.out.now.hints ++ hs) itself;
       enough = λ _. search rules;
-      kept = omega (arith, c.push_all.ensures.kept, ap (λ (hs : List Hint). length hs) c.reserve.ensures.hints, c.reserve.ensures.grown);
+      kept = omega (
+        arith,
+        c.push_all.ensures.kept,
+        ap (λ (hs : List Hint). length hs) c.reserve.ensures.hints,
+        c.reserve.ensures.grown,
+      );
       err = search rules;
     }

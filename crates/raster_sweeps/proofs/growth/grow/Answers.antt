@@ -14,5 +14,6 @@ returns c =
       below = c.in_ok-grow_in_place.ensures.grown.below;
       reconstruction =
           subst (λ (r : Raster). IsReconstruction (domain_of mask c.args.conn) (value_at mask) (value_at r)
-          (value_at c.grow_in_place.new.image)) c.in_ok-image.ensures c.in_ok-grow_in_place.ensures.grown.reconstruction;
+          (value_at c.grow_in_place.new.image)) c.in_ok-image.ensures
+          c.in_ok-grow_in_place.ensures.grown.reconstruction;
     }

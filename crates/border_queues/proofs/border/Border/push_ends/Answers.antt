@@ -37,7 +37,8 @@ returns-then-last-gt0 c =
     record {
       behind = c.push_within-then-last-gt0.ensures.behind ∙ ap (λ hs. hs ++ last) c.push_within.ensures.behind
           ∙ append_assoc c.args.out.now.hints first last
-          ∙ ap (λ hs. c.args.out.now.hints ++ hs) (sym (row_tells b y c.requires.ready.border c.neighbours_by_rows.ensures
+          ∙ ap (λ hs. c.args.out.now.hints ++ hs) (sym (row_tells b y c.requires.ready.border
+          c.neighbours_by_rows.ensures
           c.requires.between.0 c.requires.between.1 (omega arith)));
       room = omega (arith, c.push_within.ensures.room, c.push_within-then-last-gt0.ensures.room);
       kept = omega (arith, c.push_within.ensures.kept, c.push_within-then-last-gt0.ensures.kept);

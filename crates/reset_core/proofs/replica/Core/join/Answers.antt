@@ -39,7 +39,8 @@ invariant_of-self-2 c =
       image = c.raise_part.new.whole;
       work = c.end_job.new.self;
       bounds = table;
-    })) (sym bounds) (joined_is_stored parts core swept c.tiling-tiling.result c.ticket-tile.result.tile c.rect-rect.result
+    })) (sym bounds) (joined_is_stored parts core swept c.tiling-tiling.result c.ticket-tile.result.tile
+    c.rect-rect.result
     c.pixels.result.now c.raise_part.new.whole c.receive.new.self c.end_job.new.self c.in_ok-hints.hints.hints
     c.as_slice.result.now c.self.view_is tiles tile_is c.rect-rect.ensures.rect c.pixels.ensures.value
     c.raise_part.ensures c.in_ok-hints.ensures.touching c.as_slice.ensures c.in_ok-receive.ensures.ok c.end_job.ensures

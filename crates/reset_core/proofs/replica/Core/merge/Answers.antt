@@ -150,7 +150,8 @@ is_renewed c =
         join = c.in-Ok.ensures.join;
         change = c.in-Ok.ensures.change;
         marker_is =
-            subst (λ mask. IsMarkerOf mask c.join.new.self c.renew.new.markers.marker) c.renew.ensures.renewed.marker.mask
+            subst (λ mask. IsMarkerOf mask c.join.new.self c.renew.new.markers.marker)
+            c.renew.ensures.renewed.marker.mask
             c.renew.ensures.renewed.marker.marker;
       };
       image =

@@ -42,7 +42,8 @@ loop-i-preserved c =
       one_more_run c.args.self.now all i c.loop-i.self c.run_step.new.self (kept_of c.loop-i.tally)
           (kept_of c.run_step.new.tally) step c.loop-i.invariant.0 (omega arith) c.index-steps-i.is
           c.in_ok-run_step.ensures.step c.run_step.ensures.keeps.few,
-      c.run_step.ensures.keeps.room (edits_of (drop (i + 1) all)) (subst (HasRoom c.loop-i.tally) next c.loop-i.invariant.1),
+      c.run_step.ensures.keeps.room (edits_of (drop (i + 1) all)) (subst (HasRoom c.loop-i.tally) next
+          c.loop-i.invariant.1),
     )
 
 pub returns-in_err-run_step-clause-stopped : goal.returns-in_err-run_step-clause-stopped

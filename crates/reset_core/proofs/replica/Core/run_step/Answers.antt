@@ -17,7 +17,8 @@ pub returns-in-Take-clause-keeps : goal.returns-in-Take-clause-keeps
 returns-in-Take-clause-keeps c = record {
   few = omega (arith, c.take_and_sweep.ensures.keeps.abandons);
   room =
-      subst (λ (step : Step). KeepsRoom (edits_of (step ∷ [])) c.args.tally.now c.take_and_sweep.new.tally) (sym c.in-Take.is)
+      subst (λ (step : Step). KeepsRoom (edits_of (step ∷ [])) c.args.tally.now c.take_and_sweep.new.tally)
+      (sym c.in-Take.is)
       c.take_and_sweep.ensures.keeps.room;
 }
 
@@ -25,7 +26,8 @@ pub returns-in-Abandon-clause-keeps : goal.returns-in-Abandon-clause-keeps
 returns-in-Abandon-clause-keeps c = record {
   few = c.abandon_job_of.ensures.keeps.few;
   room =
-      subst (λ (step : Step). KeepsRoom (edits_of (step ∷ [])) c.args.tally.now c.abandon_job_of.new.tally) (sym c.in-Abandon.is)
+      subst (λ (step : Step). KeepsRoom (edits_of (step ∷ [])) c.args.tally.now c.abandon_job_of.new.tally)
+      (sym c.in-Abandon.is)
       c.abandon_job_of.ensures.keeps.room;
 }
 

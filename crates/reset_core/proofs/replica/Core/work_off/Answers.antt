@@ -1,5 +1,6 @@
 -- What the tactics leave open of `work_off`.
-use Rattle.std.proofs.Common.{◌≡◌, ◌<◌, ◌≤◌, false, arith, slice_index_or, ℕ, List, length, set, get_or, ◌∙◌, sym, ap, subst}
+use Rattle.std.proofs.Common.{◌≡◌, ◌<◌, ◌≤◌, false, arith, slice_index_or, ℕ, List, length, set, get_or, ◌∙◌, sym}
+use Rattle.std.proofs.Common.{ap, subst}
 use Rattle.std.proofs.lemmas.List.{length-set}
 use Rattle.std.proofs.lemmas.Grind.{common_steps}
 use Rattle.grid_core.specs.declared.pixel.Pixel.{Pixel}
@@ -71,7 +72,8 @@ grow_from_bounds-area-requires-clause-grow c =
 pub grow_from_bounds-area-requires-clause-bounds : goal.grow_from_bounds-area-requires-clause-bounds
 grow_from_bounds-area-requires-clause-bounds c =
     let at = (goal.at.grow_from_bounds-area-requires-clause-bounds c).After-rect in
-    subst (λ bounds. OpenPairsBeginIn c.self.inside.conn c.rect.result c.mask-mask.result.now c.self.inside.image bounds)
+    subst (λ bounds. OpenPairsBeginIn c.self.inside.conn c.rect.result c.mask-mask.result.now c.self.inside.image
+    bounds)
     (sym c.get.ensures)
     (subst (λ rect. OpenPairsBeginIn c.self.inside.conn rect c.mask-mask.result.now c.self.inside.image
     (bounds_for c.self.inside.bounds c.args.tile)) (sym (rect_of_tile at))
@@ -125,7 +127,8 @@ grown c =
       };
       grown =
           subst (λ rect. to_rect rect c.self.inside.markers.mask) (rect_is c)
-          (subst (λ mask. to_rect c.rect.result mask) c.mask-mask.ensures.value c.grow_from_bounds-area.ensures.regrown.reconstruction);
+          (subst (λ mask. to_rect c.rect.result mask) c.mask-mask.ensures.value
+          c.grow_from_bounds-area.ensures.regrown.reconstruction);
       beyond =
           subst (λ rect. (p : Pixel) → IsInside old.width old.height p → (IsInRect rect p → ⊥)
           → value_at new p ≡ value_at old p) (rect_is c) c.grow_from_bounds-area.ensures.regrown.patch.beyond;

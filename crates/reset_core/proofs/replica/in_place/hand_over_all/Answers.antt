@@ -37,7 +37,8 @@ hand_over_in-requires-clause-tile c =
       parts =
           still_of_tiles c.args.tiling.now
           (flat_map (hints_in c.args.tiling.now c.args.hints.now) (take i c.args.tiles.now))
-          c.args.image.now c.args.work.now c.loop-tile.image c.loop-tile.work c.loop-tile.invariant.handed c.requires.parts;
+          c.args.image.now c.args.work.now c.loop-tile.image c.loop-tile.work c.loop-tile.invariant.handed
+          c.requires.parts;
       within = omega (arith, within, same);
     }
 
