@@ -1,25 +1,13 @@
 -- The holes of an image are filled by growing its complement from the border.
 use Rattle.std.proofs.Common.{◌≡◌, ℕ, zero, suc, ◌-◌, ◌<◌, ◌≤◌, ◌⊎◌, [], ◌∷◌, refl, sym, subst, arith, inl, inr}
 use Rattle.std.proofs.lemmas.Bool.{cases_lt}
-use Rattle.grid_core.specs.declared.conn.Conn.{Conn}
-use Rattle.grid_core.specs.declared.conn.Conn.TheVariants.{Four, Eight}
 use Rattle.grid_core.specs.declared.pixel.Pixel.{Pixel}
-use Rattle.grid_core.specs.Neighbours.{AreNeighbours}
 use Rattle.grid_core.specs.Path.{Domain, Inside, end_of, Reaches}
 use Rattle.grid_core.specs.Reconstruction.{IsReconstruction}
 use Rattle.grid_core.proofs.Reach.{IsPath-ends_inside}
 use Rattle.derived_views.specs.Holes.{Escapes, IsFill}
 use Rattle.grid_core.specs.Raster.{IsOnBorder}
-use Rattle.derived_views.proofs.Paths.{along_path, at_end}
-
--- the pixel of a column and a row
-abbrev pub pixel_at : ℕ → ℕ → Pixel
-pixel_at x y = record { x = x; y = y }
-
--- the pixel to the left is a neighbour
-left_is_neighbour : (conn : Conn) (x y : ℕ) → AreNeighbours conn (pixel_at (suc x) y) (pixel_at x y)
-left_is_neighbour Four x y = omega arith
-left_is_neighbour Eight x y = (omega arith, omega arith, omega arith)
+use Rattle.derived_views.proofs.Paths.{along_path, at_end, pixel_at, left_is_neighbour}
 
 -- a pixel escapes to the left at a level that no value exceeds
 escapes_left : (d : Domain) (image : Pixel → ℕ) (top : ℕ) → ((q : Pixel) → Inside d q → image q ≤ top) → (x y : ℕ)

@@ -1,5 +1,5 @@
 -- The views of images of values, by growing.
-use Rattle.std.proofs.Common.{◌≡◌, ℕ, ◌+◌, ◌-◌, ◌*◌, ◌<◌, ◌≤◌, List, get_or, length, map}
+use Rattle.std.proofs.Common.{◌≡◌, ℕ, ◌+◌, ◌-◌, ◌*◌, ◌<◌, ◌≤◌, Bool, true, false, List, get_or, length, map}
 use Rattle.std.proofs.Common.{sym, ap, subst, ◌∙◌, arith, inl, inr}
 use Rattle.std.specs.Prelude.{slice_index, EachIndex}
 use Rattle.std.proofs.Math.Nat.{zero-sub}
@@ -15,8 +15,8 @@ use Rattle.pgm_codec.specs.Graymap.{Graymap, IsGraymap}
 use Rattle.derived_views.specs.HMaxima.{IsHMaxima, less}
 use Rattle.derived_views.specs.Holes.{IsFill}
 use Rattle.derived_views.specs.Plateaus.{IsRegionalMaxima}
-use Rattle.derived_views.specs.Rasters.{mapped, raised, complement_of, AgreeAt, IsPartOfBorder}
-use Rattle.derived_views.specs.Rasters.{MarksEqual, IsWhereEqual}
+use Rattle.derived_views.specs.Rasters.{mapped, complement_of, AgreeAt, IsPartOfBorder}
+use Rattle.derived_views.specs.Rasters.{MarksLower, IsWhereLower}
 use Rattle.derived_views.proofs.Filling.{fill_by_growing}
 use Rattle.derived_views.proofs.Climbing.{maxima_by_growing}
 use Rattle.derived_views.proofs.Rasters.{mapped_value, value_within}
@@ -66,27 +66,34 @@ fill_of conn top image border grown turned filled turned_filled bound part whole
     let lower = at_width grown.cells turned.width grown.width q (width ∙ sym grown_width) in
     omega (arith, here, lower))
 
--- the regional maxima of an image, by the image raised by 1 and what grows in it
-pub maxima_of : (conn : Conn) (image grown maxima : Raster) → IsFilled image
-    → EachIndex image.cells (λ k. slice_index image.cells k ≤ max_level)
-    → grown.width ≡ image.width → grown.height ≡ image.height → IsWhereEqual image grown maxima
-    → IsReconstruction (domain_of image conn) (value_at (mapped raised image)) (value_at image) (value_at grown)
+-- the regional maxima of an image, by what grows in it from the image less 1
+pub maxima_of : (conn : Conn) (all : Bool) (image grown maxima : Raster) → IsFilled image
+    → (all ≡ true → EachIndex image.cells (λ k. slice_index image.cells k ≡ 0))
+    → (all ≡ false → (k : ℕ) × (k < length image.cells) × (0 < slice_index image.cells k))
+    → grown.width ≡ image.width → grown.height ≡ image.height → IsWhereLower all image grown maxima
+    → IsHMaxima (domain_of image conn) 1 (value_at image) (value_at grown)
     → IsRegionalMaxima (domain_of image conn) (value_at image) (value_at maxima)
-maxima_of conn image grown maxima filled fits grown_width grown_height equal recon =
-    maxima_by_growing (domain_of image conn) (value_at image) (value_at (mapped raised image)) max_level
-    (λ q inside. value_within image max_level fits filled q inside)
-    (λ q inside. mapped_value raised image q filled inside) (value_at grown) (value_at maxima) recon
-    (λ q inside.
-    let width = equal.width ∙ grown_width in
-    let inside_maxima : IsInside maxima.width maxima.height q =
-    (omega (arith, inside.0, width), omega (arith, inside.1, equal.height, grown_height))
+maxima_of conn all image grown maxima filled black some grown_width grown_height lower recon =
+    maxima_by_growing (domain_of image conn) (value_at image) all
+    (λ whole q inside. black whole (index_of image.width q) (index_of-within image q filled inside))
+    (λ other.
+    let its = some other in
+    let place : value_at image (pixel_of image.width its.0) ≡ slice_index image.cells its.0 =
+    ap (λ i. slice_index image.cells i) (index_of-pixel_of image.width its.0)
     in
-    let within : index_of maxima.width q < length maxima.cells = index_of-within maxima q equal.filled inside_maxima in
+    (pixel_of image.width its.0, pixel_of-inside image its.0 filled its.1, omega (arith, place, its.2)))
+    (value_at grown) (value_at maxima) recon
+    (λ q inside.
+    let width = lower.width ∙ grown_width in
+    let inside_maxima : IsInside maxima.width maxima.height q =
+    (omega (arith, inside.0, width), omega (arith, inside.1, lower.height, grown_height))
+    in
+    let within : index_of maxima.width q < length maxima.cells = index_of-within maxima q lower.filled inside_maxima in
     let its = at_width image.cells maxima.width image.width q width in
-    let grew = at_width grown.cells maxima.width grown.width q equal.width in
-    subst (λ v. MarksEqual v (value_at grown q) (value_at maxima q)) its
-    (subst (λ v. MarksEqual (slice_index image.cells (index_of maxima.width q)) v (value_at maxima q)) grew
-    (equal.values (index_of maxima.width q) within)))
+    let grew = at_width grown.cells maxima.width grown.width q lower.width in
+    subst (λ v. MarksLower all v (value_at grown q) (value_at maxima q)) its
+    (subst (λ v. MarksLower all (slice_index image.cells (index_of maxima.width q)) v (value_at maxima q)) grew
+    (lower.values (index_of maxima.width q) within)))
 
 -- regional maxima are nowhere above 1
 pub maxima_within : (conn : Conn) (image maxima : Raster) → IsFilled maxima → maxima.width ≡ image.width
@@ -150,23 +157,6 @@ graymap_from image made maxval is some within width height filled bound = record
   samples_within = bound;
 }
 
-pub maxima_from : (conn : Conn) (image other mask start grown maxima : Raster) → mask ≡ mapped raised image
-    → start ≡ image → other ≡ image → IsFilled image
-    → EachIndex image.cells (λ k. slice_index image.cells k ≤ max_level)
-    → grown.width ≡ start.width → grown.height ≡ start.height → IsWhereEqual other grown maxima
-    → IsReconstruction (domain_of mask conn) (value_at mask) (value_at start) (value_at grown)
-    → IsRegionalMaxima (domain_of image conn) (value_at image) (value_at maxima)
-maxima_from conn image other mask start grown maxima is_mask is_start is_other filled fits width height equal recon =
-    let its_equal = subst (λ (r : Raster). IsWhereEqual r grown maxima) is_other equal in
-    let its_recon =
-    subst (λ (s : Raster). IsReconstruction (domain_of (mapped raised image) conn) (value_at (mapped raised image))
-    (value_at s) (value_at grown)) is_start
-    (subst (λ (m : Raster). IsReconstruction (domain_of m conn) (value_at m) (value_at start) (value_at grown)) is_mask
-    recon)
-    in
-    maxima_of conn image grown maxima filled fits (width ∙ ap (λ (s : Raster). s.width) is_start)
-    (height ∙ ap (λ (s : Raster). s.height) is_start) its_equal its_recon
-
 pub h_maxima_from : (conn : Conn) (h : ℕ) (image from mask lowered grown : Raster) → from ≡ image → mask ≡ image
     → lowered ≡ mapped (λ v. v - h) from
     → IsReconstruction (domain_of mask conn) (value_at mask) (value_at lowered) (value_at grown)
@@ -175,3 +165,20 @@ h_maxima_from conn h image from mask lowered grown is_from is_mask low recon =
     h_maxima_of conn h image lowered grown (low ∙ ap (λ (r : Raster). mapped (λ v. v - h) r) is_from)
     (subst (λ (m : Raster). IsReconstruction (domain_of m conn) (value_at m) (value_at lowered) (value_at grown))
     is_mask recon)
+
+-- the same for the regional maxima, where the image is read again for each step
+pub maxima_from : (conn : Conn) (all : Bool) (image from mask other : Raster) (values : List ℕ)
+    (lowered grown maxima : Raster) → from ≡ image → mask ≡ image → other ≡ image → values ≡ image.cells
+    → lowered ≡ mapped (λ v. v - 1) from → IsFilled image
+    → (all ≡ true → EachIndex values (λ k. slice_index values k ≡ 0))
+    → (all ≡ false → (k : ℕ) × (k < length values) × (0 < slice_index values k))
+    → grown.width ≡ image.width → grown.height ≡ image.height → IsWhereLower all other grown maxima
+    → IsReconstruction (domain_of mask conn) (value_at mask) (value_at lowered) (value_at grown)
+    → IsRegionalMaxima (domain_of image conn) (value_at image) (value_at maxima)
+maxima_from conn all image from mask other values lowered grown maxima is_from is_mask is_other is_values low filled
+    black some width height lower recon =
+    maxima_of conn all image grown maxima filled
+    (subst (λ (cells : List ℕ). all ≡ true → EachIndex cells (λ k. slice_index cells k ≡ 0)) is_values black)
+    (subst (λ (cells : List ℕ). all ≡ false → (k : ℕ) × (k < length cells) × (0 < slice_index cells k)) is_values some)
+    width height (subst (λ (r : Raster). IsWhereLower all r grown maxima) is_other lower)
+    (h_maxima_from conn 1 image from mask lowered grown is_from is_mask low recon)

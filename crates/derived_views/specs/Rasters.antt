@@ -1,15 +1,11 @@
 -- Images made on the way to a view. Only private functions have these words in their contracts.
-use Rattle.std.specs.Prelude.{◌≡◌, ℕ, ◌+◌, ◌-◌, ◌⊎◌, min, List, length, map, slice_index, EachIndex}
+use Rattle.std.specs.Prelude.{◌≡◌, ℕ, ◌-◌, ◌<◌, ◌⊎◌, Bool, true, false, List, length, map, slice_index, EachIndex}
 use Rattle.grid_core.specs.declared.pixel.Pixel.{Pixel}
-use Rattle.grid_core.specs.Raster.{Raster, IsInside, IsFilled, value_at, IsOnBorder, max_level}
+use Rattle.grid_core.specs.Raster.{Raster, IsInside, IsFilled, value_at, IsOnBorder}
 
 -- the image with a function of each of its values
 abbrev pub mapped : (ℕ → ℕ) → Raster → Raster
 mapped f r = record { width = r.width; height = r.height; cells = map f r.cells }
-
--- the value and 1, where it is not the greatest level
-abbrev pub raised : ℕ → ℕ
-raised v = min (v + 1) max_level
 
 -- how far each value lies below the top, and 0 where it does not lie below
 abbrev pub complement_of : ℕ → Raster → Raster
@@ -56,19 +52,20 @@ pub record IsDifference (upper : ℕ → ℕ) (old new : Raster) : Type 0 where
   pub filled : IsFilled new
   pub values : EachIndex new.cells (λ k. slice_index new.cells k ≡ upper k - slice_index old.cells k)
 
--- 1 where two values are equal, and 0 where they are not
-abbrev pub MarksEqual : ℕ → ℕ → ℕ → Type 0
-MarksEqual a b mark = ((b ≡ a) × (mark ≡ 1)) ⊎ ((b ≡ a → ⊥) × (mark ≡ 0))
+-- 1 where the second value is less than the first, or where all are asked for, and 0 elsewhere
+abbrev pub MarksLower : Bool → ℕ → ℕ → ℕ → Type 0
+MarksLower all a b mark =
+    (((b < a) ⊎ (all ≡ true)) × (mark ≡ 1)) ⊎ ((b < a → ⊥) × (all ≡ false) × (mark ≡ 0))
 
--- as many values, 1 where the old one is equal to the other, and 0 elsewhere
-pub record AreWhereEqual (others old new : List ℕ) : Type 0 where
+-- as many values, each such a mark of the other and the old one
+pub record AreWhereLower (all : Bool) (others old new : List ℕ) : Type 0 where
   pub count : length new ≡ length old
-  pub values : EachIndex new (λ k. MarksEqual (slice_index others k) (slice_index old k) (slice_index new k))
+  pub values : EachIndex new (λ k. MarksLower all (slice_index others k) (slice_index old k) (slice_index new k))
 
 -- an image of the same size, with such values
-pub record IsWhereEqual (image old new : Raster) : Type 0 where
+pub record IsWhereLower (all : Bool) (image old new : Raster) : Type 0 where
   pub width : new.width ≡ old.width
   pub height : new.height ≡ old.height
   pub filled : IsFilled new
-  pub values : EachIndex new.cells (λ k. MarksEqual (slice_index image.cells k) (slice_index old.cells k)
+  pub values : EachIndex new.cells (λ k. MarksLower all (slice_index image.cells k) (slice_index old.cells k)
       (slice_index new.cells k))

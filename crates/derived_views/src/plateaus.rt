@@ -1,14 +1,16 @@
 //! Regional maxima (Vincent, "Morphological Grayscale Reconstruction in Image Analysis", 1993).
 //!
-//! The image grows inside the image raised by 1. A plateau rises there exactly where some pixel beside it is higher, so
-//! the regional maxima are the pixels that do not rise. The greatest level is not raised: nothing beside it is higher.
+//! The image less 1 grows inside the image. There a pixel above 0 rises to its value again exactly where some pixel
+//! beside its plateau is higher, so the regional maxima are the pixels that stay lower. A pixel of value 0 can not be
+//! lowered: it lies on a regional maximum only where the whole image has that value.
 
-ghost use Rattle.std.specs.Prelude.{◌≡◌, length, IfOk};
+ghost use Rattle.std.specs.Prelude.{◌≡◌, ◌<◌, ℕ, length, slice_index, false, IfOk, IsTrue, EachIndex};
 ghost use Rattle.grid_core.specs.Path.{domain_of};
 ghost use Rattle.derived_views.specs.Plateaus.{IsRegionalMaxima};
-ghost use Rattle.derived_views.specs.Rasters.{mapped, raised, AreWhereEqual, IsWhereEqual};
+ghost use Rattle.derived_views.specs.Rasters.{AreWhereLower, IsWhereLower};
 ghost use Rattle.derived_views.specs.Views.{IsView};
 
+use crate::maxima::lowered;
 use grid_core::{Conn, Grid, Memory};
 use pgm_codec::Image;
 use raster_sweeps::grow_in_place;
@@ -22,44 +24,46 @@ use std::alloc::Global;
 pub fn regional_maxima(alloc: Global, image: &Image, conn: Conn) -> Result<Image, Memory>
     ensures { IfOk result (IsView image.now 1 (IsRegionalMaxima (domain_of image.now.raster conn))) }
 {
-    let mask = raised(alloc, image)?;
-    let mut grown = image.grid().copy(alloc)?;
-    grow_in_place(alloc, &mask, &mut grown, conn)?;
-    let maxima = where_equal(image.grid(), grown);
+    let mut grown = lowered(alloc, image.grid(), 1)?;
+    grow_in_place(alloc, image.grid(), &mut grown, conn)?;
+    let all = is_black(image.samples());
+    let maxima = where_lower(image.grid(), grown, all);
     Ok(Image::over(maxima, 1))
 }
 
-// Each sample and 1, where it is not the greatest level.
-fn raised(alloc: Global, image: &Image) -> Result<Grid, Memory>
-    ensures { IfOk result (λ g. g ≡ mapped raised image.now.raster) }
+// Whether no value is above 0.
+fn is_black(values: &[u16]) -> bool
+    ensures black { IsTrue result → EachIndex values.now (λ k. slice_index values.now k ≡ 0) }
+    ensures some { result ≡ false → (k : ℕ) × (k < length values.now) × (0 < slice_index values.now k) }
 {
-    let cells = image
-        .samples()
-        .iter()
-        .map(|v| v.saturating_add(1))
-        .collect(alloc)?;
-    Ok(Grid::from_cells(image.width(), image.height(), cells))
+    for i in 0..values.len() {
+        if values[i] > 0 {
+            return false;
+        }
+    }
+    true
 }
 
-// 1 where the second grid has the first one's value, and 0 elsewhere, in the memory of the second.
-fn where_equal(image: &Grid, grown: Grid) -> Grid
+// 1 where the second grid is lower than the first one, or where all are asked for, and 0 elsewhere. It is made in the
+// memory of the second.
+fn where_lower(image: &Grid, grown: Grid, all: bool) -> Grid
     requires width { grown.width ≡ image.now.width }
     requires height { grown.height ≡ image.now.height }
-    ensures { IsWhereEqual image.now grown result }
+    ensures { IsWhereLower all image.now grown result }
 {
     let w = grown.width();
     let h = grown.height();
     let mut cells = grown.into_cells();
-    compare_with(image.cells(), &mut cells);
+    compare_with(image.cells(), &mut cells, all);
     Grid::from_cells(w, h, cells)
 }
 
-// Makes each value 1 where it is the other's, and 0 elsewhere.
-fn compare_with(others: &[u16], values: &mut [u16])
+// Makes each value 1 where it is less than the other, or where all are asked for, and 0 elsewhere.
+fn compare_with(others: &[u16], values: &mut [u16], all: bool)
     requires { length others.now ≡ length values.old }
-    ensures { AreWhereEqual others.now values.old values.new }
+    ensures { AreWhereLower all others.now values.old values.new }
 {
     for i in 0..values.len() {
-        values[i] = if values[i] == others[i] { 1 } else { 0 };
+        values[i] = if all || values[i] < others[i] { 1 } else { 0 };
     }
 }
