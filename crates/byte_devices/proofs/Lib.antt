@@ -1,3 +1,2 @@
-mod Stopped
 pub mod Pieces
 pub mod Shared

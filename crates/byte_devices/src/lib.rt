@@ -4,7 +4,7 @@
 //!
 //! Bytes come from a [`Source`] and go to a [`Sink`]: those of std ([`StdSource`], [`StdSink`]), or in memory
 //! ([`MemorySource`], [`MemorySink`]), where a chosen call can be made to fail. [`read_all`] gives all that a
-//! source has left, and [`put_all`] puts all of a text. [`respond`] does both, with what a [`Responder`] answers.
+//! source has left, and [`put_all`] puts all of a text.
 //!
 //! ```
 //! let mut source = MemorySource::new(b"ten bytes!".to_vec(alloc)?).in_pieces(3);
@@ -19,7 +19,6 @@ mod count;
 mod fault;
 mod memory_sink;
 mod memory_source;
-mod response;
 mod sink;
 mod source;
 mod std_sink;
@@ -30,7 +29,6 @@ pub use count::count_one;
 pub use fault::{Fault, TransferError};
 pub use memory_sink::MemorySink;
 pub use memory_source::MemorySource;
-pub use response::{Responder, ResponseError, respond};
 pub use sink::Sink;
 pub use source::Source;
 pub use std_sink::StdSink;

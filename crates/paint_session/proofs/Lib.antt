@@ -12,3 +12,4 @@ pub mod Files
 pub mod Shared
 pub mod StoredViews
 pub mod Sides
+pub mod Runs

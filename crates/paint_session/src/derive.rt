@@ -7,13 +7,14 @@ ghost use Rattle.paint_session.specs.Derive.{DerivationStops, FileIsRefused, IsD
 ghost use Rattle.paint_session.specs.declared.derive.Derivation.{Derivation};
 ghost use Rattle.paint_session.specs.declared.run_error.RunError.{RunError};
 
+use crate::answering::{Responder, respond};
 use crate::run_error::RunError;
-use byte_devices::{Responder, Sink, Source, respond};
+use byte_devices::{Sink, Source};
 use derived_views::laws::{at_most_one_fill, at_most_one_regional_maxima};
 use derived_views::{fill, h_maxima, regional_maxima};
 use grid_core::laws::{at_most_one_reconstruction, equal_pixels_equal_images};
 use grid_core::{Conn, Memory};
-use pgm_codec::{Image, one_fault, one_image, read, write_raw};
+use pgm_codec::{Image, one_fault, one_image, read};
 use std::alloc::Global;
 
 /// What can be derived from an image.
@@ -59,18 +60,15 @@ struct Deriver {
 impl Responder for Deriver {
     type Value = ();
 
-    type Error = RunError;
-
     ghost answers = { λ d input _ text. IsDerivation d.kind d.h d.conn input text };
 
     ghost stops = { λ _ input e. DerivationStops input e };
 
-    fn answer(&self, alloc: Global, input: &[u8]) -> Result<((), Vec<u8>), RunError> {
+    fn answer(&self, alloc: Global, input: &[u8]) -> Result<((), Image), RunError> {
         one_fault();
         let image = read(alloc, input)?;
         let derived = derived_image(alloc, &image, self.kind, self.h, self.conn)?;
-        let text = write_raw(alloc, &derived)?;
-        Ok(((), text))
+        Ok(((), derived))
     }
 }
 

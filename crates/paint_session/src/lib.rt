@@ -6,9 +6,10 @@
 //! is derived from one file. A [`store`] keeps state files. [`run_error`] tells why a run ended, with its line and
 //! status.
 //!
-//! There is one view: `merging` judges the old deltas and then those of the lines, one by one, and joins them, and
-//! `showing` paints the marker of their join once and grows it.
+//! What each run reads and writes, `answering` says once. There is one view: `merging` judges the old deltas and then
+//! those of the lines, one by one, and joins them, and `showing` paints the marker of their join once and grows it.
 
+mod answering;
 pub mod derive;
 pub mod input;
 mod kept;

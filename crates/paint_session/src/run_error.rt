@@ -6,7 +6,6 @@ ghost use Rattle.paint_session.specs.RunError.{code_text, core_text, edit_text, 
 ghost use Rattle.paint_session.specs.RunError.{HasStatus};
 ghost use Rattle.paint_session.specs.declared.run_error.RunError.TheVariants as errors;
 
-use byte_devices::{ResponseError, TransferError};
 use core_rules::CoreError;
 use edit_lang::EditError;
 use grid_core::Memory;
@@ -62,36 +61,6 @@ impl From<PgmError> for RunError {
     fn from(e: PgmError) -> RunError {
         RunError::Pgm(e)
     }
-}
-
-impl From<TransferError> for RunError {
-    ghost use Rattle.byte_devices.specs.declared.fault.TransferError.TheVariants as transfers;
-    ghost use Rattle.pgm_codec.specs.declared.error.PgmError.TheVariants as pgm;
-
-    ghost from_gives = { λ t e. (t ≡ transfers.Memory → e ≡ errors.Pgm pgm.Memory)
-        × (t ≡ transfers.Device → e ≡ errors.Pgm pgm.Device) };
-
-    fn from(e: TransferError) -> RunError {
-        match e {
-            TransferError::Memory => RunError::Pgm(PgmError::Memory),
-            TransferError::Device => RunError::Pgm(PgmError::Device),
-        }
-    }
-}
-
-impl ResponseError for RunError {
-    ghost use Rattle.std.proofs.Common.{refl, inr};
-    ghost use Rattle.paint_session.specs.RunError.{IsReadingFault, IsTransferFault};
-
-    ghost is_early = { IsReadingFault };
-
-    ghost is_failure = { IsTransferFault };
-
-    ghost memory_is_early = { λ e gives. inr (gives.0 refl) };
-
-    ghost device_is_failure = { λ e gives. gives.1 refl };
-
-    ghost memory_is_no_failure = { λ e gives failure. let memory = gives.0 refl in Prim.cc };
 }
 
 impl From<CoreError> for RunError {

@@ -5,12 +5,13 @@ ghost use Rattle.paint_session.specs.Kept.{IsKeptView, KeptStops};
 ghost use Rattle.paint_session.specs.Answering.{Answers, AnswersForSide};
 ghost use Rattle.paint_session.specs.View.{IsView, InputStops};
 
+use crate::answering::{Responder, respond};
 use crate::run_error::RunError;
 use crate::showing::{show_kept, show_over};
-use byte_devices::{Responder, Sink, Source, respond};
+use byte_devices::{Sink, Source};
 use core_rules::CoreError;
 use grid_core::{Conn, is_tile_side};
-use pgm_codec::{one_fault, write_raw};
+use pgm_codec::{Image, one_fault};
 use std::alloc::Global;
 use stroke_lattice::State;
 
@@ -111,21 +112,18 @@ impl Responder for FirstView {
 
     type Value = ();
 
-    type Error = RunError;
-
     ghost answers = { λ v input _ text. (state : State) × IsView v.conn nothing input state text };
 
     ghost stops = { λ _ input e. InputStops nothing input e };
 
-    fn answer(&self, alloc: Global, input: &[u8]) -> Result<((), Vec<u8>), RunError> {
+    fn answer(&self, alloc: Global, input: &[u8]) -> Result<((), Image), RunError> {
         one_fault();
         let old = match State::empty(alloc) {
             Ok(old) => old,
             Err(_) => return Err(RunError::Memory),
         };
         let (image, _) = show_over(alloc, input, &old, self.conn)?;
-        let text = write_raw(alloc, &image)?;
-        Ok(((), text))
+        Ok(((), image))
     }
 }
 
@@ -141,17 +139,14 @@ impl<'a> Responder for ViewBehind<'a> {
 
     type Value = State;
 
-    type Error = RunError;
-
     ghost answers = { λ v input state text. IsView v.conn v.old.now input state text };
 
     ghost stops = { λ v input e. InputStops v.old.now input e };
 
-    fn answer(&self, alloc: Global, input: &[u8]) -> Result<(State, Vec<u8>), RunError> {
+    fn answer(&self, alloc: Global, input: &[u8]) -> Result<(State, Image), RunError> {
         one_fault();
         let (image, state) = show_over(alloc, input, self.old, self.conn)?;
-        let text = write_raw(alloc, &image)?;
-        Ok((state, text))
+        Ok((state, image))
     }
 }
 
@@ -167,16 +162,13 @@ impl<'a> Responder for KeptView<'a> {
 
     type Value = Vec<u8>;
 
-    type Error = RunError;
-
     ghost answers = { λ v input new text. IsKeptView v.conn v.old.now input text new.items };
 
     ghost stops = { λ v input e. KeptStops v.conn v.old.now input e };
 
-    fn answer(&self, alloc: Global, input: &[u8]) -> Result<(Vec<u8>, Vec<u8>), RunError> {
+    fn answer(&self, alloc: Global, input: &[u8]) -> Result<(Vec<u8>, Image), RunError> {
         one_fault();
         let (image, new) = show_kept(alloc, input, self.old, self.conn)?;
-        let text = write_raw(alloc, &image)?;
-        Ok((new, text))
+        Ok((new, image))
     }
 }

@@ -109,13 +109,13 @@ const VIEWS: &[Case] = &[
     Case {
         name: "the fifth put fails",
         put: 5,
-        written: b"P5\n5 1\n255\nC",
+        written: b"P5\n5 1\n255\n",
         ..FAILED
     },
     Case {
         name: "the sixth put fails",
         put: 6,
-        written: b"P5\n5 1\n255\nCEBB",
+        written: b"P5\n5 1\n255\nCEB",
         ..FAILED
     },
     Case {
@@ -125,8 +125,8 @@ const VIEWS: &[Case] = &[
     },
 ];
 
-// A view of an input of 84 bytes, which take 12 pulls, and one more finds the end. The 16 bytes of the view take 6
-// puts.
+// A view of an input of 84 bytes, which take 12 pulls, and one more finds the end. Of the view the 11 bytes of the
+// header take 4 puts, and the 5 of the raster 2.
 const STORED: Case = Case {
     name: "a maxval of a whole byte",
     edits: "place #1 73 0:1-1\n",

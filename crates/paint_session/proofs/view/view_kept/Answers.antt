@@ -8,4 +8,4 @@ returns-then-not-is_tile_side g c = refused_for_side _ _ _ _ _ c.args.source.now
 
 pub returns : goal.returns
 returns g c = answered_for_side _ _ _ _ _ _ _ _ _ _ (c.is_tile_side.ensures.0 c.if-not-is_tile_side.false)
-    record { responds = c.respond.ensures.responds; devices = c.respond.ensures.devices }
+    c.respond.ensures

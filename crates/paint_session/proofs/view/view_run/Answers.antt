@@ -1,4 +1,4 @@
 use Rattle.paint_session.proofs.view.view_run.Goals as goal
 
 pub returns : goal.returns
-returns g c = record { responds = c.respond.ensures.responds; devices = c.respond.ensures.devices }
+returns g c = c.respond.ensures

@@ -1,4 +1,4 @@
-use Rattle.std.proofs.Common.{◌⊎◌, subst}
+use Rattle.std.proofs.Common.{◌⊎◌, refl, subst}
 use Rattle.std.proofs.lemmas.Result.{err_from_is_err_and}
 use Rattle.stroke_lattice.specs.State.{State}
 use Rattle.paint_session.specs.RunError.{IsReadingFault}
@@ -28,6 +28,6 @@ returns-clause-answered c = (
     subst (λ (s : State). IsImageOfView c.args.self.now.conn s c.args.input.now c.in_ok-image.field-0-1
         c.in_ok-image.image) c.in-Ok.ensures.value
         c.in_ok-image.ensures.shown,
-    c.in_ok-text.ensures.text,
+    refl,
   ),
 )
