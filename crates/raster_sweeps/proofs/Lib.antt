@@ -20,3 +20,4 @@ pub mod Scanning
 pub mod OpenPairs
 pub mod OpenBounds
 pub mod Bags
+pub mod Ways

@@ -7,10 +7,11 @@ use Rattle.grid_core.specs.declared.conn.Conn.{Conn}
 use Rattle.grid_core.specs.declared.rect.Rect.{Rect}
 use Rattle.grid_core.specs.Raster.{Raster}
 use Rattle.raster_sweeps.specs.Growth.{IsOpenIn, WaitFrom, AllWait, AreInside, cell_of}
-use Rattle.raster_sweeps.specs.RowPairs.{IsOpenCell, HaveJoined, IsFromTo, IsScannedUp, IsUpper, NoneOpen}
-use Rattle.raster_sweeps.specs.RowPairs.{NoneOpenToLeft}
+use Rattle.raster_sweeps.specs.RowPairs.{IsDark, IsOpenCell, HaveJoined, IsFromTo, IsScannedUp, IsUpper}
+use Rattle.raster_sweeps.specs.RowPairs.{NoneOpen, NoneOpenToLeft}
 use Rattle.raster_sweeps.specs.RowRaises.{IsRowGrown}
 use Rattle.raster_sweeps.proofs.Grown.{grown_twice}
+use Rattle.raster_sweeps.proofs.Spans.{near_rows}
 
 -- a row that has grown twice
 pub row_grown_twice : (conn : Conn) (rect : Rect) (mask : Raster) (y : ℕ) (before between after : Raster)
@@ -102,3 +103,24 @@ none_inside rect width waiting empty i there = absurd (omega (arith, there.1, ap
 pub all_wait : (conn : Conn) (rect : Rect) (mask image : Raster) (waiting : List ℕ) (y : ℕ) → y ≡ 0
     → WaitFrom conn rect mask image y waiting → AllWait conn rect mask image waiting
 all_wait conn rect mask image waiting y top waits p q raises = waits p q raises (omega arith) (omega arith)
+
+-- between two rows that are 0 no pair is open, so each that is open from the first of them on waits
+pub dark_waits : (conn : Conn) (rect : Rect) (mask image : Raster) (waiting : List ℕ) (y : ℕ)
+    → IsDark rect image y → IsDark rect image (y + 1) → WaitFrom conn rect mask image (y + 1) waiting
+    → WaitFrom conn rect mask image y waiting
+dark_waits conn rect mask image waiting y upper lower waits p q raises from_p from_q =
+    elim (cases_lt y (min p.y q.y)) [
+      | inl below ↦ waits p q raises (omega arith) (omega arith)
+      | inr own ↦ elim (cases_lt y p.y) [
+        | inr first ↦ absurd (omega (arith, raises.lower, upper p raises.from_inside (omega (arith, first, from_p))))
+        | inl later ↦
+            let next : p.y ≡ y + 1 = elim (near_rows conn p q raises.beside) [
+              | inl above ↦ omega (arith, above, own, later)
+              | inr other ↦ elim other [
+                | inl same ↦ absurd (omega (arith, same, own, later))
+                | inr under ↦ absurd (omega (arith, under, own, later))
+              ]
+            ] in
+            absurd (omega (arith, raises.lower, lower p raises.from_inside next))
+      ]
+    ]

@@ -125,7 +125,7 @@ beside_near Eight p q row left right =
     ]
 
 -- neighbours are at most one column apart
-near_beside : (conn : Conn) (p q : Pixel) → AreNeighbours conn p q → (q.x ≤ p.x + 1) × (p.x ≤ q.x + 1)
+pub near_beside : (conn : Conn) (p q : Pixel) → AreNeighbours conn p q → (q.x ≤ p.x + 1) × (p.x ≤ q.x + 1)
 near_beside Four p q near = (omega (arith, near), omega (arith, near))
 near_beside Eight p q near = (omega (arith, near.0), omega (arith, near.0))
 

@@ -3,6 +3,7 @@ pub use Rattle.grid_core.specs.Path
 pub use Rattle.grid_core.specs.Raster
 pub use Rattle.grid_core.specs.Reconstruction
 pub use Rattle.grid_core.specs.Rects
+pub mod Corridors
 pub mod Flood
 pub mod Flooding
 pub mod Growth

@@ -8,7 +8,7 @@ use Rattle.grid_core.specs.declared.pixel.Pixel.{Pixel}
 use Rattle.grid_core.specs.declared.rect.Rect.{Rect}
 use Rattle.grid_core.specs.Neighbours.{apart, AreNeighbours}
 use Rattle.grid_core.specs.Path.{Domain, Inside}
-use Rattle.grid_core.specs.Raster.{Raster, IsBelow, max_pixels, value_at}
+use Rattle.grid_core.specs.Raster.{Raster, IsBelow, IsInside, max_pixels, value_at}
 use Rattle.grid_core.specs.Rects.{RectFits, domain_in, part}
 use Rattle.raster_sweeps.specs.Growth.{IsOpenIn, cell_of}
 
@@ -25,6 +25,15 @@ pub record CanGrowAcross (rect : Rect) (mask image : Raster) (y z : ℕ) : Type 
   pub from : y < rect.h
   pub to : z < rect.h
   pub touch : apart y z ≡ 1
+
+-- each pixel of the row is 0
+abbrev pub IsDark : Rect → Raster → ℕ → Type 0
+IsDark rect image y = (p : Pixel) → IsInside rect.w rect.h p → p.y ≡ y → part rect (value_at image) p ≡ 0
+
+-- none of the values is greater, and it is one of them where it is above 0
+pub record IsGreatest (values : List ℕ) (greatest : ℕ) : Type 0 where
+  pub each : (k : ℕ) → k < length values → slice_index values k ≤ greatest
+  pub some : (greatest ≡ 0) ⊎ ((k : ℕ) × (k < length values) × (slice_index values k ≡ greatest))
 
 -- the rows are equally long
 pub record AreRows (raising limits raised : List ℕ) : Type 0 where

@@ -37,6 +37,21 @@ pub record IsRaisedFromRight (mask before after : List ℕ) : Type 0 where
   pub raised : (k : ℕ) → k + 1 < length before
       → slice_index after k ≡ max (slice_index before k) (min (slice_index after (k + 1)) (slice_index mask k))
 
+-- each value is raised by the old one to its left, as far as the mask lets it
+pub record IsStepFromLeft (mask before after : List ℕ) : Type 0 where
+  pub long : length after ≡ length before
+  pub first : slice_index after 0 ≡ slice_index before 0
+  pub raised : (k : ℕ) → k + 1 < length before
+      → slice_index after (k + 1)
+      ≡ max (slice_index before (k + 1)) (min (slice_index before k) (slice_index mask (k + 1)))
+
+-- each value is raised by the old one to its right, as far as the mask lets it
+pub record IsStepFromRight (mask before after : List ℕ) : Type 0 where
+  pub long : length after ≡ length before
+  pub last : (k : ℕ) → k + 1 ≡ length before → slice_index after k ≡ slice_index before k
+  pub raised : (k : ℕ) → k + 1 < length before
+      → slice_index after k ≡ max (slice_index before k) (min (slice_index before (k + 1)) (slice_index mask k))
+
 -- two rows of so many cells, which begin at these places, lie in a list of cells, and have none in common
 pub record AreApart (size source target cells : ℕ) : Type 0 where
   pub some : 0 < size

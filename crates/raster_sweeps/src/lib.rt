@@ -14,7 +14,7 @@
 //!
 //! It has the hybrid form of that paper: a raster scan raises each pixel by those before it, an anti-raster scan by
 //! those after it, and what can then still be raised goes through a queue, a list for each strip of 32 rows. Where a
-//! list is full, it goes back to the scans.
+//! list is full, it goes back to the scans. A corridor that leads up or down is followed without the queue.
 //!
 //! [`grow_in_place`] does the same to an image that is there already, and [`grow_within`] inside a rectangle of one,
 //! where it leaves every pixel outside as it was. That takes no memory: the caller lends it a [`Room`], and may use
@@ -28,6 +28,7 @@
 //! [`grow_within`].
 
 mod closed;
+mod corridors;
 mod growth;
 pub mod laws;
 mod neighbourhood;

@@ -12,12 +12,13 @@ ghost use Rattle.raster_sweeps.specs.Spans.{AreQueued, InSpan, IsAround, IsCell,
 ghost use Rattle.raster_sweeps.specs.Growth.{CellHasSpread, IsDrained, IsPixelOf};
 ghost use Rattle.raster_sweeps.specs.OpenBounds.{IsRaisedFrom};
 
+use crate::corridors::follow;
 use crate::neighbourhood::{Cross, Place, Span, Spans, cross_around, spans_around};
 use crate::waiting::{Waiting, strip_of};
 use grid_core::laws::cells_given_back;
 use grid_core::{Bounds, Conn, Grid, Pixel, Rect};
 
-/// Lets the waiting cells spread until none waits, which it answers by `true`.
+/// Lets the waiting cells spread until none waits, which it answers by `true`. A corridor is followed to its end.
 ///
 /// Where the queue was full it stops with `false`.
 pub fn drain(mask: &Grid, image: &mut Grid, rect: Rect, conn: Conn, waiting: &mut Waiting) -> bool
@@ -26,7 +27,8 @@ pub fn drain(mask: &Grid, image: &mut Grid, rect: Rect, conn: Conn, waiting: &mu
     ensures { IsDrained conn rect mask.now image.old image.new waiting.old result }
 {
     while let Some(cell) = waiting.pop() {
-        if !spread(mask, image, rect, conn, waiting, cell) {
+        let last = follow(mask, image, rect, waiting, cell);
+        if !spread(mask, image, rect, conn, waiting, last) {
             return false;
         }
     }

@@ -3,12 +3,16 @@
 ghost use Rattle.std.specs.Prelude.{◌≡◌, ◌<◌, length, IsTrue};
 ghost use Rattle.raster_sweeps.specs.RowPairs.{AreAside, AreBeside, AreFullRows, AreRows, IsClosedTo};
 ghost use Rattle.raster_sweeps.specs.RowRaises.{IsRaisedStraight, IsRaisedBy, IsRaisedFromLeft, IsRaisedFromRight};
+ghost use Rattle.raster_sweeps.specs.RowRaises.{IsStepFromLeft, IsStepFromRight};
 
 use crate::rows::is_closed_straight;
 use grid_core::Conn;
 
 // How many pixels of a row are looked at together for one that is to be raised along the row.
 const STRIP: usize = 64;
+
+// How many steps are taken together along such a strip before it is raised pixel by pixel.
+const STEPS: usize = 4;
 
 /// Raises each pixel of a row by its neighbours in a row that touches it, as far as the mask lets it, so that none of
 /// these can raise it further.
@@ -65,8 +69,22 @@ fn raise_strip_from_left(mask: &[u16], strip: &mut [u16])
     requires { (0 < length strip.old) × (length mask.now ≡ length strip.old) }
     ensures { IsRaisedFromLeft mask.now strip.old strip.new }
 {
-    if !is_raised_from_left(mask, strip) {
-        run_from_left(mask, strip);
+    for _ in 0..STEPS {
+        if is_raised_from_left(mask, strip) {
+            return;
+        }
+        step_from_left(mask, strip);
+    }
+    run_from_left(mask, strip);
+}
+
+// Raises each pixel of a strip by the one to its left as that was, as far as the mask lets it.
+fn step_from_left(mask: &[u16], row: &mut [u16])
+    requires { length mask.now ≡ length row.old }
+    ensures { IsStepFromLeft mask.now row.old row.new }
+{
+    for i in (1..row.len()).rev() {
+        row[i] = row[i].max(row[i - 1].min(mask[i]));
     }
 }
 
@@ -77,7 +95,7 @@ fn run_from_left(mask: &[u16], row: &mut [u16])
 {
     let mut level = 0;
     for i in 0..row.len() {
-        level = level.min(mask[i]).max(row[i]);
+        level = row[i].max(level.min(mask[i]));
         row[i] = level;
     }
 }
@@ -100,8 +118,22 @@ fn raise_strip_from_right(mask: &[u16], strip: &mut [u16])
     requires { (0 < length strip.old) × (length mask.now ≡ length strip.old) }
     ensures { IsRaisedFromRight mask.now strip.old strip.new }
 {
-    if !is_raised_from_right(mask, strip) {
-        run_from_right(mask, strip);
+    for _ in 0..STEPS {
+        if is_raised_from_right(mask, strip) {
+            return;
+        }
+        step_from_right(mask, strip);
+    }
+    run_from_right(mask, strip);
+}
+
+// Raises each pixel of a strip by the one to its right as that was, as far as the mask lets it.
+fn step_from_right(mask: &[u16], row: &mut [u16])
+    requires { length mask.now ≡ length row.old }
+    ensures { IsStepFromRight mask.now row.old row.new }
+{
+    for i in 1..row.len() {
+        row[i - 1] = row[i - 1].max(row[i].min(mask[i - 1]));
     }
 }
 
@@ -112,7 +144,7 @@ fn run_from_right(mask: &[u16], row: &mut [u16])
 {
     let mut level = 0;
     for i in (0..row.len()).rev() {
-        level = level.min(mask[i]).max(row[i]);
+        level = row[i].max(level.min(mask[i]));
         row[i] = level;
     }
 }

@@ -1,12 +1,13 @@
 //! The raster and the anti-raster scan of a rectangle (Vincent, "Morphological Grayscale Reconstruction in Image
 //! Analysis", 1993).
 
-ghost use Rattle.std.specs.Prelude.{◌≡◌, [], length};
+ghost use Rattle.std.specs.Prelude.{◌≡◌, ◌<◌, ◌↔◌, [], length, IsTrue};
 ghost use Rattle.grid_core.specs.Neighbours.{apart};
 ghost use Rattle.grid_core.specs.Raster.{IsBelow};
 ghost use Rattle.grid_core.specs.Rects.{RectFits};
 ghost use Rattle.raster_sweeps.specs.Growth.{AllWait, AreInside, IsGrown, CanGrow, IsScannedInto};
-ghost use Rattle.raster_sweeps.specs.RowPairs.{CanGrowAcross, CanGrowRow, IsFromTo, NoneOpen, NoneOpenToLeft};
+ghost use Rattle.raster_sweeps.specs.RowPairs.{CanGrowAcross, CanGrowRow, IsDark, IsFromTo, IsGreatest};
+ghost use Rattle.raster_sweeps.specs.RowPairs.{NoneOpen, NoneOpenToLeft};
 ghost use Rattle.raster_sweeps.specs.RowRaises.{AreApart, AreCellsRaised, IsRowGrown};
 
 use crate::open_pairs::queue_onward;
@@ -16,20 +17,27 @@ use grid_core::laws::cells_given_back;
 use grid_core::{Conn, Grid, Rect};
 
 /// The raster scan: row by row from the top, each row from the left, each pixel of the rectangle is raised by its
-/// earlier neighbours there, as far as the mask lets it.
+/// earlier neighbours there, as far as the mask lets it. A row that is 0 as is the one before it is passed over: nothing
+/// rises there.
 pub fn scan_down(mask: &Grid, image: &mut Grid, rect: Rect, conn: Conn)
     requires { CanGrow rect mask.now image.old }
     ensures { IsGrown conn rect mask.now image.old image.new }
 {
     raise_row_from_left(mask, image, rect, 0);
+    let mut dark = is_dark(image, rect, 0);
     for y in 1..rect.h {
+        if dark && is_dark(image, rect, y) {
+            continue;
+        }
         raise_row_by(mask, image, rect, y - 1, y, conn);
         raise_row_from_left(mask, image, rect, y);
+        dark = is_dark(image, rect, y);
     }
 }
 
 /// The anti-raster scan, from the last pixel of the rectangle back. After each row those of its pixels that can still
-/// raise the one to their right or one in the row below are put into the queue.
+/// raise the one to their right or one in the row below are put into the queue. A row that is 0 as is the one below it is
+/// passed over: nothing rises there.
 ///
 /// It answers whether there was room for all of them. Where there was not, the rows above are raised and not checked.
 pub fn scan_up(mask: &Grid, image: &mut Grid, rect: Rect, conn: Conn, waiting: &mut Waiting) -> bool
@@ -40,12 +48,40 @@ pub fn scan_up(mask: &Grid, image: &mut Grid, rect: Rect, conn: Conn, waiting: &
     let last = rect.h - 1;
     raise_row_from_right(mask, image, rect, last);
     let mut all = queue_onward(mask, image, rect, last, conn, waiting);
+    let mut dark = is_dark(image, rect, last);
     for y in (0..last).rev() {
+        if dark && is_dark(image, rect, y) {
+            continue;
+        }
         raise_row_by(mask, image, rect, y + 1, y, conn);
         raise_row_from_right(mask, image, rect, y);
+        dark = is_dark(image, rect, y);
         all = all && queue_onward(mask, image, rect, y, conn, waiting);
     }
     all
+}
+
+// Whether each pixel of the rectangle's row `y` is 0.
+fn is_dark(image: &Grid, rect: Rect, y: u32) -> bool
+    requires fits { RectFits image.now.width image.now.height rect }
+    requires row { y < rect.h }
+    ensures { IsTrue result ↔ IsDark rect image.now y }
+{
+    if greatest(image.row_in(rect, y)) > 0 {
+        return false;
+    }
+    true
+}
+
+// The greatest of these values, and 0 where there is none.
+fn greatest(row: &[u16]) -> u16
+    ensures { IsGreatest row.now result }
+{
+    let mut most = 0;
+    for value in row {
+        most = most.max(*value);
+    }
+    most
 }
 
 // Raises the pixels of the rectangle's row `to` by their neighbours in the row `from`, which touches it, so that none

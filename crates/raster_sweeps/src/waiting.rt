@@ -96,6 +96,12 @@ impl Waiting {
         Some(cell)
     }
 
+    /// Whether the list that is served has a cell.
+    #[inline(always)]
+    pub fn has_near(&self) -> bool {
+        !self.strips[self.at].is_empty()
+    }
+
     /// Takes all cells out.
     pub fn clear(&mut self)
         ensures { self.new ≡ [] }

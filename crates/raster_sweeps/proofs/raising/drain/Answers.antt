@@ -1,9 +1,10 @@
-use Rattle.std.proofs.Common.{◌≤◌, sym, ◌∙◌, arith, inl, inr}
+use Rattle.std.proofs.Common.{◌≤◌, sym, ◌∙◌, arith, inl, inr, refl}
 use Rattle.std.proofs.lemmas.Bool.{false≢true}
-use Rattle.raster_sweeps.specs.Growth.{cell_of}
 use Rattle.grid_core.specs.Raster.{headroom}
-use Rattle.raster_sweeps.proofs.Grown.{fits_below, grown_headroom, grown_same, grown_twice}
+use Rattle.raster_sweeps.specs.Growth.{cell_of}
+use Rattle.raster_sweeps.proofs.Grown.{fits_below, grown_filled, grown_headroom, grown_same, grown_twice}
 use Rattle.raster_sweeps.proofs.Bags.{behind_one, from_behind}
+use Rattle.raster_sweeps.proofs.Ways.{with_last_inside}
 use Rattle.raster_sweeps.proofs.raising.drain.Goals as goal
 
 pub loop-cell-init : goal.loop-cell-init
@@ -15,15 +16,46 @@ loop-cell-init c = record {
   waits = λ waited. waited;
 }
 
+pub follow-last-requires-clause-close : goal.follow-last-requires-clause-close
+follow-last-requires-clause-close c = record {
+  filled =
+      grown_filled c.args.conn c.args.rect c.args.mask.now c.args.image.now c.loop-cell.image c.requires.close.filled
+      c.loop-cell.invariant.grown;
+  below = c.loop-cell.invariant.grown.below;
+  fits = c.requires.close.fits;
+}
+
+pub follow-last-requires-clause-inside : goal.follow-last-requires-clause-inside
+follow-last-requires-clause-inside c =
+    c.loop-cell.invariant.inside c.in-Some.cell ((c.in-Some.ensures.each c.in-Some.cell).1 (inr refl))
+
+pub spread-requires-clause-grow : goal.spread-requires-clause-grow
+spread-requires-clause-grow c = record {
+  below = (c.follow-last.ensures c.args.conn).grown.below;
+  fits = c.requires.close.fits;
+}
+
+pub spread-requires-clause-inside : goal.spread-requires-clause-inside
+spread-requires-clause-inside c =
+    with_last_inside c.args.conn c.args.rect c.args.mask.now c.loop-cell.image c.follow-last.new.image c.in-Some.cell
+    c.follow-last.result c.pop.new.self (c.follow-last.ensures c.args.conn)
+    (λ i waits. c.loop-cell.invariant.inside i
+    (from_behind c.in-Some.cell c.pop.new.self c.loop-cell.waiting c.in-Some.ensures i waits))
+
 pub returns-then-not-spread : goal.returns-then-not-spread
 returns-then-not-spread c =
-    let before : headroom c.loop-cell.image.cells ≤ headroom c.args.image.now.cells =
-    grown_headroom c.args.conn c.args.rect c.args.mask.now c.args.image.now c.loop-cell.image c.requires.close.filled
-    c.loop-cell.invariant.grown in
+    let conn = c.args.conn in
+    let rect = c.args.rect in
+    let mask = c.args.mask.now in
+    let image = c.args.image.now in
+    let followed = c.follow-last.ensures conn in
+    let grown = grown_twice conn rect mask image c.loop-cell.image c.follow-last.new.image c.loop-cell.invariant.grown
+    followed.grown in
+    let before : headroom c.follow-last.new.image.cells ≤ headroom image.cells =
+    grown_headroom conn rect mask image c.follow-last.new.image c.requires.close.filled grown in
     record {
       grown =
-          grown_twice c.args.conn c.args.rect c.args.mask.now c.args.image.now c.loop-cell.image c.spread.new.image
-          c.loop-cell.invariant.grown c.spread.ensures.grown;
+          grown_twice conn rect mask image c.follow-last.new.image c.spread.new.image grown c.spread.ensures.grown;
       closed = λ done. absurd (false≢true done);
       rose =
           elim c.spread.ensures.fell [
@@ -33,19 +65,35 @@ returns-then-not-spread c =
     }
 
 pub loop-cell-preserved : goal.loop-cell-preserved
-loop-cell-preserved c = record {
-  grown =
-      grown_twice c.args.conn c.args.rect c.args.mask.now c.args.image.now c.loop-cell.image c.spread.new.image
-      c.loop-cell.invariant.grown c.spread.ensures.grown;
-  inside = c.spread.ensures.inside;
-  waits = λ waited.
-      c.spread.ensures.waits c.if-not-spread.false
-      (λ p q raises.
-      behind_one c.in-Some.cell c.pop.new.self c.loop-cell.waiting c.in-Some.ensures
-      (cell_of c.args.rect c.loop-cell.image.width p) (c.loop-cell.invariant.waits waited p q raises));
-}
+loop-cell-preserved c =
+    let conn = c.args.conn in
+    let rect = c.args.rect in
+    let mask = c.args.mask.now in
+    let image = c.args.image.now in
+    let followed = c.follow-last.ensures conn in
+    record {
+      grown =
+          grown_twice conn rect mask image c.loop-cell.image c.spread.new.image c.loop-cell.invariant.grown
+          (grown_twice conn rect mask c.loop-cell.image c.follow-last.new.image c.spread.new.image followed.grown
+          c.spread.ensures.grown);
+      inside = c.spread.ensures.inside;
+      waits = λ waited.
+          c.spread.ensures.waits c.if-not-spread.false
+          (followed.waits c.pop.new.self
+          (λ p q raises.
+          behind_one c.in-Some.cell c.pop.new.self c.loop-cell.waiting c.in-Some.ensures
+          (cell_of rect c.loop-cell.image.width p) (c.loop-cell.invariant.waits waited p q raises)));
+    }
 
-pub spread-requires-clause-inside : goal.spread-requires-clause-inside
-spread-requires-clause-inside c i waits =
-    c.loop-cell.invariant.inside i
-    (from_behind c.in-Some.cell c.pop.new.self c.loop-cell.waiting c.in-Some.ensures i waits)
+pub loop-cell-smaller : goal.loop-cell-smaller
+loop-cell-smaller c =
+    let conn = c.args.conn in
+    let rect = c.args.rect in
+    let mask = c.args.mask.now in
+    let filled =
+    grown_filled conn rect mask c.args.image.now c.loop-cell.image c.requires.close.filled
+    c.loop-cell.invariant.grown in
+    let falls : headroom c.follow-last.new.image.cells ≤ headroom c.loop-cell.image.cells =
+    grown_headroom conn rect mask c.loop-cell.image c.follow-last.new.image filled
+    (c.follow-last.ensures conn).grown in
+    omega (arith, falls, c.in-Some.ensures.count, c.spread.ensures.effort c.if-not-spread.false)

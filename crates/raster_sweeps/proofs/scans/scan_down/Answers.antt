@@ -1,4 +1,4 @@
-use Rattle.raster_sweeps.proofs.Grown.{grown_twice}
+use Rattle.raster_sweeps.proofs.Grown.{fits_below, grown_twice}
 use Rattle.raster_sweeps.proofs.Scanning.{row_grown_twice}
 use Rattle.raster_sweeps.proofs.scans.scan_down.Goals as goal
 
@@ -15,3 +15,13 @@ loop-y-preserved c =
     grown_twice conn rect mask c.args.image.now c.loop-y.image after c.loop-y.invariant
     (row_grown_twice conn rect mask c.loop-y.y c.loop-y.image between after c.raise_row_by.ensures.grown
     (c.raise_row_from_left-in-loop-y.ensures conn)).grown
+
+pub is_dark-dark-requires-clause-fits : goal.is_dark-dark-requires-clause-fits
+is_dark-dark-requires-clause-fits c =
+    fits_below c.args.rect c.args.mask.now c.raise_row_from_left.new.image
+    (c.raise_row_from_left.ensures c.args.conn).grown.below c.requires.fits
+
+pub is_dark-dark-requires-in-loop-y-clause-fits : goal.is_dark-dark-requires-in-loop-y-clause-fits
+is_dark-dark-requires-in-loop-y-clause-fits c =
+    fits_below c.args.rect c.args.mask.now c.raise_row_from_left-in-loop-y.new.image
+    (c.raise_row_from_left-in-loop-y.ensures c.args.conn).grown.below c.requires.fits

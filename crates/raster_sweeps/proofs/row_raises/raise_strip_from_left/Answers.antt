@@ -1,0 +1,9 @@
+use Rattle.raster_sweeps.proofs.RowRaises.{after_step_from_left}
+use Rattle.raster_sweeps.proofs.row_raises.raise_strip_from_left.Goals as goal
+
+pub loop-preserved : goal.loop-preserved
+loop-preserved c = record {
+  leads = λ after raised.
+      c.loop.invariant.leads after
+      (after_step_from_left c.args.mask.now c.loop.strip c.step_from_left.new.row after c.step_from_left.ensures raised);
+}

@@ -1,0 +1,9 @@
+use Rattle.raster_sweeps.proofs.RowRaises.{after_step_from_right}
+use Rattle.raster_sweeps.proofs.row_raises.raise_strip_from_right.Goals as goal
+
+pub loop-preserved : goal.loop-preserved
+loop-preserved c = record {
+  leads = λ after raised.
+      c.loop.invariant.leads after
+      (after_step_from_right c.args.mask.now c.loop.strip c.step_from_right.new.row after c.step_from_right.ensures raised);
+}
