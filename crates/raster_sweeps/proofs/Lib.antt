@@ -21,3 +21,4 @@ pub mod OpenPairs
 pub mod OpenBounds
 pub mod Bags
 pub mod Ways
+pub mod Growing

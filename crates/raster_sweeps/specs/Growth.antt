@@ -1,15 +1,20 @@
 -- Growing an image in place, inside a rectangle. Only private functions have these words in their contracts, but for
--- open pairs, of which `specs/OpenBounds.antt` speaks. What a reconstruction is stands in `grid_core`'s
--- `specs/Reconstruction.antt`, and what a rectangle is in `specs/Rects.antt` there.
+-- `CanGrow`, and for open pairs, of which `specs/OpenBounds.antt` speaks. What a reconstruction is stands in
+-- `grid_core`'s `specs/Reconstruction.antt`, and what a rectangle is in `specs/Rects.antt` there.
 use Rattle.std.specs.Prelude.{◌≡◌, ◌≢◌, ℕ, ◌+◌, ◌<◌, ◌≤◌, ◌⊎◌, Bool, IsTrue, List, [], ◌∷◌, length}
 use Rattle.std.specs.Prelude.{slice_index}
 use Rattle.std.specs.List.{Contains}
 use Rattle.grid_core.specs.declared.conn.Conn.{Conn}
 use Rattle.grid_core.specs.declared.pixel.Pixel.{Pixel}
 use Rattle.grid_core.specs.declared.rect.Rect.{Rect}
-use Rattle.grid_core.specs.Raster.{Raster, IsInside, IsBelow, IsFilled, headroom, index_of, value_at}
+use Rattle.grid_core.specs.Raster.{Raster, IsInside, IsBelow, IsFilled, IsImageSize, headroom, index_of, value_at}
 use Rattle.grid_core.specs.Reconstruction.{IsClosed, IsLawful, IsOpen}
 use Rattle.grid_core.specs.Rects.{IsInRect, RectFits, domain_in, in_image, part}
+use Rattle.raster_sweeps.specs.declared.size.Size.{Size}
+
+-- whole rows of cells as an image
+abbrev pub rows_of : Size → List ℕ → Raster
+rows_of size cells = record { width = size.w; height = size.h; cells = cells }
 
 -- the image may grow inside the rectangle: it is below the mask, and the rectangle lies in it
 pub record CanGrow (rect : Rect) (mask image : Raster) : Type 0 where
@@ -21,9 +26,12 @@ pub record FitsBoth (rect : Rect) (mask image : Raster) : Type 0 where
   pub mask_fits : RectFits mask.width mask.height rect
   pub image_fits : RectFits image.width image.height rect
 
--- the image may grow inside the rectangle, and has a value for each pixel
+-- the image may grow inside the rectangle. Its sides are those that an image may have, and it and the mask have a value
+-- for each pixel
 pub record CanClose (rect : Rect) (mask image : Raster) : Type 0 where
+  pub size : IsImageSize image.width image.height
   pub filled : IsFilled image
+  pub mask_filled : IsFilled mask
   pub below : IsBelow image mask
   pub fits : RectFits mask.width mask.height rect
 

@@ -8,18 +8,24 @@ use Rattle.grid_core.specs.declared.pixel.Pixel.{Pixel}
 use Rattle.grid_core.specs.declared.rect.Rect.{Rect}
 use Rattle.grid_core.specs.Neighbours.{apart, AreNeighbours}
 use Rattle.grid_core.specs.Path.{Domain, Inside}
-use Rattle.grid_core.specs.Raster.{Raster, IsBelow, IsInside, max_pixels, value_at}
+use Rattle.grid_core.specs.Raster.{Raster, IsBelow, IsFilled, IsImageSize, IsInside, max_pixels, value_at}
 use Rattle.grid_core.specs.Rects.{RectFits, domain_in, part}
 use Rattle.raster_sweeps.specs.Growth.{IsOpenIn, cell_of}
 
--- the image may grow inside the rectangle, which has this row
+-- the image may grow inside the rectangle, as `CanClose` says, and the rectangle has this row
 pub record CanGrowRow (rect : Rect) (mask image : Raster) (y : ℕ) : Type 0 where
+  pub size : IsImageSize image.width image.height
+  pub filled : IsFilled image
+  pub mask_filled : IsFilled mask
   pub below : IsBelow image mask
   pub fits : RectFits mask.width mask.height rect
   pub row : y < rect.h
 
--- the image may grow inside the rectangle, which has these two rows, and they touch
+-- the image may grow inside the rectangle, as `CanClose` says, and the rectangle has these two rows, and they touch
 pub record CanGrowAcross (rect : Rect) (mask image : Raster) (y z : ℕ) : Type 0 where
+  pub size : IsImageSize image.width image.height
+  pub filled : IsFilled image
+  pub mask_filled : IsFilled mask
   pub below : IsBelow image mask
   pub fits : RectFits mask.width mask.height rect
   pub from : y < rect.h

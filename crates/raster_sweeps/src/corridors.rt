@@ -5,11 +5,11 @@ ghost use Rattle.std.specs.Prelude.{◌≡◌, ◌+◌, ◌-◌, ◌<◌, ◌≤
 ghost use Rattle.grid_core.specs.Raster.{max_side};
 ghost use Rattle.raster_sweeps.specs.Corridors.{CanRiseAlone, HasPassed, HasRisenAlone, IsBehind, IsFollowed};
 ghost use Rattle.raster_sweeps.specs.Corridors.{IsWay, NoneRises};
-ghost use Rattle.raster_sweeps.specs.Growth.{CanClose, CanGrow, IsCellIn};
+ghost use Rattle.raster_sweeps.specs.Growth.{CanClose, IsCellIn, rows_of};
 
+use crate::size::Size;
 use crate::waiting::Waiting;
-use grid_core::laws::cells_given_back;
-use grid_core::{Grid, Rect};
+use grid_core::Rect;
 
 /// Lets a cell raise the next one of its column, and each that rises so the next one, as long as no other of the eight
 /// cells around it can be raised by it. It is tried where no other cell waits near by.
@@ -17,29 +17,35 @@ use grid_core::{Grid, Rect};
 /// It answers the last cell of the way: what this one can still raise is left to be raised. Where there is no corridor
 /// that is the cell itself.
 #[inline(always)]
-pub fn follow(mask: &Grid, image: &mut Grid, rect: Rect, waiting: &Waiting, cell: u32) -> u32
-    requires close { CanClose rect mask.now image.old }
-    requires inside { IsCellIn rect image.old.width cell }
-    ensures { (conn : _) → IsFollowed conn rect mask.now image.old image.new cell result }
+pub fn follow(
+    mask: &[u16],
+    image: &mut [u16],
+    size: Size,
+    rect: Rect,
+    waiting: &Waiting,
+    cell: u32,
+) -> u32
+    requires close { CanClose rect (rows_of size mask.now) (rows_of size image.old) }
+    requires inside { IsCellIn rect size.w cell }
+    ensures { (conn : _) → IsFollowed conn rect (rows_of size mask.now) (rows_of size image.old)
+        (rows_of size image.new) cell result }
 {
     if waiting.has_near() {
         return cell;
     }
-    let width = mask.width();
+    let width = size.w;
     let Some(rows) = rows_around(width, rect, cell) else {
         return cell;
     };
-    let limits = mask.cells();
-    let cells = image.cells();
-    let level = cells[cell as usize];
-    if !none_rises(limits, cells, level, cell) {
+    let level = image[cell as usize];
+    if !none_rises(mask, image, level, cell) {
         return cell;
     }
-    if none_rises(limits, cells, level, cell - width) {
-        return follow_column(mask, image, rect, cell - width, cell, rows.below);
+    if none_rises(mask, image, level, cell - width) {
+        return follow_column(mask, image, size, rect, cell - width, cell, rows.below);
     }
-    if none_rises(limits, cells, level, cell + width) {
-        return follow_column(mask, image, rect, cell + width, cell, rows.above);
+    if none_rises(mask, image, level, cell + width) {
+        return follow_column(mask, image, size, rect, cell + width, cell, rows.above);
     }
     cell
 }
@@ -90,24 +96,24 @@ fn none_rises(mask: &[u16], cells: &[u16], level: u16, middle: u32) -> bool
 
 // Goes on from a cell, away from the one behind it in the column, for at most so many cells, and answers the last.
 fn follow_column(
-    mask: &Grid,
-    image: &mut Grid,
+    mask: &[u16],
+    image: &mut [u16],
+    size: Size,
     rect: Rect,
     behind: u32,
     cell: u32,
     count: u32,
 ) -> u32
-    requires close { CanClose rect mask.now image.old }
-    requires way { IsWay rect image.old.width behind cell count }
-    requires behind { IsBehind mask.now image.old behind cell }
-    ensures { (conn : _) → IsFollowed conn rect mask.now image.old image.new cell result }
+    requires close { CanClose rect (rows_of size mask.now) (rows_of size image.old) }
+    requires way { IsWay rect size.w behind cell count }
+    requires behind { IsBehind (rows_of size mask.now) (rows_of size image.old) behind cell }
+    ensures { (conn : _) → IsFollowed conn rect (rows_of size mask.now) (rows_of size image.old)
+        (rows_of size image.new) cell result }
 {
-    // The width tells the prover how large the image may be.
-    let _ = image.width();
     let mut last = behind;
     let mut at = cell;
     for _ in 0..count {
-        if !raise_next(mask, image, rect, last, at) {
+        if !raise_next(mask, image, size, rect, last, at) {
             return at;
         }
         let next = at + at - last;
@@ -121,17 +127,22 @@ fn follow_column(
 //
 // It answers whether the next cell rose.
 #[inline(always)]
-fn raise_next(mask: &Grid, image: &mut Grid, rect: Rect, behind: u32, cell: u32) -> bool
-    requires grow { CanGrow rect mask.now image.old }
-    requires way { IsWay rect image.old.width behind cell 1 }
-    requires behind { IsBehind mask.now image.old behind cell }
-    ensures { MatchBool result (HasPassed rect mask.now image.old image.new behind cell) (image.new ≡ image.old) }
+fn raise_next(
+    mask: &[u16],
+    image: &mut [u16],
+    size: Size,
+    rect: Rect,
+    behind: u32,
+    cell: u32,
+) -> bool
+    requires close { CanClose rect (rows_of size mask.now) (rows_of size image.old) }
+    requires way { IsWay rect size.w behind cell 1 }
+    requires behind { IsBehind (rows_of size mask.now) (rows_of size image.old) behind cell }
+    ensures { MatchBool result (HasPassed rect (rows_of size mask.now) (rows_of size image.old)
+        (rows_of size image.new) behind cell) (image.new ≡ image.old) }
 {
-    cells_given_back();
-    let limits = mask.cells();
-    let cells = image.cells_mut();
-    let level = cells[cell as usize];
-    raise_alone(limits, cells, level, cell + cell - behind)
+    let level = image[cell as usize];
+    raise_alone(mask, image, level, cell + cell - behind)
 }
 
 // Raises a cell to the level, as far as the mask lets it, where it rises and neither cell beside it would.

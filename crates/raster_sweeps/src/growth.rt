@@ -4,14 +4,16 @@
 ghost use Rattle.std.specs.Prelude.{◌≡◌, ◌<◌, [], IfOk, OnErr, OnOk, false};
 ghost use Rattle.grid_core.specs.Raster.{IsBelow};
 ghost use Rattle.grid_core.specs.Bounds.{LieIn};
-ghost use Rattle.raster_sweeps.specs.Growth.{AreSomeOpen, IsGrownUp, IsQueueFilled, CanClose, CanGrow};
+ghost use Rattle.raster_sweeps.specs.Growth.{AreSomeOpen, IsGrownUp, IsQueueFilled, CanClose, CanGrow, rows_of};
 ghost use Rattle.raster_sweeps.specs.OpenBounds.{IsRaisedFrom, OpenPairsBeginIn, RiseWithin};
 ghost use Rattle.raster_sweeps.specs.Regrowth.{IsRegrown, IsRegrownIn};
 
 use crate::open_pairs::queue_open_pairs;
 use crate::raising::{drain, drain_within, spread};
 use crate::scans::{scan_down, scan_up};
+use crate::size::Size;
 use crate::waiting::{STRIP_ROWS, Waiting};
+use grid_core::laws::cells_given_back;
 use grid_core::{Bounds, Conn, Grid, Memory, Rect};
 use std::alloc::Global;
 
@@ -42,9 +44,16 @@ pub fn grow_within(room: &mut Room, mask: &Grid, image: &mut Grid, rect: Rect, c
     requires { CanGrow rect mask.now image.old }
     ensures { IsRegrownIn conn rect mask.now image.old image.new }
 {
-    // The width tells the prover that the image has a cell for each pixel.
-    let _ = image.width();
-    close(mask, image, rect, conn, &mut room.waiting);
+    cells_given_back();
+    let size = Size::of(image);
+    close(
+        mask.cells(),
+        image.cells_mut(),
+        size,
+        rect,
+        conn,
+        &mut room.waiting,
+    );
 }
 
 /// Raises an image inside a rectangle as [`grow_within`] does, where only pixels within the bounds can still raise a
@@ -70,13 +79,15 @@ pub fn grow_from_bounds(
     ensures rises { RiseWithin rect image.old image.new bounds result }
     ensures lie { LieIn result rect }
 {
-    // The width tells the prover that the image has a cell for each pixel.
-    let _ = image.width();
-    let risen = raise_from_bounds(mask, image, rect, conn, &mut room.waiting, bounds);
+    cells_given_back();
+    let size = Size::of(image);
+    let limits = mask.cells();
+    let cells = image.cells_mut();
+    let risen = raise_from_bounds(limits, cells, size, rect, conn, &mut room.waiting, bounds);
     if let Some(risen) = risen {
         return risen;
     }
-    close(mask, image, rect, conn, &mut room.waiting);
+    close(limits, cells, size, rect, conn, &mut room.waiting);
     Bounds::of(rect)
 }
 
@@ -104,13 +115,25 @@ pub fn grow_in_place(alloc: Global, mask: &Grid, image: &mut Grid, conn: Conn) -
     ensures grown { OnOk result (IsRegrown conn mask.now image.old image.new) }
     ensures untouched { OnErr result (image.new ≡ image.old) }
 {
-    let w = image.width();
-    let h = image.height();
-    let strips = h.div_ceil(STRIP_ROWS) as usize;
-    let room = (w as usize * STRIP_ROWS as usize / 8).max(1024);
+    cells_given_back();
+    let size = Size::of(image);
+    let strips = size.h.div_ceil(STRIP_ROWS) as usize;
+    let room = (size.w as usize * STRIP_ROWS as usize / 8).max(1024);
     let mut waiting = Waiting::new(alloc, strips, room)?;
-    let whole = Rect { x: 0, y: 0, w, h };
-    close(mask, image, whole, conn, &mut waiting);
+    let whole = Rect {
+        x: 0,
+        y: 0,
+        w: size.w,
+        h: size.h,
+    };
+    close(
+        mask.cells(),
+        image.cells_mut(),
+        size,
+        whole,
+        conn,
+        &mut waiting,
+    );
     Ok(())
 }
 
@@ -118,20 +141,20 @@ pub fn grow_in_place(alloc: Global, mask: &Grid, image: &mut Grid, conn: Conn) -
 //
 // It answers none where the bounds are those of the whole rectangle, and where the queue is full.
 fn raise_from_bounds(
-    mask: &Grid,
-    image: &mut Grid,
+    mask: &[u16],
+    image: &mut [u16],
+    size: Size,
     rect: Rect,
     conn: Conn,
     waiting: &mut Waiting,
     bounds: Bounds,
 ) -> Option<Bounds>
-    requires close { CanClose rect mask.now image.old }
-    requires bounds { OpenPairsBeginIn conn rect mask.now image.old bounds }
+    requires close { CanClose rect (rows_of size mask.now) (rows_of size image.old) }
+    requires bounds { OpenPairsBeginIn conn rect (rows_of size mask.now) (rows_of size image.old) bounds }
     requires lie { LieIn bounds rect }
-    ensures { IsRaisedFrom conn rect mask.now image.old image.new bounds result }
+    ensures { IsRaisedFrom conn rect (rows_of size mask.now) (rows_of size image.old)
+        (rows_of size image.new) bounds result }
 {
-    // The width tells the prover how large the image may be.
-    let _ = image.width();
     if bounds.is_empty() {
         return Some(bounds);
     }
@@ -141,20 +164,20 @@ fn raise_from_bounds(
     }
     waiting.clear();
     let near = bounds.wider().intersection(whole).rect();
-    if !queue_open_pairs(mask, image, near, conn, waiting) {
+    if !queue_open_pairs(mask, image, size, near, conn, waiting) {
         return None;
     }
-    drain_within(mask, image, rect, conn, waiting, bounds)
+    drain_within(mask, image, size, rect, conn, waiting, bounds)
 }
 
 // Raises the image inside the rectangle until no pair of neighbours there is open.
-fn close(mask: &Grid, image: &mut Grid, rect: Rect, conn: Conn, waiting: &mut Waiting)
-    requires { CanClose rect mask.now image.old }
-    ensures { IsGrownUp conn rect mask.now image.old image.new }
+fn close(mask: &[u16], image: &mut [u16], size: Size, rect: Rect, conn: Conn, waiting: &mut Waiting)
+    requires { CanClose rect (rows_of size mask.now) (rows_of size image.old) }
+    ensures { IsGrownUp conn rect (rows_of size mask.now) (rows_of size image.old) (rows_of size image.new) }
 {
     'rounds: loop {
-        let all = fill(mask, image, rect, conn, waiting);
-        if all && drain(mask, image, rect, conn, waiting) {
+        let all = fill(mask, image, size, rect, conn, waiting);
+        if all && drain(mask, image, size, rect, conn, waiting) {
             return;
         }
     }
@@ -162,40 +185,64 @@ fn close(mask: &Grid, image: &mut Grid, rect: Rect, conn: Conn, waiting: &mut Wa
 
 // Fills the queue with the cells whose neighbours can be raised, by the raster and the anti-raster scan, and says
 // whether there was room for all of them. Where there was not, the rows are checked.
-fn fill(mask: &Grid, image: &mut Grid, rect: Rect, conn: Conn, waiting: &mut Waiting) -> bool
-    requires { CanClose rect mask.now image.old }
-    ensures { IsQueueFilled conn rect mask.now image.old image.new result waiting.new }
+fn fill(
+    mask: &[u16],
+    image: &mut [u16],
+    size: Size,
+    rect: Rect,
+    conn: Conn,
+    waiting: &mut Waiting,
+) -> bool
+    requires { CanClose rect (rows_of size mask.now) (rows_of size image.old) }
+    ensures { IsQueueFilled conn rect (rows_of size mask.now) (rows_of size image.old)
+        (rows_of size image.new) result waiting.new }
 {
     waiting.clear();
-    scan_down(mask, image, rect, conn);
-    if scan_up(mask, image, rect, conn, waiting) {
+    scan_down(mask, image, size, rect, conn);
+    if scan_up(mask, image, size, rect, conn, waiting) {
         return true;
     }
     waiting.clear();
-    check(mask, image, rect, conn, waiting)
+    check(mask, image, size, rect, conn, waiting)
 }
 
 // Fills the queue by the check of each row, and says whether there was room for all open pairs. Where there was not,
 // the first cell has spread.
-fn check(mask: &Grid, image: &mut Grid, rect: Rect, conn: Conn, waiting: &mut Waiting) -> bool
-    requires close { CanClose rect mask.now image.old }
+fn check(
+    mask: &[u16],
+    image: &mut [u16],
+    size: Size,
+    rect: Rect,
+    conn: Conn,
+    waiting: &mut Waiting,
+) -> bool
+    requires close { CanClose rect (rows_of size mask.now) (rows_of size image.old) }
     requires empty { waiting.old ≡ [] }
-    ensures { IsQueueFilled conn rect mask.now image.old image.new result waiting.new }
+    ensures { IsQueueFilled conn rect (rows_of size mask.now) (rows_of size image.old)
+        (rows_of size image.new) result waiting.new }
 {
-    if queue_open_pairs(mask, image, rect, conn, waiting) {
+    if queue_open_pairs(mask, image, size, rect, conn, waiting) {
         return true;
     }
-    spread_first(mask, image, rect, conn, waiting);
+    spread_first(mask, image, size, rect, conn, waiting);
     false
 }
 
 // Lets the first of some cells that can raise a neighbour spread.
-fn spread_first(mask: &Grid, image: &mut Grid, rect: Rect, conn: Conn, waiting: &mut Waiting)
-    requires grow { CanGrow rect mask.now image.old }
-    requires open { AreSomeOpen conn rect mask.now image.old waiting.old }
-    ensures { IsQueueFilled conn rect mask.now image.old image.new false waiting.new }
+fn spread_first(
+    mask: &[u16],
+    image: &mut [u16],
+    size: Size,
+    rect: Rect,
+    conn: Conn,
+    waiting: &mut Waiting,
+)
+    requires close { CanClose rect (rows_of size mask.now) (rows_of size image.old) }
+    requires open { AreSomeOpen conn rect (rows_of size mask.now) (rows_of size image.old) waiting.old }
+    ensures { IsQueueFilled conn rect (rows_of size mask.now) (rows_of size image.old)
+        (rows_of size image.new) false waiting.new }
 {
     if let Some(cell) = waiting.pop() {
-        let _room = spread(mask, image, rect, conn, waiting, cell);
+        let _room = spread(mask, image, size, rect, conn, waiting, cell);
     }
 }

@@ -37,6 +37,7 @@ mod raising;
 mod row_raises;
 mod rows;
 mod scans;
+mod size;
 mod thresholds;
 mod waiting;
 

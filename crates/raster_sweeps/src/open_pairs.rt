@@ -6,14 +6,15 @@ ghost use Rattle.grid_core.specs.declared.conn.Conn.TheVariants as conns;
 ghost use Rattle.grid_core.specs.Neighbours.{apart};
 ghost use Rattle.grid_core.specs.Raster.{IsBelow, IsInside, max_pixels};
 ghost use Rattle.grid_core.specs.Rects.{RectFits};
-ghost use Rattle.raster_sweeps.specs.Growth.{AllWait, AreOpen, cell_of, CanGrow};
+ghost use Rattle.raster_sweeps.specs.Growth.{AllWait, AreOpen, cell_of, CanClose, rows_of};
 ghost use Rattle.raster_sweeps.specs.RowPairs.{AreAside, AreBeside, RaisesStraight, RaisesTo, IsOpenCell, HaveJoined};
 ghost use Rattle.raster_sweeps.specs.RowPairs.{AreFullRowsAt, AreJoined, AreRowsAt, CanGrowAcross, CanGrowRow};
 ghost use Rattle.raster_sweeps.specs.RowPairs.{IsFirstOfRow, IsFromTo, IsScannedUp, IsUpper, NoneOpenToLeft};
 
 use crate::rows::{are_closed_onward, is_closed_straight};
+use crate::size::{Size, first_cell, row_in};
 use crate::waiting::{Waiting, strip_of};
-use grid_core::{Conn, Grid, Rect};
+use grid_core::{Conn, Rect};
 
 // How many columns are checked at once.
 const STRIP: usize = 64;
@@ -22,17 +23,19 @@ const STRIP: usize = 64;
 ///
 /// It answers whether there was room for all of them, and stops where there was not.
 pub fn queue_open_pairs(
-    mask: &Grid,
-    image: &Grid,
+    mask: &[u16],
+    image: &[u16],
+    size: Size,
     rect: Rect,
     conn: Conn,
     waiting: &mut Waiting,
 ) -> bool
-    requires { CanGrow rect mask.now image.now }
-    ensures { AreJoined conn rect mask.now image.now (IsInside rect.w rect.h) result waiting.old waiting.new }
+    requires { CanClose rect (rows_of size mask.now) (rows_of size image.now) }
+    ensures { AreJoined conn rect (rows_of size mask.now) (rows_of size image.now) (IsInside rect.w rect.h)
+        result waiting.old waiting.new }
 {
     for y in 0..rect.h {
-        if !queue_row(mask, image, rect, y, conn, waiting) {
+        if !queue_row(mask, image, size, rect, y, conn, waiting) {
             return false;
         }
     }
@@ -43,24 +46,26 @@ pub fn queue_open_pairs(
 ///
 /// It answers whether there was room for all of them.
 pub fn queue_row(
-    mask: &Grid,
-    image: &Grid,
+    mask: &[u16],
+    image: &[u16],
+    size: Size,
     rect: Rect,
     y: u32,
     conn: Conn,
     waiting: &mut Waiting,
 ) -> bool
-    requires { CanGrowRow rect mask.now image.now y }
-    ensures { HaveJoined (IsOpenCell conn rect mask.now image.now (IsUpper y)) result waiting.old waiting.new }
+    requires { CanGrowRow rect (rows_of size mask.now) (rows_of size image.now) y }
+    ensures { HaveJoined (IsOpenCell conn rect (rows_of size mask.now) (rows_of size image.now) (IsUpper y))
+        result waiting.old waiting.new }
 {
-    if !queue_within(mask, image, rect, y, waiting) {
+    if !queue_within(mask, image, size, rect, y, waiting) {
         return false;
     }
     if y + 1 == rect.h {
         return true;
     }
-    queue_between(mask, image, rect, y, y + 1, conn, waiting)
-        && queue_between(mask, image, rect, y + 1, y, conn, waiting)
+    queue_between(mask, image, size, rect, y, y + 1, conn, waiting)
+        && queue_between(mask, image, size, rect, y + 1, y, conn, waiting)
 }
 
 /// Puts the first pixels of the open pairs whose upper pixel, or both, lie in the rectangle's row `y`, which the
@@ -68,82 +73,107 @@ pub fn queue_row(
 ///
 /// It answers whether there was room for all of them.
 pub fn queue_onward(
-    mask: &Grid,
-    image: &Grid,
+    mask: &[u16],
+    image: &[u16],
+    size: Size,
     rect: Rect,
     y: u32,
     conn: Conn,
     waiting: &mut Waiting,
 ) -> bool
-    requires grow { CanGrowRow rect mask.now image.now y }
-    requires scanned { IsScannedUp conn rect mask.now image.now y }
-    ensures { HaveJoined (IsOpenCell conn rect mask.now image.now (IsUpper y)) result waiting.old waiting.new }
+    requires grow { CanGrowRow rect (rows_of size mask.now) (rows_of size image.now) y }
+    requires scanned { IsScannedUp conn rect (rows_of size mask.now) (rows_of size image.now) y }
+    ensures { HaveJoined (IsOpenCell conn rect (rows_of size mask.now) (rows_of size image.now) (IsUpper y))
+        result waiting.old waiting.new }
 {
-    if is_row_seen_closed(mask, image, rect, y, conn) {
+    if is_row_seen_closed(mask, image, size, rect, y, conn) {
         return true;
     }
-    if !queue_to_right(mask, image, rect, y, waiting) {
+    if !queue_to_right(mask, image, size, rect, y, waiting) {
         return false;
     }
     if y + 1 == rect.h {
         return true;
     }
-    queue_between(mask, image, rect, y, y + 1, conn, waiting)
+    queue_between(mask, image, size, rect, y, y + 1, conn, waiting)
 }
 
 // Whether it is seen at once that no pixel of the rectangle's row `y` raises the one to its right or one below it. With
 // eight neighbours, and in the last row, it is not.
-fn is_row_seen_closed(mask: &Grid, image: &Grid, rect: Rect, y: u32, conn: Conn) -> bool
-    requires { CanGrowRow rect mask.now image.now y }
-    ensures { IsTrue result → IsScannedUp conn rect mask.now image.now y
-        → (cell : ℕ) → IsOpenCell conn rect mask.now image.now (IsUpper y) cell → ⊥ }
+fn is_row_seen_closed(
+    mask: &[u16],
+    image: &[u16],
+    size: Size,
+    rect: Rect,
+    y: u32,
+    conn: Conn,
+) -> bool
+    requires { CanGrowRow rect (rows_of size mask.now) (rows_of size image.now) y }
+    ensures { IsTrue result → IsScannedUp conn rect (rows_of size mask.now) (rows_of size image.now) y
+        → (cell : ℕ) → IsOpenCell conn rect (rows_of size mask.now) (rows_of size image.now) (IsUpper y) cell → ⊥ }
 {
     match conn {
-        Conn::Four => is_row_seen_closed_onward(mask, image, rect, y),
+        Conn::Four => is_row_seen_closed_onward(mask, image, size, rect, y),
         Conn::Eight => false,
     }
 }
 
 // Whether no pixel of the rectangle's row `y` raises the one to its right or the one below it. Of the last row it
 // answers that it is not so.
-fn is_row_seen_closed_onward(mask: &Grid, image: &Grid, rect: Rect, y: u32) -> bool
-    requires { CanGrowRow rect mask.now image.now y }
-    ensures { IsTrue result → IsScannedUp conns.Four rect mask.now image.now y
-        → (cell : ℕ) → IsOpenCell conns.Four rect mask.now image.now (IsUpper y) cell → ⊥ }
+fn is_row_seen_closed_onward(mask: &[u16], image: &[u16], size: Size, rect: Rect, y: u32) -> bool
+    requires { CanGrowRow rect (rows_of size mask.now) (rows_of size image.now) y }
+    ensures { IsTrue result → IsScannedUp conns.Four rect (rows_of size mask.now) (rows_of size image.now) y
+        → (cell : ℕ) → IsOpenCell conns.Four rect (rows_of size mask.now) (rows_of size image.now) (IsUpper y)
+        cell → ⊥ }
 {
     if y + 1 == rect.h {
         return false;
     }
-    let row = image.row_in(rect, y);
-    let limits = mask.row_in(rect, y);
-    let below = image.row_in(rect, y + 1);
-    let limits_below = mask.row_in(rect, y + 1);
+    let row = row_in(image, size, rect, y);
+    let limits = row_in(mask, size, rect, y);
+    let below = row_in(image, size, rect, y + 1);
+    let limits_below = row_in(mask, size, rect, y + 1);
     are_closed_onward(row, limits, below, limits_below)
 }
 
 // Puts the first pixels of the open pairs within a row into the queue. It answers whether there was room for all of
 // them.
-fn queue_within(mask: &Grid, image: &Grid, rect: Rect, y: u32, waiting: &mut Waiting) -> bool
-    requires { CanGrowRow rect mask.now image.now y }
-    ensures { (conn : _) → HaveJoined (IsOpenCell conn rect mask.now image.now (IsFromTo y y)) result
-        waiting.old waiting.new }
+fn queue_within(
+    mask: &[u16],
+    image: &[u16],
+    size: Size,
+    rect: Rect,
+    y: u32,
+    waiting: &mut Waiting,
+) -> bool
+    requires { CanGrowRow rect (rows_of size mask.now) (rows_of size image.now) y }
+    ensures { (conn : _) → HaveJoined (IsOpenCell conn rect (rows_of size mask.now) (rows_of size image.now)
+        (IsFromTo y y)) result waiting.old waiting.new }
 {
-    let first = first_cell(image, rect, y);
-    let row = image.row_in(rect, y);
-    let limits = mask.row_in(rect, y);
+    let first = first_cell(size, rect, y);
+    let row = row_in(image, size, rect, y);
+    let limits = row_in(mask, size, rect, y);
     queue_aslant(row, limits, row, first, strip_of(y), waiting)
 }
 
 // Puts the cells of a row that raise the one to their right into the queue. It answers whether there was room for all
 // of them.
-fn queue_to_right(mask: &Grid, image: &Grid, rect: Rect, y: u32, waiting: &mut Waiting) -> bool
-    requires { CanGrowRow rect mask.now image.now y }
-    ensures { (conn : _) → NoneOpenToLeft conn rect mask.now image.now y
-        → HaveJoined (IsOpenCell conn rect mask.now image.now (IsFromTo y y)) result waiting.old waiting.new }
+fn queue_to_right(
+    mask: &[u16],
+    image: &[u16],
+    size: Size,
+    rect: Rect,
+    y: u32,
+    waiting: &mut Waiting,
+) -> bool
+    requires { CanGrowRow rect (rows_of size mask.now) (rows_of size image.now) y }
+    ensures { (conn : _) → NoneOpenToLeft conn rect (rows_of size mask.now) (rows_of size image.now) y
+        → HaveJoined (IsOpenCell conn rect (rows_of size mask.now) (rows_of size image.now) (IsFromTo y y))
+        result waiting.old waiting.new }
 {
-    let first = first_cell(image, rect, y);
-    let row = image.row_in(rect, y);
-    let limits = mask.row_in(rect, y);
+    let first = first_cell(size, rect, y);
+    let row = row_in(image, size, rect, y);
+    let limits = row_in(mask, size, rect, y);
     let last = row.len() - 1;
     queue_straight(
         &row[..last],
@@ -158,21 +188,23 @@ fn queue_to_right(mask: &Grid, image: &Grid, rect: Rect, y: u32, waiting: &mut W
 // Puts the first pixels of the open pairs from a row to another, which touches it, into the queue. It answers whether
 // there was room for all of them.
 fn queue_between(
-    mask: &Grid,
-    image: &Grid,
+    mask: &[u16],
+    image: &[u16],
+    size: Size,
     rect: Rect,
     from: u32,
     to: u32,
     conn: Conn,
     waiting: &mut Waiting,
 ) -> bool
-    requires { CanGrowAcross rect mask.now image.now from to }
-    ensures { HaveJoined (IsOpenCell conn rect mask.now image.now (IsFromTo from to)) result waiting.old waiting.new }
+    requires { CanGrowAcross rect (rows_of size mask.now) (rows_of size image.now) from to }
+    ensures { HaveJoined (IsOpenCell conn rect (rows_of size mask.now) (rows_of size image.now) (IsFromTo from to))
+        result waiting.old waiting.new }
 {
-    let first = first_cell(image, rect, from);
-    let raising = image.row_in(rect, from);
-    let limits = mask.row_in(rect, to);
-    let raised = image.row_in(rect, to);
+    let first = first_cell(size, rect, from);
+    let raising = row_in(image, size, rect, from);
+    let limits = row_in(mask, size, rect, to);
+    let raised = row_in(image, size, rect, to);
     queue_to(
         raising,
         limits,
@@ -285,14 +317,4 @@ fn queue_strip(
         }
     }
     true
-}
-
-// The cell of the first pixel of the rectangle's row `y`.
-fn first_cell(image: &Grid, rect: Rect, y: u32) -> u32
-    requires fits { RectFits image.now.width image.now.height rect }
-    requires row { y < rect.h }
-    ensures { IsFirstOfRow rect image.now.width y result }
-{
-    let width = image.width();
-    (rect.y + y) * width + rect.x
 }

@@ -7,28 +7,36 @@ ghost use Rattle.grid_core.specs.Path.{domain_of};
 ghost use Rattle.grid_core.specs.Raster.{IsBelow, IsFilled, value_at, headroom};
 ghost use Rattle.grid_core.specs.Reconstruction.{IsClosed};
 ghost use Rattle.grid_core.specs.Rects.{RectFits, domain_in, part};
-ghost use Rattle.raster_sweeps.specs.Growth.{AllWait, AreInside, AreOpen, IsCellIn, IsGrown, CanClose, CanGrow};
+ghost use Rattle.raster_sweeps.specs.Growth.{AllWait, AreInside, AreOpen, IsCellIn, IsGrown, CanClose};
 ghost use Rattle.raster_sweeps.specs.Spans.{AreQueued, InSpan, IsAround, IsCell, IsOnCross, IsRaised, AreSpread};
-ghost use Rattle.raster_sweeps.specs.Growth.{CellHasSpread, IsDrained, IsPixelOf};
+ghost use Rattle.raster_sweeps.specs.Growth.{CellHasSpread, IsDrained, IsPixelOf, rows_of};
 ghost use Rattle.raster_sweeps.specs.OpenBounds.{IsRaisedFrom};
 
 use crate::corridors::follow;
 use crate::neighbourhood::{Cross, Place, Span, Spans, cross_around, spans_around};
+use crate::size::Size;
 use crate::waiting::{Waiting, strip_of};
-use grid_core::laws::cells_given_back;
-use grid_core::{Bounds, Conn, Grid, Pixel, Rect};
+use grid_core::{Bounds, Conn, Pixel, Rect};
 
 /// Lets the waiting cells spread until none waits, which it answers by `true`. A corridor is followed to its end.
 ///
 /// Where the queue was full it stops with `false`.
-pub fn drain(mask: &Grid, image: &mut Grid, rect: Rect, conn: Conn, waiting: &mut Waiting) -> bool
-    requires close { CanClose rect mask.now image.old }
-    requires inside { AreInside rect image.old.width waiting.old }
-    ensures { IsDrained conn rect mask.now image.old image.new waiting.old result }
+pub fn drain(
+    mask: &[u16],
+    image: &mut [u16],
+    size: Size,
+    rect: Rect,
+    conn: Conn,
+    waiting: &mut Waiting,
+) -> bool
+    requires close { CanClose rect (rows_of size mask.now) (rows_of size image.old) }
+    requires inside { AreInside rect size.w waiting.old }
+    ensures { IsDrained conn rect (rows_of size mask.now) (rows_of size image.old)
+        (rows_of size image.new) waiting.old result }
 {
     while let Some(cell) = waiting.pop() {
-        let last = follow(mask, image, rect, waiting, cell);
-        if !spread(mask, image, rect, conn, waiting, last) {
+        let last = follow(mask, image, size, rect, waiting, cell);
+        if !spread(mask, image, size, rect, conn, waiting, last) {
             return false;
         }
     }
@@ -40,24 +48,25 @@ pub fn drain(mask: &Grid, image: &mut Grid, rect: Rect, conn: Conn, waiting: &mu
 ///
 /// Where the queue was full it stops with none.
 pub fn drain_within(
-    mask: &Grid,
-    image: &mut Grid,
+    mask: &[u16],
+    image: &mut [u16],
+    size: Size,
     rect: Rect,
     conn: Conn,
     waiting: &mut Waiting,
     bounds: Bounds,
 ) -> Option<Bounds>
-    requires close { CanClose rect mask.now image.old }
-    requires inside { AreInside rect image.old.width waiting.old }
-    requires all { AllWait conn rect mask.now image.old waiting.old }
+    requires close { CanClose rect (rows_of size mask.now) (rows_of size image.old) }
+    requires inside { AreInside rect size.w waiting.old }
+    requires all { AllWait conn rect (rows_of size mask.now) (rows_of size image.old) waiting.old }
     requires lie { LieIn bounds rect }
-    ensures { IsRaisedFrom conn rect mask.now image.old image.new bounds result }
+    ensures { IsRaisedFrom conn rect (rows_of size mask.now) (rows_of size image.old)
+        (rows_of size image.new) bounds result }
 {
-    let width = mask.width();
     let mut risen = bounds;
     while let Some(cell) = waiting.pop() {
-        risen = risen.including(pixel_of(width, cell));
-        if !spread(mask, image, rect, conn, waiting, cell) {
+        risen = risen.including(pixel_of(size.w, cell));
+        if !spread(mask, image, size, rect, conn, waiting, cell) {
             return None;
         }
     }
@@ -81,30 +90,28 @@ fn pixel_of(width: u32, cell: u32) -> Pixel
 /// It answers whether there was room for all of them.
 #[inline(always)]
 pub fn spread(
-    mask: &Grid,
-    image: &mut Grid,
+    mask: &[u16],
+    image: &mut [u16],
+    size: Size,
     rect: Rect,
     conn: Conn,
     waiting: &mut Waiting,
     cell: u32,
 ) -> bool
-    requires grow { CanGrow rect mask.now image.old }
-    requires inside { AreInside rect image.old.width (cell ∷ waiting.old) }
-    ensures { CellHasSpread conn rect mask.now image.old image.new cell waiting.old waiting.new result }
+    requires close { CanClose rect (rows_of size mask.now) (rows_of size image.old) }
+    requires inside { AreInside rect size.w (cell ∷ waiting.old) }
+    ensures { CellHasSpread conn rect (rows_of size mask.now) (rows_of size image.old)
+        (rows_of size image.new) cell waiting.old waiting.new result }
 {
-    cells_given_back();
-    let width = mask.width();
-    let limits = mask.cells();
-    let cells = image.cells_mut();
-    let level = cells[cell as usize];
+    let level = image[cell as usize];
     match conn {
         Conn::Four => {
-            let cross = cross_around(width, rect, cell);
-            raise_cross(limits, cells, waiting, level, cross)
+            let cross = cross_around(size.w, rect, cell);
+            raise_cross(mask, image, waiting, level, cross)
         }
         Conn::Eight => {
-            let spans = spans_around(width, rect, cell);
-            raise_around(limits, cells, waiting, level, spans)
+            let spans = spans_around(size.w, rect, cell);
+            raise_around(mask, image, waiting, level, spans)
         }
     }
 }

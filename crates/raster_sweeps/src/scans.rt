@@ -3,71 +3,80 @@
 
 ghost use Rattle.std.specs.Prelude.{◌≡◌, ◌<◌, ◌↔◌, [], length, IsTrue};
 ghost use Rattle.grid_core.specs.Neighbours.{apart};
-ghost use Rattle.grid_core.specs.Raster.{IsBelow};
+ghost use Rattle.grid_core.specs.Raster.{IsBelow, IsSized};
 ghost use Rattle.grid_core.specs.Rects.{RectFits};
-ghost use Rattle.raster_sweeps.specs.Growth.{AllWait, AreInside, IsGrown, CanGrow, IsScannedInto};
+ghost use Rattle.raster_sweeps.specs.Growth.{AllWait, AreInside, IsGrown, CanClose, IsScannedInto, rows_of};
 ghost use Rattle.raster_sweeps.specs.RowPairs.{CanGrowAcross, CanGrowRow, IsDark, IsFromTo, IsGreatest};
 ghost use Rattle.raster_sweeps.specs.RowPairs.{NoneOpen, NoneOpenToLeft};
 ghost use Rattle.raster_sweeps.specs.RowRaises.{AreApart, AreCellsRaised, IsRowGrown};
 
 use crate::open_pairs::queue_onward;
 use crate::row_raises::{raise_by, raise_from_left, raise_from_right};
+use crate::size::{Size, row_in};
 use crate::waiting::Waiting;
-use grid_core::laws::cells_given_back;
-use grid_core::{Conn, Grid, Rect};
+use grid_core::{Conn, Rect};
 
 /// The raster scan: row by row from the top, each row from the left, each pixel of the rectangle is raised by its
-/// earlier neighbours there, as far as the mask lets it. A row that is 0 as is the one before it is passed over: nothing
-/// rises there.
-pub fn scan_down(mask: &Grid, image: &mut Grid, rect: Rect, conn: Conn)
-    requires { CanGrow rect mask.now image.old }
-    ensures { IsGrown conn rect mask.now image.old image.new }
+/// earlier neighbours there, as far as the mask lets it. A row that is 0 as is the one before it is passed over:
+/// nothing rises there.
+pub fn scan_down(mask: &[u16], image: &mut [u16], size: Size, rect: Rect, conn: Conn)
+    requires { CanClose rect (rows_of size mask.now) (rows_of size image.old) }
+    ensures { IsGrown conn rect (rows_of size mask.now) (rows_of size image.old) (rows_of size image.new) }
 {
-    raise_row_from_left(mask, image, rect, 0);
-    let mut dark = is_dark(image, rect, 0);
+    raise_row_from_left(mask, image, size, rect, 0);
+    let mut dark = is_dark(image, size, rect, 0);
     for y in 1..rect.h {
-        if dark && is_dark(image, rect, y) {
+        if dark && is_dark(image, size, rect, y) {
             continue;
         }
-        raise_row_by(mask, image, rect, y - 1, y, conn);
-        raise_row_from_left(mask, image, rect, y);
-        dark = is_dark(image, rect, y);
+        raise_row_by(mask, image, size, rect, y - 1, y, conn);
+        raise_row_from_left(mask, image, size, rect, y);
+        dark = is_dark(image, size, rect, y);
     }
 }
 
 /// The anti-raster scan, from the last pixel of the rectangle back. After each row those of its pixels that can still
-/// raise the one to their right or one in the row below are put into the queue. A row that is 0 as is the one below it is
-/// passed over: nothing rises there.
+/// raise the one to their right or one in the row below are put into the queue. A row that is 0 as is the one below it
+/// is passed over: nothing rises there.
 ///
 /// It answers whether there was room for all of them. Where there was not, the rows above are raised and not checked.
-pub fn scan_up(mask: &Grid, image: &mut Grid, rect: Rect, conn: Conn, waiting: &mut Waiting) -> bool
-    requires grow { CanGrow rect mask.now image.old }
+pub fn scan_up(
+    mask: &[u16],
+    image: &mut [u16],
+    size: Size,
+    rect: Rect,
+    conn: Conn,
+    waiting: &mut Waiting,
+) -> bool
+    requires close { CanClose rect (rows_of size mask.now) (rows_of size image.old) }
     requires empty { waiting.old ≡ [] }
-    ensures { IsScannedInto conn rect mask.now image.old image.new result waiting.new }
+    ensures { IsScannedInto conn rect (rows_of size mask.now) (rows_of size image.old)
+        (rows_of size image.new) result waiting.new }
 {
     let last = rect.h - 1;
-    raise_row_from_right(mask, image, rect, last);
-    let mut all = queue_onward(mask, image, rect, last, conn, waiting);
-    let mut dark = is_dark(image, rect, last);
+    raise_row_from_right(mask, image, size, rect, last);
+    let mut all = queue_onward(mask, image, size, rect, last, conn, waiting);
+    let mut dark = is_dark(image, size, rect, last);
     for y in (0..last).rev() {
-        if dark && is_dark(image, rect, y) {
+        if dark && is_dark(image, size, rect, y) {
             continue;
         }
-        raise_row_by(mask, image, rect, y + 1, y, conn);
-        raise_row_from_right(mask, image, rect, y);
-        dark = is_dark(image, rect, y);
-        all = all && queue_onward(mask, image, rect, y, conn, waiting);
+        raise_row_by(mask, image, size, rect, y + 1, y, conn);
+        raise_row_from_right(mask, image, size, rect, y);
+        dark = is_dark(image, size, rect, y);
+        all = all && queue_onward(mask, image, size, rect, y, conn, waiting);
     }
     all
 }
 
 // Whether each pixel of the rectangle's row `y` is 0.
-fn is_dark(image: &Grid, rect: Rect, y: u32) -> bool
-    requires fits { RectFits image.now.width image.now.height rect }
+fn is_dark(image: &[u16], size: Size, rect: Rect, y: u32) -> bool
+    requires sized { IsSized (rows_of size image.now) }
+    requires fits { RectFits size.w size.h rect }
     requires row { y < rect.h }
-    ensures { IsTrue result ↔ IsDark rect image.now y }
+    ensures { IsTrue result ↔ IsDark rect (rows_of size image.now) y }
 {
-    if greatest(image.row_in(rect, y)) > 0 {
+    if greatest(row_in(image, size, rect, y)) > 0 {
         return false;
     }
     true
@@ -86,17 +95,25 @@ fn greatest(row: &[u16]) -> u16
 
 // Raises the pixels of the rectangle's row `to` by their neighbours in the row `from`, which touches it, so that none
 // of these can raise them further.
-fn raise_row_by(mask: &Grid, image: &mut Grid, rect: Rect, from: u32, to: u32, conn: Conn)
-    requires { CanGrowAcross rect mask.now image.old from to }
-    ensures grown { IsRowGrown conn rect mask.now to image.old image.new }
-    ensures closed { NoneOpen conn rect mask.now image.new (IsFromTo from to) }
+fn raise_row_by(
+    mask: &[u16],
+    image: &mut [u16],
+    size: Size,
+    rect: Rect,
+    from: u32,
+    to: u32,
+    conn: Conn,
+)
+    requires { CanGrowAcross rect (rows_of size mask.now) (rows_of size image.old) from to }
+    ensures grown { IsRowGrown conn rect (rows_of size mask.now) to (rows_of size image.old)
+        (rows_of size image.new) }
+    ensures closed { NoneOpen conn rect (rows_of size mask.now) (rows_of size image.new) (IsFromTo from to) }
 {
-    cells_given_back();
-    let limits = mask.row_in(rect, to);
-    let width = image.width() as usize;
+    let limits = row_in(mask, size, rect, to);
+    let width = size.w as usize;
     let source = (rect.y + from) as usize * width + rect.x as usize;
     let target = (rect.y + to) as usize * width + rect.x as usize;
-    raise_cells_by(limits, image.cells_mut(), source, target, conn);
+    raise_cells_by(limits, image, source, target, conn);
 }
 
 // Raises the row of cells that begins at `target` by the row that begins at `source`, above or below it.
@@ -125,28 +142,26 @@ fn raise_cells_by(limits: &[u16], cells: &mut [u16], source: usize, target: usiz
 }
 
 // Raises the pixels of the rectangle's row `y`, from the left, by those to their left.
-fn raise_row_from_left(mask: &Grid, image: &mut Grid, rect: Rect, y: u32)
-    requires { CanGrowRow rect mask.now image.old y }
-    ensures { (conn : _) → IsRowGrown conn rect mask.now y image.old image.new }
+fn raise_row_from_left(mask: &[u16], image: &mut [u16], size: Size, rect: Rect, y: u32)
+    requires { CanGrowRow rect (rows_of size mask.now) (rows_of size image.old) y }
+    ensures { (conn : _) → IsRowGrown conn rect (rows_of size mask.now) y (rows_of size image.old)
+        (rows_of size image.new) }
 {
-    cells_given_back();
-    let limits = mask.row_in(rect, y);
-    let width = image.width() as usize;
+    let limits = row_in(mask, size, rect, y);
+    let width = size.w as usize;
     let start = (rect.y + y) as usize * width + rect.x as usize;
-    let cells = image.cells_mut();
-    raise_from_left(limits, &mut cells[start..start + rect.w as usize]);
+    raise_from_left(limits, &mut image[start..start + rect.w as usize]);
 }
 
 // Raises the pixels of the rectangle's row `y`, from the right, by those to their right.
-fn raise_row_from_right(mask: &Grid, image: &mut Grid, rect: Rect, y: u32)
-    requires { CanGrowRow rect mask.now image.old y }
-    ensures grown { (conn : _) → IsRowGrown conn rect mask.now y image.old image.new }
-    ensures closed { (conn : _) → NoneOpenToLeft conn rect mask.now image.new y }
+fn raise_row_from_right(mask: &[u16], image: &mut [u16], size: Size, rect: Rect, y: u32)
+    requires { CanGrowRow rect (rows_of size mask.now) (rows_of size image.old) y }
+    ensures grown { (conn : _) → IsRowGrown conn rect (rows_of size mask.now) y (rows_of size image.old)
+        (rows_of size image.new) }
+    ensures closed { (conn : _) → NoneOpenToLeft conn rect (rows_of size mask.now) (rows_of size image.new) y }
 {
-    cells_given_back();
-    let limits = mask.row_in(rect, y);
-    let width = image.width() as usize;
+    let limits = row_in(mask, size, rect, y);
+    let width = size.w as usize;
     let start = (rect.y + y) as usize * width + rect.x as usize;
-    let cells = image.cells_mut();
-    raise_from_right(limits, &mut cells[start..start + rect.w as usize]);
+    raise_from_right(limits, &mut image[start..start + rect.w as usize]);
 }

@@ -1,49 +1,56 @@
 use Rattle.std.proofs.Common.{◌≡◌, ◌+◌, ◌-◌, ◌<◌, suc, length, arith, refl, subst, sym}
 use Rattle.grid_core.specs.declared.conn.Conn.TheVariants.{Four}
 use Rattle.raster_sweeps.specs.Corridors.{IsFollowed, IsWay}
-use Rattle.raster_sweeps.proofs.Grown.{grown_filled}
+use Rattle.raster_sweeps.specs.Growth.{rows_of}
+use Rattle.raster_sweeps.proofs.Growing.{can_close_on, can_grow}
 use Rattle.raster_sweeps.proofs.Ways.{followed_nowhere, followed_on, way_on, way_within}
 use Rattle.raster_sweeps.proofs.corridors.follow_column.Goals as goal
 
 pub loop-init : goal.loop-init
-loop-init c = record {
-  followed = λ conn.
-      followed_nowhere conn c.args.rect c.args.mask.now c.args.image.now c.args.cell c.requires.close
-      (c.requires.way.here, c.requires.way.here_inside, c.requires.way.here_cell);
-  way =
-      let all : c.args.count ≡ c.args.count - 0 = omega arith in
-      subst (IsWay c.args.rect c.args.image.now.width c.args.behind c.args.cell) all c.requires.way;
-  behind = c.requires.behind;
-}
+loop-init c =
+    let size = c.args.size in
+    record {
+      followed = λ conn.
+          followed_nowhere conn c.args.rect (rows_of size c.args.mask.now) (rows_of size c.args.image.now) c.args.cell
+          c.requires.close (c.requires.way.here, c.requires.way.here_inside, c.requires.way.here_cell);
+      way =
+          let all : c.args.count ≡ c.args.count - 0 = omega arith in
+          subst (IsWay c.args.rect size.w c.args.behind c.args.cell) all c.requires.way;
+      behind = c.requires.behind;
+    }
 
-pub raise_next-requires-clause-grow : goal.raise_next-requires-clause-grow
-raise_next-requires-clause-grow c = record {
-  below = (c.loop.invariant.followed Four).grown.below;
-  fits = c.requires.close.fits;
-}
+pub raise_next-requires-clause-close : goal.raise_next-requires-clause-close
+raise_next-requires-clause-close c =
+    can_close_on Four c.args.rect c.args.size c.args.mask.now c.args.image.now c.loop.image c.requires.close
+    (c.loop.invariant.followed Four).grown
 
 pub returns-then-not-raise_next : goal.returns-then-not-raise_next
 returns-then-not-raise_next c conn =
-    subst (λ r. IsFollowed conn c.args.rect c.args.mask.now c.args.image.now r c.args.cell c.loop.at)
-    (sym c.if-not-raise_next.ensures) (c.loop.invariant.followed conn)
+    let size = c.args.size in
+    subst (λ cells. IsFollowed conn c.args.rect (rows_of size c.args.mask.now) (rows_of size c.args.image.now)
+    (rows_of size cells) c.args.cell c.loop.at) (sym c.if-not-raise_next.ensures) (c.loop.invariant.followed conn)
 
 -- the way goes on by a row at least
 some_way : (c : goal.Else-not-raise_next)
-    → IsWay c.args.rect c.loop.image.width c.loop.last c.loop.at (suc (c.args.count - (c.loop.counter + 1)))
+    → IsWay c.args.rect c.args.size.w c.loop.last c.loop.at (suc (c.args.count - (c.loop.counter + 1)))
 some_way c =
     let rest : c.args.count - c.loop.counter ≡ suc (c.args.count - (c.loop.counter + 1)) =
     omega (arith, c.loop-test.true) in
-    subst (IsWay c.args.rect c.loop.image.width c.loop.last c.loop.at) rest c.loop.invariant.way
+    subst (IsWay c.args.rect c.args.size.w c.loop.last c.loop.at) rest c.loop.invariant.way
 
 -- the cell is one of the image, and lies before the one that is as far beyond it as the one behind
 within_image : (c : goal.Else-not-raise_next)
-    → (c.loop.at < length c.loop.image.cells) × (c.loop.last < c.loop.at + c.loop.at)
+    → (c.loop.at < length c.loop.image) × (c.loop.last < c.loop.at + c.loop.at)
 within_image c =
-    let grown = (c.loop.invariant.followed Four).grown in
+    let size = c.args.size in
+    let mask = rows_of size c.args.mask.now in
+    let image = rows_of size c.loop.image in
+    let close =
+    can_close_on Four c.args.rect size c.args.mask.now c.args.image.now c.loop.image c.requires.close
+    (c.loop.invariant.followed Four).grown in
     let fits =
-    way_within c.args.rect c.loop.image.width c.loop.last c.loop.at (c.args.count - (c.loop.counter + 1)) (some_way c)
-    c.args.mask.now c.loop.image refl (record { below = grown.below; fits = c.requires.close.fits })
-    (grown_filled Four c.args.rect c.args.mask.now c.args.image.now c.loop.image c.requires.close.filled grown) in
+    way_within c.args.rect size.w c.loop.last c.loop.at (c.args.count - (c.loop.counter + 1)) (some_way c) mask image
+    refl (can_grow c.args.rect mask image close) close.filled in
     (fits.0, omega (arith, fits.1))
 
 pub overflow_add-next : goal.overflow_add-next
@@ -52,8 +59,8 @@ overflow_add-next c =
       arith,
       (within_image c).0,
       (c.loop.invariant.followed Four).grown.filled,
-      c.width.ensures.sized.filled,
-      c.width.ensures.sized.size.pixels_within,
+      c.requires.close.filled,
+      c.requires.close.size.pixels_within,
     )
 
 pub overflow_sub-next : goal.overflow_sub-next
@@ -61,17 +68,17 @@ overflow_sub-next c = omega (arith, (within_image c).1)
 
 pub loop-preserved : goal.loop-preserved
 loop-preserved c =
-    let rect = c.args.rect in
-    let between = c.loop.image in
-    let after = c.raise_next.new.image in
+    let size = c.args.size in
+    let mask = rows_of size c.args.mask.now in
+    let before = rows_of size c.args.image.now in
+    let between = rows_of size c.loop.image in
+    let after = rows_of size c.raise_next.new.image in
     let passed = c.if-not-raise_next.ensures in
     record {
       followed = λ conn.
-          followed_on conn rect c.args.mask.now c.args.image.now between after c.args.cell c.loop.at
+          followed_on conn c.args.rect mask before between after c.args.cell c.loop.at
           (c.loop.at + c.loop.at - c.loop.last) (c.loop.invariant.followed conn) (passed.followed conn);
       way =
-          subst (λ w. IsWay rect w c.loop.at (c.loop.at + c.loop.at - c.loop.last)
-          (c.args.count - (c.loop.counter + 1))) (sym (passed.followed Four).grown.width)
-          (way_on rect between.width c.loop.last c.loop.at (c.args.count - (c.loop.counter + 1)) (some_way c));
+          way_on c.args.rect size.w c.loop.last c.loop.at (c.args.count - (c.loop.counter + 1)) (some_way c);
       behind = passed.shut;
     }

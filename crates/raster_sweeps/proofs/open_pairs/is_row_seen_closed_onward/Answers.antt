@@ -1,16 +1,16 @@
 use Rattle.std.proofs.Common.{◌≡◌, ◌+◌, ◌<◌, ◌≤◌, get_or, min, refl, subst, arith, inl, inr}
 use Rattle.grid_core.specs.declared.conn.Conn.TheVariants.{Four}
 use Rattle.grid_core.specs.Neighbours.{apart}
-use Rattle.raster_sweeps.specs.Growth.{cell_of}
+use Rattle.raster_sweeps.specs.Growth.{cell_of, rows_of}
 use Rattle.raster_sweeps.proofs.OpenRows.{open_to_right, open_beside, row_cases}
 use Rattle.raster_sweeps.proofs.RowQueues.{beside_four_straight}
 use Rattle.raster_sweeps.proofs.open_pairs.is_row_seen_closed_onward.Goals as goal
 
 pub returns : goal.returns
 returns c seen scanned cell o =
+    let mask = rows_of c.args.size c.args.mask.now in
+    let image = rows_of c.args.size c.args.image.now in
     let rect = c.args.rect in
-    let mask = c.args.mask.now in
-    let image = c.args.image.now in
     let y = c.args.y in
     let row = c.row_in-row.result.now in
     let limits = c.row_in-limits.result.now in

@@ -1,14 +1,15 @@
 use Rattle.raster_sweeps.specs.RowPairs.{AreBeside, IsFromTo, RaisesTo, IsOpenCell}
+use Rattle.raster_sweeps.specs.Growth.{rows_of}
 use Rattle.raster_sweeps.proofs.Joining.{joined_same}
 use Rattle.raster_sweeps.proofs.OpenRows.{beside_opens, open_beside}
 use Rattle.raster_sweeps.proofs.open_pairs.queue_between.Goals as goal
 
 pub returns : goal.returns
 returns c =
+    let mask = rows_of c.args.size c.args.mask.now in
+    let image = rows_of c.args.size c.args.image.now in
     let conn = c.args.conn in
     let rect = c.args.rect in
-    let mask = c.args.mask.now in
-    let image = c.args.image.now in
     let y = c.args.from in
     let z = c.args.to in
     let first = c.first_cell-first.result in

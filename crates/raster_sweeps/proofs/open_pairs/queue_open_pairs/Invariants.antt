@@ -1,3 +1,4 @@
+use Rattle.raster_sweeps.specs.Growth.{rows_of}
 use Rattle.std.proofs.Common.{true}
 use Rattle.raster_sweeps.specs.RowPairs.{IsOpenCell, HaveJoined}
 use Rattle.raster_sweeps.proofs.OpenRows.{IsUpperAbove}
@@ -5,4 +6,5 @@ use Rattle.raster_sweeps.proofs.open_pairs.queue_open_pairs.Given as goal
 
 abbrev pub invariant-loop-y : goal.invariant-loop-y
 invariant-loop-y l =
-    HaveJoined (IsOpenCell l.conn l.rect l.mask l.image (IsUpperAbove l.y)) true l.fn.waiting l.waiting
+    HaveJoined (IsOpenCell l.conn l.rect (rows_of l.size l.mask) (rows_of l.size l.image) (IsUpperAbove l.y)) true
+    l.fn.waiting l.waiting

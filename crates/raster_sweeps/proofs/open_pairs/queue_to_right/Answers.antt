@@ -1,5 +1,6 @@
 use Rattle.std.proofs.Common.{◌≡◌, ◌<◌, length, refl, arith}
 use Rattle.raster_sweeps.specs.RowPairs.{IsFromTo, IsOpenCell}
+use Rattle.raster_sweeps.specs.Growth.{rows_of}
 use Rattle.raster_sweeps.proofs.Joining.{joined_same}
 use Rattle.raster_sweeps.proofs.OpenRows.{aside_opens, open_to_right}
 use Rattle.raster_sweeps.proofs.RowQueues.{RaisesRight, right_aside, left_raises_right}
@@ -7,9 +8,9 @@ use Rattle.raster_sweeps.proofs.open_pairs.queue_to_right.Goals as goal
 
 pub returns : goal.returns
 returns c conn closed =
+    let mask = rows_of c.args.size c.args.mask.now in
+    let image = rows_of c.args.size c.args.image.now in
     let rect = c.args.rect in
-    let mask = c.args.mask.now in
-    let image = c.args.image.now in
     let y = c.args.y in
     let first = c.first_cell-first.result in
     let row = c.row_in-row.result.now in

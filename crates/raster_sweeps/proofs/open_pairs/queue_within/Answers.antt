@@ -1,14 +1,15 @@
 use Rattle.std.proofs.Common.{refl}
 use Rattle.raster_sweeps.specs.RowPairs.{AreAside, IsFromTo, RaisesTo, IsOpenCell}
+use Rattle.raster_sweeps.specs.Growth.{rows_of}
 use Rattle.raster_sweeps.proofs.Joining.{joined_same}
 use Rattle.raster_sweeps.proofs.OpenRows.{aside_opens, open_aside}
 use Rattle.raster_sweeps.proofs.open_pairs.queue_within.Goals as goal
 
 pub returns : goal.returns
 returns c conn =
+    let mask = rows_of c.args.size c.args.mask.now in
+    let image = rows_of c.args.size c.args.image.now in
     let rect = c.args.rect in
-    let mask = c.args.mask.now in
-    let image = c.args.image.now in
     let y = c.args.y in
     let first = c.first_cell-first.result in
     let row = c.row_in-row.result.now in
