@@ -7,7 +7,7 @@ ghost use Rattle.std.specs.Prelude.{◌≡◌, ◌+◌, ◌⊎◌, IfOk};
 ghost use Rattle.grid_core.specs.Path.{domain_of};
 ghost use Rattle.grid_core.specs.Raster.{IsInside, IsOnBorder};
 ghost use Rattle.derived_views.specs.Holes.{IsFill};
-ghost use Rattle.derived_views.specs.Rasters.{complement_of, IsPartOfBorder, IsBorderOf, Copies};
+ghost use Rattle.derived_views.specs.Rasters.{IsPartOfBorder, IsBorderOf, Copies};
 ghost use Rattle.derived_views.specs.Rasters.{AreDifferences, IsDifference};
 ghost use Rattle.derived_views.specs.Views.{IsView};
 
@@ -23,24 +23,22 @@ use std::alloc::Global;
 pub fn fill(alloc: Global, image: &Image, conn: Conn) -> Result<Image, Memory>
     ensures { IfOk result (IsView image.now image.now.maxval (IsFill (domain_of image.now.raster conn))) }
 {
+    let copy = image.grid().copy(alloc)?;
+    into_filled(alloc, Image::over(copy, image.maxval()), conn)
+}
+
+/// The image with its holes filled, as [`fill`] says, in the memory of the image and of one grid more.
+///
+/// Errors: out of memory.
+pub fn into_filled(alloc: Global, image: Image, conn: Conn) -> Result<Image, Memory>
+    ensures { IfOk result (IsView image image.maxval (IsFill (domain_of image.raster conn))) }
+{
     let top = image.maxval();
-    let mask = complement(alloc, image.grid(), top)?;
+    let mask = complemented(image.into_grid(), top);
     let mut grown = border_of(alloc, &mask)?;
     grow_in_place(alloc, &mask, &mut grown, conn)?;
     let filled = complemented(grown, top);
     Ok(Image::over(filled, top))
-}
-
-// How far each value lies below the top, as another grid.
-fn complement(alloc: Global, grid: &Grid, top: u16) -> Result<Grid, Memory>
-    ensures { IfOk result (λ g. g ≡ complement_of top grid.now) }
-{
-    let cells = grid
-        .cells()
-        .iter()
-        .map(|v| top.saturating_sub(*v))
-        .collect(alloc)?;
-    Ok(Grid::from_cells(grid.width(), grid.height(), cells))
 }
 
 // How far each value lies below the top, in the same memory.

@@ -28,7 +28,7 @@ mod maxima;
 mod plateaus;
 mod shown;
 
-pub use holes::fill;
+pub use holes::{fill, into_filled};
 pub use maxima::h_maxima;
 pub use plateaus::regional_maxima;
 pub use shown::reconstruction;

@@ -11,7 +11,7 @@ use crate::answering::{Responder, respond};
 use crate::run_error::RunError;
 use byte_devices::{Sink, Source};
 use derived_views::laws::{at_most_one_fill, at_most_one_regional_maxima};
-use derived_views::{fill, h_maxima, regional_maxima};
+use derived_views::{h_maxima, into_filled, regional_maxima};
 use grid_core::laws::{at_most_one_reconstruction, equal_pixels_equal_images};
 use grid_core::{Conn, Memory};
 use pgm_codec::{Image, one_fault, one_image, read};
@@ -67,25 +67,25 @@ impl Responder for Deriver {
     fn answer(&self, alloc: Global, input: &[u8]) -> Result<((), Image), RunError> {
         one_fault();
         let image = read(alloc, input)?;
-        let derived = derived_image(alloc, &image, self.kind, self.h, self.conn)?;
+        let derived = derived_image(alloc, image, self.kind, self.h, self.conn)?;
         Ok(((), derived))
     }
 }
 
-// The image that is derived from another.
+// The image that is derived from another, some in its memory.
 fn derived_image(
     alloc: Global,
-    image: &Image,
+    image: Image,
     kind: Derivation,
     h: u16,
     conn: Conn,
 ) -> Result<Image, Memory>
-    ensures { IfOk result (IsDerived kind h conn image.now) }
+    ensures { IfOk result (IsDerived kind h conn image) }
 {
     match kind {
-        Derivation::Fill => fill(alloc, image, conn),
-        Derivation::HMax => h_maxima(alloc, image, h, conn),
-        Derivation::RegMax => regional_maxima(alloc, image, conn),
+        Derivation::Fill => into_filled(alloc, image, conn),
+        Derivation::HMax => h_maxima(alloc, &image, h, conn),
+        Derivation::RegMax => regional_maxima(alloc, &image, conn),
     }
 }
 

@@ -1,25 +1,27 @@
 use Rattle.std.proofs.Common.{◌≡◌, ◌≤◌, ◌∙◌, ap, sym, subst, arith, rules}
 use Rattle.std.specs.Prelude.{slice_index, EachIndex}
 use Rattle.grid_core.specs.Path.{domain_of}
-use Rattle.grid_core.specs.Raster.{value_at}
+use Rattle.grid_core.specs.Raster.{IsFilled, value_at}
 use Rattle.pgm_codec.specs.Graymap.{Graymap}
 use Rattle.derived_views.specs.Holes.{IsFill}
 use Rattle.derived_views.specs.Rasters.{complement_of}
 use Rattle.derived_views.proofs.Borders.{border_below}
 use Rattle.derived_views.proofs.Growing.{fill_from, graymap_from}
-use Rattle.derived_views.proofs.holes.fill.Goals as goal
+use Rattle.derived_views.proofs.Rasters.{complement_is}
+use Rattle.derived_views.proofs.holes.into_filled.Goals as goal
 
 pub grow_in_place-requires : goal.grow_in_place-requires
-grow_in_place-requires c = border_below c.in_ok-mask.mask c.in_ok-grown.grown c.in_ok-grown.ensures.part
+grow_in_place-requires c = border_below c.complemented-mask.result c.in_ok-grown.grown c.in_ok-grown.ensures.part
 
 pub over-requires : goal.over-requires
 over-requires c =
-    let image = c.args.image.now in
+    let image = c.args.image in
     let is = c.maxval-top.ensures.is_graymap in
     let top : c.maxval-top.result ≡ image.maxval = c.maxval-top.ensures.value in
-    let mask : c.in_ok-mask.mask ≡ complement_of c.maxval-top.result image.raster =
-    c.in_ok-mask.ensures ∙ ap (λ r. complement_of c.maxval-top.result r) c.grid.ensures.value
-    in
+    let mask : c.complemented-mask.result ≡ complement_of c.maxval-top.result image.raster =
+    complement_is c.maxval-top.result c.into_grid.result c.complemented-mask.result
+    (subst (λ r. IsFilled r) (sym c.into_grid.ensures) is.sized.filled) c.complemented-mask.ensures
+    ∙ ap (λ r. complement_of c.maxval-top.result r) c.into_grid.ensures in
     let turned = c.complemented-filled.ensures in
     let grown = c.in_ok-grow_in_place.ensures.grown in
     graymap_from image c.complemented-filled.result c.maxval-top.result is
@@ -32,13 +34,14 @@ over-requires c =
 
 pub returns : goal.returns
 returns c =
-    let image = c.args.image.now in
+    let image = c.args.image in
     let is = c.maxval-top.ensures.is_graymap in
     let d = domain_of image.raster c.args.conn in
     let top : c.maxval-top.result ≡ image.maxval = c.maxval-top.ensures.value in
-    let mask : c.in_ok-mask.mask ≡ complement_of c.maxval-top.result image.raster =
-    c.in_ok-mask.ensures ∙ ap (λ r. complement_of c.maxval-top.result r) c.grid.ensures.value
-    in
+    let mask : c.complemented-mask.result ≡ complement_of c.maxval-top.result image.raster =
+    complement_is c.maxval-top.result c.into_grid.result c.complemented-mask.result
+    (subst (λ r. IsFilled r) (sym c.into_grid.ensures) is.sized.filled) c.complemented-mask.ensures
+    ∙ ap (λ r. complement_of c.maxval-top.result r) c.into_grid.ensures in
     let bound : EachIndex image.raster.cells (λ k. slice_index image.raster.cells k ≤ c.maxval-top.result) =
     λ k within. omega (arith, is.samples_within k within, top)
     in
@@ -47,7 +50,7 @@ returns c =
     let part = c.in_ok-grown.ensures.part in
     let shown =
     subst (λ (g : Graymap). IsFill d (value_at image.raster) (value_at g.raster)) (sym c.over.ensures)
-    (fill_from c.args.conn c.maxval-top.result image.raster c.in_ok-mask.mask c.in_ok-grown.grown
+    (fill_from c.args.conn c.maxval-top.result image.raster c.complemented-mask.result c.in_ok-grown.grown
     c.grow_in_place.new.image c.complemented-filled.result mask is.sized.filled turned.filled bound
     part c.in_ok-grown.ensures.border (grown.width ∙ sym part.width) turned.width (grown.height ∙ sym part.height)
     turned.height turned.values grown.reconstruction) in
