@@ -1,6 +1,7 @@
 -- The laws of reconstruction, as statements. Public functions have them as their contracts.
 use Rattle.std.specs.Prelude.{◌≡◌, ℕ, ◌≤◌, ◌↔◌}
 use Rattle.grid_core.specs.declared.pixel.Pixel.{Pixel}
+use Rattle.grid_core.specs.Neighbours.{AreNeighbours}
 use Rattle.grid_core.specs.Path.{Domain, Inside, Reaches}
 use Rattle.grid_core.specs.Reconstruction.{IsReconstruction, IsLawful, IsClosed, IsRaise}
 use Rattle.grid_core.specs.Owed.{IsOwed}
@@ -30,6 +31,12 @@ abbrev pub ReachRisesWithMarker : Type 0
 ReachRisesWithMarker =
     (d : Domain) (mask lesser greater : Pixel → ℕ) → ((p : Pixel) → Inside d p → lesser p ≤ greater p)
     → (p : Pixel) (k : ℕ) → Reaches d mask lesser p k → Reaches d mask greater p k
+
+-- a pixel beside one that reaches a level reaches it too, where its mask is no less than the level
+abbrev pub ReachBeside : Type 0
+ReachBeside =
+    (d : Domain) (mask marker : Pixel → ℕ) (p q : Pixel) (k : ℕ) → Reaches d mask marker p k → Inside d q
+    → AreNeighbours d.conn p q → k ≤ mask q → Reaches d mask marker q k
 
 -- a raise keeps an image lawful
 abbrev pub RaiseKeepsLawful : Type 0

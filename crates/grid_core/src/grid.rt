@@ -245,6 +245,13 @@ impl Grid {
         same_size && self.cells.iter().zip(&other.cells).all(|(a, b)| a <= b)
     }
 
+    /// Whether the sizes and all values are equal.
+    pub fn is_same(&self, other: &Grid) -> bool
+        ensures { IsTrue result ↔ (self.now ≡ other.now) }
+    {
+        self.w == other.w && self.h == other.h && self.cells() == other.cells()
+    }
+
     /// A grid with the same size and values.
     ///
     /// Errors: out of memory.

@@ -1,6 +1,6 @@
 //! Laws of images and of their reconstruction. Each is the contract of a function that does nothing.
 
-ghost use Rattle.grid_core.specs.Laws.{AtMostOneReconstruction, ReachRisesWithMarker};
+ghost use Rattle.grid_core.specs.Laws.{AtMostOneReconstruction, ReachRisesWithMarker, ReachBeside};
 ghost use Rattle.grid_core.specs.Laws.{LevelLaws, LawfulLaws, OwedLaws};
 ghost use Rattle.grid_core.specs.Lending.{CellsGivenBack};
 ghost use Rattle.grid_core.specs.TileLaws.{EachPixelInOneTile, TilesLieInside, NeighboursLieInTouchingTiles};
@@ -53,6 +53,11 @@ pub fn at_most_one_reconstruction()
 /// A pixel reaches under a greater marker what it reaches under a lesser.
 pub fn reach_rises_with_marker()
     ensures { ReachRisesWithMarker }
+{}
+
+/// A pixel beside one that reaches a level reaches it too, where its mask is no less than the level.
+pub fn reach_beside()
+    ensures { ReachBeside }
 {}
 
 /// Each pixel of the image lies in the rectangle of its tile and of no other.
