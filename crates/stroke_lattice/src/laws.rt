@@ -32,6 +32,11 @@ pub fn contents_of_withdrawn()
     ensures tombstones { (tag t : ℕ) → HasTombstone (withdrawn tag) t ↔ (t ≡ tag) }
 {}
 
+/// A state below another is below each state that this one is below.
+pub fn below_is_transitive()
+    ensures { (a b c : State) → IsBelow a b → IsBelow b c → IsBelow a c }
+{}
+
 /// Two states have at most one join.
 pub fn at_most_one_join()
     ensures { (a b j k : State) → IsJoin a b j → IsJoin a b k → j ≡ k }
