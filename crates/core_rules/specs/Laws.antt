@@ -87,6 +87,11 @@ EventKeepsSound =
 abbrev pub RunKeepsSound : Type 0
 RunKeepsSound = (before after : Core) (log : List Entry) → IsSound before → IsRun before log after → IsSound after
 
+-- events that come after other events are one list of events with them
+abbrev pub RunsFollow : Type 0
+RunsFollow =
+    (a b c : Core) (first second : List Entry) → IsRun a first b → IsRun b second c → IsRun a (first ++ second) c
+
 -- settling is a list of events
 abbrev pub SettlingIsARun : Type 0
 SettlingIsARun = (before after : Core) (log : List Entry) → IsSettled before log after → IsRun before log after

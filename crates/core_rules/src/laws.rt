@@ -3,6 +3,7 @@
 ghost use Rattle.core_rules.specs.Laws.{SupportedIsLawful, HandKeepsSound, TakeKeepsSound, AbandonKeepsSound};
 ghost use Rattle.core_rules.specs.Laws.{GiveBackKeepsSound, MergeKeepsSound, SoundIsLawful, QuietIsReconstruction};
 ghost use Rattle.core_rules.specs.Laws.{EventKeepsSound, RunKeepsSound, SettlingIsARun, CutShortIsARun};
+ghost use Rattle.core_rules.specs.Laws.{RunsFollow};
 ghost use Rattle.core_rules.specs.Laws.{ScheduleIsARun, OpenedIsSound, OpenedIsQuiet, HitTilesAdvance};
 ghost use Rattle.core_rules.specs.Laws.{OtherTilesStay, OtherTilesRise, NoDeathHitsNone, ScheduleJoins};
 ghost use Rattle.core_rules.specs.Laws.{AcceptedAreEdits, MergedIsAcceptable, RefusedIsNotAcceptable, OneRefusal};
@@ -68,6 +69,11 @@ pub fn run_keeps_sound()
 {
     edges_are_open();
 }
+
+/// Events that come after other events are one list of events with them.
+pub fn runs_follow()
+    ensures { RunsFollow }
+{}
 
 /// Settling is a list of events.
 pub fn settling_is_a_run()
