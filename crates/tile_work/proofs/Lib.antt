@@ -2,6 +2,8 @@
 pub mod OpenBoundsWidened
 pub mod TileSetWords
 pub mod TileSets
+pub mod Leasts
+pub mod TileSetPairs
 pub mod WorkTables
 pub mod WorkTableHints
 pub mod WorkTableSenders

@@ -12,8 +12,10 @@ use Rattle.tile_work.specs.declared.work_table.row.TileRow.{TileRow}
 use Rattle.tile_work.specs.declared.work_table.WorkTable.TheInside.{Inside}
 use Rattle.tile_work.specs.TileSet.{Has, HasNoneFrom, IsFirstFrom}
 use Rattle.border_queues.specs.TileWork.{TileWork, idle, IsIdle, fresh, IsLeast, work_of}
-use Rattle.tile_work.specs.WorkTable.{IsDirtyTile, HasJobOut, HasHintsAt, as_work, works_of}
+use Rattle.tile_work.specs.Least.{IsLeastFrom}
+use Rattle.tile_work.specs.WorkTable.{IsDirtyTile, HasJobOut, HasHintsAt, CanBeTaken, as_work, works_of}
 use Rattle.tile_work.specs.WorkTable.{is_some_hint, dirty_bits, out_bits, waiting_bits, AreInStep}
+use Rattle.tile_work.proofs.Leasts.{least_alike, least_of_all, least_of_set}
 
 -- ---- one row changes
 
@@ -184,43 +186,71 @@ waiting_says works waiting same t =
       λ some. bit.1 (some.0, there_is_some_hint (work_of works t).inbox some.1),
     )
 
+none_when : (out : Option ℕ) → (is_some out ≡ true → ⊥) → out ≡ None
+none_when None never = refl
+none_when (Some serial) never = absurd (never refl)
+
+none_is_some : (out : Option ℕ) → out ≡ None → is_some out ≡ true → ⊥
+none_is_some out none some = let no : is_some out ≡ false = ap is_some none in absurd cc
+
 -- the first of a set is the least of what the set says
-pub least_of_first : (bits : List Bool) (P : ℕ → Type 0) → ((t : ℕ) → Has bits t ↔ P t) → (first : Option ℕ)
-    → MatchOption first (HasNoneFrom bits 0) (IsFirstFrom bits 0)
-    → MatchOption first ((t : ℕ) → P t → ⊥) (IsLeast P)
-least_of_first bits P says None none = λ t p. none t (omega arith) ((says t).1 p)
-least_of_first bits P says (Some t) first =
-    ((says t).0 first.has, λ u p. first.first u (omega arith) ((says u).1 p))
+least_by_set : (bits : List Bool) (P : ℕ → Type 0) → ((t : ℕ) → Has bits t ↔ P t) → (from : ℕ) (first : Option ℕ)
+    → MatchOption first (HasNoneFrom bits from) (IsFirstFrom bits from) → IsLeastFrom P from first
+least_by_set bits P says from first found =
+    least_alike (Has bits) P (λ t. (says t).0) (λ t. (says t).1) from first (least_of_set bits from first found)
 
 module _ (table : Inside) (now : List TileWork) (view_is : works_of table.rows.items ≡ now)
-    (in_step : AreInStep (works_of table.rows.items) table.dirty table.out table.waiting) (first : Option ℕ) where
-  pub first_dirty_of_table : MatchOption first (HasNoneFrom table.dirty 0) (IsFirstFrom table.dirty 0)
+    (in_step : AreInStep (works_of table.rows.items) table.dirty table.out table.waiting) where
+  dirty_of_table : (t : ℕ) → Has table.dirty t ↔ IsDirtyTile now t
+  dirty_of_table = dirty_says now table.dirty (in_step.dirty_in_step ∙ ap dirty_bits view_is)
+
+  out_of_table : (t : ℕ) → Has table.out t ↔ HasJobOut now t
+  out_of_table = out_says now table.out (in_step.out_in_step ∙ ap out_bits view_is)
+
+  pub out_count : length table.out ≡ length table.dirty
+  out_count =
+      ap length in_step.out_in_step ∙ length-map (works_of table.rows.items) (λ work. is_some work.out)
+      ∙ sym (ap length in_step.dirty_in_step ∙ length-map (works_of table.rows.items) (λ work. work.dirty))
+
+  module _ (from : ℕ) (first : Option ℕ) where
+    dirty_from : MatchOption first (HasNoneFrom table.dirty from) (IsFirstFrom table.dirty from)
+        → IsLeastFrom (IsDirtyTile now) from first
+    dirty_from = least_by_set table.dirty (IsDirtyTile now) dirty_of_table from first
+
+    pub next_out_of_table : MatchOption first (HasNoneFrom table.out from) (IsFirstFrom table.out from)
+        → IsLeastFrom (HasJobOut now) from first
+    next_out_of_table = least_by_set table.out (HasJobOut now) out_of_table from first
+
+    pub next_waiting_of_table : MatchOption first (HasNoneFrom table.waiting from) (IsFirstFrom table.waiting from)
+        → IsLeastFrom (HasHintsAt now) from first
+    next_waiting_of_table =
+        least_by_set table.waiting (HasHintsAt now)
+        (waiting_says now table.waiting (in_step.waiting_in_step ∙ ap waiting_bits view_is)) from first
+
+    -- a tile that is in the set of dirty ones and not in that of those that are out can be taken
+    pub next_ready_of_table : IsLeastFrom (λ t. Has table.dirty t × (Has table.out t → ⊥)) from first
+        → IsLeastFrom (CanBeTaken now) from first
+    next_ready_of_table =
+        least_alike (λ t. Has table.dirty t × (Has table.out t → ⊥)) (CanBeTaken now)
+        (λ t left.
+        let dirty = (dirty_of_table t).0 left.0 in
+        (dirty, none_when (work_of now t).out (λ some. left.1 ((out_of_table t).1 (dirty.0, some)))))
+        (λ t ready. (
+          (dirty_of_table t).1 ready.0,
+          λ out. none_is_some (work_of now t).out ready.1
+              ((out_of_table t).0 out).1,
+        )) from first
+
+  pub first_dirty_of_table : (first : Option ℕ)
+      → MatchOption first (HasNoneFrom table.dirty 0) (IsFirstFrom table.dirty 0)
       → MatchOption first ((t : ℕ) → IsDirtyTile now t → ⊥) (IsLeast (IsDirtyTile now))
-  first_dirty_of_table =
-      least_of_first table.dirty (IsDirtyTile now)
-      (dirty_says now table.dirty (in_step.dirty_in_step ∙ ap dirty_bits view_is)) first
-
-  pub first_out_of_table : MatchOption first (HasNoneFrom table.out 0) (IsFirstFrom table.out 0)
-      → MatchOption first ((t : ℕ) → HasJobOut now t → ⊥) (IsLeast (HasJobOut now))
-  first_out_of_table =
-      least_of_first table.out (HasJobOut now)
-      (out_says now table.out (in_step.out_in_step ∙ ap out_bits view_is)) first
-
-  pub first_waiting_of_table : MatchOption first (HasNoneFrom table.waiting 0) (IsFirstFrom table.waiting 0)
-      → MatchOption first ((t : ℕ) → HasHintsAt now t → ⊥) (IsLeast (HasHintsAt now))
-  first_waiting_of_table =
-      least_of_first table.waiting (HasHintsAt now)
-      (waiting_says now table.waiting (in_step.waiting_in_step ∙ ap waiting_bits view_is)) first
+  first_dirty_of_table first found = least_of_all (IsDirtyTile now) first (dirty_from 0 first found)
 
 -- ---- idle tiles
 
 clean_when : (dirty : Bool) → (IsTrue dirty → ⊥) → dirty ≡ false
 clean_when true never = absurd (never refl)
 clean_when false never = refl
-
-none_when : (out : Option ℕ) → (is_some out ≡ true → ⊥) → out ≡ None
-none_when None never = refl
-none_when (Some serial) never = absurd (never refl)
 
 empty_when : (hints : List Hint) → (hints ≢ [] → ⊥) → hints ≡ []
 empty_when [] never = refl

@@ -1,6 +1,6 @@
 -- The work that is left at each tile as the table of a core stores it, and what the table answers.
 use Rattle.std.specs.Prelude.{◌≡◌, ◌≢◌, ℕ, ◌+◌, ◌<◌, ◌≤◌, ◌==◌, Bool, true, false, if◌then◌else◌, List, [], ◌∷◌, map}
-use Rattle.std.specs.Prelude.{is_some, length, remove, slice_index, slice_set, IsTrue, IsSome, Some}
+use Rattle.std.specs.Prelude.{is_some, length, remove, slice_index, slice_set, IsTrue, IsSome, Some, None}
 use Rattle.grid_core.specs.Raster.{IsInside}
 use Rattle.grid_core.specs.Tiles.{Tiles, AreTouching, tile_of}
 use Rattle.border_queues.specs.declared.hint.Hint.{Hint}
@@ -19,6 +19,10 @@ HasJobOut works t = (t < length works) × IsSome (work_of works t).out
 -- a hint waits at the tile
 abbrev pub HasHintsAt : List TileWork → ℕ → Type 0
 HasHintsAt works t = (t < length works) × ((work_of works t).inbox ≢ [])
+
+-- the tile can be taken: it is dirty, and no job of it is out
+abbrev pub CanBeTaken : List TileWork → ℕ → Type 0
+CanBeTaken works t = IsDirtyTile works t × ((work_of works t).out ≡ None)
 
 -- ---- hints that come
 

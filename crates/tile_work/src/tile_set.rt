@@ -3,7 +3,8 @@
 ghost use Rattle.std.specs.Prelude.{◌≡◌, ℕ, ◌+◌, ◌*◌, ◌/◌, ◌^◌, ◌<◌, ◌≤◌, length, replicate, true, false, IfOk, IfSome};
 ghost use Rattle.std.specs.Prelude.{MatchOption, slice_index_or, slice_set};
 ghost use Rattle.std.specs.Int.{bit_at};
-ghost use Rattle.tile_work.specs.TileSet.{AreZeroFrom, HasNoneFrom, IsFirstFrom, bit_of, IsLowestFrom, IsWritten};
+ghost use Rattle.tile_work.specs.Least.{IsLeastFrom};
+ghost use Rattle.tile_work.specs.TileSet.{AreZeroFrom, Has, HasNoneFrom, IsFirstFrom, bit_of, IsLowestFrom, IsWritten};
 
 use grid_core::Memory;
 use std::alloc::Global;
@@ -94,6 +95,35 @@ impl TileSet {
         }
         let next = lowest_place(&self.summary, word + 1)?;
         Some(next * 64 + self.words[next].trailing_zeros() as usize)
+    }
+
+    /// The first tile from `start` on that is in this set and not in the other one, if there is one. Both are of as many
+    /// tiles. Where tiles of this set are in both, it costs one step for 64 of them.
+    pub fn first_without(&self, other: &TileSet, start: usize) -> Option<usize>
+        requires { length other.now ≡ length self.now }
+        ensures { IsLeastFrom (λ t. Has self.now t × (Has other.now t → ⊥)) start result }
+    {
+        // For its clause alone: the number of tiles is a usize.
+        let _ = self.len();
+        let mut from = start;
+        while let Some(tile) = self.first_from(from) {
+            if let Some(left) = self.first_of_word(other, tile) {
+                return Some(left);
+            }
+            from = (tile / 64 * 64).saturating_add(64);
+        }
+        None
+    }
+
+    // The first tile from `start` on, of those of one word, that is in this set and not in the other one.
+    fn first_of_word(&self, other: &TileSet, start: usize) -> Option<usize>
+        requires within { start < length self.now }
+        requires count { length other.now ≡ length self.now }
+        ensures { IsLeastFrom (λ t. (t / 64 ≡ start / 64) × Has self.now t × (Has other.now t → ⊥)) start result }
+    {
+        let word = start / 64;
+        let bit = lowest_bit(self.words[word] & !other.words[word], start % 64)?;
+        Some(word * 64 + bit)
     }
 
     /// Takes all tiles out of the set. It costs about the tiles that are in it.

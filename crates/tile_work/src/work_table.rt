@@ -8,8 +8,9 @@ ghost use Rattle.std.specs.Prelude.{slice_set, All, Some, None, MatchOption, IfO
 ghost use Rattle.grid_core.specs.Tiles.{count_of};
 ghost use Rattle.tile_generations.specs.Generations.{max_generation};
 ghost use Rattle.border_queues.specs.TileWork.{IsIdle, fresh, reset_work, IsLeast, work_of};
-ghost use Rattle.tile_work.specs.WorkTable.{IsDirtyTile, HasJobOut, HasHintsAt, IsToTouching, AreReceived, taken};
-ghost use Rattle.tile_work.specs.WorkTable.{without_hint};
+ghost use Rattle.tile_work.specs.Least.{IsLeastFrom};
+ghost use Rattle.tile_work.specs.WorkTable.{IsDirtyTile, HasJobOut, HasHintsAt, CanBeTaken, IsToTouching, AreReceived};
+ghost use Rattle.tile_work.specs.WorkTable.{taken, without_hint};
 
 use crate::tile_set::TileSet;
 use border_queues::Hint;
@@ -124,14 +125,35 @@ impl WorkTable {
     pub fn first_out(&self) -> Option<usize>
         ensures { MatchOption result ((t : ℕ) → HasJobOut self.now t → ⊥) (IsLeast (HasJobOut self.now)) }
     {
-        self.out.first_from(0)
+        self.next_out(0)
     }
 
     /// The first tile where a hint waits, if there is one.
     pub fn first_waiting(&self) -> Option<usize>
         ensures { MatchOption result ((t : ℕ) → HasHintsAt self.now t → ⊥) (IsLeast (HasHintsAt self.now)) }
     {
-        self.waiting.first_from(0)
+        self.next_waiting(0)
+    }
+
+    /// The first tile from `from` on that is dirty and of which no job is out, if there is one.
+    pub fn next_ready(&self, from: usize) -> Option<usize>
+        ensures { IsLeastFrom (CanBeTaken self.now) from result }
+    {
+        self.dirty.first_without(&self.out, from)
+    }
+
+    /// The first tile from `from` on with a job that is out, if there is one.
+    pub fn next_out(&self, from: usize) -> Option<usize>
+        ensures { IsLeastFrom (HasJobOut self.now) from result }
+    {
+        self.out.first_from(from)
+    }
+
+    /// The first tile from `from` on where a hint waits, if there is one.
+    pub fn next_waiting(&self, from: usize) -> Option<usize>
+        ensures { IsLeastFrom (HasHintsAt self.now) from result }
+    {
+        self.waiting.first_from(from)
     }
 
     /// A job of the tile goes out under this serial, and the tile is no longer dirty.
