@@ -11,6 +11,8 @@ pub use Rattle.marker_tiles.specs.Marker
 pub use Rattle.tile_generations.specs.Jobs
 pub use Rattle.border_queues.specs.OpenEdges
 pub use Rattle.border_queues.specs.TileWork
+pub use Rattle.tile_work.specs.Least
+pub use Rattle.tile_work.specs.WorkTable
 pub use Rattle.core_rules.specs.Work
 pub use Rattle.core_rules.specs.Image
 pub use Rattle.core_rules.specs.Opening

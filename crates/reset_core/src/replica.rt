@@ -12,7 +12,10 @@ ghost use Rattle.core_rules.specs.Opening.{opened};
 ghost use Rattle.border_queues.specs.TileWork.{fresh};
 ghost use Rattle.reset_core.specs.Answers.{IsImageOf, IsNotOpened, IsOpened};
 ghost use Rattle.reset_core.specs.Replica.{core_of, IsStored, at_first, begun};
-ghost use Rattle.core_rules.specs.Runs.{ticket_out};
+ghost use Rattle.core_rules.specs.Runs.{ticket_out, HasHints};
+ghost use Rattle.core_rules.specs.Sweeps.{IsReady};
+ghost use Rattle.tile_work.specs.Least.{IsLeastFrom};
+ghost use Rattle.tile_work.specs.WorkTable.{HasJobOut};
 
 use core_rules::CoreError;
 use grid_core::{Conn, Grid, Memory, Pixel, TILE_SIDE, Tiling, is_tile_side};
@@ -236,6 +239,30 @@ impl Core {
         ensures { result ≡ length (work_at self.now tile).inbox }
     {
         self.work.waiting(tile)
+    }
+
+    /// The least tile, from `from` on, that can be taken: it is dirty, and no job of it is out. None where there is no
+    /// such tile from there on; `from` may be past the last tile.
+    pub fn next_dirty(&self, from: usize) -> Option<usize>
+        ensures { IsLeastFrom (IsReady self.now) from result }
+    {
+        self.work.next_ready(from)
+    }
+
+    /// The least tile, from `from` on, at which a hint waits. None where there is no such tile from there on; `from`
+    /// may be past the last tile.
+    pub fn next_waiting(&self, from: usize) -> Option<usize>
+        ensures { IsLeastFrom (HasHints self.now) from result }
+    {
+        self.work.next_waiting(from)
+    }
+
+    /// The least tile, from `from` on, of which a job is out. None where there is no such tile from there on; `from`
+    /// may be past the last tile.
+    pub fn next_out(&self, from: usize) -> Option<usize>
+        ensures { IsLeastFrom (HasJobOut self.now.tiles) from result }
+    {
+        self.work.next_out(from)
     }
 
     /// The image. At every moment it lies between the marker of the strokes and the reconstruction of the mask from it,

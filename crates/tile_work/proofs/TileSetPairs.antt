@@ -6,7 +6,8 @@ use Rattle.std.proofs.lemmas.Nat.Bits.{bit_at-lt, bit_at_and, bit_at_not}
 use Rattle.std.proofs.lemmas.List.{get_or_default}
 use Rattle.std.specs.Int.{bit_at, bit_not}
 use Rattle.border_queues.specs.TileWork.{IsLeast}
-use Rattle.tile_work.specs.TileSet.{Has, HasNoneFrom, IsFirstFrom, bit_of, tiles_of, AreZeroFrom, IsLowestFrom, IsSummed}
+use Rattle.tile_work.specs.TileSet.{Has, HasNoneFrom, IsFirstFrom, bit_of, tiles_of, AreZeroFrom, IsLowestFrom}
+use Rattle.tile_work.specs.TileSet.{IsSummed}
 use Rattle.tile_work.proofs.TileSetWords.{Has-bit, Has-from_bit, length-tiles}
 
 -- the tile is in the one set and not in the other

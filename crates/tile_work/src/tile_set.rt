@@ -97,8 +97,8 @@ impl TileSet {
         Some(next * 64 + self.words[next].trailing_zeros() as usize)
     }
 
-    /// The first tile from `start` on that is in this set and not in the other one, if there is one. Both are of as many
-    /// tiles. Where tiles of this set are in both, it costs one step for 64 of them.
+    /// The first tile from `start` on that is in this set and not in the other one, if there is one. Both sets are over
+    /// as many tiles. To pass over tiles that are in both it costs one step for 64 of them.
     pub fn first_without(&self, other: &TileSet, start: usize) -> Option<usize>
         requires { length other.now ≡ length self.now }
         ensures { IsLeastFrom (λ t. Has self.now t × (Has other.now t → ⊥)) start result }

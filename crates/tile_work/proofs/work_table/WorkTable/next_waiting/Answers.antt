@@ -4,4 +4,5 @@ use Rattle.tile_work.proofs.work_table.WorkTable.next_waiting.Goals as goal
 
 pub returns : goal.returns
 returns c =
-    next_waiting_of_table c.self.inside c.args.self.now c.self.view_is c.self.invariant c.args.from _ c.first_from.ensures
+    next_waiting_of_table c.self.inside c.args.self.now c.self.view_is c.self.invariant c.args.from _
+    c.first_from.ensures
