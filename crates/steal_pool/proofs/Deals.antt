@@ -1,0 +1,215 @@
+-- Each step of the deque keeps the rule.
+use Rattle.std.proofs.Common.{◌≡◌, ◌≢◌, ℕ, zero, suc, ◌+◌, ◌<◌, ◌≤◌, List, [], ◌∷◌, ◌++◌, length, drop, set}
+use Rattle.std.proofs.Common.{sym, refl, ap, ◌∙◌, subst, ⊎_elim, arith}
+use mathlib.Core.Option.{some, some-ne-none, some-injective}
+use mathlib.Core.Logic.{dite}
+use native.Mathlib.Decide.{ℕ_discrete}
+use lib.ListN.{get_elem?}
+use Rattle.std.proofs.lemmas.List.{length-append}
+use Rattle.crossbeam_deque.specs.Tasks.{Pushes, Takes, Admits}
+use Rattle.atomic_table.proofs.Lists.{at_set, at_snoc, at_longer, at_last, set_here, set_else}
+use Rattle.tile_generations.specs.Jobs.{Job}
+use Rattle.steal_pool.specs.declared.rule.View.{View}
+use Rattle.steal_pool.specs.Deal.{view_of, newcomer, Places, Holds, IsFound, IsDealt, Gets}
+
+below : {A : Type 0} (l : List A) (i : ℕ) (a : A) → get_elem? l i ≡ some a → i < length l
+below [] i a e = absurd (some-ne-none a (sym e))
+below (x ∷ xs) zero a e = omega arith
+below (x ∷ xs) (suc i) a e = let r = below xs i a e in omega arith
+
+drop_more : {A : Type 0} (l m : List A) (n : ℕ) → n ≤ length l → drop n (l ++ m) ≡ drop n l ++ m
+drop_more l m zero h = refl
+drop_more [] m (suc n) h = absurd (omega arith)
+drop_more (x ∷ xs) m (suc n) h = drop_more xs m n (omega arith)
+
+-- the first of what is left, and the rest
+drop_head : {A : Type 0} (l : List A) (n : ℕ) (x : A) (rest : List A) → drop n l ≡ x ∷ rest
+    → (get_elem? l n ≡ some x) × (drop (suc n) l ≡ rest)
+drop_head {A} [] zero x rest e = absurd (let z : 0 ≡ suc (length rest) = ap length e in omega arith)
+drop_head {A} [] (suc n) x rest e = absurd (let z : 0 ≡ suc (length rest) = ap length e in omega arith)
+drop_head {A} (y ∷ ys) zero x rest e = (ap (λ (l : List A). get_elem? l 0) e, ap (λ (l : List A). drop 1 l) e)
+drop_head {A} (y ∷ ys) (suc n) x rest e = drop_head ys n x rest e
+
+-- what the one end got stands at the same places in what the other got
+abbrev Grows : View → View → Type 0
+Grows v w = (i : ℕ) (e : ℕ × Job) → get_elem? v.got i ≡ some e → get_elem? w.got i ≡ some e
+
+-- a place that was found is found after an end got more
+found_set : (views : List View) (port : ℕ) (v w : View) (places : Places) (k : ℕ) → get_elem? views port ≡ some v
+    → Grows v w → IsFound views places k → IsFound (set views port w) places k
+found_set views port v w places k at grows f = dite (ℕ_discrete (places k).0 port)
+    (λ same.
+    let is : f.0 ≡ v = some-injective f.0 v (sym f.2 ∙ (ap (λ (j : ℕ). get_elem? views j) same ∙ at)) in
+    let there = ap (λ (j : ℕ). get_elem? (set views port w) j) same in (
+      w,
+      f.1,
+      there ∙ set_here views port w (below views port v at),
+      grows (places k).1 (k, f.1) (ap (λ (u : View). get_elem? u.got (places k).1) (sym is) ∙ f.3),
+    ))
+    (λ other. (f.0, f.1, set_else views port (places k).0 w other ∙ f.2, f.3))
+
+-- a newcomer got nothing
+got_nothing : (v : View) (i k : ℕ) (x : Job) → newcomer ≡ v → get_elem? v.got i ≡ some (k, x) → ⊥
+got_nothing v i k x is at = some-ne-none (k, x) (sym (ap (λ (u : View). get_elem? u.got i) is ∙ at))
+
+-- the rule holds of an empty deque and its owner
+pub begins : IsDealt [] (newcomer ∷ [])
+begins = record {
+  pushed = [];
+  front = 0;
+  places = λ k. (0, 0);
+  left = refl;
+  owner = (newcomer, refl, refl);
+  held = λ port v e i k x at. ⊎_elim (λ none. absurd (some-ne-none v (sym none)))
+      (λ (is : newcomer ≡ v). absurd (got_nothing v i k x is at)) (at_snoc [] newcomer v port e);
+  found = λ k lt. absurd (omega arith);
+  within = omega arith;
+}
+
+-- a newcomer keeps the rule
+pub admits : Admits IsDealt newcomer
+admits items views h = record {
+  pushed = h.pushed;
+  front = h.front;
+  places = h.places;
+  left = h.left;
+  owner = (h.owner.0, at_longer views (newcomer ∷ []) 0 h.owner.0 h.owner.1, h.owner.2);
+  held = λ port v e. ⊎_elim (h.held port v)
+      (λ (is : newcomer ≡ v). λ i k x at. absurd (got_nothing v i k x is at)) (at_snoc views newcomer v port e);
+  found = λ k lt.
+      let f = h.found k lt in (f.0, f.1, at_longer views (newcomer ∷ []) (h.places k).0 f.0 f.2, f.3);
+  within = h.within;
+}
+
+-- a push of the owner keeps the rule
+pub pushes : (port : ℕ) (v : View) (x : Job) → port ≡ 0
+    → Pushes IsDealt port v (x ∷ []) (λ w. w ≡ view_of (v.pushed ++ x ∷ []) v.got)
+pushes port v x first items views h at =
+    let w : View = view_of (v.pushed ++ x ∷ []) v.got in
+    let at_0 = ap (λ (j : ℕ). get_elem? views j) first in
+    let mine : v ≡ h.owner.0 = some-injective v h.owner.0 (sym at ∙ (at_0 ∙ h.owner.1)) in
+    let same : v.pushed ≡ h.pushed = ap (λ (u : View). u.pushed) mine ∙ h.owner.2 in
+    let now : List Job = h.pushed ++ x ∷ [] in
+    let up : (u : View) (j : ℕ) → Holds h.pushed h.front h.places j u → Holds now h.front h.places j u =
+    λ u j o i k y e. let r = o i k y e in (r.0, at_longer h.pushed (x ∷ []) k y r.1, r.2) in
+    let here = set_here views port w (below views port v at) in (
+      w,
+      record {
+        pushed = now;
+        front = h.front;
+        places = h.places;
+        left = drop_more h.pushed (x ∷ []) h.front h.within ∙ ap (λ (l : List Job). l ++ x ∷ []) h.left;
+        owner = (
+          w,
+          ap (λ (j : ℕ). get_elem? (set views port w) j) (sym first) ∙ here,
+          ap (λ (l : List Job). l ++ x ∷ []) same,
+        );
+        held = λ j u e. ⊎_elim
+            (λ (t : (j ≡ port) × (w ≡ u)).
+            let old = subst (λ (n : ℕ). Holds h.pushed h.front h.places n w) (sym t.0) (h.held port v at) in
+            subst (Holds now h.front h.places j) t.1 (up w j old))
+            (λ (t : (j ≢ port) × (get_elem? views j ≡ some u)). up u j (h.held j u t.1))
+            (at_set views port j w u e);
+        found = λ k lt. found_set views port v w h.places k at (λ i e y. y) (h.found k lt);
+        within =
+            let l : length now ≡ length h.pushed + 1 = length-append h.pushed (x ∷ []) in
+            let b : h.front ≤ length h.pushed = h.within in omega arith;
+      },
+      refl,
+    )
+
+-- the one where it holds, else the other
+abbrev pick : {A : Type 0} {P : Type 0} → Dec P → A → A → A
+pick (yes p) a b = a
+pick (no n) a b = b
+
+pick_yes : {A P : Type 0} (d : Dec P) (a b : A) → P → pick d a b ≡ a
+pick_yes (yes p) a b q = refl
+pick_yes (no n) a b q = absurd (n q)
+
+pick_no : {A P : Type 0} (d : Dec P) (a b : A) → (P → ⊥) → pick d a b ≡ b
+pick_no (yes p) a b q = absurd (q p)
+pick_no (no n) a b q = refl
+
+not_last : {A : Type 0} (l : List A) (a b : A) (i : ℕ) → i ≢ length l → get_elem? (l ++ a ∷ []) i ≡ some b
+    → get_elem? l i ≡ some b
+not_last [] a b zero n e = absurd (n refl)
+not_last [] a b (suc i) n e = e
+not_last (x ∷ xs) a b zero n e = e
+not_last (x ∷ xs) a b (suc i) n e = not_last xs a b i (λ same. n (ap suc same)) e
+
+-- the job x, at the front, goes to this port
+gets_one : (port : ℕ) (v : View) (x : Job) (items : List Job) (views : List View) (h : IsDealt (x ∷ items) views)
+    → get_elem? views port ≡ some v
+    → IsDealt items (set views port (view_of v.pushed (v.got ++ (h.front, x) ∷ [])))
+gets_one port v x items views h at =
+    let got : List (ℕ × Job) = v.got ++ (h.front, x) ∷ [] in
+    let w : View = view_of v.pushed got in
+    let head = drop_head h.pushed h.front x items h.left in
+    let spot : ℕ × ℕ = (port, length v.got) in
+    let places : Places = λ k. pick (ℕ_discrete k h.front) spot (h.places k) in
+    let here : places h.front ≡ spot = pick_yes (ℕ_discrete h.front h.front) spot (h.places h.front) refl in
+    let kept : (k : ℕ) → k < h.front → places k ≡ h.places k =
+    λ k lt. pick_no (ℕ_discrete k h.front) spot (h.places k) (λ e. omega arith) in
+    let up : (u : View) (j : ℕ) → Holds h.pushed h.front h.places j u → Holds h.pushed (h.front + 1) places j u =
+    λ u j o i k y e.
+    let r = o i k y e in let lt : k < h.front = r.0 in (omega arith, r.1, kept k lt ∙ r.2) in
+    let mine = set_here views port w (below views port v at) in
+    let last_is = at_last v.got (h.front, x) (length v.got) refl in
+    record {
+      pushed = h.pushed;
+      front = h.front + 1;
+      places = places;
+      left = ap (λ (n : ℕ). drop n h.pushed) (let e : h.front + 1 ≡ suc h.front = omega arith in e) ∙ head.1;
+      owner = dite (ℕ_discrete 0 port)
+          (λ e.
+          let at_0 = ap (λ (j : ℕ). get_elem? views j) e in
+          let is : h.owner.0 ≡ v = some-injective h.owner.0 v (sym h.owner.1 ∙ (at_0 ∙ at)) in (
+            w,
+            ap (λ (j : ℕ). get_elem? (set views port w) j) e ∙ mine,
+            ap (λ (u : View). u.pushed) (sym is) ∙ h.owner.2,
+          ))
+          (λ n. (h.owner.0, set_else views port 0 w n ∙ h.owner.1, h.owner.2));
+      held = λ j u e. ⊎_elim
+          (λ (t : (j ≡ port) × (w ≡ u)). subst (Holds h.pushed (h.front + 1) places j) t.1
+          (λ i k y e'. dite (ℕ_discrete i (length v.got))
+          (λ last.
+          let there = ap (λ (n : ℕ). get_elem? got n) last ∙ last_is in
+          let is : (h.front, x) ≡ (k, y) = some-injective (h.front, x) (k, y) (sym there ∙ e') in
+          let k_is : h.front ≡ k = ap (λ (z : ℕ × Job). z.0) is in (
+            omega arith,
+            subst (λ (z : ℕ × Job). get_elem? h.pushed z.0 ≡ some z.1) is head.0,
+            ap places (sym k_is) ∙ (here ∙ λ c. (sym t.0 c, sym last c)),
+          ))
+          (λ before.
+          let old : get_elem? v.got i ≡ some (k, y) = not_last v.got (h.front, x) (k, y) i before e' in
+          let held = subst (λ (n : ℕ). Holds h.pushed h.front h.places n v) (sym t.0) (h.held port v at) in
+          up v j held i k y old)))
+          (λ (t : (j ≢ port) × (get_elem? views j ≡ some u)). up u j (h.held j u t.1))
+          (at_set views port j w u e);
+      found = λ k lt. dite (ℕ_discrete k h.front)
+          (λ e.
+          let p : places k ≡ spot = ap places e ∙ here in
+          let place_is = ap (λ (n : ℕ). some (n, x)) (sym e) in (
+            w,
+            x,
+            ap (λ (z : ℕ × ℕ). get_elem? (set views port w) z.0) p ∙ mine,
+            ap (λ (z : ℕ × ℕ). get_elem? w.got z.1) p ∙ (last_is ∙ place_is),
+          ))
+          (λ n.
+          let old : k < h.front = omega arith in
+          let grows : Grows v w = λ i y e. at_longer v.got ((h.front, x) ∷ []) i y e in
+          let f = found_set views port v w h.places k at grows (h.found k old) in
+          subst
+          (λ (z : ℕ × ℕ).
+          (u : View) × (y : Job) × (get_elem? (set views port w) z.0 ≡ some u) × (get_elem? u.got z.1 ≡ some (k, y)))
+          (sym (kept k old)) f);
+      within = let b : h.front < length h.pushed = below h.pushed h.front x head.0 in omega arith;
+    }
+
+-- a steal of one job keeps the rule
+pub gets : (port : ℕ) (v : View) → Takes IsDealt port v 1 (Gets v)
+gets port v [] items views some_one one h at = absurd (omega arith)
+gets port v (x ∷ []) items views some_one one h at =
+    (view_of v.pushed (v.got ++ (h.front, x) ∷ []), gets_one port v x items views h at, (h.front, x, refl, refl))
+gets port v (x ∷ (y ∷ ys)) items views some_one one h at = absurd (omega arith)

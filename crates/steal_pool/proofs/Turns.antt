@@ -1,0 +1,99 @@
+-- A job more with its report.
+use Rattle.std.proofs.Common.{◌≡◌, ℕ, List, [], ◌∷◌, ◌++◌, Option, None, option_to_list, sym, refl, ap, ◌∙◌, subst}
+use Rattle.std.proofs.lemmas.List.{append-nil}
+use Rattle.tile_generations.specs.declared.ticket.Ticket.{Ticket}
+use Rattle.tile_generations.specs.Jobs.{Job}
+use Rattle.steal_pool.specs.declared.report.Report.{Report}
+use Rattle.steal_pool.specs.declared.report.Report.TheVariants.{Done, Failed}
+use Rattle.steal_pool.specs.declared.report.Turn.{Turn}
+use Rattle.steal_pool.specs.declared.report.Turn.TheVariants as turn
+use Rattle.steal_pool.specs.Reports.{IsReportOf, AreReported, WorksSomehow, IsTurn, AreTurns}
+use Rattle.steal_pool.specs.Views.{HandView, reports}
+use Rattle.steal_pool.specs.Working.{IsOutcome, HasWorked}
+
+zip_snoc : (got : List (ℕ × Job)) (reports : List Report) (g : ℕ × Job) (y : Report) → AreReported got reports
+    → IsReportOf g y → AreReported (got ++ g ∷ []) (reports ++ y ∷ [])
+zip_snoc [] [] g y h r = (r, tt)
+zip_snoc [] (z ∷ zs) g y h r = absurd h
+zip_snoc (x ∷ xs) [] g y h r = absurd h
+zip_snoc (x ∷ xs) (z ∷ zs) g y h r = (h.0, zip_snoc xs zs g y h.1 r)
+
+reported : (k : ℕ) (job : Job) (answer : Turn) (report : Report) → IsOutcome job answer report
+    → IsReportOf (k, job) report
+reported k job (turn.Worked ticket) (Done swept) o = o.1
+reported k job (turn.Failed ticket) (Failed same) o = o.1 ∙ o.0
+reported k job (turn.Worked ticket) (Failed same) o = absurd o
+reported k job (turn.Failed ticket) (Done swept) o = absurd o
+reported k job turn.Idle (Done swept) o = absurd o
+reported k job turn.Idle (Failed same) o = absurd o
+reported k job turn.RingFull (Done swept) o = absurd o
+reported k job turn.RingFull (Failed same) o = absurd o
+
+-- once nothing is held, what was sent or held is sent
+pub sent_once : (sent now : List Report) (held taken : Option Report) → taken ≡ held
+    → now ++ [] ≡ sent ++ option_to_list taken → now ≡ sent ++ option_to_list held
+sent_once sent now held taken t e =
+    sym (append-nil now) ∙ (e ∙ ap (λ (o : Option Report). sent ++ option_to_list o) t)
+
+-- what was got is what was reported, and one more of each
+pub one_more : (got : List (ℕ × Job)) (was now : List Report) (answer : Turn) (got' : List (ℕ × Job))
+    (reports : List Report) → AreReported got was → now ≡ was → HasWorked got now answer got' reports
+    → AreReported got' reports
+one_more got was now answer got' reports h e w =
+    subst (λ (l : List Report). AreReported got' l) (sym w.reports_are)
+    (subst (λ (l : List (ℕ × Job)). AreReported l (now ++ w.report ∷ [])) (sym w.got_is)
+    (zip_snoc got now (w.place, w.job) w.report (subst (AreReported got) (sym e) h)
+    (reported w.place w.job answer w.report w.outcome)))
+
+turned_by : (old new : HandView) (k : ℕ) (job : Job) (answer : Turn) (report : Report) → IsOutcome job answer report
+    → new.got ≡ old.got ++ (k, job) ∷ [] → reports new ≡ reports old ++ report ∷ [] → new.held ≡ None
+    → IsTurn old answer new
+turned_by old new k job (turn.Worked ticket) (Done swept) o g s n =
+    (swept, record { place = k; job = job; got = g; ticket_is = sym o.0; reported = o.1; added = s }, n)
+turned_by old new k job (turn.Failed ticket) (Failed same) o g s n = (
+  record {
+    place = k;
+    job = job;
+    got = g;
+    ticket_is = sym o.0;
+    reported = o.0;
+    added = s ∙ ap (λ (t : Ticket). reports old ++ Failed t ∷ []) o.1;
+  },
+  n,
+)
+turned_by old new k job (turn.Worked ticket) (Failed same) o g s n = absurd o
+turned_by old new k job (turn.Failed ticket) (Done swept) o g s n = absurd o
+turned_by old new k job turn.Idle (Done swept) o g s n = absurd o
+turned_by old new k job turn.Idle (Failed same) o g s n = absurd o
+turned_by old new k job turn.RingFull (Done swept) o g s n = absurd o
+turned_by old new k job turn.RingFull (Failed same) o g s n = absurd o
+
+-- what a turn did that got a job and sent its report
+pub turned : (old new : HandView) (now : List Report) (answer : Turn) → now ≡ reports old
+    → HasWorked old.got now answer new.got (reports new) → new.held ≡ None → IsTurn old answer new
+turned old new now answer e w n =
+    turned_by old new w.place w.job answer w.report w.outcome w.got_is
+    (w.reports_are ∙ ap (λ (l : List Report). l ++ w.report ∷ []) e) n
+
+-- what a turn did that got a job, whatever came of the report
+pub worked : (old new : HandView) (now : List Report) (answer : Turn) → now ≡ reports old
+    → HasWorked old.got now answer new.got (reports new) → WorksSomehow old new
+worked old new now answer e w = (
+  w.job.ticket,
+  w.report,
+  record {
+    place = w.place;
+    job = w.job;
+    got = w.got_is;
+    ticket_is = refl;
+    reported = reported w.place w.job answer w.report w.outcome;
+    added = w.reports_are ∙ ap (λ (l : List Report). l ++ w.report ∷ []) e;
+  },
+)
+
+-- one turn more
+pub one_turn_more : (old now new : HandView) (answers : List Turn) (answer : Turn) → AreTurns old answers now
+    → IsTurn now answer new → AreTurns old (answers ++ answer ∷ []) new
+one_turn_more old now new [] answer h t = (new, subst (λ (v : HandView). IsTurn v answer new) h t, refl)
+one_turn_more old now new (first ∷ others) answer h t =
+    (h.0, h.1, one_turn_more h.0 now new others answer h.2 t)

@@ -1,0 +1,77 @@
+//! The owner of the jobs.
+
+ghost use Rattle.std.specs.Prelude.{◌≡◌, ◌≤◌, ◌<◌, [], ◌∷◌, ◌++◌, length, slice_set, slice_index_or};
+ghost use Rattle.std.specs.Prelude.{OnOk, OnErr, IfErr, IfSome, IfNone};
+
+use crate::report::Report;
+use crate::rule::{Deal, Pushed, View};
+use crossbeam_deque::Worker;
+use rtrb::Consumer;
+use std::alloc::Global;
+use std::marker::Model;
+use tile_generations::Job;
+
+/// Who pushes jobs for the hands, and collects their reports. Contracts see the jobs that it pushed, the capacity, and
+/// the reports that it collected of each hand.
+#[derive(Drop)]
+pub struct Owner {
+    pub(crate) deque: Worker<Job, Global, View, Deal>,
+    pub(crate) capacity: usize,
+    pub(crate) rings: Vec<Consumer<Report>>,
+}
+
+impl Model for Owner {
+    ghost use Rattle.std.specs.Prelude.{◌≡◌, ◌≤◌, length, map};
+    ghost use Rattle.rtrb.specs.Ring.{received};
+    ghost use Rattle.crossbeam_deque.specs.Handles.{worker_view, worker_port, worker_flavor};
+    ghost use Rattle.crossbeam_deque.specs.Handles.{worker_index, worker_capacity};
+    ghost use Rattle.steal_pool.specs.Views.{OwnerView};
+
+    ghost Value = { OwnerView };
+
+    ghost view = { λ o. record {
+      pushed = (worker_view o.deque).pushed;
+      capacity = o.capacity;
+      collected = map received o.rings.items;
+    } };
+
+    ghost invariant = { λ o.
+        (worker_port o.deque ≡ 0) × (worker_flavor o.deque ≡ 0)
+        × (length (worker_view o.deque).pushed ≡ worker_index o.deque) × (o.capacity ≤ worker_capacity o.deque) };
+}
+
+impl Owner {
+    /// Pushes a job. The hands get the jobs in the order in which they were pushed. The first `capacity` pushes of the
+    /// pool succeed; later ones mostly do so too, since the deque grows. It waits for nobody.
+    ///
+    /// Errors: the job, where there is no place for it. Nothing was pushed then.
+    #[tactic(auto, using(crate::proofs::Deals::pushes))]
+    pub fn push(&mut self, job: Job) -> Result<(), Job>
+        ensures ok { OnOk result (self.new ≡ record self.old { pushed = self.old.pushed ++ job ∷ [] }) }
+        ensures err { OnErr result (self.new ≡ self.old) }
+        ensures returned { IfErr result (λ j. j ≡ job) }
+        ensures refused { OnErr result (self.old.capacity ≤ length self.old.pushed) }
+    {
+        self.deque.push_as::<Pushed>(job)
+    }
+
+    /// The oldest report that this hand sent and that was not collected yet. Hands count from 0. It waits for nobody.
+    ///
+    /// It is `None` where no such report has come, and where there is no such hand. Nothing is lost then.
+    #[tactic(auto, using(crate::proofs::Rings::map_set, crate::proofs::Rings::map_set_same, crate::proofs::Rings::map_at))]
+    pub fn collect(&mut self, hand: usize) -> Option<Report>
+        ensures none { IfNone result (self.new ≡ self.old) }
+        ensures some { IfSome result (λ report. hand < length self.old.collected) }
+        ensures collected { IfSome result (λ report. self.new ≡ record self.old {
+          collected = slice_set self.old.collected hand (slice_index_or self.old.collected hand [] ++ report ∷ []);
+        }) }
+    {
+        if hand >= self.rings.len() {
+            return None;
+        }
+        match self.rings[hand].pop() {
+            Ok(report) => Some(report),
+            Err(_) => None,
+        }
+    }
+}

@@ -1,0 +1,59 @@
+//! Pools.
+
+ghost use Rattle.std.specs.Prelude.{◌≡◌, ◌≤◌, [], length, replicate, IfOk};
+ghost use Rattle.steal_pool.specs.Views.{fresh};
+
+use crate::hand::{Hand, Thief};
+use crate::owner::Owner;
+use crate::report::Report;
+use crate::rule::{Deal, View};
+use crossbeam_deque::Worker;
+use grid_core::Memory;
+use rtrb::RingBuffer;
+use std::alloc::Global;
+use tile_generations::Job;
+
+/// How many reports of a hand wait at most to be collected, beside the one that it holds.
+const REPORTS: usize = 64;
+
+/// An owner and its hands, which go their own ways.
+#[derive(Drop)]
+pub struct Pool {
+    /// Who pushes jobs, and collects what comes of them.
+    pub owner: Owner,
+    /// Who sweeps them. The owner calls them by their index here.
+    pub hands: Vec<Hand>,
+}
+
+impl Pool {
+    /// An owner, whose first `capacity` pushes succeed, and 1 to 16 hands that did nothing yet.
+    ///
+    /// Errors: out of memory. A capacity above 2^39 is taken for that.
+    #[tactic(auto, using(crate::proofs::Deals::begins))]
+    pub fn open(alloc: Global, hands: usize, capacity: usize) -> Result<Pool, Memory>
+        requires some { 1 ≤ hands }
+        requires few { hands ≤ 16 }
+        ensures pushed { IfOk result (λ pool. pool.owner.pushed ≡ []) }
+        ensures capacity { IfOk result (λ pool. pool.owner.capacity ≡ capacity) }
+        ensures collected { IfOk result (λ pool. pool.owner.collected ≡ replicate hands []) }
+        ensures hands { IfOk result (λ pool. pool.hands.items ≡ replicate hands fresh) }
+    {
+        let deque: Worker<Job, Global, View, Deal> = Worker::fifo_as(alloc, capacity)?;
+        let mut rings = Vec::with_capacity(alloc, hands)?;
+        let mut all = Vec::with_capacity(alloc, hands)?;
+        for _hand in 0..hands {
+            let (producer, consumer) = RingBuffer::<Report>::new(alloc, REPORTS)?;
+            let thief = Thief::new(deque.stealer()?);
+            rings.push(consumer)?;
+            all.push(Hand::new(alloc, thief, producer))?;
+        }
+        Ok(Pool {
+            owner: Owner {
+                deque,
+                capacity,
+                rings,
+            },
+            hands: all,
+        })
+    }
+}

@@ -1,0 +1,41 @@
+//! The rule of the deque.
+
+ghost use Rattle.std.specs.Prelude.{◌≡◌, ◌++◌};
+ghost use Rattle.steal_pool.specs.Deal.{IsDealt, Gets, newcomer, view_of};
+
+use crossbeam_deque::protocol::{Outcome, Protocol};
+use std::collections::LinkedList;
+use tile_generations::Job;
+
+/// What an end of the deque knows. No value of it is made.
+pub struct View {
+    /// The jobs that it pushed.
+    pub pushed: LinkedList<Job>,
+    /// The jobs that it got, each with its place among the pushed.
+    pub got: LinkedList<(u64, Job)>,
+}
+
+/// Each pushed job goes to one end, in order.
+pub struct Deal;
+
+impl Protocol<Job, View> for Deal {
+    ghost holds = { IsDealt };
+
+    ghost first = { newcomer };
+
+    ghost guest = { newcomer };
+}
+
+/// The owner pushed jobs.
+pub struct Pushed;
+
+impl Outcome<Job, View> for Pushed {
+    ghost then = { λ v jobs w. w ≡ view_of (v.pushed ++ jobs) v.got };
+}
+
+/// An end got one job.
+pub struct Got;
+
+impl Outcome<Job, View> for Got {
+    ghost then = { Gets };
+}
