@@ -1,5 +1,5 @@
 -- Taking a tile, giving it back and abandoning a job, as the stored core does them.
-use Rattle.std.proofs.Common.{◌≡◌, ℕ, ◌+◌, ◌%◌, ◌^◌, ◌<◌, Bool, true, false, List, [], ◌∷◌, ◌++◌, length}
+use Rattle.std.proofs.Common.{◌≡◌, ℕ, ◌+◌, ◌%◌, ◌^◌, ◌<◌, ◌≤◌, Bool, true, false, List, [], ◌∷◌, ◌++◌, length}
 use Rattle.std.proofs.Common.{refl, sym, ◌∙◌, ap, subst, arith, inl, inr, ◌⊎◌}
 use Rattle.std.specs.Prelude.{◌==◌, Contains, Some, None, filter, map, if◌then◌else◌}
 use Rattle.std.specs.Prelude.{slice_index_or, slice_set, All}
@@ -10,10 +10,11 @@ use Rattle.std.proofs.lemmas.List.Elements.{Contains-get_or, All-contains}
 use Rattle.grid_core.specs.declared.pixel.Pixel.{Pixel}
 use Rattle.grid_core.specs.declared.rect.Rect.{Rect}
 use Rattle.grid_core.specs.Raster.{Raster, IsInside, IsBelow, value_at}
-use Rattle.grid_core.specs.Path.{Inside}
+use Rattle.grid_core.specs.Path.{Inside, domain_of}
 use Rattle.grid_core.specs.Rects.{in_image}
 use Rattle.grid_core.specs.Tiles.{Tiles, IsTiled, AreTouching, count_of, tile_of}
-use Rattle.grid_core.proofs.Cells.{each_pixel_below}
+use Rattle.grid_core.proofs.Cells.{each_pixel_below, below_at_each_pixel}
+use Rattle.grid_core.proofs.Reach.{reaches_here}
 use Rattle.grid_core.proofs.Pixels.{same_pixel}
 use Rattle.grid_core.proofs.Tilings.{each_pixel_in_one_tile, tile_pixels, neighbours_lie_in_touching_tiles}
 use Rattle.border_queues.specs.declared.hint.Hint.{Hint}
@@ -29,7 +30,7 @@ use Rattle.core_rules.specs.Sweeps.{tile_rect, IsReady, IsNextJob, IsOut, IsKnow
 use Rattle.core_rules.specs.Sweeps.{hints_of, IsJoined}
 use Rattle.core_rules.specs.Invariant.{IsSound}
 use Rattle.core_rules.specs.Laws.{TakeKeepsSound, AbandonKeepsSound, GiveBackKeepsSound}
-use Rattle.reset_core.specs.Parts.{IsRaisedPart}
+use Rattle.reset_core.specs.Parts.{IsBelowPiece, IsRaisedPart}
 use Rattle.tile_work.specs.WorkTable.{IsToTouching, AreReceived}
 use Rattle.reset_core.specs.declared.replica.Core.TheInside.{Inside as Parts}
 use Rattle.reset_core.specs.Replica.{core_of, IsStored}
@@ -38,6 +39,7 @@ use Rattle.reset_core.specs.Bounding.{FollowChange}
 use Rattle.reset_core.proofs.Bounding.{bounded_still, follow_join}
 use Rattle.reset_core.proofs.Storing.{stored_still}
 use Rattle.core_rules.proofs.Cores.{inside_image}
+use Rattle.core_rules.proofs.Supporting.{reach_at_most}
 use Rattle.core_rules.proofs.Removals.{passed_was_there, passed_test, from_map}
 
 -- ---- what is stored
@@ -164,6 +166,51 @@ module _ (core after : Core) (t : ℕ) (pixels raised : Raster) (sound : IsSound
   hints_once_joined same_edges =
       same_edges (record (sender_of core t) { image = with_tile (tiling core) t (value_at raised) (image_at core) })
       (image_at after) sound.shape.tiled tile_within with_raised
+
+-- ---- tiles that are as they were
+
+-- where a tile is as it was when its job was taken, it is nowhere above what the sweep gave
+pub swept_is_above : (core : Core) (swept : Swept) → IsSwept swept → IsKnown core swept.job
+    → IsUnchanged core swept.job → IsBelowPiece (tile_rect core swept.job.ticket.tile) core.image swept.pixels
+swept_is_above core swept is_swept known unchanged p inside =
+    let d = domain_of swept.job.mask swept.job.conn in
+    let width = known.mask.width in
+    let height = known.mask.height in
+    let within : Inside d p = (omega (arith, inside.0, width), omega (arith, inside.1, height)) in
+    let across = is_swept.job.below.width in
+    let down = is_swept.job.below.height in
+    let base_below = below_at_each_pixel swept.job.base swept.job.mask is_swept.job.filled is_swept.job.below p
+    (omega (arith, within.0, across), omega (arith, within.1, down)) in
+    let base = value_at swept.job.base in
+    let least : base p ≤ value_at swept.pixels p =
+    reach_at_most d (value_at swept.job.mask) base (value_at swept.pixels) is_swept.is_reconstruction p (base p) within
+    (reaches_here d (value_at swept.job.mask) base p (base p) within base_below (omega arith)) in
+    let same = unchanged.base.values p inside in
+    omega (arith, least, same)
+
+-- so that is the part of the image, as it is raised
+pub swept_is_raised : (core : Core) (swept : Swept) (held : Raster) → held ≡ swept.pixels → IsSwept swept
+    → IsKnown core swept.job → IsUnchanged core swept.job
+    → IsRaisedPart (tile_rect core swept.job.ticket.tile) core.image swept.pixels held
+swept_is_raised core swept held held_is is_swept known unchanged =
+    subst (IsRaisedPart (tile_rect core swept.job.ticket.tile) core.image swept.pixels) (sym held_is) (record {
+      width = is_swept.width ∙ known.mask.width;
+      height = is_swept.height ∙ known.mask.height;
+      filled = is_swept.filled;
+      values = λ p inside.
+          let above = swept_is_above core swept is_swept known unchanged p inside in
+          omega (arith, above);
+    })
+
+-- and a stored image is nowhere above it there
+pub stored_below : (parts : Parts) (core : Core) (swept : Swept) (tile : ℕ) (rect : Rect) (held : Raster)
+    → core_of parts ≡ core → tile ≡ swept.job.ticket.tile → rect ≡ tile_rect core tile → held ≡ swept.pixels
+    → IsSwept swept → IsKnown core swept.job → IsUnchanged core swept.job → IsBelowPiece rect parts.image held
+stored_below parts core swept tile rect held view tile_is rect_is held_is is_swept known unchanged =
+    subst (λ r. IsBelowPiece r parts.image held) (sym (rect_is ∙ ap (tile_rect core) tile_is))
+    (subst (IsBelowPiece (tile_rect core swept.job.ticket.tile) parts.image) (sym held_is)
+    (subst (λ (c : Core). IsBelowPiece (tile_rect core swept.job.ticket.tile) c.image swept.pixels) (sym view)
+    (swept_is_above core swept is_swept known unchanged)))
 
 -- ---- join
 

@@ -8,7 +8,7 @@ use Rattle.grid_core.specs.declared.rect.Rect.{Rect}
 use Rattle.grid_core.specs.Raster.{Raster, IsInside, index_of, value_at}
 use Rattle.grid_core.specs.Rects.{RectFits, IsRowOf, AreCellsChanged, in_image}
 use Rattle.core_rules.specs.Image.{IsJoinedWith}
-use Rattle.reset_core.specs.Parts.{raised_from}
+use Rattle.reset_core.specs.Parts.{IsBelowPiece, raised_from}
 
 -- ---- rows compared
 
@@ -69,6 +69,25 @@ module _ (start : ℕ) (values : List ℕ) (old new : Raster)
       ∙ ap (λ i. max (get_or old.cells (start + k) 0) (get_or values i 0)) back)
 
 -- ---- rows of a rectangle raised
+
+-- where the piece is nowhere below the image, the cells of a row that is still as it was are not above its values
+pub row_below : (rect : Rect) (piece old mid : Raster) (y start : ℕ) (row : List ℕ)
+    → RectFits old.width old.height rect → y < rect.h → IsRowOf rect.w (value_at piece) y row
+    → start ≡ (rect.y + y) * mid.width + rect.x → IsJoinedWith (record rect { h = y }) piece old mid
+    → IsBelowPiece rect old piece → (k : ℕ) → k < length row → get_or mid.cells (start + k) 0 ≤ get_or row k 0
+row_below rect piece old mid y start row fits below is_row start_is so_far above k within =
+    let count = is_row.long in
+    let columns = fits.columns in
+    let rows = fits.rows in
+    let p : Pixel = record { x = k; y = y } in
+    let q = in_image rect p in
+    let column : k < rect.w = omega (arith, count, within) in
+    let inside : IsInside old.width old.height q = (omega (arith, column, columns), omega (arith, below, rows)) in
+    let place : start + k ≡ index_of mid.width q = omega (arith, start_is) in
+    let was : value_at mid q ≡ value_at old q =
+    so_far.beyond q inside (λ found. let late = found.3 in omega (arith, late)) in
+    subst (λ i. get_or mid.cells i 0 ≤ get_or row k 0) (sym place)
+    (omega (arith, was, above p (column, below), is_row.values k column))
 
 module _ (rect : Rect) (piece old mid new : Raster) (y start : ℕ) (row : List ℕ)
     (fits : RectFits old.width old.height rect) (below : y < rect.h)

@@ -1,5 +1,5 @@
 -- Parts of images that are raised.
-use Rattle.std.specs.Prelude.{◌≡◌, ℕ, ◌-◌, max, List, slice_index}
+use Rattle.std.specs.Prelude.{◌≡◌, ◌≤◌, ℕ, ◌-◌, max, List, slice_index}
 use Rattle.grid_core.specs.declared.pixel.Pixel.{Pixel}
 use Rattle.grid_core.specs.declared.rect.Rect.{Rect}
 use Rattle.grid_core.specs.Raster.{Raster, IsInside, IsFilled, value_at}
@@ -10,6 +10,11 @@ pub record IsPieceFor (rect : Rect) (whole piece : Raster) : Type 0 where
   pub fits : RectFits whole.width whole.height rect
   pub width : piece.width ≡ rect.w
   pub height : piece.height ≡ rect.h
+
+-- the part of the whole image in the rectangle is nowhere above the piece
+abbrev pub IsBelowPiece : Rect → Raster → Raster → Type 0
+IsBelowPiece rect whole piece =
+    (p : Pixel) → IsInside rect.w rect.h p → value_at whole (in_image rect p) ≤ value_at piece p
 
 -- the greater of a cell and of the value for it, where the values begin at a place
 abbrev pub raised_from : ℕ → List ℕ → List ℕ → ℕ → ℕ

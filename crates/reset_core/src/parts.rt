@@ -4,7 +4,7 @@ ghost use Rattle.std.specs.Prelude.{◌≡◌, ◌+◌, ◌<◌, ◌≤◌, ◌�
 ghost use Rattle.grid_core.specs.Raster.{value_at};
 ghost use Rattle.grid_core.specs.Rects.{RectFits, IsRowOf, AreCellsChanged};
 ghost use Rattle.core_rules.specs.Image.{IsPart, IsAtMostPart, IsJoinedWith};
-ghost use Rattle.reset_core.specs.Parts.{IsPieceFor, IsRaisedPart, raised_from};
+ghost use Rattle.reset_core.specs.Parts.{IsPieceFor, IsBelowPiece, IsRaisedPart, raised_from};
 
 use grid_core::laws::cells_given_back;
 use grid_core::{Grid, Memory, Rect};
@@ -42,15 +42,17 @@ pub(crate) fn is_at_most_part(whole: &Grid, rect: Rect, piece: &Grid) -> bool
     true
 }
 
-/// Raises the part of the whole image in the rectangle to the piece. It takes no memory.
-pub(crate) fn raise_part(whole: &mut Grid, rect: Rect, piece: &Grid)
-    requires { IsPieceFor rect whole.old piece.now }
+/// Raises the part of the whole image in the rectangle to the piece. Where `is_above` says that the piece is nowhere
+/// below that part, its rows are copied. It takes no memory.
+pub(crate) fn raise_part(whole: &mut Grid, rect: Rect, piece: &Grid, is_above: bool)
+    requires piece { IsPieceFor rect whole.old piece.now }
+    requires above { IsTrue is_above → IsBelowPiece rect whole.old piece.now }
     ensures { IsJoinedWith rect piece.now whole.old whole.new }
 {
     let width = whole.width() as usize;
     for y in 0..rect.h {
         let start = (rect.y + y) as usize * width + rect.x as usize;
-        raise_cells(whole, start, row(piece, y));
+        raise_cells(whole, start, row(piece, y), is_above);
     }
 }
 
@@ -67,7 +69,7 @@ pub(crate) fn raised_part(
     ensures { IfOk result (IsRaisedPart rect whole.now piece.now) }
 {
     let mut part = whole.cut(alloc, rect)?;
-    raise_cells(&mut part, 0, piece.cells());
+    raise_cells(&mut part, 0, piece.cells(), false);
     Ok(part)
 }
 
@@ -97,23 +99,31 @@ fn is_at_most(a: &[u16], b: &[u16]) -> bool
     a.iter().zip(b).all(|(a, b)| a <= b)
 }
 
-// Raises the cells from a place on to these values.
-fn raise_cells(image: &mut Grid, start: usize, values: &[u16])
-    requires { start + length values.now ≤ length image.old.cells }
+// Raises the cells from a place on to these values. Where none is below its cell, as `is_above` says, they are copied.
+fn raise_cells(image: &mut Grid, start: usize, values: &[u16], is_above: bool)
+    requires within { start + length values.now ≤ length image.old.cells }
+    requires above { IsTrue is_above → EachIndex values.now (λ k. slice_index image.old.cells (start + k)
+        ≤ slice_index values.now k) }
     ensures { AreCellsChanged start (start + length values.now) (raised_from start values.now image.old.cells) image.old
         image.new }
 {
     cells_given_back();
     let cells = image.cells_mut();
-    raise_row(&mut cells[start..start + values.len()], values);
+    raise_row(&mut cells[start..start + values.len()], values, is_above);
 }
 
-// Raises each cell of the row to the value at its place.
-fn raise_row(row: &mut [u16], values: &[u16])
-    requires { length values.now ≡ length row.old }
+// Raises each cell of the row to the value at its place. Where none is below its cell, as `is_above` says, they are
+// copied.
+fn raise_row(row: &mut [u16], values: &[u16], is_above: bool)
+    requires count { length values.now ≡ length row.old }
+    requires above { IsTrue is_above → EachIndex values.now (λ k. slice_index row.old k ≤ slice_index values.now k) }
     ensures { EachIndex row.new (λ k. slice_index row.new k
         ≡ max (slice_index row.old k) (slice_index values.now k)) }
 {
+    if is_above {
+        row.copy_from_slice(values);
+        return;
+    }
     for i in 0..row.len() {
         row[i] = row[i].max(values[i]);
     }

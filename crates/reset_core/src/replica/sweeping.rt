@@ -2,9 +2,10 @@
 
 ghost use Rattle.std.specs.Prelude.{◌≡◌, ◌↔◌, IfOk, IfErr, OnOk, OnErr, IsTrue};
 ghost use Rattle.core_rules.specs.Work.{IsTile};
-ghost use Rattle.core_rules.specs.Sweeps.{IsReady, IsNextJob, IsTaken, IsKnown, IsOut};
+ghost use Rattle.core_rules.specs.Sweeps.{IsReady, IsNextJob, IsTaken, IsKnown, IsOut, IsUnchanged};
 ghost use Rattle.core_rules.specs.Sweeps.{IsJoined, IsGivenBack, IsAbandoned, tile_rect};
 ghost use Rattle.reset_core.specs.Answers.{IsJoinable};
+ghost use Rattle.reset_core.specs.Parts.{IsRaisedPart};
 ghost use Rattle.reset_core.specs.Sweeping.{IsJudged, AreHintsOnceJoined};
 ghost use Rattle.grid_core.specs.Rects.{RectFits};
 
@@ -14,7 +15,7 @@ use border_queues::laws::{edges_are_open, same_image_same_edges};
 use border_queues::{Inbox, open_edges};
 use core_rules::Back;
 use core_rules::laws::{abandon_keeps_sound, give_back_keeps_sound, take_keeps_sound};
-use grid_core::{Bounds, Memory, Rect};
+use grid_core::{Bounds, Grid, Memory, Rect};
 use std::alloc::Global;
 use tile_generations::{Job, Swept, Ticket};
 
@@ -50,7 +51,7 @@ impl Core {
     {
         let back = self.answer_to(&swept);
         match back {
-            Back::Joined | Back::Again => match self.join(alloc, &swept) {
+            Back::Joined | Back::Again => match self.join(alloc, &swept, back == Back::Joined) {
                 Ok(()) => Ok(back),
                 Err(why) => Err((swept, why)),
             },
@@ -146,21 +147,23 @@ impl Core {
         Back::Stranger
     }
 
-    // Joins a swept tile into the image.
+    // Joins a swept tile into the image. Where the tile is as it was when it was taken, the pixels are nowhere below
+    // it, so that they are the raised tile.
     //
     // Errors: out of memory; nothing has changed then.
-    fn join(&mut self, alloc: Global, swept: &Swept) -> Result<(), Memory>
-        requires { IsJoinable self.old swept.now.job }
+    fn join(&mut self, alloc: Global, swept: &Swept, is_unchanged: bool) -> Result<(), Memory>
+        requires joinable { IsJoinable self.old swept.now.job }
+        requires unchanged { IsTrue is_unchanged → IsUnchanged self.old swept.now.job }
         ensures joined { OnOk result (IsJoined self.old swept.now self.new) }
         ensures err { OnErr result (self.new ≡ self.old) }
     {
         give_back_keeps_sound();
         let tile = swept.ticket().tile;
         let rect = self.rect(tile);
-        let hints = self.hints_once_joined(alloc, swept)?;
+        let hints = self.hints_once_joined(alloc, swept, is_unchanged)?;
         let tiling = self.markers.tiling();
         self.work.receive(&tiling, tile, hints.as_slice())?;
-        raise_part(&mut self.image, rect, swept.pixels());
+        raise_part(&mut self.image, rect, swept.pixels(), is_unchanged);
         self.bounds.set(tile, Bounds::of(rect));
         self.work.end_job(tile);
         Ok(())
@@ -169,20 +172,42 @@ impl Core {
     // The hints of the tile's open edges, as they are once the swept tile is joined.
     //
     // Errors: out of memory.
-    fn hints_once_joined(&self, alloc: Global, swept: &Swept) -> Result<Inbox, Memory>
-        requires { IsKnown self.now swept.now.job }
+    fn hints_once_joined(
+        &self,
+        alloc: Global,
+        swept: &Swept,
+        is_unchanged: bool,
+    ) -> Result<Inbox, Memory>
+        requires known { IsKnown self.now swept.now.job }
+        requires unchanged { IsTrue is_unchanged → IsUnchanged self.now swept.now.job }
+        ensures { IfOk result (λ inbox. AreHintsOnceJoined self.now swept.now inbox.hints) }
+    {
+        let pixels = swept.pixels();
+        if is_unchanged {
+            return self.hints_by(alloc, swept, pixels);
+        }
+        let raised = raised_part(alloc, &self.image, self.rect(swept.ticket().tile), pixels)?;
+        self.hints_by(alloc, swept, &raised)
+    }
+
+    // The hints of the tile's open edges, as they are once the swept tile is joined and the tile is as `raised` says.
+    //
+    // Errors: out of memory.
+    fn hints_by(&self, alloc: Global, swept: &Swept, raised: &Grid) -> Result<Inbox, Memory>
+        requires known { IsKnown self.now swept.now.job }
+        requires raised { IsRaisedPart (tile_rect self.now swept.now.job.ticket.tile) self.now.image swept.now.pixels
+            raised.now }
         ensures { IfOk result (λ inbox. AreHintsOnceJoined self.now swept.now inbox.hints) }
     {
         edges_are_open();
         same_image_same_edges();
         let tile = swept.ticket().tile;
-        let raised = raised_part(alloc, &self.image, self.rect(tile), swept.pixels())?;
         let mut inbox = Inbox::new(alloc);
         let mask = self.markers.mask();
         let tiling = self.markers.tiling();
         let generation = self.work.generation(tile);
         match open_edges(
-            &raised,
+            raised,
             &self.image,
             mask,
             &tiling,

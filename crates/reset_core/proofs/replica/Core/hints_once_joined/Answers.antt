@@ -1,44 +1,8 @@
 -- What the tactics leave open of `hints_once_joined`.
-use Rattle.std.specs.Prelude.{All}
-use Rattle.std.proofs.Common.{◌∙◌, ◌<◌, ap, subst, sym, arith}
-use Rattle.grid_core.specs.Tiles.{count_of}
-use Rattle.border_queues.specs.OpenEdges.{with_tile}
-use Rattle.grid_core.specs.Raster.{value_at}
-use Rattle.tile_generations.specs.declared.ticket.Ticket.{Ticket}
-use Rattle.core_rules.specs.Invariant.{IsSound}
-use Rattle.core_rules.specs.Sweeps.{sender_of}
-use Rattle.core_rules.specs.Work as work
-use Rattle.tile_work.specs.WorkTable.{IsToTouching}
-use Rattle.reset_core.proofs.Sweeping.{told_are_edges, hints_once_joined, edges_touch, stored_raised}
+use Rattle.reset_core.proofs.Sweeping.{swept_is_raised}
 use Rattle.reset_core.proofs.replica.Core.hints_once_joined.Goals as goal
 
-pub returns-in-Ok : goal.returns-in-Ok
-returns-in-Ok c =
-    let parts = c.self.inside in
-    let core = c.args.self.now in
-    let tile = c.ticket-tile.result.tile in
-    let t = c.args.swept.now.job.ticket.tile in
-    let raised = c.in_ok-raised.raised in
-    let tile_is = ap (λ (k : Ticket). k.tile) c.ticket-tile.ensures in
-    let tiling = c.tiling-tiling.ensures in
-    let told =
-    told_are_edges parts core c.tiling-tiling.result c.self.view_is tiling.value tiling.width tiling.height t tile
-    c.generation-generation.result c.mask-mask.result.now raised c.new-inbox.result.hints c.open_edges.new.out.hints
-    c.mask-mask.ensures.value tile_is c.generation-generation.ensures.value c.new-inbox.ensures c.in-Ok.ensures.hints in
-    let sound = subst IsSound c.self.view_is c.self.invariant.sound in
-    let is_raised =
-    stored_raised parts core t tile c.rect.result c.args.swept.now.pixels c.pixels.result.now raised c.self.view_is
-    tile_is c.rect.ensures.rect c.pixels.ensures.value c.in_ok-raised.ensures in
-    let count = sound.shape.tiles in
-    let within : t < count_of (work.tiling core) = omega (arith, c.requires.is_tile, count) in
-    record {
-      hints = λ after joined.
-          told
-          ∙ hints_once_joined core after t c.args.swept.now.pixels raised sound c.requires.is_tile is_raised joined
-          c.same_image_same_edges.ensures;
-      touching =
-          subst (λ hs. All (IsToTouching (work.tiling core) t) hs) (sym told)
-          (edges_touch c.edges_are_open.ensures
-          (record (sender_of core t) { image = with_tile (work.tiling core) t (value_at raised) (work.image_at core) })
-          sound.shape.tiled within);
-    }
+pub hints_by-requires-clause-raised : goal.hints_by-requires-clause-raised
+hints_by-requires-clause-raised c =
+    swept_is_raised c.args.self.now c.args.swept.now c.pixels-pixels.result.now c.pixels-pixels.ensures.value
+    c.pixels-pixels.ensures.swept c.requires.known (c.requires.unchanged c.if-is_unchanged.true)

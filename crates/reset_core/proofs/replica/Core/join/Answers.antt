@@ -7,7 +7,7 @@ use Rattle.reset_core.specs.Replica.{IsStored}
 use Rattle.grid_core.specs.Tiles.{Tiles}
 use Rattle.tile_generations.specs.declared.ticket.Ticket.{Ticket}
 use Rattle.tile_work.specs.WorkTable.{IsToTouching}
-use Rattle.reset_core.proofs.Sweeping.{tiling_is, parts_joined, joined_is_stored}
+use Rattle.reset_core.proofs.Sweeping.{tiling_is, stored_below, parts_joined, joined_is_stored}
 use Rattle.reset_core.proofs.replica.Core.join.Goals as goal
 
 pub receive-requires-clause-touching : goal.receive-requires-clause-touching
@@ -23,6 +23,13 @@ receive-requires-clause-touching c =
     subst (λ hs. All (IsToTouching c.tiling-tiling.result c.ticket-tile.result.tile) hs) (sym c.as_slice.ensures)
     (subst (λ n. All (IsToTouching c.tiling-tiling.result n) hints) (sym tile_is)
     (subst (λ (ts : Tiles). All (IsToTouching ts t) hints) (sym tiles) c.in_ok-hints.ensures.touching))
+
+pub raise_part-requires-clause-above : goal.raise_part-requires-clause-above
+raise_part-requires-clause-above c is_unchanged =
+    let tile_is = ap (λ (k : Ticket). k.tile) c.ticket-tile.ensures in
+    stored_below c.self.inside c.args.self.now c.args.swept.now c.ticket-tile.result.tile c.rect-rect.result
+    c.pixels.result.now c.self.view_is tile_is c.rect-rect.ensures.rect c.pixels.ensures.value c.pixels.ensures.swept
+    c.requires.joinable.known (c.requires.unchanged is_unchanged)
 
 pub invariant_of-self-2 : goal.invariant_of-self-2
 invariant_of-self-2 c =
@@ -44,8 +51,8 @@ invariant_of-self-2 c =
     c.pixels.result.now c.raise_part.new.whole c.receive.new.self c.end_job.new.self c.in_ok-hints.hints.hints
     c.as_slice.result.now c.self.view_is tiles tile_is c.rect-rect.ensures.rect c.pixels.ensures.value
     c.raise_part.ensures c.in_ok-hints.ensures.touching c.as_slice.ensures c.in_ok-receive.ensures.ok c.end_job.ensures
-    c.in_ok-hints.ensures.hints c.requires.known.is_tile c.give_back_keeps_sound.ensures c.self.invariant
-    c.pixels.ensures.swept c.requires.known c.requires.out c.requires.base)
+    c.in_ok-hints.ensures.hints c.requires.joinable.known.is_tile c.give_back_keeps_sound.ensures c.self.invariant
+    c.pixels.ensures.swept c.requires.joinable.known c.requires.joinable.out c.requires.joinable.base)
 
 pub returns-clause-joined : goal.returns-clause-joined
 returns-clause-joined c =
@@ -59,4 +66,4 @@ returns-clause-joined c =
     c.pixels.result.now c.raise_part.new.whole c.receive.new.self c.end_job.new.self c.in_ok-hints.hints.hints
     c.as_slice.result.now c.self.view_is tiles tile_is c.rect-rect.ensures.rect c.pixels.ensures.value
     c.raise_part.ensures c.in_ok-hints.ensures.touching c.as_slice.ensures c.in_ok-receive.ensures.ok c.end_job.ensures
-    c.in_ok-hints.ensures.hints c.requires.known.is_tile
+    c.in_ok-hints.ensures.hints c.requires.joinable.known.is_tile
