@@ -58,7 +58,7 @@ impl Owner {
     /// The oldest report that this hand sent and that was not collected yet. Hands count from 0. It waits for nobody.
     ///
     /// It is `None` where no such report has come, and where there is no such hand. Nothing is lost then.
-    #[tactic(auto, using(crate::proofs::Rings::map_set, crate::proofs::Rings::map_set_same, crate::proofs::Rings::map_at))]
+    #[tactic(auto, using(crate::proofs::Rings::map_set, crate::proofs::Rings::map_kept, crate::proofs::Rings::map_at))]
     pub fn collect(&mut self, hand: usize) -> Option<Report>
         ensures none { IfNone result (self.new ≡ self.old) }
         ensures some { IfSome result (λ report. hand < length self.old.collected) }

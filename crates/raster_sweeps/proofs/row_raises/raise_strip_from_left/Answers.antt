@@ -5,5 +5,6 @@ pub loop-preserved : goal.loop-preserved
 loop-preserved c = record {
   leads = λ after raised.
       c.loop.invariant.leads after
-      (after_step_from_left c.args.mask.now c.loop.strip c.step_from_left.new.row after c.step_from_left.ensures raised);
+      (after_step_from_left c.args.mask.now c.loop.strip c.step_from_left.new.row after
+      c.step_from_left.ensures raised);
 }

@@ -65,7 +65,8 @@ returns-in-Some-default-Some-clause-turn g c =
       inr
           (worked old new _ _ once
           (subst
-          (λ (o : Option Report). HasWorked old.got (sent c.flush.new.ring) answer new.got (new.sent ++ option_to_list o))
+          (λ (o : Option Report). HasWorked old.got (sent c.flush.new.ring) answer new.got
+          (new.sent ++ option_to_list o))
           c.in-Some-default-Some.field-0-1-is c.in-Some-default-Some.ensures.some)),
     )
 
