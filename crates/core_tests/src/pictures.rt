@@ -51,3 +51,27 @@ pub fn are_tiles(core: &Core, reset: &[usize], dirty: &[usize]) -> bool {
     }
     true
 }
+
+/// Whether a core tells, from each tile on, the next one that can be taken, is out, or has hints, as its marks say.
+pub fn are_next_told(core: &Core) -> bool {
+    let mut ready = None;
+    let mut out = None;
+    let mut waiting = None;
+    for tile in (0..core.tiles()).rev() {
+        if core.is_out(tile) {
+            out = Some(tile);
+        } else if core.is_dirty(tile) {
+            ready = Some(tile);
+        }
+        if core.waiting(tile) > 0 {
+            waiting = Some(tile);
+        }
+        if core.next_dirty(tile) != ready
+            || core.next_out(tile) != out
+            || core.next_waiting(tile) != waiting
+        {
+            return false;
+        }
+    }
+    core.next_dirty(core.tiles()).is_none()
+}

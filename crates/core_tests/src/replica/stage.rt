@@ -2,7 +2,7 @@
 
 ghost use Rattle.std.specs.Prelude.{⊤};
 
-use crate::pictures::{Mask, are_cells, are_tiles, image_of};
+use crate::pictures::{Mask, are_cells, are_next_told, are_tiles, image_of};
 use grid_core::Conn;
 use marker_tiles::marker;
 use pgm_codec::Image;
@@ -263,10 +263,11 @@ impl Stage {
         }
     }
 
-    /// The number of the first of these lines, from 0, that is not so.
+    /// The number of the first of these lines, from 0, that is not so, or after which the core names another tile as
+    /// the next one than its marks say.
     pub fn first_wrong(&mut self, lines: &[Line]) -> Result<Option<usize>, Fail> {
         for (number, line) in lines.iter().enumerate() {
-            if !self.is_so(line)? {
+            if !self.is_so(line)? || !are_next_told(&self.core) {
                 return Ok(Some(number));
             }
         }
