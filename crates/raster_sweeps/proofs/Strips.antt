@@ -5,7 +5,8 @@ use Rattle.std.specs.List.{between}
 use Rattle.std.proofs.lemmas.Bool.{cases_lt}
 use Rattle.raster_sweeps.specs.RowRaises.{IsRaisedFromLeft, IsRaisedFromRight}
 use Rattle.raster_sweeps.proofs.RowPairs.{IsPart, part_between}
-use Rattle.raster_sweeps.proofs.Replacing.{IsReplaced}
+use Rattle.raster_sweeps.proofs.Replacing.{IsReplaced, replaced_mid}
+use borrow.Rule.Slice.PartMut.{put_mid}
 
 -- the pixels up to `end` are raised from the left, and the others are as they were
 pub record IsDoneFromLeft (mask before : List ℕ) (end : ℕ) (row : List ℕ) : Type 0 where
@@ -117,3 +118,31 @@ module _ (mask before row part after : List ℕ) (start size end : ℕ) (some : 
         ];
         rest = λ k less. replaced.ahead k (omega arith) ∙ sofar.rest k (omega (arith, less, place, some));
       }
+
+-- the pixels of a row up to `end` are done from the left, and then those from the last of them up to `next`, too
+pub next_from_left : (mask before row part : List ℕ) (end next : ℕ) → length mask ≡ length before → 0 < end
+    → end < next → next ≤ length before → IsDoneFromLeft mask before end row
+    → IsRaisedFromLeft (between (end - 1) next mask) (between (end - 1) next row) part
+    → IsDoneFromLeft mask before next (put_mid (end - 1) (next - (end - 1)) row part)
+next_from_left mask before row part end next same some grows within sofar raised =
+    let start = end - 1 in
+    let size = next - start in
+    let from : end ≡ start + 1 = omega (arith, some) in
+    let strip = part_between row start next size (omega (arith, grows)) (omega (arith, within, sofar.long)) in
+    let long : length part ≡ size = omega (arith, raised.long, strip.long) in
+    let replaced = replaced_mid start size part row long (omega (arith, within, sofar.long, grows)) in
+    strip_from_left mask before row part (put_mid start size row part) start size next (omega (arith, grows))
+    (omega (arith, grows)) within same replaced (subst (λ n. IsDoneFromLeft mask before n row) from sofar) raised
+
+-- the pixels of a row from the last before `end` on are done from the right, and then those from `start` on, too
+pub next_from_right : (mask before row part : List ℕ) (start end : ℕ) → length mask ≡ length before → start < end
+    → end ≤ length before → IsDoneFromRight mask before end row
+    → IsRaisedFromRight (between start end mask) (between start end row) part
+    → IsDoneFromRight mask before (start + 1) (put_mid start (end - start) row part)
+next_from_right mask before row part start end same grows within sofar raised =
+    let size = end - start in
+    let strip = part_between row start end size (omega (arith, grows)) (omega (arith, within, sofar.long)) in
+    let long : length part ≡ size = omega (arith, raised.long, strip.long) in
+    let replaced = replaced_mid start size part row long (omega (arith, within, sofar.long, grows)) in
+    strip_from_right mask before row part (put_mid start size row part) start size end (omega (arith, grows))
+    (omega (arith, grows)) within same replaced sofar raised

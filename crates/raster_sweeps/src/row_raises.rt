@@ -9,7 +9,10 @@ use crate::rows::is_closed_straight;
 use grid_core::Conn;
 
 // How many pixels of a row are looked at together for one that is to be raised along the row.
-const STRIP: usize = 64;
+const BLOCK: usize = 64;
+
+// How many pixels of such a block are raised together.
+const STRIP: usize = 16;
 
 // How many steps are taken together along such a strip before it is raised pixel by pixel.
 const STEPS: usize = 4;
@@ -59,8 +62,31 @@ pub fn raise_from_left(mask: &[u16], row: &mut [u16])
     let mut end = 1;
     while end < row.len() {
         let start = end - 1;
-        end = row.len().min(end + STRIP);
-        raise_strip_from_left(&mask[start..end], &mut row[start..end]);
+        end = row.len().min(end + BLOCK);
+        raise_block_from_left(&mask[start..end], &mut row[start..end]);
+    }
+}
+
+// Raises each pixel of a block but the first, from the left, where there is one to be raised.
+fn raise_block_from_left(mask: &[u16], block: &mut [u16])
+    requires { (0 < length block.old) × (length mask.now ≡ length block.old) }
+    ensures { IsRaisedFromLeft mask.now block.old block.new }
+{
+    if !is_raised_from_left(mask, block) {
+        raise_strips_from_left(mask, block);
+    }
+}
+
+// Raises each pixel of a block, from the left, strip by strip.
+fn raise_strips_from_left(mask: &[u16], block: &mut [u16])
+    requires { length mask.now ≡ length block.old }
+    ensures { IsRaisedFromLeft mask.now block.old block.new }
+{
+    let mut end = 1;
+    while end < block.len() {
+        let start = end - 1;
+        end = block.len().min(end + STRIP);
+        raise_strip_from_left(&mask[start..end], &mut block[start..end]);
     }
 }
 
@@ -107,8 +133,31 @@ pub fn raise_from_right(mask: &[u16], row: &mut [u16])
 {
     let mut end = row.len();
     while end > 1 {
+        let start = (end - 1).saturating_sub(BLOCK);
+        raise_block_from_right(&mask[start..end], &mut row[start..end]);
+        end = start + 1;
+    }
+}
+
+// Raises each pixel of a block but the last, from the right, where there is one to be raised.
+fn raise_block_from_right(mask: &[u16], block: &mut [u16])
+    requires { (0 < length block.old) × (length mask.now ≡ length block.old) }
+    ensures { IsRaisedFromRight mask.now block.old block.new }
+{
+    if !is_raised_from_right(mask, block) {
+        raise_strips_from_right(mask, block);
+    }
+}
+
+// Raises each pixel of a block, from the right, strip by strip.
+fn raise_strips_from_right(mask: &[u16], block: &mut [u16])
+    requires { length mask.now ≡ length block.old }
+    ensures { IsRaisedFromRight mask.now block.old block.new }
+{
+    let mut end = block.len();
+    while end > 1 {
         let start = (end - 1).saturating_sub(STRIP);
-        raise_strip_from_right(&mask[start..end], &mut row[start..end]);
+        raise_strip_from_right(&mask[start..end], &mut block[start..end]);
         end = start + 1;
     }
 }
