@@ -1,0 +1,8 @@
+pub mod Handing
+pub mod Reasons
+pub mod Recalling
+pub mod Ledgers
+pub mod Rings
+pub mod Rounds
+pub mod Taking
+pub mod Steady

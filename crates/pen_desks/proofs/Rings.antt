@@ -1,0 +1,65 @@
+-- A pen and its desk.
+use Rattle.std.proofs.Common.{◌≡◌, ℕ, zero, suc, ◌+◌, ◌<◌, List, [], ◌∷◌, ◌++◌, length, map, replicate, Global}
+use Rattle.std.proofs.Common.{sym, ap, ◌∙◌, arith}
+use mathlib.Core.Logic.{dite}
+use native.Mathlib.Decide.{ℕ_discrete}
+use Rattle.std.proofs.lemmas.List.{length-map, length-replicate}
+use Rattle.atomic_table.proofs.Lists.{at_longer, at_last}
+use Rattle.rtrb.specs.declared.AnyItems.{AnyItems}
+use Rattle.rtrb.specs.declared.producer.Producer.{Producer}
+use Rattle.rtrb.specs.declared.consumer.Consumer.{Consumer}
+use Rattle.rtrb.specs.declared.finished.Finished.{Finished}
+use Rattle.rtrb.specs.Ring.{SameProducer, Finishes, IsPair, IsFinishedOf}
+use Rattle.stroke_lattice.specs.State.{State}
+use Rattle.pen_desks.specs.declared.desk.PenDesk.{PenDesk}
+use Rattle.pen_desks.specs.declared.pen.Pen.{Pen}
+use Rattle.pen_desks.specs.Books.{edits_of}
+use Rattle.pen_desks.specs.Pens.{submitted, HasItsDesk}
+
+-- the pen's ring is the same one, and so is what is left of it
+pub pair_moved : (old new : Producer State Global AnyItems) (consumer : Consumer State Global AnyItems)
+    → SameProducer old new → IsPair old consumer → IsPair new consumer
+pair_moved old new consumer ((words, slots, names, heap), room) (w, s, n, h) =
+    (w ∙ sym words, s ∙ sym slots, n ∙ sym names, h ∙ sym heap)
+
+pub pair_finished : (pen : Producer State Global AnyItems) (end : Finished State Global AnyItems)
+    (consumer : Consumer State Global AnyItems) → Finishes pen end → IsPair pen consumer → IsFinishedOf end consumer
+pair_finished pen end consumer ((words, slots, names, heap), sent) (w, s, n, h) =
+    (w ∙ sym words, s ∙ sym slots, n ∙ sym names, h ∙ sym heap)
+
+-- what all have in common, the next one has too
+pub one_more : {X : Type 0} (f : X → List State) (l : List X) (x : X) (n : ℕ) → map f l ≡ replicate n []
+    → f x ≡ [] → map f (l ++ x ∷ []) ≡ replicate (n + 1) []
+one_more f [] x zero all none = ap (λ (e : List State). e ∷ []) none
+one_more f [] x (suc n) all none = absurd cc
+one_more f (y ∷ ys) x zero all none = absurd cc
+one_more f (y ∷ ys) x (suc n) all none =
+    let head : f y ≡ [] = cc in
+    let tail : map f ys ≡ replicate n [] = cc in
+    let rest = one_more f ys x n tail none in
+    let e : suc n + 1 ≡ suc (n + 1) = omega arith in
+    ap (λ (h : List State). h ∷ map f (ys ++ x ∷ [])) head
+    ∙ ap (λ (t : List (List State)). [] ∷ t) rest
+    ∙ ap (λ (m : ℕ). replicate m []) (sym e)
+
+count_of : {X : Type 0} (f : X → List State) (l : List X) (n : ℕ) → map f l ≡ replicate n [] → length l ≡ n
+count_of f l n all =
+    sym (length-map l f) ∙ (ap (λ (m : List (List State)). length m) all ∙ length-replicate n [])
+
+-- one ring more
+pub rings_more : (pens : List Pen) (desks : List PenDesk) (n : ℕ) (pen : Pen) (desk : PenDesk)
+    → map edits_of desks ≡ replicate n [] → map submitted pens ≡ replicate n []
+    → ((i : ℕ) → i < n → HasItsDesk pens desks i) → IsPair pen.producer desk.consumer
+    → (i : ℕ) → i < n + 1 → HasItsDesk (pens ++ pen ∷ []) (desks ++ desk ∷ []) i
+rings_more pens desks n pen desk taken sent so_far pair i within = dite (ℕ_discrete i n)
+    (λ last. (
+      pen,
+      at_last pens pen i (count_of submitted pens n sent ∙ sym last),
+      (desk, at_last desks desk i (count_of edits_of desks n taken ∙ sym last), pair),
+    ))
+    (λ other.
+    let old = so_far i (omega (arith, within, other)) in (
+      old.0,
+      at_longer pens (pen ∷ []) i old.0 old.1,
+      (old.2.0, at_longer desks (desk ∷ []) i old.2.0 old.2.1, old.2.2),
+    ))

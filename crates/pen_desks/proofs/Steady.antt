@@ -1,0 +1,161 @@
+-- Events that leave strokes, mask and generations keep the books faithful.
+use Rattle.std.proofs.Common.{◌≡◌, ℕ, zero, suc, ◌<◌, true, false, Bool, List, [], ◌∷◌, length, set}
+use Rattle.std.proofs.Common.{get_or, sym, refl, ap, ◌∙◌, subst, arith}
+use Rattle.std.specs.Prelude.{Option, Some, None, remove, Result, Ok, Err, IfOk, OnErr}
+use mathlib.Core.Logic.{dite}
+use native.Mathlib.Decide.{ℕ_discrete}
+use Rattle.std.proofs.lemmas.List.{length-set}
+use Rattle.grid_core.specs.Tiles.{tile_of}
+use Rattle.stroke_lattice.specs.State.{State, HasStroke, HasTombstone, IsBelow, ClashAt}
+use Rattle.tile_generations.specs.declared.ticket.Ticket.{Ticket}
+use Rattle.tile_generations.specs.Jobs.{Job, Swept}
+use Rattle.border_queues.specs.TileWork.{TileWork, idle}
+use Rattle.core_rules.specs.declared.answers.Back.{Back}
+use Rattle.core_rules.specs.declared.answers.Back.TheVariants.{Joined, Again, Stale, Stranger}
+use Rattle.core_rules.specs.declared.answers.Handed.{Handed}
+use Rattle.core_rules.specs.declared.answers.Handed.TheVariants as handed
+use Rattle.core_rules.specs.declared.error.CoreError.{CoreError}
+use Rattle.core_rules.specs.declared.error.CoreError.TheVariants.{OutOfImage, Conflict, GenerationsSpent, Memory}
+use Rattle.core_rules.specs.declared.error.CoreError.TheVariants.{BadSide}
+use Rattle.core_rules.specs.Work.{Core, IsTile, tiling, work_at}
+use Rattle.core_rules.specs.Sweeps.{IsTaken, IsGivenBack, IsJoined, IsAbandoned}
+use Rattle.core_rules.specs.Hints.{IsHanded, without_hint, raised}
+use Rattle.pen_desks.specs.Books.{BooksView, IsReason, IsFaithful, KeepsRest, ledger}
+
+-- strokes, mask and generations are as they were
+pub record IsSteady (before after : Core) : Type 0 where
+  pub state : after.state ≡ before.state
+  pub mask : after.mask ≡ before.mask
+  pub count : length after.tiles ≡ length before.tiles
+  pub generations : (t : ℕ) → IsTile before t → (work_at after t).generation ≡ (work_at before t).generation
+
+-- ---- the books
+
+reason : (before after : Core) → IsSteady before after → (d : State) (e : CoreError) → IsReason before d e
+    → IsReason after d e
+reason before after s d (OutOfImage tag) h =
+    subst (λ m. IsReason (record before { mask = m }) d (OutOfImage tag)) (sym s.mask) h
+reason before after s d (Conflict tag) h = subst (λ (a : State). ClashAt a d tag) (sym s.state) h
+reason before after s d GenerationsSpent (buries, (t, is_tile, spent)) =
+    let within : t < length after.tiles =
+    let count = s.count in let lt : t < length before.tiles = is_tile in omega arith in
+    (buries, (t, within, s.generations t is_tile ∙ spent))
+reason before after s d Memory h = h
+reason before after s d BadSide h = h
+
+pub steady_books : (b : BooksView) (after : Core) → IsFaithful (ledger b) → IsSteady b.core after
+    → IsFaithful (ledger (record b { core = after }))
+steady_books b after f s = record {
+  opening = subst (λ (a : State). IsBelow b.opening a) (sym s.state) f.opening;
+  kept = λ pen n delta k. subst (λ (a : State). IsBelow delta a) (sym s.state) (f.kept pen n delta k);
+  strokes = λ tag seed h. f.strokes tag seed (subst (λ (a : State). HasStroke a tag seed) s.state h);
+  tombstones = λ tag h. f.tombstones tag (subst (λ (a : State). HasTombstone a tag) s.state h);
+  refused = λ i r e. let o = f.refused i r e in (o.0, reason b.core after s r.delta r.error o.1);
+}
+
+-- what is kept twice is kept
+pub rest_kept : (a b c : BooksView) → KeepsRest a b → KeepsRest b c → KeepsRest a c
+rest_kept a b c first second = second ∙ ap (λ (x : BooksView). record x { core = c.core }) first
+
+-- ---- what is steady
+
+itself : (core : Core) → IsSteady core core
+itself core = record { state = refl; mask = refl; count = refl; generations = λ t is_tile. refl }
+
+as_before : (before after : Core) → after ≡ before → IsSteady before after
+as_before before after same = subst (λ (c : Core). IsSteady before c) (sym same) (itself before)
+
+through : (a b c : Core) → IsSteady a b → IsSteady b c → IsSteady a c
+through a b c first second = record {
+  state = second.state ∙ first.state;
+  mask = second.mask ∙ first.mask;
+  count = second.count ∙ first.count;
+  generations = λ t is_tile.
+      let within : t < length b.tiles =
+      let count = first.count in let lt : t < length a.tiles = is_tile in omega arith in
+      second.generations t within ∙ first.generations t is_tile;
+}
+
+-- what the new work at a tile has in common with the old, each tile has in common with before
+pub kept_field : {X : Type 0} (f : TileWork → X) (works : List TileWork) (t u : ℕ) (work : TileWork)
+    → f work ≡ f (get_or works t idle) → f (get_or (set works t work) u idle) ≡ f (get_or works u idle)
+kept_field f [] t u work same = refl
+kept_field f (x ∷ xs) zero zero work same = same
+kept_field f (x ∷ xs) zero (suc u) work same = refl
+kept_field f (x ∷ xs) (suc t) zero work same = refl
+kept_field f (x ∷ xs) (suc t) (suc u) work same = kept_field f xs t u work same
+
+-- other work at one tile, of the same generation
+of_tile : (before after : Core) (t : ℕ) (work : TileWork) → after.state ≡ before.state → after.mask ≡ before.mask
+    → after.tiles ≡ set before.tiles t work → work.generation ≡ (work_at before t).generation → IsSteady before after
+of_tile before after t work state mask tiles same = record {
+  state = state;
+  mask = mask;
+  count = ap (λ (l : List TileWork). length l) tiles ∙ length-set before.tiles t work;
+  generations = λ u is_tile.
+      ap (λ (l : List TileWork). (get_or l u idle).generation) tiles
+      ∙ kept_field (λ (w : TileWork). w.generation) before.tiles t u work same;
+}
+
+pub taken_is_steady : (before after : Core) (t : ℕ) (job : Option Job) → IsTaken before t job after
+    → IsSteady before after
+taken_is_steady before after t (Some job) (ready, next, same) =
+    of_tile before after t (record (work_at before t) { dirty = false; out = Some before.serial })
+    (ap (λ (c : Core). c.state) same) (ap (λ (c : Core). c.mask) same) (ap (λ (c : Core). c.tiles) same) refl
+taken_is_steady before after t None (not, same) = as_before before after same
+
+pub take_is_steady : {E : Type 0} (before after : Core) (t : ℕ) (r : Result (Option Job) E)
+    → IfOk r (λ job. IsTaken before t job after) → OnErr r (after ≡ before) → IsSteady before after
+take_is_steady before after t (Ok job) taken same = taken_is_steady before after t job taken
+take_is_steady before after t (Err e) taken same = as_before before after same
+
+joined_is_steady : (before after : Core) (swept : Swept) → IsJoined before swept after → IsSteady before after
+joined_is_steady before after swept j = record {
+  state = ap (λ (c : Core). c.state) j.rest;
+  mask = ap (λ (c : Core). c.mask) j.rest;
+  count = j.count;
+  generations = λ t is_tile. dite (ℕ_discrete t swept.job.ticket.tile)
+      (λ here.
+      subst (λ (u : ℕ). (work_at after u).generation ≡ (work_at before u).generation) (sym here)
+      (ap (λ (w : TileWork). w.generation) j.own))
+      (λ other. ap (λ (w : TileWork). w.generation) (j.others t is_tile other));
+}
+
+pub given_back_is_steady : (before after : Core) (swept : Swept) (back : Back) → IsGivenBack before swept back after
+    → IsSteady before after
+given_back_is_steady before after swept Joined (known, out, unchanged, joined) =
+    joined_is_steady before after swept joined
+given_back_is_steady before after swept Again (known, out, risen, joined) = joined_is_steady before after swept joined
+given_back_is_steady before after swept Stale (known, gone, same) = as_before before after same
+given_back_is_steady before after swept Stranger (why, same) = as_before before after same
+
+pub give_back_is_steady : {E : Type 0} (before after : Core) (swept : Swept) (r : Result Back E)
+    → IfOk r (λ back. IsGivenBack before swept back after) → OnErr r (after ≡ before) → IsSteady before after
+give_back_is_steady before after swept (Ok back) given same = given_back_is_steady before after swept back given
+give_back_is_steady before after swept (Err e) given same = as_before before after same
+
+pub abandoned_is_steady : (before after : Core) (ticket : Ticket) (was_out : Bool)
+    → IsAbandoned before ticket was_out after → IsSteady before after
+abandoned_is_steady before after ticket true (out, same) =
+    of_tile before after ticket.tile (record (work_at before ticket.tile) { dirty = true; out = None })
+    (ap (λ (c : Core). c.state) same) (ap (λ (c : Core). c.mask) same) (ap (λ (c : Core). c.tiles) same) refl
+abandoned_is_steady before after ticket false (gone, same) = as_before before after same
+
+without_is_steady : (before : Core) (t i : ℕ) → IsSteady before (without_hint before t i)
+without_is_steady before t i =
+    of_tile before (without_hint before t i) t
+    (record (work_at before t) { inbox = remove (work_at before t).inbox i }) refl refl refl refl
+
+pub handed_is_steady : (before after : Core) (t i : ℕ) (answer : Handed) → IsHanded before t i answer after
+    → IsSteady before after
+handed_is_steady before after t i handed.Nothing (none, same) = as_before before after same
+handed_is_steady before after t i handed.Stale (hint, there, absent, same) =
+    subst (λ (c : Core). IsSteady before c) (sym same) (without_is_steady before t i)
+handed_is_steady before after t i handed.Same (hint, there, present, low, same) =
+    subst (λ (c : Core). IsSteady before c) (sym same) (without_is_steady before t i)
+handed_is_steady before after t i handed.Raised (hint, there, present, above, same) =
+    let lost = without_hint before t i in
+    let home = tile_of (tiling lost) hint.to_pixel in
+    let once = of_tile lost (raised lost hint) home (record (work_at lost home) { dirty = true }) refl refl refl refl in
+    subst (λ (c : Core). IsSteady before c) (sym same)
+    (through before lost (raised lost hint) (without_is_steady before t i) once)

@@ -1,0 +1,16 @@
+use Rattle.pen_desks.specs.Books.{BooksView}
+use Rattle.pen_desks.proofs.Steady.{steady_books, give_back_is_steady}
+use Rattle.pen_desks.proofs.books.Books.give_back.Goals as goal
+
+pub invariant_of-self : goal.invariant_of-self
+invariant_of-self c =
+    let was = c.self.inside in
+    let b : BooksView = record {
+      core = was.core;
+      opening = was.opening;
+      desks = was.desks.items;
+      refusals = was.refusals.items;
+    } in
+    steady_books b c.give_back.new.self c.self.invariant
+    (give_back_is_steady b.core c.give_back.new.self c.args.swept c.give_back.result
+    c.give_back.ensures.given c.give_back.ensures.err)

@@ -1,0 +1,160 @@
+//! The books of whoever keeps a core.
+
+ghost use Rattle.std.specs.Prelude.{◌≡◌, ◌≤◌, ◌<◌, ℕ, [], length, map, replicate, IfOk, IfErr};
+ghost use Rattle.pen_desks.specs.Books.{IsFaithful, ledger, edits_of};
+ghost use Rattle.pen_desks.specs.Pens.{submitted, HasItsDesk};
+ghost use Rattle.pen_desks.specs.Rings.{ring_room};
+
+use crate::desk::PenDesk;
+use crate::pen::{Pen, RING};
+use crate::refusal::Refusal;
+use grid_core::Memory;
+use reset_core::Core;
+use rtrb::RingBuffer;
+use std::alloc::Global;
+use std::marker::Model;
+use stroke_lattice::{Delta, State};
+
+mod events;
+mod handing;
+mod recalling;
+mod taking;
+
+/// The core, the strokes that it had at opening, the keeper's end of each pen's ring, and the edits that were refused.
+///
+/// Each book is faithful: the strokes of the core are those at opening, joined with each edit that was taken and is not
+/// listed; and each edit that is listed is the pen's edit of its number, and is refused for a reason that stands still.
+#[derive(Drop)]
+pub struct Books {
+    core: Core,
+    opening: State,
+    desks: Vec<PenDesk>,
+    refusals: Vec<Refusal>,
+}
+
+impl Model for Books {
+    ghost use Rattle.reset_core.specs.contracts.replica.Core as replica;
+    ghost use Rattle.stroke_lattice.specs.contracts.state.State as strokes;
+    ghost use Rattle.pen_desks.specs.contracts.desk.PenDesk as desk;
+    ghost use Rattle.pen_desks.specs.contracts.refusal.Refusal as refusal;
+    ghost use Rattle.pen_desks.specs.Books.{BooksView, IsFaithful, ledger, books_code};
+
+    ghost Value = { BooksView };
+
+    ghost coded = { books_code replica.the_row.coded strokes.the_row.coded desk.the_row.coded refusal.the_row.coded };
+
+    ghost view = { λ b. record {
+      core = b.core;
+      opening = b.opening;
+      desks = b.desks.items;
+      refusals = b.refusals.items;
+    } };
+
+    ghost invariant = { λ b. IsFaithful (ledger (record {
+      core = b.core;
+      opening = b.opening;
+      desks = b.desks.items;
+      refusals = b.refusals.items;
+    })) };
+}
+
+/// Books and the pens that belong to them, which go their own ways.
+#[derive(Drop)]
+pub struct Opened {
+    /// The books.
+    pub books: Books,
+    /// The pens. The books call them by their index here.
+    pub pens: Vec<Pen>,
+}
+
+// Both ends of some rings, in the same order.
+#[derive(Drop)]
+struct Rings {
+    desks: Vec<PenDesk>,
+    pens: Vec<Pen>,
+}
+
+impl Books {
+    /// Books over a core, with 1 to 16 pens that submitted nothing yet.
+    ///
+    /// Errors: out of memory, with the core handed back as it was.
+    pub fn open(alloc: Global, core: Core, pens: usize) -> Result<Opened, (Core, Memory)>
+        requires some { 1 ≤ pens }
+        requires few { pens ≤ 16 }
+        ensures core { IfOk result (λ o. o.books.core ≡ core) }
+        ensures opening { IfOk result (λ o. o.books.opening ≡ core.state) }
+        ensures refusals { IfOk result (λ o. o.books.refusals ≡ []) }
+        ensures taken { IfOk result (λ o. (ledger o.books).taken ≡ replicate pens []) }
+        ensures sent { IfOk result (λ o. map submitted o.pens.items ≡ replicate pens []) }
+        ensures rings { IfOk result (λ o. (i : ℕ) → i < pens → HasItsDesk o.pens.items o.books.desks i) }
+        ensures returned { IfErr result (λ e. e.0 ≡ core) }
+    {
+        let Rings { desks, pens } = match Rings::new(alloc, pens) {
+            Ok(rings) => rings,
+            Err(why) => return Err((core, why)),
+        };
+        match core.state().copy(alloc) {
+            Ok(opening) => Ok(Opened {
+                books: Books {
+                    core,
+                    opening,
+                    desks,
+                    refusals: Vec::new(alloc),
+                },
+                pens,
+            }),
+            Err(_) => Err((core, Memory)),
+        }
+    }
+
+    /// The core.
+    pub fn core(&self) -> &Core
+        ensures value { result.now ≡ self.now.core }
+        ensures faithful { IsFaithful (ledger self.now) }
+    {
+        &self.core
+    }
+
+    /// The edits that were taken and not merged, in the order in which they were taken.
+    pub fn refusals(&self) -> &[Refusal]
+        ensures { result.now ≡ self.now.refusals }
+    {
+        self.refusals.as_slice()
+    }
+
+    /// How many pens there are.
+    pub fn pens(&self) -> usize
+        ensures { result ≡ length self.now.desks }
+    {
+        self.desks.len()
+    }
+
+    /// The core and the list of refusals, without the rest.
+    pub fn into_parts(self) -> (Core, Vec<Refusal>)
+        ensures core { result.0 ≡ self.core }
+        ensures refusals { result.1.items ≡ self.refusals }
+    {
+        let Books { core, refusals, .. } = self;
+        (core, refusals)
+    }
+}
+
+impl Rings {
+    // So many rings into which nothing was sent.
+    //
+    // Errors: out of memory.
+    fn new(alloc: Global, count: usize) -> Result<Rings, Memory>
+        ensures taken { IfOk result (λ r. map edits_of r.desks.items ≡ replicate count []) }
+        ensures sent { IfOk result (λ r. map submitted r.pens.items ≡ replicate count []) }
+        ensures rings { IfOk result (λ r. (i : ℕ) → i < count → HasItsDesk r.pens.items r.desks.items i) }
+    {
+        let mut desks = Vec::with_capacity(alloc, count)?;
+        let mut pens = Vec::with_capacity(alloc, count)?;
+        for _pen in 0..count {
+            let (producer, consumer) = RingBuffer::<Delta>::new(alloc, RING)?;
+            desks.push(PenDesk::new(consumer))?;
+            pens.push(Pen::new(producer))?;
+        }
+        Ok(Rings { desks, pens })
+    }
+}
