@@ -1,0 +1,5 @@
+pub mod Fronts
+pub mod Adding
+pub mod Telling
+pub mod Chains
+pub mod Keeping
