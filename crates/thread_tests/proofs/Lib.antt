@@ -1,0 +1,2 @@
+mod Blank
+mod Fronts
