@@ -13,3 +13,4 @@ pub mod Laws
 pub mod RasterLaws
 pub mod Code
 pub mod Lending
+pub mod Stored

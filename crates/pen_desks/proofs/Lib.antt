@@ -1,6 +1,5 @@
 pub mod Handing
 pub mod Reasons
-pub mod Recalling
 pub mod Ledgers
 pub mod Rings
 pub mod Rounds

@@ -19,6 +19,7 @@ use Rattle.core_rules.specs.declared.error.CoreError.TheVariants.{OutOfImage, Co
 use Rattle.core_rules.specs.declared.error.CoreError.TheVariants.{BadSide}
 use Rattle.core_rules.specs.Work.{Core, IsTile, tiling, work_at}
 use Rattle.core_rules.specs.Sweeps.{IsTaken, IsGivenBack, IsJoined, IsAbandoned}
+use Rattle.core_rules.specs.Runs.{IsRun, abandoned}
 use Rattle.core_rules.specs.Hints.{IsHanded, without_hint, raised}
 use Rattle.pen_desks.specs.Books.{BooksView, IsReason, IsFaithful, KeepsRest, ledger}
 
@@ -140,6 +141,13 @@ abandoned_is_steady before after ticket true (out, same) =
     of_tile before after ticket.tile (record (work_at before ticket.tile) { dirty = true; out = None })
     (ap (λ (c : Core). c.state) same) (ap (λ (c : Core). c.mask) same) (ap (λ (c : Core). c.tiles) same) refl
 abandoned_is_steady before after ticket false (gone, same) = as_before before after same
+
+pub abandons_are_steady : (before : Core) (tickets : List Ticket) (after : Core)
+    → IsRun before (abandoned tickets) after → IsSteady before after
+abandons_are_steady before [] after same = as_before before after same
+abandons_are_steady before (ticket ∷ tickets) after (next, is, run) =
+    through before next after (abandoned_is_steady before next ticket true is)
+    (abandons_are_steady next tickets after run)
 
 without_is_steady : (before : Core) (t i : ℕ) → IsSteady before (without_hint before t i)
 without_is_steady before t i =

@@ -49,8 +49,8 @@ impl Core {
         Ok(Count { jobs, abandons })
     }
 
-    // Abandons each job that is out, tile by tile, and says how many there were.
-    fn abandon_all(&mut self) -> u64
+    /// Abandons each job that is out, tile by tile, and says how many there were. It takes no memory.
+    pub fn abandon_all(&mut self) -> u64
         ensures clears { IsRun self.old (abandoned (tickets_out 0 self.old.tiles)) self.new }
         ensures none_out { NoneOut self.new }
         ensures count { result ≡ length (tickets_out 0 self.old.tiles) }

@@ -1,75 +1,16 @@
-use Rattle.std.proofs.Common.{◌≡◌, arith, [], refl, sym, ap, ◌∙◌, subst, length, inl, inr, true, false}
-use Rattle.std.proofs.lemmas.List.{length-append}
-use Rattle.core_rules.specs.Work.{Core}
-use Rattle.core_rules.specs.Runs.{IsRun, NoneOut, abandoned, tickets_out}
-use Rattle.reset_core.proofs.Settling.{one_more_abandoned, few_tickets, all_abandoned}
-use Rattle.pen_desks.proofs.Steady.{rest_kept}
+use Rattle.core_rules.specs.Runs.{tickets_out}
+use Rattle.pen_desks.specs.Books.{BooksView}
+use Rattle.pen_desks.proofs.Steady.{steady_books, abandons_are_steady}
 use Rattle.pen_desks.proofs.books.Books.recall.Goals as goal
 
-pub loop-abandons-init : goal.loop-abandons-init
-loop-abandons-init c =
-    record { abandoned = record { done = []; clears = refl; parts = refl; count = refl }; rest = refl }
-
-pub overflow_add-abandons : goal.overflow_add-abandons
-overflow_add-abandons c = elim c.abandon_first.ensures.first [
-  | inl (found, (ticket, first, happens)) ↦
-      let so_far = c.loop-abandons.invariant.abandoned in
-      let all = ap length so_far.parts
-      ∙ length-append so_far.done (tickets_out 0 c.loop-abandons.self.core.tiles) in
-      let left = ap length first in
-      let few = few_tickets 0 c.args.self.now.core.tiles in
-      let count = so_far.count in
-      let same = ap (λ (k : Core). length k.tiles) c.core.ensures.value in
-      omega (arith, all, left, few, count, same)
-  | inr (missing, same, none, none_out) ↦
-      let e : true ≡ false = sym c.loop-abandons-test.true ∙ missing in absurd cc
-]
-
-pub loop-abandons-smaller : goal.loop-abandons-smaller
-loop-abandons-smaller c = elim c.abandon_first.ensures.first [
-  | inl (found, (ticket, first, happens)) ↦ let e = ap length first in omega (arith, e)
-  | inr (missing, same, none, none_out) ↦
-      let e : true ≡ false = sym c.loop-abandons-test.true ∙ missing in absurd cc
-]
-
-pub loop-abandons-preserved : goal.loop-abandons-preserved
-loop-abandons-preserved c = elim c.abandon_first.ensures.first [
-  | inl (found, (ticket, first, happens)) ↦ record {
-    abandoned =
-        one_more_abandoned c.args.self.now.core c.loop-abandons.self.core c.abandon_first.new.self.core
-        c.loop-abandons.abandons ticket c.loop-abandons.invariant.abandoned first happens;
-    rest =
-        rest_kept c.args.self.now c.loop-abandons.self c.abandon_first.new.self c.loop-abandons.invariant.rest
-        c.abandon_first.ensures.rest;
-  }
-  | inr (missing, same, none, none_out) ↦
-      let e : true ≡ false = sym c.loop-abandons-test.true ∙ missing in absurd cc
-]
-
-pub returns-clause-run : goal.returns-clause-run
-returns-clause-run c = elim c.abandon_first.ensures.first [
-  | inl (found, rest) ↦ let e : true ≡ false = sym found ∙ c.loop-abandons-test.false in absurd cc
-  | inr (missing, same, none, none_out) ↦
-      subst (IsRun c.args.self.now.core (abandoned (tickets_out 0 c.args.self.now.core.tiles))) (sym same)
-      (all_abandoned c.args.self.now.core c.loop-abandons.self.core c.loop-abandons.abandons
-      c.loop-abandons.invariant.abandoned none).0
-]
-
-pub returns-clause-none_out : goal.returns-clause-none_out
-returns-clause-none_out c = elim c.abandon_first.ensures.first [
-  | inl (found, rest) ↦ let e : true ≡ false = sym found ∙ c.loop-abandons-test.false in absurd cc
-  | inr (missing, same, none, none_out) ↦ subst NoneOut (sym same) none_out
-]
-
-pub returns-clause-count : goal.returns-clause-count
-returns-clause-count c = elim c.abandon_first.ensures.first [
-  | inl (found, rest) ↦ let e : true ≡ false = sym found ∙ c.loop-abandons-test.false in absurd cc
-  | inr (missing, same, none, none_out) ↦
-      (all_abandoned c.args.self.now.core c.loop-abandons.self.core c.loop-abandons.abandons
-      c.loop-abandons.invariant.abandoned none).1
-]
-
-pub returns-clause-rest : goal.returns-clause-rest
-returns-clause-rest c =
-    rest_kept c.args.self.now c.loop-abandons.self c.abandon_first.new.self c.loop-abandons.invariant.rest
-    c.abandon_first.ensures.rest
+pub invariant_of-self : goal.invariant_of-self
+invariant_of-self c =
+    let was = c.self.inside in
+    let b : BooksView = record {
+      core = was.core;
+      opening = was.opening;
+      desks = was.desks.items;
+      refusals = was.refusals.items;
+    } in
+    steady_books b c.abandon_all.new.self c.self.invariant
+    (abandons_are_steady b.core (tickets_out 0 b.core.tiles) c.abandon_all.new.self c.abandon_all.ensures.clears)
