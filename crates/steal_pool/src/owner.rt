@@ -41,6 +41,13 @@ impl Model for Owner {
 }
 
 impl Owner {
+    /// How many hands there are.
+    pub fn hands(&self) -> usize
+        ensures { result ≡ length self.now.collected }
+    {
+        self.rings.len()
+    }
+
     /// Pushes a job. The hands get the jobs in the order in which they were pushed. The first `capacity` pushes of the
     /// pool succeed; later ones mostly do so too, since the deque grows. It waits for nobody.
     ///

@@ -1,0 +1,55 @@
+//! Jobs that are pushed for hands.
+
+ghost use Rattle.std.specs.Prelude.{◌≡◌};
+ghost use Rattle.core_rules.specs.Sweeps.{IsReady, IsOut};
+ghost use Rattle.core_dispatch.specs.Words.{core_by};
+ghost use Rattle.core_dispatch.specs.Jobs.{HavePushed, IsPlaced, IsPushed};
+
+use super::Dispatcher;
+use crate::turned::{Jobs, Pushing};
+use tile_generations::Job;
+
+impl Dispatcher {
+    /// Takes the job of each tile that is dirty and not out, in rising order, and pushes it. A job that finds no place
+    /// is abandoned. It waits for nobody.
+    pub(crate) fn push_jobs(&mut self) -> Jobs
+        ensures { HavePushed self.old result self.new }
+    {
+        let mut pushed = Jobs {
+            jobs: 0,
+            memory: false,
+        };
+        let mut from = 0;
+        while let Some(tile) = self.books.core().next_dirty(from) {
+            let pushing = self.push_job(tile);
+            pushed = pushed.and(pushing);
+            from = tile + 1;
+        }
+        pushed
+    }
+
+    // Takes the job of a tile that is dirty and not out, and pushes it.
+    fn push_job(&mut self, tile: usize) -> Pushing
+        requires { IsReady (core_by self.old) tile }
+        ensures { IsPushed tile self.old result self.new }
+    {
+        match self.books.take(self.alloc, tile) {
+            Ok(Some(job)) => self.push(job),
+            Ok(None) | Err(_) => Pushing::Wanting,
+        }
+    }
+
+    // Pushes a job that was just taken, or abandons it where there is no place.
+    fn push(&mut self, job: Job) -> Pushing
+        requires { IsOut (core_by self.old) job.ticket }
+        ensures { IsPlaced self.old job result self.new }
+    {
+        match self.owner.push(job) {
+            Ok(()) => Pushing::Pushed,
+            Err(job) => {
+                let _was_out = self.books.abandon(job.ticket());
+                Pushing::Refused
+            }
+        }
+    }
+}

@@ -1,0 +1,71 @@
+//! Reports that are taken of hands.
+
+ghost use Rattle.std.specs.Prelude.{◌≡◌};
+ghost use Rattle.core_dispatch.specs.Reports.{HaveCollected, IsCollected, IsGivenOver, IsJudged};
+
+use super::Dispatcher;
+use crate::turned::Results;
+use core_rules::Back;
+use pen_desks::Books;
+use std::alloc::Global;
+use steal_pool::Report;
+use tile_generations::Swept;
+
+impl Dispatcher {
+    /// Takes at most one report of each hand, and gives it to the core. It waits for nobody.
+    pub(crate) fn take_reports(&mut self) -> Results
+        ensures { HaveCollected self.old result self.new }
+    {
+        let mut taken = Results {
+            results: 0,
+            memory: false,
+        };
+        for hand in 0..self.owner.hands() {
+            let answer = self.take_report(hand);
+            taken = taken.and(answer);
+        }
+        taken
+    }
+
+    // Takes a report of a hand, if one has come, gives it to the core, and says whether memory was wanting.
+    fn take_report(&mut self, hand: usize) -> Option<bool>
+        ensures { IsCollected hand self.old result self.new }
+    {
+        let report = self.owner.collect(hand)?;
+        Some(judge(self.alloc, &mut self.books, report))
+    }
+}
+
+// Gives a report to the core, and says whether memory was wanting. A job that failed is abandoned, and so is one whose
+// result is none of the core's, or met want of memory.
+fn judge(alloc: Global, books: &mut Books, report: Report) -> bool
+    ensures { IsJudged books.old report result books.new }
+{
+    match report {
+        Report::Failed(ticket) => {
+            let _was_out = books.abandon(ticket);
+            false
+        }
+        Report::Done(swept) => give_over(alloc, books, swept),
+    }
+}
+
+// Gives a swept tile to the core, and says whether memory was wanting.
+fn give_over(alloc: Global, books: &mut Books, swept: Swept) -> bool
+    ensures { IsGivenOver books.old swept result books.new }
+{
+    // For its clause alone: each swept tile is the reconstruction of its job.
+    let _ = swept.pixels();
+    let ticket = swept.ticket();
+    match books.give_back(alloc, swept) {
+        Ok(Back::Stranger) => {
+            let _was_out = books.abandon(ticket);
+            false
+        }
+        Ok(Back::Joined) | Ok(Back::Again) | Ok(Back::Stale) => false,
+        Err(_) => {
+            let _was_out = books.abandon(ticket);
+            true
+        }
+    }
+}
