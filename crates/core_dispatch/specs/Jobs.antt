@@ -26,8 +26,8 @@ IsPlaced old job Refused new =
     × (old.owner.capacity ≤ length old.owner.pushed)
 IsPlaced old job Wanting new = ⊥
 
--- what became of the tile: its job was taken and pushed; or it was taken, found no place, where as many jobs were pushed
--- as surely find one, and was abandoned; or memory was wanting to take it
+-- what became of the tile: its job was taken and pushed; or it was taken, found no place, where as many jobs were
+-- pushed as surely find one, and was abandoned; or memory was wanting to take it
 abbrev pub IsPushed : ℕ → Dispatcher → Pushing → Dispatcher → Type 0
 IsPushed t old Pushed new =
     (job : Job) × IsTaken old.books.core t (Some job) new.books.core
@@ -63,8 +63,8 @@ is_wanting Pushed = false
 is_wanting Refused = false
 is_wanting Wanting = true
 
--- each tile that was dirty and not out was taken, in rising order, and its job pushed; those that are still so are tiles
--- whose job was refused, or for whose job memory was wanting
+-- each tile that was dirty and not out was taken, in rising order, and its job pushed; those that are still so are
+-- tiles whose job was refused, or for whose job memory was wanting
 pub record HavePushed (old : Dispatcher) (jobs : Jobs) (new : Dispatcher) : Type 0 where
   pub tiles : List (ℕ × Pushing)
   pub pushed : ArePushed 0 old tiles new

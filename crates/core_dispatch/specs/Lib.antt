@@ -1,6 +1,6 @@
 -- The definitions of this crate, and those from below that its clauses cite.
 pub use Rattle.stroke_lattice.specs.State
-pub use Rattle.tile_generations.specs.Jobs
+pub use Rattle.tile_generations.specs.Jobs as Tasks
 pub use Rattle.core_rules.specs.Work
 pub use Rattle.core_rules.specs.Sweeps
 pub use Rattle.core_rules.specs.Events
@@ -10,7 +10,9 @@ pub use Rattle.pen_desks.specs.Books
 pub use Rattle.pen_desks.specs.Pens
 pub use Rattle.pen_desks.specs.Taking
 pub use Rattle.pen_desks.specs.Handing
-pub mod Words
+pub mod Dispatching
 pub mod Reports
 pub mod Jobs
 pub mod Turns
+pub mod Closing
+pub mod Codes

@@ -59,8 +59,8 @@ collecting owner hand report =
       collected = slice_set owner.collected hand (slice_index_or owner.collected hand [] ++ report ∷ []);
     }
 
--- the hand was asked for a report: there was none; or there was one, which was given to the core, and memory was wanting
--- for that or not
+-- the hand was asked for a report: there was none; or there was one, which was given to the core, and memory was
+-- wanting for that or not
 abbrev pub IsCollected : ℕ → Dispatcher → Option Bool → Dispatcher → Type 0
 IsCollected hand old None new = new ≡ old
 IsCollected hand old (Some wanting) new =

@@ -1,5 +1,5 @@
 -- What a dispatcher's turn does.
-use Rattle.std.specs.Prelude.{◌≡◌, ◌≤◌, ℕ, zero, suc, ◌+◌, ◌||◌, Bool, true, false, List, [], ◌∷◌, ◌++◌, length}
+use Rattle.std.specs.Prelude.{◌≡◌, ◌≤◌, ℕ, zero, suc, ◌+◌, ◌||◌, Bool, true, List, [], ◌∷◌, ◌++◌, length}
 use Rattle.std.specs.Prelude.{Some}
 use Rattle.stroke_lattice.specs.State.{IsBelow}
 use Rattle.core_rules.specs.Work.{Core}
@@ -16,8 +16,8 @@ use Rattle.core_dispatch.specs.declared.dispatcher.Dispatcher.{Dispatcher}
 use Rattle.core_dispatch.specs.Reports.{HaveCollected, Leads}
 use Rattle.core_dispatch.specs.Jobs.{HavePushed, with_core}
 
--- in this order: each pen had one turn; each hand was asked for a report; each hint that waited was handed over; and each
--- tile that was dirty and not out was taken, to be pushed
+-- in this order: each pen had one turn; each hand was asked for a report; each hint that waited was handed over; and
+-- each tile that was dirty and not out was taken, to be pushed
 pub record HasTurned (old : Dispatcher) (turned : Turned) (new : Dispatcher) : Type 0 where
   pub edits : Edits
   pub results : Results
@@ -70,6 +70,13 @@ pub record GrowsOn (before after : Core) : Type 0 where
   pub mask : after.mask ≡ before.mask
   pub conn : after.conn ≡ before.conn
   pub state : IsBelow before.state after.state
+
+-- strokes and image are as they were, on the same mask with the same neighbours
+pub record ShowsSame (before after : Core) : Type 0 where
+  pub mask : after.mask ≡ before.mask
+  pub conn : after.conn ≡ before.conn
+  pub state : after.state ≡ before.state
+  pub image : after.image ≡ before.image
 
 -- no edit was merged in the turn: each that was taken is listed with the refused ones
 abbrev pub HasMergedNone : Dispatcher → Turned → Dispatcher → Type 0

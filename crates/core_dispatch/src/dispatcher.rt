@@ -1,10 +1,11 @@
 //! The dispatcher.
 
-ghost use Rattle.std.specs.Prelude.{◌≡◌, length, ℕ};
+ghost use Rattle.std.specs.Prelude.{◌≡◌, length};
 ghost use Rattle.core_rules.specs.Sweeps.{IsAbandoned};
 ghost use Rattle.core_rules.specs.Runs.{IsRun, NoneOut, abandoned, tickets_out};
 ghost use Rattle.pen_desks.specs.Books.{IsFaithful, KeepsRest, ledger};
-ghost use Rattle.core_dispatch.specs.Words.{books_by, owner_by, core_by};
+ghost use Rattle.core_dispatch.specs.Dispatching.{books_by, owner_by, core_by};
+ghost use Rattle.core_dispatch.specs.Turns.{ShowsSame};
 
 use pen_desks::{Books, Refusal};
 use reset_core::Core;
@@ -12,6 +13,7 @@ use std::alloc::Global;
 use steal_pool::Owner;
 use tile_generations::Ticket;
 
+mod closing;
 mod jobs;
 mod reports;
 mod turning;
@@ -61,22 +63,26 @@ impl Dispatcher {
 
     /// Abandons a job that is out: the tile is then not out, and dirty. It says whether the job was out. It takes no
     /// memory.
+    #[tactic(auto, using(crate::proofs::Showing::abandoned_shows))]
     pub fn abandon(&mut self, ticket: Ticket) -> bool
         ensures abandoned { IsAbandoned (core_by self.old) ticket result (core_by self.new) }
         ensures rest { KeepsRest (books_by self.old) (books_by self.new) }
         ensures owner { owner_by self.new ≡ owner_by self.old }
+        ensures shows { ShowsSame (core_by self.old) (core_by self.new) }
     {
         self.books.abandon(ticket)
     }
 
     /// Abandons each job that is out, tile by tile, and says how many there were. It takes no memory, and waits for
     /// nobody. A report of such a job changes nothing when it comes.
+    #[tactic(auto, using(crate::proofs::Showing::abandons_show))]
     pub fn recall(&mut self) -> u64
         ensures run { IsRun (core_by self.old) (abandoned (tickets_out 0 (core_by self.old).tiles)) (core_by self.new) }
         ensures count { result ≡ length (tickets_out 0 (core_by self.old).tiles) }
         ensures none_out { NoneOut (core_by self.new) }
         ensures rest { KeepsRest (books_by self.old) (books_by self.new) }
         ensures owner { owner_by self.new ≡ owner_by self.old }
+        ensures shows { ShowsSame (core_by self.old) (core_by self.new) }
     {
         self.books.recall()
     }

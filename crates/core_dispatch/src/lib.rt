@@ -23,7 +23,9 @@
 //! parts, and in `specs/Closing.antt` for what is taken at the end.
 
 mod dispatcher;
+mod error;
 mod turned;
 
 pub use dispatcher::Dispatcher;
+pub use error::CloseError;
 pub use turned::Turned;

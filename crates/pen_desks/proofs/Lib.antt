@@ -4,4 +4,5 @@ pub mod Ledgers
 pub mod Rings
 pub mod Rounds
 pub mod Taking
+pub mod Resting
 pub mod Steady

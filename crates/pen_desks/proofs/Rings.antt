@@ -14,7 +14,7 @@ use Rattle.stroke_lattice.specs.State.{State}
 use Rattle.pen_desks.specs.declared.desk.PenDesk.{PenDesk}
 use Rattle.pen_desks.specs.declared.pen.Pen.{Pen}
 use Rattle.pen_desks.specs.Books.{edits_of}
-use Rattle.pen_desks.specs.Pens.{submitted, HasItsDesk}
+use Rattle.pen_desks.specs.Pens.{number_of, submitted, HasItsDesk}
 
 -- the pen's ring is the same one, and so is what is left of it
 pub pair_moved : (old new : Producer State Global AnyItems) (consumer : Consumer State Global AnyItems)
@@ -49,17 +49,19 @@ count_of f l n all =
 -- one ring more
 pub rings_more : (pens : List Pen) (desks : List PenDesk) (n : ℕ) (pen : Pen) (desk : PenDesk)
     → map edits_of desks ≡ replicate n [] → map submitted pens ≡ replicate n []
-    → ((i : ℕ) → i < n → HasItsDesk pens desks i) → IsPair pen.producer desk.consumer
+    → ((i : ℕ) → i < n → HasItsDesk pens desks i) → number_of pen ≡ n → IsPair pen.producer desk.consumer
     → (i : ℕ) → i < n + 1 → HasItsDesk (pens ++ pen ∷ []) (desks ++ desk ∷ []) i
-rings_more pens desks n pen desk taken sent so_far pair i within = dite (ℕ_discrete i n)
+rings_more pens desks n pen desk taken sent so_far is pair i within = dite (ℕ_discrete i n)
     (λ last. (
       pen,
       at_last pens pen i (count_of submitted pens n sent ∙ sym last),
-      (desk, at_last desks desk i (count_of edits_of desks n taken ∙ sym last), pair),
+      is ∙ sym last,
+      (desk, at_last desks desk (number_of pen) (count_of edits_of desks n taken ∙ sym is), pair),
     ))
     (λ other.
-    let old = so_far i (omega (arith, within, other)) in (
-      old.0,
-      at_longer pens (pen ∷ []) i old.0 old.1,
-      (old.2.0, at_longer desks (desk ∷ []) i old.2.0 old.2.1, old.2.2),
+    let (old, at, number_is, (of_old, there, rings)) = so_far i (omega (arith, within, other)) in (
+      old,
+      at_longer pens (pen ∷ []) i old at,
+      number_is,
+      (of_old, at_longer desks (desk ∷ []) (number_of old) of_old there, rings),
     ))

@@ -106,8 +106,8 @@ one_taken pen old new (Ok (Listed error)) t =
 pub pens_through : (a b c : BooksView) → KeepsPens a b → KeepsPens b c → KeepsPens a c
 pens_through a b c first second = record {
   count = second.count ∙ first.count;
-  pens = λ pen number h. second.pens pen number (first.pens pen number h);
-  ends = λ end number h. second.ends end number (first.ends end number h);
+  pens = λ pen h. second.pens pen (first.pens pen h);
+  ends = λ end h. second.ends end (first.ends end h);
 }
 
 pub any_more : {X : Type 0} (p : X → Bool) (l : List X) (x : X) → list_any p (l ++ x ∷ []) ≡ (list_any p l || p x)

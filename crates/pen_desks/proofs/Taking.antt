@@ -1,12 +1,12 @@
 -- An edit that is taken at a desk.
-use Rattle.std.proofs.Common.{◌≡◌, ℕ, ◌⊎◌, List, [], ◌∷◌, ◌++◌, length, set, map}
+use Rattle.std.proofs.Common.{◌≡◌, ℕ, ◌<◌, ◌⊎◌, List, [], ◌∷◌, ◌++◌, length, get_or, set, map}
 use Rattle.std.proofs.Common.{sym, refl, ap, ◌∙◌, subst, inl, inr, ⊎_elim}
 use mathlib.Core.Option.{some, some-injective}
 use mathlib.Core.Logic.{dite}
 use native.Mathlib.Decide.{ℕ_discrete}
 use lib.ListN.{get_elem?}
 use Rattle.std.proofs.lemmas.List.{map-set, length-set}
-use Rattle.atomic_table.proofs.Lists.{at_map, set_here, set_else, set_again}
+use Rattle.atomic_table.proofs.Lists.{at_index, at_map, set_here, set_else, set_again}
 use Rattle.rtrb.specs.Ring.{SameConsumer, IsPair, IsFinishedOf}
 use Rattle.stroke_lattice.specs.State.{State}
 use Rattle.stroke_lattice.specs.Change.{Turnover}
@@ -19,7 +19,7 @@ use Rattle.pen_desks.specs.declared.desk.PenDesk.{PenDesk}
 use Rattle.pen_desks.specs.declared.pen.Pen.{Pen}
 use Rattle.pen_desks.specs.declared.pen.PenEnd.{PenEnd}
 use Rattle.pen_desks.specs.Books.{BooksView, IsFaithful, ledger, edits_of}
-use Rattle.pen_desks.specs.Pens.{KeepsPens}
+use Rattle.pen_desks.specs.Pens.{KeepsPens, number_of, end_number}
 use Rattle.pen_desks.specs.declared.taken.Taken.TheVariants as answers
 use Rattle.pen_desks.specs.Taking.{IsNext, HasNoneLeft, IsEditTaken}
 use Rattle.pen_desks.proofs.Reasons.{reason_not_merged}
@@ -53,22 +53,22 @@ pens_kept old new pen desk after at desks same =
     (λ other. (d, moved ∙ (set_else old.desks pen number after other ∙ there), inr refl)) in
     record {
       count = ap (λ (l : List PenDesk). length l) desks ∙ length-set old.desks pen after;
-      pens = λ p number (d, there, pair).
-          let f = found number d there in (
+      pens = λ p (d, there, pair).
+          let f = found (number_of p) d there in (
             f.0,
             f.1,
             ⊎_elim
-                (λ (t : (number ≡ pen) × (f.0 ≡ after) × (d ≡ desk)).
+                (λ (t : (number_of p ≡ pen) × (f.0 ≡ after) × (d ≡ desk)).
                 subst (λ (e : PenDesk). IsPair p.producer e.consumer) (sym t.1)
                 (pair_kept p desk after same (subst (λ (e : PenDesk). IsPair p.producer e.consumer) t.2 pair)))
                 (λ (e : f.0 ≡ d). subst (λ (x : PenDesk). IsPair p.producer x.consumer) (sym e) pair) f.2,
           );
-      ends = λ p number (d, there, pair).
-          let f = found number d there in (
+      ends = λ p (d, there, pair).
+          let f = found (end_number p) d there in (
             f.0,
             f.1,
             ⊎_elim
-                (λ (t : (number ≡ pen) × (f.0 ≡ after) × (d ≡ desk)).
+                (λ (t : (end_number p ≡ pen) × (f.0 ≡ after) × (d ≡ desk)).
                 subst (λ (e : PenDesk). IsFinishedOf p.finished e.consumer) (sym t.1)
                 (finished_kept p desk after same
                 (subst (λ (e : PenDesk). IsFinishedOf p.finished e.consumer) t.2 pair)))
@@ -79,7 +79,13 @@ pens_kept old new pen desk after at desks same =
 -- the same books keep them
 pub same_pens : (old new : BooksView) → new ≡ old → KeepsPens old new
 same_pens old new same = subst (λ (b : BooksView). KeepsPens old b) (sym same)
-    (record { count = refl; pens = λ pen number h. h; ends = λ end number h. h })
+    (record { count = refl; pens = λ pen h. h; ends = λ end h. h })
+
+-- the desk that the fields have at a number is the books'
+pub desk_at : (b value : BooksView) (pen : ℕ) (desk : PenDesk) → b ≡ value → pen < length value.desks
+    → desk ≡ get_or b.desks pen desk → get_elem? b.desks pen ≡ some desk
+desk_at b value pen desk same within is =
+    at_index b.desks pen desk (subst (λ (v : BooksView). pen < length v.desks) (sym same) within) is
 
 -- ---- books in which one desk moved on
 

@@ -10,4 +10,5 @@ pub mod Rings
 pub mod Books
 pub mod Pens
 pub mod Taking
+pub mod Resting
 pub mod Handing

@@ -1,5 +1,5 @@
 -- Which pen writes for which desk.
-use Rattle.std.specs.Prelude.{◌≡◌, ℕ, List, length}
+use Rattle.std.specs.Prelude.{◌≡◌, ℕ, ◌<◌, List, length}
 use mathlib.Core.Option.{some}
 use lib.ListN.{get_elem?}
 use Rattle.rtrb.specs.Ring.{sent, all_sent, IsPair, IsFinishedOf}
@@ -7,7 +7,16 @@ use Rattle.stroke_lattice.specs.State.{State}
 use Rattle.pen_desks.specs.declared.desk.PenDesk.{PenDesk}
 use Rattle.pen_desks.specs.declared.pen.Pen.{Pen}
 use Rattle.pen_desks.specs.declared.pen.PenEnd.{PenEnd}
-use Rattle.pen_desks.specs.Books.{BooksView}
+use Rattle.pen_desks.specs.Books.{BooksView, edits_of}
+use Rattle.pen_desks.specs.Taking.{most_edits}
+
+-- which of its books' pens a pen is
+abbrev pub number_of : Pen → ℕ
+number_of pen = pen.number
+
+-- which of its books' pens it was that has finished
+abbrev pub end_number : PenEnd → ℕ
+end_number end = end.number
 
 -- the edits that a pen submitted, oldest first
 abbrev pub submitted : Pen → List State
@@ -17,34 +26,56 @@ submitted pen = sent pen.producer
 abbrev pub all_submitted : PenEnd → List State
 all_submitted end = all_sent end.finished
 
--- the pen and the desk of this number are the two ends of one ring
-abbrev pub HasDesk : Pen → List PenDesk → ℕ → Type 0
-HasDesk pen desks number =
-    (desk : PenDesk) × (get_elem? desks number ≡ some desk) × IsPair pen.producer desk.consumer
+-- the pen and the desk of its number are the two ends of one ring
+abbrev pub HasDesk : Pen → List PenDesk → Type 0
+HasDesk pen desks =
+    (desk : PenDesk) × (get_elem? desks (number_of pen) ≡ some desk) × IsPair pen.producer desk.consumer
 
--- the pen is the one of this number of the books: its edits come to the desk of this number
-abbrev pub IsOf : Pen → BooksView → ℕ → Type 0
-IsOf pen books number = HasDesk pen books.desks number
+-- the pen is one of those of the books: its edits come to the desk of its number
+abbrev pub IsOf : Pen → BooksView → Type 0
+IsOf pen books = HasDesk pen books.desks
 
--- what is left of a pen is of the one of this number of the books
-abbrev pub IsEndOf : PenEnd → BooksView → ℕ → Type 0
-IsEndOf end books number =
-    (desk : PenDesk) × (get_elem? books.desks number ≡ some desk) × IsFinishedOf end.finished desk.consumer
+-- what is left of a pen is of one of those of the books
+abbrev pub IsEndOf : PenEnd → BooksView → Type 0
+IsEndOf end books =
+    (desk : PenDesk) × (get_elem? books.desks (end_number end) ≡ some desk)
+    × IsFinishedOf end.finished desk.consumer
 
--- of which books and number the pen was, of these it still is
-abbrev pub KeepsDesk : Pen → Pen → Type 0
-KeepsDesk old new = (books : BooksView) (number : ℕ) → IsOf old books number → IsOf new books number
+-- the pen has its number still, and of which books it was, of these it still is
+pub record KeepsDesk (old new : Pen) : Type 0 where
+  pub number : number_of new ≡ number_of old
+  pub books : (books : BooksView) → IsOf old books → IsOf new books
 
--- of which books and number the pen was, of these is what is left of it
-abbrev pub KeepsDeskAtEnd : Pen → PenEnd → Type 0
-KeepsDeskAtEnd pen end = (books : BooksView) (number : ℕ) → IsOf pen books number → IsEndOf end books number
+-- what is left of the pen has its number, and of which books the pen was, of these it is
+pub record KeepsDeskAtEnd (pen : Pen) (end : PenEnd) : Type 0 where
+  pub number : end_number end ≡ number_of pen
+  pub books : (books : BooksView) → IsOf pen books → IsEndOf end books
 
--- the books have as many desks as before, and each pen, finished or not, that had its number has it still
+-- the books have as many desks as before, and each pen, finished or not, that was of them is so still
 pub record KeepsPens (old new : BooksView) : Type 0 where
   pub count : length new.desks ≡ length old.desks
-  pub pens : (pen : Pen) (number : ℕ) → IsOf pen old number → IsOf pen new number
-  pub ends : (end : PenEnd) (number : ℕ) → IsEndOf end old number → IsEndOf end new number
+  pub pens : (pen : Pen) → IsOf pen old → IsOf pen new
+  pub ends : (end : PenEnd) → IsEndOf end old → IsEndOf end new
 
--- the pen at this place of the list is the one of this number of the desks
+-- the pen at this place of the list has this number, and is the one of the desk of this number
 abbrev pub HasItsDesk : List Pen → List PenDesk → ℕ → Type 0
-HasItsDesk pens desks number = (pen : Pen) × (get_elem? pens number ≡ some pen) × HasDesk pen desks number
+HasItsDesk pens desks number =
+    (pen : Pen) × (get_elem? pens number ≡ some pen) × (number_of pen ≡ number) × HasDesk pen desks
+
+-- ---- what is left of a pen
+
+-- all that the pen submitted was taken
+abbrev pub HasAllOf : BooksView → PenEnd → Type 0
+HasAllOf books end =
+    (desk : PenDesk) × (get_elem? books.desks (end_number end) ≡ some desk) × (edits_of desk ≡ all_submitted end)
+
+-- as many edits of the pen were taken as can be counted, and it submitted more
+abbrev pub IsSpent : BooksView → PenEnd → Type 0
+IsSpent books end =
+    (desk : PenDesk) × (get_elem? books.desks (end_number end) ≡ some desk)
+    × (length (edits_of desk) ≡ most_edits) × (most_edits < length (all_submitted end))
+
+-- it is what is left of the same pen, which submitted the same
+pub record IsSameEnd (old new : PenEnd) : Type 0 where
+  pub number : end_number new ≡ end_number old
+  pub submitted : all_submitted new ≡ all_submitted old

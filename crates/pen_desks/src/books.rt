@@ -18,6 +18,7 @@ use stroke_lattice::{Delta, State};
 mod events;
 mod handing;
 mod recalling;
+mod resting;
 mod taking;
 
 /// The core, the strokes that it had at opening, the keeper's end of each pen's ring, and the edits that were refused.
@@ -63,7 +64,7 @@ impl Model for Books {
 pub struct Opened {
     /// The books.
     pub books: Books,
-    /// The pens. The books call them by their index here.
+    /// The pens. The books call them by their index here, which is their number.
     pub pens: Vec<Pen>,
 }
 
@@ -150,10 +151,10 @@ impl Rings {
     {
         let mut desks = Vec::with_capacity(alloc, count)?;
         let mut pens = Vec::with_capacity(alloc, count)?;
-        for _pen in 0..count {
+        for pen in 0..count {
             let (producer, consumer) = RingBuffer::<Delta>::new(alloc, RING)?;
             desks.push(PenDesk::new(consumer))?;
-            pens.push(Pen::new(producer))?;
+            pens.push(Pen::new(producer, pen))?;
         }
         Ok(Rings { desks, pens })
     }

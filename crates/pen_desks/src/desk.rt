@@ -1,8 +1,9 @@
 //! The keeper's end of a pen's ring.
 
 ghost use Rattle.std.specs.Prelude.{◌≡◌, ◌<◌, [], ◌∷◌, ◌++◌, length, IfSome, IfNone};
-ghost use Rattle.rtrb.specs.Ring.{received, known_items, SameConsumer};
+ghost use Rattle.rtrb.specs.Ring.{received, known_items, SameConsumer, IsFinishedOf};
 
+use crate::pen::PenEnd;
 use rtrb::Consumer;
 use stroke_lattice::Delta;
 
@@ -16,7 +17,8 @@ pub struct PenDesk {
 
 impl PenDesk {
     ghost use Rattle.pen_desks.specs.Books.{edits_of};
-    ghost use Rattle.pen_desks.specs.Taking.{IsNext, HasNoneLeft};
+    ghost use Rattle.pen_desks.specs.Pens.{IsSameEnd, all_submitted};
+    ghost use Rattle.pen_desks.specs.Taking.{IsNext, HasNoneLeft, seen_at};
 
     /// The end of a ring of which nothing was popped.
     pub(crate) fn new(consumer: Consumer<Delta>) -> PenDesk
@@ -47,6 +49,19 @@ impl PenDesk {
             }
             None => None,
         }
+    }
+
+    /// Looks into the ring of a pen that has finished, and says how many edits wait: those are all that are left of it.
+    pub(crate) fn look(&mut self, end: &mut PenEnd) -> usize
+        requires { IsFinishedOf end.old.finished self.old.consumer }
+        ensures count { result ≡ length (seen_at self.new) }
+        ensures whole { edits_of self.new ++ seen_at self.new ≡ all_submitted end.old }
+        ensures edits { edits_of self.new ≡ edits_of self.old }
+        ensures ring { SameConsumer self.old.consumer self.new.consumer }
+        ensures finished { IsFinishedOf end.new.finished self.new.consumer }
+        ensures end { IsSameEnd end.old end.new }
+    {
+        self.consumer.slots_after(&mut end.finished)
     }
 }
 

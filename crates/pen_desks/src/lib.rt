@@ -18,7 +18,11 @@
 //! so that nothing else of the core can change: [`Books::take`], [`Books::give_back`], [`Books::abandon`] and
 //! [`Books::hand`], and all at once [`Books::hand_all`] and [`Books::recall`].
 //!
-//! No call waits for anybody. Nothing is promised of when an edit is seen.
+//! A pen knows its number among those of its books, and so does what is left of it once it has finished:
+//! [`Pen::number`] and [`PenEnd::number`]. Then [`Books::take_rest`] takes all that the pen submitted and that was not
+//! taken yet.
+//!
+//! No call waits for anybody. Nothing is promised of when an edit is seen, while its pen has not finished.
 //!
 //! Read on in `specs/Books.antt`; in `specs/Pens.antt`, which says which pen belongs to which desk; and in
 //! `specs/Taking.antt`, which says what becomes of an edit.
@@ -27,10 +31,12 @@ mod books;
 mod desk;
 mod pen;
 mod refusal;
+mod rest;
 mod taken;
 
 pub use books::{Books, Opened};
 pub use desk::PenDesk;
 pub use pen::{Full, Pen, PenEnd};
 pub use refusal::Refusal;
+pub use rest::RestError;
 pub use taken::{Edits, Taken};

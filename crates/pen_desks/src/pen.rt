@@ -11,10 +11,11 @@ use stroke_lattice::Delta;
 pub(crate) const RING: usize = 64;
 
 /// One writer's end of a ring, through which its edits go to whoever keeps the core. It may be moved to a thread of its
-/// own. Contracts see all that it submitted.
+/// own, and knows which of its books' pens it is. Contracts see all that it submitted.
 #[derive(Drop)]
 pub struct Pen {
     producer: Producer<Delta>,
+    number: usize,
     ghost room: { ring_room ≤ known_free producer + length (sent producer) },
 }
 
@@ -22,22 +23,31 @@ pub struct Pen {
 #[derive(Drop)]
 pub struct Full(pub Delta);
 
-/// What is left of a pen that has finished. It knows all that the pen submitted.
+/// What is left of a pen that has finished. It knows which pen it was, and all that the pen submitted.
 #[derive(Drop)]
 pub struct PenEnd {
     pub(crate) finished: Finished<Delta>,
+    pub(crate) number: usize,
 }
 
 impl Pen {
-    ghost use Rattle.pen_desks.specs.Pens.{submitted, all_submitted, KeepsDesk, KeepsDeskAtEnd};
+    ghost use Rattle.pen_desks.specs.Pens.{number_of, submitted, all_submitted, KeepsDesk, KeepsDeskAtEnd};
 
-    /// The end of a ring into which nothing was sent.
-    pub(crate) fn new(producer: Producer<Delta>) -> Pen
+    /// The end of a ring into which nothing was sent, for the pen of this number.
+    pub(crate) fn new(producer: Producer<Delta>, number: usize) -> Pen
         requires sent { sent producer ≡ [] }
         requires room { known_free producer ≡ ring_room }
-        ensures { result.producer ≡ producer }
+        ensures producer { result.producer ≡ producer }
+        ensures number { number_of result ≡ number }
     {
-        Pen { producer }
+        Pen { producer, number }
+    }
+
+    /// Which of its books' pens it is, from 0.
+    pub fn number(&self) -> usize
+        ensures { result ≡ number_of self.now }
+    {
+        self.number
     }
 
     /// Submits an edit. It waits for nobody.
@@ -61,9 +71,21 @@ impl Pen {
         ensures sent { IfSome result (λ end. all_submitted end ≡ submitted self) }
         ensures desk { IfSome result (KeepsDeskAtEnd self) }
     {
-        match self.producer.finish() {
-            Some(finished) => Some(PenEnd { finished }),
+        let Pen { producer, number } = self;
+        match producer.finish() {
+            Some(finished) => Some(PenEnd { finished, number }),
             None => None,
         }
+    }
+}
+
+impl PenEnd {
+    ghost use Rattle.pen_desks.specs.Pens.{end_number};
+
+    /// Which of its books' pens it was, from 0.
+    pub fn number(&self) -> usize
+        ensures { result ≡ end_number self.now }
+    {
+        self.number
     }
 }

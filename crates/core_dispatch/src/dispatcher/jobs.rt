@@ -1,8 +1,7 @@
 //! Jobs that are pushed for hands.
 
-ghost use Rattle.std.specs.Prelude.{◌≡◌};
 ghost use Rattle.core_rules.specs.Sweeps.{IsReady, IsOut};
-ghost use Rattle.core_dispatch.specs.Words.{core_by};
+ghost use Rattle.core_dispatch.specs.Dispatching.{core_by};
 ghost use Rattle.core_dispatch.specs.Jobs.{HavePushed, IsPlaced, IsPushed};
 
 use super::Dispatcher;
@@ -15,6 +14,8 @@ impl Dispatcher {
     pub(crate) fn push_jobs(&mut self) -> Jobs
         ensures { HavePushed self.old result self.new }
     {
+        // For its clause alone: the number of tiles can be counted.
+        let _ = self.books.core().tiles();
         let mut pushed = Jobs {
             jobs: 0,
             memory: false,

@@ -1,6 +1,5 @@
 //! Reports that are taken of hands.
 
-ghost use Rattle.std.specs.Prelude.{◌≡◌};
 ghost use Rattle.core_dispatch.specs.Reports.{HaveCollected, IsCollected, IsGivenOver, IsJudged};
 
 use super::Dispatcher;
@@ -62,7 +61,9 @@ fn give_over(alloc: Global, books: &mut Books, swept: Swept) -> bool
             let _was_out = books.abandon(ticket);
             false
         }
-        Ok(Back::Joined) | Ok(Back::Again) | Ok(Back::Stale) => false,
+        Ok(Back::Joined) => false,
+        Ok(Back::Again) => false,
+        Ok(Back::Stale) => false,
         Err(_) => {
             let _was_out = books.abandon(ticket);
             true

@@ -4,7 +4,7 @@ ghost use Rattle.std.specs.Prelude.{◌≡◌, ◌≤◌, ℕ, false, length};
 ghost use Rattle.core_rules.specs.Sweeps.{IsReady};
 ghost use Rattle.core_rules.specs.Runs.{HasHints};
 ghost use Rattle.pen_desks.specs.Pens.{KeepsPens};
-ghost use Rattle.core_dispatch.specs.Words.{books_by, owner_by, core_by};
+ghost use Rattle.core_dispatch.specs.Dispatching.{books_by, owner_by, core_by};
 ghost use Rattle.core_dispatch.specs.Turns.{HasTurned, AreEvents, GrowsOn, HasMergedNone, IsStill};
 
 use super::Dispatcher;
@@ -12,9 +12,9 @@ use crate::turned::Turned;
 
 impl Dispatcher {
     /// One turn: of each pen at most one edit is taken, and merged or listed; of each hand at most one report is taken,
-    /// and given to the core; each hint that waits is handed over; and the job of each tile that is dirty and not out is
-    /// taken and pushed, in rising order. A job that can't be pushed is abandoned, and so is one that failed, or whose
-    /// result is none of the core's or met want of memory. It waits for nobody.
+    /// and given to the core; each hint that waits is handed over; and the job of each tile that is dirty and not out
+    /// is taken and pushed, in rising order. A job that can't be pushed is abandoned, and so is one that failed, or
+    /// whose result is none of the core's or met want of memory. It waits for nobody.
     ///
     /// Afterwards no hint waits. Where memory was not wanting each dirty tile is out, or its push was refused; none of
     /// the first pushes, as many as the pool's capacity, is.

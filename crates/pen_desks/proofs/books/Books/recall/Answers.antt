@@ -1,16 +1,10 @@
 use Rattle.core_rules.specs.Runs.{tickets_out}
-use Rattle.pen_desks.specs.Books.{BooksView}
+use Rattle.pen_desks.specs.contracts.books.Books.{the_view}
 use Rattle.pen_desks.proofs.Steady.{steady_books, abandons_are_steady}
 use Rattle.pen_desks.proofs.books.Books.recall.Goals as goal
 
 pub invariant_of-self : goal.invariant_of-self
 invariant_of-self c =
-    let was = c.self.inside in
-    let b : BooksView = record {
-      core = was.core;
-      opening = was.opening;
-      desks = was.desks.items;
-      refusals = was.refusals.items;
-    } in
+    let b = the_view c.self.inside in
     steady_books b c.abandon_all.new.self c.self.invariant
     (abandons_are_steady b.core (tickets_out 0 b.core.tiles) c.abandon_all.new.self c.abandon_all.ensures.clears)

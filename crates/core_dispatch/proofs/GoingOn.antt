@@ -1,0 +1,61 @@
+-- Dispatchers that go on.
+use Rattle.std.proofs.Common.{◌≡◌, ℕ, List, [], ◌++◌, sym, refl, ap, ◌∙◌, subst}
+use Rattle.core_rules.specs.Runs.{Entry, IsRun}
+use Rattle.core_rules.proofs.Running.{run_append}
+use Rattle.pen_desks.specs.Books.{BooksView, KeepsRest}
+use Rattle.pen_desks.specs.Pens.{KeepsPens}
+use Rattle.pen_desks.specs.Taking.{HaveTakenEdits}
+use Rattle.pen_desks.proofs.Rounds.{pens_through}
+use Rattle.core_dispatch.specs.declared.dispatcher.Dispatcher.{Dispatcher}
+use Rattle.core_dispatch.specs.declared.turned.Results.{Results}
+use Rattle.core_dispatch.specs.Reports.{HaveCollected}
+use Rattle.core_dispatch.specs.Closing.{HasGoneOn}
+use Rattle.core_dispatch.proofs.Around.{rest_pens}
+use Rattle.core_dispatch.proofs.Growing.{run_grows, grows_itself, grows_through}
+use Rattle.core_dispatch.proofs.Reported.{reported, collected_around}
+
+pub goes_itself : (d : Dispatcher) → HasGoneOn d d
+goes_itself d = record {
+  events = ([], refl);
+  grows = grows_itself d.books.core;
+  opening = refl;
+  pens = record { count = refl; pens = λ pen h. h; ends = λ end h. h };
+}
+
+pub goes_through : (a b c : Dispatcher) → HasGoneOn a b → HasGoneOn b c → HasGoneOn a c
+goes_through a b c first second = record {
+  events = (
+    first.events.0 ++ second.events.0,
+    run_append a.books.core b.books.core c.books.core first.events.0 second.events.0 first.events.1 second.events.1,
+  );
+  grows = grows_through a.books.core b.books.core c.books.core first.grows second.grows;
+  opening = second.opening ∙ first.opening;
+  pens = pens_through a.books b.books c.books first.pens second.pens;
+}
+
+-- edits were taken
+pub goes_by_edits : (old new : Dispatcher) (edits : ℕ) → HaveTakenEdits old.books edits new.books
+    → KeepsPens old.books new.books → HasGoneOn old new
+goes_by_edits old new edits taken pens = record {
+  events = (taken.log, taken.run);
+  grows = run_grows old.books.core taken.log new.books.core taken.run;
+  opening = taken.opening;
+  pens = pens;
+}
+
+-- reports were taken
+pub goes_by_reports : (old new : Dispatcher) (results : Results) → HaveCollected old results new → HasGoneOn old new
+goes_by_reports old new results have =
+    let reports = reported 0 old have.answers new have.collected in
+    let around = collected_around 0 old have.answers new have.collected in
+    record {
+      events = (reports.log, reports.run);
+      grows = run_grows old.books.core reports.log new.books.core reports.run;
+      opening = ap (λ (b : BooksView). b.opening) around.rest;
+      pens = rest_pens old.books new.books around.rest;
+    }
+
+pub reports_keep_desks : (old new : Dispatcher) (results : Results) → HaveCollected old results new
+    → new.books.desks ≡ old.books.desks
+reports_keep_desks old new results have =
+    ap (λ (b : BooksView). b.desks) (collected_around 0 old have.answers new have.collected).rest

@@ -1,0 +1,10 @@
+pub mod Growing
+pub mod Around
+pub mod Reported
+pub mod Placed
+pub mod Turning
+pub mod Collecting
+pub mod Pushing
+pub mod Showing
+pub mod Ends
+pub mod GoingOn

@@ -1,0 +1,63 @@
+-- What is taken at the end.
+use Rattle.std.specs.Prelude.{◌≡◌, ℕ, ◌<◌, List, length, All}
+use Rattle.std.specs.List.{AllZip}
+use mathlib.Core.Option.{some}
+use lib.ListN.{get_elem?}
+use Rattle.core_rules.specs.Runs.{Entry, IsRun}
+use Rattle.pen_desks.specs.declared.pen.PenEnd.{PenEnd}
+use Rattle.pen_desks.specs.Books.{BooksView}
+use Rattle.pen_desks.specs.Taking.{most_edits}
+use Rattle.pen_desks.specs.Pens.{IsEndOf, IsSameEnd, HasAllOf, KeepsPens, all_submitted, end_number}
+use Rattle.core_dispatch.specs.declared.dispatcher.Dispatcher.{Dispatcher}
+use Rattle.core_dispatch.specs.Turns.{GrowsOn}
+
+-- each end is of a pen of the books
+abbrev pub AreEndsOf : List PenEnd → BooksView → Type 0
+AreEndsOf ends books = All (λ end. IsEndOf end books) ends
+
+-- at this place there is an end of the pen of this number
+abbrev pub IsPlaceOf : List PenEnd → ℕ → ℕ → Type 0
+IsPlaceOf ends number place =
+    (end : PenEnd) × (get_elem? ends place ≡ some end) × (end_number end ≡ number)
+
+-- one of the ends is of the pen of this number
+abbrev pub HasEndOf : List PenEnd → ℕ → Type 0
+HasEndOf ends number = (place : ℕ) × IsPlaceOf ends number place
+
+-- of each of so many pens there is an end
+abbrev pub HaveEach : ℕ → List PenEnd → Type 0
+HaveEach pens ends = (number : ℕ) → number < pens → HasEndOf ends number
+
+-- there are so many ends, one of each of so many pens
+abbrev pub IsOneOf : ℕ → List PenEnd → Type 0
+IsOneOf pens ends = (length ends ≡ pens) × HaveEach pens ends
+
+-- there is one end of each pen of the books
+abbrev pub IsOneOfEach : List PenEnd → BooksView → Type 0
+IsOneOfEach ends books = IsOneOf (length books.desks) ends
+
+-- all that the pen of this number submitted before it ended was taken, once and in order
+abbrev pub IsAllTaken : BooksView → List PenEnd → ℕ → Type 0
+IsAllTaken books ends number =
+    (place : ℕ) × (end : PenEnd) × (get_elem? ends place ≡ some end) × (end_number end ≡ number) × HasAllOf books end
+
+-- all that each pen submitted before it ended was taken, once and in order
+abbrev pub AreAllTaken : BooksView → List PenEnd → Type 0
+AreAllTaken books ends = (number : ℕ) → number < length books.desks → IsAllTaken books ends number
+
+-- the ends are of the same pens, which submitted the same and belong to these books
+abbrev pub AreKept : List PenEnd → List PenEnd → BooksView → Type 0
+AreKept old new books = AllZip IsSameEnd old new × AreEndsOf new books
+
+-- events led from the one core to the other, on which the strokes only joined; the strokes at opening are the same, and
+-- each pen that had its desk has it still
+pub record HasGoneOn (old new : Dispatcher) : Type 0 where
+  pub events : (log : List Entry) × IsRun old.books.core log new.books.core
+  pub grows : GrowsOn old.books.core new.books.core
+  pub opening : new.books.opening ≡ old.books.opening
+  pub pens : KeepsPens old.books new.books
+
+-- one of the pens submitted more edits than can be counted
+abbrev pub HasSpentCount : List PenEnd → Type 0
+HasSpentCount ends =
+    (place : ℕ) × (end : PenEnd) × (get_elem? ends place ≡ some end) × (most_edits < length (all_submitted end))

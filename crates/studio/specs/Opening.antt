@@ -1,0 +1,70 @@
+-- What a studio is when it is opened.
+use Rattle.std.specs.Prelude.{◌≡◌, ℕ, ◌<◌, ◌≤◌, List, [], ◌∷◌, length, map, replicate, All}
+use Rattle.core_rules.specs.Work.{Core}
+use Rattle.steal_pool.specs.Views.{OwnerView, fresh}
+use Rattle.pen_desks.specs.Books.{BooksView, ledger}
+use Rattle.pen_desks.specs.Pens.{submitted, HasItsDesk}
+use Rattle.core_dispatch.specs.declared.dispatcher.Dispatcher.{Dispatcher}
+use Rattle.core_dispatch.specs.Words.{core_by}
+use Rattle.shot_chain.specs.declared.eye.Eye.{Eye}
+use Rattle.shot_chain.specs.Shots.{Shot}
+use Rattle.shot_chain.specs.Words.{seen_by, learnt_by, eye_studio}
+use Rattle.studio.specs.declared.keeper.Keeper.{Keeper}
+use Rattle.studio.specs.declared.opening.Over.{Over}
+use Rattle.studio.specs.declared.opening.Studio.{Studio}
+use Rattle.studio.specs.Keeping.{core_of, books_of, owner_of, chain_of, studio_of, IsShotOf}
+
+-- a studio may have so many pens, hands or eyes
+abbrev pub IsCount : ℕ → Type 0
+IsCount n = (1 ≤ n) × (n ≤ 16)
+
+abbrev pub AreCounts : ℕ → ℕ → ℕ → Type 0
+AreCounts pens hands eyes = IsCount pens × IsCount hands × IsCount eyes
+
+-- the owner of a pool of so many hands has pushed and collected nothing, and its first 4,096 pushes succeed
+pub record IsNewOwner (hands : ℕ) (owner : OwnerView) : Type 0 where
+  pub pushed : owner.pushed ≡ []
+  pub capacity : owner.capacity ≡ 4096
+  pub collected : owner.collected ≡ replicate hands []
+
+-- the keeper showed the core once
+abbrev pub HasShownOnce : Keeper → Core → Type 0
+HasShownOnce keeper core = (shot : Shot) × IsShotOf core shot × (chain_of keeper ≡ shot ∷ [])
+
+-- the eye has seen and learnt all that the keeper showed, and is of its studio
+pub record IsNewEye (keeper : Keeper) (eye : Eye) : Type 0 where
+  pub seen : seen_by eye ≡ chain_of keeper
+  pub learnt : learnt_by eye ≡ chain_of keeper
+  pub studio : eye_studio eye ≡ studio_of keeper
+
+-- these are so many eyes, all of them new
+pub record AreNewEyes (keeper : Keeper) (count : ℕ) (eyes : List Eye) : Type 0 where
+  pub count_is : length eyes ≡ count
+  pub new : All (λ eye. IsNewEye keeper eye) eyes
+
+-- the keeper works with this dispatcher, and showed its core once
+pub record IsFirst (dispatcher : Dispatcher) (keeper : Keeper) : Type 0 where
+  pub dispatcher_is : keeper.dispatcher ≡ dispatcher
+  pub shown : HasShownOnce keeper (core_by dispatcher)
+
+-- a studio over these books, without the pens
+pub record IsOver (books : BooksView) (hands eyes : ℕ) (over : Over) : Type 0 where
+  pub books_are : books_of over.keeper ≡ books
+  pub owner : IsNewOwner hands (owner_of over.keeper)
+  pub shown : HasShownOnce over.keeper books.core
+  pub hands_are : over.hands.items ≡ replicate hands fresh
+  pub eyes_are : AreNewEyes over.keeper eyes over.eyes.items
+
+-- a studio of the core as it is, in which nobody did anything: no edit was submitted, taken or refused, each pen has its
+-- desk, no job was pushed and no report sent, and the core was shown once
+pub record IsOpened (core : Core) (pens hands eyes : ℕ) (studio : Studio) : Type 0 where
+  pub core_is : core_of studio.keeper ≡ core
+  pub opening : (books_of studio.keeper).opening ≡ core.state
+  pub refusals : (books_of studio.keeper).refusals ≡ []
+  pub taken : (ledger (books_of studio.keeper)).taken ≡ replicate pens []
+  pub sent : map submitted studio.pens.items ≡ replicate pens []
+  pub desks : (i : ℕ) → i < pens → HasItsDesk studio.pens.items (books_of studio.keeper).desks i
+  pub owner : IsNewOwner hands (owner_of studio.keeper)
+  pub hands_are : studio.hands.items ≡ replicate hands fresh
+  pub eyes_are : AreNewEyes studio.keeper eyes studio.eyes.items
+  pub shown : HasShownOnce studio.keeper core

@@ -1,0 +1,180 @@
+//! Shots of the core, and who looks at them.
+
+ghost use Rattle.std.specs.Prelude.{◌≡◌, ◌≤◌, ◌∷◌, ◌++◌, [], ℕ, All, length, true, IfOk, IfErr, MatchResult};
+ghost use Rattle.std.specs.Arc.{arc_value};
+ghost use Rattle.core_dispatch.specs.Words.{books_by, owner_by, core_by as core_at};
+ghost use Rattle.shot_chain.specs.Shots.{IsSound};
+ghost use Rattle.shot_chain.specs.Words.{told_by, told_studio};
+ghost use Rattle.studio.specs.Keeping.{core_of, books_of, owner_of, chain_of, studio_of, IsShotOf, ShowsOneMore};
+ghost use Rattle.studio.specs.Keeping.{HasKept};
+ghost use Rattle.studio.specs.Opening.{IsFirst, AreNewEyes};
+
+use super::Keeper;
+use crate::refused::OpenError;
+use core_dispatch::Dispatcher;
+use grid_core::{Grid, Memory};
+use reset_core::Core;
+use shot_chain::{Eye, Publisher, Shot, Told};
+use std::alloc::Global;
+use std::sync::{Arc, Wait};
+use stroke_lattice::State;
+
+impl Keeper {
+    /// A keeper that shows the core as it is, with places for so many eyes.
+    ///
+    /// Errors: out of memory, with the dispatcher handed back.
+    pub(crate) fn open<R: Wait>(
+        rt: &R,
+        alloc: Global,
+        dispatcher: Dispatcher,
+        eyes: usize,
+    ) -> Result<Keeper, Dispatcher>
+        requires eyes { (1 ≤ eyes) × (eyes ≤ 16) }
+        ensures first { IfOk result (IsFirst dispatcher) }
+        ensures returned { IfErr result (λ d. d ≡ dispatcher) }
+    {
+        let Ok(mask) = copy_of(alloc, dispatcher.core().mask()) else {
+            return Err(dispatcher);
+        };
+        let Ok(shot) = first_shot(alloc, &mask, dispatcher.core()) else {
+            return Err(dispatcher);
+        };
+        match Publisher::open(rt, alloc, shot, eyes) {
+            Ok(publisher) => Ok(Keeper {
+                alloc,
+                dispatcher,
+                publisher,
+                mask,
+                has_state: true,
+                has_image: true,
+            }),
+            Err(_) => Err(dispatcher),
+        }
+    }
+
+    /// So many eyes, which have seen and learnt all that was shown.
+    ///
+    /// Errors: out of memory, or a place was refused.
+    pub(crate) fn eyes(&mut self, count: usize) -> Result<Vec<Eye>, OpenError>
+        ensures eyes { IfOk result (λ eyes. AreNewEyes self.old count eyes.items) }
+        ensures kept { HasKept self.old self.new }
+    {
+        let mut eyes = Vec::with_capacity(self.alloc, count)?;
+        for _eye in 0..count {
+            eyes.push(self.publisher.eye()?)?;
+        }
+        Ok(eyes)
+    }
+
+    /// Shows the core as it is: the chain of shots is longer by one. Who learns of the receipt sees that shot or a later
+    /// one, at each look. It may wait for glimpses that are held.
+    ///
+    /// The strokes are copied only where an edit was taken since the last show, and the image only where an edit or a
+    /// report was taken or a hint was handed over. The mask is never copied.
+    ///
+    /// Errors: out of memory. The chain is as it was then.
+    #[tactic(auto, using(crate::proofs::Following::may_follow, crate::proofs::Following::shot_follows))]
+    pub fn show<R: Wait>(&mut self, rt: &R) -> Result<Told, Memory>
+        ensures shown { MatchResult result (λ _. ShowsOneMore self.old self.new)
+            (λ _. chain_of self.new ≡ chain_of self.old) }
+        ensures told { IfOk result (λ told. told_by told ≡ chain_of self.new) }
+        ensures told_studio { IfOk result (λ told. told_studio told ≡ studio_of self.old) }
+        ensures studio { studio_of self.new ≡ studio_of self.old }
+        ensures books { books_of self.new ≡ books_of self.old }
+        ensures owner { owner_of self.new ≡ owner_of self.old }
+    {
+        let shot = self.next_shot()?;
+        let told = self.publisher.show(rt, shot)?;
+        self.has_state = true;
+        self.has_image = true;
+        Ok(told)
+    }
+
+    // A shot of the core as it is.
+    //
+    // Errors: out of memory.
+    fn next_shot(&self) -> Result<Shot, Memory>
+        ensures shot { IfOk result (IsShotOf (core_of self.now)) }
+        ensures sound { IfOk result IsSound }
+    {
+        let mask = Arc::try_clone(&self.mask)?;
+        let state = self.next_state()?;
+        let image = self.next_image()?;
+        Ok(shot_of(self.dispatcher.core(), mask, state, image))
+    }
+
+    // The strokes of the core: those of the last shot, where they are the same.
+    //
+    // Errors: out of memory.
+    fn next_state(&self) -> Result<Arc<State>, Memory>
+        ensures { IfOk result (λ state. arc_value state ≡ (core_of self.now).state) }
+    {
+        if self.has_state {
+            return Ok(Arc::try_clone(self.publisher.last().state())?);
+        }
+        strokes_of(self.alloc, self.dispatcher.core())
+    }
+
+    // The image of the core: that of the last shot, where it is the same.
+    //
+    // Errors: out of memory.
+    fn next_image(&self) -> Result<Arc<Grid>, Memory>
+        ensures { IfOk result (λ image. arc_value image ≡ (core_of self.now).image) }
+    {
+        if self.has_image {
+            return Ok(Arc::try_clone(self.publisher.last().image())?);
+        }
+        copy_of(self.alloc, self.dispatcher.core().image())
+    }
+}
+
+// A copy of a grid, to be shared.
+//
+// Errors: out of memory.
+fn copy_of(alloc: Global, grid: &Grid) -> Result<Arc<Grid>, Memory>
+    ensures { IfOk result (λ copy. arc_value copy ≡ grid.now) }
+{
+    let copy = grid.copy(alloc)?;
+    Ok(Arc::new(alloc, copy)?)
+}
+
+// A copy of the strokes of a core, to be shared.
+//
+// Errors: out of memory.
+fn strokes_of(alloc: Global, core: &Core) -> Result<Arc<State>, Memory>
+    ensures { IfOk result (λ copy. arc_value copy ≡ core.now.state) }
+{
+    let Ok(copy) = core.state().copy(alloc) else {
+        return Err(Memory);
+    };
+    Ok(Arc::new(alloc, copy)?)
+}
+
+// The first shot of a core.
+//
+// Errors: out of memory.
+fn first_shot(alloc: Global, mask: &Arc<Grid>, core: &Core) -> Result<Shot, Memory>
+    requires { arc_value mask.now ≡ core.now.mask }
+    ensures shot { IfOk result (IsShotOf core.now) }
+    ensures sound { IfOk result IsSound }
+{
+    let shared = Arc::try_clone(mask)?;
+    let state = strokes_of(alloc, core)?;
+    let image = copy_of(alloc, core.image())?;
+    Ok(shot_of(core, shared, state, image))
+}
+
+// The shot of a core, over these.
+#[tactic(auto, using(crate::proofs::Showing::sound_shot, crate::proofs::Showing::one_size))]
+fn shot_of(core: &Core, mask: Arc<Grid>, state: Arc<State>, image: Arc<Grid>) -> Shot
+    requires mask { arc_value mask ≡ core.now.mask }
+    requires state { arc_value state ≡ core.now.state }
+    requires image { arc_value image ≡ core.now.image }
+    ensures shot { IsShotOf core.now result }
+    ensures sound { IsSound result }
+{
+    // For its clauses alone: the image has the size of the mask, is lawful, and the reconstruction where no work is left.
+    let _image = core.image();
+    let quiet = core.is_quiet();
+    Shot::new(mask, core.conn(), state, image, quiet)
+}

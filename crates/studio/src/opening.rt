@@ -1,0 +1,136 @@
+//! Studios that are opened.
+
+ghost use Rattle.std.specs.Prelude.{◌≡◌, ◌≤◌, ◌<◌, ◌↔◌, [], ◌∷◌, ℕ, length, replicate, All, IsTrue, IfOk, IfErr};
+ghost use Rattle.std.specs.Arc.{arc_value};
+ghost use Rattle.steal_pool.specs.Views.{fresh};
+ghost use Rattle.pen_desks.specs.Books.{ledger};
+ghost use Rattle.pen_desks.specs.Pens.{submitted, HasItsDesk};
+ghost use Rattle.shot_chain.specs.Words.{publisher_studio, shown_by, last_by};
+ghost use Rattle.studio.specs.declared.refused.OpenError.TheVariants as errors;
+ghost use Rattle.studio.specs.Keeping.{IsShotOf};
+ghost use Rattle.studio.specs.Opening.{AreCounts, IsOpened, IsNewEye, IsOver};
+
+use crate::keeper::Keeper;
+use crate::refused::{NotOpened, OpenError};
+use core_dispatch::Dispatcher;
+use grid_core::Memory;
+use pen_desks::{Books, Opened, Pen};
+use reset_core::Core;
+use shot_chain::{Eye, Publisher};
+use std::alloc::Global;
+use std::sync::Wait;
+use steal_pool::{Hand, Pool};
+
+/// How many pushed jobs surely find a place.
+const JOBS: usize = 4096;
+
+/// How many pens, hands or eyes a studio has at most.
+const MOST: usize = 16;
+
+/// A keeper, with its pens, hands and eyes, which go their own ways. The keeper has to be ended, by
+/// [`Keeper::close`] or [`Keeper::end`].
+pub struct Studio {
+    /// Who owns the core.
+    pub keeper: Keeper,
+    /// The pens. The keeper calls them by their index here.
+    pub pens: Vec<Pen>,
+    /// The hands. The keeper calls them by their index here.
+    pub hands: Vec<Hand>,
+    /// The eyes.
+    pub eyes: Vec<Eye>,
+}
+
+impl Studio {
+    /// A studio of the core, with so many pens, hands and eyes, 1 to 16 each. The first shot is of the core as it is.
+    ///
+    /// Errors: U1 where a count is none of 1 to 16, else U2 or U3, with the core handed back as it was.
+    pub fn open<R: Wait>(
+        rt: &R,
+        alloc: Global,
+        core: Core,
+        pens: usize,
+        hands: usize,
+        eyes: usize,
+    ) -> Result<Studio, NotOpened>
+        ensures counts { IfErr result (λ e. (e.why ≡ errors.BadCounts) ↔ (AreCounts pens hands eyes → ⊥)) }
+        ensures opened { IfOk result (IsOpened core pens hands eyes) }
+        ensures returned { IfErr result (λ e. e.core ≡ core) }
+    {
+        if !are_counts(pens, hands, eyes) {
+            return Err(NotOpened {
+                core,
+                why: OpenError::BadCounts,
+            });
+        }
+        match Books::open(alloc, core, pens) {
+            Ok(Opened { books, pens }) => match open_over(rt, alloc, books, hands, eyes) {
+                Ok(Over {
+                    keeper,
+                    hands,
+                    eyes,
+                }) => Ok(Studio {
+                    keeper,
+                    pens,
+                    hands,
+                    eyes,
+                }),
+                Err((books, why)) => Err(NotOpened {
+                    core: books.into_parts().0,
+                    why,
+                }),
+            },
+            Err((core, _)) => Err(NotOpened {
+                core,
+                why: OpenError::Memory,
+            }),
+        }
+    }
+}
+
+// Whether each count is one of 1 to 16.
+fn are_counts(pens: usize, hands: usize, eyes: usize) -> bool
+    ensures { IsTrue result ↔ AreCounts pens hands eyes }
+{
+    1 <= pens && pens <= MOST && 1 <= hands && hands <= MOST && 1 <= eyes && eyes <= MOST
+}
+
+// A studio without its pens.
+pub(crate) struct Over {
+    keeper: Keeper,
+    hands: Vec<Hand>,
+    eyes: Vec<Eye>,
+}
+
+// A studio over books, without the pens.
+//
+// Errors: out of memory, or a place for an eye was refused, with the books handed back as they were.
+fn open_over<R: Wait>(
+    rt: &R,
+    alloc: Global,
+    books: Books,
+    hands: usize,
+    eyes: usize,
+) -> Result<Over, (Books, OpenError)>
+    requires hands { (1 ≤ hands) × (hands ≤ 16) }
+    requires eyes { (1 ≤ eyes) × (eyes ≤ 16) }
+    ensures over { IfOk result (IsOver books hands eyes) }
+    ensures returned { IfErr result (λ e. e.0 ≡ books) }
+    ensures counts { IfErr result (λ e. e.1 ≡ errors.BadCounts → ⊥) }
+{
+    let Ok(Pool { owner, hands }) = Pool::open(alloc, hands, JOBS) else {
+        return Err((books, OpenError::Memory));
+    };
+    let dispatcher = Dispatcher::new(alloc, books, owner);
+    let mut keeper = match Keeper::open(rt, alloc, dispatcher, eyes) {
+        Ok(keeper) => keeper,
+        Err(dispatcher) => return Err((dispatcher.into_books(), OpenError::Memory)),
+    };
+    match keeper.eyes(eyes) {
+        Ok(eyes) => Ok(Over {
+            keeper,
+            hands,
+            eyes,
+        }),
+        Err(why) => Err((keeper.into_books(rt), why)),
+    }
+}
