@@ -83,20 +83,28 @@ fn row(image: &Grid, y: u32) -> &[u16]
     &image.cells()[start..start + width]
 }
 
-// Whether the rows are equal.
+// Whether the rows are equal. It looks at each value, without leaving early, so that it becomes vector code.
 fn is_equal(a: &[u16], b: &[u16]) -> bool
     requires { length a.now ≡ length b.now }
     ensures { IsTrue result ↔ EachIndex a.now (λ k. slice_index a.now k ≡ slice_index b.now k) }
 {
-    a.iter().zip(b).all(|(a, b)| a == b)
+    let mut differ = false;
+    for i in 0..a.len() {
+        differ |= a[i] != b[i];
+    }
+    !differ
 }
 
-// Whether no value of the first row is above that of the second.
+// Whether no value of the first row is above that of the second, found like `is_equal`.
 fn is_at_most(a: &[u16], b: &[u16]) -> bool
     requires { length a.now ≡ length b.now }
     ensures { IsTrue result ↔ EachIndex a.now (λ k. slice_index a.now k ≤ slice_index b.now k) }
 {
-    a.iter().zip(b).all(|(a, b)| a <= b)
+    let mut above = false;
+    for i in 0..a.len() {
+        above |= a[i] > b[i];
+    }
+    !above
 }
 
 // Raises the cells from a place on to these values. Where none is below its cell, as `is_above` says, they are copied.

@@ -1,5 +1,5 @@
 -- A core that goes on from the shot that was shown last.
-use Rattle.std.proofs.Common.{◌≡◌, Bool, sym, refl, ap, ◌∙◌, subst, IsTrue}
+use Rattle.std.proofs.Common.{◌≡◌, Bool, true, false, ◌&&◌, sym, refl, ap, ◌∙◌, subst, IsTrue}
 use Rattle.stroke_lattice.specs.State.{State, IsBelow}
 use Rattle.stroke_lattice.proofs.Joins.{below_itself, below_through}
 use Rattle.core_rules.specs.Work.{Core}
@@ -8,6 +8,14 @@ use Rattle.shot_chain.specs.Shots.{Shot, IsSound}
 use Rattle.shot_chain.specs.Chains.{MayFollow}
 use Rattle.studio.specs.Following.{Follows}
 use Rattle.studio.specs.Keeping.{IsShotOf}
+
+both_left : (a b : Bool) → IsTrue (a && b) → IsTrue a
+both_left true b h = refl
+both_left false b h = absurd cc
+
+both_right : (a b : Bool) → IsTrue (a && b) → IsTrue b
+both_right true b h = h
+both_right false b h = absurd cc
 
 -- a core goes on from a shot of itself
 pub shot_follows : (core : Core) (shot : Shot) (has_state has_image : Bool) → IsShotOf core shot
@@ -54,3 +62,13 @@ shows_same last before after a b f s = record {
   same_state = λ h. f.same_state h ∙ sym s.state;
   same_image = λ h. f.same_image h ∙ sym s.image;
 }
+
+-- so it goes on over a turn
+pub turned_on : (last : Shot) (before after : Core) (had_state had_image still_state still_image : Bool)
+    → Follows last before had_state had_image → GrowsOn before after
+    → (IsTrue still_state → after.state ≡ before.state) → (IsTrue still_image → after.image ≡ before.image)
+    → Follows last after (had_state && still_state) (had_image && still_image)
+turned_on last before after had_state had_image still_state still_image f g states images =
+    grows_on last before after had_state had_image (had_state && still_state) (had_image && still_image) f g
+    (λ h. (both_left had_state still_state h, states (both_right had_state still_state h)))
+    (λ h. (both_left had_image still_image h, images (both_right had_image still_image h)))

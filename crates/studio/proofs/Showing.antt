@@ -6,7 +6,7 @@ use Rattle.reset_core.specs.Answers.{IsImageOf}
 use Rattle.shot_chain.specs.Shots.{Shot, IsSound, HasOneSize}
 use Rattle.studio.specs.Keeping.{IsShotOf}
 
-shown : Core → Bool → Shot
+abbrev shown : Core → Bool → Shot
 shown core quiet = record {
   mask = core.mask;
   conn = core.conn;
@@ -17,7 +17,10 @@ shown core quiet = record {
 
 as_shown : (core : Core) (shot : Shot) → IsShotOf core shot → shot ≡ shown core shot.quiet
 as_shown core shot s =
-    let mask = s.mask in let conn = s.conn in let state = s.state in let image = s.image in cc
+    ap (λ m. record shot { mask = m }) s.mask
+    ∙ ap (λ c. record shot { mask = core.mask; conn = c }) s.conn
+    ∙ ap (λ x. record shot { mask = core.mask; conn = core.conn; state = x }) s.state
+    ∙ ap (λ i. record shot { mask = core.mask; conn = core.conn; state = core.state; image = i }) s.image
 
 -- the image has the size of the mask
 pub one_size : (core : Core) (mask image : Raster) → mask ≡ core.mask → image ≡ core.image

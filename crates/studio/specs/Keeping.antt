@@ -5,7 +5,7 @@ use Rattle.core_rules.specs.Work.{Core, IsQuiet}
 use Rattle.steal_pool.specs.Views.{OwnerView}
 use Rattle.pen_desks.specs.Books.{BooksView}
 use Rattle.core_dispatch.specs.declared.dispatcher.Dispatcher.{Dispatcher}
-use Rattle.core_dispatch.specs.Words.{books_by, owner_by, core_by}
+use Rattle.core_dispatch.specs.Dispatching.{books_by, owner_by, core_by}
 use Rattle.shot_chain.specs.Shots.{Shot}
 use Rattle.shot_chain.specs.Words.{shown_by, publisher_studio}
 use Rattle.studio.specs.declared.keeper.Keeper.{Keeper}
@@ -48,8 +48,3 @@ ShowsOneMore old new = (shot : Shot) × IsShotOf (core_of old) shot × (chain_of
 pub record IsUntouched (old new : Keeper) : Type 0 where
   pub chain : chain_of new ≡ chain_of old
   pub studio : studio_of new ≡ studio_of old
-
--- nothing is another but which places for eyes are in use
-pub record HasKept (old new : Keeper) : Type 0 where
-  pub untouched : IsUntouched old new
-  pub dispatcher : new.dispatcher ≡ old.dispatcher

@@ -7,9 +7,9 @@ pub use Rattle.core_rules.specs.Runs
 pub use Rattle.steal_pool.specs.Views
 pub use Rattle.pen_desks.specs.Books
 pub use Rattle.pen_desks.specs.Pens
-pub use Rattle.core_dispatch.specs.Words
+pub use Rattle.core_dispatch.specs.Dispatching
 pub use Rattle.core_dispatch.specs.Turns
-pub use Rattle.core_dispatch.specs.Closing
+pub use Rattle.core_dispatch.specs.Closing as Ends
 pub use Rattle.shot_chain.specs.Shots
 pub use Rattle.shot_chain.specs.Chains
 pub use Rattle.shot_chain.specs.Words

@@ -5,14 +5,15 @@ use Rattle.steal_pool.specs.Views.{OwnerView, fresh}
 use Rattle.pen_desks.specs.Books.{BooksView, ledger}
 use Rattle.pen_desks.specs.Pens.{submitted, HasItsDesk}
 use Rattle.core_dispatch.specs.declared.dispatcher.Dispatcher.{Dispatcher}
-use Rattle.core_dispatch.specs.Words.{core_by}
+use Rattle.core_dispatch.specs.Dispatching.{core_by}
 use Rattle.shot_chain.specs.declared.eye.Eye.{Eye}
 use Rattle.shot_chain.specs.Shots.{Shot}
-use Rattle.shot_chain.specs.Words.{seen_by, learnt_by, eye_studio}
+use Rattle.shot_chain.specs.declared.publisher.Publisher.{Publisher}
+use Rattle.shot_chain.specs.Words.{shown_by, last_by, publisher_studio, seen_by, learnt_by, eye_studio}
 use Rattle.studio.specs.declared.keeper.Keeper.{Keeper}
 use Rattle.studio.specs.declared.opening.Over.{Over}
 use Rattle.studio.specs.declared.opening.Studio.{Studio}
-use Rattle.studio.specs.Keeping.{core_of, books_of, owner_of, chain_of, studio_of, IsShotOf}
+use Rattle.studio.specs.Keeping.{core_of, books_of, owner_of, chain_of, IsShotOf}
 
 -- a studio may have so many pens, hands or eyes
 abbrev pub IsCount : ℕ → Type 0
@@ -31,16 +32,22 @@ pub record IsNewOwner (hands : ℕ) (owner : OwnerView) : Type 0 where
 abbrev pub HasShownOnce : Keeper → Core → Type 0
 HasShownOnce keeper core = (shot : Shot) × IsShotOf core shot × (chain_of keeper ≡ shot ∷ [])
 
--- the eye has seen and learnt all that the keeper showed, and is of its studio
-pub record IsNewEye (keeper : Keeper) (eye : Eye) : Type 0 where
-  pub seen : seen_by eye ≡ chain_of keeper
-  pub learnt : learnt_by eye ≡ chain_of keeper
-  pub studio : eye_studio eye ≡ studio_of keeper
+-- the eye has seen and learnt all that the publisher showed, and is of its studio
+pub record IsEyeOf (publisher : Publisher) (eye : Eye) : Type 0 where
+  pub seen : seen_by eye ≡ shown_by publisher
+  pub learnt : learnt_by eye ≡ shown_by publisher
+  pub studio : eye_studio eye ≡ publisher_studio publisher
 
--- these are so many eyes, all of them new
-pub record AreNewEyes (keeper : Keeper) (count : ℕ) (eyes : List Eye) : Type 0 where
+-- these are so many eyes of the publisher
+pub record AreEyesOf (publisher : Publisher) (count : ℕ) (eyes : List Eye) : Type 0 where
   pub count_is : length eyes ≡ count
-  pub new : All (λ eye. IsNewEye keeper eye) eyes
+  pub each : All (λ eye. IsEyeOf publisher eye) eyes
+
+-- nothing was shown, and the studio is the same
+pub record ShowsTheSame (old new : Publisher) : Type 0 where
+  pub chain : shown_by new ≡ shown_by old
+  pub last : last_by new ≡ last_by old
+  pub studio : publisher_studio new ≡ publisher_studio old
 
 -- the keeper works with this dispatcher, and showed its core once
 pub record IsFirst (dispatcher : Dispatcher) (keeper : Keeper) : Type 0 where
@@ -53,7 +60,7 @@ pub record IsOver (books : BooksView) (hands eyes : ℕ) (over : Over) : Type 0 
   pub owner : IsNewOwner hands (owner_of over.keeper)
   pub shown : HasShownOnce over.keeper books.core
   pub hands_are : over.hands.items ≡ replicate hands fresh
-  pub eyes_are : AreNewEyes over.keeper eyes over.eyes.items
+  pub eyes_are : AreEyesOf over.keeper.publisher eyes over.eyes.items
 
 -- a studio of the core as it is, in which nobody did anything: no edit was submitted, taken or refused, each pen has its
 -- desk, no job was pushed and no report sent, and the core was shown once
@@ -66,5 +73,5 @@ pub record IsOpened (core : Core) (pens hands eyes : ℕ) (studio : Studio) : Ty
   pub desks : (i : ℕ) → i < pens → HasItsDesk studio.pens.items (books_of studio.keeper).desks i
   pub owner : IsNewOwner hands (owner_of studio.keeper)
   pub hands_are : studio.hands.items ≡ replicate hands fresh
-  pub eyes_are : AreNewEyes studio.keeper eyes studio.eyes.items
+  pub eyes_are : AreEyesOf studio.keeper.publisher eyes studio.eyes.items
   pub shown : HasShownOnce studio.keeper core

@@ -8,7 +8,7 @@ ghost use Rattle.grid_core.specs.Stored.{raster_code, conn_code};
 ghost use Rattle.stroke_core.specs.contracts.stroke.Stroke as stroke;
 ghost use Rattle.stroke_lattice.specs.Stored.{state_code};
 ghost use Rattle.shot_chain.specs.Words.{last_by};
-ghost use Rattle.core_dispatch.specs.Words.{core_by};
+ghost use Rattle.core_dispatch.specs.Dispatching.{core_by};
 ghost use Rattle.studio.specs.Following.{Follows};
 
 use core_dispatch::Dispatcher;

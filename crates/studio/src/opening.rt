@@ -1,22 +1,15 @@
 //! Studios that are opened.
 
-ghost use Rattle.std.specs.Prelude.{◌≡◌, ◌≤◌, ◌<◌, ◌↔◌, [], ◌∷◌, ℕ, length, replicate, All, IsTrue, IfOk, IfErr};
-ghost use Rattle.std.specs.Arc.{arc_value};
-ghost use Rattle.steal_pool.specs.Views.{fresh};
-ghost use Rattle.pen_desks.specs.Books.{ledger};
-ghost use Rattle.pen_desks.specs.Pens.{submitted, HasItsDesk};
-ghost use Rattle.shot_chain.specs.Words.{publisher_studio, shown_by, last_by};
+ghost use Rattle.std.specs.Prelude.{◌≡◌, ◌≤◌, ◌↔◌, IsTrue, IfOk, IfErr};
 ghost use Rattle.studio.specs.declared.refused.OpenError.TheVariants as errors;
-ghost use Rattle.studio.specs.Keeping.{IsShotOf};
-ghost use Rattle.studio.specs.Opening.{AreCounts, IsOpened, IsNewEye, IsOver};
+ghost use Rattle.studio.specs.Opening.{AreCounts, IsOpened, IsOver};
 
 use crate::keeper::Keeper;
 use crate::refused::{NotOpened, OpenError};
 use core_dispatch::Dispatcher;
-use grid_core::Memory;
 use pen_desks::{Books, Opened, Pen};
 use reset_core::Core;
-use shot_chain::{Eye, Publisher};
+use shot_chain::Eye;
 use std::alloc::Global;
 use std::sync::Wait;
 use steal_pool::{Hand, Pool};
@@ -62,26 +55,21 @@ impl Studio {
                 why: OpenError::BadCounts,
             });
         }
-        match Books::open(alloc, core, pens) {
-            Ok(Opened { books, pens }) => match open_over(rt, alloc, books, hands, eyes) {
-                Ok(Over {
-                    keeper,
-                    hands,
-                    eyes,
-                }) => Ok(Studio {
-                    keeper,
-                    pens,
-                    hands,
-                    eyes,
-                }),
-                Err((books, why)) => Err(NotOpened {
-                    core: books.into_parts().0,
-                    why,
-                }),
-            },
-            Err((core, _)) => Err(NotOpened {
-                core,
-                why: OpenError::Memory,
+        let opened = match Books::open(alloc, core, pens) {
+            Ok(opened) => opened,
+            Err((core, _)) => {
+                return Err(NotOpened {
+                    core,
+                    why: OpenError::Memory,
+                });
+            }
+        };
+        let Opened { books, pens } = opened;
+        match open_over(rt, alloc, books, hands, eyes) {
+            Ok(over) => Ok(over.with_pens(pens)),
+            Err((books, why)) => Err(NotOpened {
+                core: books.into_parts().0,
+                why,
             }),
         }
     }
@@ -101,6 +89,30 @@ pub(crate) struct Over {
     eyes: Vec<Eye>,
 }
 
+impl Over {
+    // The studio of these and the pens.
+    fn with_pens(self, pens: Vec<Pen>) -> Studio
+        ensures { result ≡ record {
+          keeper = self.keeper;
+          pens = pens;
+          hands = self.hands;
+          eyes = self.eyes;
+        } }
+    {
+        let Over {
+            keeper,
+            hands,
+            eyes,
+        } = self;
+        Studio {
+            keeper,
+            pens,
+            hands,
+            eyes,
+        }
+    }
+}
+
 // A studio over books, without the pens.
 //
 // Errors: out of memory, or a place for an eye was refused, with the books handed back as they were.
@@ -117,9 +129,10 @@ fn open_over<R: Wait>(
     ensures returned { IfErr result (λ e. e.0 ≡ books) }
     ensures counts { IfErr result (λ e. e.1 ≡ errors.BadCounts → ⊥) }
 {
-    let Ok(Pool { owner, hands }) = Pool::open(alloc, hands, JOBS) else {
+    let Ok(pool) = Pool::open(alloc, hands, JOBS) else {
         return Err((books, OpenError::Memory));
     };
+    let Pool { owner, hands } = pool;
     let dispatcher = Dispatcher::new(alloc, books, owner);
     let mut keeper = match Keeper::open(rt, alloc, dispatcher, eyes) {
         Ok(keeper) => keeper,

@@ -1,12 +1,14 @@
 //! The end of a studio.
 
-ghost use Rattle.std.specs.Prelude.{◌≡◌, IfOk, IfErr};
-ghost use Rattle.core_dispatch.specs.Closing.{AreEndsOf};
-ghost use Rattle.studio.specs.Keeping.{core_of, books_of};
+ghost use Rattle.std.specs.Prelude.{◌≡◌, ◌↔◌, IfOk, IfErr, OnOk};
+ghost use Rattle.core_dispatch.specs.declared.error.CloseError.TheVariants as errors;
+ghost use Rattle.core_dispatch.specs.Closing.{AreEndsOf, AreKept, IsOneOfEach, AreAllTaken, HasSpentCount, HasGoneOn};
+ghost use Rattle.studio.specs.Keeping.{dispatcher_of, core_of, books_of, IsUntouched};
 ghost use Rattle.studio.specs.Closing.{IsClosed, IsNotClosed};
 
 use super::Keeper;
 use crate::closed::{Closed, NotClosed};
+use core_dispatch::CloseError;
 use pen_desks::{Books, PenEnd};
 use reset_core::Core;
 use std::sync::Wait;
@@ -28,6 +30,8 @@ impl Keeper {
         let mut ends = ends;
         match keeper.take_rest(&mut ends) {
             Ok(()) => {
+                // For its clause alone: the books are faithful.
+                let _core = keeper.core();
                 let (core, refusals) = keeper.into_books(rt).into_parts();
                 Ok(Closed { core, refusals })
             }
@@ -48,7 +52,15 @@ impl Keeper {
     // Errors: B1 to B3.
     fn take_rest(&mut self, ends: &mut Vec<PenEnd>) -> Result<(), CloseError>
         requires { AreEndsOf ends.old.items (books_of self.old) }
-        ensures taken { HasTakenRest ... }
+        ensures each { OnOk result (IsOneOfEach ends.old.items (books_of self.old)) }
+        ensures whole { OnOk result (AreAllTaken (books_of self.new) ends.old.items) }
+        ensures missing { IfErr result (λ why.
+            (why ≡ errors.EndMissing) ↔ (IsOneOfEach ends.old.items (books_of self.old) → ⊥)) }
+        ensures nothing { IfErr result (λ why. why ≡ errors.EndMissing → dispatcher_of self.new ≡ dispatcher_of self.old) }
+        ensures spent { IfErr result (λ why. why ≡ errors.CountSpent → HasSpentCount ends.old.items) }
+        ensures ends { AreKept ends.old.items ends.new.items (books_of self.new) }
+        ensures goes_on { HasGoneOn (dispatcher_of self.old) (dispatcher_of self.new) }
+        ensures untouched { IsUntouched self.old self.new }
     {
         let taken = self.dispatcher.take_rest(ends);
         self.has_state = false;
@@ -61,9 +73,12 @@ impl Keeper {
         ensures { result ≡ books_of self }
     {
         let Keeper {
+            alloc: _,
             dispatcher,
             publisher,
-            ..
+            mask: _,
+            has_state: _,
+            has_image: _,
         } = self;
         let _last = publisher.close(rt);
         dispatcher.into_books()

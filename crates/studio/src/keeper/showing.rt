@@ -2,12 +2,12 @@
 
 ghost use Rattle.std.specs.Prelude.{◌≡◌, ◌≤◌, ◌∷◌, ◌++◌, [], ℕ, All, length, true, IfOk, IfErr, MatchResult};
 ghost use Rattle.std.specs.Arc.{arc_value};
-ghost use Rattle.core_dispatch.specs.Words.{books_by, owner_by, core_by as core_at};
+ghost use Rattle.core_dispatch.specs.Dispatching.{books_by, owner_by, core_by as core_at};
 ghost use Rattle.shot_chain.specs.Shots.{IsSound};
 ghost use Rattle.shot_chain.specs.Words.{told_by, told_studio};
 ghost use Rattle.studio.specs.Keeping.{core_of, books_of, owner_of, chain_of, studio_of, IsShotOf, ShowsOneMore};
-ghost use Rattle.studio.specs.Keeping.{HasKept};
-ghost use Rattle.studio.specs.Opening.{IsFirst, AreNewEyes};
+ghost use Rattle.studio.specs.declared.refused.OpenError.TheVariants as errors;
+ghost use Rattle.studio.specs.Opening.{IsFirst, AreEyesOf, ShowsTheSame};
 
 use super::Keeper;
 use crate::refused::OpenError;
@@ -56,14 +56,12 @@ impl Keeper {
     ///
     /// Errors: out of memory, or a place was refused.
     pub(crate) fn eyes(&mut self, count: usize) -> Result<Vec<Eye>, OpenError>
-        ensures eyes { IfOk result (λ eyes. AreNewEyes self.old count eyes.items) }
-        ensures kept { HasKept self.old self.new }
+        ensures eyes { IfOk result (λ eyes. AreEyesOf self.old.publisher count eyes.items) }
+        ensures why { IfErr result (λ why. why ≡ errors.BadCounts → ⊥) }
+        ensures shows { ShowsTheSame self.old.publisher self.new.publisher }
+        ensures dispatcher { self.new.dispatcher ≡ self.old.dispatcher }
     {
-        let mut eyes = Vec::with_capacity(self.alloc, count)?;
-        for _eye in 0..count {
-            eyes.push(self.publisher.eye()?)?;
-        }
-        Ok(eyes)
+        eyes_of(self.alloc, &mut self.publisher, count)
     }
 
     /// Shows the core as it is: the chain of shots is longer by one. Who learns of the receipt sees that shot or a later
@@ -126,6 +124,28 @@ impl Keeper {
         }
         copy_of(self.alloc, self.dispatcher.core().image())
     }
+}
+
+// So many eyes of a publisher.
+//
+// Errors: out of memory, or a place was refused.
+fn eyes_of(alloc: Global, publisher: &mut Publisher, count: usize) -> Result<Vec<Eye>, OpenError>
+    ensures eyes { IfOk result (λ eyes. AreEyesOf publisher.old count eyes.items) }
+    ensures why { IfErr result (λ why. why ≡ errors.BadCounts → ⊥) }
+    ensures shows { ShowsTheSame publisher.old publisher.new }
+{
+    let Ok(mut eyes) = Vec::with_capacity(alloc, count) else {
+        return Err(OpenError::Memory);
+    };
+    for _eye in 0..count {
+        let Ok(eye) = publisher.eye() else {
+            return Err(OpenError::NoPlace);
+        };
+        if eyes.push(eye).is_err() {
+            return Err(OpenError::Memory);
+        }
+    }
+    Ok(eyes)
 }
 
 // A copy of a grid, to be shared.

@@ -1,6 +1,6 @@
 //! Turns of a keeper.
 
-ghost use Rattle.std.specs.Prelude.{◌≡◌, ◌≤◌, ℕ, false, length};
+ghost use Rattle.std.specs.Prelude.{◌≡◌, ◌≤◌, ◌+◌, ◌&&◌, ℕ, false, length, IsTrue};
 ghost use Rattle.core_rules.specs.Sweeps.{IsReady};
 ghost use Rattle.core_rules.specs.Runs.{HasHints};
 ghost use Rattle.pen_desks.specs.Pens.{KeepsPens};
@@ -29,16 +29,32 @@ impl Keeper {
         ensures pens { KeepsPens (books_of self.old) (books_of self.new) }
         ensures untouched { IsUntouched self.old self.new }
     {
+        let refused = self.dispatcher.refusals().len();
         let turned = self.dispatcher.turn();
-        self.has_state = self.has_state && turned.edits == 0;
-        self.has_image = self.has_image && is_still(&turned);
+        let has_merged_none = is_sum(self.dispatcher.refusals().len(), refused, turned.edits);
+        self.has_state = both(self.has_state, has_merged_none);
+        self.has_image = both(self.has_image, is_still(has_merged_none, &turned));
         turned
     }
 }
 
-// Whether nothing happened in the turn that may change the image.
-fn is_still(turned: &Turned) -> bool
-    ensures { IsTrue result ↔ IsStill turned.now }
+// Whether both hold.
+fn both(a: bool, b: bool) -> bool
+    ensures { result ≡ (a && b) }
 {
-    turned.edits == 0 && turned.results == 0 && turned.hints == 0
+    a && b
+}
+
+// Whether the first number is the sum of the others.
+fn is_sum(sum: usize, a: usize, b: u64) -> bool
+    ensures { IsTrue result → sum ≡ a + b }
+{
+    a <= sum && (sum - a) as u64 == b
+}
+
+// Whether no edit was merged in the turn, no report came, and no hint waited.
+fn is_still(has_merged_none: bool, turned: &Turned) -> bool
+    ensures { IsTrue result → IsTrue has_merged_none × (turned.now.results ≡ 0) × (turned.now.hints ≡ 0) }
+{
+    has_merged_none && turned.results == 0 && turned.hints == 0
 }

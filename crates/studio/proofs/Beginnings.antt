@@ -1,0 +1,69 @@
+-- Eyes and keepers of a studio that is opened.
+use Rattle.std.proofs.Common.{◌≡◌, ℕ, List, [], ◌∷◌, ◌++◌, ◌+◌, length, refl, sym, ap, ◌∙◌, subst, arith, replicate}
+use Rattle.std.proofs.lemmas.List.{length-append}
+use Rattle.std.proofs.lemmas.List.Elements.{All-push, All-weaker, All-nil}
+use Rattle.steal_pool.specs.Views.{OwnerView}
+use Rattle.core_rules.specs.Work.{Core}
+use Rattle.shot_chain.specs.declared.eye.Eye.{Eye}
+use Rattle.shot_chain.specs.declared.publisher.Publisher.{Publisher}
+use Rattle.shot_chain.specs.Words.{shown_by, last_by, publisher_studio, seen_by, learnt_by, eye_studio}
+use Rattle.studio.specs.declared.keeper.Keeper.{Keeper}
+use Rattle.studio.specs.Keeping.{IsShotOf}
+use Rattle.studio.specs.Opening.{IsEyeOf, AreEyesOf, ShowsTheSame, IsNewOwner, HasShownOnce}
+
+-- ---- eyes
+
+pub shows_itself : (publisher : Publisher) → ShowsTheSame publisher publisher
+shows_itself publisher = record { chain = refl; last = refl; studio = refl }
+
+pub shows_through : (a b c : Publisher) → ShowsTheSame a b → shown_by c ≡ shown_by b → last_by c ≡ last_by b
+    → publisher_studio c ≡ publisher_studio b → ShowsTheSame a c
+shows_through a b c first chain last studio = record {
+  chain = chain ∙ first.chain;
+  last = last ∙ first.last;
+  studio = studio ∙ first.studio;
+}
+
+pub no_eyes : (publisher : Publisher) → AreEyesOf publisher 0 []
+no_eyes publisher = record { count_is = refl; each = All-nil _ }
+
+-- an eye of a publisher is one of each that shows the same
+eye_of : (old new : Publisher) (eye : Eye) → ShowsTheSame old new → IsEyeOf new eye → IsEyeOf old eye
+eye_of old new eye s e = record {
+  seen = e.seen ∙ s.chain;
+  learnt = e.learnt ∙ s.chain;
+  studio = e.studio ∙ s.studio;
+}
+
+-- one eye more
+pub one_more_eye : (start now : Publisher) (count : ℕ) (eyes : List Eye) (eye : Eye) → AreEyesOf start count eyes
+    → ShowsTheSame start now → seen_by eye ≡ shown_by now → learnt_by eye ≡ shown_by now
+    → eye_studio eye ≡ publisher_studio now → AreEyesOf start (count + 1) (eyes ++ eye ∷ [])
+one_more_eye start now count eyes eye so_far shows seen learnt studio = record {
+  count_is = let l = length-append eyes (eye ∷ []) in let n = so_far.count_is in omega (arith, l, n);
+  each =
+      All-push (λ e. IsEyeOf start e) eyes eye so_far.each
+      (eye_of start now eye shows (record { seen = seen; learnt = learnt; studio = studio }));
+}
+
+pub eyes_kept : (old new : Publisher) (count : ℕ) (eyes : List Eye) → ShowsTheSame old new
+    → AreEyesOf old count eyes → AreEyesOf new count eyes
+eyes_kept old new count eyes s a = record {
+  count_is = a.count_is;
+  each =
+      All-weaker (λ e. IsEyeOf old e) (λ e. IsEyeOf new e)
+      (λ e n. eye_of new old e (record { chain = sym s.chain; last = sym s.last; studio = sym s.studio }) n) eyes
+      a.each;
+}
+
+-- ---- keepers
+
+pub shown_once_kept : (old new : Keeper) (a b : Core) → ShowsTheSame old.publisher new.publisher → a ≡ b → HasShownOnce old a
+    → HasShownOnce new b
+shown_once_kept old new a b u same (shot, is, chain) =
+    (shot, subst (λ (c : Core). IsShotOf c shot) same is, u.chain ∙ chain)
+
+pub new_owner : (hands : ℕ) (owner : OwnerView) → owner.pushed ≡ [] → owner.capacity ≡ 4096
+    → owner.collected ≡ replicate hands [] → IsNewOwner hands owner
+new_owner hands owner pushed capacity collected =
+    record { pushed = pushed; capacity = capacity; collected = collected }

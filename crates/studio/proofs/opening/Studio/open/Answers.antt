@@ -1,0 +1,23 @@
+use Rattle.std.proofs.Common.{sym, ap, ◌∙◌, subst}
+use Rattle.pen_desks.specs.Books.{ledger}
+use Rattle.pen_desks.specs.Pens.{HasItsDesk}
+use Rattle.studio.specs.Opening.{HasShownOnce, IsOpened}
+use Rattle.studio.proofs.opening.Studio.open.Goals as goal
+
+pub returns-in-Ok-open_over-clause-opened : goal.returns-in-Ok-open_over-clause-opened
+returns-in-Ok-open_over-clause-opened g c =
+    let over = c.in-Ok-open_over.ensures.over in
+    let opened = c.in-Ok.ensures in
+    let same = over.books_are in
+    subst (IsOpened c.args.core c.args.pens c.args.hands c.args.eyes) (sym c.with_pens.ensures) (record {
+      core_is = ap (λ b. b.core) same ∙ opened.core;
+      opening = ap (λ b. b.opening) same ∙ opened.opening;
+      refusals = ap (λ b. b.refusals) same ∙ opened.refusals;
+      taken = ap (λ b. (ledger b).taken) same ∙ opened.taken;
+      sent = opened.sent;
+      desks = λ i lt. subst (λ b. HasItsDesk c.in-Ok.opened.pens.items b.desks i) (sym same) (opened.rings i lt);
+      owner = over.owner;
+      hands_are = over.hands_are;
+      eyes_are = over.eyes_are;
+      shown = subst (HasShownOnce c.in-Ok-open_over.over.keeper) opened.core over.shown;
+    })
