@@ -2,7 +2,7 @@
 use Rattle.std.proofs.Common.{◌≡◌, ◌≢◌, ℕ, zero, suc, ◌+◌, ◌<◌, ◌≤◌, List, [], ◌∷◌, length, set, get_or, sym, refl, ap, ◌∙◌}
 use Rattle.std.proofs.Common.{subst, arith, true}
 use Rattle.std.specs.List.{AllZip}
-use Rattle.std.specs.Prelude.{All, Option, Some, None, MatchOption, Result, Ok, Err, OnOk, IfErr}
+use Rattle.std.specs.Prelude.{Option, Some, None, MatchOption, Result, Ok, Err, OnOk, IfErr}
 use Rattle.std.specs.Option.{is_some}
 use Rattle.std.proofs.lemmas.List.Elements.{All-set, All-weaker, All-get_or}
 use mathlib.Core.Logic.{dite}
@@ -13,7 +13,7 @@ use Rattle.atomic_table.proofs.Lists.{at_index}
 use Rattle.pen_desks.specs.declared.desk.PenDesk.{PenDesk}
 use Rattle.pen_desks.specs.declared.pen.PenEnd.{PenEnd}
 use Rattle.pen_desks.specs.Books.{BooksView}
-use Rattle.pen_desks.specs.Pens.{IsEndOf, IsSameEnd, HasAllOf, IsSpent, KeepsPens, all_submitted}
+use Rattle.pen_desks.specs.Pens.{IsEndOf, IsSameEnd, HasAllOf, IsSpent, KeepsPens}
 use Rattle.pen_desks.specs.Pens.{end_number}
 use Rattle.pen_desks.specs.Taking.{most_edits}
 use Rattle.pen_desks.proofs.Ledgers.{below}

@@ -1,8 +1,7 @@
 -- Dispatchers that go on.
-use Rattle.std.proofs.Common.{◌≡◌, ℕ, List, [], ◌++◌, sym, refl, ap, ◌∙◌, subst}
-use Rattle.core_rules.specs.Runs.{Entry, IsRun}
+use Rattle.std.proofs.Common.{◌≡◌, ℕ, [], ◌++◌, refl, ap, ◌∙◌}
 use Rattle.core_rules.proofs.Running.{run_append}
-use Rattle.pen_desks.specs.Books.{BooksView, KeepsRest}
+use Rattle.pen_desks.specs.Books.{BooksView}
 use Rattle.pen_desks.specs.Pens.{KeepsPens}
 use Rattle.pen_desks.specs.Taking.{HaveTakenEdits}
 use Rattle.pen_desks.proofs.Rounds.{pens_through}

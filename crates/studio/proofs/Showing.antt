@@ -1,7 +1,7 @@
 -- A shot of a core is sound.
-use Rattle.std.proofs.Common.{◌≡◌, Bool, sym, refl, ap, ◌∙◌, subst, IsTrue}
+use Rattle.std.proofs.Common.{◌≡◌, Bool, sym, ap, ◌∙◌, subst}
 use Rattle.grid_core.specs.Raster.{Raster}
-use Rattle.core_rules.specs.Work.{Core, IsQuiet}
+use Rattle.core_rules.specs.Work.{Core}
 use Rattle.reset_core.specs.Answers.{IsImageOf}
 use Rattle.shot_chain.specs.Shots.{Shot, IsSound, HasOneSize}
 use Rattle.studio.specs.Keeping.{IsShotOf}

@@ -37,8 +37,14 @@ pub struct Keeper {
     pub(crate) has_image: bool,
     ghost mask_is: { arc_value mask ≡ (core_by dispatcher).mask } by { Coded-set raster_code _ _ },
     ghost follows: { Follows (last_by publisher) (core_by dispatcher) has_state
-        has_image } by { Prim.hlevel (props, Coded-set coded_bool, Coded-set raster_code, Coded-set conn_code,
-        Coded-set (state_code stroke.the_row.coded), Coded-set (coded_option stroke.the_row.coded)) },
+        has_image } by { Prim.hlevel (
+          props,
+          Coded-set coded_bool,
+          Coded-set raster_code,
+          Coded-set conn_code,
+          Coded-set (state_code stroke.the_row.coded),
+          Coded-set (coded_option stroke.the_row.coded),
+        ) },
 }
 
 impl Keeper {

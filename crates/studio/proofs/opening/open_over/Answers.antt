@@ -1,6 +1,5 @@
 use Rattle.std.proofs.Common.{sym, ap, ◌∙◌, subst}
-use Rattle.core_dispatch.specs.declared.dispatcher.Dispatcher.{Dispatcher}
-use Rattle.core_dispatch.specs.Dispatching.{books_by, owner_by, core_by}
+use Rattle.core_dispatch.specs.Dispatching.{books_by, owner_by}
 use Rattle.studio.specs.Opening.{IsNewOwner}
 use Rattle.studio.proofs.Beginnings.{eyes_kept, shown_once_kept, new_owner}
 use Rattle.studio.proofs.opening.open_over.Goals as goal

@@ -1,6 +1,3 @@
-use Rattle.std.proofs.Common.{true, ◌≡◌}
-use Rattle.std.specs.Prelude.{Option, Some, None, MatchOption}
-use Rattle.core_dispatch.specs.Closing.{HasEndOf, IsPlaceOf}
 use Rattle.core_dispatch.proofs.Ends.{one_more_has, has_found}
 use Rattle.core_dispatch.proofs.dispatcher.closing.have_each.Goals as goal
 

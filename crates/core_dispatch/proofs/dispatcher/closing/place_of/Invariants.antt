@@ -1,7 +1,4 @@
-use Rattle.std.proofs.Common.{◌≡◌, ℕ, ◌<◌}
-use mathlib.Core.Option.{some}
-use lib.ListN.{get_elem?}
-use Rattle.pen_desks.specs.declared.pen.PenEnd.{PenEnd}
+use Rattle.std.proofs.Common.{ℕ, ◌<◌}
 use Rattle.core_dispatch.specs.Closing.{IsPlaceOf}
 use Rattle.core_dispatch.proofs.dispatcher.closing.place_of.Given as goal
 
