@@ -58,8 +58,8 @@ eyes_kept old new count eyes s a = record {
 
 -- ---- keepers
 
-pub shown_once_kept : (old new : Keeper) (a b : Core) → ShowsTheSame old.publisher new.publisher → a ≡ b → HasShownOnce old a
-    → HasShownOnce new b
+pub shown_once_kept : (old new : Keeper) (a b : Core) → ShowsTheSame old.publisher new.publisher → a ≡ b
+    → HasShownOnce old a → HasShownOnce new b
 shown_once_kept old new a b u same (shot, is, chain) =
     (shot, subst (λ (c : Core). IsShotOf c shot) same is, u.chain ∙ chain)
 

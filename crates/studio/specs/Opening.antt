@@ -62,8 +62,8 @@ pub record IsOver (books : BooksView) (hands eyes : ℕ) (over : Over) : Type 0 
   pub hands_are : over.hands.items ≡ replicate hands fresh
   pub eyes_are : AreEyesOf over.keeper.publisher eyes over.eyes.items
 
--- a studio of the core as it is, in which nobody did anything: no edit was submitted, taken or refused, each pen has its
--- desk, no job was pushed and no report sent, and the core was shown once
+-- a studio of the core as it is, in which nobody did anything: no edit was submitted, taken or refused, each pen has
+-- its desk, no job was pushed and no report sent, and the core was shown once
 pub record IsOpened (core : Core) (pens hands eyes : ℕ) (studio : Studio) : Type 0 where
   pub core_is : core_of studio.keeper ≡ core
   pub opening : (books_of studio.keeper).opening ≡ core.state

@@ -2,8 +2,8 @@
 //! Tests of studios: pens, hands, eyes and a keeper, in one thread and in many.
 //!
 //! They stand in a crate of their own because tests are proved safe as well: a crate with tests is proved twice. Where
-//! a contract says exactly what a call gives there is no case: what is tested is that calls succeed at all, that callers
-//! meet each condition, and what comes of it while threads run.
+//! a contract says exactly what a call gives there is no case: what is tested is that calls succeed at all, that
+//! callers meet each condition, and what comes of it.
 
 #[cfg(test)]
 mod opening;

@@ -15,8 +15,8 @@ use std::sync::Wait;
 
 impl Keeper {
     /// Takes what is left of each pen, and at most 64 reports of each hand, as turns do, and ends the studio. Each edit
-    /// that a pen submitted was then taken, once and in order. It may wait for glimpses that are held. Work that is left
-    /// stays with the core: it can be settled.
+    /// that a pen submitted was then taken, once and in order. It may wait for glimpses that are held. Work that is
+    /// left stays with the core: it can be settled.
     ///
     /// Errors, with keeper and ends handed back: B1 where there is not one end of each pen, and nothing was taken; B2
     /// where a place in the list of refusals was refused; B3 where 2^64 - 1 edits of a pen were taken and one is left.
@@ -56,7 +56,8 @@ impl Keeper {
         ensures whole { OnOk result (AreAllTaken (books_of self.new) ends.old.items) }
         ensures missing { IfErr result (λ why.
             (why ≡ errors.EndMissing) ↔ (IsOneOfEach ends.old.items (books_of self.old) → ⊥)) }
-        ensures nothing { IfErr result (λ why. why ≡ errors.EndMissing → dispatcher_of self.new ≡ dispatcher_of self.old) }
+        ensures nothing { IfErr result (λ why. why ≡ errors.EndMissing
+            → dispatcher_of self.new ≡ dispatcher_of self.old) }
         ensures spent { IfErr result (λ why. why ≡ errors.CountSpent → HasSpentCount ends.old.items) }
         ensures ends { AreKept ends.old.items ends.new.items (books_of self.new) }
         ensures goes_on { HasGoneOn (dispatcher_of self.old) (dispatcher_of self.new) }

@@ -64,11 +64,11 @@ impl Keeper {
         eyes_of(self.alloc, &mut self.publisher, count)
     }
 
-    /// Shows the core as it is: the chain of shots is longer by one. Who learns of the receipt sees that shot or a later
-    /// one, at each look. It may wait for glimpses that are held.
+    /// Shows the core as it is: the chain of shots is longer by one. Who learns of the receipt sees that shot or a
+    /// later one, at each look. It may wait for glimpses that are held.
     ///
-    /// The strokes are copied only where an edit was taken since the last show, and the image only where an edit or a
-    /// report was taken or a hint was handed over. The mask is never copied.
+    /// The strokes are copied only where an edit was merged since the last show, and the image only where an edit was
+    /// merged, a report was taken or a hint was handed over. The mask is never copied.
     ///
     /// Errors: out of memory. The chain is as it was then.
     #[tactic(auto, using(crate::proofs::Following::may_follow, crate::proofs::Following::shot_follows))]
@@ -193,7 +193,8 @@ fn shot_of(core: &Core, mask: Arc<Grid>, state: Arc<State>, image: Arc<Grid>) ->
     ensures shot { IsShotOf core.now result }
     ensures sound { IsSound result }
 {
-    // For its clauses alone: the image has the size of the mask, is lawful, and the reconstruction where no work is left.
+    // For its clauses alone: the image has the size of the mask, is lawful, and where no work is left it is the
+    // reconstruction.
     let _image = core.image();
     let quiet = core.is_quiet();
     Shot::new(mask, core.conn(), state, image, quiet)

@@ -12,9 +12,9 @@ use core_dispatch::Turned;
 
 impl Keeper {
     /// One turn: of each pen at most one edit is taken, and merged or listed; of each hand at most one report is taken,
-    /// and given to the core; each hint that waits is handed over; and the job of each tile that is dirty and not out is
-    /// taken and pushed, in rising order. A job that can't be pushed is abandoned, and so is one that failed, or whose
-    /// result is none of the core's or met want of memory. It waits for nobody.
+    /// and given to the core; each hint that waits is handed over; and the job of each tile that is dirty and not out
+    /// is taken and pushed, in rising order. A job that can't be pushed is abandoned, and so is one that failed, or
+    /// whose result is none of the core's or met want of memory. It waits for nobody.
     ///
     /// Afterwards no hint waits. Where memory was not wanting each dirty tile is out, or its push was refused; none of
     /// the first 4,096 pushes is.

@@ -22,5 +22,6 @@ returns-in-Ok-eyes-clause-over g c =
           (ap (λ b. b.core) made.books) first.shown;
       hands_are = pool.hands;
       eyes_are =
-          eyes_kept c.in-Ok-open.keeper.publisher c.eyes.new.self.publisher c.args.eyes _ kept c.in-Ok-eyes.ensures.eyes;
+          eyes_kept c.in-Ok-open.keeper.publisher c.eyes.new.self.publisher c.args.eyes _ kept
+          c.in-Ok-eyes.ensures.eyes;
     }
