@@ -49,7 +49,3 @@ pub record KeepsCompany (old new : Keeper) : Type 0 where
 pub record IsLeft (old new : Keeper) (ends : List PenEnd) : Type 0 where
   pub keeps : KeepsCompany old new
   pub ends_are : AreEndsOf ends (books_of new)
-
--- of which books all of the pens were, of these are those of both lists
-pub record Splits (old new taken : List Pen) : Type 0 where
-  pub books : (books : BooksView) → AreOf old books → AreOf new books × AreOf taken books
