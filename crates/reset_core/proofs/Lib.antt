@@ -7,6 +7,7 @@ pub mod Telling
 pub mod TellingHands
 pub mod TellingOrder
 pub mod TellingSweeps
+pub mod Masking
 pub mod MergeSteps
 pub mod Bounding
 pub mod Scheduling

@@ -29,6 +29,7 @@ use Rattle.tile_resets.specs.Renewing.{AreMarkedReset, IsRaisedByTags}
 use Rattle.reset_core.specs.Bounding.{AreBounded}
 use Rattle.reset_core.proofs.Bounding.{bounded_like, bounded_still}
 use Rattle.reset_core.specs.declared.replica.Core.TheInside.{Inside as Parts}
+use Rattle.tile_generations.specs.CutMasks.{AreTileMasks}
 use Rattle.reset_core.specs.Replica.{core_of, IsStored}
 use Rattle.reset_core.specs.MergeSteps.{IsMarked, HasSpentMark, IsGrown, IsRenewed}
 use Rattle.tile_resets.specs.Marks.{AreHits}
@@ -347,6 +348,10 @@ module _ (before after : Parts) (delta : State) (turnover : Turnover) (stored : 
     marks =
         subst (λ (m : Raster). IsMarkerOf m after.state after.markers.marker) (sym renewed.mask)
         renewed.grown.marker_is;
+    masks =
+        subst (λ (m : Raster). AreTileMasks m after.markers.tiling after.masks) (sym renewed.mask)
+        (subst (λ (t : Tiles). AreTileMasks before.markers.mask t after.masks) (sym renewed.tiling_is)
+        (subst (AreTileMasks before.markers.mask before.markers.tiling) (sym renewed.masks) stored.masks));
     no_marks =
         renewed.cleared
         ∙ ap (λ n. replicate n false) (renewed.marked.count ∙ sym stored.sound.shape.tiles ∙ sym same_count);

@@ -6,8 +6,11 @@ use Rattle.grid_core.specs.Bounds.{bounds_at, joined, no_bounds}
 use Rattle.tile_work.specs.OpenBounds.{bounds_for}
 use Rattle.reset_core.specs.Bounding.{AreBounded}
 use Rattle.reset_core.proofs.Bounding.{blank_is_black, bounded_still, follow_rise, none_bounded}
-use Rattle.std.specs.Prelude.{Bool, Some, slice_set, remove}
-use Rattle.std.proofs.lemmas.List.{length-set, length-replicate}
+use Rattle.std.specs.Prelude.{Bool, Option, None, Some, slice_set, slice_index_or, remove}
+use Rattle.std.proofs.Common.{inl, inr}
+use Rattle.std.proofs.lemmas.Bool.{cases_lt}
+use Rattle.tile_generations.specs.CutMasks.{AreTileMasks}
+use Rattle.std.proofs.lemmas.List.{get_or-replicate, get_or_past, length-set, length-replicate}
 use Rattle.grid_core.specs.Raster.{IsFilled}
 use Rattle.grid_core.specs.Tiles.{Tiles, IsTiled, count_of}
 use Rattle.stroke_lattice.specs.State.{State, nothing}
@@ -68,6 +71,7 @@ stored_still old image work bounds serial stored count bounded sound = record {
   sound = sound;
   bounded = record { count = bounded.count; lie = bounded.lie; begin = bounded.begin };
   marks = stored.marks;
+  masks = stored.masks;
   no_marks = empty_still old.work work old.marks count stored.no_marks;
   none_queued = empty_still old.work work old.queue count stored.none_queued;
 }
@@ -79,6 +83,7 @@ unmarked_is_stored parts marks queue stored no_marks none_queued = record {
   sound = stored.sound;
   bounded = stored.bounded;
   marks = stored.marks;
+  masks = stored.masks;
   no_marks = no_marks;
   none_queued = none_queued;
 }
@@ -140,6 +145,39 @@ module _ (parts : Parts) (stored : IsStored parts) (t i : ℕ) (hint : Hint)
         goes_to_tile.tile above))
         (hand_keeps_sound (core_of parts) (raised lost hint) t i Raised stored.sound raised_happens)
 
+-- ---- the masks of tiles
+
+-- of no tile the mask was cut out
+none_cut : (mask : Raster) (tiles : Tiles) → mask.width ≡ tiles.width → mask.height ≡ tiles.height
+    → AreTileMasks mask tiles (replicate (count_of tiles) None)
+none_cut mask tiles width height = record {
+  width = width;
+  height = height;
+  count = length-replicate (count_of tiles) None;
+  cut = λ t m there.
+      let none : slice_index_or (replicate (count_of tiles) None) t None ≡ None =
+      elim (cases_lt t (count_of tiles)) [
+        | inl within ↦ get_or-replicate (count_of tiles) t None None within
+        | inr past ↦
+            get_or_past (replicate (count_of tiles) None) t None
+            (subst (λ n. n ≤ t) (sym (length-replicate (count_of tiles) None)) past)
+      ] in
+      let no : None ≡ Some m = sym none ∙ there in
+      absurd cc;
+}
+
+-- a stored core stays one where masks are cut out
+pub cut_is_stored : (parts : Parts) (masks : List (Option Raster)) → IsStored parts
+    → AreTileMasks parts.markers.mask parts.markers.tiling masks → IsStored (record parts { masks = masks })
+cut_is_stored parts masks stored are = record {
+  sound = stored.sound;
+  bounded = stored.bounded;
+  marks = stored.marks;
+  masks = are;
+  no_marks = stored.no_marks;
+  none_queued = stored.none_queued;
+}
+
 -- ---- opening
 
 -- what a core is opened as
@@ -168,8 +206,12 @@ pub opened_is_stored : (parts : Parts) (mask : Raster) (side first : ℕ) → Is
     → parts.marks ≡ replicate (count_of (record { width = mask.width; height = mask.height; side = side })) false
     → parts.queue ≡ replicate (count_of (record { width = mask.width; height = mask.height; side = side })) false
     → parts.bounds ≡ replicate (count_of (record { width = mask.width; height = mask.height; side = side })) no_bounds
+    → parts.masks ≡ replicate (count_of (record { width = mask.width; height = mask.height; side = side })) None
+    → parts.markers.mask ≡ mask
+    → parts.markers.tiling ≡ record { width = mask.width; height = mask.height; side = side }
     → IsStored parts
-opened_is_stored parts mask side first filled tiled bound is_open marks no_marks none_queued bounds_are =
+opened_is_stored parts mask side first filled tiled bound is_open marks no_marks none_queued bounds_are masks_are same_mask
+    same_tiles =
     let tiling : Tiles = record { width = mask.width; height = mask.height; side = side } in
     let count : length parts.work ≡ count_of tiling =
     ap (λ (core : Core). length core.tiles) is_open ∙ length-replicate (count_of tiling) (fresh first) in
@@ -183,6 +225,10 @@ opened_is_stored parts mask side first filled tiled bound is_open marks no_marks
       marks =
           subst (λ s. IsMarkerOf parts.markers.mask s parts.markers.marker)
           (sym (ap (λ (core : Core). core.state) is_open)) marks;
+      masks =
+          subst (λ (m : Raster). AreTileMasks m parts.markers.tiling parts.masks) (sym same_mask)
+          (subst (λ (t : Tiles). AreTileMasks mask t parts.masks) (sym same_tiles)
+          (subst (AreTileMasks mask tiling) (sym masks_are) (none_cut mask tiling refl refl)));
       no_marks = no_marks ∙ ap (λ n. replicate n false) (sym count);
       none_queued = none_queued ∙ ap (λ n. replicate n false) (sym count);
     }

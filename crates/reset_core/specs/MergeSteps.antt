@@ -86,4 +86,5 @@ pub record IsRenewed (before : Parts) (delta : State) (turnover : Turnover) (aft
   pub mask : after.markers.mask ≡ before.markers.mask
   pub tiling_is : after.markers.tiling ≡ before.markers.tiling
   pub conn : after.conn ≡ before.conn
+  pub masks : after.masks ≡ before.masks
   pub serial : after.serial ≡ before.serial

@@ -1,6 +1,6 @@
 -- Which core the parts of a stored one are, and what is true of each stored core. Private functions cite it; the
 -- clauses of the core's looks hand it out.
-use Rattle.std.specs.Prelude.{◌≡◌, ℕ, Bool, false, List, length, replicate}
+use Rattle.std.specs.Prelude.{◌≡◌, ℕ, Bool, false, List, length, replicate, None}
 use Rattle.grid_core.specs.declared.conn.Conn.{Conn}
 use Rattle.grid_core.specs.Raster.{Raster}
 use Rattle.stroke_lattice.specs.State.{nothing}
@@ -10,6 +10,7 @@ use Rattle.core_rules.specs.Opening.{blank}
 use Rattle.border_queues.specs.TileWork.{TileWork, fresh}
 use Rattle.core_rules.specs.Invariant.{IsSound}
 use Rattle.grid_core.specs.Bounds.{no_bounds}
+use Rattle.tile_generations.specs.CutMasks.{AreTileMasks}
 use Rattle.reset_core.specs.Bounding.{AreBounded}
 use Rattle.reset_core.specs.declared.replica.Core.TheInside.{Inside as Parts}
 use Rattle.reset_core.specs.declared.replica.Beginning.{Beginning}
@@ -27,13 +28,14 @@ core_of parts = record {
 }
 
 -- what a core begins with beside its markers: no strokes, an image of zeros of the mask's size, and so many tiles
--- without work
+-- without work, of none of which the mask was cut out
 abbrev pub at_first : Raster → ℕ → ℕ → Beginning
 at_first mask count first = record {
   state = nothing;
   image = blank mask;
   work = replicate count (fresh first);
   bounds = replicate count no_bounds;
+  masks = replicate count None;
   marks = replicate count false;
   queue = replicate count false;
 }
@@ -47,6 +49,7 @@ begun beginning conn markers = record {
   image = beginning.image;
   work = beginning.work;
   bounds = beginning.bounds;
+  masks = beginning.masks;
   serial = 0;
   marks = beginning.marks;
   queue = beginning.queue;
@@ -56,11 +59,12 @@ begun beginning conn markers = record {
 abbrev pub IsEmptySet : List TileWork → List Bool → Type 0
 IsEmptySet work set = set ≡ replicate (length work) false
 
--- the core is sound, nothing open begins outside the bounds of a tile, the marker is that of the strokes, and between
--- merges no tile is marked and none waits to be looked at
+-- the core is sound, nothing open begins outside the bounds of a tile, the marker is that of the strokes, the masks that
+-- jobs share are those of their tiles, and between merges no tile is marked and none waits to be looked at
 pub record IsStored (parts : Parts) : Type 0 where
   pub sound : IsSound (core_of parts)
   pub bounded : AreBounded (core_of parts) parts.bounds
   pub marks : IsMarkerOf parts.markers.mask parts.state parts.markers.marker
+  pub masks : AreTileMasks parts.markers.mask parts.markers.tiling parts.masks
   pub no_marks : IsEmptySet parts.work parts.marks
   pub none_queued : IsEmptySet parts.work parts.queue

@@ -24,7 +24,7 @@ use pgm_codec::Image;
 use std::alloc::Global;
 use std::marker::Model;
 use stroke_lattice::{State, StateError};
-use tile_generations::Ticket;
+use tile_generations::{Ticket, TileMasks};
 use tile_work::{OpenBounds, TileSet, WorkTable};
 
 mod handing;
@@ -59,6 +59,8 @@ pub struct Core {
     work: WorkTable,
     // An open pair begins within the bounds of the tile of its first pixel.
     bounds: OpenBounds,
+    // The masks that jobs share.
+    masks: TileMasks,
     serial: u64,
     // Both are empty but within a merge.
     marks: TileSet,
@@ -340,6 +342,7 @@ struct Beginning {
     image: Grid,
     work: WorkTable,
     bounds: OpenBounds,
+    masks: TileMasks,
     marks: TileSet,
     queue: TileSet,
 }
@@ -355,12 +358,14 @@ impl Beginning {
         let state = State::empty(alloc)?;
         let (work, marks, queue) = without_work(alloc, count, first)?;
         let bounds = OpenBounds::none(alloc, count)?;
+        let masks = TileMasks::none(alloc, count)?;
         let image = Grid::from_cells(mask.width(), mask.height(), cells);
         Ok(Beginning {
             state,
             image,
             work,
             bounds,
+            masks,
             marks,
             queue,
         })
@@ -376,6 +381,7 @@ impl Beginning {
             image,
             work,
             bounds,
+            masks,
             marks,
             queue,
         } = self;
@@ -386,6 +392,7 @@ impl Beginning {
             image,
             work,
             bounds,
+            masks,
             serial: 0,
             marks,
             queue,

@@ -4,6 +4,7 @@ use crate::{Gate, Hand, Open, Owner, Pool, Report, Turn};
 use grid_core::{Conn, Grid};
 use raster_sweeps::slow;
 use std::alloc::Global;
+use std::sync::Arc;
 use std::sync::atomic::{AtomicBool, AtomicU64, Ordering};
 use std::test::Fail;
 use std::thread;
@@ -44,6 +45,7 @@ fn job(alloc: Global, tile: usize) -> Option<Job> {
     if !base.is_below(&mask) {
         return None;
     }
+    let mask = Arc::new(alloc, mask).ok()?;
     Some(Job::new(ticket(tile), Conn::Four, base, mask))
 }
 

@@ -4,3 +4,4 @@ pub use Rattle.grid_core.specs.Raster
 pub use Rattle.grid_core.specs.Reconstruction
 pub mod Generations
 pub mod Jobs
+pub mod CutMasks

@@ -1,6 +1,7 @@
 //! Jobs.
 
 ghost use Rattle.std.specs.Prelude.{◌≡◌, IfOk, IfErr};
+ghost use Rattle.std.specs.Arc.{arc_value};
 ghost use Rattle.grid_core.specs.Raster.{IsBelow};
 ghost use Rattle.tile_generations.specs.Jobs.{IsJob, IsSwept};
 
@@ -10,6 +11,7 @@ use grid_core::{Conn, Grid, Memory};
 use raster_sweeps::grow;
 use std::alloc::Global;
 use std::marker::Model;
+use std::sync::Arc;
 
 /// A tile to be swept: its ticket, the connectivity, and the tile's pixels and mask, each as an image by itself. The
 /// pixels, which are called the base, are at most the mask.
@@ -18,24 +20,30 @@ pub struct Job {
     ticket: Ticket,
     conn: Conn,
     base: Grid,
-    mask: Grid,
+    mask: Arc<Grid>,
 }
 
 impl Model for Job {
+    ghost use Rattle.std.specs.Arc.{arc_value};
     ghost use Rattle.tile_generations.specs.Jobs.{Job as Task, IsJob};
 
     ghost Value = { Task };
 
-    ghost view = { λ j. record { ticket = j.ticket; conn = j.conn; base = j.base; mask = j.mask } };
+    ghost view = { λ j. record { ticket = j.ticket; conn = j.conn; base = j.base; mask = arc_value j.mask } };
 
-    ghost invariant = { λ j. IsJob (record { ticket = j.ticket; conn = j.conn; base = j.base; mask = j.mask }) };
+    ghost invariant = { λ j. IsJob (record {
+      ticket = j.ticket;
+      conn = j.conn;
+      base = j.base;
+      mask = arc_value j.mask;
+    }) };
 }
 
 impl Job {
-    /// A job on a tile. It takes no memory.
-    pub fn new(ticket: Ticket, conn: Conn, base: Grid, mask: Grid) -> Job
-        requires { IsBelow base mask }
-        ensures { result ≡ record { ticket = ticket; conn = conn; base = base; mask = mask } }
+    /// A job on a tile, whose mask may be shared with others. It takes no memory.
+    pub fn new(ticket: Ticket, conn: Conn, base: Grid, mask: Arc<Grid>) -> Job
+        requires { IsBelow base (arc_value mask) }
+        ensures { result ≡ record { ticket = ticket; conn = conn; base = base; mask = arc_value mask } }
     {
         // The widths tell the prover that base and mask have a cell for each pixel.
         prove!(base.width() == mask.width());
@@ -84,7 +92,7 @@ impl Job {
         ensures { IfOk result (λ j. j ≡ self.now) }
     {
         let base = self.base().copy(alloc)?;
-        let mask = self.mask().copy(alloc)?;
+        let mask = Arc::try_clone(&self.mask)?;
         Ok(Job::new(self.ticket(), self.conn(), base, mask))
     }
 

@@ -1,6 +1,8 @@
 //! Jobs that are taken, given back and abandoned.
 
 ghost use Rattle.std.specs.Prelude.{◌≡◌, ◌↔◌, IfOk, IfErr, OnOk, OnErr, IsTrue};
+ghost use Rattle.std.specs.Arc.{arc_value};
+ghost use Rattle.core_rules.specs.Image.{IsPart};
 ghost use Rattle.core_rules.specs.Work.{IsTile};
 ghost use Rattle.core_rules.specs.Sweeps.{IsReady, IsNextJob, IsTaken, IsKnown, IsOut, IsUnchanged};
 ghost use Rattle.core_rules.specs.Sweeps.{IsJoined, IsGivenBack, IsAbandoned, tile_rect};
@@ -17,6 +19,7 @@ use core_rules::Back;
 use core_rules::laws::{abandon_keeps_sound, give_back_keeps_sound, take_keeps_sound};
 use grid_core::{Bounds, Grid, Memory, Rect};
 use std::alloc::Global;
+use std::sync::Arc;
 use tile_generations::{Job, Swept, Ticket};
 
 impl Core {
@@ -33,7 +36,8 @@ impl Core {
         if !self.is_ready(tile) {
             return Ok(None);
         }
-        let job = self.next_job(alloc, tile)?;
+        let mask = self.mask_of(alloc, tile)?;
+        let job = self.next_job(alloc, tile, mask)?;
         self.work.take(tile, self.serial);
         self.serial = self.serial.wrapping_add(1);
         Ok(Some(job))
@@ -79,14 +83,28 @@ impl Core {
         tile < self.work.len() && self.work.is_dirty(tile) && self.work.out(tile).is_none()
     }
 
+    // The mask of a tile, which all jobs on it share.
+    //
+    // Errors: out of memory.
+    fn mask_of(&mut self, alloc: Global, tile: usize) -> Result<Arc<Grid>, Memory>
+        requires { IsTile self.old tile }
+        ensures part { IfOk result (λ mask. IsPart (tile_rect self.old tile) self.old.mask (arc_value mask)) }
+        ensures same { self.new ≡ self.old }
+    {
+        let tiling = self.markers.tiling();
+        self.masks.share(alloc, self.markers.mask(), &tiling, tile)
+    }
+
     // The job on a tile as the core stands.
-    fn next_job(&self, alloc: Global, tile: usize) -> Result<Job, Memory>
-        requires { IsTile self.now tile }
+    //
+    // Errors: out of memory.
+    fn next_job(&self, alloc: Global, tile: usize, mask: Arc<Grid>) -> Result<Job, Memory>
+        requires is_tile { IsTile self.now tile }
+        requires mask { IsPart (tile_rect self.now tile) self.now.mask (arc_value mask) }
         ensures { IfOk result (IsNextJob self.now tile) }
     {
         let rect = self.rect(tile);
         let base = self.image.cut(alloc, rect)?;
-        let mask = self.markers.mask().cut(alloc, rect)?;
         let ticket = Ticket {
             tile,
             generation: self.work.generation(tile),
@@ -123,7 +141,20 @@ impl Core {
         ticket.tile < self.work.len()
             && ticket.generation <= self.work.generation(ticket.tile)
             && swept.conn() == self.conn
-            && is_part(self.markers.mask(), self.rect(ticket.tile), swept.mask())
+            && self.has_mask(ticket.tile, swept.mask())
+    }
+
+    // Whether the piece is the mask of the tile. A mask that was cut out lies close together in memory, so that to compare
+    // with it is cheaper than with the whole mask.
+    fn has_mask(&self, tile: usize, piece: &Grid) -> bool
+        requires { IsTile self.now tile }
+        ensures { IsTrue result ↔ IsPart (tile_rect self.now tile) self.now.mask piece.now }
+    {
+        let rect = self.rect(tile);
+        match self.masks.get(tile) {
+            Some(mask) => is_part(mask, Rect { x: 0, y: 0, ..rect }, piece),
+            None => is_part(self.markers.mask(), rect, piece),
+        }
     }
 
     // What becomes of a swept tile that is given back, if memory lasts.

@@ -16,6 +16,7 @@ returns-clause-value c =
       image = image i;
       work = (work i).0;
       bounds = c.in_ok-bounds.ensures i;
+      masks = c.in_ok-masks.ensures i;
       marks = (work i).1;
       queue = (work i).2;
     }

@@ -167,6 +167,7 @@ is_renewed c =
       mask = c.renew.ensures.renewed.marker.mask;
       tiling_is = c.renew.ensures.renewed.marker.tiling;
       conn = refl;
+      masks = refl;
       serial = refl;
     }
 

@@ -1,5 +1,6 @@
 -- What the tactics leave open of `next_job`.
-use Rattle.std.proofs.Common.{◌∙◌, ap, subst}
+use Rattle.std.proofs.Common.{ap, subst}
+use Rattle.std.specs.Arc.{arc_value}
 use Rattle.grid_core.specs.Raster.{Raster}
 use Rattle.core_rules.specs.Image.{IsPart}
 use Rattle.core_rules.specs.Invariant.{IsSound}
@@ -12,11 +13,8 @@ new-requires c =
     let core = c.args.self.now in
     let rect = c.rect-rect.ensures.rect in
     let image = ap (λ (r : Core). r.image) c.self.view_is in
-    let mask = c.mask.ensures.value ∙ ap (λ (r : Core). r.mask) c.self.view_is in
     let sound = subst IsSound c.self.view_is c.self.invariant.sound in
-    base_is_below core c.args.tile c.in_ok-base.base c.in_ok-mask.mask sound
-    c.requires
+    base_is_below core c.args.tile c.in_ok-base.base (arc_value c.args.mask) sound c.requires.is_tile
     (subst (λ r. IsPart r core.image c.in_ok-base.base) rect
     (subst (λ (w : Raster). IsPart c.rect-rect.result w c.in_ok-base.base) image c.in_ok-base.ensures))
-    (subst (λ r. IsPart r core.mask c.in_ok-mask.mask) rect
-    (subst (λ (w : Raster). IsPart c.rect-rect.result w c.in_ok-mask.mask) mask c.in_ok-mask.ensures))
+    c.requires.mask

@@ -1,5 +1,5 @@
 -- What the tactics leave open of `over`.
-use Rattle.std.proofs.Common.{refl, ◌∙◌, ap, subst, replicate, false}
+use Rattle.std.proofs.Common.{refl, ◌∙◌, ap, subst, replicate, false, None}
 use Rattle.grid_core.specs.Tiles.{Tiles, IsTiled, count_of}
 use Rattle.border_queues.specs.TileWork.{fresh}
 use Rattle.reset_core.specs.declared.replica.Beginning.{Beginning}
@@ -23,3 +23,5 @@ with_markers-requires c =
     made.marks (ap (λ (b : Beginning). b.marks) begun ∙ ap (λ n. replicate n false) count)
     (ap (λ (b : Beginning). b.queue) begun ∙ ap (λ n. replicate n false) count)
     (ap (λ (b : Beginning). b.bounds) begun ∙ ap (λ n. replicate n no_bounds) count)
+    (ap (λ (b : Beginning). b.masks) begun ∙ ap (λ n. replicate n None) count)
+    made.mask (made.tiling ∙ c.tiling_of-tiling.ensures)

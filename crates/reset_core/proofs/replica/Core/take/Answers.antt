@@ -1,10 +1,12 @@
 -- What the tactics leave open of `take`.
-use Rattle.std.proofs.Common.{refl}
+use Rattle.std.proofs.Common.{refl, sym, subst}
+use Rattle.core_rules.specs.Sweeps.{IsReady}
 use Rattle.reset_core.proofs.Sweeping.{taken_is_stored}
 use Rattle.reset_core.proofs.replica.Core.take.Goals as goal
 
 pub invariant_of-self : goal.invariant_of-self
 invariant_of-self c =
-    let parts = c.self.inside in
-    taken_is_stored c.take_keeps_sound.ensures parts c.args.self.now c.args.tile c.in_ok-job.job c.take.new.self
-    c.self.view_is c.self.invariant (c.if-not-is_ready.ensures.0 refl) c.in_ok-job.ensures c.take.ensures
+    let ready =
+    subst (λ core. IsReady core c.args.tile) (sym c.mask_of.ensures.same) (c.if-not-is_ready.ensures.0 refl) in
+    taken_is_stored c.take_keeps_sound.ensures c.self.inside c.mask_of.new.self c.args.tile c.in_ok-job.job
+    c.take.new.self c.self.view_is c.self.invariant ready c.in_ok-job.ensures c.take.ensures

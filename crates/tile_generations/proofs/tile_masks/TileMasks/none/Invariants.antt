@@ -1,0 +1,7 @@
+-- What the loop of `none` keeps.
+use Rattle.std.proofs.Common.{◌≡◌, None, map, replicate}
+use Rattle.tile_generations.specs.CutMasks.{cut_mask}
+use Rattle.tile_generations.proofs.tile_masks.TileMasks.none.Given as goal
+
+abbrev pub invariant-loop-tile : goal.invariant-loop-tile
+invariant-loop-tile l = map cut_mask l.tiles.items ≡ replicate l._tile None
