@@ -8,6 +8,7 @@ use Rattle.core_rules.specs.declared.answers.Back.{Back}
 use Rattle.core_rules.specs.declared.answers.Back.TheVariants.{Stranger}
 use Rattle.core_rules.specs.Events.{GiveBack, Abandon, OfGiveBack, OfAbandon}
 use Rattle.core_rules.specs.Sweeps.{IsGivenBack, IsAbandoned}
+use Rattle.reset_core.specs.Answers.{IsJoinable}
 use Rattle.steal_pool.specs.declared.report.Report.TheVariants.{Done, Failed}
 use Rattle.pen_desks.specs.Books.{BooksView, KeepsRest}
 use Rattle.pen_desks.proofs.Steady.{rest_kept}
@@ -23,6 +24,7 @@ pub given_over : (old new : BooksView) (swept : Swept) (back : Back) → IsSwept
 given_over old new swept back is_swept answered given rest = record {
   log = (GiveBack swept, OfGiveBack back) ∷ [];
   leads = (back, answered);
+  memory = λ wanting. absurd cc;
   run = (new.core, (is_swept, given), refl);
   rest = rest;
 }
@@ -35,35 +37,34 @@ pub given_over_and_dropped : (old between new : BooksView) (swept : Swept) (was_
 given_over_and_dropped old between new swept was_out is_swept given first abandoned second = record {
   log = (GiveBack swept, OfGiveBack Stranger) ∷ (Abandon swept.job.ticket, OfAbandon was_out) ∷ [];
   leads = (Stranger, (was_out, refl));
+  memory = λ wanting. absurd cc;
   run = (between.core, (is_swept, given), (new.core, abandoned, refl));
   rest = rest_kept old between new first second;
 }
 
 -- memory was wanting to give the swept tile back, and it was abandoned
-pub dropped : (old between new : BooksView) (swept : Swept) (was_out : Bool) → between ≡ old
+pub dropped : (old between new : BooksView) (swept : Swept) (was_out : Bool)
+    → IsJoinable old.core swept.job → between ≡ old
     → IsAbandoned between.core swept.job.ticket was_out new.core → KeepsRest between new
     → IsGivenOver old swept true new
-dropped old between new swept was_out same abandoned rest =
+dropped old between new swept was_out joinable same abandoned rest =
     let from_old : IsAbandoned old.core swept.job.ticket was_out new.core × KeepsRest old new =
     subst (λ (b : BooksView). IsAbandoned b.core swept.job.ticket was_out new.core × KeepsRest b new) same
     (abandoned, rest) in
     record {
       log = (Abandon swept.job.ticket, OfAbandon was_out) ∷ [];
       leads = (was_out, refl);
+      memory = λ wanting. joinable;
       run = (new.core, from_old.0, refl);
       rest = from_old.1;
     }
-
-pub judged_done : (old new : BooksView) (swept : Swept) (wanting : Bool) → IsGivenOver old swept wanting new
-    → IsJudged old (Done swept) wanting new
-judged_done old new swept wanting given =
-    record { log = given.log; leads = given.leads; run = given.run; rest = given.rest }
 
 pub judged_failed : (old new : BooksView) (ticket : Ticket) (was_out : Bool)
     → IsAbandoned old.core ticket was_out new.core → KeepsRest old new → IsJudged old (Failed ticket) false new
 judged_failed old new ticket was_out abandoned rest = record {
   log = (Abandon ticket, OfAbandon was_out) ∷ [];
   leads = (refl, (was_out, refl));
+  memory = λ wanting. absurd cc;
   run = (new.core, abandoned, refl);
   rest = rest;
 }

@@ -1,14 +1,14 @@
 -- Dispatchers that go on.
-use Rattle.std.proofs.Common.{◌≡◌, ℕ, [], ◌++◌, refl, ap, ◌∙◌}
+use Rattle.std.proofs.Common.{◌≡◌, ℕ, ◌+◌, [], ◌++◌, refl, ap, ◌∙◌}
 use Rattle.core_rules.proofs.Running.{run_append}
 use Rattle.pen_desks.specs.Books.{BooksView}
 use Rattle.pen_desks.specs.Pens.{KeepsPens}
 use Rattle.pen_desks.specs.Taking.{HaveTakenEdits}
-use Rattle.pen_desks.proofs.Rounds.{pens_through}
+use Rattle.pen_desks.proofs.Rounds.{pens_through, none_taken, more_taken}
 use Rattle.core_dispatch.specs.declared.dispatcher.Dispatcher.{Dispatcher}
 use Rattle.core_dispatch.specs.declared.turned.Results.{Results}
 use Rattle.core_dispatch.specs.Reports.{HaveCollected}
-use Rattle.core_dispatch.specs.Closing.{HasGoneOn}
+use Rattle.core_dispatch.specs.Closing.{HasGoneOn, HasTakenEdits}
 use Rattle.core_dispatch.proofs.Around.{rest_pens}
 use Rattle.core_dispatch.proofs.Growing.{run_grows, grows_itself, grows_through}
 use Rattle.core_dispatch.proofs.Reported.{reported, collected_around}
@@ -40,6 +40,17 @@ goes_by_edits old new edits taken pens = record {
   grows = run_grows old.books.core taken.log new.books.core taken.run;
   opening = taken.opening;
   pens = pens;
+}
+
+-- edits were taken, and nothing else
+pub edits_themselves : (d : Dispatcher) → HasTakenEdits d d
+edits_themselves d = record { edits = 0; taken = none_taken d.books; other = refl }
+
+pub edits_through : (a b c : Dispatcher) → HasTakenEdits a b → HasTakenEdits b c → HasTakenEdits a c
+edits_through a b c first second = record {
+  edits = first.edits + second.edits;
+  taken = more_taken a.books b.books c.books first.edits second.edits first.taken second.taken;
+  other = second.other ∙ ap (λ (d : Dispatcher). record d { books = c.books }) first.other;
 }
 
 -- reports were taken

@@ -1,14 +1,17 @@
 -- What is taken at the end.
-use Rattle.std.specs.Prelude.{◌≡◌, ℕ, ◌<◌, List, length, All}
+use Rattle.std.specs.Prelude.{◌≡◌, ℕ, zero, suc, ◌<◌, List, length, All}
 use Rattle.std.specs.List.{AllZip}
 use mathlib.Core.Option.{some}
 use lib.ListN.{get_elem?}
 use Rattle.core_rules.specs.Runs.{Entry, IsRun}
+use Rattle.steal_pool.specs.Views.{ring_room}
 use Rattle.pen_desks.specs.declared.pen.PenEnd.{PenEnd}
 use Rattle.pen_desks.specs.Books.{BooksView}
-use Rattle.pen_desks.specs.Taking.{most_edits}
+use Rattle.pen_desks.specs.Taking.{HaveTakenEdits, most_edits}
 use Rattle.pen_desks.specs.Pens.{IsEndOf, IsSameEnd, HasAllOf, KeepsPens, all_submitted, end_number}
+use Rattle.core_dispatch.specs.declared.turned.Results.{Results}
 use Rattle.core_dispatch.specs.declared.dispatcher.Dispatcher.{Dispatcher}
+use Rattle.core_dispatch.specs.Reports.{HaveCollected}
 use Rattle.core_dispatch.specs.Turns.{GrowsOn}
 
 -- each end is of a pen of the books
@@ -56,6 +59,30 @@ pub record HasGoneOn (old new : Dispatcher) : Type 0 where
   pub grows : GrowsOn old.books.core new.books.core
   pub opening : new.books.opening ≡ old.books.opening
   pub pens : KeepsPens old.books new.books
+
+-- edits were taken, merged or listed, and nothing but the books is changed
+pub record HasTakenEdits (old new : Dispatcher) : Type 0 where
+  pub edits : ℕ
+  pub taken : HaveTakenEdits old.books edits new.books
+  pub other : new ≡ record old { books = new.books }
+
+-- so many times in a row, each hand was asked for a report
+abbrev pub AreRounds : ℕ → Dispatcher → Dispatcher → Type 0
+AreRounds zero old new = new ≡ old
+AreRounds (suc n) old new =
+    (before : Dispatcher) × (results : Results) × AreRounds n old before × HaveCollected before results new
+
+-- each hand was asked for a report, as many times in a row as reports of a hand may wait
+pub record HasTakenReports (old new : Dispatcher) : Type 0 where
+  pub count : ℕ
+  pub all : count ≡ ring_room
+  pub rounds : AreRounds count old new
+
+-- in this order: edits were taken; and each hand was asked for all the reports that may wait
+pub record HasTakenRest (old new : Dispatcher) : Type 0 where
+  pub edited : Dispatcher
+  pub edits : HasTakenEdits old edited
+  pub reports : HasTakenReports edited new
 
 -- one of the pens submitted more edits than can be counted
 abbrev pub HasSpentCount : List PenEnd → Type 0

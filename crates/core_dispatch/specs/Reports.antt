@@ -1,13 +1,15 @@
 -- What becomes of the reports that are taken of hands.
 use Rattle.std.specs.Prelude.{◌≡◌, ℕ, ◌+◌, Bool, true, false, List, [], ◌∷◌, ◌++◌, length, slice_set, slice_index_or}
-use Rattle.std.specs.Prelude.{Option, Some, None}
+use Rattle.std.specs.Prelude.{Option, Some, None, IsTrue}
 use Rattle.std.specs.List.{sum_by, list_any}
 use Rattle.tile_generations.specs.declared.ticket.Ticket.{Ticket}
 use Rattle.tile_generations.specs.Jobs.{Swept}
 use Rattle.core_rules.specs.declared.answers.Back.{Back}
 use Rattle.core_rules.specs.declared.answers.Back.TheVariants.{Joined, Again, Stale, Stranger}
 use Rattle.core_rules.specs.Events.{GiveBack, Abandon, OfGiveBack, OfAbandon}
+use Rattle.core_rules.specs.Work.{Core}
 use Rattle.core_rules.specs.Runs.{Entry, IsRun}
+use Rattle.reset_core.specs.Answers.{IsJoinable}
 use Rattle.steal_pool.specs.declared.report.Report.{Report}
 use Rattle.steal_pool.specs.declared.report.Report.TheVariants.{Done, Failed}
 use Rattle.steal_pool.specs.Views.{OwnerView}
@@ -38,11 +40,17 @@ abbrev pub Leads : Report → Bool → List Entry → Type 0
 Leads (Failed ticket) wanting log = (wanting ≡ false) × IsDropped ticket log
 Leads (Done swept) wanting log = LeadsTo swept wanting log
 
+-- memory can be wanting only for a swept tile that could be joined
+abbrev pub CanWant : Core → Report → Type 0
+CanWant core (Failed ticket) = ⊥
+CanWant core (Done swept) = IsJoinable core swept.job
+
 -- the swept tile was given to the core, by such events alone
 pub record IsGivenOver (old : BooksView) (swept : Swept) (wanting : Bool) (new : BooksView) : Type 0 where
   pub log : List Entry
   pub leads : LeadsTo swept wanting log
   pub run : IsRun old.core log new.core
+  pub memory : IsTrue wanting → IsJoinable old.core swept.job
   pub rest : KeepsRest old new
 
 -- the report was given to the core, by such events alone
@@ -50,6 +58,7 @@ pub record IsJudged (old : BooksView) (report : Report) (wanting : Bool) (new : 
   pub log : List Entry
   pub leads : Leads report wanting log
   pub run : IsRun old.core log new.core
+  pub memory : IsTrue wanting → CanWant old.core report
   pub rest : KeepsRest old new
 
 -- this report was collected of the hand, and no other

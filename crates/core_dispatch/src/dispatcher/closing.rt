@@ -1,6 +1,7 @@
 //! What is taken at the end.
 
 ghost use Rattle.std.specs.Prelude.{◌≡◌, ◌↔◌, ◌<◌, ◌+◌, ℕ, length, IsTrue, IfErr, OnOk, MatchOption};
+ghost use Rattle.std.specs.Prelude.{OnErr};
 ghost use mathlib.Core.Option.{some};
 ghost use lib.ListN.{get_elem?};
 ghost use Rattle.pen_desks.specs.declared.rest.RestError.TheVariants as rest;
@@ -8,6 +9,7 @@ ghost use Rattle.core_dispatch.specs.declared.error.CloseError.TheVariants as er
 ghost use Rattle.core_dispatch.specs.Dispatching.{books_by};
 ghost use Rattle.core_dispatch.specs.Closing.{AreEndsOf, AreKept, HasEndOf, HaveEach, IsOneOfEach, IsOneOf, IsPlaceOf};
 ghost use Rattle.core_dispatch.specs.Closing.{AreAllTaken, IsAllTaken, HasSpentCount, HasGoneOn};
+ghost use Rattle.core_dispatch.specs.Closing.{HasTakenEdits, HasTakenReports, HasTakenRest};
 
 use super::Dispatcher;
 use crate::error::CloseError;
@@ -32,6 +34,8 @@ impl Dispatcher {
         ensures spent { IfErr result (λ why. why ≡ errors.CountSpent → HasSpentCount ends.old.items) }
         ensures ends { AreKept ends.old.items ends.new.items (books_by self.new) }
         ensures goes_on { HasGoneOn self.old self.new }
+        ensures rest { OnOk result (HasTakenRest self.old self.new) }
+        ensures stays { OnErr result (HasTakenEdits self.old self.new) }
     {
         if !has_one_of_each(self.pens(), ends) {
             return Err(CloseError::EndMissing);
@@ -54,6 +58,7 @@ impl Dispatcher {
         ensures spent { IfErr result (λ why. why ≡ rest.CountSpent → HasSpentCount ends.old.items) }
         ensures ends { AreKept ends.old.items ends.new.items (books_by self.new) }
         ensures goes_on { HasGoneOn self.old self.new }
+        ensures taken { HasTakenEdits self.old self.new }
     {
         for number in 0..self.pens() {
             self.take_edits_of(ends, number)?;
@@ -71,6 +76,7 @@ impl Dispatcher {
         ensures spent { IfErr result (λ why. why ≡ rest.CountSpent → HasSpentCount ends.old.items) }
         ensures ends { AreKept ends.old.items ends.new.items (books_by self.new) }
         ensures goes_on { HasGoneOn self.old self.new }
+        ensures taken { HasTakenEdits self.old self.new }
     {
         match place_of(ends, number) {
             Some(place) => self.books.take_rest(self.alloc, &mut ends[place]),
@@ -82,6 +88,7 @@ impl Dispatcher {
     fn take_reports_left(&mut self)
         ensures desks { (books_by self.new).desks ≡ (books_by self.old).desks }
         ensures goes_on { HasGoneOn self.old self.new }
+        ensures taken { HasTakenReports self.old self.new }
     {
         for _round in 0..REPORTS {
             let _results = self.take_reports();

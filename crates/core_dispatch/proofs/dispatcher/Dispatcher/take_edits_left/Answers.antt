@@ -1,7 +1,7 @@
 use Rattle.std.proofs.Common.{arith}
 use Rattle.std.proofs.lemmas.Result.{err_from_is_err_and}
 use Rattle.core_dispatch.proofs.Ends.{kept_themselves, kept_through, same_has_end, same_spent, same_back, taken_more}
-use Rattle.core_dispatch.proofs.GoingOn.{goes_itself, goes_through}
+use Rattle.core_dispatch.proofs.GoingOn.{goes_itself, goes_through, edits_themselves, edits_through}
 use Rattle.core_dispatch.proofs.dispatcher.Dispatcher.take_edits_left.Goals as goal
 
 pub loop-number-init : goal.loop-number-init
@@ -11,6 +11,7 @@ loop-number-init c =
       taken = λ n before. absurd (omega (arith, before));
       ends = kept_themselves c.args.ends.now.items d.books d.books c.requires.ends (goes_itself d).pens;
       goes_on = goes_itself d;
+      edits = edits_themselves d;
     }
 
 pub take_edits_of-requires-clause-found : goal.take_edits_of-requires-clause-found
@@ -38,6 +39,11 @@ returns-in_err-take_edits_of-clause-goes_on c =
     goes_through c.args.self.now c.loop-number.self c.take_edits_of.new.self c.loop-number.invariant.goes_on
     c.take_edits_of.ensures.goes_on
 
+pub returns-in_err-take_edits_of-clause-taken : goal.returns-in_err-take_edits_of-clause-taken
+returns-in_err-take_edits_of-clause-taken c =
+    edits_through c.args.self.now c.loop-number.self c.take_edits_of.new.self c.loop-number.invariant.edits
+    c.take_edits_of.ensures.taken
+
 pub loop-number-preserved : goal.loop-number-preserved
 loop-number-preserved c =
     let so_far = c.loop-number.invariant in
@@ -52,4 +58,5 @@ loop-number-preserved c =
           c.loop-number.self.books c.take_edits_of.new.self.books so_far.ends one.ends;
       goes_on =
           goes_through c.args.self.now c.loop-number.self c.take_edits_of.new.self so_far.goes_on one.goes_on;
+      edits = edits_through c.args.self.now c.loop-number.self c.take_edits_of.new.self so_far.edits one.taken;
     }

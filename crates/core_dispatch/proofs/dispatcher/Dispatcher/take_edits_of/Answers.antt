@@ -1,4 +1,4 @@
-use Rattle.std.proofs.Common.{◌≡◌, sym, arith}
+use Rattle.std.proofs.Common.{◌≡◌, refl, sym, arith}
 use Rattle.pen_desks.specs.declared.rest.RestError.TheVariants as rest
 use Rattle.pen_desks.specs.Pens.{IsSpent}
 use Rattle.pen_desks.proofs.Ledgers.{below}
@@ -54,3 +54,7 @@ pub returns-in-Some-clause-goes_on : goal.returns-in-Some-clause-goes_on
 returns-in-Some-clause-goes_on c =
     let (edits, taken) = c.take_rest.ensures.taken in
     goes_by_edits c.args.self.now _ edits taken c.take_rest.ensures.pens
+
+pub returns-in-Some-clause-taken : goal.returns-in-Some-clause-taken
+returns-in-Some-clause-taken c =
+    let (edits, taken) = c.take_rest.ensures.taken in record { edits = edits; taken = taken; other = refl }

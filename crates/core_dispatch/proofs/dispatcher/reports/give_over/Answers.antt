@@ -31,7 +31,8 @@ returns c =
           (rw w.in-Ok-Stale.field-0-is at w.in-Ok-Stale.ensures.given) w.in-Ok-Stale.ensures.rest)
       | in-Err w ↦
           rw (w.result-is, w.books-is)
-          (dropped old new w.abandon-was_out-in-Err.new.self swept w.abandon-was_out-in-Err.result w.in-Err.ensures.err
+          (dropped old new w.abandon-was_out-in-Err.new.self swept w.abandon-was_out-in-Err.result
+          w.in-Err.ensures.memory w.in-Err.ensures.err
           (rw c.ticket-ticket.ensures at w.abandon-was_out-in-Err.ensures.abandoned)
           w.abandon-was_out-in-Err.ensures.rest)
     ]
