@@ -9,7 +9,7 @@ use Rattle.core_rules.specs.declared.answers.Back.TheVariants.{Stranger}
 use Rattle.core_rules.specs.Events.{GiveBack, Abandon, OfGiveBack, OfAbandon}
 use Rattle.core_rules.specs.Sweeps.{IsGivenBack, IsAbandoned}
 use Rattle.reset_core.specs.Answers.{IsJoinable}
-use Rattle.steal_pool.specs.declared.report.Report.TheVariants.{Done, Failed}
+use Rattle.steal_pool.specs.declared.report.Report.TheVariants.{Failed}
 use Rattle.pen_desks.specs.Books.{BooksView, KeepsRest}
 use Rattle.pen_desks.proofs.Steady.{rest_kept}
 use Rattle.core_dispatch.specs.declared.dispatcher.Dispatcher.{Dispatcher}

@@ -13,37 +13,12 @@ use Rattle.studio.specs.Opening.{IsEyeOf, AreEyesOf, ShowsTheSame, IsNewOwner, H
 
 -- ---- eyes
 
-pub shows_itself : (publisher : Publisher) → ShowsTheSame publisher publisher
-shows_itself publisher = record { chain = refl; last = refl; studio = refl }
-
-pub shows_through : (a b c : Publisher) → ShowsTheSame a b → shown_by c ≡ shown_by b → last_by c ≡ last_by b
-    → publisher_studio c ≡ publisher_studio b → ShowsTheSame a c
-shows_through a b c first chain last studio = record {
-  chain = chain ∙ first.chain;
-  last = last ∙ first.last;
-  studio = studio ∙ first.studio;
-}
-
-pub no_eyes : (publisher : Publisher) → AreEyesOf publisher 0 []
-no_eyes publisher = record { count_is = refl; each = All-nil _ }
-
 -- an eye of a publisher is one of each that shows the same
 eye_of : (old new : Publisher) (eye : Eye) → ShowsTheSame old new → IsEyeOf new eye → IsEyeOf old eye
 eye_of old new eye s e = record {
   seen = e.seen ∙ s.chain;
   learnt = e.learnt ∙ s.chain;
   studio = e.studio ∙ s.studio;
-}
-
--- one eye more
-pub one_more_eye : (start now : Publisher) (count : ℕ) (eyes : List Eye) (eye : Eye) → AreEyesOf start count eyes
-    → ShowsTheSame start now → seen_by eye ≡ shown_by now → learnt_by eye ≡ shown_by now
-    → eye_studio eye ≡ publisher_studio now → AreEyesOf start (count + 1) (eyes ++ eye ∷ [])
-one_more_eye start now count eyes eye so_far shows seen learnt studio = record {
-  count_is = let l = length-append eyes (eye ∷ []) in let n = so_far.count_is in omega (arith, l, n);
-  each =
-      All-push (λ e. IsEyeOf start e) eyes eye so_far.each
-      (eye_of start now eye shows (record { seen = seen; learnt = learnt; studio = studio }));
 }
 
 pub eyes_kept : (old new : Publisher) (count : ℕ) (eyes : List Eye) → ShowsTheSame old new

@@ -52,7 +52,7 @@ impl Keeper {
     ghost use Rattle.core_rules.specs.Sweeps.{IsAbandoned};
     ghost use Rattle.core_rules.specs.Runs.{IsRun, NoneOut, abandoned, tickets_out};
     ghost use Rattle.pen_desks.specs.Books.{IsFaithful, KeepsRest, ledger};
-    ghost use Rattle.studio.specs.Keeping.{core_of, books_of, IsUntouched};
+    ghost use Rattle.studio.specs.Keeping.{core_of, books_of, owner_of, IsUntouched};
 
     /// The core.
     pub fn core(&self) -> &Core
@@ -74,6 +74,7 @@ impl Keeper {
     pub fn abandon(&mut self, ticket: Ticket) -> bool
         ensures abandoned { IsAbandoned (core_of self.old) ticket result (core_of self.new) }
         ensures rest { KeepsRest (books_of self.old) (books_of self.new) }
+        ensures owner { owner_of self.new ≡ owner_of self.old }
         ensures untouched { IsUntouched self.old self.new }
     {
         self.dispatcher.abandon(ticket)
@@ -86,6 +87,7 @@ impl Keeper {
         ensures count { result ≡ length (tickets_out 0 (core_of self.old).tiles) }
         ensures none_out { NoneOut (core_of self.new) }
         ensures rest { KeepsRest (books_of self.old) (books_of self.new) }
+        ensures owner { owner_of self.new ≡ owner_of self.old }
         ensures untouched { IsUntouched self.old self.new }
     {
         self.dispatcher.recall()

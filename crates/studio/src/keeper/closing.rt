@@ -1,8 +1,9 @@
 //! The end of a studio.
 
-ghost use Rattle.std.specs.Prelude.{◌≡◌, ◌↔◌, IfOk, IfErr, OnOk};
+ghost use Rattle.std.specs.Prelude.{◌≡◌, ◌↔◌, IfOk, IfErr, OnOk, OnErr};
 ghost use Rattle.core_dispatch.specs.declared.error.CloseError.TheVariants as errors;
 ghost use Rattle.core_dispatch.specs.Closing.{AreEndsOf, AreKept, IsOneOfEach, AreAllTaken, HasSpentCount, HasGoneOn};
+ghost use Rattle.core_dispatch.specs.Closing.{HasTakenEdits, HasTakenRest};
 ghost use Rattle.studio.specs.Keeping.{dispatcher_of, core_of, books_of, IsUntouched};
 ghost use Rattle.studio.specs.Closing.{IsClosed, IsNotClosed};
 
@@ -61,6 +62,8 @@ impl Keeper {
         ensures spent { IfErr result (λ why. why ≡ errors.CountSpent → HasSpentCount ends.old.items) }
         ensures ends { AreKept ends.old.items ends.new.items (books_of self.new) }
         ensures goes_on { HasGoneOn (dispatcher_of self.old) (dispatcher_of self.new) }
+        ensures rest { OnOk result (HasTakenRest (dispatcher_of self.old) (dispatcher_of self.new)) }
+        ensures stays { OnErr result (HasTakenEdits (dispatcher_of self.old) (dispatcher_of self.new)) }
         ensures untouched { IsUntouched self.old self.new }
     {
         let taken = self.dispatcher.take_rest(ends);

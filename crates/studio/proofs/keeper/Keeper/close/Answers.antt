@@ -8,6 +8,7 @@ returns-in-Ok-clause-closed g c = record {
   all_taken = c.in-Ok.ensures.whole;
   faithful = c.core-core.ensures.faithful;
   goes_on = c.take_rest.ensures.goes_on;
+  rest = c.in-Ok.ensures.rest;
   core = c.into_parts-core.ensures.core ∙ ap (λ b. b.core) c.into_books.ensures;
   refusals = c.into_parts-core.ensures.refusals ∙ ap (λ b. b.refusals) c.into_books.ensures;
 }
