@@ -1,0 +1,182 @@
+#!/usr/bin/env python3
+"""Measure hands in threads, shows and glimpses against a plain C program, and print tables in Markdown.
+
+    python3 bench/threads.py crates/thread_bench/out/thread_bench
+
+The baseline is compiled and the images are made as run.py does it. README.md says what the columns mean.
+"""
+
+import argparse
+import os
+import pathlib
+import statistics
+import subprocess
+import tempfile
+import time
+
+import run
+
+FAMILIES = ["cells", "plates", "map", "maze"]
+HANDS = [0, 1, 2, 4]  # with none the core settles by itself
+PARTS = ["take", "push", "sweep", "give back", "hints"]
+EDITED = "few-lit"  # the family whose last edits are shown and watched
+EDITS = 200  # the edits of that family that are measured
+SUMS = {}  # of what the baseline writes, by the paths of inputs
+
+
+def lines_of(program, words, source):
+    """What the program writes on an input, a list of numbers for each line, and its peak bytes."""
+    with open(source.path, "rb") as reader:
+        command = [program, *(str(word) for word in words), "--times"]
+        child = subprocess.Popen(command, stdin=reader, stdout=subprocess.PIPE, text=True)
+        with child.stdout as written:
+            lines = [[int(number) for number in line.split()] for line in written]
+        _, status, usage = os.wait4(child.pid, 0)
+    child.returncode = os.waitstatus_to_exitcode(status)
+    if child.returncode != 0:
+        run.stop(f"{program} {words[0]} ended with status {child.returncode} on {source.path}")
+    return lines, usage.ru_maxrss * 1024
+
+
+def sum_of(image):
+    """The sum of a raw PGM file by the rule FNV-1a, of whole pixels row by row, as the program makes it."""
+    header = [image.readline() for _ in range(3)]
+    width = 1 if int(header[2]) < 256 else 2
+    total = 0xCBF29CE484222325
+    while block := image.read(1 << 16):
+        pixels = block if width == 1 else [a << 8 | b for a, b in zip(block[::2], block[1::2])]
+        for pixel in pixels:
+            total = (total ^ pixel) * 0x100000001B3 & 0xFFFFFFFFFFFFFFFF
+    return total
+
+
+def baseline_sum(baseline, source):
+    """The sum of what the baseline writes; it takes some seconds, so it is kept."""
+    if source.path in SUMS:
+        return SUMS[source.path]
+    with tempfile.NamedTemporaryFile(dir=run.KEPT) as output:
+        baseline.run(source, output.name)
+        with open(output.name, "rb") as image:
+            SUMS[source.path] = sum_of(image)
+    return SUMS[source.path]
+
+
+def baseline_seconds(baseline, source):
+    """The seconds of a whole run of the baseline, from start to end."""
+    start = time.perf_counter()
+    baseline.run(source, os.devnull)
+    return time.perf_counter() - start
+
+
+# ---- Settling ----
+
+def settled(program, source, hands, side, right):
+    """Jobs, seconds and peak bytes of one settling, which ends the script where the sum is not the right one."""
+    ((total,), (jobs, _, wall, _, _)), peak = lines_of(program, ["settle", hands, side], source)
+    if total != right:
+        run.stop(f"settle {hands} {side} and baseline differ on {source.path}")
+    return jobs, wall / 1e9, peak
+
+
+def settling_row(source, program, baseline, words):
+    """The row of one image: the baseline and each number of hands in turns, after a run of each to warm up."""
+    right = baseline_sum(baseline, source)
+    whole, figures = [], {hands: [] for hands in HANDS}
+    for number in range(words.runs + 1):
+        seconds = baseline_seconds(baseline, source)
+        results = {hands: settled(program, source, hands, words.side, right) for hands in HANDS}
+        if number > 0:
+            whole.append(seconds)
+            for hands in HANDS:
+                figures[hands].append(results[hands])
+    jobs = {hands: statistics.median(each[0] for each in figures[hands]) for hands in HANDS}
+    wall = {hands: statistics.median(each[1] for each in figures[hands]) for hands in HANDS}
+    peak = max(each[2] for each in figures[HANDS[-1]])
+    times = [f"{1000 * seconds:.0f}" for seconds in [statistics.median(whole), *wall.values()]]
+    run.say(f"{source.family}: baseline and hands {', '.join(times)} ms")
+    return [source.family, *times, f"{wall[1] / wall[4]:.2f}", *(f"{jobs[hands]:,.0f}" for hands in (0, 1, 4)),
+            f"{peak / (2 * words.size ** 2):.1f}"]
+
+
+def settling(sources, program, baseline, words):
+    """Print the table of settling."""
+    run.table([f"{words.size} by {words.size}, tile {words.side}", "baseline ms", *(f"{n} hands ms" for n in HANDS),
+               "4 over 1", "jobs, 0 hands", "1 hand", "4 hands", "memory"],
+              [settling_row(source, program, baseline, words) for source in sources])
+
+
+# ---- Parts, shows, glimpses ----
+
+def parts_row(source, program, baseline, words):
+    """The row of one image: jobs, and microseconds a job of each part."""
+    lines = [lines_of(program, ["parts", words.side], source)[0] for _ in range(words.runs + 1)][1:]
+    if {total for (total,), _ in lines} != {baseline_sum(baseline, source)}:
+        run.stop(f"parts {words.side} and baseline differ on {source.path}")
+    jobs, *parts = (statistics.median(column) for column in zip(*(figures for _, figures in lines)))
+    run.say(f"{source.family}: {jobs:,.0f} jobs in parts")
+    return [source.family, f"{jobs:,.0f}", *(f"{part / jobs / 1000:.2f}" for part in parts),
+            f"{sum(parts) / jobs / 1000:.2f}"]
+
+
+def parts_of_jobs(sources, program, baseline, words):
+    """Print the table of what the parts of a job take in one thread."""
+    run.table([f"{words.size} by {words.size}, tile {words.side}", "jobs", *(f"{part} µs" for part in PARTS), "all µs"],
+              [parts_row(source, program, baseline, words) for source in sources])
+
+
+def milliseconds(nanoseconds):
+    """Nanoseconds as a cell of a table, in milliseconds."""
+    return f"{nanoseconds / 1e6:.3g}"
+
+
+def shows_and_glimpses(program, words):
+    """Print the tables of shows, and of how soon an edit is seen."""
+    source = run.Input(EDITED, words.size)
+    _, *shows = lines_of(program, ["show", EDITS], source)[0]
+    run.say(f"{source.family}: {len(shows)} edits shown")
+    after_edit, after_none = (statistics.median(column) for column in zip(*shows))
+    run.table([f"shows, {words.size} by {words.size}", "edits", "after an edit ms", "after none ms"],
+              [[source.family, str(len(shows)), milliseconds(after_edit), milliseconds(after_none)]])
+    seen = []
+    for _ in range(words.runs):
+        seen += [line[0] for line in lines_of(program, ["watch", EDITS], source)[0][1:]]
+    run.say(f"{source.family}: {len(seen)} edits seen")
+    run.table([f"glimpses, {words.size} by {words.size}", "edits", "median ms", "worst ms"],
+              [[source.family, f"{len(seen):,}", milliseconds(statistics.median(seen)), milliseconds(max(seen))]])
+
+
+def read_words():
+    """The words of the command line."""
+    parser = argparse.ArgumentParser(description="Measure hands in threads, shows and glimpses.")
+    parser.add_argument("program", type=pathlib.Path, help="crates/thread_bench/out/thread_bench")
+    parser.add_argument("--runs", type=int, default=5, metavar="N", help="timed runs of each (5)")
+    parser.add_argument("--size", type=int, default=4096, metavar="N", help="side of the images (4096)")
+    parser.add_argument("--side", type=int, default=64, metavar="N", help="side of the tiles where it settles (64)")
+    parser.add_argument("--families", nargs="+", default=FAMILIES, choices=run.FAMILIES, metavar="FAMILY",
+                        help=" ".join(FAMILIES))
+    words = parser.parse_args()
+    if words.runs < 1 or words.size < 1:
+        parser.error("runs and size are at least 1")
+    if not words.program.is_file():
+        parser.error(f"{words.program} is not there; `rt run` in crates/thread_bench makes the program")
+    return words
+
+
+def main():
+    """Measure what the command line asks for."""
+    words = read_words()
+    run.KEPT.mkdir(exist_ok=True)
+    command = run.compiled("baseline")
+    if command is None:
+        run.stop("cc failed")
+    baseline = run.Filter("baseline", [command, "--conn", "4"])
+    program = words.program.resolve()
+    sources = [run.Input(family, words.size) for family in words.families]
+    print(f"{run.machine()}; 4 neighbours; the median of {words.runs} runs each.\n", flush=True)
+    settling(sources, program, baseline, words)
+    parts_of_jobs(sources, program, baseline, words)
+    shows_and_glimpses(program, words)
+
+
+if __name__ == "__main__":
+    main()

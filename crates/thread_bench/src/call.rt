@@ -1,0 +1,75 @@
+//! The words of the command line.
+
+use anyhow::{Context, Result, bail};
+use std::env;
+use std::rt::Env;
+
+const USAGE: &str =
+    "usage: thread_bench settle HANDS SIDE | parts SIDE | show COUNT | watch COUNT [--times] < input";
+
+/// What is measured.
+#[derive(Clone, Copy, Debug)]
+pub enum Mode {
+    /// How fast so many hands in threads settle a core with tiles of this side; with none it settles by itself.
+    Settle { hands: usize, side: u32 },
+    /// What the parts of a job take in one thread, on tiles of this side.
+    Parts { side: u32 },
+    /// What a show takes, after each of so many edits and after none.
+    Show { count: usize },
+    /// How long it takes until each of so many edits is seen.
+    Watch { count: usize },
+}
+
+/// What the program is called to do.
+#[derive(Clone, Copy, Debug)]
+pub struct Call {
+    /// What is measured.
+    pub mode: Mode,
+    /// Whether times, and what may differ from run to run, are written.
+    pub with_times: bool,
+}
+
+impl Call {
+    /// Reads the words of the process.
+    ///
+    /// Errors: usage; words that are no text; out of memory.
+    pub fn read(rt: &(impl Env + AllocGlobal)) -> Result<Call> {
+        let words: Vec<String> = env::args(rt)?.collect(rt.alloc())?;
+        Call::parse(&words)
+    }
+
+    // Reads words, of which the first is the program's name.
+    fn parse(words: &[String]) -> Result<Call> {
+        let mode = match words.get(1).context(USAGE)?.as_str() {
+            "settle" => Mode::Settle {
+                hands: count_at(words, 2)?,
+                side: side_at(words, 3)?,
+            },
+            "parts" => Mode::Parts {
+                side: side_at(words, 2)?,
+            },
+            "show" => Mode::Show {
+                count: count_at(words, 2)?,
+            },
+            "watch" => Mode::Watch {
+                count: count_at(words, 2)?,
+            },
+            _ => bail!(USAGE),
+        };
+        let with_times = match words.last() {
+            Some(word) => word.as_str() == "--times",
+            None => false,
+        };
+        Ok(Call { mode, with_times })
+    }
+}
+
+// The count at this place.
+fn count_at(words: &[String], place: usize) -> Result<usize> {
+    Ok(words.get(place).context(USAGE)?.parse::<usize>()?)
+}
+
+// The side of tiles at this place.
+fn side_at(words: &[String], place: usize) -> Result<u32> {
+    Ok(words.get(place).context(USAGE)?.parse::<u32>()?)
+}

@@ -1,0 +1,21 @@
+//! Sums of images, by which they are compared.
+
+use anyhow::Result;
+use reset_core::Core;
+
+/// The sum of the core's image by the rule FNV-1a, of whole pixels row by row.
+pub fn sum_of_image(core: &Core) -> u64 {
+    let mut sum: u64 = 0xcbf2_9ce4_8422_2325;
+    for cell in core.image().cells() {
+        sum = (sum ^ u64::from(*cell)).wrapping_mul(0x0100_0000_01b3);
+    }
+    sum
+}
+
+/// Prints a number on a line.
+///
+/// Errors: standard output that can not be written.
+pub fn print_number(out: &impl Print, number: u64) -> Result<()> {
+    println!(out; "{}", number)?;
+    Ok(())
+}
