@@ -100,8 +100,9 @@ def settling_row(source, program, baseline, words):
 
 def settling(sources, program, baseline, words):
     """Print the table of settling."""
-    run.table([f"{words.size} by {words.size}, tile {words.side}", "baseline ms", *(f"{n} hands ms" for n in HANDS),
-               "4 over 1", "jobs, 0 hands", "1 hand", "4 hands", "memory"],
+    run.table([f"{words.size} by {words.size}, tile {words.side}", "baseline ms",
+               "0 hands ms", "1 hand ms", "2 hands ms", "4 hands ms", "4 over 1",
+               "jobs, 0 hands", "1 hand", "4 hands", "memory"],
               [settling_row(source, program, baseline, words) for source in sources])
 
 

@@ -13,8 +13,8 @@
 //! `settle` merges all edits into a core with tiles of this side, opens a studio over it, and makes the keeper's turns
 //! until no work is left, with so many hands in threads of their own; with no hands the core settles by itself. It
 //! writes a sum of the image, the same for each number of hands, and with `--times` a line more: how many jobs were
-//! pushed; how many turns were made; the time from merging until no work is left, in which the studio is opened too;
-//! and the processor times of the keeper's thread and of all threads.
+//! pushed; how many turns were made; the time from the opened studio until no work is left, in which the threads of the
+//! hands are made; and the processor times of the keeper's thread and of all threads.
 //!
 //! `parts` works the same core off in one thread, with a pool of one hand. It writes that sum, and with `--times` a
 //! line more: how many jobs there were, and the time to take them, to push them, to sweep and report them, to collect

@@ -124,14 +124,13 @@ fn by_hands<R: Threads + Wait + Clock + CpuClock + AllocGlobal + Sync>(
     core: Core,
     hands: usize,
 ) -> Result<(u64, Cost)> {
-    let start = Start::now(rt)?;
     let Studio {
         mut keeper,
         pens: _,
         hands,
         eyes: _,
     } = open_studio(rt, core, hands)?;
-    let cost = in_threads(rt, &mut keeper, hands, &start);
+    let cost = in_threads(rt, &mut keeper, hands);
     let sum = sum_of_image(&keeper.end(rt));
     Ok((sum, cost?))
 }
@@ -141,8 +140,8 @@ fn in_threads<R: Threads + Wait + Clock + CpuClock + Sync>(
     rt: &R,
     keeper: &mut Keeper,
     hands: Vec<Hand>,
-    start: &Start,
 ) -> Result<Cost> {
+    let start = Start::now(rt)?;
     let done = AtomicBool::new(false);
     let flag = &done;
     thread::scope(thread::scope_env(), rt, |scope| {
@@ -151,7 +150,7 @@ fn in_threads<R: Threads + Wait + Clock + CpuClock + Sync>(
             are_all = scope.spawn(move || hand.run(rt, &Open, flag)).is_ok() && are_all;
         }
         let kept = if are_all {
-            keep(rt, keeper, start)
+            keep(rt, keeper, &start)
         } else {
             no_thread()
         };
