@@ -1,12 +1,10 @@
 -- Eyes and keepers of a studio that is opened.
-use Rattle.std.proofs.Common.{◌≡◌, ℕ, List, [], ◌∷◌, ◌++◌, ◌+◌, refl, sym, ◌∙◌, subst, arith, replicate}
-use Rattle.std.proofs.lemmas.List.{length-append}
-use Rattle.std.proofs.lemmas.List.Elements.{All-push, All-weaker, All-nil}
+use Rattle.std.proofs.Common.{◌≡◌, ℕ, List, [], sym, ◌∙◌, subst, replicate}
+use Rattle.std.proofs.lemmas.List.Elements.{All-weaker}
 use Rattle.steal_pool.specs.Views.{OwnerView}
 use Rattle.core_rules.specs.Work.{Core}
 use Rattle.shot_chain.specs.declared.eye.Eye.{Eye}
 use Rattle.shot_chain.specs.declared.publisher.Publisher.{Publisher}
-use Rattle.shot_chain.specs.Words.{shown_by, last_by, publisher_studio, seen_by, learnt_by, eye_studio}
 use Rattle.studio.specs.declared.keeper.Keeper.{Keeper}
 use Rattle.studio.specs.Keeping.{IsShotOf}
 use Rattle.studio.specs.Opening.{IsEyeOf, AreEyesOf, ShowsTheSame, IsNewOwner, HasShownOnce}

@@ -1,9 +1,9 @@
 -- A core that goes on from the shot that was shown last.
-use Rattle.std.proofs.Common.{◌≡◌, Bool, true, false, ◌&&◌, sym, refl, ◌∙◌, subst, IsTrue}
+use Rattle.std.proofs.Common.{Bool, false, sym, ◌∙◌, subst}
 use Rattle.stroke_lattice.specs.State.{State, IsBelow}
 use Rattle.stroke_lattice.proofs.Joins.{below_itself, below_through}
 use Rattle.core_rules.specs.Work.{Core}
-use Rattle.core_dispatch.specs.Turns.{GrowsOn, ShowsSame}
+use Rattle.core_dispatch.specs.Turns.{GrowsOn}
 use Rattle.shot_chain.specs.Shots.{Shot, IsSound}
 use Rattle.shot_chain.specs.Chains.{MayFollow}
 use Rattle.studio.specs.Following.{Follows}
