@@ -9,6 +9,7 @@ The baseline is compiled and the images are made as run.py does it. README.md sa
 import argparse
 import os
 import pathlib
+import resource
 import statistics
 import subprocess
 import tempfile
@@ -95,7 +96,13 @@ def settling_row(source, program, baseline, words):
     times = [f"{1000 * seconds:.0f}" for seconds in [statistics.median(whole), *wall.values()]]
     run.say(f"{source.family}: baseline and hands {', '.join(times)} ms")
     return [source.family, *times, f"{wall[1] / wall[4]:.2f}", *(f"{jobs[hands]:,.0f}" for hands in (0, 1, 4)),
-            f"{peak / (2 * words.size ** 2):.1f}"]
+            multiple_of_cells(peak, words.size)]
+
+
+def multiple_of_cells(peak, size):
+    """A peak as a multiple of the mask's cells, where it stands above what this script itself takes."""
+    own = resource.getrusage(resource.RUSAGE_SELF).ru_maxrss * 1024
+    return f"{peak / (2 * size ** 2):.1f}" if peak > own else "-"
 
 
 def settling(sources, program, baseline, words):
