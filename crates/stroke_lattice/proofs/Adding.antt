@@ -25,7 +25,7 @@ shape_takes_bytes : (shape : Shape) → 0 < byte_len_of shape
 shape_takes_bytes (Runs runs) = omega arith
 shape_takes_bytes (Disc x y r) = omega arith
 
-item_takes_bytes : (item : Item) → 0 < item_length item
+pub item_takes_bytes : (item : Item) → 0 < item_length item
 item_takes_bytes (Placed tag seed) = shape_takes_bytes seed.shape
 item_takes_bytes (Withdrawn tag) = omega arith
 
@@ -53,10 +53,10 @@ is_below a b h = grind (arith, nat_tests)
 is_not_below : (a b : ℕ) → b ≤ a → nat_lt a b ≡ false
 is_not_below a b h = grind (arith, nat_tests)
 
-is_at_most : (a b : ℕ) → a ≤ b → nat_le a b ≡ true
+pub is_at_most : (a b : ℕ) → a ≤ b → nat_le a b ≡ true
 is_at_most a b h = grind (arith, nat_tests)
 
-is_above : (a b : ℕ) → b < a → nat_le a b ≡ false
+pub is_above : (a b : ℕ) → b < a → nat_le a b ≡ false
 is_above a b h = grind (arith, nat_tests)
 
 at_most : (a b : ℕ) → nat_le a b ≡ true → a ≤ b
@@ -128,7 +128,7 @@ added_in_room max f g item is before =
 
 -- ---- one item more
 
-all_fit_push : (max : ℕ) (pieces : List State) (piece : State) → AllFit max pieces → frame_length piece ≤ max
+pub all_fit_push : (max : ℕ) (pieces : List State) (piece : State) → AllFit max pieces → frame_length piece ≤ max
     → AllFit max (pieces ++ piece ∷ [])
 all_fit_push max [] piece all one = (one, tt)
 all_fit_push max (p ∷ pieces) piece all one = (all.0, all_fit_push max pieces piece all.1 one)
@@ -138,7 +138,7 @@ items_of_one item =
     items_of_longer nothing item (subst (λ (items : List Item). AllBefore items item) (sym items_of_nothing) tt)
     ∙ ap (λ (items : List Item). items ++ item ∷ []) items_of_nothing
 
-frame_length_of_one : (item : Item) → frame_length (with_item nothing item) ≡ HEAD_BYTES + item_length item
+pub frame_length_of_one : (item : Item) → frame_length (with_item nothing item) ≡ HEAD_BYTES + item_length item
 frame_length_of_one item =
     let one : frame_length (with_item nothing item) ≡ HEAD_BYTES + (0 + item_length item) =
     ap (λ (items : List Item). HEAD_BYTES + sum_by item_length items) (items_of_one item) in

@@ -37,7 +37,7 @@ order_of_one : (piece : State) (item : Item) (rest : List Item) → AreInOrder (
 order_of_one piece item rest order = subst (λ (items : List Item). AreInOrder (items ++ rest)) (sym (items_of_one item))
     (order_behind (items_of piece) (item ∷ rest) order)
 
-items_of_filled : (max : ℕ) (rest : List Item) (piece : State) → AreInOrder (items_of piece ++ rest)
+pub items_of_filled : (max : ℕ) (rest : List Item) (piece : State) → AreInOrder (items_of piece ++ rest)
     → flat_map items_of (filled max piece rest) ≡ items_of piece ++ rest
 items_of_filled max [] piece order = items_if_any (items_of piece) piece refl ∙ sym (append-nil (items_of piece))
 items_of_filled max (item ∷ rest) piece order =

@@ -11,4 +11,7 @@ pub mod Refusing
 pub mod Items
 pub mod Adding
 pub mod Cutting
+pub mod Placing
+pub mod Opening
+pub mod Counts
 pub mod Shared

@@ -6,4 +6,5 @@ pub mod Walks
 pub mod Growth
 pub mod Pieces
 pub mod Filling
+pub mod Places
 pub mod Code

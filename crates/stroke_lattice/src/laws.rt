@@ -1,6 +1,6 @@
 //! Laws of states. Each is the contract of a function that does nothing.
 
-ghost use Rattle.std.specs.Prelude.{◌≡◌, ℕ, List, [], ◌∷◌, ◌++◌, ◌↔◌};
+ghost use Rattle.std.specs.Prelude.{◌≡◌, ℕ, List, [], ◌∷◌, ◌++◌, length, ◌↔◌};
 ghost use Rattle.std.specs.List.{AllByRecursion, flat_map};
 ghost use Rattle.stroke_core.specs.Seed.{Seed};
 ghost use Rattle.stroke_lattice.specs.State.{State, HasStroke, HasTombstone, nothing, placed, withdrawn};
@@ -12,6 +12,12 @@ ghost use Rattle.stroke_lattice.specs.Pieces.{strokes_of, tombstones_of, items_o
 pub fn contents_decide_a_state()
     ensures { (a b : State) → ((tag : ℕ) (seed : Seed) → HasStroke a tag seed ↔ HasStroke b tag seed)
         → ((tag : ℕ) → HasTombstone a tag ↔ HasTombstone b tag) → a ≡ b }
+{}
+
+/// A state above another that has as many strokes and as many tombstones is that state.
+pub fn counts_decide_a_higher_state()
+    ensures { (a b : State) → IsBelow a b → length (strokes_of a) ≡ length (strokes_of b)
+        → length (tombstones_of a) ≡ length (tombstones_of b) → a ≡ b }
 {}
 
 /// The state without strokes and tombstones has none.

@@ -1,6 +1,6 @@
 //! States: strokes and tombstones under tags.
 
-ghost use Rattle.std.specs.Prelude.{◌≡◌, ℕ, ◌↔◌, IsTrue, IsOk, IfOk, IfErr, OnOk, OnErr};
+ghost use Rattle.std.specs.Prelude.{◌≡◌, ℕ, ◌+◌, ◌<◌, ◌^◌, ◌↔◌, length, IsTrue, IsOk, IfOk, IfErr, OnOk, OnErr};
 ghost use Rattle.std.specs.FinMap as map;
 ghost use Rattle.std.specs.FinSet as set;
 ghost use Rattle.std.specs.Map.Iter.{ShowsInOrder, deref, deref_pair};
@@ -8,10 +8,14 @@ ghost use Rattle.std.specs.Option.{option_copied};
 ghost use Rattle.stroke_core.specs.Seed.{Seed};
 ghost use Rattle.stroke_lattice.specs.State.{HasSomeStroke, HasTombstone, IsLiveTag, nothing, placed, withdrawn};
 ghost use Rattle.stroke_lattice.specs.Walks.{AreStrokes, AreTombstones, AreLive};
+ghost use Rattle.stroke_lattice.specs.Pieces.{items_of};
+ghost use Rattle.stroke_lattice.specs.Places.{items_from};
 ghost use Rattle.stroke_lattice.specs.declared.error.StateError.TheVariants as errors;
 
+use crate::entries::Items;
 use crate::error::{RefusedStroke, StateError};
 use crate::live::Live;
+use crate::piece::Place;
 use grid_core::Memory;
 use std::alloc::{AllocFailed, Global};
 use std::collections::{BTreeMap, BTreeSet, btree_map, btree_set};
@@ -145,6 +149,28 @@ impl State {
         ensures runs { ShowsInOrder (deref_pair {K = ℕ} {X = Seed}) }
     {
         Live::new(self.strokes.iter(), &self.tombstones)
+    }
+
+    /// The strokes with their tags and then the tombstones, each rising by tag.
+    pub(crate) fn items(&self) -> Items<'_>
+        ensures items { result ≡ items_of self.now }
+        ensures counted { length result + 1 < 2 ^ 64 }
+    {
+        Items::new(self.strokes.range(..), self.tombstones.range(..))
+    }
+
+    /// The same from a place on.
+    pub(crate) fn items_from(&self, place: Place) -> Items<'_>
+        ensures { result ≡ items_from self.now place }
+    {
+        match place {
+            Place::Stroke(tag) => Items::new(self.strokes.range(tag..), self.tombstones.range(..)),
+            // No stroke stands behind a tombstone.
+            Place::Tombstone(tag) => Items::new(
+                self.strokes.range(tag..tag),
+                self.tombstones.range(tag..),
+            ),
+        }
     }
 
     /// Puts a stroke under a tag that has none ([`State::has_stroke`] tells).

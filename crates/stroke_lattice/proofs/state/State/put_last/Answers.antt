@@ -1,0 +1,15 @@
+use Rattle.std.proofs.Common.{◌≡◌, subst}
+use Rattle.stroke_lattice.specs.Pieces.{Item, Placed, Withdrawn, items_of}
+use Rattle.stroke_lattice.specs.Places.{item_of}
+use Rattle.stroke_lattice.specs.Filling.{AllBefore}
+use Rattle.stroke_lattice.specs.declared.entries.Entry.{Entry}
+use Rattle.stroke_lattice.proofs.Items.{new_stroke, new_tombstone}
+use Rattle.stroke_lattice.proofs.state.State.put_last.Goals as goal
+
+pub insert-requires : goal.insert-requires
+insert-requires c = new_stroke c.args.self.now c.in-Stroke.tag c.in-Stroke.stroke.now
+    (subst (λ (e : Entry). AllBefore (items_of c.args.self.now) (item_of e)) c.in-Stroke.is c.requires)
+
+pub bury-requires : goal.bury-requires
+bury-requires c = new_tombstone c.args.self.now c.in-Tombstone.tag
+    (subst (λ (e : Entry). AllBefore (items_of c.args.self.now) (item_of e)) c.in-Tombstone.is c.requires)
