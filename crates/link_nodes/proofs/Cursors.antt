@@ -1,0 +1,96 @@
+-- Where the pieces of a state begin.
+use Rattle.std.proofs.Common.{◌≡◌, ℕ, ◌+◌, ◌<◌, ◌≤◌, ◌^◌, List, [], ◌∷◌, Option, Some, None, length, drop, slice_get}
+use Rattle.std.proofs.Common.{refl, sym, ap, subst, ◌∙◌, arith, length-drop, drop-cons, add-one, suc, get_or, IfSome, IfNone}
+use Rattle.std.specs.Prelude.{nat_lt, if◌then◌else◌, IsTrue, is_some}
+use Rattle.std.proofs.lemmas.Bool.Decides.{nat_tests}
+use Rattle.std.proofs.lemmas.Option.{slice_get-get_or}
+use Rattle.stroke_lattice.specs.declared.piece.Place.{Place}
+use Rattle.stroke_lattice.specs.State.{State}
+use Rattle.stroke_lattice.specs.Places.{pieces_from, pieces_behind}
+use Rattle.spd_codec.specs.Spelling.{max_bytes}
+use Rattle.link_nodes.specs.Cursors.{frame_pieces, next_after, IsPlaceOf}
+
+-- pieces are left from a number on exactly where there is a piece of this number
+some_left : {A : Type 0} (n : ℕ) (xs ys : List A) → ys ≡ drop n xs → 0 < length ys → n < length xs
+some_left n xs ys is some =
+    let long : length ys ≡ length (drop n xs) = ap length is in
+    omega (arith, long, length-drop n xs)
+
+none_left : {A : Type 0} (n : ℕ) (xs : List A) → [] ≡ drop n xs → length xs ≤ n
+none_left n xs is =
+    let long : 0 ≡ length (drop n xs) = ap length is in
+    omega (arith, long, length-drop n xs)
+
+-- where a piece begins behind, there is one
+pub more_behind : (s : State) (number : ℕ) (behind : Option Place)
+    → pieces_behind max_bytes s behind ≡ drop (number + 1) (frame_pieces s)
+    → IfSome behind (λ next. 0 < length (pieces_from max_bytes s next))
+    → IsTrue (is_some behind) → number + 1 < length (frame_pieces s)
+more_behind s number None is more some = absurd cc
+more_behind s number (Some next) is more some =
+    some_left (number + 1) (frame_pieces s) (pieces_from max_bytes s next) is more
+
+pub place_behind : (s : State) (number : ℕ) (behind : Option Place)
+    → pieces_behind max_bytes s behind ≡ drop (number + 1) (frame_pieces s)
+    → (IsTrue (is_some behind) → number + 1 < length (frame_pieces s))
+    → IsPlaceOf s (number + 1) behind
+place_behind s number None is more = none_left (number + 1) (frame_pieces s) is
+place_behind s number (Some next) is more = (more refl, is)
+
+-- the answer to where a piece begins
+pub place_found : (s : State) (number : ℕ) (found : Option Place)
+    → IfSome found (λ place. pieces_from max_bytes s place ≡ drop number (frame_pieces s))
+    → IfSome found (λ place. number < length (frame_pieces s))
+    → IfNone found (length (frame_pieces s) ≤ number) → IsPlaceOf s number found
+place_found s number None is within none = none
+place_found s number (Some place) is within none = (within, is)
+
+-- ---- numbers
+
+after_some : (i count : ℕ) → i + 1 < count → next_after (Some i) count ≡ i + 1
+after_some i count within = grind (arith, nat_tests)
+
+after_last : (i count : ℕ) → count ≤ i + 1 → next_after (Some i) count ≡ 0
+after_last i count beyond = grind (arith, nat_tests)
+
+pub number_is : (last : Option ℕ) (i j count : ℕ) → last ≡ Some i → j ≡ i + 1 → j < count → j ≡ next_after last count
+number_is last i j count is next within =
+    next ∙ sym (ap (λ (o : Option ℕ). next_after o count) is ∙ after_some i count (omega arith))
+
+pub number_is_0 : (last : Option ℕ) (i count : ℕ) → last ≡ Some i → count ≤ i + 1 → next_after last count ≡ 0
+number_is_0 last i count is beyond =
+    ap (λ (o : Option ℕ). next_after o count) is ∙ after_last i count beyond
+
+-- ---- the first of the pieces from a number on
+
+nil : {A : Type 0} (xs : List A) → length xs ≤ 0 → xs ≡ []
+nil [] none = refl
+nil (x ∷ xs) none = absurd (omega arith)
+
+heads : {A : Type 0} (x y : A) (xs ys : List A) → x ∷ xs ≡ y ∷ ys → x ≡ y
+heads x y xs ys is = cc
+
+tails : {A : Type 0} (x y : A) (xs ys : List A) → x ∷ xs ≡ y ∷ ys → xs ≡ ys
+tails x y xs ys is = cc
+
+pub piece_there : (n : ℕ) (xs rest : List State) (x : State) → x ∷ rest ≡ drop n xs → slice_get xs n ≡ Some x
+piece_there n xs rest x is =
+    let within : n < length xs = some_left n xs (x ∷ rest) is (omega arith) in
+    slice_get-get_or xs n x within
+    ∙ ap Some (sym (heads x (get_or xs n x) rest (drop (suc n) xs) (is ∙ drop-cons xs n x within)))
+
+pub pieces_after : (n : ℕ) (xs rest : List State) (x : State) → x ∷ rest ≡ drop n xs → rest ≡ drop (n + 1) xs
+pieces_after n xs rest x is =
+    let within : n < length xs = some_left n xs (x ∷ rest) is (omega arith) in
+    tails x (get_or xs n x) rest (drop (suc n) xs) (is ∙ drop-cons xs n x within)
+    ∙ ap (λ (k : ℕ). drop k xs) (sym (add-one n))
+
+pub pieces_left : (s : State) (n : ℕ) (place : Place) → IsPlaceOf s n (Some place)
+    → 0 < length (pieces_from max_bytes s place)
+pieces_left s n place at =
+    let long : length (pieces_from max_bytes s place) ≡ length (drop n (frame_pieces s)) = ap length at.1 in
+    let within = at.0 in
+    omega (arith, long, length-drop n (frame_pieces s))
+
+pub no_pieces : (s : State) → length (frame_pieces s) ≤ 0 → frame_pieces s ≡ []
+no_pieces s none = nil (frame_pieces s) none

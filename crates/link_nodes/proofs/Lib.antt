@@ -1,0 +1,5 @@
+pub mod Cursors
+pub mod Feeding
+pub mod Seeing
+pub mod Answering
+pub mod Ticking
