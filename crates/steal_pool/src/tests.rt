@@ -4,10 +4,11 @@ use crate::{Gate, Hand, Open, Owner, Pool, Report, Turn};
 use grid_core::{Conn, Grid};
 use raster_sweeps::slow;
 use std::alloc::Global;
-use std::sync::Arc;
 use std::sync::atomic::{AtomicBool, AtomicU64, Ordering};
+use std::sync::{Arc, Wait};
 use std::test::Fail;
 use std::thread;
+use std::thread::{Scope, Threads};
 use tile_generations::{Job, Swept, Ticket};
 
 // A tile of 5 by 1 pixels: what it holds, under which mask, and what it grows into, as worked out by hand.
@@ -110,31 +111,65 @@ impl Gate for Watch {
     }
 }
 
-// What the second of two hands does is seen by its number alone.
-#[test]
-fn a_job_comes_back(rt: HostRuntime) -> Result<(), Fail> {
+impl Watch {
+    // None passed.
+    fn new() -> Watch {
+        Watch {
+            passed: AtomicU64::new(0),
+            tile: AtomicU64::new(0),
+        }
+    }
+
+    // Whether one hand passed, with the job on this tile.
+    fn has_seen(&self, tile: u64) -> bool {
+        self.passed.load(Ordering::SeqCst) == 1 && self.tile.load(Ordering::SeqCst) == tile
+    }
+}
+
+// Whether the hand of this number has no report.
+fn is_silent(owner: &mut Owner, number: usize) -> bool {
+    owner.collect(number).is_none()
+}
+
+// Whether the second hand is idle until a job is pushed, and works on that one.
+fn works_once(alloc: Global, owner: &mut Owner, hand: &mut Hand, watch: &Watch) -> bool {
+    hand.turn(watch) == Turn::Idle
+        && is_silent(owner, 1)
+        && are_pushed(alloc, owner, 7, 8)
+        && hand.turn(watch) == Turn::Worked(ticket(7))
+        && hand.turn(watch) == Turn::Idle
+}
+
+// Whether the report of that job comes from the second hand, once.
+fn comes_once(alloc: Global, owner: &mut Owner) -> bool {
+    is_silent(owner, 0)
+        && is_silent(owner, 2)
+        && is_done(alloc, owner.collect(1), 7)
+        && is_silent(owner, 1)
+}
+
+// Whether a job comes back by the second of two hands.
+fn comes_back(alloc: Global, pool: Pool) -> bool {
     let Pool {
         mut owner,
         mut hands,
-    } = Pool::open(rt.alloc(), 2, 4)?;
-    let Some(mut hand) = hands.pop() else {
-        return Err(Fail::new("there is a hand"));
-    };
-    let watch = Watch {
-        passed: AtomicU64::new(0),
-        tile: AtomicU64::new(0),
-    };
-    assert!(rt; hand.turn(&watch) == Turn::Idle);
-    assert!(rt; owner.collect(1).is_none());
-    assert!(rt; are_pushed(rt.alloc(), &mut owner, 7, 8));
-    assert!(rt; hand.turn(&watch) == Turn::Worked(ticket(7)));
-    assert!(rt; hand.turn(&watch) == Turn::Idle);
-    assert!(rt; watch.passed.load(Ordering::SeqCst) == 1);
-    assert!(rt; watch.tile.load(Ordering::SeqCst) == 7);
-    assert!(rt; owner.collect(0).is_none());
-    assert!(rt; owner.collect(2).is_none());
-    assert!(rt; is_done(rt.alloc(), owner.collect(1), 7));
-    assert!(rt; owner.collect(1).is_none());
+    } = pool;
+    let watch = Watch::new();
+    match hands.last_mut() {
+        Some(hand) => {
+            works_once(alloc, &mut owner, hand, &watch)
+                && watch.has_seen(7)
+                && comes_once(alloc, &mut owner)
+        }
+        None => false,
+    }
+}
+
+// What the second of two hands does is seen by its number alone.
+#[test]
+fn a_job_comes_back(rt: HostRuntime) -> Result<(), Fail> {
+    let pool = Pool::open(rt.alloc(), 2, 4)?;
+    assert!(rt; comes_back(rt.alloc(), pool));
     Ok(())
 }
 
@@ -166,31 +201,55 @@ fn first_answer<G: Gate>(hand: &mut Hand, gate: &G) -> Turn {
     Turn::Idle
 }
 
-#[test]
-fn two_hands_sweep_at_once(rt: HostRuntime) -> Result<(), Fail> {
-    let Pool {
-        mut owner,
-        mut hands,
-    } = Pool::open(rt.alloc(), 2, 4)?;
-    assert!(rt; are_pushed(rt.alloc(), &mut owner, 0, 2));
-    let (Some(mut second), Some(mut first)) = (hands.pop(), hands.pop()) else {
-        return Err(Fail::new("there are two hands"));
-    };
+// The first answer of one hand, while another one runs in a thread of its own.
+fn answer_beside<R: Threads + Wait + Sync>(
+    rt: &R,
+    first: &mut Hand,
+    second: Hand,
+    gate: &Meeting,
+) -> Turn {
+    let mut second = second;
+    let done = AtomicBool::new(false);
+    let flag = &done;
+    thread::scope(thread::scope_env(), rt, |scope| {
+        let _ = scope.spawn(move || second.run(rt, gate, flag));
+        let turn = first_answer(first, gate);
+        flag.store(true, Ordering::SeqCst);
+        turn
+    })
+}
+
+// Whether two hands pass the gate, so that both sweep at once.
+fn have_met<R: Threads + Wait + Sync>(rt: &R, hands: Vec<Hand>) -> bool {
+    let mut hands = hands;
     let gate = Meeting {
         passed: AtomicU64::new(0),
     };
-    let done = AtomicBool::new(false);
-    let (meeting, flag, handle) = (&gate, &done, &rt);
-    let turn = thread::scope(thread::scope_env(), &rt, |scope| {
-        let _ = scope.spawn(move || second.run(handle, meeting, flag));
-        let turn = first_answer(&mut first, meeting);
-        flag.store(true, Ordering::SeqCst);
-        turn
-    });
-    assert!(rt; matches!(turn, Turn::Worked(_)));
-    assert!(rt; gate.passed.load(Ordering::SeqCst) == 2);
-    assert!(rt; matches!(owner.collect(0), Some(Report::Done(_))));
-    assert!(rt; matches!(owner.collect(1), Some(Report::Done(_))));
+    let turn = match (hands.pop(), hands.first_mut()) {
+        (Some(second), Some(first)) => answer_beside(rt, first, second, &gate),
+        _ => Turn::Idle,
+    };
+    matches!(turn, Turn::Worked(_)) && gate.passed.load(Ordering::SeqCst) == 2
+}
+
+// Whether a job that was swept comes from the hand of this number.
+fn brings(owner: &mut Owner, number: usize) -> bool {
+    matches!(owner.collect(number), Some(Report::Done(_)))
+}
+
+// Whether two hands sweep two jobs at once.
+fn sweep_at_once<R: Threads + Wait + Sync>(rt: &R, alloc: Global, pool: Pool) -> bool {
+    let Pool { mut owner, hands } = pool;
+    are_pushed(alloc, &mut owner, 0, 2)
+        && have_met(rt, hands)
+        && brings(&mut owner, 0)
+        && brings(&mut owner, 1)
+}
+
+#[test]
+fn two_hands_sweep_at_once(rt: HostRuntime) -> Result<(), Fail> {
+    let pool = Pool::open(rt.alloc(), 2, 4)?;
+    assert!(rt; sweep_at_once(&rt, rt.alloc(), pool));
     Ok(())
 }
 
@@ -229,32 +288,55 @@ fn are_collected_once(owner: &mut Owner, seen: &mut [bool]) -> bool {
     false
 }
 
-#[test]
-fn each_job_is_reported_once(rt: HostRuntime) -> Result<(), Fail> {
-    let Pool {
-        mut owner,
-        mut hands,
-    } = Pool::open(rt.alloc(), 2, 4)?;
-    let (Some(mut first), Some(mut second)) = (hands.pop(), hands.pop()) else {
-        return Err(Fail::new("there are two hands"));
-    };
-    let alloc = rt.alloc();
-    let done = AtomicBool::new(false);
+// Has each hand work in a thread of its own until the flag is set, and says whether all threads were made.
+fn spawn_hands<'s, E: 's, R: Threads + Wait + Sync>(
+    scope: &Scope<'s, E>,
+    rt: &'s R,
+    hands: Vec<Hand>,
+    done: &'s AtomicBool,
+) -> bool {
+    let mut are_all = true;
+    for mut hand in hands {
+        are_all = scope.spawn(move || hand.run(rt, &Open, done)).is_ok() && are_all;
+    }
+    are_all
+}
+
+// Whether each of forty jobs is pushed, and its report collected once.
+fn forty_come(alloc: Global, owner: &mut Owner) -> bool {
     let mut seen = [false; 40];
-    let (flag, handle) = (&done, &rt);
-    let is_right = thread::scope(thread::scope_env(), &rt, |scope| {
-        let one = scope.spawn(move || first.run(handle, &Open, flag)).is_ok();
-        let other = scope.spawn(move || second.run(handle, &Open, flag)).is_ok();
-        let is_right = one
-            && other
-            && are_pushed(alloc, &mut owner, 0, 40)
-            && are_collected_once(&mut owner, &mut seen);
+    are_pushed(alloc, owner, 0, 40) && are_collected_once(owner, &mut seen)
+}
+
+// The same while the hands work in threads of their own.
+fn forty_come_in_threads<R: Threads + Wait + Sync>(
+    rt: &R,
+    alloc: Global,
+    owner: &mut Owner,
+    hands: Vec<Hand>,
+) -> bool {
+    let done = AtomicBool::new(false);
+    let flag = &done;
+    thread::scope(thread::scope_env(), rt, |scope| {
+        let is_right = spawn_hands(scope, rt, hands, flag) && forty_come(alloc, owner);
         flag.store(true, Ordering::SeqCst);
         is_right
-    });
-    assert!(rt; is_right);
-    assert!(rt; owner.collect(0).is_none());
-    assert!(rt; owner.collect(1).is_none());
+    })
+}
+
+// Whether forty jobs come from the two hands of a pool, and no more.
+fn only_forty_come<R: Threads + Wait + Sync>(rt: &R, alloc: Global, pool: Pool) -> bool {
+    let Pool { mut owner, hands } = pool;
+    hands.len() == 2
+        && forty_come_in_threads(rt, alloc, &mut owner, hands)
+        && is_silent(&mut owner, 0)
+        && is_silent(&mut owner, 1)
+}
+
+#[test]
+fn each_job_is_reported_once(rt: HostRuntime) -> Result<(), Fail> {
+    let pool = Pool::open(rt.alloc(), 2, 4)?;
+    assert!(rt; only_forty_come(&rt, rt.alloc(), pool));
     Ok(())
 }
 
@@ -278,41 +360,63 @@ fn are_collected(alloc: Global, owner: &mut Owner, from: usize, to: usize) -> bo
     true
 }
 
-#[test]
-fn a_full_ring_loses_no_report(rt: HostRuntime) -> Result<(), Fail> {
+// Whether the hand works until its ring is full, and stays so until a report is collected.
+fn fills_its_ring(alloc: Global, owner: &mut Owner, hand: &mut Hand) -> bool {
+    are_pushed(alloc, owner, 0, ROOM + 2)
+        && works(hand, ROOM)
+        && hand.turn(&Open) == Turn::RingFull
+        && hand.turn(&Open) == Turn::RingFull
+        && are_collected(alloc, owner, 0, 1)
+        && hand.turn(&Open) == Turn::RingFull
+}
+
+// Whether each report comes that did not find a place in the ring, in order.
+fn brings_the_rest(alloc: Global, owner: &mut Owner, hand: &mut Hand) -> bool {
+    are_collected(alloc, owner, 1, ROOM + 1)
+        && is_silent(owner, 0)
+        && hand.turn(&Open) == Turn::Idle
+        && are_collected(alloc, owner, ROOM + 1, ROOM + 2)
+        && is_silent(owner, 0)
+}
+
+// Whether no report is lost where the ring of the one hand is full.
+fn loses_none(alloc: Global, pool: Pool) -> bool {
     let Pool {
         mut owner,
         mut hands,
-    } = Pool::open(rt.alloc(), 1, ROOM + 2)?;
-    let Some(mut hand) = hands.pop() else {
-        return Err(Fail::new("there is a hand"));
-    };
-    assert!(rt; are_pushed(rt.alloc(), &mut owner, 0, ROOM + 2));
-    assert!(rt; works(&mut hand, ROOM));
-    assert!(rt; hand.turn(&Open) == Turn::RingFull);
-    assert!(rt; hand.turn(&Open) == Turn::RingFull);
-    assert!(rt; are_collected(rt.alloc(), &mut owner, 0, 1));
-    assert!(rt; hand.turn(&Open) == Turn::RingFull);
-    assert!(rt; are_collected(rt.alloc(), &mut owner, 1, ROOM + 1));
-    assert!(rt; owner.collect(0).is_none());
-    assert!(rt; hand.turn(&Open) == Turn::Idle);
-    assert!(rt; are_collected(rt.alloc(), &mut owner, ROOM + 1, ROOM + 2));
-    assert!(rt; owner.collect(0).is_none());
+    } = pool;
+    match hands.first_mut() {
+        Some(hand) => {
+            fills_its_ring(alloc, &mut owner, hand) && brings_the_rest(alloc, &mut owner, hand)
+        }
+        None => false,
+    }
+}
+
+#[test]
+fn a_full_ring_loses_no_report(rt: HostRuntime) -> Result<(), Fail> {
+    let pool = Pool::open(rt.alloc(), 1, ROOM + 2)?;
+    assert!(rt; loses_none(rt.alloc(), pool));
     Ok(())
+}
+
+// Whether the one hand works on what was pushed after its owner was let go.
+fn outlives(alloc: Global, pool: Pool) -> bool {
+    let Pool {
+        mut owner,
+        mut hands,
+    } = pool;
+    let are_pushed = are_pushed(alloc, &mut owner, 0, 2);
+    drop(owner);
+    match hands.first_mut() {
+        Some(hand) => are_pushed && works(hand, 2) && hand.turn(&Open) == Turn::Idle,
+        None => false,
+    }
 }
 
 #[test]
 fn a_hand_outlives_its_owner(rt: HostRuntime) -> Result<(), Fail> {
-    let Pool {
-        mut owner,
-        mut hands,
-    } = Pool::open(rt.alloc(), 1, 2)?;
-    let Some(mut hand) = hands.pop() else {
-        return Err(Fail::new("there is a hand"));
-    };
-    assert!(rt; are_pushed(rt.alloc(), &mut owner, 0, 2));
-    drop(owner);
-    assert!(rt; works(&mut hand, 2));
-    assert!(rt; hand.turn(&Open) == Turn::Idle);
+    let pool = Pool::open(rt.alloc(), 1, 2)?;
+    assert!(rt; outlives(rt.alloc(), pool));
     Ok(())
 }
