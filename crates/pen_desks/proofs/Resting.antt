@@ -15,7 +15,7 @@ use Rattle.pen_desks.specs.declared.taken.Taken.{Taken}
 use Rattle.pen_desks.specs.declared.taken.Taken.TheVariants.{Nothing, Merged, Listed}
 use Rattle.pen_desks.specs.Books.{BooksView, edits_of}
 use Rattle.pen_desks.specs.Pens.{IsEndOf, KeepsPens, HasAllOf, IsSpent, end_number, all_submitted}
-use Rattle.pen_desks.specs.Taking.{IsNext, IsEditTaken, IsTurn, edits_in, seen_at, most_edits}
+use Rattle.pen_desks.specs.Taking.{IsNext, IsEditTaken, IsPenTurn, edits_in, seen_at, most_edits}
 use Rattle.pen_desks.specs.Resting.{HasLeft, HasMoved}
 use Rattle.pen_desks.proofs.Ledgers.{below}
 use Rattle.pen_desks.proofs.Taking.{pens_kept}
@@ -72,13 +72,13 @@ look_moves pen b desk new at same = record {
   pens = pens_kept b (record b { desks = set b.desks pen new }) pen desk new at refl same;
 }
 
-others_kept : (pen : ℕ) (old new : BooksView) (answer : Result Taken Wanting) → IsTurn pen old answer new
+others_kept : (pen : ℕ) (old new : BooksView) (answer : Result Taken Wanting) → IsPenTurn pen old answer new
     → (other : ℕ) → other ≢ pen → get_elem? new.desks other ≡ get_elem? old.desks other
 others_kept pen old new (Ok taken) t other else =
     ap (λ (l : List PenDesk). get_elem? l other) t.desks ∙ set_else old.desks pen other t.after else
 others_kept pen old new (Err wanting) same other else = ap (λ (b : BooksView). get_elem? b.desks other) same
 
-turn_moves : (pen : ℕ) (old new : BooksView) (answer : Result Taken Wanting) → IsTurn pen old answer new
+turn_moves : (pen : ℕ) (old new : BooksView) (answer : Result Taken Wanting) → IsPenTurn pen old answer new
     → KeepsPens old new → HasMoved pen old new
 turn_moves pen old new answer turn pens = record {
   taken = (edits_in answer, one_taken pen old new answer turn);
@@ -87,7 +87,7 @@ turn_moves pen old new answer turn pens = record {
 }
 
 pub moved_on : (pen : ℕ) (start old new : BooksView) (answer : Result Taken Wanting) → HasMoved pen start old
-    → IsTurn pen old answer new → KeepsPens old new → HasMoved pen start new
+    → IsPenTurn pen old answer new → KeepsPens old new → HasMoved pen start new
 moved_on pen start old new answer so_far turn pens =
     moved_through pen start old new so_far (turn_moves pen old new answer turn pens)
 
@@ -137,7 +137,7 @@ module _ (end : PenEnd) (old new : BooksView) (taken : Taken) (t : IsEditTaken (
 
 -- an edit was taken
 pub taken_of_left : (end : PenEnd) (old new : BooksView) (answer : Result Taken Wanting)
-    → IsTurn (end_number end) old answer new → edits_in answer ≡ 1 → (left fewer : ℕ) → HasLeft old end left
+    → IsPenTurn (end_number end) old answer new → edits_in answer ≡ 1 → (left fewer : ℕ) → HasLeft old end left
     → left ≡ fewer + 1 → HasLeft new end fewer
 taken_of_left end old new (Ok Nothing) t one left fewer was more = absurd (omega (arith, one))
 taken_of_left end old new (Ok Merged) t one left fewer was more =

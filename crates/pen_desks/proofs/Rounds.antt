@@ -13,20 +13,24 @@ use Rattle.pen_desks.specs.declared.taken.Taken.{Taken}
 use Rattle.pen_desks.specs.declared.taken.Taken.TheVariants.{Nothing, Merged, Listed}
 use Rattle.pen_desks.specs.Books.{BooksView, edits_of}
 use Rattle.pen_desks.specs.Pens.{KeepsPens}
-use Rattle.pen_desks.specs.Taking.{IsEditTaken, IsTurn, AreTurns, AreMerges, HaveTakenEdits, edits_in}
+use Rattle.pen_desks.specs.Taking.{IsEditTaken, IsPenTurn, ArePenTurns, AreMerges, HaveTakenEdits, edits_in}
 
 -- one turn more
 pub turns_more : (pen : ℕ) (a b c : BooksView) (answers : List (Result Taken Wanting)) (answer : Result Taken Wanting)
-    → AreTurns pen a answers b → IsTurn (pen + length answers) b answer c → AreTurns pen a (answers ++ answer ∷ []) c
+    → ArePenTurns pen a answers b → IsPenTurn (pen + length answers) b answer c
+    → ArePenTurns pen a (answers ++ answer ∷ []) c
 turns_more pen a b c [] answer same turn =
-    let here : pen + 0 ≡ pen = omega arith in
-    (c, subst (λ (x : BooksView). IsTurn pen x answer c) same (subst (λ (n : ℕ). IsTurn n b answer c) here turn), refl)
+    let here : pen + 0 ≡ pen = omega arith in (
+      c,
+      subst (λ (x : BooksView). IsPenTurn pen x answer c) same (subst (λ (n : ℕ). IsPenTurn n b answer c) here turn),
+      refl,
+    )
 turns_more pen a b c (first ∷ answers) answer (next, turn, rest) last =
     let there : pen + length (first ∷ answers) ≡ pen + 1 + length answers = omega arith in (
       next,
       turn,
       turns_more (pen + 1) next b c answers answer rest
-          (subst (λ (n : ℕ). IsTurn n b answer c) there last),
+          (subst (λ (n : ℕ). IsPenTurn n b answer c) there last),
     )
 
 merges_append : (first second : List Entry) → AreMerges first → AreMerges second → AreMerges (first ++ second)
@@ -67,7 +71,7 @@ more_taken a b c n k first second = record {
   opening = second.opening ∙ first.opening;
 }
 
-pub one_taken : (pen : ℕ) (old new : BooksView) (answer : Result Taken Wanting) → IsTurn pen old answer new
+pub one_taken : (pen : ℕ) (old new : BooksView) (answer : Result Taken Wanting) → IsPenTurn pen old answer new
     → HaveTakenEdits old (edits_in answer) new
 one_taken pen old new (Err wanting) same =
     subst (λ (b : BooksView). HaveTakenEdits old 0 b) (sym same) (none_taken old)
@@ -121,7 +125,7 @@ any_more p (y ∷ l) x = ap (λ (b : Bool). p y || b) (any_more p l x) ∙ assoc
   assoc false b c = refl
 
 pub turn_of : (pen : ℕ) (old new : BooksView) (answer : Result Taken Wanting)
-    → IfOk answer (λ taken. IsEditTaken pen old taken new) → OnErr answer (new ≡ old) → IsTurn pen old answer new
+    → IfOk answer (λ taken. IsEditTaken pen old taken new) → OnErr answer (new ≡ old) → IsPenTurn pen old answer new
 turn_of pen old new (Ok taken) happens same = happens
 turn_of pen old new (Err wanting) happens same = same
 

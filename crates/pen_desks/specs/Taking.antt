@@ -65,15 +65,15 @@ pub record IsEditTaken (pen : ℕ) (old : BooksView) (taken : Taken) (new : Book
 -- ---- one round over the pens, and all that is left of a pen
 
 -- so it was, unless memory was wanting for a place in the list of refusals; then nothing happened
-abbrev pub IsTurn : ℕ → BooksView → Result Taken Wanting → BooksView → Type 0
-IsTurn pen old (Ok taken) new = IsEditTaken pen old taken new
-IsTurn pen old (Err wanting) new = new ≡ old
+abbrev pub IsPenTurn : ℕ → BooksView → Result Taken Wanting → BooksView → Type 0
+IsPenTurn pen old (Ok taken) new = IsEditTaken pen old taken new
+IsPenTurn pen old (Err wanting) new = new ≡ old
 
 -- the pens, from the one of this number on, had one turn each, in order, and this became of them
-abbrev pub AreTurns : ℕ → BooksView → List (Result Taken Wanting) → BooksView → Type 0
-AreTurns pen old [] new = new ≡ old
-AreTurns pen old (answer ∷ answers) new =
-    (next : BooksView) × IsTurn pen old answer next × AreTurns (pen + 1) next answers new
+abbrev pub ArePenTurns : ℕ → BooksView → List (Result Taken Wanting) → BooksView → Type 0
+ArePenTurns pen old [] new = new ≡ old
+ArePenTurns pen old (answer ∷ answers) new =
+    (next : BooksView) × IsPenTurn pen old answer next × ArePenTurns (pen + 1) next answers new
 
 -- how many edits were taken in the turn
 abbrev pub edits_in : Result Taken Wanting → ℕ
@@ -100,7 +100,7 @@ is_wanting (Err wanting) = true
 -- each pen had one turn, and this is how many edits were taken, and whether memory was wanting in one of the turns
 pub record IsRound (old : BooksView) (edits : Edits) (new : BooksView) : Type 0 where
   pub answers : List (Result Taken Wanting)
-  pub turns : AreTurns 0 old answers new
+  pub turns : ArePenTurns 0 old answers new
   pub all : length answers ≡ length old.desks
   pub count : edits.edits ≡ sum_by edits_in answers
   pub memory : edits.memory ≡ list_any is_wanting answers

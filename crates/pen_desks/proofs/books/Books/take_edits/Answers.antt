@@ -2,7 +2,7 @@ use Rattle.std.proofs.Common.{◌≡◌, ◌+◌, ◌||◌, [], ◌∷◌, ◌++
 use Rattle.std.specs.List.{sum_by}
 use Rattle.std.proofs.lemmas.List.{length-append}
 use Rattle.std.proofs.lemmas.List.Sums.{sum_by-append}
-use Rattle.pen_desks.specs.Taking.{IsTurn, HaveTakenEdits, edits_in, is_wanting}
+use Rattle.pen_desks.specs.Taking.{IsPenTurn, HaveTakenEdits, edits_in, is_wanting}
 use Rattle.pen_desks.proofs.Rounds.{turns_more, none_taken, more_taken, one_taken, pens_through, any_more}
 use Rattle.pen_desks.proofs.Rounds.{turn_of, at_most_one}
 use Rattle.pen_desks.proofs.Taking.{same_pens}
@@ -38,7 +38,7 @@ loop-pen-preserved c =
       turns = (
         answers ++ answer ∷ [],
         turns_more 0 start old new answers answer so_far.turns.1
-            (subst (λ n. IsTurn n old answer new) (sym here) turn),
+            (subst (λ n. IsPenTurn n old answer new) (sym here) turn),
         (let l = length-append answers (answer ∷ []) in omega (arith, l, length_is)),
         omega (arith, sum, sums, before, last),
         c.and-edits.ensures.memory
