@@ -11,6 +11,7 @@ ghost use Rattle.shot_chain.specs.Words.{last_by};
 ghost use Rattle.core_dispatch.specs.Dispatching.{core_by};
 ghost use Rattle.studio.specs.Following.{Follows};
 
+use crate::images::Images;
 use core_dispatch::Dispatcher;
 use grid_core::Grid;
 use pen_desks::Refusal;
@@ -30,6 +31,8 @@ pub struct Keeper {
     pub(crate) alloc: Global,
     pub(crate) dispatcher: Dispatcher,
     pub(crate) publisher: Publisher,
+    // What makes copies of the core's image for shots.
+    pub(crate) images: Images,
     // What all shots share.
     pub(crate) mask: Arc<Grid>,
     // Whether the strokes are those of the last shot, and whether the image is that of the last shot.

@@ -27,6 +27,7 @@
 //! `specs/Closing.antt`.
 
 mod closed;
+mod images;
 mod keeper;
 mod opening;
 mod refused;

@@ -80,6 +80,7 @@ impl Keeper {
             alloc: _,
             dispatcher,
             publisher,
+            images: _,
             mask: _,
             has_state: _,
             has_image: _,

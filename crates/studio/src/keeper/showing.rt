@@ -10,6 +10,7 @@ ghost use Rattle.studio.specs.declared.refused.OpenError.TheVariants as errors;
 ghost use Rattle.studio.specs.Opening.{IsFirst, AreEyesOf, ShowsTheSame};
 
 use super::Keeper;
+use crate::images::Images;
 use crate::refused::OpenError;
 use core_dispatch::Dispatcher;
 use grid_core::{Grid, Memory};
@@ -36,7 +37,8 @@ impl Keeper {
         let Ok(mask) = copy_of(alloc, dispatcher.core().mask()) else {
             return Err(dispatcher);
         };
-        let Ok(shot) = first_shot(alloc, &mask, dispatcher.core()) else {
+        let mut images = Images::new(alloc);
+        let Ok(shot) = first_shot(alloc, &mut images, &mask, dispatcher.core()) else {
             return Err(dispatcher);
         };
         match Publisher::open(rt, alloc, shot, eyes) {
@@ -44,6 +46,7 @@ impl Keeper {
                 alloc,
                 dispatcher,
                 publisher,
+                images,
                 mask,
                 has_state: true,
                 has_image: true,
@@ -81,23 +84,24 @@ impl Keeper {
         ensures books { books_of self.new ≡ books_of self.old }
         ensures owner { owner_of self.new ≡ owner_of self.old }
     {
-        let shot = self.next_shot()?;
+        let image = self.next_image()?;
+        let shot = self.next_shot(image)?;
         let told = self.publisher.show(rt, shot)?;
         self.has_state = true;
         self.has_image = true;
         Ok(told)
     }
 
-    // A shot of the core as it is.
+    // A shot of the core as it is, whose image is this.
     //
     // Errors: out of memory.
-    fn next_shot(&self) -> Result<Shot, Memory>
+    fn next_shot(&self, image: Arc<Grid>) -> Result<Shot, Memory>
+        requires { arc_value image ≡ (core_of self.now).image }
         ensures shot { IfOk result (IsShotOf (core_of self.now)) }
         ensures sound { IfOk result IsSound }
     {
         let mask = Arc::try_clone(&self.mask)?;
         let state = self.next_state()?;
-        let image = self.next_image()?;
         Ok(shot_of(self.dispatcher.core(), mask, state, image))
     }
 
@@ -116,13 +120,15 @@ impl Keeper {
     // The image of the core: that of the last shot, where it is the same.
     //
     // Errors: out of memory.
-    fn next_image(&self) -> Result<Arc<Grid>, Memory>
-        ensures { IfOk result (λ image. arc_value image ≡ (core_of self.now).image) }
+    fn next_image(&mut self) -> Result<Arc<Grid>, Memory>
+        ensures image { IfOk result (λ image. arc_value image ≡ (core_of self.old).image) }
+        ensures dispatcher { self.new.dispatcher ≡ self.old.dispatcher }
+        ensures publisher { self.new.publisher ≡ self.old.publisher }
     {
         if self.has_image {
             return Ok(Arc::try_clone(self.publisher.last().image())?);
         }
-        copy_of(self.alloc, self.dispatcher.core().image())
+        self.images.copy(self.dispatcher.core().image())
     }
 }
 
@@ -173,14 +179,19 @@ fn strokes_of(alloc: Global, core: &Core) -> Result<Arc<State>, Memory>
 // The first shot of a core.
 //
 // Errors: out of memory.
-fn first_shot(alloc: Global, mask: &Arc<Grid>, core: &Core) -> Result<Shot, Memory>
+fn first_shot(
+    alloc: Global,
+    images: &mut Images,
+    mask: &Arc<Grid>,
+    core: &Core,
+) -> Result<Shot, Memory>
     requires { arc_value mask.now ≡ core.now.mask }
     ensures shot { IfOk result (IsShotOf core.now) }
     ensures sound { IfOk result IsSound }
 {
     let shared = Arc::try_clone(mask)?;
     let state = strokes_of(alloc, core)?;
-    let image = copy_of(alloc, core.image())?;
+    let image = images.copy(core.image())?;
     Ok(shot_of(core, shared, state, image))
 }
 

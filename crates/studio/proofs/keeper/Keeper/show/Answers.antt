@@ -1,0 +1,14 @@
+use Rattle.std.proofs.Common.{[], ◌∷◌, ◌++◌, ap, subst, ◌∙◌}
+use Rattle.core_dispatch.specs.Dispatching.{core_by}
+use Rattle.shot_chain.specs.Words.{shown_by}
+use Rattle.studio.specs.Keeping.{IsShotOf}
+use Rattle.studio.proofs.keeper.Keeper.show.Goals as goal
+
+pub returns-clause-shown : goal.returns-clause-shown
+returns-clause-shown g c =
+    let shot = c.in_ok-shot.shot in
+    let same = c.in_ok-image.ensures in (
+      shot,
+      subst (λ d. IsShotOf (core_by d) shot) same.dispatcher c.in_ok-shot.ensures.shot,
+      c.in_ok-told.ensures.chain ∙ ap (λ p. shown_by p ++ shot ∷ []) same.publisher,
+    )
