@@ -1,6 +1,6 @@
 //! The words of the command line.
 
-use anyhow::{Context, Result, bail};
+use anyhow::{Context, Result};
 use std::env;
 use std::rt::Env;
 
@@ -8,7 +8,7 @@ const USAGE: &str =
     "usage: thread_bench settle HANDS SIDE | parts SIDE | show COUNT | watch COUNT [--times] < input";
 
 /// What is measured.
-#[derive(Clone, Copy, Debug)]
+#[derive(Clone, Copy)]
 pub enum Mode {
     /// How fast so many hands in threads settle a core with tiles of this side; with none it settles by itself.
     Settle { hands: usize, side: u32 },
@@ -21,7 +21,7 @@ pub enum Mode {
 }
 
 /// What the program is called to do.
-#[derive(Clone, Copy, Debug)]
+#[derive(Clone, Copy)]
 pub struct Call {
     /// What is measured.
     pub mode: Mode,
@@ -35,41 +35,45 @@ impl Call {
     /// Errors: usage; words that are no text; out of memory.
     pub fn read(rt: &(impl Env + AllocGlobal)) -> Result<Call> {
         let words: Vec<String> = env::args(rt)?.collect(rt.alloc())?;
-        Call::parse(&words)
+        Call::parse(&words).context(USAGE)
     }
 
     // Reads words, of which the first is the program's name.
-    fn parse(words: &[String]) -> Result<Call> {
-        let mode = match words.get(1).context(USAGE)?.as_str() {
-            "settle" => Mode::Settle {
+    fn parse(words: &[String]) -> Option<Call> {
+        let mode = Mode::parse(words)?;
+        let with_times = words.last()?.as_str() == "--times";
+        Some(Call { mode, with_times })
+    }
+}
+
+impl Mode {
+    // Reads words, of which the first is the program's name.
+    fn parse(words: &[String]) -> Option<Mode> {
+        match words.get(1)?.as_str() {
+            "settle" => Some(Mode::Settle {
                 hands: count_at(words, 2)?,
                 side: side_at(words, 3)?,
-            },
-            "parts" => Mode::Parts {
+            }),
+            "parts" => Some(Mode::Parts {
                 side: side_at(words, 2)?,
-            },
-            "show" => Mode::Show {
+            }),
+            "show" => Some(Mode::Show {
                 count: count_at(words, 2)?,
-            },
-            "watch" => Mode::Watch {
+            }),
+            "watch" => Some(Mode::Watch {
                 count: count_at(words, 2)?,
-            },
-            _ => bail!(USAGE),
-        };
-        let with_times = match words.last() {
-            Some(word) => word.as_str() == "--times",
-            None => false,
-        };
-        Ok(Call { mode, with_times })
+            }),
+            _ => None,
+        }
     }
 }
 
 // The count at this place.
-fn count_at(words: &[String], place: usize) -> Result<usize> {
-    Ok(words.get(place).context(USAGE)?.parse::<usize>()?)
+fn count_at(words: &[String], place: usize) -> Option<usize> {
+    words.get(place)?.parse::<usize>().ok()
 }
 
 // The side of tiles at this place.
-fn side_at(words: &[String], place: usize) -> Result<u32> {
-    Ok(words.get(place).context(USAGE)?.parse::<u32>()?)
+fn side_at(words: &[String], place: usize) -> Option<u32> {
+    words.get(place)?.parse::<u32>().ok()
 }

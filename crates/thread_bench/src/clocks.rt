@@ -1,32 +1,45 @@
-//! Clocks, whose errors are carried up.
+//! Clocks. What a clock tells that can not be read is zero.
 
-use anyhow::Result;
 use std::time::{Clock, CpuClock, Duration, Instant};
 
-/// Now.
-///
-/// Errors: a clock that can not be read.
-pub fn now(rt: &impl Clock) -> Result<Instant> {
-    Ok(Instant::now(rt)?)
+/// A clock that is read lap by lap.
+#[derive(Clone, Copy)]
+pub struct Laps {
+    // When the lap began; None where the clock could not be read.
+    start: Option<Instant>,
 }
 
-/// The time since this moment.
-///
-/// Errors: a clock that can not be read.
-pub fn since(rt: &impl Clock, start: Instant) -> Result<Duration> {
-    Ok(start.elapsed(rt)?)
+impl Laps {
+    /// The first lap begins now.
+    pub fn begin(rt: &impl Clock) -> Laps {
+        Laps {
+            start: Instant::now(rt).ok(),
+        }
+    }
+
+    /// What the lap took until now. The next one begins.
+    pub fn lap(&mut self, rt: &impl Clock) -> Duration {
+        let start = self.start;
+        self.start = Instant::now(rt).ok();
+        match (start, self.start) {
+            (Some(start), Some(end)) => end.duration_since(start),
+            _ => Duration::ZERO,
+        }
+    }
 }
 
 /// The processor time of this thread.
-///
-/// Errors: a clock that can not be read.
-pub fn thread_time(rt: &impl CpuClock) -> Result<Duration> {
-    Ok(rt.thread_cpu_time()?)
+pub fn thread_time(rt: &impl CpuClock) -> Duration {
+    match rt.thread_cpu_time() {
+        Ok(time) => time,
+        Err(_) => Duration::ZERO,
+    }
 }
 
 /// The processor time of all threads.
-///
-/// Errors: a clock that can not be read.
-pub fn process_time(rt: &impl CpuClock) -> Result<Duration> {
-    Ok(rt.process_cpu_time()?)
+pub fn process_time(rt: &impl CpuClock) -> Duration {
+    match rt.process_cpu_time() {
+        Ok(time) => time,
+        Err(_) => Duration::ZERO,
+    }
 }

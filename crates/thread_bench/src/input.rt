@@ -1,10 +1,11 @@
 //! The edits and the mask of an input, and cores on it.
 
+use crate::fault::{Fault, MEMORY};
 use anyhow::{Context, Result};
 use grid_core::Conn;
 use paint_session::input::split;
 use pgm_codec::{Image, Source, read_all};
-use reset_core::{Core, CoreError};
+use reset_core::Core;
 use std::alloc::Global;
 use stroke_lattice::Delta;
 
@@ -35,26 +36,51 @@ impl Input {
         Ok(Input { edits, mask })
     }
 
-    /// A core on the mask with tiles of this side, into which all edits but the last ones, so many, are merged, and
-    /// those last edits.
+    /// Takes the last edits, so many, out of the input.
+    ///
+    /// Errors: out of memory.
+    pub fn take_last(&mut self, last: usize) -> Result<Vec<Delta>, Fault> {
+        let before = self.edits.len().saturating_sub(last);
+        match self.edits.split_off(before) {
+            Ok(edits) => Ok(edits),
+            Err(_) => Err(MEMORY),
+        }
+    }
+
+    /// A core on the mask with tiles of this side, into which all edits are merged.
     ///
     /// Errors: a bad side; those of merging; out of memory.
-    pub fn open(self, alloc: Global, side: u32, last: usize) -> Result<(Core, Vec<Delta>)> {
-        let Input { mut edits, mask } = self;
-        let before = edits.len().saturating_sub(last);
-        let measured = edits.split_off(before)?;
+    pub fn open(self, alloc: Global, side: u32) -> Result<Core, Fault> {
+        let Input { edits, mask } = self;
         let mut core = core_on(alloc, mask, side)?;
-        for edit in &edits {
-            core.merge(alloc, edit)?;
+        match merge_all(alloc, &mut core, &edits) {
+            Ok(()) => Ok(core),
+            Err(fault) => {
+                drop(core);
+                Err(fault)
+            }
         }
-        Ok((core, measured))
     }
 }
 
 // A core on the mask, which it takes over.
-fn core_on(alloc: Global, mask: Image, side: u32) -> Result<Core, CoreError> {
+fn core_on(alloc: Global, mask: Image, side: u32) -> Result<Core, Fault> {
     match Core::over(alloc, mask.into_grid(), Conn::Four, side, 0) {
         Ok(core) => Ok(core),
-        Err(refused) => Err(refused.why),
+        Err(refused) => {
+            let why = refused.why;
+            drop(refused);
+            Err(Fault(why.code()))
+        }
     }
+}
+
+// Merges the edits in order.
+fn merge_all(alloc: Global, core: &mut Core, edits: &[Delta]) -> Result<(), Fault> {
+    for edit in edits {
+        if let Err(why) = core.merge(alloc, edit) {
+            return Err(Fault(why.code()));
+        }
+    }
+    Ok(())
 }

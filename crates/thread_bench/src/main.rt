@@ -30,6 +30,7 @@
 
 mod call;
 mod clocks;
+mod fault;
 mod input;
 mod opening;
 mod parts;
@@ -38,7 +39,7 @@ mod showing;
 mod sums;
 mod watching;
 
-use anyhow::Result;
+use anyhow::{Result, bail};
 use call::{Call, Mode};
 use input::Input;
 use pgm_codec::StdSource;
@@ -49,12 +50,16 @@ const SIDE: u32 = 64;
 fn main(rt: HostRuntime) -> Result<()> {
     let call = Call::read(&rt)?;
     let input = Input::read(rt.alloc(), &mut StdSource::new(rt.stdin()))?;
-    match call.mode {
+    let measured = match call.mode {
         Mode::Settle { hands, side } => {
             settling::measure(&rt, input, hands, side, call.with_times)
         }
         Mode::Parts { side } => parts::measure(&rt, input, side, call.with_times),
         Mode::Show { count } => showing::measure(&rt, input, count, call.with_times),
         Mode::Watch { count } => watching::measure(&rt, input, count, call.with_times),
+    };
+    match measured {
+        Ok(()) => Ok(()),
+        Err(fault) => bail!(fault.0),
     }
 }

@@ -1,13 +1,13 @@
 //! What the parts of a job take in one thread.
 
-use crate::clocks::now;
+use crate::clocks::Laps;
+use crate::fault::{Fault, MEMORY, WORK_LEFT};
 use crate::input::Input;
-use crate::sums::{print_number, sum_of_image};
-use anyhow::{Result, bail};
+use crate::sums::{print_number, printed, sum_of_image};
 use core_rules::Back;
 use reset_core::Core;
 use std::alloc::Global;
-use std::time::{Clock, Duration, Instant};
+use std::time::{Clock, Duration};
 use steal_pool::{Hand, Open, Owner, Pool, Report, Turn};
 use tile_generations::{Job, Swept};
 
@@ -29,20 +29,29 @@ struct Parts {
 /// jobs are taken, pushed, swept by a hand and given back, and hints are handed over. Prints a sum of the image, and
 /// where asked for how many jobs there were, and the time of each part, in nanoseconds.
 ///
-/// Errors: those of merging; out of memory; a clock that can not be read; standard output that can not be written.
+/// Errors: those of merging; out of memory; standard output that can not be written.
 pub fn measure(
     rt: &(impl Clock + Print + AllocGlobal),
     input: Input,
     side: u32,
     with_times: bool,
-) -> Result<()> {
-    let (mut core, _) = input.open(rt.alloc(), side, 0)?;
-    let parts = work_off(rt, &mut core)?;
-    print_number(rt, sum_of_image(&core))?;
-    if with_times {
-        parts.print(rt)?;
+) -> Result<(), Fault> {
+    let mut core = input.open(rt.alloc(), side)?;
+    let measured = measure_core(rt, &mut core, with_times);
+    drop(core);
+    measured
+}
+
+// The same of a core.
+fn measure_core(
+    rt: &(impl Clock + Print + AllocGlobal),
+    core: &mut Core,
+    with_times: bool,
+) -> Result<(), Fault> {
+    match work_off(rt, core) {
+        Ok(parts) => parts.print_all(rt, sum_of_image(core), with_times),
+        Err(fault) => Err(fault),
     }
-    Ok(())
 }
 
 impl Parts {
@@ -58,9 +67,27 @@ impl Parts {
         }
     }
 
+    // These and others.
+    fn and(self, others: Parts) -> Parts {
+        Parts {
+            jobs: self.jobs.wrapping_add(others.jobs),
+            take: self.take.saturating_add(others.take),
+            push: self.push.saturating_add(others.push),
+            sweep: self.sweep.saturating_add(others.sweep),
+            give: self.give.saturating_add(others.give),
+            hint: self.hint.saturating_add(others.hint),
+        }
+    }
+
+    // Writes the sum on a line, and where asked for the parts on another.
+    fn print_all(&self, out: &impl Print, sum: u64, with_times: bool) -> Result<(), Fault> {
+        print_number(out, sum)?;
+        if with_times { self.print(out) } else { Ok(()) }
+    }
+
     // Writes it on a line.
-    fn print(&self, out: &impl Print) -> Result<()> {
-        println!(out;
+    fn print(&self, out: &impl Print) -> Result<(), Fault> {
+        printed(println!(out;
             "{} {} {} {} {} {}",
             self.jobs,
             self.take.as_nanos(),
@@ -68,21 +95,34 @@ impl Parts {
             self.sweep.as_nanos(),
             self.give.as_nanos(),
             self.hint.as_nanos()
-        )?;
-        Ok(())
+        ))
     }
 }
 
 // Opens a pool, and makes rounds until no work is left.
-fn work_off(rt: &(impl Clock + AllocGlobal), core: &mut Core) -> Result<Parts> {
+fn work_off(rt: &(impl Clock + AllocGlobal), core: &mut Core) -> Result<Parts, Fault> {
+    match Pool::open(rt.alloc(), 1, ROUND) {
+        Ok(pool) => work_off_in(rt, core, pool),
+        Err(_) => Err(MEMORY),
+    }
+}
+
+// Makes rounds in the pool until no work is left.
+fn work_off_in(
+    rt: &(impl Clock + AllocGlobal),
+    core: &mut Core,
+    pool: Pool,
+) -> Result<Parts, Fault> {
     let Pool {
         mut owner,
         mut hands,
-    } = Pool::open(rt.alloc(), 1, ROUND)?;
-    match hands.first_mut() {
+    } = pool;
+    let parts = match hands.first_mut() {
         Some(hand) => make_rounds(rt, core, &mut owner, hand),
-        None => bail!("there is no hand"),
-    }
+        None => Err(Fault("there is no hand")),
+    };
+    drop(owner);
+    parts
 }
 
 // Makes rounds until no work is left.
@@ -91,15 +131,15 @@ fn make_rounds(
     core: &mut Core,
     owner: &mut Owner,
     hand: &mut Hand,
-) -> Result<Parts> {
+) -> Result<Parts, Fault> {
     let mut parts = Parts::none();
     for _ in 0..u64::MAX {
         if core.is_quiet() {
             return Ok(parts);
         }
-        round(rt, core, owner, hand, &mut parts)?;
+        parts = parts.and(round(rt, core, owner, hand)?);
     }
-    bail!("work is left")
+    Err(WORK_LEFT)
 }
 
 // Takes jobs, pushes them, sweeps them, gives them back and hands the hints over, each part by itself.
@@ -108,50 +148,68 @@ fn round(
     core: &mut Core,
     owner: &mut Owner,
     hand: &mut Hand,
-    parts: &mut Parts,
-) -> Result<()> {
+) -> Result<Parts, Fault> {
     let alloc = rt.alloc();
-    let start = now(rt)?;
+    let mut laps = Laps::begin(rt);
     let jobs = take_jobs(alloc, core)?;
-    let taken = now(rt)?;
+    let take = laps.lap(rt);
     let count = push_all(core, owner, jobs);
-    let pushed = now(rt)?;
+    let push = laps.lap(rt);
     sweep_all(hand);
-    let swept = now(rt)?;
+    let sweep = laps.lap(rt);
     take_reports(alloc, core, owner);
-    let given = now(rt)?;
+    let give = laps.lap(rt);
     hand_all(core);
-    let handed = now(rt)?;
-    parts.jobs = parts.jobs.wrapping_add(count);
-    parts.take = add(parts.take, start, taken);
-    parts.push = add(parts.push, taken, pushed);
-    parts.sweep = add(parts.sweep, pushed, swept);
-    parts.give = add(parts.give, swept, given);
-    parts.hint = add(parts.hint, given, handed);
-    Ok(())
-}
-
-// The sum, and what lies between two moments.
-fn add(sum: Duration, from: Instant, to: Instant) -> Duration {
-    sum.saturating_add(to.duration_since(from))
+    let hint = laps.lap(rt);
+    Ok(Parts {
+        jobs: count,
+        take,
+        push,
+        sweep,
+        give,
+        hint,
+    })
 }
 
 // Takes the jobs of tiles that are dirty and not out, in rising order, as many as a round has.
 //
 // Errors: out of memory.
-fn take_jobs(alloc: Global, core: &mut Core) -> Result<Vec<Job>> {
+fn take_jobs(alloc: Global, core: &mut Core) -> Result<Vec<Job>, Fault> {
     let mut jobs = Vec::new(alloc);
+    match take_into(alloc, core, &mut jobs) {
+        Ok(()) => Ok(jobs),
+        Err(fault) => Err(fault),
+    }
+}
+
+// Takes jobs into a list.
+fn take_into(alloc: Global, core: &mut Core, jobs: &mut Vec<Job>) -> Result<(), Fault> {
     let mut from = 0;
     for _ in 0..ROUND {
         let Some(tile) = core.next_dirty(from) else {
-            break;
+            return Ok(());
         };
         from = tile.saturating_add(1);
-        if let Some(job) = core.take(alloc, tile)? {
-            jobs.push(job)?;
-        }
+        take_tile(alloc, core, tile, jobs)?;
     }
-    Ok(jobs)
+    Ok(())
+}
+
+// Takes the job of a tile, where there is one.
+fn take_tile(
+    alloc: Global,
+    core: &mut Core,
+    tile: usize,
+    jobs: &mut Vec<Job>,
+) -> Result<(), Fault> {
+    match core.take(alloc, tile) {
+        Ok(Some(job)) => match jobs.push(job) {
+            Ok(()) => Ok(()),
+            Err(_) => Err(MEMORY),
+        },
+        Ok(None) => Ok(()),
+        Err(_) => Err(MEMORY),
+    }
 }
 
 // Pushes the jobs in order, and says how many were pushed. One that finds no place is abandoned.

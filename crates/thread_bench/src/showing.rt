@@ -1,10 +1,10 @@
 //! What a show takes, after an edit and after none.
 
-use crate::clocks::{now, since};
+use crate::clocks::Laps;
+use crate::fault::{Fault, MEMORY, WORK_LEFT};
 use crate::input::Input;
-use crate::opening::{open_settled, turn};
-use crate::sums::{print_number, sum_of_image};
-use anyhow::{Result, bail};
+use crate::opening::{end, open_settled, submit, turn};
+use crate::sums::{print_number, printed};
 use std::sync::Wait;
 use std::time::{Clock, Duration};
 use steal_pool::{Hand, Open, Turn};
@@ -22,73 +22,113 @@ struct Shows {
 /// shown, and then the core is shown again. Prints a sum of the image at the end, and where asked for what each of the
 /// shows took, in nanoseconds.
 ///
-/// Errors: those of merging; out of memory; a clock that can not be read; standard output that can not be written.
+/// Errors: those of merging; out of memory; standard output that can not be written.
 pub fn measure<R: Wait + Clock + Print + AllocGlobal>(
     rt: &R,
     input: Input,
     count: usize,
     with_times: bool,
-) -> Result<()> {
-    let (mut studio, edits) = open_settled(rt, input, count, 1)?;
-    let shown = show_each(rt, &mut studio, edits);
+) -> Result<(), Fault> {
+    let mut input = input;
+    let edits = input.take_last(count)?;
+    let studio = open_settled(rt, input, 1)?;
+    let mut shown = Vec::new(rt.alloc());
+    let sum = show_in(rt, studio, edits, &mut shown)?;
+    print_all(rt, sum, &shown, with_times)
+}
+
+// Prints the sum, and where asked for a line for each edit.
+fn print_all(out: &impl Print, sum: u64, shown: &[Shows], with_times: bool) -> Result<(), Fault> {
+    print_number(out, sum)?;
+    if with_times {
+        print_each(out, shown)
+    } else {
+        Ok(())
+    }
+}
+
+// Prints a line for each edit.
+fn print_each(out: &impl Print, shown: &[Shows]) -> Result<(), Fault> {
+    for shows in shown {
+        printed(println!(out;
+            "{} {}",
+            shows.after_edit.as_nanos(),
+            shows.after_none.as_nanos()
+        ))?;
+    }
+    Ok(())
+}
+
+// Shows each edit in the studio, ends it, and gives the sum of its image at the end.
+fn show_in<R: Wait + Clock>(
+    rt: &R,
+    studio: Studio,
+    edits: Vec<Delta>,
+    shown: &mut Vec<Shows>,
+) -> Result<u64, Fault> {
+    let mut studio = studio;
+    let result = show_each(rt, &mut studio, edits, shown);
+    let sum = end(rt, keeper_of(studio));
+    match result {
+        Ok(()) => Ok(sum),
+        Err(fault) => Err(fault),
+    }
+}
+
+// The keeper of a studio, whose pens, hands and eyes are let go.
+fn keeper_of(studio: Studio) -> Keeper {
     let Studio {
         keeper,
         pens: _,
         hands: _,
         eyes: _,
     } = studio;
-    let sum = sum_of_image(&keeper.end(rt));
-    let shown = shown?;
-    print_number(rt, sum)?;
-    if with_times {
-        print_each(rt, &shown)?;
-    }
-    Ok(())
-}
-
-// Prints a line for each edit.
-fn print_each(out: &impl Print, shown: &[Shows]) -> Result<()> {
-    for shows in shown {
-        println!(out;
-            "{} {}",
-            shows.after_edit.as_nanos(),
-            shows.after_none.as_nanos()
-        )?;
-    }
-    Ok(())
+    keeper
 }
 
 // Submits each edit, works it off, and shows the core twice.
-fn show_each<R: Wait + Clock + AllocGlobal>(
+fn show_each<R: Wait + Clock>(
     rt: &R,
     studio: &mut Studio,
     edits: Vec<Delta>,
-) -> Result<Vec<Shows>> {
-    let mut shown = Vec::new(rt.alloc());
+    shown: &mut Vec<Shows>,
+) -> Result<(), Fault> {
     for edit in edits {
-        let shows = show_one(rt, studio, edit)?;
-        shown.push(shows)?;
+        show_one(rt, studio, edit, shown)?;
     }
-    Ok(shown)
+    Ok(())
 }
 
 // Submits an edit, works it off, and shows the core twice.
-fn show_one<R: Wait + Clock>(rt: &R, studio: &mut Studio, edit: Delta) -> Result<Shows> {
-    let (Some(pen), Some(hand)) = (studio.pens.first_mut(), studio.hands.first_mut()) else {
-        bail!("there is no pen, or no hand");
-    };
-    if pen.submit(edit).is_err() {
-        bail!("the pen's ring is full");
+fn show_one<R: Wait + Clock>(
+    rt: &R,
+    studio: &mut Studio,
+    edit: Delta,
+    shown: &mut Vec<Shows>,
+) -> Result<(), Fault> {
+    submit(&mut studio.pens, edit)?;
+    work_off(studio)?;
+    let after_edit = time_of_show(rt, &mut studio.keeper)?;
+    let after_none = time_of_show(rt, &mut studio.keeper)?;
+    match shown.push(Shows {
+        after_edit,
+        after_none,
+    }) {
+        Ok(()) => Ok(()),
+        Err(_) => Err(MEMORY),
     }
-    work_off(&mut studio.keeper, hand)?;
-    Ok(Shows {
-        after_edit: time_of_show(rt, &mut studio.keeper)?,
-        after_none: time_of_show(rt, &mut studio.keeper)?,
-    })
 }
 
 // Makes turns of the keeper and of the hand until no work is left.
-fn work_off(keeper: &mut Keeper, hand: &mut Hand) -> Result<()> {
+fn work_off(studio: &mut Studio) -> Result<(), Fault> {
+    match studio.hands.first_mut() {
+        Some(hand) => make_turns(&mut studio.keeper, hand),
+        None => Err(Fault("there is no hand")),
+    }
+}
+
+// Makes turns of the keeper and of the hand until no work is left.
+fn make_turns(keeper: &mut Keeper, hand: &mut Hand) -> Result<(), Fault> {
     for _ in 0..u64::MAX {
         turn(keeper)?;
         if keeper.core().is_quiet() {
@@ -96,7 +136,7 @@ fn work_off(keeper: &mut Keeper, hand: &mut Hand) -> Result<()> {
         }
         sweep_all(hand);
     }
-    bail!("work is left")
+    Err(WORK_LEFT)
 }
 
 // Makes turns of the hand until it has nothing to sweep, or its ring is full.
@@ -110,8 +150,10 @@ fn sweep_all(hand: &mut Hand) {
 }
 
 // What a show takes.
-fn time_of_show<R: Wait + Clock>(rt: &R, keeper: &mut Keeper) -> Result<Duration> {
-    let start = now(rt)?;
-    let _told = keeper.show(rt)?;
-    since(rt, start)
+fn time_of_show<R: Wait + Clock>(rt: &R, keeper: &mut Keeper) -> Result<Duration, Fault> {
+    let mut laps = Laps::begin(rt);
+    match keeper.show(rt) {
+        Ok(_) => Ok(laps.lap(rt)),
+        Err(_) => Err(MEMORY),
+    }
 }

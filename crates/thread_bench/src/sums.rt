@@ -1,7 +1,8 @@
-//! Sums of images, by which they are compared.
+//! Sums of images, by which they are compared, and numbers that are printed.
 
-use anyhow::Result;
+use crate::fault::Fault;
 use reset_core::Core;
+use std::io;
 
 /// The sum of the core's image by the rule FNV-1a, of whole pixels row by row.
 pub fn sum_of_image(core: &Core) -> u64 {
@@ -15,7 +16,16 @@ pub fn sum_of_image(core: &Core) -> u64 {
 /// Prints a number on a line.
 ///
 /// Errors: standard output that can not be written.
-pub fn print_number(out: &impl Print, number: u64) -> Result<()> {
-    println!(out; "{}", number)?;
-    Ok(())
+pub fn print_number(out: &impl Print, number: u64) -> Result<(), Fault> {
+    printed(println!(out; "{}", number))
+}
+
+/// Whether a line was printed.
+///
+/// Errors: standard output that can not be written.
+pub fn printed(line: io::Result<()>) -> Result<(), Fault> {
+    match line {
+        Ok(()) => Ok(()),
+        Err(_) => Err(Fault("standard output can not be written")),
+    }
 }
