@@ -5,10 +5,11 @@ ghost use Rattle.studio.specs.Keeping.{books_of};
 ghost use Rattle.studio_tests.specs.Company.{AreOf, KeepDesks, KeepsCompany};
 
 use crate::pictures::{core_over, disc, withdrawn};
-use crate::scene::{close, open, turn};
+use crate::scene::{close, keeper_and_pens, open, turn};
 use core_rules::CoreError;
 use grid_core::{Conn, Grid, TILE_SIDE};
 use pen_desks::{Full, Pen, Refusal};
+use reset_core::Core;
 use std::alloc::Global;
 use std::sync::Wait;
 use std::sync::atomic::{AtomicBool, Ordering};
@@ -17,7 +18,7 @@ use std::thread;
 use std::thread::{Threads, join_mut};
 use stroke_core::Tag;
 use stroke_lattice::{Delta, State};
-use studio::{Closed, Keeper, Studio};
+use studio::{Closed, Keeper};
 
 // How many pens there are, and how many edits each submits.
 const PENS: usize = 16;
@@ -148,47 +149,51 @@ fn draws_and_closes<R: Threads + Wait + Sync>(
 {
     let (mut keeper, mut pens) = (keeper, pens);
     let drawn = together(rt, alloc, &mut keeper, &mut pens);
-    let closed = close(rt, alloc, keeper, pens)?;
-    if drawn { Some(closed) } else { None }
+    drawn.then_some(close(rt, alloc, keeper, pens)?)
+}
+
+// A core on a plain mask.
+fn plain_core(alloc: Global) -> Option<Core> {
+    let mask = Grid::new(alloc, 64, 16, 9).ok()?;
+    core_over(alloc, mask, Conn::Four, TILE_SIDE, 0)
 }
 
 // A studio of sixteen pens, from its opening to its end.
 fn crowd<R: Threads + Wait + Sync>(rt: &R, alloc: Global) -> Option<Closed> {
-    let mask = Grid::new(alloc, 64, 16, 9).ok()?;
-    let core = core_over(alloc, mask, Conn::Four, TILE_SIDE, 0)?;
-    let Studio {
-        keeper,
-        pens,
-        hands: _,
-        eyes: _,
-    } = open(rt, alloc, core, PENS, 1, 1)?;
+    let core = plain_core(alloc)?;
+    let studio = open(rt, alloc, core, PENS, 1, 1)?;
+    let (keeper, pens) = keeper_and_pens(studio);
     draws_and_closes(rt, alloc, keeper, pens)
 }
 
 // Merges the edits of a pen that are to be merged.
 fn merge_edits(alloc: Global, state: &mut State, pen: usize) -> bool {
+    let mut are_all = true;
     for number in 0..EACH {
         if number % 5 < 3 {
-            let Some(delta) = edit(alloc, pen, number) else {
-                return false;
-            };
-            if state.merge(alloc, &delta).is_err() {
-                return false;
-            }
+            are_all = are_all & merge_edit(alloc, state, edit(alloc, pen, number));
         }
     }
-    true
+    are_all
+}
+
+// Merges an edit, if it is there, and says whether there was memory.
+fn merge_edit(alloc: Global, state: &mut State, delta: Option<Delta>) -> bool {
+    match delta {
+        Some(delta) => state.merge(alloc, &delta).is_ok(),
+        None => false,
+    }
 }
 
 // The join of all edits that are to be merged.
 fn all_merged(alloc: Global) -> Option<State> {
     let mut state = State::empty(alloc).ok()?;
+    let mut are_all = true;
     for pen in 0..PENS {
-        if !merge_edits(alloc, &mut state, pen) {
-            return None;
-        }
+        let merged = merge_edits(alloc, &mut state, pen);
+        are_all = are_all & merged;
     }
-    Some(state)
+    if are_all { Some(state) } else { None }
 }
 
 // Whether this is the refusal of the edit of this number.
@@ -217,15 +222,23 @@ fn are_listed(refusals: &[Refusal]) -> bool {
     next == [EACH + 3; PENS]
 }
 
+// Whether a studio was closed, with those refusals and the join of the other edits.
+fn has_taken_each(closed: Option<Closed>, state: &State) -> bool {
+    match closed {
+        Some(closed) => {
+            let is_right = are_listed(&closed.refusals) & closed.core.state().is_same(state);
+            drop(closed);
+            is_right
+        }
+        None => false,
+    }
+}
+
 #[test]
 fn each_edit_of_sixteen_pens_is_taken_once(rt: HostRuntime) -> Result<(), Fail> {
-    let Some(closed) = crowd(&rt, rt.alloc()) else {
-        return Err(Fail::new("the studio is not closed"));
-    };
     let Some(state) = all_merged(rt.alloc()) else {
         return Err(Fail::new("out of memory"));
     };
-    assert!(rt; are_listed(&closed.refusals));
-    assert!(rt; closed.core.state().is_same(&state));
+    assert!(rt; has_taken_each(crowd(&rt, rt.alloc()), &state));
     Ok(())
 }

@@ -24,11 +24,8 @@ fn refused<R: Wait>(
     }
 }
 
-#[test]
-fn a_studio_has_1_to_16_of_each(rt: HostRuntime) -> Result<(), Fail> {
-    let Some(mut core) = core_on_row(rt.alloc(), 0) else {
-        return Err(Fail::new("out of memory"));
-    };
+// Whether no counts but 1 to 16 are taken, and what comes back of the core.
+fn all_refused<R: Wait>(rt: &R, alloc: Global, core: Core) -> (Core, bool) {
     let bad = [
         (0, 1, 1),
         (17, 1, 1),
@@ -37,16 +34,36 @@ fn a_studio_has_1_to_16_of_each(rt: HostRuntime) -> Result<(), Fail> {
         (1, 1, 0),
         (1, 1, 17),
     ];
+    let mut core = core;
+    let mut are_all = true;
     for counts in bad {
-        let (returned, is_right) = refused(&rt, rt.alloc(), core, counts);
-        assert!(rt; is_right && returned.image().cells().len() == 5);
+        let (returned, is_right) = refused(rt, alloc, core, counts);
         core = returned;
+        are_all = are_all & is_right & (core.image().cells().len() == 5);
     }
-    let Some(studio) = open(&rt, rt.alloc(), core, 16, 16, 16) else {
-        return Err(Fail::new("a studio of 16 each"));
+    (core, are_all)
+}
+
+// Whether there is a studio of 16 each, and its core is that of one tile.
+fn opens_with_16<R: Wait>(rt: &R, alloc: Global, core: Core) -> bool {
+    match open(rt, alloc, core, 16, 16, 16) {
+        Some(studio) => {
+            let counts = (studio.pens.len(), studio.hands.len(), studio.eyes.len());
+            let core = end(rt, studio);
+            let tiles = core.tiles();
+            drop(core);
+            (counts == (16, 16, 16)) & (tiles == 1)
+        }
+        None => false,
+    }
+}
+
+#[test]
+fn a_studio_has_1_to_16_of_each(rt: HostRuntime) -> Result<(), Fail> {
+    let Some(core) = core_on_row(rt.alloc(), 0) else {
+        return Err(Fail::new("out of memory"));
     };
-    let counts = (studio.pens.len(), studio.hands.len(), studio.eyes.len());
-    let core = end(&rt, studio);
-    assert!(rt; counts == (16, 16, 16) && core.tiles() == 1);
+    let (core, are_refused) = all_refused(&rt, rt.alloc(), core);
+    assert!(rt; are_refused & opens_with_16(&rt, rt.alloc(), core));
     Ok(())
 }

@@ -1,10 +1,11 @@
 //! Pens, hands and eyes whose keeper has ended.
 
 use crate::pictures::dot;
-use crate::scene::{open_row, submits, turns};
+use crate::scene::{open_row, stop, submits, turns};
 use pen_desks::Pen;
 use shot_chain::Eye;
 use std::alloc::Global;
+use std::sync::Wait;
 use std::test::Fail;
 use steal_pool::{Hand, Open, Turn};
 use studio::Studio;
@@ -12,12 +13,17 @@ use studio::Studio;
 // Whether a pen submits 63 edits, and then finishes without its books.
 fn goes_on(alloc: Global, pens: Vec<Pen>) -> bool {
     let mut pens = pens;
+    let mut are_all = true;
     for tag in 2..65u8 {
-        if !submits(&mut pens, 0, dot(alloc, u128::from(tag), 9, 1)) {
-            return false;
-        }
+        let submitted = submits(&mut pens, 0, dot(alloc, u128::from(tag), 9, 1));
+        are_all = are_all & submitted;
     }
-    match pens.pop() {
+    are_all & ends_without_books(pens.pop())
+}
+
+// Whether there is a pen, and it finishes without its books.
+fn ends_without_books(pen: Option<Pen>) -> bool {
+    match pen {
         Some(pen) => pen.finish().is_none(),
         None => false,
     }
@@ -27,30 +33,42 @@ fn goes_on(alloc: Global, pens: Vec<Pen>) -> bool {
 fn works_on(hands: &mut Vec<Hand>) -> bool {
     match hands.get_mut(0) {
         Some(hand) => {
-            matches!(hand.turn(&Open), Turn::Worked(_)) && hand.turn(&Open) == Turn::Idle
+            matches!(hand.turn(&Open), Turn::Worked(_)) & (hand.turn(&Open) == Turn::Idle)
         }
         None => false,
     }
 }
 
-// Whether an eye looks in vain, twice.
-fn looks_in_vain(eyes: &mut Vec<Eye>) -> bool {
-    match eyes.pop() {
-        Some(eye) => match eye.look() {
-            Ok(glimpse) => {
-                let _eye = glimpse.leave();
-                false
-            }
-            Err(eye) => match eye.look() {
-                Ok(glimpse) => {
-                    let _eye = glimpse.leave();
-                    false
-                }
-                Err(_) => true,
-            },
-        },
-        None => false,
+// The eye, where it looked in vain.
+fn looks_in_vain(eye: Eye) -> Option<Eye> {
+    match eye.look() {
+        Ok(glimpse) => {
+            let _eye = glimpse.leave();
+            None
+        }
+        Err(eye) => Some(eye),
     }
+}
+
+// Whether pens, hands and eyes go on as they should after the keeper has ended.
+fn outlive<R: Wait>(rt: &R, alloc: Global, studio: Studio) -> bool {
+    let Studio {
+        mut keeper,
+        mut pens,
+        mut hands,
+        mut eyes,
+    } = studio;
+    let submitted = submits(&mut pens, 0, dot(alloc, 1, 9, 1));
+    let turned = turns(&mut keeper, 1, 0, 1);
+    stop(rt, keeper);
+    let have_ended = goes_on(alloc, pens);
+    let has_worked = works_on(&mut hands);
+    let has_looked = eyes
+        .pop()
+        .and_then(looks_in_vain)
+        .and_then(looks_in_vain)
+        .is_some();
+    submitted & turned & have_ended & has_worked & has_looked
 }
 
 #[test]
@@ -58,18 +76,6 @@ fn who_takes_part_outlives_the_keeper(rt: HostRuntime) -> Result<(), Fail> {
     let Some(studio) = open_row(&rt, rt.alloc(), 1, 1) else {
         return Err(Fail::new("out of memory"));
     };
-    let Studio {
-        mut keeper,
-        mut pens,
-        mut hands,
-        mut eyes,
-    } = studio;
-    let submitted = submits(&mut pens, 0, dot(rt.alloc(), 1, 9, 1));
-    let turned = turns(&mut keeper, 1, 0, 1);
-    keeper.end(&rt);
-    assert!(rt; submitted && turned);
-    assert!(rt; goes_on(rt.alloc(), pens));
-    assert!(rt; works_on(&mut hands));
-    assert!(rt; looks_in_vain(&mut eyes));
+    assert!(rt; outlive(&rt, rt.alloc(), studio));
     Ok(())
 }

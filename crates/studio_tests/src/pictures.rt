@@ -73,7 +73,10 @@ pub fn is_grown(alloc: Global, core: &Core) -> bool {
 /// Whether a core settles on what grows from its strokes, and its image is then this one.
 pub fn settles_on(alloc: Global, core: Core, image: &[u16]) -> bool {
     let mut core = core;
-    core.settle(alloc).is_ok() && core.image().cells() == image && is_grown(alloc, &core)
+    let settled = core.settle(alloc).is_ok();
+    let is_right = settled & (core.image().cells() == image) & is_grown(alloc, &core);
+    drop(core);
+    is_right
 }
 
 /// Whether this stroke of a core is live.

@@ -14,7 +14,9 @@ use reset_core::Core;
 use shot_chain::Told;
 use std::alloc::Global;
 use std::sync::Wait;
+use std::sync::atomic::AtomicBool;
 use std::thread;
+use std::thread::Scope;
 use steal_pool::{Gate, Hand, Turn};
 use stroke_lattice::Delta;
 use studio::{Closed, Keeper, NotClosed, Studio};
@@ -32,7 +34,10 @@ pub fn open<R: Wait>(
 {
     match Studio::open(rt, alloc, core, pens, hands, eyes) {
         Ok(studio) => Some(studio),
-        Err(_) => None,
+        Err(refused) => {
+            drop(refused);
+            None
+        }
     }
 }
 
@@ -57,6 +62,20 @@ pub fn submits(pens: &mut Vec<Pen>, number: usize, delta: Option<Delta>) -> bool
     pens[number].submit(delta).is_ok()
 }
 
+/// The keeper and the pens of a studio.
+pub fn keeper_and_pens(studio: Studio) -> (Keeper, Vec<Pen>)
+    requires { IsCompany studio }
+    ensures { AreOf result.1.items (books_of result.0) }
+{
+    let Studio {
+        keeper,
+        pens,
+        hands: _,
+        eyes: _,
+    } = studio;
+    (keeper, pens)
+}
+
 /// Ends a studio, and gives its core.
 pub fn end<R: Wait>(rt: &R, studio: Studio) -> Core {
     let Studio {
@@ -66,6 +85,17 @@ pub fn end<R: Wait>(rt: &R, studio: Studio) -> Core {
         eyes: _,
     } = studio;
     keeper.end(rt)
+}
+
+/// Ends a studio, and lets its core go.
+pub fn stop<R: Wait>(rt: &R, keeper: Keeper) {
+    drop(keeper.end(rt));
+}
+
+/// Ends a studio in which something went wrong. The answer is no.
+pub fn gives_up<R: Wait>(rt: &R, keeper: Keeper) -> bool {
+    stop(rt, keeper);
+    false
 }
 
 // Finishes a pen, puts what is left of it into the list, and says whether its books are still there.
@@ -110,7 +140,7 @@ pub fn close<R: Wait>(rt: &R, alloc: Global, keeper: Keeper, pens: Vec<Pen>) -> 
     match finished(alloc, pens) {
         Some(ends) => close_with(rt, keeper, ends),
         None => {
-            keeper.end(rt);
+            stop(rt, keeper);
             None
         }
     }
@@ -122,17 +152,21 @@ pub fn close_with<R: Wait>(rt: &R, keeper: Keeper, ends: Vec<PenEnd>) -> Option<
 {
     match keeper.close(rt, ends) {
         Ok(closed) => Some(closed),
-        Err(
-            NotClosed {
-                keeper,
-                ends: _,
-                why: _,
-            },
-        ) => {
-            keeper.end(rt);
+        Err(not_closed) => {
+            end_open(rt, not_closed);
             None
         }
     }
+}
+
+// Ends a studio that was not closed.
+fn end_open<R: Wait>(rt: &R, not_closed: NotClosed) {
+    let NotClosed {
+        keeper,
+        ends: _,
+        why: _,
+    } = not_closed;
+    stop(rt, keeper);
 }
 
 /// A turn of the keeper.
@@ -162,7 +196,8 @@ pub fn turns(keeper: &mut Keeper, edits: u64, results: u64, jobs: u64) -> bool
     ensures { KeepsCompany keeper.old keeper.new }
 {
     let turned = turn(keeper);
-    turned.edits == edits && turned.results == results && turned.jobs == jobs && !turned.memory
+    let is_right = (turned.edits == edits) & (turned.results == results) & (turned.jobs == jobs);
+    is_right & !turned.memory
 }
 
 /// Makes turns until one takes a report, for a while, and says whether one did.
@@ -178,7 +213,7 @@ pub fn turns_until_a_report(keeper: &mut Keeper) -> bool {
 
 // Whether a turn did nothing.
 fn is_idle(turned: &Turned) -> bool {
-    turned.edits == 0 && turned.results == 0 && turned.jobs == 0
+    (turned.edits == 0) & (turned.results == 0) & (turned.jobs == 0)
 }
 
 /// Makes turns until no work is left, for a while, and says whether none is.
@@ -195,6 +230,20 @@ pub fn turns_until_quiet(keeper: &mut Keeper) -> bool
         }
     }
     false
+}
+
+/// Lets a hand work in a thread of the scope until the flag is set. It says whether there are a hand and a thread.
+pub fn starts<'s, E, R: Wait + Sync, G: Gate + Sync>(
+    rt: &'s R,
+    scope: &Scope<'s, E>,
+    hand: Option<Hand>,
+    gate: &'s G,
+    flag: &'s AtomicBool,
+) -> bool {
+    match hand {
+        Some(mut hand) => scope.spawn(move || hand.run(rt, gate, flag)).is_ok(),
+        None => false,
+    }
 }
 
 /// The first answer of a hand that is not `Idle`, for a while: where two hands steal in the same moment, one gets

@@ -1,7 +1,7 @@
 //! Turns, all in one thread.
 
-ghost use Rattle.std.specs.Prelude.{◌≡◌};
-ghost use Rattle.shot_chain.specs.Words.{eye_studio};
+ghost use Rattle.std.specs.Prelude.{◌≡◌, IfSome};
+ghost use Rattle.shot_chain.specs.Words.{eye_studio, told_studio};
 ghost use Rattle.studio.specs.Keeping.{studio_of};
 ghost use Rattle.studio_tests.specs.Company.{IsCompany, KeepsCompany};
 
@@ -10,32 +10,44 @@ use crate::pictures::{
 };
 use crate::scene::{close, end, open, open_row, show, submits, turns, turns_until_quiet};
 use grid_core::{Conn, Grid, TILE_SIDE};
+use pen_desks::{Full, Pen};
 use reset_core::Core;
-use shot_chain::{Eye, Glimpse};
+use shot_chain::{Eye, Glimpse, Told};
 use std::alloc::Global;
 use std::sync::Wait;
 use std::test::Fail;
 use steal_pool::{Hand, Open, Turn};
 use stroke_core::{Run, Stroke, Tag};
+use stroke_lattice::Delta;
 use studio::{Closed, Keeper, Studio};
 
-// Whether a turn of the hand sweeps the first tile, of this generation.
-fn sweeps(hand: &mut Hand, generation: u64) -> bool {
+// Whether a turn of the first hand sweeps the first tile, of this generation.
+fn sweeps(hands: &mut Vec<Hand>, generation: u64) -> bool {
+    let Some(hand) = hands.get_mut(0) else {
+        return false;
+    };
     match hand.turn(&Open) {
-        Turn::Worked(ticket) => ticket.tile == 0 && ticket.generation == generation,
+        Turn::Worked(ticket) => (ticket.tile == 0) & (ticket.generation == generation),
         _ => false,
     }
 }
 
+// Whether this is what the first hand answers to a turn.
+fn answers(hands: &mut Vec<Hand>, answer: Turn) -> bool {
+    match hands.get_mut(0) {
+        Some(hand) => hand.turn(&Open) == answer,
+        None => false,
+    }
+}
+
 // Whether one edit is taken, its job is swept, and its result is joined.
-fn takes_and_joins(keeper: &mut Keeper, hand: &mut Hand) -> bool
+fn takes_and_joins(keeper: &mut Keeper, hands: &mut Vec<Hand>) -> bool
     ensures { KeepsCompany keeper.old keeper.new }
 {
     let pushed = turns(keeper, 1, 0, 1);
-    let swept = sweeps(hand, 0);
+    let swept = sweeps(hands, 0);
     let joined = turns(keeper, 0, 1, 0);
-    let is_idle = hand.turn(&Open) == Turn::Idle;
-    pushed & swept & joined & is_idle
+    pushed & swept & joined & answers(hands, Turn::Idle)
 }
 
 // Whether the image that is glimpsed is this row.
@@ -48,8 +60,12 @@ fn is_of_grown_row(glimpse: &Glimpse) -> bool {
     glimpse.quiet() && has_row(glimpse, GROWN) && glimpse.state().is_live(Tag(1))
 }
 
-// Whether the eye sees that.
-fn sees_grown_row(eye: Eye) -> bool {
+// Whether the eye, once it learns of a show, sees that.
+fn sees_grown_row(eye: Eye, told: Told) -> bool
+    requires { told_studio told ≡ eye_studio eye }
+{
+    let mut eye = eye;
+    eye.learn(told);
     match eye.look() {
         Ok(glimpse) => {
             let is_right = is_of_grown_row(&glimpse);
@@ -60,8 +76,11 @@ fn sees_grown_row(eye: Eye) -> bool {
     }
 }
 
-// Whether the look succeeds.
-fn looks(eye: Eye) -> bool {
+// Whether there is an eye, and its look succeeds.
+fn looks(eye: Option<Eye>) -> bool {
+    let Some(eye) = eye else {
+        return false;
+    };
     match eye.look() {
         Ok(glimpse) => {
             let _eye = glimpse.leave();
@@ -71,33 +90,24 @@ fn looks(eye: Eye) -> bool {
     }
 }
 
-// Whether the core is shown, and an eye that learns of it sees what grew in the row.
-fn shows_grown_row<R: Wait>(rt: &R, keeper: &mut Keeper, eye: Eye) -> bool
-    requires { eye_studio eye ≡ studio_of keeper.old }
+// Whether the core is shown, and there is an eye that sees what grew in the row once it learns of it.
+fn shows_grown_row<R: Wait>(rt: &R, keeper: &mut Keeper, eye: Option<Eye>) -> bool
+    requires { IfSome eye (λ eye. eye_studio eye ≡ studio_of keeper.old) }
     ensures { KeepsCompany keeper.old keeper.new }
 {
-    let mut eye = eye;
-    let Some(told) = show(rt, keeper) else {
+    let Some(eye) = eye else {
         return false;
     };
-    eye.learn(told);
-    sees_grown_row(eye)
-}
-
-// Whether an edit that waits is swept, and then shown to the eye.
-fn sweeps_and_shows<R: Wait>(rt: &R, keeper: &mut Keeper, hand: &mut Hand, eye: Eye) -> bool
-    requires { eye_studio eye ≡ studio_of keeper.old }
-    ensures { KeepsCompany keeper.old keeper.new }
-{
-    let swept = takes_and_joins(keeper, hand);
-    let shown = shows_grown_row(rt, keeper, eye);
-    swept & shown
+    match show(rt, keeper) {
+        Some(told) => sees_grown_row(eye, told),
+        None => false,
+    }
 }
 
 // Whether the studio was closed without refusals, on a core that settles on this row.
 fn is_closed_on(alloc: Global, closed: Option<Closed>, row: &[u16]) -> bool {
     match closed {
-        Some(Closed { core, refusals }) => refusals.len() == 0 && settles_on(alloc, core, row),
+        Some(Closed { core, refusals }) => (refusals.len() == 0) & settles_on(alloc, core, row),
         None => false,
     }
 }
@@ -112,45 +122,63 @@ fn one_edit<R: Wait>(rt: &R, alloc: Global, studio: Studio) -> bool
         mut hands,
         mut eyes,
     } = studio;
-    let (Some(mut hand), Some(eye), Some(other)) = (hands.pop(), eyes.pop(), eyes.pop()) else {
-        keeper.end(rt);
-        return false;
-    };
     let submitted = submits(&mut pens, 0, dot(alloc, 1, 9, 1));
-    let shown = sweeps_and_shows(rt, &mut keeper, &mut hand, eye);
-    let looked = looks(other);
+    let swept = takes_and_joins(&mut keeper, &mut hands);
+    let shown = shows_grown_row(rt, &mut keeper, eyes.pop());
+    let looked = looks(eyes.pop());
     let closed = close(rt, alloc, keeper, pens);
-    submitted && shown && looked && is_closed_on(alloc, closed, GROWN)
+    submitted & swept & shown & looked & is_closed_on(alloc, closed, GROWN)
+}
+
+// A studio on the row, with two eyes.
+fn open_for_two_eyes<R: Wait>(rt: &R, alloc: Global) -> Option<Studio>
+    ensures { IfSome result IsCompany }
+{
+    let core = core_on_row(alloc, 0)?;
+    open(rt, alloc, core, 1, 1, 2)
 }
 
 #[test]
 fn an_edit_is_swept_and_shown(rt: HostRuntime) -> Result<(), Fail> {
-    let Some(core) = core_on_row(rt.alloc(), 0) else {
-        return Err(Fail::new("out of memory"));
-    };
-    let Some(studio) = open(&rt, rt.alloc(), core, 1, 1, 2) else {
+    let Some(studio) = open_for_two_eyes(&rt, rt.alloc()) else {
         return Err(Fail::new("out of memory"));
     };
     assert!(rt; one_edit(&rt, rt.alloc(), studio));
     Ok(())
 }
 
+// Whether a pen's first 64 edits find a place.
+fn fills(alloc: Global, pens: &mut Vec<Pen>) -> bool {
+    let mut are_all = true;
+    for tag in 0..64u8 {
+        let submitted = submits(pens, 0, dot(alloc, u128::from(tag), 9, 1));
+        are_all = are_all & submitted;
+    }
+    are_all
+}
+
+// The edit, where it is there and the first pen gives it back.
+fn given_back(pens: &mut Vec<Pen>, delta: Option<Delta>) -> Option<Delta> {
+    let pen = pens.get_mut(0)?;
+    match pen.submit(delta?) {
+        Ok(()) => None,
+        Err(Full(back)) => Some(back),
+    }
+}
+
+// Whether an edit that was given back is still the same, and finds a place where another one was taken.
+fn finds_a_place(studio: &mut Studio, back: Delta) -> bool {
+    let is_same = back.has_stroke(Tag(64)) & !back.has_stroke(Tag(63));
+    let turned = turns(&mut studio.keeper, 1, 0, 1);
+    is_same & turned & submits(&mut studio.pens, 0, Some(back))
+}
+
 // Whether a pen's first 64 edits find a place, and the next one does where one of them was taken.
 fn is_full_once(alloc: Global, studio: &mut Studio) -> bool {
-    for tag in 0..64u8 {
-        if !submits(&mut studio.pens, 0, dot(alloc, u128::from(tag), 9, 1)) {
-            return false;
-        }
-    }
-    let (Some(pen), Some(delta)) = (studio.pens.get_mut(0), dot(alloc, 64, 9, 1)) else {
-        return false;
-    };
-    match pen.submit(delta) {
-        Ok(()) => false,
-        Err(full) => {
-            let is_same = full.0.has_stroke(Tag(64)) && !full.0.has_stroke(Tag(63));
-            is_same && turns(&mut studio.keeper, 1, 0, 1) && pen.submit(full.0).is_ok()
-        }
+    let filled = fills(alloc, &mut studio.pens);
+    match given_back(&mut studio.pens, dot(alloc, 64, 9, 1)) {
+        Some(back) => filled & finds_a_place(studio, back),
+        None => false,
     }
 }
 
@@ -161,7 +189,9 @@ fn a_full_ring_takes_an_edit_after_a_turn(rt: HostRuntime) -> Result<(), Fail> {
     };
     let is_right = is_full_once(rt.alloc(), &mut studio);
     let core = end(&rt, studio);
-    assert!(rt; is_right && core.state().has_stroke(Tag(0)));
+    let has_first = core.state().has_stroke(Tag(0));
+    drop(core);
+    assert!(rt; is_right & has_first);
     Ok(())
 }
 
@@ -179,47 +209,39 @@ fn many_tiles(alloc: Global) -> Option<Grid> {
     Some(mask)
 }
 
-// A stroke of those pixels.
-fn many_pixels(alloc: Global) -> Option<Stroke> {
+// The edit that places a stroke of those pixels.
+fn many_pixels(alloc: Global) -> Option<Delta> {
     let mut runs = Vec::new(alloc);
-    for tile in 0..64u16 {
-        let x = tile * 64;
-        runs.push(Run { y: 0, x0: x, x1: x }).ok()?;
+    for tile in 0..65u16 {
+        // The last one is that of the first tile below.
+        let (x, y) = if tile < 64 { (tile * 64, 0) } else { (0, 64) };
+        runs.push(Run { y, x0: x, x1: x }).ok()?;
     }
-    runs.push(Run {
-        y: 64,
-        x0: 0,
-        x1: 0,
-    })
-    .ok()?;
-    Stroke::new(9, runs).ok()
+    let stroke = Stroke::new(9, runs).ok()?;
+    placed(alloc, 1, stroke)
 }
 
-// Whether so many turns of the hand sweep a tile each.
-fn works(hand: &mut Hand, count: u64) -> bool {
+// Whether so many turns of the first hand sweep a tile each.
+fn works(hands: &mut Vec<Hand>, count: u64) -> bool {
+    let Some(hand) = hands.get_mut(0) else {
+        return false;
+    };
+    let mut are_all = true;
     for _ in 0..count {
-        if !matches!(hand.turn(&Open), Turn::Worked(_)) {
-            return false;
-        }
+        are_all = are_all & matches!(hand.turn(&Open), Turn::Worked(_));
     }
-    true
+    are_all
 }
 
 // Whether the hand holds its last report until one is taken.
 fn holds_a_report(alloc: Global, studio: &mut Studio) -> bool {
-    let delta = match many_pixels(alloc) {
-        Some(stroke) => placed(alloc, 1, stroke),
-        None => None,
-    };
-    let Some(hand) = studio.hands.get_mut(0) else {
-        return false;
-    };
-    submits(&mut studio.pens, 0, delta)
-        && turns(&mut studio.keeper, 1, 0, 65)
-        && works(hand, 64)
-        && hand.turn(&Open) == Turn::RingFull
-        && turns(&mut studio.keeper, 0, 1, 0)
-        && hand.turn(&Open) == Turn::Idle
+    let submitted = submits(&mut studio.pens, 0, many_pixels(alloc));
+    let pushed = turns(&mut studio.keeper, 1, 0, 65);
+    let worked = works(&mut studio.hands, 64);
+    let is_full = answers(&mut studio.hands, Turn::RingFull);
+    let joined = turns(&mut studio.keeper, 0, 1, 0);
+    let is_idle = answers(&mut studio.hands, Turn::Idle);
+    (submitted & pushed & worked & is_full & joined & is_idle)
         && turns_until_quiet(&mut studio.keeper)
 }
 
@@ -237,7 +259,9 @@ fn a_hand_holds_a_report_while_its_ring_is_full(rt: HostRuntime) -> Result<(), F
     };
     let is_right = holds_a_report(rt.alloc(), &mut studio);
     let core = end(&rt, studio);
-    assert!(rt; is_right && is_grown(rt.alloc(), &core));
+    let has_grown = is_grown(rt.alloc(), &core);
+    drop(core);
+    assert!(rt; is_right & has_grown);
     Ok(())
 }
 
@@ -246,32 +270,36 @@ fn is_row(core: &Core, row: &[u16]) -> bool {
     core.image().cells() == row
 }
 
-// Makes turns of hand and keeper until no work is left, for a while.
-fn works_until_quiet(keeper: &mut Keeper, hand: &mut Hand) -> bool {
+// Makes turns of the first hand and the keeper, as many as surely leave no work, and says whether none is left.
+fn works_until_quiet(keeper: &mut Keeper, hands: &mut Vec<Hand>) -> bool {
+    let Some(hand) = hands.get_mut(0) else {
+        return false;
+    };
     for _ in 0..100u64 {
         let _worked = hand.turn(&Open);
         let _turned = keeper.turn();
-        if keeper.core().is_quiet() {
-            return true;
-        }
     }
-    false
+    keeper.core().is_quiet()
+}
+
+// Whether a stroke is swept, and before its result is taken the stroke is withdrawn and another one submitted.
+fn changes_after_a_sweep(alloc: Global, studio: &mut Studio) -> bool {
+    let submitted = submits(&mut studio.pens, 0, dot(alloc, 1, 9, 1));
+    let pushed = turns(&mut studio.keeper, 1, 0, 1);
+    let swept = sweeps(&mut studio.hands, 0);
+    let back = submits(&mut studio.pens, 0, withdrawn(alloc, 1));
+    let other = submits(&mut studio.pens, 1, dot(alloc, 2, 3, 4));
+    submitted & pushed & swept & back & other
 }
 
 // Whether a result that comes after a withdrawal is stale, and the tile is swept again.
 fn sweeps_again(alloc: Global, studio: &mut Studio) -> bool {
-    let Some(hand) = studio.hands.get_mut(0) else {
-        return false;
-    };
-    submits(&mut studio.pens, 0, dot(alloc, 1, 9, 1))
-        && turns(&mut studio.keeper, 1, 0, 1)
-        && sweeps(hand, 0)
-        && submits(&mut studio.pens, 0, withdrawn(alloc, 1))
-        && submits(&mut studio.pens, 1, dot(alloc, 2, 3, 4))
-        && turns(&mut studio.keeper, 2, 1, 1)
-        && is_row(studio.keeper.core(), &[0, 0, 0, 0, 3])
-        && sweeps(hand, 1)
-        && works_until_quiet(&mut studio.keeper, hand)
+    let changed = changes_after_a_sweep(alloc, studio);
+    let is_stale = turns(&mut studio.keeper, 2, 1, 1);
+    let is_bare = is_row(studio.keeper.core(), &[0, 0, 0, 0, 3]);
+    let swept = sweeps(&mut studio.hands, 1);
+    let is_quiet = works_until_quiet(&mut studio.keeper, &mut studio.hands);
+    changed & is_stale & is_bare & swept & is_quiet
 }
 
 #[test]
@@ -281,18 +309,21 @@ fn a_late_result_is_stale(rt: HostRuntime) -> Result<(), Fail> {
     };
     let is_right = sweeps_again(rt.alloc(), &mut studio);
     let core = end(&rt, studio);
-    assert!(rt; is_right && is_row(&core, &[2, 2, 2, 3, 3]) && is_grown(rt.alloc(), &core));
+    let has_grown = is_row(&core, &[2, 2, 2, 3, 3]) & is_grown(rt.alloc(), &core);
+    drop(core);
+    assert!(rt; is_right & has_grown);
     Ok(())
 }
 
 // Whether a job is recalled once, and pushed again.
 fn recalls(alloc: Global, studio: &mut Studio) -> bool {
-    submits(&mut studio.pens, 0, dot(alloc, 1, 9, 1))
-        && turns(&mut studio.keeper, 1, 0, 1)
-        && studio.keeper.recall() == 1
-        && studio.keeper.recall() == 0
-        && turns(&mut studio.keeper, 0, 0, 1)
-        && turns(&mut studio.keeper, 0, 0, 0)
+    let submitted = submits(&mut studio.pens, 0, dot(alloc, 1, 9, 1));
+    let pushed = turns(&mut studio.keeper, 1, 0, 1);
+    let recalled = studio.keeper.recall();
+    let more = studio.keeper.recall();
+    let pushed_again = turns(&mut studio.keeper, 0, 0, 1);
+    let is_idle = turns(&mut studio.keeper, 0, 0, 0);
+    submitted & pushed & (recalled == 1) & (more == 0) & pushed_again & is_idle
 }
 
 #[test]
@@ -302,6 +333,6 @@ fn a_recalled_job_is_pushed_again(rt: HostRuntime) -> Result<(), Fail> {
     };
     let is_right = recalls(rt.alloc(), &mut studio);
     let core = end(&rt, studio);
-    assert!(rt; is_right && settles_on(rt.alloc(), core, GROWN));
+    assert!(rt; is_right & settles_on(rt.alloc(), core, GROWN));
     Ok(())
 }

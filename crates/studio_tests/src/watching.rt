@@ -1,7 +1,7 @@
 //! Eyes that look in threads of their own, while a keeper takes edits and shows the core.
 
 use crate::pictures::{core_over, disc, grown};
-use crate::scene::{open, submits};
+use crate::scene::{open, starts, stop, submits};
 use grid_core::{Conn, Grid};
 use pen_desks::Pen;
 use reset_core::Core;
@@ -11,7 +11,7 @@ use std::sync::atomic::{AtomicBool, AtomicU64, Ordering};
 use std::sync::{Arc, Wait};
 use std::test::Fail;
 use std::thread;
-use std::thread::Threads;
+use std::thread::{Scope, Threads};
 use steal_pool::{Hand, Open};
 use stroke_lattice::State;
 use studio::{Keeper, Studio};
@@ -46,31 +46,42 @@ fn note(
         Some(before) => before.is_below(glimpse.state()),
         None => true,
     };
-    if !is_above || !is_sound(alloc, glimpse) {
-        found.wrong.fetch_add(1, Ordering::SeqCst);
-    }
-    if glimpse.quiet() {
-        found.quiet.fetch_add(1, Ordering::SeqCst);
-    }
+    let is_right = is_above & is_sound(alloc, glimpse);
+    found
+        .wrong
+        .fetch_add(u64::from(!is_right), Ordering::SeqCst);
+    found
+        .quiet
+        .fetch_add(u64::from(glimpse.quiet()), Ordering::SeqCst);
     Arc::try_clone(glimpse.shot().state()).ok()
+}
+
+// Looks once, notes what is glimpsed, and gives the eye back. The strokes are those that are seen, before and after.
+fn look(
+    alloc: Global,
+    eye: Option<Eye>,
+    strokes: &mut Option<Arc<State>>,
+    found: &Found,
+) -> Option<Eye> {
+    match eye?.look() {
+        Ok(glimpse) => {
+            *strokes = note(alloc, &glimpse, strokes.take(), found);
+            Some(glimpse.leave())
+        }
+        Err(_) => {
+            found.wrong.fetch_add(1, Ordering::SeqCst);
+            None
+        }
+    }
 }
 
 // Looks again and again, until the keeper is done, and once more.
 fn watch(alloc: Global, eye: Eye, found: &Found) {
-    let mut eye = eye;
-    let mut before = None;
+    let mut eye = Some(eye);
+    let mut strokes = None;
     for _ in 0..100_000_000u64 {
         let is_last = found.done.load(Ordering::SeqCst);
-        match eye.look() {
-            Ok(glimpse) => {
-                before = note(alloc, &glimpse, before, found);
-                eye = glimpse.leave();
-            }
-            Err(_) => {
-                found.wrong.fetch_add(1, Ordering::SeqCst);
-                return;
-            }
-        }
+        eye = look(alloc, eye, &mut strokes, found);
         if is_last {
             return;
         }
@@ -79,13 +90,13 @@ fn watch(alloc: Global, eye: Eye, found: &Found) {
 
 // Whether the pen submits strokes, of which each is seen in a place of its own.
 fn submit_discs(alloc: Global, pens: &mut Vec<Pen>) -> bool {
+    let mut are_all = true;
     for number in 0..40u16 {
         let stroke = disc(alloc, u128::from(number), 3, number * 3 + 4, 60, 2);
-        if !submits(pens, 0, stroke) {
-            return false;
-        }
+        let submitted = submits(pens, 0, stroke);
+        are_all = are_all & submitted;
     }
-    true
+    are_all
 }
 
 // Makes turns and shows the core after each, until it is quiet and no edit comes.
@@ -103,7 +114,15 @@ fn shows_each<R: Wait>(rt: &R, keeper: &mut Keeper) -> bool {
     false
 }
 
-// Lets a hand work and eyes look while the keeper shows.
+// Lets an eye look in a thread of the scope. It says whether there are an eye and a thread.
+fn watches<'s, E>(alloc: Global, scope: &Scope<'s, E>, eye: Option<Eye>, found: &'s Found) -> bool {
+    match eye {
+        Some(eye) => scope.spawn(move || watch(alloc, eye, found)).is_ok(),
+        None => false,
+    }
+}
+
+// Lets a hand work and four eyes look while the keeper shows.
 fn shown<R: Threads + Wait + Sync>(
     rt: &R,
     alloc: Global,
@@ -112,19 +131,11 @@ fn shown<R: Threads + Wait + Sync>(
     eyes: &mut Vec<Eye>,
     found: &Found,
 ) -> bool {
-    let Some(mut hand) = hands.pop() else {
-        return false;
-    };
-    thread::scope(thread::scope_env(), rt, move |scope| {
-        let mut begun = scope
-            .spawn(move || hand.run(rt, &Open, &found.done))
-            .is_ok();
+    thread::scope(thread::scope_env(), rt, |scope| {
+        let mut begun = starts(rt, scope, hands.pop(), &Open, &found.done);
         for _ in 0..4u64 {
-            begun = begun
-                && match eyes.pop() {
-                    Some(eye) => scope.spawn(move || watch(alloc, eye, found)).is_ok(),
-                    None => false,
-                };
+            let looks = watches(alloc, scope, eyes.pop(), found);
+            begun = begun & looks;
         }
         let is_shown = begun && shows_each(rt, keeper);
         found.done.store(true, Ordering::SeqCst);
@@ -141,36 +152,37 @@ fn core_of_plates(alloc: Global) -> Option<Core> {
     core_over(alloc, mask, Conn::Eight, 48, 0)
 }
 
-// What four eyes saw.
-fn seen<R: Threads + Wait + Sync>(rt: &R, alloc: Global, studio: Studio) -> Option<Found> {
+// A studio on that core, with four eyes.
+fn open_on_plates<R: Wait>(rt: &R, alloc: Global) -> Option<Studio> {
+    let core = core_of_plates(alloc)?;
+    open(rt, alloc, core, 1, 1, 4)
+}
+
+// Whether the core is shown to all eyes of a studio while one of its hands works. What they find is noted.
+fn shows<R: Threads + Wait + Sync>(rt: &R, alloc: Global, studio: Studio, found: &Found) -> bool {
     let Studio {
         mut keeper,
         mut pens,
         mut hands,
         mut eyes,
     } = studio;
+    let submitted = submit_discs(alloc, &mut pens);
+    let is_shown = shown(rt, alloc, &mut keeper, &mut hands, &mut eyes, found);
+    stop(rt, keeper);
+    submitted & is_shown
+}
+
+#[test]
+fn four_eyes_never_go_back(rt: HostRuntime) -> Result<(), Fail> {
+    let Some(studio) = open_on_plates(&rt, rt.alloc()) else {
+        return Err(Fail::new("out of memory"));
+    };
     let found = Found {
         quiet: AtomicU64::new(0),
         wrong: AtomicU64::new(0),
         done: AtomicBool::new(false),
     };
-    let is_shown = submit_discs(alloc, &mut pens)
-        && shown(rt, alloc, &mut keeper, &mut hands, &mut eyes, &found);
-    keeper.end(rt);
-    if is_shown { Some(found) } else { None }
-}
-
-#[test]
-fn four_eyes_never_go_back(rt: HostRuntime) -> Result<(), Fail> {
-    let Some(core) = core_of_plates(rt.alloc()) else {
-        return Err(Fail::new("out of memory"));
-    };
-    let Some(studio) = open(&rt, rt.alloc(), core, 1, 1, 4) else {
-        return Err(Fail::new("out of memory"));
-    };
-    let Some(found) = seen(&rt, rt.alloc(), studio) else {
-        return Err(Fail::new("the core was not shown"));
-    };
+    assert!(rt; shows(&rt, rt.alloc(), studio, &found));
     assert!(rt; found.wrong.load(Ordering::SeqCst) == 0);
     assert!(rt; found.quiet.load(Ordering::SeqCst) >= 4);
     Ok(())
