@@ -16,12 +16,12 @@ use Rattle.stroke_core.specs.Seed.{Seed, Fits}
 use Rattle.stroke_lattice.specs.State.{State, SomeHasStroke, StateFits, IsJoinOf}
 use Rattle.stroke_lattice.specs.Pieces.{pieces_of}
 use Rattle.paint_session.specs.Kept.{print_of, deltas_of, IsFrameFor, FileSpells, FileIsOfAnother, OldIsRefused}
-use Rattle.paint_session.specs.Kept.{IsImageKept, IsKeptView, KeptStops}
+use Rattle.paint_session.specs.Kept.{IsImageKept, IsKeptView, IsGathered, KeptStops}
 use Rattle.paint_session.specs.Merging.{AreMerged}
 use Rattle.paint_session.specs.View.{InputSpells, DeltasAreRefused, DeltasHalt}
 use Rattle.paint_session.specs.RunError.{IsReadingFault}
 use Rattle.paint_session.specs.declared.run_error.RunError.{RunError}
-use Rattle.paint_session.specs.declared.run_error.RunError.TheVariants.{Pgm, Spd, OtherMask}
+use Rattle.paint_session.specs.declared.run_error.RunError.TheVariants.{Pgm, Spd, OtherMask, Memory}
 use Rattle.paint_session.proofs.Refusals.{refused_behind, refused_at_no_device, no_delta_is_a_device}
 use Rattle.paint_session.proofs.Refusals.{halts_at_no_device}
 
@@ -142,6 +142,12 @@ file_stops conn print old input mask deltas e is-print spells (inr (inl fault)) 
 file_stops conn print old input mask deltas e is-print spells (inr (inr (is, other))) =
     inl (refused_behind (OldIsRefused conn old) input mask deltas e spells
     (inr (inl (is, subst (λ (p : List ℕ). FileIsOfAnother conn p old) is-print other))))
+
+-- and so is want of memory behind what is gathered
+pub memory_behind : (conn : Conn) (old input : List ℕ) (mask : Graymap) (state : State)
+    → IsGathered conn old input mask state → KeptStops conn old input Memory
+memory_behind conn old input mask state g =
+    inr (inr (mask, g.deltas, g.kept, g.spelled, g.old_spelled, inr (refl, state, g.merged)))
 
 -- no run stops at a device
 no_old_is_a_device : (conn : Conn) (old : List ℕ) (deltas : List State) (mask : Graymap)

@@ -16,7 +16,7 @@ use Rattle.paint_session.specs.Serving.{IsStoreFault, Serves, StoredStops, Tells
 use Rattle.paint_session.specs.Store.{Held, StoreSeen}
 use Rattle.paint_session.specs.declared.run_error.RunError.{RunError}
 use Rattle.paint_session.specs.declared.run_error.RunError.TheVariants.{Usage, NoImage, Edit, Pgm, Core, Spd, OtherMask}
-use Rattle.paint_session.specs.declared.run_error.RunError.TheVariants.{StateFile, Memory}
+use Rattle.paint_session.specs.declared.run_error.RunError.TheVariants.{StateFile, Memory, Studio, Link}
 
 -- V2 is none of these
 pub reading_is_no_file : (e : RunError) → IsReadingFault e → e ≡ StateFile → ⊥
@@ -37,6 +37,8 @@ is_of_input (Spd e) = true
 is_of_input OtherMask = true
 is_of_input StateFile = false
 is_of_input Memory = true
+is_of_input (Studio why) = false
+is_of_input Link = false
 
 pub input_is_no_file : (e : RunError) → is_of_input e ≡ true → e ≡ StateFile → ⊥
 input_is_no_file e is file = cc

@@ -46,6 +46,14 @@ pub record FileIsOfAnother (conn : Conn) (print old : List ℕ) : Type 0 where
 abbrev pub kept_text : Conn → Graymap → State → List ℕ
 kept_text conn mask state = file_text conn (print_of mask) (pieces_of 1400 state)
 
+-- the input spells this mask behind deltas, the old bytes spell others for it, and the state is the join of all
+pub record IsGathered (conn : Conn) (old input : List ℕ) (mask : Graymap) (state : State) : Type 0 where
+  pub deltas : List State
+  pub spelled : InputSpells input mask deltas
+  pub kept : List State
+  pub old_spelled : FileSpells conn (print_of mask) old kept
+  pub merged : AreMerged mask.raster.width mask.raster.height (kept ++ deltas) state
+
 -- the image is the one that the input asks for over the old bytes of a state file, and these are the new bytes: the
 -- join
 -- of the file's deltas and of the input's is this state; it shows the image, and the new bytes keep its pieces

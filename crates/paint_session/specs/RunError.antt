@@ -15,7 +15,9 @@ use Rattle.spd_codec.specs.declared.error.SpdError.{SpdError}
 use Rattle.spd_codec.specs.declared.error.SpdError.TheVariants as spd
 use Rattle.paint_session.specs.declared.run_error.RunError.{RunError}
 use Rattle.paint_session.specs.declared.run_error.RunError.TheVariants.{Usage, NoImage, Edit, Pgm, Core, Spd, OtherMask}
-use Rattle.paint_session.specs.declared.run_error.RunError.TheVariants.{StateFile, Memory}
+use Rattle.paint_session.specs.declared.run_error.RunError.TheVariants.{StateFile, Memory, Studio, Link}
+use Rattle.paint_session.specs.declared.run_error.StudioFault.{StudioFault}
+use Rattle.paint_session.specs.declared.run_error.StudioFault.TheVariants as studio
 
 -- the code, the number of the line, and of a stroke its code
 abbrev pub edit_text : EditError → List ℕ
@@ -44,6 +46,15 @@ frame_fault_text spd.TooLong = spd_code_of spd.TooLong
 frame_fault_text spd.Trailing = spd_code_of spd.Trailing
 frame_fault_text spd.Memory = spd_code_of spd.Memory
 
+-- a studio's: U where none was opened, B where it was not closed
+abbrev pub studio_code : StudioFault → List ℕ
+studio_code studio.BadCounts = codes "U1"
+studio_code studio.OpenMemory = codes "U2"
+studio_code studio.NoPlace = codes "U3"
+studio_code studio.EndMissing = codes "B1"
+studio_code studio.CloseMemory = codes "B2"
+studio_code studio.CountSpent = codes "B3"
+
 -- what stands behind `seedpaint: `
 abbrev pub code_text : RunError → List ℕ
 code_text Usage = codes "usage"
@@ -55,6 +66,8 @@ code_text (Spd e) = frame_fault_text e
 code_text OtherMask = codes "D1"
 code_text StateFile = codes "V2"
 code_text Memory = codes "memory"
+code_text (Studio why) = studio_code why
+code_text Link = codes "D3"
 
 -- the line of a fault, without its LF
 abbrev pub fault_text : RunError → List ℕ
@@ -73,13 +86,18 @@ IsReadingFault e = (e ≡ Edit edit.Memory) ⊎ (e ≡ Pgm pgm.Memory)
 abbrev pub IsTransferFault : RunError → Type 0
 IsTransferFault e = e ≡ Pgm pgm.Device
 
--- a device failed: a source or a sink, or a store of files
+-- a device failed: a source or a sink, a store of files, or a link
 abbrev pub IsDeviceFault : RunError → Type 0
-IsDeviceFault e = IsTransferFault e ⊎ (e ≡ StateFile)
+IsDeviceFault e = IsTransferFault e ⊎ (e ≡ StateFile) ⊎ (e ≡ Link)
 
--- the exit status of a fault: 2 for words on the command line, 3 for memory and devices, else 1
+-- a studio was not opened or not closed, and not for its counts
+abbrev pub IsStudioFault : RunError → Type 0
+IsStudioFault e = (why : StudioFault) × (e ≡ Studio why) × (why ≡ studio.BadCounts → ⊥)
+
+-- the exit status of a fault: 2 for words on the command line, 3 for memory, devices and studios, else 1
 pub record HasStatus (e : RunError) (status : ℕ) : Type 0 where
   pub usage : e ≡ Usage → status ≡ 2
   pub memory : IsMemory e → status ≡ 3
   pub device : IsDeviceFault e → status ≡ 3
-  pub refused : (e ≡ Usage → ⊥) → (IsMemory e → ⊥) → (IsDeviceFault e → ⊥) → status ≡ 1
+  pub studio : IsStudioFault e → status ≡ 3
+  pub refused : (e ≡ Usage → ⊥) → (IsMemory e → ⊥) → (IsDeviceFault e → ⊥) → (IsStudioFault e → ⊥) → status ≡ 1

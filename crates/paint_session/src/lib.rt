@@ -7,10 +7,12 @@
 //! status.
 //!
 //! What each run reads and writes, `answering` says once. There is one view: `merging` judges the old deltas and then
-//! those of the lines, one by one, and joins them, and `showing` paints the marker of their join once and grows it.
+//! those of the lines, one by one, and joins them; [`gathering`] hands out the join and its mask, for runs that go on
+//! with them; `showing` paints the marker of the join once and grows it.
 
 mod answering;
 pub mod derive;
+pub mod gathering;
 pub mod input;
 mod kept;
 pub mod laws;

@@ -3,7 +3,7 @@
 ghost use Rattle.std.specs.Prelude.{◌≡◌, ◌++◌, IfOk, OnOk, codes, decimal, string_bytes};
 ghost use Rattle.stroke_core.specs.Tag.{text_of};
 ghost use Rattle.paint_session.specs.RunError.{code_text, core_text, edit_text, fault_text, frame_fault_text};
-ghost use Rattle.paint_session.specs.RunError.{HasStatus};
+ghost use Rattle.paint_session.specs.RunError.{HasStatus, studio_code};
 ghost use Rattle.paint_session.specs.declared.run_error.RunError.TheVariants as errors;
 
 use core_rules::CoreError;
@@ -45,6 +45,51 @@ pub enum RunError {
     /// Out of memory, outside reading, merging and writing.
     #[error("out of memory")]
     Memory,
+    /// U1 to U3, B1 to B3: no studio was opened, or it was not closed.
+    #[error("{0}")]
+    Studio(StudioFault),
+    /// D3: a link could not be opened.
+    #[error("D3: the link could not be opened")]
+    Link,
+}
+
+/// Why a studio was not opened, or not closed.
+#[derive(Clone, Copy, Debug, PartialEq, Eq, Error)]
+pub enum StudioFault {
+    /// U1: a count is none of 1 to 16.
+    #[error("U1: not 1 to 16 of each")]
+    BadCounts,
+    /// U2: out of memory in opening.
+    #[error("U2: out of memory")]
+    OpenMemory,
+    /// U3: a place for an eye was refused.
+    #[error("U3: no place")]
+    NoPlace,
+    /// B1: the end of a pen is missing.
+    #[error("B1: an end is missing")]
+    EndMissing,
+    /// B2: out of memory in closing.
+    #[error("B2: out of memory")]
+    CloseMemory,
+    /// B3: a count is spent.
+    #[error("B3: a count is spent")]
+    CountSpent,
+}
+
+impl StudioFault {
+    /// The code, as documents name it.
+    pub fn code(self) -> &'static str
+        ensures { result.now ≡ studio_code self }
+    {
+        match self {
+            StudioFault::BadCounts => "U1",
+            StudioFault::OpenMemory => "U2",
+            StudioFault::NoPlace => "U3",
+            StudioFault::EndMissing => "B1",
+            StudioFault::CloseMemory => "B2",
+            StudioFault::CountSpent => "B3",
+        }
+    }
 }
 
 impl From<EditError> for RunError {
@@ -100,9 +145,10 @@ pub fn fault_line(alloc: Global, error: &RunError) -> Result<String, Memory>
     Ok(line)
 }
 
-/// The exit status of the program: 1 for an input, a state file or a side of tiles that is refused, 2 for words on the
-/// command line, 3 for want of memory and for a device that failed, a file that is not read or written among them. A
-/// run that writes its image, and its state file where it has one, has status 0.
+/// The exit status of the program: 1 for an input, a state file, a side of tiles or a count of hands that is refused, 2
+/// for words on the command line, 3 for want of memory, for a studio that is not opened or not closed for another
+/// reason, and for a device that failed, a file that is not read or written and a link among them. A run that writes
+/// its image, and its state file where it has one, has status 0.
 pub fn status(error: &RunError) -> u8
     ensures { HasStatus error.now result }
 {
@@ -113,8 +159,9 @@ pub fn status(error: &RunError) -> u8
         | RunError::Pgm(PgmError::Memory)
         | RunError::Core(CoreError::Memory)
         | RunError::Spd(SpdError::Memory) => 3,
-        RunError::StateFile | RunError::Pgm(PgmError::Device) => 3,
-        RunError::NoImage | RunError::OtherMask => 1,
+        RunError::StateFile | RunError::Link | RunError::Pgm(PgmError::Device) => 3,
+        RunError::NoImage | RunError::OtherMask | RunError::Studio(StudioFault::BadCounts) => 1,
+        RunError::Studio(_) => 3,
         RunError::Edit(_) | RunError::Pgm(_) | RunError::Core(_) | RunError::Spd(_) => 1,
     }
 }
@@ -133,6 +180,8 @@ fn push_fault(alloc: Global, line: &mut String, error: &RunError) -> Result<(), 
         RunError::OtherMask => line.push_str("D1")?,
         RunError::StateFile => line.push_str("V2")?,
         RunError::Memory => line.push_str("memory")?,
+        RunError::Studio(why) => line.push_str(why.code())?,
+        RunError::Link => line.push_str("D3")?,
     }
     Ok(())
 }

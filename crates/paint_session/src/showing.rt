@@ -7,14 +7,14 @@ ghost use Rattle.paint_session.specs.RunError.{IsReadingFault};
 ghost use Rattle.derived_views.specs.Shown.{IsShown};
 ghost use Rattle.paint_session.specs.View.{DeltasAreRefused, DeltasHalt, InputStops, IsImageOfView};
 
+use crate::gathering::gather;
 use crate::input::read_input;
-use crate::kept::frames_for;
 use crate::merging::{HasDelta, merge_all};
 use crate::run_error::RunError;
 use derived_views::reconstruction;
 use grid_core::Conn;
 use pgm_codec::Image;
-use spd_codec::{print_of, write_frames};
+use spd_codec::write_frames;
 use std::alloc::Global;
 use std::slice;
 use stroke_lattice::{Delta, State};
@@ -48,11 +48,9 @@ pub fn show_kept(
         × IsImageKept conn old.now input.now state parts.0 parts.1.items) }
     ensures refused { IfErr result (λ e. IsReadingFault e ⊎ KeptStops conn old.now input.now e) }
 {
-    let (deltas, mask) = read_input(alloc, input)?;
-    let print = print_of(&mask);
-    let frames = frames_for(alloc, old, conn, &print)?;
-    let (image, state) = show(alloc, &mask, &frames, &deltas, conn)?;
-    let new = write_frames(alloc, conn, &print, &state)?;
+    let gathered = gather(alloc, input, old, conn)?;
+    let image = reconstruction(alloc, &gathered.mask, &gathered.state, conn)?;
+    let new = write_frames(alloc, conn, &gathered.print, &gathered.state)?;
     Ok((image, new))
 }
 

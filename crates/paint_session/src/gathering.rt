@@ -1,0 +1,44 @@
+//! What a run begins with: the strokes of an input and of a state file, joined.
+
+ghost use Rattle.std.specs.Prelude.{◌≡◌, ◌⊎◌, IfOk, IfErr};
+ghost use Rattle.stroke_lattice.specs.State.{StateFits};
+ghost use Rattle.paint_session.specs.Kept.{print_of, IsGathered, KeptStops};
+ghost use Rattle.paint_session.specs.RunError.{IsReadingFault};
+
+use crate::input::read_input;
+use crate::kept::frames_for;
+use crate::merging::merge_all;
+use crate::run_error::RunError;
+use grid_core::Conn;
+use pgm_codec::Image;
+use spd_codec::Print;
+use std::alloc::Global;
+use stroke_lattice::State;
+
+/// What a run begins with: a mask, its fingerprint, and the join of the old strokes and of the input's.
+#[derive(Drop)]
+pub struct Gathered {
+    /// The mask behind the input's lines.
+    pub mask: Image,
+    /// Its fingerprint.
+    pub print: Print,
+    /// The join of the strokes and tombstones.
+    pub state: State,
+}
+
+/// Reads an input and the old bytes of a state file, and merges the strokes and tombstones of the old bytes and then
+/// the input's.
+///
+/// Errors: those of [`view_kept`](crate::view::view_kept) but the devices' and C5, up to the merging.
+pub fn gather(alloc: Global, input: &[u8], old: &[u8], conn: Conn) -> Result<Gathered, RunError>
+    ensures gathered { IfOk result (λ g. IsGathered conn old.now input.now g.mask g.state) }
+    ensures print { IfOk result (λ g. g.print ≡ print_of g.mask) }
+    ensures fits { IfOk result (λ g. StateFits g.mask.raster.width g.mask.raster.height g.state) }
+    ensures refused { IfErr result (λ e. IsReadingFault e ⊎ KeptStops conn old.now input.now e) }
+{
+    let (deltas, mask) = read_input(alloc, input)?;
+    let print = spd_codec::print_of(&mask);
+    let frames = frames_for(alloc, old, conn, &print)?;
+    let state = merge_all(alloc, &frames, &deltas, mask.width(), mask.height())?;
+    Ok(Gathered { mask, print, state })
+}
