@@ -1,0 +1,103 @@
+-- What a step leaves of the rule, whatever it is.
+use Rattle.std.proofs.Common.{List, [], arith, le_trans, length, refl, set, slice_index, subst, sym, ℕ, ◌∙◌, ◌∷◌, ◌≡◌}
+use Rattle.std.proofs.Common.{◌≢◌, ◌≤◌}
+use Rattle.std.proofs.lemmas.List.{set-get_or}
+use Rattle.std.proofs.lemmas.List.Elements.{Contains-push_cases}
+use Rattle.atomic_table.proofs.Lists.{at_set, set_else}
+use Rattle.atomic_table.specs.Table.{State, keeps, stepped}
+use Rattle.grid_core.specs.Raster.{Raster}
+use Rattle.grid_core.specs.declared.pixel.Pixel.{Pixel}
+use lib.ListN.{get_elem?}
+use mathlib.Core.Logic.{dite, ⊎_elim}
+use mathlib.Core.Option.{some, some-injective, some-ne-none}
+use native.Mathlib.Decide.{ℕ_discrete}
+use Rattle.live_board.specs.Rule.{IsBacked, IsBoard, IsHeld, IsKeptAt, Sits}
+use Rattle.live_board.specs.Words.{IsOn, place_of, with_fact}
+use Rattle.live_board.specs.declared.fact.Fact.{Fact}
+use Rattle.live_board.specs.declared.rule.Ground.{Ground}
+use Rattle.live_board.specs.declared.rule.View.{View}
+
+first_set : (views : List View) (k w : View) → get_elem? views 0 ≡ some k → get_elem? (set views 0 w) 0 ≡ some w
+first_set [] k w e = absurd (some-ne-none k (sym e))
+first_set (x ∷ xs) k w e = refl
+
+-- the seat 0 steps, and has this generation and this marker
+pub keeper_now : (views : List View) (id : ℕ) (v w : View) (g : ℕ) (m : Raster) → id ≡ 0 → get_elem? views id ≡ some v
+    → w.generation ≡ g → w.marker ≡ m → IsKeptAt (set views id w) g m
+keeper_now views id v w g m first at generation marker = (
+  w,
+  subst (λ (z : ℕ). get_elem? (set views z w) 0 ≡ some w) (sym first)
+      (first_set views v w (subst (λ (z : ℕ). get_elem? views z ≡ some v) first at)),
+  generation,
+  marker,
+)
+
+-- the seat 0 keeps generation and marker, if it steps
+pub kept_at : (views : List View) (g : ℕ) (m : Raster) (id : ℕ) (v w : View) → IsKeptAt views g m
+    → get_elem? views id ≡ some v → (id ≡ 0 → (w.generation ≡ g) × (w.marker ≡ m)) → IsKeptAt (set views id w) g m
+kept_at views g m id v w k at keeper = dite (ℕ_discrete id 0)
+    (λ first. let now = keeper first in keeper_now views id v w g m first at now.0 now.1)
+    (λ other. (k.0, set_else views id 0 w (λ e. other (sym e)) ∙ k.1, k.2, k.3))
+
+-- the view of the seat 0 has generation and marker
+pub is_keeper : (views : List View) (g : ℕ) (m : Raster) (id : ℕ) (v : View) → IsKeptAt views g m
+    → get_elem? views id ≡ some v → id ≡ 0 → (v.generation ≡ g) × (v.marker ≡ m)
+is_keeper views g m id v k at first =
+    let here : get_elem? views 0 ≡ some v = subst (λ (z : ℕ). get_elem? views z ≡ some v) first at in
+    let is : k.0 ≡ v = some-injective k.0 v (sym k.1 ∙ here) in
+    (subst (λ (u : View). u.generation ≡ g) is k.2, subst (λ (u : View). u.marker ≡ m) is k.3)
+
+-- no word of a pixel is less
+abbrev pub Up : Ground → List ℕ → List ℕ → Type 0
+Up base words after =
+    (p : Pixel) → IsOn base p → slice_index words (place_of base p) ≤ slice_index after (place_of base p)
+
+pub sits_up : (base : Ground) (words after : List ℕ) (g : ℕ) (m : Raster) → Up base words after → (v : View)
+    → Sits base words g m v → Sits base after g m v
+sits_up base words after g m up v s = record {
+  not_later = s.not_later;
+  facts = λ f f_in.
+      let h = s.facts f f_in in
+      record { on = h.on; small = h.small; kept = le_trans h.kept (up f.pixel h.on); reached = h.reached };
+}
+
+-- a seat that knows one more fact, which holds
+pub sits_more : (base : Ground) (words : List ℕ) (g : ℕ) (m : Raster) (v : View) (word found : ℕ) (f : Fact)
+    → Sits base words g m v → IsHeld base words g m f → Sits base words g m (with_fact v word found f)
+sits_more base words g m v word found f old new = record {
+  not_later = old.not_later;
+  facts = λ y y_in. ⊎_elim (old.facts y) (λ (is : f ≡ y). subst (IsHeld base words g m) is new)
+      (Contains-push_cases v.facts f y y_in);
+}
+
+-- a seat has another view, and no word of a pixel is less: generation and marker stay
+pub moved : (base : Ground) (s : State ℕ View) (h : IsBoard base s) (id : ℕ) (v w : View) (after : List ℕ)
+    → get_elem? s.views id ≡ some v → (id ≡ 0 → (w.generation ≡ h.generation) × (w.marker ≡ h.marker))
+    → length after ≡ length s.words → slice_index after 0 ≡ slice_index s.words 0 → Up base s.words after
+    → ((p : Pixel) → IsOn base p → IsBacked base after h.generation h.marker p)
+    → Sits base after h.generation h.marker w
+    → IsBoard base (record { words = after; homes = s.homes; views = set s.views id w })
+moved base s h id v w after at keeper long head up backed sits = record {
+  generation = h.generation;
+  marker = h.marker;
+  keeper = kept_at s.views h.generation h.marker id v w h.keeper at keeper;
+  wide = long ∙ h.wide;
+  head = head ∙ h.head;
+  within = h.within;
+  pixels = backed;
+  seats = λ j u e. ⊎_elim
+      (λ (x : (j ≡ id) × (w ≡ u)). subst (Sits base after h.generation h.marker) x.1 sits)
+      (λ (x : (j ≢ id) × (get_elem? s.views j ≡ some u)).
+      sits_up base s.words after h.generation h.marker up u (h.seats j u x.1))
+      (at_set s.views id j w u e);
+}
+
+-- a load: the words stay
+pub watched : (base : Ground) (s : State ℕ View) (h : IsBoard base s) (i id : ℕ) (v w : View)
+    → get_elem? s.views id ≡ some v → (id ≡ 0 → (w.generation ≡ h.generation) × (w.marker ≡ h.marker))
+    → Sits base s.words h.generation h.marker w
+    → IsBoard base (stepped s i (slice_index s.words i) id [] w keeps)
+watched base s h i id v w at keeper sits =
+    subst (λ (l : List ℕ). IsBoard base (record { words = l; homes = s.homes; views = set s.views id w }))
+    (sym (set-get_or s.words i 0))
+    (moved base s h id v w s.words at keeper refl refl (λ p on. omega arith) h.pixels sits)

@@ -1,0 +1,4 @@
+use Rattle.live_board.proofs.keeper.KeeperSeat.raise.Given as goal
+
+abbrev pub ghosts-rise : goal.ghosts-rise
+ghosts-rise a = record { marker = a.marker.now }

@@ -1,0 +1,10 @@
+//! What the rule of a board says, as contracts of functions that do nothing.
+
+ghost use Rattle.live_board.specs.Laws.{BoardLaws};
+
+/// While a board keeps its rule: the word of a pixel is no less than what a seat knows of it. What a seat knows of the
+/// keeper's generation, the pixel reaches from the keeper's marker. So does a live value that a peek finds, at the
+/// peek's last step.
+pub fn board_laws()
+    ensures { BoardLaws }
+{}
