@@ -18,3 +18,4 @@ pub mod Following
 pub mod Keeping
 pub mod Opening
 pub mod Closing
+pub mod Mirroring

@@ -22,6 +22,7 @@ use std::sync::Arc;
 use tile_generations::Ticket;
 
 mod closing;
+mod mirroring;
 mod showing;
 mod turning;
 

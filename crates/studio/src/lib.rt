@@ -29,10 +29,12 @@
 mod closed;
 mod images;
 mod keeper;
+mod mirrored;
 mod opening;
 mod refused;
 
 pub use closed::{Closed, NotClosed};
 pub use keeper::Keeper;
+pub use mirrored::{MirrorError, Mirrored};
 pub use opening::Studio;
 pub use refused::{NotOpened, OpenError};

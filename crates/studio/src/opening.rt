@@ -1,6 +1,6 @@
 //! Studios that are opened.
 
-ghost use Rattle.std.specs.Prelude.{◌≡◌, ◌≤◌, ◌↔◌, IsTrue, IfOk, IfErr};
+ghost use Rattle.std.specs.Prelude.{◌≡◌, ◌≤◌, ◌↔◌, IsTrue, IfOk, IfErr, OnOk};
 ghost use Rattle.studio.specs.declared.refused.OpenError.TheVariants as errors;
 ghost use Rattle.studio.specs.Opening.{AreCounts, IsOpened, IsOver};
 
@@ -46,6 +46,7 @@ impl Studio {
         eyes: usize,
     ) -> Result<Studio, NotOpened>
         ensures counts { IfErr result (λ e. (e.why ≡ errors.BadCounts) ↔ (AreCounts pens hands eyes → ⊥)) }
+        ensures counted { OnOk result (AreCounts pens hands eyes) }
         ensures opened { IfOk result (IsOpened core pens hands eyes) }
         ensures returned { IfErr result (λ e. e.core ≡ core) }
     {

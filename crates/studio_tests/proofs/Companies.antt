@@ -1,27 +1,20 @@
 -- Who belongs to a keeper belongs to it still.
-use Rattle.std.proofs.Common.{arith, ◌≡◌, ℕ, ◌<◌, List, [], ◌∷◌, ◌++◌, length, get_or, slice_set}
-use Rattle.std.proofs.Common.{refl, sym, ap, ◌∙◌, subst}
+use Rattle.std.proofs.Common.{◌≡◌, ℕ, ◌<◌, List, [], ◌∷◌, ◌++◌, length, get_or, slice_set}
+use Rattle.std.proofs.Common.{refl, sym, ◌∙◌, subst}
 use Rattle.std.specs.Prelude.{All, if◌then◌else◌, Bool, true, false, Option, Some, IfSome, option_to_list}
 use Rattle.std.proofs.lemmas.List.Elements.{All-push, All-pop, All-set, All-get_or, All-weaker}
-use Rattle.atomic_table.proofs.Lists.{at_index}
-use mathlib.Core.Option.{some-injective}
-use Rattle.std.proofs.lemmas.List.{get_or_default, length-map, length-replicate}
 use Rattle.pen_desks.specs.declared.pen.Pen.{Pen}
 use Rattle.pen_desks.specs.declared.pen.PenEnd.{PenEnd}
 use Rattle.pen_desks.specs.Books.{BooksView, KeepsRest}
-use Rattle.pen_desks.specs.Pens.{IsOf, IsEndOf, KeepsPens, KeepsDesk, KeepsDeskAtEnd, HasItsDesk}
+use Rattle.pen_desks.specs.Pens.{IsOf, IsEndOf, KeepsPens, KeepsDesk, KeepsDeskAtEnd}
 use Rattle.pen_desks.proofs.Taking.{same_pens}
 use Rattle.core_dispatch.specs.Closing.{AreEndsOf}
 use Rattle.studio.specs.declared.keeper.Keeper.{Keeper}
-use Rattle.studio.specs.Keeping.{books_of, studio_of}
-use Rattle.stroke_lattice.specs.State.{State}
 use Rattle.core_rules.specs.Work.{Core}
 use Rattle.studio.specs.declared.opening.Studio.{Studio}
-use Rattle.studio.specs.Opening.{IsEyeOf, IsOpened}
-use Rattle.pen_desks.specs.Pens.{submitted}
-use Rattle.shot_chain.specs.declared.eye.Eye.{Eye}
-use Rattle.shot_chain.specs.Words.{eye_studio}
-use Rattle.studio_tests.specs.Company.{AreOf, AreEyesOf, KeepDesks, KeepsCompany, IsCompany, AddsEnd, AddEnds}
+use Rattle.studio.specs.Opening.{IsOpened}
+use Rattle.studio.proofs.Company.{pens_of_opened, eyes_of_opened}
+use Rattle.studio_tests.specs.Company.{AreOf, KeepDesks, KeepsCompany, IsCompany, AddsEnd, AddEnds}
 
 -- ---- keepers
 
@@ -118,36 +111,13 @@ one_moves pens before left old ends new r pen moves is some_is adds_one = record
       (parts.0, adds_one.books books parts.1 was.1);
 }
 
-of_its_desk : (pens : List Pen) (books : BooksView) (k : ℕ) (d : Pen) → k < length pens
-    → HasItsDesk pens books.desks k → IsOf (get_or pens k d) books
-of_its_desk pens books k d within (pen, at, number, desk) =
-    let same = get_or_default pens k d (get_or pens k d) within in
-    subst (λ (p : Pen). IsOf p books)
-    (some-injective pen (get_or pens k d) (sym at ∙ at_index pens k (get_or pens k d) within same)) desk
-
--- each pen of a new studio is of its keeper's books
-pub all_of : (pens : List Pen) (books : BooksView)
-    → ((i : ℕ) → i < length pens → HasItsDesk pens books.desks i) → AreOf pens books
-all_of pens books desks = λ k d within. of_its_desk pens books k d within (desks k within)
-
-pub eyes_of : (keeper : Keeper) (eyes : List Eye) → All (λ eye. IsEyeOf keeper.publisher eye) eyes
-    → AreEyesOf eyes keeper
-eyes_of keeper eyes all =
-    All-weaker (λ (eye : Eye). IsEyeOf keeper.publisher eye) (λ eye. eye_studio eye ≡ studio_of keeper)
-    (λ eye is. is.studio) eyes all
-
 -- whoever stands in a new studio is of its keeper
 pub opens : (core : Core) (pens hands eyes : ℕ) (studio : Studio) → IsOpened core pens hands eyes studio
     → IsCompany studio
 opens core pens hands eyes studio opened = record {
-  pens = all_of studio.pens.items (books_of studio.keeper) (λ i within. opened.desks i (few i within));
-  eyes = eyes_of studio.keeper studio.eyes.items opened.eyes_are.each;
-} where
-  few : (i : ℕ) → i < length studio.pens.items → i < pens
-  few i within =
-      let none : List State = [] in
-      let same = ap (λ (l : List (List State)). length l) opened.sent in
-      omega (arith, same, length-map studio.pens.items submitted, length-replicate pens none)
+  pens = pens_of_opened core pens hands eyes studio opened;
+  eyes = eyes_of_opened core pens hands eyes studio opened;
+}
 
 -- ---- ends
 
