@@ -1,0 +1,10 @@
+pub mod Results
+pub mod Meanwhile
+pub mod Desks
+pub mod Comings
+pub mod Settled
+pub mod Endings
+pub mod Openings
+pub mod Failing
+pub mod Paintings
+pub mod StoredNodes

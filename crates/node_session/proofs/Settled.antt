@@ -1,0 +1,33 @@
+-- Settling merges nothing.
+use Rattle.std.proofs.Common.{List, [], ◌∷◌, sym, subst}
+use Rattle.tile_generations.specs.declared.ticket.Ticket.{Ticket}
+use Rattle.core_rules.specs.Work.{Core}
+use Rattle.core_rules.specs.Events.{Merge, Take, GiveBack, Abandon, Hand}
+use Rattle.core_rules.specs.Runs.{Entry, IsWorkedOff, IsSettled, abandoned, tickets_out}
+use Rattle.core_rules.proofs.Running.{settled_is_run}
+use Rattle.core_dispatch.proofs.Growing.{AreNoMerges, KeepsStrokes, no_merges_append, run_keeps_strokes}
+
+none_in_work : (before : Core) (log : List Entry) (after : Core) → IsWorkedOff before log after → AreNoMerges log
+none_in_work before [] after is = tt
+none_in_work before ((Merge delta, answer) ∷ log) after (next, more) = absurd next
+none_in_work before ((Take t, answer) ∷ log) after (is, (next, happens, more)) = none_in_work next log after more
+none_in_work before ((GiveBack swept, answer) ∷ log) after (is, (next, happens, more)) =
+    none_in_work next log after more
+none_in_work before ((Abandon ticket, answer) ∷ log) after (next, more) = absurd next
+none_in_work before ((Hand t i, answer) ∷ log) after (is, (next, happens, more)) = none_in_work next log after more
+
+none_in_abandons : (tickets : List Ticket) → AreNoMerges (abandoned tickets)
+none_in_abandons [] = tt
+none_in_abandons (ticket ∷ tickets) = none_in_abandons tickets
+
+-- settling leaves strokes, mask and connectivity
+pub settled_keeps : (before : Core) (log : List Entry) (after : Core) → IsSettled before log after
+    → KeepsStrokes before after
+settled_keeps before log after settled =
+    let settling = settled.settling in
+    run_keeps_strokes before log after
+    (subst AreNoMerges (sym settling.parts)
+    (no_merges_append (abandoned (tickets_out 0 before.tiles)) settling.work
+    (none_in_abandons (tickets_out 0 before.tiles))
+    (none_in_work settling.cleared settling.work after settling.works)))
+    (settled_is_run before after log settled)

@@ -1,0 +1,71 @@
+use Rattle.std.proofs.Common.{◌∙◌, sym, inl, inr, subst}
+use Rattle.std.proofs.lemmas.Result.{err_from_is_err_and, IfOk-weaker, IfErr-weaker}
+use Rattle.pgm_codec.specs.Graymap.{IsGraymap}
+use Rattle.paint_session.proofs.KeptViews.{memory_behind}
+use Rattle.node_session.proofs.Paintings.{same_mask, shown_behind}
+use Rattle.node_session.proofs.Results.{ok_three}
+use Rattle.node_session.proofs.painting.paint.Goals as goal
+
+pub returns-in_err-gathered-clause-refused : goal.returns-in_err-gathered-clause-refused
+returns-in_err-gathered-clause-refused g c =
+    let p = err_from_is_err_and c.from_residual.result c.from_residual.ensures.1 in
+    rw (p.1, p.2) (elim c.in_err-gathered.ensures.refused [
+      | inl early ↦ inl early
+      | inr stops ↦ inr (inl stops)
+    ])
+
+pub returns-in_err-core-clause-refused : goal.returns-in_err-core-clause-refused
+returns-in_err-core-clause-refused g c =
+    let p = err_from_is_err_and c.from_residual-in_err-core.result c.from_residual-in_err-core.ensures.1 in
+    let found = c.in_ok-gathered.gathered in
+    rw (p.1, p.2) (inr (inl (memory_behind _ _ _ found.mask found.state c.in_ok-gathered.ensures.gathered)))
+
+pub returns-in_err-shared-clause-refused : goal.returns-in_err-shared-clause-refused
+returns-in_err-shared-clause-refused g c =
+    let p = err_from_is_err_and c.from_residual-in_err-shared.result c.from_residual-in_err-shared.ensures.1 in
+    rw (p.1, p.2) (inr (inr (
+      c.in_ok-gathered.gathered.mask,
+      c.in_ok-gathered.gathered.state,
+      c.in_ok-gathered.ensures.gathered,
+      c.in_err-shared.ensures.refused,
+    )))
+
+pub returns-in_err-quiet-clause-refused : goal.returns-in_err-quiet-clause-refused
+returns-in_err-quiet-clause-refused g c =
+    let p = err_from_is_err_and c.from_residual-in_err-quiet.result c.from_residual-in_err-quiet.ensures.1 in
+    let found = c.in_ok-gathered.gathered in
+    rw (p.1, p.2) (inr (inl (memory_behind _ _ _ found.mask found.state c.in_ok-gathered.ensures.gathered)))
+
+pub spelled-requires-clause-quiet : goal.spelled-requires-clause-quiet
+spelled-requires-clause-quiet g c = c.in_ok-quiet.ensures.quiet
+
+pub spelled-requires-clause-graymap : goal.spelled-requires-clause-graymap
+spelled-requires-clause-graymap g c =
+    let is = c.in_ok-quiet.ensures.same.mask_is ∙ c.in_ok-shared.ensures.shared.mask ∙ c.in_ok-core.ensures.mask_is in
+    subst IsGraymap (sym (same_mask _ _ c.in_ok-gathered.gathered.mask is c.maxval-maxval.ensures.value))
+    c.maxval-maxval.ensures.is_graymap
+
+pub returns-clause-hands : goal.returns-clause-hands
+returns-clause-hands g c =
+    IfOk-weaker c.spelled.result _ _ (λ parts text. c.in_ok-shared.ensures.hands) c.spelled.ensures.text
+
+pub returns-clause-polled : goal.returns-clause-polled
+returns-clause-polled g c =
+    IfOk-weaker c.spelled.result _ _ (λ parts text. c.in_ok-shared.ensures.shared.polls) c.spelled.ensures.text
+
+pub returns-clause-shown : goal.returns-clause-shown
+returns-clause-shown g c =
+    let found = c.in_ok-gathered.gathered in
+    let gathered = c.in_ok-gathered.ensures in
+    ok_three c.spelled.result _ _ _ _
+    (λ parts shown text spells. shown_behind _ _ _ found.mask found.state found.print _ _ _ _ c.in_ok-core.core
+    c.in_ok-shared.shared c.in_ok-quiet.quiet parts.0 parts.1.items gathered.print c.maxval-maxval.ensures.value
+    gathered.gathered c.in_ok-core.ensures c.in_ok-shared.ensures.shared c.in_ok-quiet.ensures.same shown text spells)
+    c.spelled.ensures.shown c.spelled.ensures.text c.spelled.ensures.spells
+
+pub returns-clause-refused : goal.returns-clause-refused
+returns-clause-refused g c =
+    let gathered = c.in_ok-gathered.ensures.gathered in
+    IfErr-weaker c.spelled.result _ _
+    (λ e is. inr (inl (inr (inl (is, c.in_ok-gathered.gathered.mask, gathered.deltas, gathered.spelled)))))
+    c.spelled.ensures.memory

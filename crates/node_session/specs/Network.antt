@@ -1,0 +1,28 @@
+-- What is seen of a network, what a bind does to it, and what it tells after a run.
+use Rattle.std.specs.Prelude.{◌≡◌, ◌<◌, ℕ, List, Option, Result, IfErr, IfSome, IsErrOf, MatchResult, OnOk}
+use Rattle.byte_devices.specs.Device.{HasRisen, count_after}
+use Rattle.paint_session.specs.declared.run_error.RunError.{RunError}
+use Rattle.paint_session.specs.declared.run_error.RunError.TheVariants.{Link}
+
+-- of a network: the port and the peers of the last link that it gave, where they are known, and how many binds failed
+pub record NetworkSeen : Type 0 where
+  pub bound : Option (ℕ × List ℕ)
+  pub failures : ℕ
+
+-- the last link that it gave is one at this port, to these peers, where that is known
+abbrev pub IsBound : ℕ → List ℕ → NetworkSeen → Type 0
+IsBound port peers seen = IfSome seen.bound (λ bound. bound ≡ (port, peers))
+
+-- a bind: a link at this port to these peers, or a failure, which is counted
+pub record Binds {L E : Type 0} (old new : NetworkSeen) (result : Result L E) (port : ℕ) (peers : List ℕ) : Type 0 where
+  pub bound : OnOk result (IsBound port peers new)
+  pub failures : MatchResult result (λ _. new.failures ≡ old.failures)
+      (λ _. new.failures ≡ count_after old.failures 1)
+
+-- What a network tells after a run: one that ended well left it so (`left`); D3 comes only of a network that failed,
+-- and a network that failed gives it.
+pub record TellsNetwork (left : NetworkSeen → Type 0) (result : Result (Unit {0}) RunError) (old new : NetworkSeen)
+    : Type 0 where
+  pub is_left : OnOk result (left new)
+  pub fault : IfErr result (λ e. e ≡ Link → HasRisen old.failures new.failures)
+  pub failure : old.failures < new.failures → IsErrOf result Link

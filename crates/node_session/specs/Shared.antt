@@ -1,0 +1,65 @@
+-- A view that is shared by a node: what it shows, and what it keeps.
+use Rattle.std.specs.Prelude.{◌≡◌, ◌⊎◌, ◌↔◌, ℕ, List}
+use Rattle.grid_core.specs.declared.conn.Conn.{Conn}
+use Rattle.pgm_codec.specs.Graymap.{Graymap}
+use Rattle.pgm_codec.specs.Writing.{raw_text}
+use Rattle.stroke_lattice.specs.State.{State}
+use Rattle.stroke_lattice.specs.Pieces.{pieces_of}
+use Rattle.derived_views.specs.Shown.{IsShown}
+use Rattle.paint_session.specs.Kept.{print_of, kept_text, FileSpells, IsGathered, KeptStops}
+use Rattle.paint_session.specs.declared.run_error.RunError.{RunError}
+use Rattle.paint_session.specs.declared.run_error.RunError.TheVariants.{Studio}
+use Rattle.paint_session.specs.declared.run_error.StudioFault.{StudioFault}
+use Rattle.paint_session.specs.declared.run_error.StudioFault.TheVariants as studio
+use Rattle.core_dispatch.specs.declared.error.CloseError.{CloseError}
+use Rattle.core_dispatch.specs.declared.error.CloseError.TheVariants as closing
+use Rattle.studio.specs.Opening.{IsCount}
+use Rattle.studio.specs.declared.refused.OpenError.{OpenError}
+use Rattle.studio.specs.declared.refused.OpenError.TheVariants as opening
+use Rattle.link_nodes.specs.Links.{LinkSeen}
+use Rattle.node_session.specs.Given.{HasGiven, ComesFrom}
+
+-- the image shows a state on the input's mask, which the new bytes spell; it comes from the join of the deltas of the
+-- old bytes and of the input, and from frames for this mask among the datagrams
+pub record IsImageShared (conn : Conn) (old input : List ℕ) (given : List (List ℕ)) (state : State) (image : Graymap)
+    (new : List ℕ) : Type 0 where
+  pub mask : Graymap
+  pub first : State
+  pub gathered : IsGathered conn old input mask first
+  pub comes : ComesFrom conn (print_of mask) given first state
+  pub shown : IsShown conn mask state image
+  pub new_is : new ≡ kept_text conn mask state
+  pub new_spelled : FileSpells conn (print_of mask) new (pieces_of 1400 state)
+
+-- the text is the raw spelling of such an image
+abbrev pub IsSharedView : Conn → List ℕ → List (List ℕ) → List ℕ → List ℕ → List ℕ → Type 0
+IsSharedView conn old given input text new =
+    (state : State) × (image : Graymap) × IsImageShared conn old input given state image new × (text ≡ raw_text image)
+
+-- the same with so many hands, of what the link gave from the first of these moments to the second
+abbrev pub IsNodeView : Conn → ℕ → List ℕ → LinkSeen → LinkSeen → List ℕ → List ℕ → List ℕ → Type 0
+IsNodeView conn hands old link link' input text new = IsCount hands
+    × ((given : List (List ℕ)) × HasGiven link link' given × IsSharedView conn old given input text new)
+
+-- what a studio that was not opened is to a run: U1 to U3
+abbrev pub opening_fault : OpenError → StudioFault
+opening_fault opening.BadCounts = studio.BadCounts
+opening_fault opening.Memory = studio.OpenMemory
+opening_fault opening.NoPlace = studio.NoPlace
+
+-- what one that was not closed is: B1 to B3
+abbrev pub closing_fault : CloseError → StudioFault
+closing_fault closing.EndMissing = studio.EndMissing
+closing_fault closing.Memory = studio.CloseMemory
+closing_fault closing.CountSpent = studio.CountSpent
+
+-- a studio with so many hands was not opened or not closed: U1 where there may not be so many, and else another fault
+abbrev pub StudioFails : ℕ → RunError → Type 0
+StudioFails hands e = (why : StudioFault) × (e ≡ Studio why) × ((why ≡ studio.BadCounts) ↔ (IsCount hands → ⊥))
+
+-- where a run stops on the input and the old bytes: where a view over them does; or behind all that is refused there,
+-- since there is no studio
+abbrev pub NodeStops : Conn → ℕ → List ℕ → List ℕ → RunError → Type 0
+NodeStops conn hands old input e =
+    KeptStops conn old input e
+    ⊎ ((mask : Graymap) × (first : State) × IsGathered conn old input mask first × StudioFails hands e)

@@ -1,0 +1,95 @@
+-- A keeper and a node of one studio that work together. Only private functions have this in their contracts.
+use Rattle.std.specs.Prelude.{◌≡◌, ◌++◌, ℕ, List, [], All}
+use Rattle.byte_devices.specs.Device.{HasRisenBy}
+use Rattle.grid_core.specs.declared.conn.Conn.{Conn}
+use Rattle.grid_core.specs.Raster.{Raster}
+use Rattle.stroke_lattice.specs.State.{State}
+use Rattle.stroke_lattice.specs.Change.{Turnover}
+use Rattle.core_rules.specs.Work.{Core}
+use Rattle.core_rules.specs.Merge.{IsMerged}
+use Rattle.pen_desks.specs.declared.pen.PenEnd.{PenEnd}
+use Rattle.pen_desks.specs.Pens.{IsOf, all_submitted}
+use Rattle.core_dispatch.specs.Turns.{GrowsOn}
+use Rattle.studio.specs.declared.keeper.Keeper.{Keeper}
+use Rattle.studio.specs.declared.closed.Closed.{Closed}
+use Rattle.studio.specs.Keeping.{core_of, books_of, studio_of}
+use Rattle.studio.specs.Closing.{IsClosed}
+use Rattle.link_nodes.specs.declared.node.Node.{Node}
+use Rattle.link_nodes.specs.Links.{LinkSeen}
+use Rattle.link_nodes.specs.Nodes.{pen_of, conn_of, print_of, submitted_by, node_studio}
+use Rattle.node_session.specs.declared.desk.Desk.{Desk}
+use Rattle.node_session.specs.Given.{HasGiven, SomeSpells, ComesFrom}
+
+-- node and keeper are of one studio
+abbrev pub IsOneStudio : Desk → Type 0
+IsOneStudio desk = node_studio desk.node ≡ studio_of desk.keeper
+
+-- the node's pen is one of the keeper's
+abbrev pub HasItsPen : Desk → Type 0
+HasItsPen desk = IsOf (pen_of desk.node) (books_of desk.keeper)
+
+-- a desk of this core, at which nothing was done yet
+pub record IsNewDesk (core : Core) (conn : Conn) (print : List ℕ) (desk : Desk) : Type 0 where
+  pub core_is : core_of desk.keeper ≡ core
+  pub opening : (books_of desk.keeper).opening ≡ core.state
+  pub studio : IsOneStudio desk
+  pub pen : HasItsPen desk
+  pub image : (conn_of desk.node ≡ conn) × (print_of desk.node ≡ print)
+  pub submitted : submitted_by desk.node ≡ []
+
+-- the node submitted these deltas more, and each is in a frame for its image that the link gave meanwhile
+pub record Hears (old new : Node) (link link' : LinkSeen) : Type 0 where
+  pub given : List (List ℕ)
+  pub gives : HasGiven link link' given
+  pub more : List State
+  pub submits : submitted_by new ≡ submitted_by old ++ more
+  pub each : All (SomeSpells (conn_of old) (print_of old) given) more
+
+-- keeper and node stay what they are to each other, and the core's strokes only join
+pub record Stays (old new : Desk) : Type 0 where
+  pub opening : (books_of new.keeper).opening ≡ (books_of old.keeper).opening
+  pub grows : GrowsOn (core_of old.keeper) (core_of new.keeper)
+  pub studio : IsOneStudio old → IsOneStudio new
+  pub pen : HasItsPen old → HasItsPen new
+  pub image : (conn_of new.node ≡ conn_of old.node) × (print_of new.node ≡ print_of old.node)
+
+-- the same, and nothing is submitted
+abbrev pub StaysSilent : Desk → Desk → Type 0
+StaysSilent old new = Stays old new × (submitted_by new.node ≡ submitted_by old.node)
+
+-- the same in so many ticks, at each of which the link is polled and the node submits what it hears
+pub record WorksOn (ticks : ℕ) (old new : Desk) (link link' : LinkSeen) : Type 0 where
+  pub stays : Stays old new
+  pub hears : Hears old.node new.node link link'
+  pub polls : HasRisenBy ticks link.polls link'.polls
+
+-- the keeper's studio was closed with these ends, and this is its core
+abbrev pub IsClosedTo : Keeper → List PenEnd → Core → Type 0
+IsClosedTo keeper ends core = (closed : Closed) × IsClosed keeper ends closed × (core ≡ closed.core)
+
+-- the desk's studio was closed, with what is left of its pen, and this is its core
+pub record IsLeftBy (desk : Desk) (core : Core) : Type 0 where
+  pub ends : List PenEnd
+  pub submitted : All (λ end. all_submitted end ≡ submitted_by desk.node) ends
+  pub closed : IsClosedTo desk.keeper ends core
+
+-- the core was shared over the link for so many ticks: mask and connectivity are the same, and its strokes come from
+-- what they were and from frames for its image that the link gave
+pub record IsShared (conn : Conn) (print : List ℕ) (ticks : ℕ) (link link' : LinkSeen) (before after : Core) : Type 0
+  where
+    pub given : List (List ℕ)
+    pub gives : HasGiven link link' given
+    pub polls : HasRisenBy ticks link.polls link'.polls
+    pub mask : after.mask ≡ before.mask
+    pub conn_is : after.conn ≡ before.conn
+    pub comes : ComesFrom conn print given before.state after.state
+
+-- a core of this mask and connectivity has these strokes
+pub record IsCoreOf (mask : Raster) (conn : Conn) (state : State) (core : Core) : Type 0 where
+  pub mask_is : core.mask ≡ mask
+  pub conn_is : core.conn ≡ conn
+  pub state_is : core.state ≡ state
+
+-- a delta was merged into the core, and this is the core
+abbrev pub MergesInto : Core → State → Core → Type 0
+MergesInto old delta new = (turnover : Turnover) × IsMerged old delta turnover new

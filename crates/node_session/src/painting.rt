@@ -1,0 +1,155 @@
+//! What a node's run makes of an input.
+
+ghost use Rattle.std.specs.Prelude.{◌≡◌, ◌⊎◌, IsTrue, IfOk, IfErr};
+ghost use Rattle.byte_devices.specs.Device.{HasRisenBy};
+ghost use Rattle.grid_core.specs.Tiles.{IsTileSide};
+ghost use Rattle.pgm_codec.specs.Graymap.{IsGraymap};
+ghost use Rattle.stroke_lattice.specs.Pieces.{pieces_of};
+ghost use Rattle.spd_codec.specs.StateFile.{SpellsFile, file_text, frames_of};
+ghost use Rattle.spd_codec.specs.Spelling.{max_bytes};
+ghost use Rattle.derived_views.specs.Shown.{IsShown};
+ghost use Rattle.core_rules.specs.Work.{IsQuiet};
+ghost use Rattle.paint_session.specs.RunError.{IsReadingFault};
+ghost use Rattle.paint_session.specs.declared.run_error.RunError.TheVariants as errors;
+ghost use Rattle.spd_codec.specs.declared.error.SpdError.TheVariants as spd;
+ghost use Rattle.node_session.specs.Shared.{IsImageShared, NodeStops};
+ghost use Rattle.studio.specs.Opening.{IsCount};
+ghost use Rattle.node_session.specs.Given.{HasGiven};
+ghost use Rattle.node_session.specs.Working.{IsCoreOf, MergesInto};
+
+use crate::sharing::{Room, Sharing, share};
+use grid_core::{Conn, Memory};
+use link_nodes::Link;
+use paint_session::gathering::{Gathered, gather};
+use paint_session::run_error::RunError;
+use pgm_codec::{Image, below_keeps_maxval};
+use reset_core::Core;
+use spd_codec::{Print, write_frames};
+use std::alloc::Global;
+use std::sync::Wait;
+use std::thread::Threads;
+use std::time::Clock;
+use stroke_lattice::State;
+
+/// How an input is painted: which pixels are neighbours, the side of the tiles, and who works for how long.
+#[derive(Clone, Copy)]
+pub(crate) struct Plan {
+    pub(crate) conn: Conn,
+    pub(crate) side: u32,
+    pub(crate) room: Room,
+}
+
+/// The image that an input asks for over the old bytes of a state file and what a node brings, and the new bytes.
+///
+/// Errors: those of [`node_run`](crate::node_run) but the devices' and C5.
+pub(crate) fn paint<R: Threads + Wait + Clock + Sync, L: Link>(
+    rt: &R,
+    alloc: Global,
+    input: &[u8],
+    old: &[u8],
+    plan: Plan,
+    link: &mut L,
+) -> Result<(Image, Vec<u8>), RunError>
+    requires { IsTileSide plan.side }
+    ensures hands { IfOk result (λ _. IsCount plan.room.hands) }
+    ensures polled { IfOk result (λ _.
+        HasRisenBy plan.room.ticks (L.seen link.old).polls (L.seen link.new).polls) }
+    ensures shown { IfOk result (λ parts. (given : _) × (state : _) × HasGiven (L.seen link.old) (L.seen link.new) given
+        × IsImageShared plan.conn old.now input.now given state parts.0 parts.1.items) }
+    ensures refused { IfErr result (λ e. IsReadingFault e
+        ⊎ NodeStops plan.conn plan.room.hands old.now input.now e) }
+{
+    let gathered = gather(alloc, input, old, plan.conn)?;
+    let Gathered { mask, print, state } = gathered;
+    let maxval = mask.maxval();
+    let core = core_of(alloc, mask, state, plan)?;
+    let sharing = Sharing {
+        conn: plan.conn,
+        print,
+        room: plan.room,
+    };
+    let shared = share(rt, alloc, core, sharing, link)?;
+    let quiet = settled(alloc, shared)?;
+    spelled(alloc, quiet, maxval, &print)
+}
+
+// A core of the mask with these strokes. They fit, nothing in a new core clashes with them, and no tile of it has spent
+// its generations, so that memory alone can be wanting.
+fn core_of(alloc: Global, mask: Image, state: State, plan: Plan) -> Result<Core, Memory>
+    requires side { IsTileSide plan.side }
+    ensures { IfOk result (IsCoreOf mask.raster plan.conn state) }
+{
+    let Ok(mut core) = Core::over(alloc, mask.into_grid(), plan.conn, plan.side, 0) else {
+        return Err(Memory);
+    };
+    if merges(alloc, &mut core, &state) {
+        Ok(core)
+    } else {
+        Err(let_go(core))
+    }
+}
+
+// Merges the strokes into a core, and says whether there was memory. It lets go what became live.
+fn merges(alloc: Global, core: &mut Core, state: &State) -> bool
+    ensures { IsTrue result → MergesInto core.old state.now core.new }
+{
+    core.merge(alloc, state).is_ok()
+}
+
+// Lets a core go, for want of memory.
+fn let_go(core: Core) -> Memory {
+    drop(core);
+    Memory
+}
+
+// The core, when no work is left.
+fn settled(alloc: Global, core: Core) -> Result<Core, Memory>
+    ensures quiet { IfOk result IsQuiet }
+    ensures same { IfOk result (IsCoreOf core.mask core.conn core.state) }
+{
+    let mut core = core;
+    match core.settle(alloc) {
+        Ok(_count) => Ok(core),
+        Err(Memory) => Err(let_go(core)),
+    }
+}
+
+// The image of a core, and the bytes that keep its strokes.
+fn spelled(
+    alloc: Global,
+    core: Core,
+    maxval: u16,
+    print: &Print,
+) -> Result<(Image, Vec<u8>), RunError>
+    requires quiet { IsQuiet core }
+    requires graymap { IsGraymap (record { raster = core.mask; maxval = maxval }) }
+    ensures shown { IfOk result (λ parts.
+        IsShown core.conn (record { raster = core.mask; maxval = maxval }) core.state parts.0) }
+    ensures text { IfOk result (λ parts.
+        parts.1.items ≡ file_text core.conn print.now (pieces_of max_bytes core.state)) }
+    ensures spells { IfOk result (λ parts.
+        SpellsFile parts.1.items (frames_of core.conn print.now (pieces_of max_bytes core.state))) }
+    ensures memory { IfErr result (λ e. e ≡ errors.Spd spd.Memory) }
+{
+    match write_frames(alloc, core.conn(), print, core.state()) {
+        Ok(new) => Ok((image_of(core, maxval), new)),
+        Err(e) => {
+            drop(core);
+            Err(RunError::Spd(e))
+        }
+    }
+}
+
+// The image of a core at which no work is left, with the mask's maxval.
+fn image_of(core: Core, maxval: u16) -> Image
+    requires quiet { IsQuiet core }
+    requires graymap { IsGraymap (record { raster = core.mask; maxval = maxval }) }
+    ensures { IsShown core.conn (record { raster = core.mask; maxval = maxval }) core.state result }
+{
+    below_keeps_maxval();
+    // For their clauses alone: the image is the reconstruction from the marker, and the marker is that of the strokes.
+    let _image = core.image();
+    let _marker = core.marker();
+    let (_mask, image, _state) = core.into_parts();
+    Image::over(image, maxval)
+}
