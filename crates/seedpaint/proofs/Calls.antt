@@ -22,7 +22,7 @@ use Rattle.paint_session.specs.declared.run_error.RunError.TheVariants.{StateFil
 use Rattle.seedpaint.specs.Run.{CanBeMade, EndsEarly, IsAnswer, RunEndsEarly, StopsOn, TellsLine}
 use Rattle.seedpaint.specs.Words.{IsRefusalOfWords, ProcessSays, Reads, Says, SideIs}
 use Rattle.seedpaint.specs.declared.words.Call.{Call}
-use Rattle.seedpaint.specs.declared.words.Call.TheVariants.{View, Derive}
+use Rattle.seedpaint.specs.declared.words.Call.TheVariants.{View, Node, Derive}
 
 -- what holds of the value of an `Ok` gives what it implies
 ok_gives : {T E : Type 0} (r : Result T E) (P : T → Type 0) (Q : Type 0) → ((x : T) → P x → Q) → IsOkAnd r P → Q
@@ -56,6 +56,8 @@ said_can_be_made words call (inl (none, is)) =
     subst CanBeMade (sym is) (record { at_least = omega arith; at_most = omega arith })
 said_can_be_made words (View conn side file) (inr (no_fault, (rows, named, conn_is, side_is, file_is))) =
     value_side _ side side_is
+said_can_be_made words (Node conn side port ticks hands peers file) (inr (no_fault, (rows, named, node))) =
+    value_side _ side node.side_is
 said_can_be_made words (Derive kind h conn) (inr said) = tt
 
 -- and so the call that the words of a process say

@@ -2,10 +2,10 @@
 use Rattle.std.proofs.Common.{rules, ◌≡◌, ℕ, ◌<◌, ◌≤◌, ◌^◌, List, Option, Some, None, option_map, codes, [], ◌∷◌}
 use Rattle.std.proofs.Common.{false, inl, inr}
 use Rattle.std.proofs.Common.{refl, sym, ap, ◌∙◌, subst, arith, length, get_or, decimal}
+use Rattle.std.specs.Option.{option_map_or}
 use Rattle.std.specs.Str.Parse.{AllDigits, digits_value}
-use Rattle.std.proofs.lemmas.Fmt.{decimal_is_IsNumeral, decimal_injective, decimal-digits_value}
-use Rattle.std.proofs.lemmas.Str.Parse.{IsNumeralModel}
-use Rattle.clap.specs.Words.{Row, Text, fault_of, first_of, found_of, rows_of, subcommand_name_of, subcommand_of}
+use Rattle.clap.specs.Words.{Row, Text, all_of, fault_of, first_of, found_of, rows_of, subcommand_name_of}
+use Rattle.clap.specs.Words.{subcommand_of}
 use Rattle.clap.specs.Words.{subcommand_rows_of}
 use Rattle.clap.specs.declared.parser.matches.ArgMatches.{ArgMatches}
 use Rattle.clap.specs.declared.parser.matches.ArgMatches.TheViews.{out-ArgMatches, out-SubCommand}
@@ -16,12 +16,14 @@ use Rattle.clap.specs.declared.builder.value_parser.Reading.TheVariants.{AsWritt
 use Rattle.std.specs.Box.{box_value}
 use Rattle.grid_core.specs.declared.conn.Conn.{Conn}
 use Rattle.grid_core.specs.Tiles.{IsTileSide}
-use Rattle.seedpaint.specs.Words.{program, ConnIs, SideIs, KindIs, HIs, IsCall, IsUsage, Says}
+use Rattle.seedpaint.proofs.Numbers.{is_decimal, number_value, one_number, one_within}
+use Rattle.seedpaint.proofs.Ports.{one_peers}
+use Rattle.seedpaint.specs.Words.{program, ConnIs, SideIs, KindIs, HIs, IsCall, IsNode, IsUsage, Says}
 use Rattle.seedpaint.specs.Words.{NamesNoConn, NamesNoSide, NamesNoKind, NamesNoH}
 use Rattle.paint_session.specs.declared.derive.Derivation.{Derivation as Kind}
 use Rattle.paint_session.specs.declared.derive.Derivation.TheVariants.{Fill, HMax, RegMax}
 use Rattle.seedpaint.specs.declared.words.Call.{Call}
-use Rattle.seedpaint.specs.declared.words.Call.TheVariants.{View, Derive}
+use Rattle.seedpaint.specs.declared.words.Call.TheVariants.{View, Node, Derive}
 
 -- both parts of a pair in an option
 both_parts : {B X Y : Type 0} (f : B → X × Y) (o : Option B) (x : X) (y : Y)
@@ -61,12 +63,16 @@ pub no_call : (rows : List Row) (named : Option (Text × List Row)) → named �
     → NamesNoConn (first_of (codes "conn") rows) → (call : Call) → IsCall named call → ⊥
 no_call rows named is none (View conn side file) (other, same, says, tile, kept) =
     search rules
+no_call rows named is none (Node conn side port ticks hands peers file) (other, same, node) =
+    search rules
 no_call rows named is none (Derive kind h conn) (other, same, is_kind, is_h, is_conn) =
     search rules
 
 pub no_sided_call : (rows : List Row) (named : Option (Text × List Row)) → named ≡ Some (codes "view", rows)
     → NamesNoSide (first_of (codes "tile") rows) → (call : Call) → IsCall named call → ⊥
 no_sided_call rows named is none (View conn side file) (other, same, says, tile, kept) =
+    search rules
+no_sided_call rows named is none (Node conn side port ticks hands peers file) (other, same, node) =
     search rules
 no_sided_call rows named is none (Derive kind h conn) (other, same, is_kind, is_h, is_conn) =
     search rules
@@ -76,12 +82,16 @@ pub no_kind_call : (rows : List Row) (named : Option (Text × List Row)) → nam
     → NamesNoKind (first_of (codes "kind") rows) → (call : Call) → IsCall named call → ⊥
 no_kind_call rows named is none (View conn side file) (other, same, says, tile, kept) =
     search rules
+no_kind_call rows named is none (Node conn side port ticks hands peers file) (other, same, node) =
+    search rules
 no_kind_call rows named is none (Derive kind h conn) (other, same, is_kind, is_h, is_conn) =
     search rules
 
 pub no_h_call : (rows : List Row) (named : Option (Text × List Row)) → named ≡ Some (codes "derive", rows)
     → NamesNoH (first_of (codes "h") rows) → (call : Call) → IsCall named call → ⊥
 no_h_call rows named is none (View conn side file) (other, same, says, tile, kept) =
+    search rules
+no_h_call rows named is none (Node conn side port ticks hands peers file) (other, same, node) =
     search rules
 no_h_call rows named is none (Derive kind h conn) (other, same, is_kind, is_h, is_conn) =
     search rules
@@ -90,8 +100,26 @@ pub no_joined_call : (rows : List Row) (named : Option (Text × List Row)) → n
     → NamesNoConn (first_of (codes "conn") rows) → (call : Call) → IsCall named call → ⊥
 no_joined_call rows named is none (View conn side file) (other, same, says, tile, kept) =
     search rules
+no_joined_call rows named is none (Node conn side port ticks hands peers file) (other, same, node) =
+    search rules
 no_joined_call rows named is none (Derive kind h conn) (other, same, is_kind, is_h, is_conn) =
     search rules
+
+-- a name has one list of rows
+same_rows : (name : Text) (a b : List Row)
+    → ◌≡◌ {A = Option (Text × List Row)} (Some (name, a)) (Some (name, b)) → a ≡ b
+same_rows name a b = ap (λ (found : Option (Text × List Row)). option_map_or (λ p. p.1) found [])
+
+-- a call of a node is one by its rows
+pub no_node_call : (rows : List Row) → ((conn : Conn) (side port ticks hands : ℕ) (peers : List ℕ) (file : Option Text)
+    → IsNode rows conn side port ticks hands peers file → ⊥) → (call : Call) → IsCall (Some (codes "node", rows)) call
+    → ⊥
+no_node_call rows none (View conn side file) (other, same, says, tile, kept) = search rules
+no_node_call rows none (Node conn side port ticks hands peers file) (other, same, node) =
+    let is : other ≡ rows = same_rows (codes "node") other rows (sym same) in
+    none conn side port ticks hands peers file
+    (subst (λ (r : List Row). IsNode r conn side port ticks hands peers file) is node)
+no_node_call rows none (Derive kind h conn) (other, same, is_kind, is_h, is_conn) = search rules
 
 -- no word is no subcommand
 no_word_is_fault : fault_of program [] ≡ [] → ⊥
@@ -102,27 +130,6 @@ no_word_is_fault same = search rules
 one_conn : (value : Option Text) (a b : Conn) → ConnIs value a → ConnIs value b → a ≡ b
 one_conn None a b first second = search rules
 one_conn (Some v) a b first second = search rules
-
--- ---- numbers in decimal, the values of `--tile` and `--h`
-
--- what the decimal text of a number says
-number_value : (value : Text) (n : ℕ) → value ≡ decimal n → n < 2 ^ 32 → digits_value 10 value ≡ n
-number_value value n is small =
-    rw is (decimal_is_IsNumeral n (omega (arith, small))).1
-
--- a text is at most one number in decimal
-pub one_number : (value : Text) (a b : ℕ) → value ≡ decimal a → a < 2 ^ 32 → value ≡ decimal b → b < 2 ^ 32 → a ≡ b
-one_number value a b first small second also =
-    decimal_injective a b (omega (arith, small)) (omega (arith, also)) (sym first ∙ second)
-
--- digits without a zero in front are the number that they say, in decimal
-pub is_decimal : (value : Text) (n : ℕ) → digits_value 10 value ≡ n → AllDigits 10 value → 0 < length value
-    → (get_or value 0 0 ≡ 48 → length value ≡ 1) → n < 2 ^ 32 → value ≡ decimal n
-is_decimal value n is all some no_zero small =
-    let model : IsNumeralModel (AllDigits 10) (digits_value 10) =
-    record { to = λ ds h. h; from = λ ds h. h; same = λ ds h. refl } in
-    let fits : digits_value 10 value < 2 ^ 64 = rw is (omega (arith, small)) in
-    sym (decimal-digits_value model value all some no_zero fits) ∙ ap decimal is
 
 -- a side that tiles may have and a number of 16 bits are numbers of 32 bits
 pub small_side : (side : ℕ) → IsTileSide side → side < 2 ^ 32
@@ -177,11 +184,38 @@ one_kind word HMax RegMax first second = search rules
 one_kind word RegMax Fill first second = search rules
 one_kind word RegMax HMax first second = search rules
 
+-- rows say at most one node
+one_node : (rows : List Row) (a b : Conn) (s t p q k l h i : ℕ) (ps qs : List ℕ) (f g : Option Text)
+    → IsNode rows a s p k h ps f → IsNode rows b t q l i qs g → Node a s p k h ps f ≡ Node b t q l i qs g
+one_node rows a b s t p q k l h i ps qs f g first second =
+    let conn : a ≡ b = one_conn (first_of (codes "conn") rows) a b first.conn_is second.conn_is in
+    let side : s ≡ t = one_side (first_of (codes "tile") rows) s t first.side_is second.side_is in
+    let file : f ≡ g = first.file_is ∙ sym second.file_is in
+    let port : p ≡ q =
+    one_within None 1 65535 (omega arith) (first_of (codes "port") rows) p q first.port_is second.port_is in
+    let ticks : k ≡ l =
+    one_within None 1 100000 (omega arith) (first_of (codes "ticks") rows) k l first.ticks_is second.ticks_is in
+    let hands : h ≡ i =
+    one_within (Some 2) 1 16 (omega arith) (first_of (codes "hands") rows) h i first.hands_is second.hands_is in
+    let peers : ps ≡ qs = one_peers (all_of (codes "peer") rows) ps qs first.peers_are second.peers_are in
+    cc
+
 -- words say at most one call
 pub one_call : (words : List Text) (a b : Call) → Says words a → Says words b → a ≡ b
 one_call words (View a s f) (View b t g) first second = search (rules, one_conn, one_side, no_word_is_fault)
 one_call words (View a s f) (Derive kind h conn) first second = search (rules, no_word_is_fault)
+one_call words (View a s f) (Node b t q l i qs g) first second = search (rules, no_word_is_fault)
 one_call words (Derive kind h conn) (View b t g) first second = search (rules, no_word_is_fault)
+one_call words (Derive kind h conn) (Node b t q l i qs g) first second = search (rules, no_word_is_fault)
+one_call words (Node a s p k h ps f) (View b t g) first second = search (rules, no_word_is_fault)
+one_call words (Node a s p k h ps f) (Derive kind n conn) first second = search (rules, no_word_is_fault)
+one_call words (Node a s p k h ps f) (Node b t q l i qs g) (inr (fault, (rows, named, node)))
+    (inr (same, (others, is, other))) =
+    let again : others ≡ rows = same_rows (codes "node") others rows (sym is ∙ named) in
+    one_node rows a b s t p q k l h i ps qs f g node
+    (subst (λ (r : List Row). IsNode r b t q l i qs g) again other)
+one_call words (Node a s p k h ps f) (Node b t q l i qs g) (inl (none, is)) second = cc
+one_call words (Node a s p k h ps f) (Node b t q l i qs g) (inr first) (inl (none, is)) = cc
 one_call words (Derive kind h a) (Derive other g b) first second =
     search (rules, one_kind, one_h, one_conn, no_word_is_fault)
 
@@ -229,12 +263,25 @@ usage_at_kind words rows some is none call (inl (no_word, is_call)) = search rul
 usage_at_kind words rows some is none call (inr (no_fault, is_call)) =
     no_kind_call rows (subcommand_of program words) is none call is_call
 
--- the row of a word or of an option's value in the words
-abbrev pub option_row : Text → Text → Row
-option_row name value = record {
+-- words behind `node` that say none say no call
+pub usage_at_node : (words : List Text) (rows : List Row) → is_empty words ≡ false
+    → subcommand_of program words ≡ Some (codes "node", rows)
+    → ((conn : Conn) (side port ticks hands : ℕ) (peers : List ℕ) (file : Option Text)
+    → IsNode rows conn side port ticks hands peers file → ⊥) → IsUsage words
+usage_at_node words rows some is none call (inl (no_word, is_call)) = search rules
+usage_at_node words rows some is none call (inr (no_fault, is_call)) =
+    no_node_call rows none call (subst (λ named. IsCall named call) is is_call)
+
+-- the row of a word that is given several times
+abbrev pub words_row : Text → List Text → Row
+words_row name values = record {
   id = name;
-  values = value ∷ [];
+  values = values;
   count = None;
   source = Some CommandLine;
   reading = AsWritten;
 }
+
+-- the row of a word or of an option's value in the words
+abbrev pub option_row : Text → Text → Row
+option_row name value = words_row name (value ∷ [])

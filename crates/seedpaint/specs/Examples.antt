@@ -5,7 +5,7 @@ use Rattle.grid_core.specs.declared.conn.Conn.TheVariants.{Four, Eight}
 use Rattle.paint_session.specs.declared.derive.Derivation.TheVariants.{Fill, HMax, RegMax}
 use Rattle.seedpaint.specs.Words.{Says}
 use Rattle.seedpaint.specs.declared.words.Call.{Call}
-use Rattle.seedpaint.specs.declared.words.Call.TheVariants.{View, Derive}
+use Rattle.seedpaint.specs.declared.words.Call.TheVariants.{View, Node, Derive}
 
 -- words, and the call that they are to say
 abbrev pub Example : Type 0
@@ -25,6 +25,18 @@ of_a_view =
     (codes "view" ∷ codes "--state" ∷ codes "a" ∷ [], View Four 64 (Some (codes "a"))) ∷
     (codes "view" ∷ codes "--conn" ∷ codes "8" ∷ codes "--tile" ∷ codes "16" ∷ [], View Eight 16 None) ∷
     []
+
+-- a node: as short as it can be; with every option, the least and the greatest numbers, and peers in two groups
+abbrev pub of_a_node : List Example
+of_a_node = (
+  codes "node" ∷ codes "--port" ∷ codes "40001" ∷ codes "--ticks" ∷ codes "3" ∷ codes "40002" ∷ [],
+  Node Four 64 40001 3 2 (40002 ∷ []) None,
+) ∷ (
+  codes "node" ∷ codes "1" ∷ codes "--ticks" ∷ codes "100000" ∷ codes "--hands" ∷ codes "16" ∷ codes "--conn"
+      ∷ codes "8" ∷ codes "--tile" ∷ codes "8" ∷ codes "--state" ∷ codes "a" ∷ codes "--port" ∷ codes "65535"
+      ∷ codes "65535" ∷ codes "1" ∷ codes "1" ∷ codes "1" ∷ codes "1" ∷ codes "1" ∷ codes "1" ∷ [],
+  Node Eight 8 65535 100000 16 (1 ∷ 65535 ∷ 1 ∷ 1 ∷ 1 ∷ 1 ∷ 1 ∷ 1 ∷ []) (Some (codes "a")),
+) ∷ []
 
 -- a derivation: of each kind, with the least h and the greatest, and with its options in front
 abbrev pub of_a_derivation : List Example
@@ -66,4 +78,34 @@ of_no_call =
     (codes "derive" ∷ codes "fill" ∷ codes "--state" ∷ codes "a" ∷ []) ∷
     (codes "view" ∷ codes "--h" ∷ codes "2" ∷ []) ∷
     (codes "" ∷ []) ∷
+    []
+
+-- no node: a number that is too small, too great or not in decimal, an option that is missing or there twice, no peer
+-- or nine of them, and an option of another subcommand
+abbrev pub of_no_node : List (List Text)
+of_no_node =
+    (codes "node" ∷ codes "--port" ∷ codes "0" ∷ codes "--ticks" ∷ codes "3" ∷ codes "1" ∷ []) ∷
+    (codes "node" ∷ codes "--port" ∷ codes "65536" ∷ codes "--ticks" ∷ codes "3" ∷ codes "1" ∷ []) ∷
+    (codes "node" ∷ codes "--port" ∷ codes "08" ∷ codes "--ticks" ∷ codes "3" ∷ codes "1" ∷ []) ∷
+    (codes "node" ∷ codes "--ticks" ∷ codes "3" ∷ codes "1" ∷ []) ∷
+    (codes "node" ∷ codes "--port" ∷ codes "9" ∷ codes "--ticks" ∷ codes "0" ∷ codes "1" ∷ []) ∷
+    (codes "node" ∷ codes "--port" ∷ codes "9" ∷ codes "--ticks" ∷ codes "100001" ∷ codes "1" ∷ []) ∷
+    (codes "node" ∷ codes "--port" ∷ codes "9" ∷ codes "--ticks" ∷ codes "+5" ∷ codes "1" ∷ []) ∷
+    (codes "node" ∷ codes "--port" ∷ codes "9" ∷ codes "1" ∷ []) ∷
+    (codes "node" ∷ codes "--port" ∷ codes "9" ∷ codes "--ticks" ∷ codes "3" ∷ codes "--hands" ∷ codes "0" ∷ codes "1"
+    ∷ []) ∷
+    (codes "node" ∷ codes "--port" ∷ codes "9" ∷ codes "--ticks" ∷ codes "3" ∷ codes "--hands" ∷ codes "17" ∷ codes "1"
+    ∷ []) ∷
+    (codes "node" ∷ codes "--port" ∷ codes "9" ∷ codes "--ticks" ∷ codes "3" ∷ codes "--tile" ∷ codes "7" ∷ codes "1"
+    ∷ []) ∷
+    (codes "node" ∷ codes "--port" ∷ codes "9" ∷ codes "--ticks" ∷ codes "3" ∷ codes "--tile" ∷ codes "257" ∷ codes "1"
+    ∷ []) ∷
+    (codes "node" ∷ codes "--port" ∷ codes "9" ∷ codes "--ticks" ∷ codes "3" ∷ []) ∷
+    (codes "node" ∷ codes "--port" ∷ codes "9" ∷ codes "--ticks" ∷ codes "3" ∷ codes "1" ∷ codes "1" ∷ codes "1"
+    ∷ codes "1" ∷ codes "1" ∷ codes "1" ∷ codes "1" ∷ codes "1" ∷ codes "1" ∷ []) ∷
+    (codes "node" ∷ codes "--port" ∷ codes "9" ∷ codes "--ticks" ∷ codes "3" ∷ codes "1" ∷ codes "0" ∷ []) ∷
+    (codes "node" ∷ codes "--port" ∷ codes "9" ∷ codes "--ticks" ∷ codes "3" ∷ codes "1" ∷ codes "65536" ∷ []) ∷
+    (codes "node" ∷ codes "--port" ∷ codes "9" ∷ codes "--ticks" ∷ codes "3" ∷ codes "--port" ∷ codes "9" ∷ codes "1"
+    ∷ []) ∷
+    (codes "view" ∷ codes "--port" ∷ codes "9" ∷ []) ∷
     []

@@ -6,6 +6,10 @@ pub use Rattle.paint_session.specs.Serving
 pub use Rattle.paint_session.specs.View
 pub use Rattle.paint_session.specs.Kept
 pub use Rattle.paint_session.specs.Derive
+pub use Rattle.node_session.specs.Given
+pub use Rattle.node_session.specs.Shared
+pub use Rattle.node_session.specs.Network
+pub use Rattle.node_session.specs.Stored
 pub mod Words
 pub mod Examples
 pub mod Run

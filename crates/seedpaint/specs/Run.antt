@@ -13,40 +13,54 @@ use Rattle.paint_session.specs.Store.{Held}
 use Rattle.paint_session.specs.View.{IsView, InputStops}
 use Rattle.paint_session.specs.declared.run_error.RunError.{RunError}
 use Rattle.paint_session.specs.declared.run_error.RunError.TheVariants.{Memory, Usage}
+use Rattle.node_session.specs.Network.{IsBound, NetworkSeen}
+use Rattle.node_session.specs.Stored.{IsNodeFault, IsStoredNode, StoredNodeStops}
 use Rattle.seedpaint.specs.Words.{ProcessSays}
 use Rattle.seedpaint.specs.declared.words.Call.{Call}
-use Rattle.seedpaint.specs.declared.words.Call.TheVariants.{View, Derive}
+use Rattle.seedpaint.specs.declared.words.Call.TheVariants.{View, Node, Derive}
 
 -- the call can be made: tiles may have the side that it names, where it names one
 abbrev pub CanBeMade : Call → Type 0
 CanBeMade (View conn side file) = IsTileSide side
+CanBeMade (Node conn side port ticks hands peers file) = IsTileSide side
 CanBeMade (Derive kind h conn) = ⊤
 
--- the text is what the call writes for an input, and this is to be kept: for a view with a state file the new bytes of
--- that, over what files hold, else nothing
+-- the text is what the call writes for an input, and this is to be kept: for a view or a node with a state file the new
+-- bytes of that, over what files hold, else nothing
 abbrev pub IsAnswer : Call → Held → List ℕ → List ℕ → ToKeep → Type 0
 IsAnswer (View conn side None) held input text kept =
     ((state : State) × IsView conn nothing input state text) × (kept ≡ None)
 IsAnswer (View conn side (Some name)) held input text kept = IsStoredView conn held name input text kept
+IsAnswer (Node conn side port ticks hands peers file) held input text kept =
+    IsStoredNode conn hands file held input text kept
 IsAnswer (Derive kind h conn) held input text kept = IsDerivation kind h conn input text × (kept ≡ None)
 
 -- where the call stops on an input
 abbrev pub StopsOn : Call → Held → List ℕ → RunError → Type 0
 StopsOn (View conn side None) held input e = InputStops nothing input e
 StopsOn (View conn side (Some name)) held input e = StoredStops conn held name input e
+StopsOn (Node conn side port ticks hands peers file) held input e = StoredNodeStops conn hands file held input e
 StopsOn (Derive kind h conn) held input e = DerivationStops input e
 
--- the errors of the call that may come whatever the input is; V2 is among them where it has a state file
+-- the errors of the call that may come whatever the input is; V2 is among them where it has a state file, and D3 where
+-- it is a node
 abbrev pub EndsEarly : Call → RunError → Type 0
 EndsEarly (View conn side None) e = IsReadingFault e
 EndsEarly (View conn side (Some name)) e = IsStoreFault e
+EndsEarly (Node conn side port ticks hands peers file) e = IsNodeFault file e
 EndsEarly (Derive kind h conn) e = IsReadingFault e
+
+-- how the call leaves the network: a node bound its port, to its peers, and no other call asks it
+abbrev pub Leaves : Call → NetworkSeen → NetworkSeen → Type 0
+Leaves (View conn side file) old new = new ≡ old
+Leaves (Node conn side port ticks hands peers file) old new = IsBound port peers new
+Leaves (Derive kind h conn) old new = new ≡ old
 
 -- the words of the process say a call, and this holds of it
 abbrev pub IsSaid : {Z E : Type 0} → Result (IntoIter (String Z) Z) E → (Call → Type 0) → Type 0
 IsSaid args P = (call : Call) × ProcessSays args call × P call
 
--- the same three of the call that the words say; words that say none are usage, and reading them may find no memory
+-- the same four of the call that the words say; words that say none are usage, and reading them may find no memory
 abbrev pub RunAnswers : {Z E : Type 0} → Result (IntoIter (String Z) Z) E → Held → List ℕ → List ℕ → ToKeep → Type 0
 RunAnswers args held input text kept = IsSaid args (λ call. IsAnswer call held input text kept)
 
@@ -55,6 +69,9 @@ RunStops args held input e = IsSaid args (λ call. StopsOn call held input e)
 
 abbrev pub RunEndsEarly : {Z E : Type 0} → Result (IntoIter (String Z) Z) E → RunError → Type 0
 RunEndsEarly args e = (e ≡ Usage) ⊎ (e ≡ Memory) ⊎ IsSaid args (λ call. EndsEarly call e)
+
+abbrev pub RunLeaves : {Z E : Type 0} → Result (IntoIter (String Z) Z) E → NetworkSeen → NetworkSeen → Type 0
+RunLeaves args old new = IsSaid args (λ call. Leaves call old new)
 
 -- the line of a fault, with its LF
 abbrev pub error_line : RunError → List ℕ

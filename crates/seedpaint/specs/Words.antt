@@ -1,19 +1,21 @@
 -- What the words of the command line say.
 use Rattle.std.specs.Prelude.{◌≡◌, ◌≤◌, ◌⊎◌, ℕ, [], List, Option, Some, None, String, map, drop, codes, true, false}
-use Rattle.std.specs.Prelude.{string_bytes, decimal, Result, Err, IfOk, IfErr, IsOkAnd}
+use Rattle.std.specs.Prelude.{string_bytes, decimal, length, All, Result, Err, IfOk, IfErr, IsOkAnd}
 use Rattle.std.specs.Iterator.{Drains}
 use Rattle.std.specs.Vec.Iter.{into_iter_steps}
 use Rattle.std.specs.declared.vec.IntoIter.{IntoIter}
-use Rattle.clap.specs.Words.{App, Row, Rule, Text, app_of, first_of, fault_of, new_app, new_rule, subcommand_of}
+use Rattle.clap.specs.Words.{App, Row, Rule, Text, all_of, app_of, first_of, fault_of, new_app, new_rule}
+use Rattle.clap.specs.Words.{subcommand_of}
 use Rattle.clap.specs.Words.{with_rule, with_subcommand}
 use Rattle.clap.specs.Simple.{on_top}
+use Rattle.clap.specs.declared.builder.action.ArgAction.TheVariants.{Append}
 use Rattle.clap.specs.declared.builder.command.Command.{Command}
 use Rattle.clap.specs.declared.builder.command.Command.TheViews.{out-Command}
 use Rattle.grid_core.specs.declared.conn.Conn.{Conn}
 use Rattle.grid_core.specs.declared.conn.Conn.TheVariants.{Four, Eight}
 use Rattle.grid_core.specs.Tiles.{IsTileSide}
 use Rattle.seedpaint.specs.declared.words.Call.{Call}
-use Rattle.seedpaint.specs.declared.words.Call.TheVariants.{View, Derive}
+use Rattle.seedpaint.specs.declared.words.Call.TheVariants.{View, Node, Derive}
 use Rattle.paint_session.specs.declared.derive.Derivation.{Derivation as Kind}
 use Rattle.paint_session.specs.declared.derive.Derivation.TheVariants.{Fill, HMax, RegMax}
 use Rattle.paint_session.specs.declared.run_error.RunError.{RunError}
@@ -23,10 +25,24 @@ use Rattle.paint_session.specs.declared.run_error.RunError.TheVariants.{Memory, 
 abbrev pub option_of : Text → Rule
 option_of name = record (new_rule name) { long = Some name }
 
+-- the word `name`, which may be given several times: all uses count together
+abbrev pub words_of : Text → Rule
+words_of name = record (new_rule name) { action = Some Append }
+
+-- a subcommand with the options of a view
+abbrev pub viewing_command : Text → App
+viewing_command name = with_rule (with_rule (with_rule (new_app name) (option_of (codes "conn")))
+    (option_of (codes "tile"))) (option_of (codes "state"))
+
 -- the subcommand `view`, with these options alone
 abbrev pub view_command : App
-view_command = with_rule (with_rule (with_rule (new_app (codes "view")) (option_of (codes "conn")))
-    (option_of (codes "tile"))) (option_of (codes "state"))
+view_command = viewing_command (codes "view")
+
+-- the subcommand `node`, with these too and its own, and with the words for its peers
+abbrev pub node_command : App
+node_command =
+    with_rule (with_rule (with_rule (with_rule (viewing_command (codes "node")) (option_of (codes "port")))
+    (option_of (codes "ticks"))) (option_of (codes "hands"))) (words_of (codes "peer"))
 
 -- the subcommand `derive`, with the word behind it and these options alone
 abbrev pub derive_command : App
@@ -35,12 +51,12 @@ derive_command = with_rule (with_rule (with_rule (new_app (codes "derive")) (new
 
 -- the program: its words begin behind its name, they have to name a subcommand, and they can ask for no help
 abbrev pub program : App
-program = with_subcommand (with_subcommand (on_top (λ top. record top {
+program = with_subcommand (with_subcommand (with_subcommand (on_top (λ top. record top {
   no_binary_name = true;
   disable_help_flag = true;
   disable_help_subcommand = true;
   subcommand_required = true;
-}) (new_app (codes "seedpaint"))) view_command.top) derive_command.top
+}) (new_app (codes "seedpaint"))) view_command.top) derive_command.top) node_command.top
 
 -- what clap knows of the command is this, and none of its arguments is one of its subcommands too
 abbrev pub IsLocal : App → Command → Type 0
@@ -87,12 +103,51 @@ HIs (Some value) h = (value ≡ decimal h) × (h ≤ 65535)
 abbrev pub NamesNoH : Option Text → Type 0
 NamesNoH value = (h : ℕ) → HIs value h → ⊥
 
+-- the text is this number in decimal, in this range; where there is no text, it is this default, if there is one
+abbrev pub NumberIs : Option ℕ → ℕ → ℕ → Option Text → ℕ → Type 0
+NumberIs default least most None n = default ≡ Some n
+NumberIs default least most (Some value) n = (value ≡ decimal n) × (least ≤ n) × (n ≤ most)
+
+-- the value of `--port` is this port, 1 to 65535; it has to be there
+abbrev pub PortIs : Option Text → ℕ → Type 0
+PortIs = NumberIs None 1 65535
+
+-- the value of `--ticks` is this number, 1 to 100000; it has to be there
+abbrev pub TicksIs : Option Text → ℕ → Type 0
+TicksIs = NumberIs None 1 100000
+
+-- the value of `--hands` is this number, 1 to 16; where there is none, it is 2
+abbrev pub HandsIs : Option Text → ℕ → Type 0
+HandsIs = NumberIs (Some 2) 1 16
+
+-- the texts are these ports in decimal, each 1 to 65535
+abbrev pub ArePorts : List Text → List ℕ → Type 0
+ArePorts values ports = All (λ port. (1 ≤ port) × (port ≤ 65535)) ports × (values ≡ map decimal ports)
+
+-- the words behind `node` are these ports; there are 1 to 8 of them
+abbrev pub PeersAre : Option (List Text) → List ℕ → Type 0
+PeersAre None peers = ⊥
+PeersAre (Some values) peers = ArePorts values peers × (1 ≤ length peers) × (length peers ≤ 8)
+
+-- what the words give the options of `node`, and its peers, is this
+pub record IsNode (rows : List Row) (conn : Conn) (side port ticks hands : ℕ) (peers : List ℕ) (file : Option Text)
+    : Type 0 where
+  pub conn_is : ConnIs (first_of (codes "conn") rows) conn
+  pub side_is : SideIs (first_of (codes "tile") rows) side
+  pub file_is : file ≡ first_of (codes "state") rows
+  pub port_is : PortIs (first_of (codes "port") rows) port
+  pub ticks_is : TicksIs (first_of (codes "ticks") rows) ticks
+  pub hands_is : HandsIs (first_of (codes "hands") rows) hands
+  pub peers_are : PeersAre (all_of (codes "peer") rows) peers
+
 -- the subcommand that the words name, with what they give its options, is this call; the value of `--state` is the name
 -- of the state file
 abbrev pub IsCall : Option (Text × List Row) → Call → Type 0
 IsCall named (View conn side file) =
     (rows : List Row) × (named ≡ Some (codes "view", rows)) × ConnIs (first_of (codes "conn") rows) conn
     × SideIs (first_of (codes "tile") rows) side × (file ≡ first_of (codes "state") rows)
+IsCall named (Node conn side port ticks hands peers file) =
+    (rows : List Row) × (named ≡ Some (codes "node", rows)) × IsNode rows conn side port ticks hands peers file
 IsCall named (Derive kind h conn) =
     (rows : List Row) × (named ≡ Some (codes "derive", rows)) × KindIs (first_of (codes "kind") rows) kind
     × HIs (first_of (codes "h") rows) h × ConnIs (first_of (codes "conn") rows) conn

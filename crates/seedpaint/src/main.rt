@@ -1,15 +1,17 @@
 #![tactic(auto)]
 //! Seedpaint grows seed strokes into a greyscale image: edit lines, a line `image` and a PGM file on
 //! standard input, the reconstruction by dilation as a raw PGM file on standard output. Of one PGM file it derives
-//! others: its holes filled, its h-maxima, its regional maxima.
+//! others: its holes filled, its h-maxima, its regional maxima. As a node it shares an image with others over UDP, on
+//! loopback, before it writes it.
 //!
-//! `words` reads the command line, and `process` makes the call that its words say, by the library `paint_session`.
-//! Read on in `docs/ARCHITECTURE.md`.
+//! `words` reads the command line, and `process` makes the call that its words say, by the libraries `paint_session`
+//! and `node_session`. Read on in `docs/ARCHITECTURE.md`.
 
 pub mod process;
 pub mod words;
 
 use byte_devices::{StdSink, StdSource};
+use node_session::network::Loopback;
 use paint_session::store::FileStore;
 use process::{conclude, run};
 use std::env;
@@ -19,11 +21,14 @@ fn main(rt: HostRuntime) -> ExitCode {
     let mut source = StdSource::new(rt.stdin());
     let mut sink = StdSink::new(rt.stdout());
     let mut store = FileStore::new(&rt);
+    let mut network = Loopback::new(&rt);
     let outcome = run(
+        &rt,
         rt.alloc(),
         env::args(&rt),
         &mut source,
         &mut store,
+        &mut network,
         &mut sink,
     );
     conclude(rt.alloc(), &outcome, &mut StdSink::new(rt.stderr()))

@@ -4,13 +4,16 @@ ghost use Rattle.std.specs.Prelude.{◌≡◌, IfOk, IsErrOf, MatchResult, strin
 ghost use Rattle.std.specs.Process.{exit_status};
 ghost use Rattle.paint_session.specs.RunError.{HasStatus};
 ghost use Rattle.paint_session.specs.Serving.{AnswersOverStore};
-ghost use Rattle.seedpaint.specs.Run.{CanBeMade, EndsEarly, IsAnswer, StopsOn, error_line};
-ghost use Rattle.seedpaint.specs.Run.{RunAnswers, RunEndsEarly, RunStops, Tells, TellsFault, TellsLine};
+ghost use Rattle.node_session.specs.Network.{TellsNetwork};
+ghost use Rattle.seedpaint.specs.Run.{CanBeMade, EndsEarly, IsAnswer, Leaves, StopsOn, error_line};
+ghost use Rattle.seedpaint.specs.Run.{RunAnswers, RunEndsEarly, RunLeaves, RunStops, Tells, TellsFault, TellsLine};
 ghost use Rattle.seedpaint.specs.Words.{ProcessSaysNone};
 
 use crate::words::{Call, read_process_words};
 use byte_devices::{Sink, Source, put_all};
 use grid_core::Memory;
+use node_session::network::Network;
+use node_session::stored::{NodeCall, node_stored};
 use paint_session::derive::derive_run;
 use paint_session::run_error::{RunError, fault_line, status};
 use paint_session::store::StateStore;
@@ -18,51 +21,84 @@ use paint_session::stored::view_stored;
 use paint_session::view::view_run;
 use std::alloc::Global;
 use std::process::ExitCode;
+use std::sync::Wait;
+use std::thread::Threads;
+use std::time::Clock;
 use std::{env, io};
 
 /// Makes the call that the words of the process say, as `env::args` gives them, from the source to the sink. The state
-/// file of a view that has one is loaded from the store before the source is read, and saved after the image is
-/// written.
+/// file of a view or a node that has one is loaded from the store before the source is read, and saved after the image
+/// is written. A node binds its port on the network, between the load and the reading.
 ///
-/// Errors: usage, with source, store and sink as they were; else those of the call ([`view_run`], [`view_stored`],
-/// [`derive_run`]). After each the files are as they were.
-pub fn run<S: Source, T: StateStore, K: Sink>(
+/// Errors: usage, with source, store, network and sink as they were; else those of the call ([`view_run`],
+/// [`view_stored`], [`node_stored`], [`derive_run`]). After each the files are as they were.
+pub fn run<R: Threads + Wait + Clock + Sync, S: Source, T: StateStore, N: Network, K: Sink>(
+    rt: &R,
     alloc: Global,
     args: io::Result<env::Args>,
     source: &mut S,
     store: &mut T,
+    network: &mut N,
     sink: &mut K,
 ) -> Result<(), RunError>
     ensures runs { AnswersOverStore (RunAnswers args) (RunStops args) (RunEndsEarly args) result
         S.seen source.old source.new T.seen store.old store.new K.seen sink.old sink.new }
+    ensures network { TellsNetwork (RunLeaves args (N.seen network.old)) result
+        (N.seen network.old) (N.seen network.new) }
 
-    // Words that say no call are usage, and leave the source alone.
+    // Words that say no call are usage, and leave the source alone. So does a port that could not be bound.
     ensures usage { IsErrOf result RunError.Usage → ProcessSaysNone args }
     ensures unread { IsErrOf result RunError.Usage → source.new ≡ source.old }
+    ensures unbound { IsErrOf result RunError.Link → source.new ≡ source.old }
 {
     let call = read_process_words(alloc, args)?;
-    make(alloc, source, &call, store, sink)
+    make(rt, alloc, source, call, store, network, sink)
 }
 
 // Makes a call, from the source to the sink.
-fn make<S: Source, T: StateStore, K: Sink>(
+fn make<R: Threads + Wait + Clock + Sync, S: Source, T: StateStore, N: Network, K: Sink>(
+    rt: &R,
     alloc: Global,
     source: &mut S,
-    call: &Call,
+    call: Call,
     store: &mut T,
+    network: &mut N,
     sink: &mut K,
 ) -> Result<(), RunError>
-    requires { CanBeMade call.now }
-    ensures runs { AnswersOverStore (IsAnswer call.now) (StopsOn call.now) (EndsEarly call.now) result
+    requires can_be { CanBeMade call }
+    ensures runs { AnswersOverStore (IsAnswer call) (StopsOn call) (EndsEarly call) result
         S.seen source.old source.new T.seen store.old store.new K.seen sink.old sink.new }
+    ensures network { TellsNetwork (Leaves call (N.seen network.old)) result
+        (N.seen network.old) (N.seen network.new) }
     ensures no_usage { IsErrOf result RunError.Usage → ⊥ }
+    ensures unbound { IsErrOf result RunError.Link → source.new ≡ source.old }
 {
     match call {
         Call::View { conn, side, file } => match file {
-            None => view_run(alloc, source, *conn, sink),
-            Some(path) => view_stored(alloc, source, *conn, *side, path, store, sink),
+            None => view_run(alloc, source, conn, sink),
+            Some(path) => view_stored(alloc, source, conn, side, &path, store, sink),
         },
-        Call::Derive { kind, h, conn } => derive_run(alloc, source, *kind, *h, *conn, sink),
+        Call::Node {
+            conn,
+            side,
+            port,
+            ticks,
+            hands,
+            peers,
+            file,
+        } => {
+            let call = NodeCall {
+                conn,
+                side,
+                hands,
+                ticks,
+                port,
+                peers: peers.into_ports(),
+                file: file.as_ref(),
+            };
+            node_stored(rt, alloc, source, call, store, network, sink)
+        }
+        Call::Derive { kind, h, conn } => derive_run(alloc, source, kind, h, conn, sink),
     }
 }
 

@@ -1,24 +1,28 @@
 //! The words of the command line, and the call that they say.
 
 ghost use Rattle.std.specs.Prelude.{◌≡◌, ◌≢◌, ◌<◌, ◌^◌, ◌⊎◌, ◌↔◌, decimal, All, IsTrue, [], List, ℕ, Ok, Err};
-ghost use Rattle.std.specs.Prelude.{map, drop, option_map, string_bytes, IfOk, IfErr};
+ghost use Rattle.std.specs.Prelude.{map, drop, option_map, string_bytes, codes, Some, IfOk, IfErr};
 ghost use Rattle.std.specs.IoError.{error_kind};
 ghost use Rattle.std.specs.Iterator.{Drains};
 ghost use Rattle.std.specs.Vec.Iter.{into_iter_steps};
 ghost use Rattle.std.specs.declared.io.ErrorKind.TheVariants.{OutOfMemory};
-ghost use Rattle.clap.specs.Words.{app_of, kind_of, subcommand_rows_of};
+ghost use Rattle.clap.specs.Words.{app_of, found_of, kind_of, rows_of, subcommand_rows_of};
 ghost use Rattle.clap.specs.declared.error.kind.ErrorKind.TheVariants as parse;
 ghost use Rattle.grid_core.specs.declared.conn.Conn.TheVariants.{Four};
-ghost use Rattle.seedpaint.specs.Words.{program, view_command, derive_command, AddsOption, IsLocal};
+ghost use Rattle.seedpaint.specs.Words.{program, derive_command, viewing_command, AddsOption, IsLocal};
 ghost use Rattle.seedpaint.specs.Words.{IsCall, Says, IsUsage, ProcessSays, ProcessSaysNone, Reads, IsRefusalOfWords};
 ghost use Rattle.seedpaint.specs.Words.{ConnIs, NamesNoConn, SideIs, KindIs, NamesNoKind, HIs};
-ghost use Rattle.seedpaint.specs.Examples.{IsSaidSo, of_a_view, of_a_derivation, of_no_call};
+ghost use Rattle.seedpaint.specs.Examples.{IsSaidSo, of_a_view, of_a_node, of_a_derivation, of_no_call, of_no_node};
 ghost use Rattle.seedpaint.specs.declared.words.Call.{Call};
 ghost use Rattle.seedpaint.specs.declared.words.Call.TheVariants as call;
 ghost use Rattle.paint_session.specs.declared.run_error.RunError.TheVariants as errors;
 
+mod node;
+
 use clap::{Arg, ArgMatches, Command};
 use grid_core::{Conn, Memory, TILE_SIDE, is_tile_side};
+pub use node::Peers;
+use node::{node_command, node_of};
 use paint_session::derive::Derivation;
 use paint_session::run_error::RunError;
 use paint_session::store::StatePath;
@@ -34,6 +38,23 @@ pub enum Call {
         conn: Conn,
         /// The side of the tiles, 8 to 256.
         side: u32,
+        /// The file that keeps its strokes, where there is one.
+        file: Option<StatePath>,
+    },
+    /// Writes the image that standard input asks for and that a node shares with its peers.
+    Node {
+        /// Which pixels are neighbours.
+        conn: Conn,
+        /// The side of the tiles, 8 to 256.
+        side: u32,
+        /// The port that the node listens at, 1 to 65535.
+        port: u16,
+        /// How many ticks it makes, 1 to 100000.
+        ticks: u32,
+        /// How many hands sweep meanwhile, 1 to 16.
+        hands: usize,
+        /// Whom it tells.
+        peers: Peers,
         /// The file that keeps its strokes, where there is one.
         file: Option<StatePath>,
     },
@@ -59,10 +80,12 @@ fn refusal_of(error: &clap::Error) -> RunError
     }
 }
 
-/// Reads the words behind the program's name: no word at all, `view [--conn 4|8] [--tile N] [--state FILE]`, or
+/// Reads the words behind the program's name: no word at all, `view [--conn 4|8] [--tile N] [--state FILE]`,
+/// `node --port PORT --ticks N [--hands N] [--conn 4|8] [--tile N] [--state FILE] PEER..`, or
 /// `derive KIND [--h N] [--conn 4|8]`. Without `--conn` the connectivity is that of four neighbours. The N of `--tile`
-/// is 8 to 256, and 64 where it is not given. KIND is `fill`, `hmax` or `regmax`. The N of `--h` is 0 to 65535 with
-/// each KIND, and 1 where it is not given. FILE is any text.
+/// is 8 to 256, and 64 where it is not given. FILE is any text. PORT and each PEER, of which there are 1 to 8, are 1 to
+/// 65535. The N of `--ticks` is 1 to 100000, that of `--hands` 1 to 16, and 2 where it is not given. KIND is `fill`,
+/// `hmax` or `regmax`. The N of `--h` is 0 to 65535 with each KIND, and 1 where it is not given.
 ///
 /// `--conn=8`, the options in another order and a `--` at the end are taken too, as `clap` does. A value is its very
 /// text: `08` is no value. There is no help and no version.
@@ -118,6 +141,11 @@ pub fn words_of_a_view()
     ensures { All IsSaidSo of_a_view }
 {}
 
+/// Words that say a node.
+pub fn words_of_a_node()
+    ensures { All IsSaidSo of_a_node }
+{}
+
 /// Words that say a derivation.
 pub fn words_of_a_derivation()
     ensures { All IsSaidSo of_a_derivation }
@@ -129,11 +157,17 @@ pub fn words_of_no_call()
     ensures { All IsUsage of_no_call }
 {}
 
+/// Words that say no node, and no other call: a number that is too small, too great or not in decimal, an option that
+/// is missing or there twice, no peer or nine of them, an option of another subcommand.
+pub fn words_of_no_node()
+    ensures { All IsUsage of_no_node }
+{}
+
 // The program as `clap` parses its words.
 fn program<'a>(alloc: Global) -> Result<Command<'a>, AllocError>
     ensures { IfOk result (λ command. app_of command ≡ program) }
 {
-    let view = view_command(alloc)?;
+    let view = viewing_command(alloc, "view")?;
     let seedpaint = Command::new(alloc, "seedpaint")
         .no_binary_name(true)
         .disable_help_flag(true)
@@ -141,14 +175,16 @@ fn program<'a>(alloc: Global) -> Result<Command<'a>, AllocError>
         .subcommand_required(true)
         .subcommand(view)?;
     let derive = derive_command(alloc)?;
-    seedpaint.subcommand(derive)
+    let seedpaint = seedpaint.subcommand(derive)?;
+    let node = node_command(alloc)?;
+    seedpaint.subcommand(node)
 }
 
-// The subcommand `view`.
-fn view_command<'a>(alloc: Global) -> Result<Command<'a>, AllocError>
-    ensures { IfOk result (IsLocal view_command) }
+// A subcommand with the options of a view.
+fn viewing_command<'a>(alloc: Global, name: &'a str) -> Result<Command<'a>, AllocError>
+    ensures { IfOk result (IsLocal (viewing_command name.entry.now)) }
 {
-    let view = with_option(alloc, Command::new(alloc, "view"), "conn")?;
+    let view = with_option(alloc, Command::new(alloc, name), "conn")?;
     let view = with_option(alloc, view, "tile")?;
     with_option(alloc, view, "state")
 }
@@ -178,14 +214,31 @@ fn call_of(alloc: Global, matches: &ArgMatches<'_>) -> Result<Call, RunError>
     ensures { Reads (IsCall (subcommand_rows_of matches.now)) result }
 {
     if let Some(view) = matches.subcommand_matches("view") {
-        let conn = conn_of(view.get_str("conn"))?;
-        let side = side_of(alloc, view.get_str("tile"))?;
-        let file = file_of(alloc, view.get_str("state"))?;
-        return Ok(Call::View { conn, side, file });
+        return view_of(alloc, view);
     }
-    let Some(derive) = matches.subcommand_matches("derive") else {
-        return Err(RunError::Usage);
-    };
+    if let Some(node) = matches.subcommand_matches("node") {
+        return node_of(alloc, node);
+    }
+    match matches.subcommand_matches("derive") {
+        Some(derive) => derive_of(alloc, derive),
+        None => Err(RunError::Usage),
+    }
+}
+
+// The view that its options ask for.
+fn view_of(alloc: Global, view: &ArgMatches<'_>) -> Result<Call, RunError>
+    ensures { Reads (IsCall (Some (codes "view", rows_of (found_of view.now)))) result }
+{
+    let conn = conn_of(view.get_str("conn"))?;
+    let side = side_of(alloc, view.get_str("tile"))?;
+    let file = file_of(alloc, view.get_str("state"))?;
+    Ok(Call::View { conn, side, file })
+}
+
+// The derivation that its word and its options ask for.
+fn derive_of(alloc: Global, derive: &ArgMatches<'_>) -> Result<Call, RunError>
+    ensures { Reads (IsCall (Some (codes "derive", rows_of (found_of derive.now)))) result }
+{
     let kind = kind_of(derive.get_str("kind"))?;
     let h = h_of(alloc, derive.get_str("h"))?;
     let conn = conn_of(derive.get_str("conn"))?;

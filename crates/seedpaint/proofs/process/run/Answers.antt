@@ -1,12 +1,15 @@
-use Rattle.std.proofs.Common.{inr}
+use Rattle.std.proofs.Common.{inr, refl}
 use Rattle.std.proofs.lemmas.Result.{err_from_is_err_and}
 use Rattle.byte_devices.proofs.Shared.{TellsDevices-wider}
 use Rattle.paint_session.proofs.Shared.{Serves-wider, devices_unread, serves_unread, store_unasked}
 use Rattle.seedpaint.proofs.Calls.{process_can_be_made, words_are_early, words_are_no_device, words_are_no_file}
+use Rattle.node_session.proofs.StoredNodes.{network_idle}
+use Rattle.seedpaint.proofs.Networks.{TellsNetwork-wider, words_are_no_link}
+use Rattle.seedpaint.specs.Run.{Leaves, RunLeaves}
 use Rattle.seedpaint.proofs.process.run.Goals as goal
 
-pub make-requires : goal.make-requires
-make-requires g c = process_can_be_made c.args.args c.in_ok-call.call c.in_ok-call.ensures.says
+pub make-requires-clause-can_be : goal.make-requires-clause-can_be
+make-requires-clause-can_be g c κs within = process_can_be_made c.args.args c.in_ok-call.call c.in_ok-call.ensures.says
 
 pub returns-in_err-call-clause-runs : goal.returns-in_err-call-clause-runs
 returns-in_err-call-clause-runs g c =
@@ -33,6 +36,19 @@ returns-clause-runs g c =
           made.devices;
       stored = made.stored;
     }
+
+pub returns-in_err-call-clause-network : goal.returns-in_err-call-clause-network
+returns-in_err-call-clause-network g c =
+    let p = err_from_is_err_and c.from_residual.result c.from_residual.ensures.1 in
+    let no_link = words_are_no_link c.in_err-call.field-0.0 c.in_err-call.ensures.refused in
+    rw (p.1, p.2) (network_idle _ c.in_err-call.field-0.0 _ _ refl no_link)
+
+pub returns-clause-network : goal.returns-clause-network
+returns-clause-network g c =
+    let call = c.in_ok-call.call in
+    let old = g.N.Network.seen c.args.network.now in
+    TellsNetwork-wider (Leaves call old) (RunLeaves c.args.args old) c.make.result _ _
+    (λ left. (call, c.in_ok-call.ensures.says, left)) c.make.ensures.network
 
 pub returns-clause-usage : goal.returns-clause-usage
 returns-clause-usage g c = λ usage. absurd (c.make.ensures.no_usage usage)

@@ -1,99 +1,11 @@
-use Rattle.std.proofs.Common.{rules, subst, ◌∙◌, ◌≡◌, Option, codes, option_map, inl}
-use Rattle.std.proofs.lemmas.Result.{err_from_is_err_and}
-use Rattle.clap.specs.Words.{Text, first_of, found_of, rows_of}
-use Rattle.clap.proofs.WalkLemmas.{first_value-rows}
-use Rattle.seedpaint.specs.Words.{ConnIs, NamesNoConn, SideIs, NamesNoSide, KindIs, NamesNoKind, HIs, NamesNoH}
-use Rattle.seedpaint.proofs.Calls.{reads_no_more, reads_none, reads_value}
-use Rattle.seedpaint.proofs.Subcommands.{named_rows, no_call, no_sided_call, no_kind_call, no_h_call, no_joined_call}
+use Rattle.std.proofs.Common.{rules, subst, sym, codes}
+use Rattle.clap.specs.Words.{found_of, rows_of}
+use Rattle.seedpaint.specs.Words.{IsCall, Reads}
+use Rattle.seedpaint.proofs.Subcommands.{named_rows}
 use Rattle.seedpaint.proofs.words.call_of.Goals as goal
-
-pub returns-in_err-conn : goal.returns-in_err-conn
-returns-in_err-conn c =
-    let rows = rows_of (found_of c.in-Some.view.now) in
-    let named = named_rows c.args.matches.now (codes "view") rows (search rules) c.in-Some.ensures.rows in
-    let value : option_map (λ text. text.now) c.get_str.result ≡ first_of (codes "conn") rows =
-    c.get_str.ensures ∙ first_value-rows (found_of c.in-Some.view.now) (codes "conn") in
-    let none = subst NamesNoConn value c.in_err-conn.ensures.err.1 in
-    let p = err_from_is_err_and c.from_residual.result c.from_residual.ensures.1 in
-    rw (p.1, p.2) (reads_none _ c.in_err-conn.field-0.0 (inl c.in_err-conn.ensures.err.0)
-    (λ usage. no_call rows _ named none))
-
-pub returns-in_err-side : goal.returns-in_err-side
-returns-in_err-side c =
-    let rows = rows_of (found_of c.in-Some.view.now) in
-    let named = named_rows c.args.matches.now (codes "view") rows (search rules) c.in-Some.ensures.rows in
-    let value : option_map (λ text. text.now) c.get_str-in-Some.result ≡ first_of (codes "tile") rows =
-    c.get_str-in-Some.ensures ∙ first_value-rows (found_of c.in-Some.view.now) (codes "tile") in
-    let p = err_from_is_err_and c.from_residual-in_err-side.result c.from_residual-in_err-side.ensures.1 in
-    rw (p.1, p.2) (reads_no_more _ _ c.in_err-side.field-0.0 c.in_err-side.ensures
-    (λ none. no_sided_call rows _ named (subst NamesNoSide value none)))
 
 pub returns-in-Some : goal.returns-in-Some
 returns-in-Some c =
     let rows = rows_of (found_of c.in-Some.view.now) in
     let named = named_rows c.args.matches.now (codes "view") rows (search rules) c.in-Some.ensures.rows in
-    let value : option_map (λ text. text.now) c.get_str.result ≡ first_of (codes "conn") rows =
-    c.get_str.ensures ∙ first_value-rows (found_of c.in-Some.view.now) (codes "conn") in
-    let side : option_map (λ text. text.now) c.get_str-in-Some.result ≡ first_of (codes "tile") rows =
-    c.get_str-in-Some.ensures ∙ first_value-rows (found_of c.in-Some.view.now) (codes "tile") in
-    let file : option_map (λ text. text.now) c.get_str-in-Some-2.result ≡ first_of (codes "state") rows =
-    c.get_str-in-Some-2.ensures ∙ first_value-rows (found_of c.in-Some.view.now) (codes "state") in reads_value _ _ (
-      rows,
-      named,
-      subst (λ (v : Option Text). ConnIs v c.in_ok-conn.conn) value c.in_ok-conn.ensures.ok,
-      subst (λ (v : Option Text). SideIs v c.in_ok-side.side) side c.in_ok-side.ensures.said,
-      c.in_ok-file.ensures ∙ file,
-    )
-
-pub returns-in_err-kind : goal.returns-in_err-kind
-returns-in_err-kind c =
-    let found = c.in-Some-subcommand_matches in
-    let rows = rows_of (found_of found.derive.now) in
-    let named = named_rows c.args.matches.now (codes "derive") rows (search rules) found.ensures.rows in
-    let word : option_map (λ text. text.now) c.get_str-2.result ≡ first_of (codes "kind") rows =
-    c.get_str-2.ensures ∙ first_value-rows (found_of found.derive.now) (codes "kind") in
-    let none = subst NamesNoKind word c.in_err-kind.ensures.err.1 in
-    let p = err_from_is_err_and c.from_residual-in_err-kind.result c.from_residual-in_err-kind.ensures.1 in
-    rw (p.1, p.2) (reads_none _ c.in_err-kind.field-0.0 (inl c.in_err-kind.ensures.err.0)
-    (λ usage. no_kind_call rows _ named none))
-
-pub returns-in_err-h : goal.returns-in_err-h
-returns-in_err-h c =
-    let found = c.in-Some-subcommand_matches in
-    let rows = rows_of (found_of found.derive.now) in
-    let named = named_rows c.args.matches.now (codes "derive") rows (search rules) found.ensures.rows in
-    let value : option_map (λ text. text.now) c.get_str-3.result ≡ first_of (codes "h") rows =
-    c.get_str-3.ensures ∙ first_value-rows (found_of found.derive.now) (codes "h") in
-    let p = err_from_is_err_and c.from_residual-in_err-h.result c.from_residual-in_err-h.ensures.1 in
-    rw (p.1, p.2) (reads_no_more _ _ c.in_err-h.field-0.0 c.in_err-h.ensures
-    (λ none. no_h_call rows _ named (subst NamesNoH value none)))
-
-pub returns-in_err-conn-2 : goal.returns-in_err-conn-2
-returns-in_err-conn-2 c =
-    let found = c.in-Some-subcommand_matches in
-    let rows = rows_of (found_of found.derive.now) in
-    let named = named_rows c.args.matches.now (codes "derive") rows (search rules) found.ensures.rows in
-    let value : option_map (λ text. text.now) c.get_str-4.result ≡ first_of (codes "conn") rows =
-    c.get_str-4.ensures ∙ first_value-rows (found_of found.derive.now) (codes "conn") in
-    let none = subst NamesNoConn value c.in_err-conn-2.ensures.err.1 in
-    let p = err_from_is_err_and c.from_residual-in_err-conn-2.result c.from_residual-in_err-conn-2.ensures.1 in
-    rw (p.1, p.2) (reads_none _ c.in_err-conn-2.field-0.0 (inl c.in_err-conn-2.ensures.err.0)
-    (λ usage. no_joined_call rows _ named none))
-
-pub returns : goal.returns
-returns c =
-    let found = c.in-Some-subcommand_matches in
-    let rows = rows_of (found_of found.derive.now) in
-    let named = named_rows c.args.matches.now (codes "derive") rows (search rules) found.ensures.rows in
-    let word : option_map (λ text. text.now) c.get_str-2.result ≡ first_of (codes "kind") rows =
-    c.get_str-2.ensures ∙ first_value-rows (found_of found.derive.now) (codes "kind") in
-    let h : option_map (λ text. text.now) c.get_str-3.result ≡ first_of (codes "h") rows =
-    c.get_str-3.ensures ∙ first_value-rows (found_of found.derive.now) (codes "h") in
-    let conn : option_map (λ text. text.now) c.get_str-4.result ≡ first_of (codes "conn") rows =
-    c.get_str-4.ensures ∙ first_value-rows (found_of found.derive.now) (codes "conn") in reads_value _ _ (
-      rows,
-      named,
-      subst (λ (v : Option Text). KindIs v c.in_ok-kind.kind) word c.in_ok-kind.ensures.ok,
-      subst (λ (v : Option Text). HIs v c.in_ok-h.h) h c.in_ok-h.ensures.said,
-      subst (λ (v : Option Text). ConnIs v c.in_ok-conn-2.conn) conn c.in_ok-conn-2.ensures.ok,
-    )
+    subst (λ found. Reads (IsCall found) c.view_of.result) (sym named) c.view_of.ensures

@@ -2,6 +2,7 @@ use Rattle.std.proofs.Common.{ap, ap₂, ◌∙◌, ◌≡◌, codes, true}
 use Rattle.std.proofs.lemmas.Result.{IfOk-weaker}
 use Rattle.clap.specs.Words.{App, app_of, new_app, with_subcommand}
 use Rattle.clap.specs.Simple.{app_of_fields, on_top}
+use Rattle.seedpaint.specs.Words.{view_command, derive_command, node_command}
 use Rattle.seedpaint.proofs.words.program.Goals as goal
 
 abbrev unnamed : App → App
@@ -28,6 +29,9 @@ returns c =
     let top_is : app_of c.subcommand_required.result ≡ required (without_help (without_flag bare)) =
     ap app_of_fields c.subcommand_required.ensures ∙ ap required help_is in
     let with_view = c.in_ok-seedpaint.ensures.shape c.in_ok-view.ensures.1
-    ∙ ap₂ with_subcommand top_is (ap (λ (a : App). a.top) c.in_ok-view.ensures.0) in
-    IfOk-weaker c.subcommand-2.result _ _ (λ command adds. adds.shape c.in_ok-derive.ensures.1
-    ∙ ap₂ with_subcommand with_view (ap (λ (a : App). a.top) c.in_ok-derive.ensures.0)) c.subcommand-2.ensures
+    ∙ ap₂ with_subcommand top_is (ap (λ (a : App). a.top) {y = view_command} c.in_ok-view.ensures.0) in
+    let with_derive = c.in_ok-seedpaint-2.ensures.shape c.in_ok-derive.ensures.1
+    ∙ ap₂ with_subcommand with_view (ap (λ (a : App). a.top) {y = derive_command} c.in_ok-derive.ensures.0) in
+    IfOk-weaker c.subcommand-3.result _ _ (λ command adds. adds.shape c.in_ok-node.ensures.1
+    ∙ ap₂ with_subcommand with_derive (ap (λ (a : App). a.top) {y = node_command} c.in_ok-node.ensures.0))
+    c.subcommand-3.ensures

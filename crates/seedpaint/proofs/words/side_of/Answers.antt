@@ -2,7 +2,8 @@ use Rattle.std.proofs.Common.{◌≡◌, Bool, false, IsTrue, rules, sym, subst,
 use Rattle.std.proofs.lemmas.Result.{err_from_is_err_and}
 use Rattle.grid_core.specs.Tiles.{IsTileSide}
 use Rattle.seedpaint.proofs.Calls.{reads_no_more, reads_none}
-use Rattle.seedpaint.proofs.Subcommands.{one_number, small_side}
+use Rattle.seedpaint.proofs.Numbers.{one_number}
+use Rattle.seedpaint.proofs.Subcommands.{small_side}
 use Rattle.seedpaint.proofs.words.side_of.Goals as goal
 
 untrue : (b : Bool) → b ≡ false → IsTrue b → ⊥

@@ -1,0 +1,140 @@
+-- What calls leave of a network, and which of them may give D3.
+use Rattle.std.proofs.Common.{◌≡◌, ◌⊎◌, ℕ, ◌<◌, List, Option, Result, Ok, Err, Some, None, inl, inr, refl, ap, subst}
+use Rattle.std.proofs.Common.{arith}
+use Rattle.std.specs.Prelude.{IfErr, true}
+use Rattle.byte_devices.specs.Device.{SinkSeen, SourceSeen}
+use Rattle.byte_devices.specs.Transfer.{IsInputOf}
+use Rattle.grid_core.specs.declared.conn.Conn.{Conn}
+use Rattle.paint_session.specs.RunError.{IsReadingFault, IsTransferFault}
+use Rattle.paint_session.specs.Serving.{AnswersOverStore, IsStoreFault, StoredStops}
+use Rattle.paint_session.specs.Store.{Held, StoreSeen}
+use Rattle.paint_session.specs.declared.run_error.RunError.{RunError}
+use Rattle.paint_session.specs.declared.run_error.RunError.TheVariants.{Link, Memory, Usage}
+use Rattle.paint_session.proofs.Shared.{is_of_input, kept_stops_of_input}
+use Rattle.node_session.specs.Network.{NetworkSeen, TellsNetwork}
+use Rattle.node_session.specs.Shared.{NodeStops}
+use Rattle.node_session.specs.Stored.{IsNodeFault, IsStoredNode, StoredNodeStops}
+use Rattle.seedpaint.specs.Run.{EndsEarly, IsAnswer, StopsOn}
+use Rattle.seedpaint.specs.Words.{IsRefusalOfWords}
+use Rattle.seedpaint.specs.declared.words.Call.{Call}
+use Rattle.seedpaint.specs.declared.words.Call.TheVariants.{Node}
+
+-- ---- which errors are which
+
+no_link_in_reading : IsReadingFault Link → ⊥
+no_link_in_reading (inl edit) = cc
+no_link_in_reading (inr image) = cc
+
+no_link_in_transfer : IsTransferFault Link → ⊥
+no_link_in_transfer device = cc
+
+no_link_in_store : IsStoreFault Link → ⊥
+no_link_in_store (inl file) = cc
+no_link_in_store (inr (inl memory)) = cc
+no_link_in_store (inr (inr reading)) = no_link_in_reading reading
+
+no_link_in_input : is_of_input Link ≡ true → ⊥
+no_link_in_input is = cc
+
+no_usage_in_reading : IsReadingFault Usage → ⊥
+no_usage_in_reading (inl edit) = cc
+no_usage_in_reading (inr image) = cc
+
+no_usage_in_store : IsStoreFault Usage → ⊥
+no_usage_in_store (inl file) = cc
+no_usage_in_store (inr (inl memory)) = cc
+no_usage_in_store (inr (inr reading)) = no_usage_in_reading reading
+
+no_usage_in_node : (file : Option (List ℕ)) → IsNodeFault file Usage → ⊥
+no_usage_in_node None (inl reading) = no_usage_in_reading reading
+no_usage_in_node None (inr link) = cc
+no_usage_in_node (Some name) (inl store) = no_usage_in_store store
+no_usage_in_node (Some name) (inr link) = cc
+
+no_usage_in_transfer : IsTransferFault Usage → ⊥
+no_usage_in_transfer device = cc
+
+no_usage_in_stops : (conn : Conn) (hands : ℕ) (old input : List ℕ) → NodeStops conn hands old input Usage → ⊥
+no_usage_in_stops conn hands old input (inl kept) = let is = kept_stops_of_input conn old input Usage kept in cc
+no_usage_in_stops conn hands old input (inr (mask, first, gathered, (why, is, counts))) = cc
+
+pub words_are_no_link : (e : RunError) → IsRefusalOfWords e → e ≡ Link → ⊥
+words_are_no_link e (inl usage) link = cc
+words_are_no_link e (inr memory) link = cc
+
+-- a call without a network does not give D3
+pub alone_is_no_link : (known : Option (List ℕ)) (stops : List ℕ → RunError → Type 0)
+    (result : Result (Unit {0}) RunError)
+    → ((input : List ℕ) (e : RunError) → stops input e → is_of_input e ≡ true)
+    → IfErr result (λ e. IsReadingFault e ⊎ IsTransferFault e
+    ⊎ ((input : List ℕ) × IsInputOf known input × stops input e))
+    → result ≡ Err Link → ⊥
+alone_is_no_link known stops result of_input refused is =
+    elim (subst (λ (r : Result (Unit {0}) RunError). IfErr r (λ e. IsReadingFault e ⊎ IsTransferFault e
+    ⊎ ((input : List ℕ) × IsInputOf known input × stops input e))) is refused) [
+      | inl reading ↦ no_link_in_reading reading
+      | inr (inl device) ↦ no_link_in_transfer device
+      | inr (inr (input, is_input, stop)) ↦ no_link_in_input (of_input input Link stop)
+    ]
+
+pub stored_is_no_link : (known : Option (List ℕ)) (conn : Conn) (held : Held) (name : List ℕ)
+    (result : Result (Unit {0}) RunError)
+    → IfErr result (λ e. IsStoreFault e ⊎ IsTransferFault e
+    ⊎ ((input : List ℕ) × IsInputOf known input × StoredStops conn held name input e))
+    → result ≡ Err Link → ⊥
+stored_is_no_link known conn held name result refused is =
+    elim (subst (λ (r : Result (Unit {0}) RunError). IfErr r (λ e. IsStoreFault e ⊎ IsTransferFault e
+    ⊎ ((input : List ℕ) × IsInputOf known input × StoredStops conn held name input e))) is refused) [
+      | inl early ↦ no_link_in_store early
+      | inr (inl device) ↦ no_link_in_transfer device
+      | inr (inr (input, is_input, (old, is_held, stop))) ↦ no_link_in_input
+          (kept_stops_of_input conn old input Link stop)
+    ]
+
+-- and a node gives no usage
+pub node_is_no_usage : (known : Option (List ℕ)) (conn : Conn) (hands : ℕ) (file : Option (List ℕ)) (held : Held)
+    (result : Result (Unit {0}) RunError)
+    → IfErr result (λ e. IsNodeFault file e ⊎ IsTransferFault e
+    ⊎ ((input : List ℕ) × IsInputOf known input × StoredNodeStops conn hands file held input e))
+    → result ≡ Err Usage → ⊥
+node_is_no_usage known conn hands file held result refused is =
+    elim (subst (λ (r : Result (Unit {0}) RunError). IfErr r (λ e. IsNodeFault file e ⊎ IsTransferFault e
+    ⊎ ((input : List ℕ) × IsInputOf known input × StoredNodeStops conn hands file held input e))) is refused) [
+      | inl early ↦ no_usage_in_node file early
+      | inr (inl device) ↦ no_usage_in_transfer device
+      | inr (inr (input, is_input, (old, is_held, stop))) ↦ no_usage_in_stops conn hands old input stop
+    ]
+
+-- ---- what calls leave
+
+-- a network that was not asked
+pub network_unasked : (left : NetworkSeen → Type 0) (result : Result (Unit {0}) RunError) (seen : NetworkSeen)
+    → left seen → (result ≡ Err Link → ⊥) → TellsNetwork left result seen seen
+network_unasked left (Ok value) seen is no_link =
+    record { is_left = is; fault = tt; failure = λ less. absurd (omega (arith, less)) }
+network_unasked left (Err e) seen is no_link = record {
+  is_left = tt;
+  fault = λ link. absurd (no_link (ap (λ (why : RunError). Err why) link));
+  failure = λ less. absurd (omega (arith, less));
+}
+
+-- what is left of it, in other words
+pub TellsNetwork-wider : (left wider : NetworkSeen → Type 0) (result : Result (Unit {0}) RunError)
+    (old new : NetworkSeen) → (left new → wider new) → TellsNetwork left result old new
+    → TellsNetwork wider result old new
+TellsNetwork-wider left wider (Ok value) old new widen t =
+    record { is_left = widen t.is_left; fault = tt; failure = t.failure }
+TellsNetwork-wider left wider (Err e) old new widen t =
+    record { is_left = tt; fault = t.fault; failure = t.failure }
+
+-- what is said of the run of a node
+pub node_runs : {S T K : Type 0} {source_seen : S → SourceSeen} {source source' : S} {store_seen : T → StoreSeen}
+    {store store' : T} {sink_seen : K → SinkSeen} {sink sink' : K} {result : Result (Unit {0}) RunError} (call : Call)
+    (conn : Conn) (side port ticks hands : ℕ) (peers : List ℕ) (file given : Option (List ℕ))
+    → call ≡ Node conn side port ticks hands peers file → given ≡ file
+    → AnswersOverStore (IsStoredNode conn hands given) (StoredNodeStops conn hands given) (IsNodeFault given) result
+    source_seen source source' store_seen store store' sink_seen sink sink'
+    → AnswersOverStore (IsAnswer call) (StopsOn call) (EndsEarly call) result source_seen source source' store_seen
+    store store' sink_seen sink sink'
+node_runs call conn side port ticks hands peers file given is same answers =
+    rw (is, ← same) (record { serves = answers.serves; devices = answers.devices; stored = answers.stored })

@@ -1,0 +1,12 @@
+use Rattle.std.proofs.Common.{inl, refl, arith, ◌≡◌, Option, Some, option_map}
+use Rattle.clap.specs.Words.{Text}
+use Rattle.seedpaint.proofs.Calls.{reads_none}
+use Rattle.seedpaint.proofs.Numbers.{names_no_other}
+use Rattle.seedpaint.proofs.words.node.number_within.Goals as goal
+
+pub returns : goal.returns
+returns c =
+    let is : option_map (λ text. text.now) c.args.value ≡ Some c.in-Some.text.now = rw c.in-Some.is refl in
+    reads_none _ _ (inl refl) (λ usage n named. names_no_other c.args.default c.args.least c.args.most
+    (omega (arith, c.ranges.most.fits)) _ c.in-Some.text.now c.in_ok-n.n is c.in_ok-n.ensures.said
+    (λ low high. absurd (omega (arith, c.else-least-n.either, low, high))) n named)
