@@ -23,7 +23,7 @@ import subprocess
 import tempfile
 import time
 
-from run import Input, machine, say, stop, table
+from run import KEPT, Input, machine, say, stop, table
 
 LONGEST = 2048  # bytes of a datagram that the relay takes; a frame has at most 1400
 LATE = 0.05  # seconds that a delayed datagram is held back at most
@@ -204,6 +204,7 @@ def read_words():
 def main():
     """Double the ticks until all nodes agree, and print a row for each try."""
     words = read_words()
+    KEPT.mkdir(exist_ok=True)
     print(f"{machine()}\n")
     print(f"{words.nodes} nodes of {words.hands} hands, {words.edits} edits, {words.size} by {words.size} pixels\n")
     rows, ticks, differ = [], words.ticks, words.nodes

@@ -18,7 +18,7 @@ use Rattle.studio.specs.Keeping.{books_of}
 use Rattle.studio.specs.Opening.{IsOpened}
 use Rattle.link_nodes.specs.declared.node.Node.{Node}
 use Rattle.link_nodes.specs.Nodes.{pen_of, IsSameNode}
-use Rattle.node_tests.specs.declared.scene.Scene.{Scene}
+use Rattle.node_tests.specs.declared.studios.Scene.{Scene}
 use Rattle.node_tests.specs.Company.{IsCompany, AreEndsOfBoth, AreEndAndOf}
 
 -- ---- nodes

@@ -10,7 +10,7 @@ use Rattle.shot_chain.specs.Words.{eye_studio}
 use Rattle.studio.specs.declared.keeper.Keeper.{Keeper}
 use Rattle.studio.specs.Keeping.{books_of, studio_of}
 use Rattle.link_nodes.specs.Nodes.{pen_of, node_studio}
-use Rattle.node_tests.specs.declared.scene.Scene.{Scene}
+use Rattle.node_tests.specs.declared.studios.Scene.{Scene}
 
 -- each of the pens is one of those of the keeper's books
 abbrev pub AreOf : List Pen → Keeper → Type 0

@@ -28,3 +28,4 @@ mod scene;
 mod sending;
 #[cfg(test)]
 mod sockets;
+pub mod studios;

@@ -6,6 +6,7 @@ ghost use Rattle.node_tests.specs.Company.{AreOf, AreEyesOf, IsCompany};
 
 use crate::hearing::FRAME;
 use crate::pictures::core_with;
+pub use crate::studios::Scene;
 use grid_core::Conn;
 use link_nodes::{Heard, Link, MemoryLink, Node, Sent, Ticked};
 use pen_desks::Pen;
@@ -18,16 +19,6 @@ use studio::{Keeper, Studio};
 /// The fingerprint of zeros.
 pub fn zeros() -> Print {
     Print::from_bytes([0; 32])
-}
-
-/// A studio's keeper, a pen, and the one node of the studio, which has the other pen.
-pub struct Scene {
-    /// The keeper.
-    pub keeper: Keeper,
-    /// The pen.
-    pub pen: Pen,
-    /// The node.
-    pub node: Node,
 }
 
 // The scene of a studio of two pens and an eye.
