@@ -95,8 +95,9 @@ struct Run {
     put: u64,
     // The status of the fault and its line; nothing where there is none.
     fault: (u8, &'static str),
-    // How many datagrams are sent.
+    // How many datagrams are sent, and how many bytes the last one has.
     sent: usize,
+    told: usize,
     // What is written.
     written: &'static [u8],
     // The new bytes of the state file; the old ones where there is a fault.
@@ -117,6 +118,7 @@ const ALONE: Run = Run {
     put: 0,
     fault: (0, ""),
     sent: 3,
+    told: 68,
     written: b"P5\n5 1\n9\n\x02\x02\x02\x03\x03",
     new: SECOND,
 };
@@ -125,6 +127,7 @@ const ALONE: Run = Run {
 const REFUSED: Run = Run {
     fault: (1, "seedpaint: U1"),
     sent: 0,
+    told: 0,
     written: b"",
     new: b"",
     ..ALONE
@@ -133,8 +136,9 @@ const REFUSED: Run = Run {
 const SHARED: &[Run] = &[
     ALONE,
     Run {
-        name: "a stroke that is heard",
+        name: "a stroke that is heard is told on",
         fed: &[FIRST],
+        told: 95,
         written: b"P5\n5 1\n9\n\x03\x05\x02\x03\x03",
         new: BOTH,
         ..ALONE
@@ -145,6 +149,7 @@ const SHARED: &[Run] = &[
         ticks: 1,
         fed: &[OF_SECOND, FIRST],
         sent: 0,
+        told: 0,
         ..ALONE
     },
     Run {
@@ -162,8 +167,9 @@ const SHARED: &[Run] = &[
         ..ALONE
     },
     Run {
-        name: "a withdrawal that is heard",
+        name: "a withdrawal that is heard is told on",
         fed: &[WITHDRAWAL],
+        told: 84,
         written: b"P5\n5 1\n9\n\0\0\0\0\0",
         new: WITHDRAWN,
         ..ALONE
@@ -174,6 +180,7 @@ const SHARED: &[Run] = &[
         edits: "place #1 9 0:1-1\n",
         side: 8,
         hands: 16,
+        told: 95,
         written: b"P5\n5 1\n9\n\x03\x05\x02\x03\x03",
         new: BOTH,
         ..ALONE
@@ -283,6 +290,14 @@ fn is_told(alloc: Global, error: &RunError, told: (u8, &str)) -> bool {
     }
 }
 
+// How many bytes the last datagram has that was sent, if there is one.
+fn last_length(link: &MemoryLink) -> usize {
+    match link.sent().last() {
+        Some(datagram) => datagram.bytes().len(),
+        None => 0,
+    }
+}
+
 // Whether the link can be fed these datagrams.
 fn feeds(alloc: Global, link: &mut MemoryLink, datagrams: &[&[u8]]) -> bool {
     let mut relay = MemoryLink::new(alloc, None);
@@ -341,6 +356,7 @@ impl Run {
         self.is_answer(alloc, answer)
             && sink.written() == self.written
             && link.sent().len() == self.sent
+            && last_length(link) == self.told
     }
 
     // Plays the run, over a link of which the call of this number fails, counted from 1; none does without a number.
