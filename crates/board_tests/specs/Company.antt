@@ -17,9 +17,8 @@ pub record AreOf (board : Board) (mask : Raster) (seats : Seats) : Type 0 where
 
 -- the seats are those of this board
 pub record IsCrewOf (board : Board) (crew : Crew) : Type 0 where
-  pub one : IsHandOf board crew.one
-  pub two : IsHandOf board crew.two
-  pub peek : IsPeekOf board crew.peek
+  pub hands : All (IsHandOf board) crew.hands.items
+  pub peeks : All (IsPeekOf board) crew.peeks.items
 
 -- the board stands on this mask, and all seats are its
 pub record IsReady (mask : Raster) (opened : Opened) : Type 0 where

@@ -31,8 +31,8 @@ fn grows(alloc: Global, board: &Board, seats: &mut Seats, mask: &Grid) -> bool
 }
 
 // Whether a row that grew is closed as it is.
-fn closes_grown(alloc: Global, mask: &Image) -> bool {
-    let Some((board, mut seats)) = open(alloc, mask, Conn::Four, 0) else {
+fn closes_grown(alloc: Global, mask: &Image, conn: Conn) -> bool {
+    let Some((board, mut seats)) = open(alloc, mask, conn, 0) else {
         return false;
     };
     let grown = grows(alloc, &board, &mut seats, mask.grid());
@@ -42,8 +42,8 @@ fn closes_grown(alloc: Global, mask: &Image) -> bool {
 }
 
 // Whether a row that grew is 0 once the next generation has begun.
-fn closes_moved(alloc: Global, mask: &Image) -> bool {
-    let Some((board, mut seats)) = open(alloc, mask, Conn::Four, 0) else {
+fn closes_moved(alloc: Global, mask: &Image, conn: Conn) -> bool {
+    let Some((board, mut seats)) = open(alloc, mask, conn, 0) else {
         return false;
     };
     let grown = grows(alloc, &board, &mut seats, mask.grid());
@@ -63,7 +63,9 @@ fn a_row_grows_and_is_closed(rt: HostRuntime) -> Result<(), Fail> {
     let Some(mask) = row_image(rt.alloc()) else {
         return Err(Fail::new("out of memory"));
     };
-    assert!(rt; closes_grown(rt.alloc(), &mask));
+    for conn in [Conn::Four, Conn::Eight] {
+        assert!(rt; closes_grown(rt.alloc(), &mask, conn));
+    }
     Ok(())
 }
 
@@ -72,7 +74,9 @@ fn what_grew_in_an_older_generation_is_gone(rt: HostRuntime) -> Result<(), Fail>
     let Some(mask) = row_image(rt.alloc()) else {
         return Err(Fail::new("out of memory"));
     };
-    assert!(rt; closes_moved(rt.alloc(), &mask));
+    for conn in [Conn::Four, Conn::Eight] {
+        assert!(rt; closes_moved(rt.alloc(), &mask, conn));
+    }
     Ok(())
 }
 

@@ -17,4 +17,6 @@ mod mirrors;
 mod pictures;
 #[cfg(test)]
 mod refusals;
+#[cfg(test)]
+mod script;
 pub mod seats;

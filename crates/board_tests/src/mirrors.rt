@@ -18,15 +18,15 @@ use stroke_core::{Run, Stroke, Tag};
 use stroke_lattice::{Delta, State};
 use studio::{Keeper, MirrorError, Studio};
 
-// A core on the row.
-fn core_on_row(alloc: Global) -> Option<Core> {
-    let mask = row_of(alloc, ROW)?;
-    Core::over(alloc, mask, Conn::Four, TILE_SIDE, 0).ok()
+/// A core on this mask.
+pub fn core_on(alloc: Global, mask: &Grid, conn: Conn) -> Option<Core> {
+    let mask = mask.copy(alloc).ok()?;
+    Core::over(alloc, mask, conn, TILE_SIDE, 0).ok()
 }
 
-/// A studio on the row, with one pen.
-pub fn open_studio<R: Wait>(rt: &R, alloc: Global) -> Option<Studio> {
-    let core = core_on_row(alloc)?;
+/// A studio on this mask, with one pen.
+pub fn open_studio<R: Wait>(rt: &R, alloc: Global, mask: &Grid, conn: Conn) -> Option<Studio> {
+    let core = core_on(alloc, mask, conn)?;
     match Studio::open(rt, alloc, core, 1, 1, 1) {
         Ok(studio) => Some(studio),
         Err(refused) => {
@@ -151,21 +151,28 @@ fn plays(
     is_placed & is_withdrawn
 }
 
-// Plays a case on a board of this mask, which begins in the generation `first`, beside a core on the row.
+// A studio on the row.
+fn studio_on_row<R: Wait>(rt: &R, alloc: Global, conn: Conn) -> Option<Studio> {
+    let row = row_of(alloc, ROW)?;
+    open_studio(rt, alloc, &row, conn)
+}
+
+// Plays a case on a board of this mask, which begins in the generation `first`, beside a core on the row. The first
+// connectivity is the core's.
 fn plays_on<R: Wait>(
     rt: &R,
     alloc: Global,
     mask: &Image,
-    conn: Conn,
+    conns: (Conn, Conn),
     first: u64,
     case: Case,
 ) -> bool
     requires { first ≤ max_generation }
 {
-    let Some(mut studio) = open_studio(rt, alloc) else {
+    let Some(mut studio) = studio_on_row(rt, alloc, conns.0) else {
         return false;
     };
-    let is_right = match open(alloc, mask, conn, first) {
+    let is_right = match open(alloc, mask, conns.1, first) {
         Some((board, mut seats)) => {
             plays(alloc, &mut studio, &board, &mut seats, mask.grid(), case)
         }
@@ -181,28 +188,34 @@ fn a_board_follows_the_strokes(rt: HostRuntime) -> Result<(), Fail> {
         return Err(Fail::new("out of memory"));
     };
     let last = (1 << 48) - 1;
-    for (conn, first, case) in [
-        (Conn::Four, 0, Case::Follows),
-        (Conn::Four, last - 1, Case::Follows),
-        (Conn::Four, last, Case::Spent),
-        (Conn::Eight, 0, Case::Other),
+    for (conns, first, case) in [
+        ((Conn::Four, Conn::Four), 0, Case::Follows),
+        ((Conn::Eight, Conn::Eight), 0, Case::Follows),
+        ((Conn::Four, Conn::Four), last - 1, Case::Follows),
+        ((Conn::Four, Conn::Four), last, Case::Spent),
+        ((Conn::Four, Conn::Eight), 0, Case::Other),
+        ((Conn::Eight, Conn::Four), 0, Case::Other),
     ] {
-        assert!(rt; plays_on(&rt, rt.alloc(), &mask, conn, first, case));
+        assert!(rt; plays_on(&rt, rt.alloc(), &mask, conns, first, case));
     }
     Ok(())
 }
 
-// Another mask of the row's size.
-fn other_image(alloc: Global) -> Option<Image> {
-    let row = row_of(alloc, &[3, 5, 2, 5, 3])?;
+// A mask of one row.
+fn image_of(alloc: Global, values: &[u16]) -> Option<Image> {
+    let row = row_of(alloc, values)?;
     Image::from_grid(alloc, &row, 9).ok()
 }
 
 #[test]
 fn a_board_of_another_mask_does_not_follow(rt: HostRuntime) -> Result<(), Fail> {
-    let Some(mask) = other_image(rt.alloc()) else {
-        return Err(Fail::new("out of memory"));
-    };
-    assert!(rt; plays_on(&rt, rt.alloc(), &mask, Conn::Four, 0, Case::Other));
+    let others: [&[u16]; 3] = [&[3, 5, 2, 5, 3], &[3, 5, 2, 5], &[3, 5, 2, 5, 4, 0]];
+    for values in others {
+        let Some(mask) = image_of(rt.alloc(), values) else {
+            return Err(Fail::new("out of memory"));
+        };
+        let conns = (Conn::Four, Conn::Four);
+        assert!(rt; plays_on(&rt, rt.alloc(), &mask, conns, 0, Case::Other));
+    }
     Ok(())
 }

@@ -13,9 +13,10 @@ pub const ROW: &[u16] = &[3, 5, 2, 5, 4];
 
 pub const GROWN: &[u16] = &[3, 5, 2, 2, 2];
 
-/// A grid of one row with these five values.
+/// A grid of one row with these values.
 pub fn row_of(alloc: Global, values: &[u16]) -> Option<Grid> {
-    let mut row = Grid::new(alloc, 5, 1, 0).ok()?;
+    let width = u32::try_from(values.len()).ok()?;
+    let mut row = Grid::new(alloc, width, 1, 0).ok()?;
     let cells = row.cells_mut();
     if cells.len() != values.len() {
         return None;

@@ -19,12 +19,11 @@ pub struct Seats {
     pub peek: PeekSeat,
 }
 
-/// Seats of hands and of a peek, for threads of their own.
+/// Seats of hands and of peeks, for threads of their own.
 #[derive(Drop)]
 pub struct Crew {
-    pub one: HandSeat,
-    pub two: HandSeat,
-    pub peek: PeekSeat,
+    pub hands: Vec<HandSeat>,
+    pub peeks: Vec<PeekSeat>,
 }
 
 /// A board of this mask with so many hands and peeks, which begins in the generation `first`.

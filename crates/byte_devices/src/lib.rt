@@ -33,4 +33,4 @@ pub use sink::Sink;
 pub use source::Source;
 pub use std_sink::StdSink;
 pub use std_source::StdSource;
-pub use transfer::{MOST_PULLS, put_all, read_all};
+pub use transfer::{MOST_PULLS, put_all, read_all, read_all_within};

@@ -27,11 +27,15 @@ pub fn read_all<S: Source>(alloc: Global, source: &mut S) -> Result<Vec<u8>, Tra
     ensures to_end { ReadsToEnd (λ e. e ≡ errors.Memory) (λ e. e ≡ errors.Device) most_pulls result
         (S.seen source.old) (S.seen source.new) }
 {
-    read_within(alloc, source, MOST_PULLS)
+    read_all_within(alloc, source, MOST_PULLS)
 }
 
-// Everything that the source has left, where it has this number of pulls to reach its end.
-fn read_within<S: Source>(
+/// Everything that the source has left, up to its end, which it has to reach in this number of pulls. The pull that
+/// finds the end is one of them.
+///
+/// Errors: where memory is refused; where a pull failed, or where the source had not ended after so many pulls. What
+/// was pulled before an error is lost.
+pub fn read_all_within<S: Source>(
     alloc: Global,
     source: &mut S,
     pulls: u64,

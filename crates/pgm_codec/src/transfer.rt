@@ -9,7 +9,7 @@ use crate::error::PgmError;
 use crate::image::Image;
 use crate::reading::read;
 use crate::writing::{header, put_samples, sample_len};
-use byte_devices::{Fault, Sink, Source, put_all};
+use byte_devices::{Fault, MOST_PULLS, Sink, Source, put_all};
 use std::alloc::{AllocError, Global};
 
 // How many samples are put at once.
@@ -24,7 +24,24 @@ pub fn read_all<S: Source>(alloc: Global, source: &mut S) -> Result<Vec<u8>, Pgm
     ensures only { IfErr result (λ e. IsOfMemory e ⊎ IsOfDevice e) }
     ensures to_end { ReadsToEnd IsOfMemory IsOfDevice most_pulls result (S.seen source.old) (S.seen source.new) }
 {
-    Ok(byte_devices::read_all(alloc, source)?)
+    read_all_within(alloc, source, MOST_PULLS)
+}
+
+/// Everything that the source has left, up to its end, which it has to reach in this number of pulls, as
+/// [`byte_devices::read_all_within`] gives it.
+///
+/// Errors: P10 where memory is refused; P11 where a pull failed, or where the source had not ended after so many pulls.
+/// What was pulled before an error is lost.
+pub fn read_all_within<S: Source>(
+    alloc: Global,
+    source: &mut S,
+    pulls: u64,
+) -> Result<Vec<u8>, PgmError>
+    ensures bytes { IfOk result (λ v. IsInputOf (S.seen source.old).remaining v.items) }
+    ensures only { IfErr result (λ e. IsOfMemory e ⊎ IsOfDevice e) }
+    ensures to_end { ReadsToEnd IsOfMemory IsOfDevice pulls result (S.seen source.old) (S.seen source.new) }
+{
+    Ok(byte_devices::read_all_within(alloc, source, pulls)?)
 }
 
 /// The image that everything the source has left spells, read as by [`read`]. An image, and a fault of the text, is

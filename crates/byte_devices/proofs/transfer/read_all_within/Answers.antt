@@ -5,7 +5,7 @@ use Rattle.std.proofs.KnownBytes.{Consumes-trans}
 use Rattle.std.proofs.lemmas.List.{places, with_items_is}
 use Rattle.std.proofs.lemmas.Grind.{common_steps}
 use Rattle.byte_devices.proofs.Pieces.{filled_more}
-use Rattle.byte_devices.proofs.transfer.read_within.Goals as goal
+use Rattle.byte_devices.proofs.transfer.read_all_within.Goals as goal
 
 pub loop-pull-preserved : goal.loop-pull-preserved
 loop-pull-preserved g c =

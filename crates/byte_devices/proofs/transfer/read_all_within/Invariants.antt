@@ -2,7 +2,7 @@
 use Rattle.std.proofs.Common.{◌≡◌, ◌+◌, ◌<◌, ◌≤◌, take, vec_len}
 use Rattle.std.specs.Io.KnownBytes.{Consumes}
 use Rattle.byte_devices.specs.Device.{HasRisenBy}
-use Rattle.byte_devices.proofs.transfer.read_within.Given as goal
+use Rattle.byte_devices.proofs.transfer.read_all_within.Given as goal
 
 abbrev pub invariant-loop-pull : goal.invariant-loop-pull
 invariant-loop-pull g l =
