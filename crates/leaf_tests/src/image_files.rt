@@ -1,7 +1,7 @@
 //! Files of images: read, refused, written, and carried from a source to a sink.
 
 use byte_devices::{MemorySink, MemorySource};
-use pgm_codec::{Image, PgmError, read, read_from, write_plain, write_to};
+use pgm_codec::{Image, PgmError, read, read_all_within, read_from, write_plain, write_to};
 use std::alloc::Global;
 
 // Texts, and the plain files of the images that they spell.
@@ -99,6 +99,9 @@ const REFUSED: &[(PgmError, &[u8])] = &[
     (PgmError::Trailing, b"P2 1 1 9 5 6"),
 ];
 
+// A file of two samples. Each front of it is refused.
+const FILE: &[u8; 13] = b"P5\n2 1\n255\n\x0a\x23";
+
 #[test]
 fn texts_are_refused_by_their_first_fault(rt: HostRuntime) {
     for (why, text) in REFUSED {
@@ -107,6 +110,42 @@ fn texts_are_refused_by_their_first_fault(rt: HostRuntime) {
             "{} of {text:?}",
             why.code()
         );
+    }
+    for end in 0..13usize {
+        let why = match end {
+            0 | 1 => PgmError::BadMagic,
+            _ => PgmError::Truncated,
+        };
+        assert!(rt;
+            read(rt.alloc(), &FILE[..end]).err() == Some(why),
+            "{end} bytes"
+        );
+    }
+}
+
+// Numbers of pulls, and why that file is not read in so many. It comes in three pieces, and a fourth pull finds the end.
+const PULLS: &[(u64, Option<PgmError>)] = &[
+    (4, None),
+    (3, Some(PgmError::Device)),
+    (0, Some(PgmError::Device)),
+];
+
+// Whether the file is read in so many pulls, or refused for this reason.
+fn is_read_within(alloc: Global, pulls: u64, why: Option<PgmError>) -> bool {
+    let Ok(file) = FILE.to_vec(alloc) else {
+        return false;
+    };
+    let mut source = MemorySource::new(file).in_pieces(5);
+    match read_all_within(alloc, &mut source, pulls) {
+        Ok(bytes) => why.is_none() && bytes.as_slice() == FILE.as_slice(),
+        Err(error) => why == Some(error) && error.code() == "P11",
+    }
+}
+
+#[test]
+fn a_source_has_so_many_pulls_to_reach_its_end(rt: HostRuntime) {
+    for (pulls, why) in PULLS {
+        assert!(rt; is_read_within(rt.alloc(), *pulls, *why), "{pulls} pulls");
     }
 }
 
