@@ -123,7 +123,7 @@ fn texts_are_refused_by_their_first_fault(rt: HostRuntime) {
     }
 }
 
-// Numbers of pulls, and why that file is not read in so many. It comes in three pieces, and a fourth pull finds the end.
+// Numbers of pulls, and why that file is not read in so many. It comes in three pieces, and the fourth pull is its end.
 const PULLS: &[(u64, Option<PgmError>)] = &[
     (4, None),
     (3, Some(PgmError::Device)),
