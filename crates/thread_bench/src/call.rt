@@ -4,8 +4,8 @@ use anyhow::{Context, Result};
 use std::env;
 use std::rt::Env;
 
-const USAGE: &str =
-    "usage: thread_bench settle HANDS SIDE | parts SIDE | show COUNT | watch COUNT [--times] < input";
+const USAGE: &str = "usage: thread_bench settle HANDS SIDE | parts SIDE | show COUNT | watch COUNT \
+    | board HANDS | mirror COUNT [--times] < input";
 
 /// What is measured.
 #[derive(Clone, Copy)]
@@ -18,6 +18,10 @@ pub enum Mode {
     Show { count: usize },
     /// How long it takes until each of so many edits is seen.
     Watch { count: usize },
+    /// How fast so many hands in threads raise a board, and what a peek takes beside them.
+    Board { hands: usize },
+    /// What it takes to bring the marker to a board, after each of so many edits.
+    Mirror { count: usize },
 }
 
 /// What the program is called to do.
@@ -61,6 +65,12 @@ impl Mode {
                 count: count_at(words, 2)?,
             }),
             "watch" => Some(Mode::Watch {
+                count: count_at(words, 2)?,
+            }),
+            "board" => Some(Mode::Board {
+                hands: count_at(words, 2)?,
+            }),
+            "mirror" => Some(Mode::Mirror {
                 count: count_at(words, 2)?,
             }),
             _ => None,

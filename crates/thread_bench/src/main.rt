@@ -1,11 +1,13 @@
 #![tactic(auto)]
-//! Measures studios: how fast hands in threads settle an image, and how soon an edit is seen.
+//! Measures studios and boards: how fast hands in threads grow an image, and how soon an edit is seen.
 //!
 //! ```text
 //! thread_bench settle HANDS SIDE [--times] < input
 //! thread_bench parts SIDE [--times] < input
 //! thread_bench show COUNT [--times] < input
 //! thread_bench watch COUNT [--times] < input
+//! thread_bench board HANDS [--times] < input
+//! thread_bench mirror COUNT [--times] < input
 //! ```
 //!
 //! The input is one of Seedpaint: edit lines, a line `image` and a PGM file. Times are in nanoseconds.
@@ -27,15 +29,31 @@
 //! `watch` merges and settles the same. Each of the last edits is submitted while a keeper and two hands run in
 //! threads; then an eye looks until a glimpse has the edit. It writes how many edits were seen, and with `--times` a
 //! line for each: the time from submitting to seeing.
+//!
+//! `board` merges all edits, brings their marker to a board, and lets so many hands go round in threads of their own,
+//! with a peek in one more thread. A hand leaves when nothing rose in a round of it. When all have left, one more hand
+//! goes round in the first thread until nothing rises any more, mostly once. It writes the sum of the board's image, the
+//! same as `settle`, and with `--times` a line more: the time from the first hand's thread until nothing rises any more;
+//! how many rounds all hands made; how many peeks were made meanwhile, and the processor time of their thread; and the
+//! processor time of as many peeks after that, with nobody beside them. To pick the pixel is in the time of a peek.
+//!
+//! `mirror` merges and settles as `show` does, and brings the marker to a board. Each of the last edits is submitted and
+//! worked off, and the marker brought again; nobody raises the board. It writes the sum of the image at the end, and
+//! with `--times` a line for each edit: the time of bringing the marker, and 1 where a generation began, else 0.
 
+mod boards;
 mod call;
 mod clocks;
 mod fault;
+mod growing;
 mod input;
+mod mirroring;
 mod opening;
 mod parts;
+mod peeking;
 mod settling;
 mod showing;
+mod size;
 mod sums;
 mod watching;
 
@@ -44,7 +62,7 @@ use call::{Call, Mode};
 use input::Input;
 use pgm_codec::StdSource;
 
-/// The side of the tiles of cores that are shown and watched.
+/// The side of the tiles of cores where the call does not say it.
 const SIDE: u32 = 64;
 
 fn main(rt: HostRuntime) -> Result<()> {
@@ -57,6 +75,8 @@ fn main(rt: HostRuntime) -> Result<()> {
         Mode::Parts { side } => parts::measure(&rt, input, side, call.with_times),
         Mode::Show { count } => showing::measure(&rt, input, count, call.with_times),
         Mode::Watch { count } => watching::measure(&rt, input, count, call.with_times),
+        Mode::Board { hands } => growing::measure(&rt, input, hands, call.with_times),
+        Mode::Mirror { count } => mirroring::measure(&rt, input, count, call.with_times),
     };
     match measured {
         Ok(()) => Ok(()),

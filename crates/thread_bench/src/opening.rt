@@ -50,6 +50,17 @@ pub fn open_settled<R: Wait + AllocGlobal>(
     }
 }
 
+/// The keeper of a studio, whose pens, hands and eyes are let go.
+pub fn keeper_of(studio: Studio) -> Keeper {
+    let Studio {
+        keeper,
+        pens: _,
+        hands: _,
+        eyes: _,
+    } = studio;
+    keeper
+}
+
 /// Ends the keeper, and gives the sum of its image.
 pub fn end<R: Wait>(rt: &R, keeper: Keeper) -> u64 {
     let core = keeper.end(rt);

@@ -3,7 +3,7 @@
 use crate::clocks::Laps;
 use crate::fault::{Fault, MEMORY, WORK_LEFT};
 use crate::input::Input;
-use crate::opening::{end, open_settled, submit, turn};
+use crate::opening::{end, keeper_of, open_settled, submit, turn};
 use crate::sums::{print_number, printed};
 use std::sync::Wait;
 use std::time::{Clock, Duration};
@@ -75,17 +75,6 @@ fn show_in<R: Wait + Clock>(
     }
 }
 
-// The keeper of a studio, whose pens, hands and eyes are let go.
-fn keeper_of(studio: Studio) -> Keeper {
-    let Studio {
-        keeper,
-        pens: _,
-        hands: _,
-        eyes: _,
-    } = studio;
-    keeper
-}
-
 // Submits each edit, works it off, and shows the core twice.
 fn show_each<R: Wait + Clock>(
     rt: &R,
@@ -119,8 +108,10 @@ fn show_one<R: Wait + Clock>(
     }
 }
 
-// Makes turns of the keeper and of the hand until no work is left.
-fn work_off(studio: &mut Studio) -> Result<(), Fault> {
+/// Makes turns of the keeper and of the first hand until no work is left.
+///
+/// Errors: out of memory; an edit that was refused.
+pub fn work_off(studio: &mut Studio) -> Result<(), Fault> {
     match studio.hands.first_mut() {
         Some(hand) => make_turns(&mut studio.keeper, hand),
         None => Err(Fault("there is no hand")),

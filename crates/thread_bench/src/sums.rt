@@ -6,9 +6,14 @@ use std::io;
 
 /// The sum of the core's image by the rule FNV-1a, of whole pixels row by row.
 pub fn sum_of_image(core: &Core) -> u64 {
+    sum_of_values(core.image().cells())
+}
+
+/// The sum of values by the same rule.
+pub fn sum_of_values(values: &[u16]) -> u64 {
     let mut sum: u64 = 0xcbf2_9ce4_8422_2325;
-    for cell in core.image().cells() {
-        sum = (sum ^ u64::from(*cell)).wrapping_mul(0x0100_0000_01b3);
+    for value in values {
+        sum = (sum ^ u64::from(*value)).wrapping_mul(0x0100_0000_01b3);
     }
     sum
 }

@@ -1,0 +1,140 @@
+#!/usr/bin/env python3
+"""Measure live boards against tiles and a plain C program, and print tables in Markdown.
+
+    python3 bench/boards.py crates/thread_bench/out/thread_bench
+
+The baseline is compiled and the images are made as run.py does it. README.md says what the columns mean.
+"""
+
+import argparse
+import pathlib
+import statistics
+import subprocess
+
+import run
+import threads
+
+HANDS = [1, 2, 4]
+SIDE = 64  # of the tiles beside which a board stands
+GREATEST = 1024  # the greatest side of a board
+EDITS = 200  # the edits of the last table's family that are mirrored
+
+
+def ends_in_time(program, hands, source, limit):
+    """Whether the hands raise the board of an input in so many seconds; the run warms up."""
+    with open(source.path, "rb") as reader:
+        try:
+            subprocess.run([program, "board", str(hands)], stdin=reader, stdout=subprocess.DEVNULL, timeout=limit,
+                           check=True)
+        except subprocess.TimeoutExpired:
+            run.say(f"{source.family}: {hands} hands take longer than {limit} s")
+            return False
+    return True
+
+
+def raised(program, hands, source, right):
+    """The figures of a board that hands raise. It ends the script where the sum is not the right one.
+
+    They are seconds, rounds, and nanoseconds of a peek beside the hands and of one alone.
+    """
+    ((total,), (wall, rounds, peeks, beside, alone)), _ = threads.lines_of(program, ["board", hands], source)
+    if total != right:
+        run.stop(f"board {hands} and baseline differ on {source.path}")
+    return wall / 1e9, rounds, beside / max(peeks, 1), alone / max(peeks, 1)
+
+
+def figures_of(source, program, baseline, words):
+    """Medians of one image: seconds of the baseline and of tiles, and the figures of each number of hands in time."""
+    right = threads.baseline_sum(baseline, source)
+    hands = [count for count in HANDS if ends_in_time(program, count, source, words.limit)]
+    whole, tiled, boards = [], [], {count: [] for count in hands}
+    for _ in range(words.runs):
+        whole.append(threads.baseline_seconds(baseline, source))
+        tiled.append(threads.settled(program, source, 0, SIDE, right)[1])
+        for count in hands:
+            boards[count].append(raised(program, count, source, right))
+    run.say(f"{source.family}: boards raised by {', '.join(str(count) for count in hands) or 'no'} hands")
+    medians = {count: [statistics.median(column) for column in zip(*boards[count])] for count in hands}
+    return statistics.median(whole), statistics.median(tiled), medians
+
+
+def cell(boards, hands, place, form):
+    """A figure as a cell of a table; a dash where the hands were not in time."""
+    return form.format(boards[hands][place]) if hands in boards else "-"
+
+
+def growing_row(family, whole, tiled, boards):
+    """The row of one image: milliseconds of the baseline, of tiles and of hands, and their rounds."""
+    times = [cell({hands: [1000 * figures[0]] for hands, figures in boards.items()}, hands, 0, "{:,.0f}")
+             for hands in HANDS]
+    ratio = f"{boards[1][0] / boards[4][0]:.2f}" if 1 in boards and 4 in boards else "-"
+    rounds = [cell(boards, hands, 1, "{:,.0f}") for hands in HANDS]
+    return [family, f"{1000 * whole:.0f}", f"{1000 * tiled:.0f}", *times, ratio, *rounds]
+
+
+def growing(sources, program, baseline, words):
+    """Print the tables of boards that hands raise, and of peeks."""
+    results = {source.family: figures_of(source, program, baseline, words) for source in sources}
+    run.table([f"{words.size} by {words.size}", "baseline ms", "tiles ms",
+               *(f"{hands} hand{'s' * (hands > 1)} ms" for hands in HANDS), "4 over 1",
+               *(f"rounds, {hands}" for hands in HANDS)],
+              [growing_row(family, *figures) for family, figures in results.items()])
+    run.table([f"a peek, {words.size} by {words.size}", "alone ns", *(f"beside {hands} ns" for hands in HANDS)],
+              [[family, cell(boards, 1, 3, "{:.0f}"), *(cell(boards, hands, 2, "{:.0f}") for hands in HANDS)]
+               for family, (_, _, boards) in results.items()])
+
+
+def mirrors(program, baseline, words):
+    """Print the table of the marker that is brought to a board."""
+    source = run.Input(threads.EDITED, words.size)
+    right = threads.baseline_sum(baseline, source)
+    times = {0: [], 1: []}
+    for _ in range(words.runs):
+        (total,), *edits = threads.lines_of(program, ["mirror", EDITS], source)[0]
+        if total != right:
+            run.stop(f"mirror and baseline differ on {source.path}")
+        for nanoseconds, advanced in edits:
+            times[advanced].append(nanoseconds)
+    run.say(f"{source.family}: {len(times[0])} times in the same generation, {len(times[1])} in the next one")
+    run.table([f"the marker is brought, {words.size} by {words.size}", "times", "median ms", "worst ms"],
+              [[name, f"{len(taken):,}", threads.milliseconds(statistics.median(taken)),
+                threads.milliseconds(max(taken))]
+               for name, taken in [("after a stroke", times[0]), ("after a withdrawal", times[1])] if taken])
+
+
+def read_words():
+    """The words of the command line."""
+    parser = argparse.ArgumentParser(description="Measure live boards.")
+    parser.add_argument("program", type=pathlib.Path, help="crates/thread_bench/out/thread_bench")
+    parser.add_argument("--runs", type=int, default=5, metavar="N", help="timed runs of each (5)")
+    parser.add_argument("--size", type=int, default=GREATEST, metavar="N", help=f"side of the images ({GREATEST})")
+    parser.add_argument("--limit", type=int, default=60, metavar="N",
+                        help="seconds after which a run on a board is given up (60)")
+    parser.add_argument("--families", nargs="+", default=threads.FAMILIES, choices=run.FAMILIES, metavar="FAMILY",
+                        help=" ".join(threads.FAMILIES))
+    words = parser.parse_args()
+    if words.runs < 1 or words.limit < 1 or not 1 <= words.size <= GREATEST:
+        parser.error(f"runs and limit are at least 1, and the size is 1 to {GREATEST}")
+    if not words.program.is_file():
+        parser.error(f"{words.program} is not there; `rt run` in crates/thread_bench makes the program")
+    return words
+
+
+def main():
+    """Measure what the command line asks for."""
+    words = read_words()
+    run.KEPT.mkdir(exist_ok=True)
+    command = run.compiled("baseline")
+    if command is None:
+        run.stop("cc failed")
+    baseline = run.Filter("baseline", [command, "--conn", "4"])
+    program = words.program.resolve()
+    sources = [run.Input(family, words.size) for family in words.families]
+    print(f"{run.machine()}; 4 neighbours, tiles of side {SIDE}; the median of {words.runs} runs each. A dash stands for"
+          f" runs of more than {words.limit} seconds.\n", flush=True)
+    growing(sources, program, baseline, words)
+    mirrors(program, baseline, words)
+
+
+if __name__ == "__main__":
+    main()
