@@ -78,7 +78,7 @@ LINES = [  # edit text, and how many states it means or its fault
     (b"withdraw " + TAG + b"\r\r\n", "E2 1"),
     (b"disc {" + TAG + b"} 9 0:1+255\ndisc urn:uuid:" + TAG + b" 9 0:1+255", 2),
     (b"disc {" + TAG.replace(b"-", b"") + b"} 9 0:1+255", "E2 1"),
-    (b"disc URN:UUID:" + TAG + b" 9 0:1+255", "E2 1"),
+    (b"disc URN:UUID:" + TAG + b" 9 0:1+255", 1),
     (b"disc " + TAG + b" 9 0:1+256", "E3 1 S7"),
     (b"disc " + TAG + b" 9 0:1-1", "E1 1"),
 ]

@@ -225,7 +225,7 @@ FIVE_DIGITS = rb"([0-9]{1,5})"
 RUN = re.compile(FIVE_DIGITS + rb":" + FIVE_DIGITS + rb"-" + FIVE_DIGITS)
 DISC = re.compile(FIVE_DIGITS + rb":" + FIVE_DIGITS + rb"\+" + FIVE_DIGITS)
 HYPHENATED = rb"[0-9a-fA-F]{8}(?:-[0-9a-fA-F]{4}){3}-[0-9a-fA-F]{12}"
-TAG = re.compile(rb"[0-9a-fA-F]{32}|%b|\{%b\}|urn:uuid:%b" % (HYPHENATED, HYPHENATED, HYPHENATED))
+TAG = re.compile(rb"[0-9a-fA-F]{32}|%b|\{%b\}|(?i:urn:uuid:)%b" % (HYPHENATED, HYPHENATED, HYPHENATED))
 
 
 def split_input(data):
@@ -264,7 +264,7 @@ def read_line(n, words):
     stroke = spelled_edit(n, words)
     if not TAG.fullmatch(words[1]):
         raise Refused(f"E2 {n}")
-    tag = int(words[1].removeprefix(b"urn:uuid:").strip(b"{}").replace(b"-", b""), 16)
+    tag = int(words[1].lower().removeprefix(b"urn:uuid:").strip(b"{}").replace(b"-", b""), 16)
     if stroke is None:
         return State({}, frozenset([tag]))
     try:
