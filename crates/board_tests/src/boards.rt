@@ -8,10 +8,11 @@ ghost use Rattle.board_tests.specs.Company.{AreOf};
 use crate::chance::draw;
 use crate::pictures::{GROWN, below, dot, grown, row_image};
 use crate::seats::{
-    Seats, advances, closes_on, open, peeks, peeks_all, plants, plants_all, rounds, settles,
+    Seats, advances, closes_on, open, peeks, peeks_all, plants, plants_all, raises_next, reads,
+    rounds, settles,
 };
 use grid_core::{Conn, Grid};
-use live_board::{Board, KeeperSeat, Peek};
+use live_board::{Board, KeeperSeat, Peek, Seen};
 use pgm_codec::Image;
 use std::alloc::Global;
 use std::test::Fail;
@@ -76,6 +77,39 @@ fn what_grew_in_an_older_generation_is_gone(rt: HostRuntime) -> Result<(), Fail>
     };
     for conn in [Conn::Four, Conn::Eight] {
         assert!(rt; closes_moved(rt.alloc(), &mask, conn));
+    }
+    Ok(())
+}
+
+// Whether the hand finds in its generation that a stroke's pixel has the stroke's value, and others none; and raises the
+// next pixel by what it read, as far as the mask lets it, once.
+fn passes_on(alloc: Global, board: &Board, seats: &mut Seats, mask: &Grid) -> bool
+    requires { AreOf board.now mask.now seats.old }
+{
+    let advanced = advances(board, seats, mask, dot(alloc, mask, 1, 5));
+    plants(board, seats, mask, 1);
+    let newer = reads(board, seats, mask, 1) == Some(Seen::Newer);
+    seats.hand.start(board);
+    let older = reads(board, seats, mask, 0) == Some(Seen::Older);
+    let raised = raises_next(board, seats, mask, 1) == Some((5, true));
+    let again = raises_next(board, seats, mask, 1) == Some((5, false));
+    let onward = raises_next(board, seats, mask, 2) == Some((2, true));
+    let live = peeks(board, seats, mask, 3) == Some(Peek::Live(2));
+    advanced & newer & older & raised & again & onward & live
+}
+
+#[test]
+fn a_hand_passes_on_what_it_read(rt: HostRuntime) -> Result<(), Fail> {
+    let Some(mask) = row_image(rt.alloc()) else {
+        return Err(Fail::new("out of memory"));
+    };
+    for conn in [Conn::Four, Conn::Eight] {
+        match open(rt.alloc(), &mask, conn, 0) {
+            Some((board, mut seats)) => {
+                assert!(rt; passes_on(rt.alloc(), &board, &mut seats, mask.grid()));
+            }
+            None => return Err(Fail::new("no board was opened")),
+        }
     }
     Ok(())
 }

@@ -7,7 +7,7 @@ ghost use Rattle.live_board.specs.Words.{mask_of, max_generation};
 ghost use Rattle.board_tests.specs.Company.{AreOf, IsReady};
 
 use grid_core::{Conn, Grid, Pixel};
-use live_board::{Board, HandSeat, KeeperSeat, Opened, Peek, PeekSeat};
+use live_board::{Board, HandSeat, KeeperSeat, Opened, Peek, PeekSeat, Seen};
 use pgm_codec::Image;
 use std::alloc::Global;
 
@@ -123,6 +123,35 @@ pub fn plants_all(board: &Board, seats: &mut Seats, mask: &Grid)
 {
     for y in 0..mask.height() {
         plants_row(board, seats, mask, y);
+    }
+}
+
+/// What the hand reads in this column of the first row.
+pub fn reads(board: &Board, seats: &mut Seats, mask: &Grid, x: u32) -> Option<Seen>
+    requires { AreOf board.now mask.now seats.old }
+    ensures { AreOf board.now mask.now seats.new }
+{
+    if x < mask.width() {
+        Some(seats.hand.read(board, Pixel { x, y: 0 }))
+    } else {
+        None
+    }
+}
+
+/// The value that the hand reads in this column of the first row, and whether the next pixel rises by it.
+pub fn raises_next(board: &Board, seats: &mut Seats, mask: &Grid, x: u32) -> Option<(u16, bool)>
+    requires { AreOf board.now mask.now seats.old }
+    ensures { AreOf board.now mask.now seats.new }
+{
+    if x >= mask.width() - 1 {
+        return None;
+    }
+    match seats.hand.read(board, Pixel { x, y: 0 }) {
+        Seen::Value(from) => {
+            let next = Pixel { x: x + 1, y: 0 };
+            Some((from.value, seats.hand.raise(board, &from, next)))
+        }
+        Seen::Older | Seen::Newer => None,
     }
 }
 
