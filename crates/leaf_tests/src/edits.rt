@@ -38,6 +38,18 @@ const LINES: &[(&str, Result<usize, EditError>)] = &[
         "disc 00000000-0000-0000-0000-000000000001 0 2:2+2",
         Err(EditError::BadStroke(1, BadLevel)),
     ),
+    (
+        "withdraw urn:uuid:00000000-0000-0000-0000-000000000001",
+        Ok(1),
+    ),
+    (
+        "withdraw URN:uUiD:00000000-0000-0000-0000-000000000001",
+        Ok(1),
+    ),
+    (
+        "withdraw URN:UUID:00000000000000000000000000000001",
+        Err(EditError::BadTag(1)),
+    ),
     ("withdraw zz", Err(EditError::BadTag(1))),
     ("withdraw zz\nplace", Err(EditError::BadTag(1))),
 ];

@@ -43,6 +43,10 @@ const BELOW: &str = "store_test/strokes/below";
 
 const NO_FOLDER: &str = "store_test/none/strokes";
 
+const NO_NAME: &str = "";
+
+const NO_NAME_FRESH: &str = ".new";
+
 const OLD: &[u8] = b"the old bytes";
 
 // Cases: what each shows, and its steps, by the name that each is on.
@@ -98,6 +102,14 @@ const CASES: &[(&str, &[(&str, Step)])] = &[
             (BELOW, Step::LoadFails),
             (BELOW, Step::SaveFails(b"new")),
             (STROKES, Step::Loads(OLD)),
+        ],
+    ),
+    (
+        "a name that is empty is no file, and nothing is saved under it",
+        &[
+            (NO_NAME, Step::Loads(b"")),
+            (NO_NAME, Step::SaveFails(OLD)),
+            (NO_NAME_FRESH, Step::IsAbsent),
         ],
     ),
     (
