@@ -137,7 +137,9 @@ def read_painted(name, threshold):
     if array.ndim == 2:
         labels = whole_numbers(name, array)
         return labels, labels != 0
-    array = (array >> 8 if array.dtype == numpy.uint16 else array).astype(numpy.int64)
+    if array.dtype.kind != "u" or array.dtype.itemsize > 2 or array.shape[2] > 4:
+        raise Fault(f"{name} has no colours of 8 or 16 bits")
+    array = array.astype(numpy.int64) >> 8 * (array.dtype.itemsize - 1)
     colours = array[:, :, :-1] if has_alpha else array
     labels = colours[:, :, 0]
     for channel in range(1, colours.shape[2]):

@@ -98,8 +98,9 @@ def part_around(kept, start, conn):
         y, x = border.pop()
         around = {(y + down, x + across) for down in (-1, 0, 1) for across in (-1, 0, 1)
                   if conn == 8 or down == 0 or across == 0}
-        border += around & kept - part
-        part |= around & kept
+        fresh = (around & kept) - part
+        border += fresh
+        part |= fresh
     return part
 
 
@@ -135,7 +136,8 @@ class InFolder(unittest.TestCase):
         elif path.suffix == ".png":
             Image.fromarray(content).save(path)
         else:
-            tifffile.imwrite(path, content)
+            is_colour = content.ndim == 3 and content.shape[2] in (3, 4)
+            tifffile.imwrite(path, content, photometric="rgb" if is_colour else "minisblack")
         return path
 
     def lines(self, *words):
@@ -191,6 +193,10 @@ class FromPictures(InFolder):
         shapes = {tag.hex[17:25]: sorted(pixels) for tag, (_, pixels) in
                   strokes_in(self.lines(path, "--level", 7)).items()}
         self.assertEqual(shapes, {"00000000": [(1, 1)], "00ff0010": [(0, 0), (0, 1), (1, 3)]})
+        for kind in (">u2", "<u2"):
+            wide = self.put("wide.tif", (picture.astype(kind) * 257).astype(kind))
+            same = strokes_in(self.lines(wide, "--level", 7)).values()
+            self.assertEqual(sorted(sorted(pixels) for _, pixels in same), sorted(shapes.values()))
         opaque = strokes_in(self.lines(path, "--level", 7, "--threshold", 100))
         self.assertEqual(sorted(len(pixels) for _, pixels in opaque.values()), [1, 2])
         apart = strokes_in(self.lines(path, "--level", 7, "--apart"))
@@ -257,6 +263,7 @@ class FromPictures(InFolder):
         deep = self.put("deep.tif", numpy.ones((2, 3), numpy.float32))
         self.refused(name, [picture, "--mask", deep], "no grey picture")
         self.refused(name, [self.put("pages.tif", numpy.ones((5, 2, 7), numpy.uint8)), "--level", 1], "several pages")
+        self.refused(name, [self.put("float.tif", numpy.ones((2, 3, 3), numpy.float32)), "--level", 1], "no colours")
         for words in ([picture], [picture, "--level", 0], [picture, "--level", 65536], [], [picture, "--no"]):
             self.refused(name, words, "usage:", 2)
 
@@ -431,6 +438,71 @@ class ThereAndBack(InFolder):
             kept = {tuple(pixel) for pixel in numpy.argwhere(2 * result >= level).tolist()}
             part = part_around(kept, next(iter(pixels & kept)), 4)
             self.assertEqual(part, set(map(tuple, numpy.argwhere(image == label).tolist())))
+
+    def random_case(self, chance, conn):
+        """Mask, live strokes by number in the order of tags, result, and the words that a random input gives."""
+        height, width, top = chance.randint(1, 12), chance.randint(1, 12), chance.choice((3, 9, 700))
+        samples = [[chance.randint(0, top) for _ in range(width)] for _ in range(height)]
+        samples[0][0] = top
+        edits = f"disc {uuid.UUID(int=1 << 100)} {chance.randint(1, top)} 0:0+1\n"
+        for _ in range(chance.randint(0, 5)):
+            tag = uuid.UUID(int=chance.getrandbits(128), version=4)
+            y, x = chance.randrange(height), chance.randrange(width)
+            edits += f"disc {tag} {chance.randint(1, top + 3)} {y}:{x}+{chance.randint(0, 2)}\n"
+            if chance.random() < 0.3:
+                edits += f"withdraw {tag}\n"
+        mask = readers.read_image(pgm(samples, top))
+        states = readers.read_edits(edits.encode())
+        gone = set().union(*(state.tombstones for state in states))
+        live = {tag: stroke for state in states for tag, stroke in state.strokes.items() if tag not in gone}
+        strokes = {number: (live[tag].level, {divmod(place, width) for place in
+                                              simulator.pixels_of(live[tag].shape, width, height)})
+                   for number, tag in enumerate(sorted(live), 1)}
+        status, written = grown(edits, pgm(samples, top), conn)
+        self.assertEqual(status, 0)
+        result = numpy.array(readers.read_image(written).samples).reshape(height, width)
+        return numpy.array(mask.samples).reshape(height, width), strokes, result, [
+            self.put("result.pgm", written), "--mask", self.put("mask.pgm", pgm(samples, top)),
+            "--strokes", self.put("strokes.txt", edits), "--conn", conn]
+
+    def test_random_levels(self):
+        chance = random.Random(2)
+        for _ in range(60):
+            conn = chance.choice((4, 8))
+            _, strokes, result, words = self.random_case(chance, conn)
+            level = chance.randint(1, int(result.max()))
+            kept = set(map(tuple, numpy.argwhere(result >= level).tolist()))
+            for split in ([], ["--split"]):
+                image, _ = self.labels(*words, "--level", level, *split)
+                self.check_labels(strokes, result, kept, image, conn, bool(split))
+
+    def lit_by(self, mask, strokes, result, conn):
+        """For each pixel the strokes from which a way leads to it along which the result never rises."""
+        lit = collections.defaultdict(set)
+        for number, (level, pixels) in strokes.items():
+            border = [pixel for pixel in pixels if min(level, mask[pixel]) == result[pixel]]
+            while border:
+                y, x = border.pop()
+                if number not in lit[y, x]:
+                    lit[y, x].add(number)
+                    border += [(row, column) for row in range(max(y - 1, 0), min(y + 2, mask.shape[0]))
+                               for column in range(max(x - 1, 0), min(x + 2, mask.shape[1]))
+                               if (conn == 8 or row == y or column == x) and result[row, column] <= result[y, x]]
+        return lit
+
+    def test_random_shares(self):
+        chance = random.Random(3)
+        for _ in range(60):
+            conn, share = chance.choice((4, 8)), chance.choice((0.1, 0.5, 0.75, 1))
+            mask, strokes, result, words = self.random_case(chance, conn)
+            bounds = {number: max(1, share * max(min(level, mask[pixel]) for pixel in pixels))
+                      for number, (level, pixels) in strokes.items()}
+            image, _ = self.labels(*words, "--share", share)
+            kept = set(map(tuple, numpy.argwhere(image).tolist()))
+            for pixel, numbers in self.lit_by(mask, strokes, result, conn).items():
+                judged = {result[pixel] >= bounds[number] for number in numbers}
+                self.assertIn(pixel in kept, judged)
+            self.check_labels(strokes, result, kept, image, conn, False)
 
     def test_labels_are_strokes_again(self):
         _, _, paths, _ = self.example("cells", [(91, 71), (206, 188)], 4)
