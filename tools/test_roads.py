@@ -302,6 +302,11 @@ class ToLabels(InFolder):
         self.assertEqual((image[0, :3].tolist(), image[0, 4:].tolist()), ([2, 2, 2], [1, 1, 1, 0]))
         self.assertEqual([line[0] for line in table[1:]], ["1", "2"])
 
+    def test_split_on_common_pixels(self):
+        edits = f"place {uuid.UUID(int=5)} 9 0:0-3\nplace {uuid.UUID(int=4)} 9 0:2-5\n"
+        image, _ = self.hand(edits, "--level", 1, "--split", samples=[[9, 9, 9, 9, 9, 9, 9]])
+        self.assertEqual(image.tolist(), [[2, 2, 1, 1, 1, 1, 1]])
+
     def test_share(self):
         # the stroke of level 200 shows 100 at its brightest, the other 20: kept are 50 and above, and 10 and above
         edits = f"place {uuid.UUID(int=1)} 200 0:0-0\nplace {uuid.UUID(int=2)} 20 0:8-8\n"
