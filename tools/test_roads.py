@@ -202,6 +202,13 @@ class FromPictures(InFolder):
         apart = strokes_in(self.lines(path, "--level", 7, "--apart"))
         self.assertEqual(sorted(sorted(pixels) for _, pixels in apart.values()), [[(0, 0), (0, 1)], [(1, 1)], [(1, 3)]])
 
+    def test_apart_at_corners_and_on_a_dark_mask(self):
+        picture = self.put("slant.png", numpy.array([[1, 0, 0, 1], [0, 1, 0, 2]], numpy.uint8))
+        mask = self.put("mask.pgm", pgm([[0, 3, 3, 5], [3, 0, 3, 6]]))
+        lines = self.lines(picture, "--mask", mask, "--apart").splitlines()
+        self.assertEqual([line.split(" ")[2:] for line in lines],
+                         [["1", "0:0-0,1:1-1"], ["5", "0:3-3"], ["6", "1:3-3"]])
+
     def test_kinds_of_pictures(self):
         labels = numpy.array([[0, 1, 2], [0, 0, 2]])
         expected = [(5, {(0, 1)}), (5, {(0, 2), (1, 2)})]
