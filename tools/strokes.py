@@ -1,0 +1,187 @@
+"""Strokes for the tools in this folder: their tags, edit lines and state files, and the pixels that they cover.
+
+docs/FORMATS.md says what the lines and the files are, and docs/LABELS.md what the bits of a painted stroke's tag say.
+"""
+
+import hashlib
+import math
+import os
+import pathlib
+import re
+import struct
+import uuid
+from typing import NamedTuple
+
+import numpy
+
+from pictures import IMAGE_LINE
+from running import Fault
+
+RUN = re.compile(rb"(\d{1,5}):(\d{1,5})-(\d{1,5})")
+DISC = re.compile(rb"(\d{1,5}):(\d{1,5})\+(\d{1,5})")
+NUMBER_BITS, LABEL_BITS = 28, 32  # (two zero bits stand before the label)
+
+
+class Stroke(NamedTuple):
+    """A level, and runs of row, first and last column; of a disc one triple in their place: row, column and radius."""
+    level: int
+    shape: list
+    is_disc: bool
+
+
+class Seeds(NamedTuple):
+    """The pixels of live strokes, from the least tag on; strokes that were painted as one label count as one.
+
+    `tags` has the least tag of each. The arrays say of each pixel its place in the flat picture, the number of its
+    stroke in `tags`, and its level.
+    """
+    tags: list
+    places: numpy.ndarray
+    owners: numpy.ndarray
+    levels: numpy.ndarray
+
+
+# ---- Tags of painted strokes ----
+
+def painted_tag(name, label, number):
+    """The tag of a stroke that was painted in the file of this name: RFC 9562, version 8."""
+    digest = int.from_bytes(hashlib.sha256(os.fsencode(name)).digest(), "big")
+    front, middle = digest >> 208, digest >> 196 & 0xFFF  # (the first 48 bits, and the next 12)
+    low = 0b10 << 62 | label << NUMBER_BITS | number
+    return uuid.UUID(int=front << 80 | 8 << 76 | middle << 64 | low)
+
+
+def painted_label(tag):
+    """The label in the tag of a painted stroke."""
+    return tag.int >> NUMBER_BITS & (1 << LABEL_BITS) - 1
+
+
+def picture_bits(tag):
+    """What the tags of all strokes of one painted picture have in common."""
+    return tag.int >> NUMBER_BITS + LABEL_BITS
+
+
+def label_bits(tag):
+    """What the tags of all strokes of one painted label have in common; the whole tag where it was not painted."""
+    return tag.int >> NUMBER_BITS if tag.version == 8 else tag.int
+
+
+# ---- Reading ----
+
+def read_live_strokes(name):
+    """The live strokes by their tags, of edit lines, of an input up to its `image` line, or of a state file."""
+    data = pathlib.Path(name).read_bytes()
+    is_state = data[2:5] == b"SPD"
+    strokes, withdrawn = read_state_file(name, data) if is_state else read_edit_lines(name, data)
+    live = {tag: stroke for tag, stroke in strokes.items() if tag not in withdrawn}
+    if not live:
+        raise Fault(f"{name} has no live stroke")
+    return live
+
+
+def read_edit_lines(name, data):
+    """The strokes of edit lines, and the tags that they withdraw."""
+    image_line = IMAGE_LINE.search(data)
+    strokes, withdrawn = {}, set()
+    for number, line in enumerate(data[:image_line.start() if image_line else len(data)].split(b"\n"), 1):
+        words = line.removesuffix(b"\r").split()
+        if not words or words[0].startswith(b";"):
+            continue
+        try:
+            tag = uuid.UUID(words[1].decode())
+            if words[0] == b"withdraw" and len(words) == 2:
+                withdrawn.add(tag)
+            elif strokes.setdefault(tag, stroke := spelled_stroke(words)) != stroke:
+                raise Fault(f"{name} has two strokes with the tag {tag}")
+        except (ValueError, IndexError):
+            raise Fault(f"{name} has no edit line in line {number}") from None
+    return strokes, withdrawn
+
+
+def spelled_stroke(words):
+    """The stroke that the words of a line spell."""
+    kind, _, level, shape = words
+    if kind == b"disc" and (match := DISC.fullmatch(shape)):
+        return Stroke(int(level), [tuple(map(int, match.groups()))], True)
+    matches = [RUN.fullmatch(run) for run in shape.split(b",")]
+    if kind != b"place" or not all(matches):
+        raise ValueError
+    return Stroke(int(level), [tuple(map(int, match.groups())) for match in matches], False)
+
+
+def read_state_file(name, data):
+    """The strokes of a state file, and its tombstones."""
+    strokes, withdrawn, place = {}, set(), 0
+    try:
+        while place < len(data):
+            length, = struct.unpack_from(">H", data, place)
+            read_frame(data[place + 2:place + 2 + length], strokes, withdrawn)
+            place += 2 + length
+    except (struct.error, ValueError, IndexError):
+        raise Fault(f"{name} is no state file, or is cut off") from None
+    return strokes, withdrawn
+
+
+def read_frame(frame, strokes, withdrawn):
+    """Add the strokes and the tombstones of a frame."""
+    magic, stroke_count, tombstone_count = struct.unpack_from(">4s33xHH", frame)
+    if magic not in (b"SPD1", b"SPD2"):
+        raise ValueError
+    place = 41
+    for _ in range(stroke_count):
+        place = read_framed_stroke(frame, place, magic == b"SPD2", strokes)
+    for _ in range(tombstone_count):
+        withdrawn.add(uuid.UUID(bytes=frame[place:place + 16]))
+        place += 16
+
+
+def read_framed_stroke(frame, place, has_kind, strokes):
+    """Add the stroke that begins at this place of a frame, and give the place behind it."""
+    tag = uuid.UUID(bytes=frame[place:place + 16])
+    kind = frame[place + 16] if has_kind else 0
+    level, first = struct.unpack_from(">HH", frame, place + 16 + has_kind)
+    place += 18 + has_kind
+    if kind == 1:
+        x, y, radius = struct.unpack_from(">HHH", frame, place)
+        strokes[tag] = Stroke(level, [(y, x, radius)], True)
+        return place + 6
+    runs = struct.unpack_from(f">{3 * first}H", frame, place + 2)
+    strokes[tag] = Stroke(level, list(zip(runs[0::3], runs[1::3], runs[2::3])), False)
+    return place + 2 + 6 * first
+
+
+# ---- Pixels ----
+
+def spans_of(stroke, width, height):
+    """The spans of a stroke in a picture of this size."""
+    if not stroke.is_disc:
+        return stroke.shape
+    (y, x, radius), = stroke.shape
+    rows = range(max(y - radius, 0), min(y + radius + 1, height))
+    reaches = [math.isqrt(radius * radius - (row - y) ** 2) for row in rows]
+    return [(row, max(x - reach, 0), min(x + reach, width - 1)) for row, reach in zip(rows, reaches)]
+
+
+def lies_in(stroke, width, height):
+    """Whether a stroke lies in a picture of this size: of a disc its centre."""
+    if stroke.is_disc:
+        (y, x, _), = stroke.shape
+        return y < height and x < width
+    return all(y < height and last < width for y, _, last in stroke.shape)
+
+
+def seeds_of(strokes, width, height):
+    """The seeds of strokes by their tags, in a picture of this size."""
+    tags, spans = [], []
+    for tag in sorted(strokes):
+        stroke = strokes[tag]
+        if not lies_in(stroke, width, height):
+            raise Fault(f"the stroke {tag} does not lie in the picture of {width} by {height} pixels")
+        if not tags or label_bits(tags[-1]) != label_bits(tag):
+            tags.append(tag)
+        spans += [(y * width + first, last - first + 1, len(tags) - 1, stroke.level)
+                  for y, first, last in spans_of(stroke, width, height)]
+    starts, lengths, owners, levels = numpy.array(spans, dtype=numpy.int64).T
+    within = numpy.arange(lengths.sum()) - numpy.repeat(numpy.cumsum(lengths) - lengths, lengths)
+    return Seeds(tags, numpy.repeat(starts, lengths) + within, numpy.repeat(owners, lengths),
+                 numpy.repeat(levels, lengths))
