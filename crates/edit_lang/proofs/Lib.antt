@@ -5,3 +5,4 @@ pub mod Runs
 pub mod Seeds
 pub mod Meaning
 pub mod Reading
+pub mod OneDelta

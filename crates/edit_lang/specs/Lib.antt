@@ -6,3 +6,4 @@ pub mod Numbers
 pub mod Shapes
 pub mod Edit
 pub mod Code
+pub mod Held

@@ -11,7 +11,8 @@
 //!
 //! [`parse`] reads such a text into one delta an edit, to be merged in order. It answers exactly what the
 //! text spells, or an [`EditError`], which tells the fault of the first faulty line. That a text spells one
-//! list of deltas or has one first fault is [`one_meaning`].
+//! list of deltas or has one first fault is [`one_meaning`]. [`parse_lines`] reads the same into [`LineDelta`]s, which
+//! take less memory than states, and are merged without being made into any.
 //!
 //! What a text means stands in `specs/Edit.antt`: the words of a line (`Lines`) ask for an edit, in which
 //! `Numbers` and `Shapes` say what a number, a run and a disc look like, and the edit means a state of one
@@ -20,10 +21,12 @@
 
 mod error;
 mod line;
+mod line_delta;
 mod number;
 mod shape;
 mod text;
 mod words;
 
 pub use error::EditError;
-pub use text::{one_meaning, parse};
+pub use line_delta::LineDelta;
+pub use text::{one_meaning, parse, parse_lines};

@@ -1,19 +1,17 @@
 //! Lines: from the words of a line to its delta.
 
-ghost use Rattle.std.specs.Prelude.{◌≡◌, ◌⊎◌, Ok, Err, Some, IfOk, MatchResult, option_map};
-ghost use Rattle.edit_lang.specs.declared.error.EditError.TheVariants as errors;
-ghost use Rattle.stroke_lattice.specs.State.{placed};
+ghost use Rattle.std.specs.Prelude.{◌≡◌, ◌⊎◌, Ok, Err, Some, IfOk, option_map};
 ghost use Rattle.edit_lang.specs.Lines.{words_of};
 ghost use Rattle.edit_lang.specs.Edit.{Withdraw, three_of, runs_edit, disc_edit, withdrawal};
 ghost use Rattle.edit_lang.specs.Edit.{runs_placement, disc_placement, edit_named, AnswersEdit, AnswersLine};
 
 use crate::error::EditError;
+use crate::line_delta::LineDelta;
 use crate::number::parse_number;
 use crate::shape::{Circle, parse_disc, parse_runs};
 use crate::words::first_word;
 use std::alloc::{AllocError, Global};
 use stroke_core::{Run, Stroke, Tag};
-use stroke_lattice::{Delta, State};
 
 /// What the line of this number means: a delta, or nothing.
 ///
@@ -24,7 +22,7 @@ pub(crate) fn parse_line(
     alloc: Global,
     number: u64,
     line: &[u8],
-) -> Result<Option<Delta>, EditError>
+) -> Result<Option<LineDelta>, EditError>
     ensures { AnswersLine number line.now result }
 {
     let Some((first, others)) = first_word(line) else {
@@ -39,22 +37,27 @@ pub(crate) fn parse_line(
 
 /// What a first word asks for with the words behind it.
 #[tactic(auto, unfolding(crate::specs::Edit::edit_named))]
-fn parse_edit(alloc: Global, number: u64, first: &[u8], others: &[u8]) -> Result<Delta, EditError>
+fn parse_edit(
+    alloc: Global,
+    number: u64,
+    first: &[u8],
+    others: &[u8],
+) -> Result<LineDelta, EditError>
     ensures { AnswersEdit number (edit_named first.now (words_of others.now)) result }
 {
     if first == b"place".as_slice() {
         parse_placement(alloc, number, others)
     } else if first == b"disc".as_slice() {
-        parse_disc_placement(alloc, number, others)
+        parse_disc_placement(number, others)
     } else if first == b"withdraw".as_slice() {
-        parse_withdrawal(alloc, number, others)
+        parse_withdrawal(number, others)
     } else {
         Err(EditError::BadLine(number))
     }
 }
 
 /// The delta of `TAG LEVEL RUNS`.
-fn parse_placement(alloc: Global, number: u64, words: &[u8]) -> Result<Delta, EditError>
+fn parse_placement(alloc: Global, number: u64, words: &[u8]) -> Result<LineDelta, EditError>
     ensures { AnswersEdit number (runs_edit (words_of words.now)) result }
 {
     let Some((tag, level, runs)) = runs_words(alloc, words)? else {
@@ -63,12 +66,12 @@ fn parse_placement(alloc: Global, number: u64, words: &[u8]) -> Result<Delta, Ed
     match (Tag::parse_ascii(tag), Stroke::new(level, runs)) {
         (Err(_), _) => Err(EditError::BadTag(number)),
         (Ok(_), Err(refused)) => Err(EditError::BadStroke(number, refused.why)),
-        (Ok(tag), Ok(stroke)) => place(alloc, tag, stroke),
+        (Ok(tag), Ok(stroke)) => Ok(LineDelta::placed(tag, stroke)),
     }
 }
 
 /// The delta of `TAG LEVEL DISC`.
-fn parse_disc_placement(alloc: Global, number: u64, words: &[u8]) -> Result<Delta, EditError>
+fn parse_disc_placement(number: u64, words: &[u8]) -> Result<LineDelta, EditError>
     ensures { AnswersEdit number (disc_edit (words_of words.now)) result }
 {
     let Some((tag, level, disc)) = disc_words(words) else {
@@ -78,35 +81,20 @@ fn parse_disc_placement(alloc: Global, number: u64, words: &[u8]) -> Result<Delt
     match (Tag::parse_ascii(tag), stroke) {
         (Err(_), _) => Err(EditError::BadTag(number)),
         (Ok(_), Err(why)) => Err(EditError::BadStroke(number, why)),
-        (Ok(tag), Ok(stroke)) => place(alloc, tag, stroke),
+        (Ok(tag), Ok(stroke)) => Ok(LineDelta::placed(tag, stroke)),
     }
 }
 
 /// The delta of `TAG`.
-fn parse_withdrawal(alloc: Global, number: u64, words: &[u8]) -> Result<Delta, EditError>
+fn parse_withdrawal(number: u64, words: &[u8]) -> Result<LineDelta, EditError>
     ensures { AnswersEdit number (withdrawal (words_of words.now)) result }
 {
     let Some(tag) = one_word(words) else {
         return Err(EditError::BadLine(number));
     };
-    let Ok(tag) = Tag::parse_ascii(tag) else {
-        return Err(EditError::BadTag(number));
-    };
-    match State::withdrawn(alloc, tag) {
-        Ok(delta) => Ok(delta),
-        Err(_) => Err(EditError::Memory),
-    }
-}
-
-/// The delta of one stroke.
-///
-/// Errors: E4.
-fn place(alloc: Global, tag: Tag, stroke: Stroke) -> Result<Delta, EditError>
-    ensures { MatchResult result (λ delta. delta ≡ placed tag stroke) (λ e. e ≡ errors.Memory) }
-{
-    match State::placed(alloc, tag, stroke) {
-        Ok(delta) => Ok(delta),
-        Err(_) => Err(EditError::Memory),
+    match Tag::parse_ascii(tag) {
+        Ok(tag) => Ok(LineDelta::withdrawn(tag)),
+        Err(_) => Err(EditError::BadTag(number)),
     }
 }
 

@@ -7,6 +7,7 @@ ghost use Rattle.edit_lang.specs.Edit.{EditSpells, IsFirstFault, OneMeaning};
 
 use crate::error::EditError;
 use crate::line::parse_line;
+use crate::line_delta::LineDelta;
 use crate::words::first_line;
 use std::alloc::Global;
 use stroke_core::one_refusal;
@@ -38,11 +39,14 @@ pub fn parse(alloc: Global, text: &[u8]) -> Result<Vec<Delta>, EditError>
 {
     // What is read is all that the text spells.
     one_meaning();
-    parse_lines(alloc, text)
+    let lines = parse_lines(alloc, text)?;
+    deltas_of(alloc, &lines)
 }
 
-/// Reads line after line.
-fn parse_lines(alloc: Global, text: &[u8]) -> Result<Vec<Delta>, EditError>
+/// The deltas that an edit text spells, in the order of its lines, as [`parse`] reads them: each is held as a line's.
+///
+/// Errors: those of [`parse`].
+pub fn parse_lines(alloc: Global, text: &[u8]) -> Result<Vec<LineDelta>, EditError>
     ensures spelled { IfOk result (λ deltas. EditSpells text.now deltas.items) }
     ensures refused { IfErr result (λ e. (e ≡ errors.Memory) ⊎ IsFirstFault text.now e) }
 {
@@ -56,6 +60,22 @@ fn parse_lines(alloc: Global, text: &[u8]) -> Result<Vec<Delta>, EditError>
             deltas.push(delta)?;
         }
         rest = after;
+    }
+    Ok(deltas)
+}
+
+/// The deltas of lines, as states.
+///
+/// Errors: E4.
+fn deltas_of(alloc: Global, lines: &[LineDelta]) -> Result<Vec<Delta>, EditError>
+    ensures { MatchResult result (λ deltas. deltas.items ≡ lines.now) (λ e. e ≡ errors.Memory) }
+{
+    let mut deltas = Vec::with_capacity(alloc, lines.len())?;
+    for line in lines {
+        let Ok(delta) = line.to_state(alloc) else {
+            return Err(EditError::Memory);
+        };
+        deltas.push(delta)?;
     }
     Ok(deltas)
 }

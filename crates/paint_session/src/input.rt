@@ -7,10 +7,9 @@ ghost use Rattle.paint_session.specs.RunError.{IsReadingFault};
 ghost use Rattle.paint_session.specs.View.{InputSpells, InputIsRefusedBy, no_more};
 
 use crate::run_error::RunError;
-use edit_lang::parse;
+use edit_lang::{LineDelta, parse_lines};
 use pgm_codec::{Image, read};
 use std::alloc::Global;
-use stroke_lattice::Delta;
 
 // Where the line at the front ends: the index of its LF, or the length where there is none.
 fn line_length(bytes: &[u8]) -> usize
@@ -59,14 +58,14 @@ pub fn split(input: &[u8]) -> Option<(&[u8], &[u8])>
 ///
 /// Errors, the first that is met: V1 without an `image` line; E1 to E3 of the edit text; P1 to P9 of the image file. E4
 /// or P10 for want of memory.
-pub fn read_input(alloc: Global, input: &[u8]) -> Result<(Vec<Delta>, Image), RunError>
+pub fn read_input(alloc: Global, input: &[u8]) -> Result<(Vec<LineDelta>, Image), RunError>
     ensures spelled { IfOk result (λ parts. InputSpells input.now parts.1 parts.0.items) }
     ensures refused { IfErr result (λ e. IsReadingFault e ⊎ InputIsRefusedBy no_more input.now e) }
 {
     let Some((edits, file)) = split(input) else {
         return Err(RunError::NoImage);
     };
-    let deltas = parse(alloc, edits)?;
+    let deltas = parse_lines(alloc, edits)?;
     let mask = read(alloc, file)?;
     Ok((deltas, mask))
 }

@@ -5,37 +5,76 @@ ghost use Rattle.stroke_lattice.specs.State.{State, StateFits, IsJoin};
 ghost use Rattle.paint_session.specs.Merging.{AreMerged, IsStop, IsKeptOut, LeadsOn, StopsBehind};
 
 use core_rules::CoreError;
+use edit_lang::LineDelta;
 use spd_codec::Frame;
 use std::alloc::Global;
 use stroke_lattice::{Delta, State, join_of_a_longer_list, join_of_an_empty_list};
 
-/// What has a delta: a delta itself, or a frame of a state file.
+/// What has a delta: a delta itself, the delta of a line, or a frame of a state file.
 pub trait HasDelta {
     // The delta.
     ghost delta_of: { Self → State };
 
-    /// The delta.
-    fn delta(&self) -> &Delta
-        ensures { result.now ≡ delta_of self.now };
+    /// Merges the delta into the state of an image of `w` columns and `h` rows.
+    ///
+    /// Errors: C1 where a stroke of it does not fit, live or not, else C2 where another stroke of the state has one of
+    /// its tags, else C4.
+    fn merge_into(&self, alloc: Global, state: &mut State, w: u32, h: u32) -> Result<(), CoreError>
+        ensures fits { OnOk result (StateFits w h (delta_of self.now)) }
+        ensures join { OnOk result (IsJoin state.old (delta_of self.now) state.new) }
+        ensures refused { IfErr result (λ e. IsKeptOut w h state.old (delta_of self.now) e) };
 }
 
 impl HasDelta for State {
     ghost delta_of = { λ s. s };
 
-    fn delta(&self) -> &Delta {
-        self
+    fn merge_into(
+        &self,
+        alloc: Global,
+        state: &mut State,
+        w: u32,
+        h: u32,
+    ) -> Result<(), CoreError> {
+        merge_one(alloc, state, self, w, h)
     }
 }
 
 impl HasDelta for Frame {
     ghost delta_of = { λ frame. frame.delta };
 
-    fn delta(&self) -> &Delta {
-        &self.delta
+    fn merge_into(
+        &self,
+        alloc: Global,
+        state: &mut State,
+        w: u32,
+        h: u32,
+    ) -> Result<(), CoreError> {
+        merge_one(alloc, state, &self.delta, w, h)
     }
 }
 
-/// The state of old deltas and of others that are merged in order, for an image of `w` columns and `h` rows. It takes a
+impl HasDelta for LineDelta {
+    ghost delta_of = { λ line. line };
+
+    fn merge_into(
+        &self,
+        alloc: Global,
+        state: &mut State,
+        w: u32,
+        h: u32,
+    ) -> Result<(), CoreError> {
+        if let Some(tag) = self.outside(w, h) {
+            return Err(CoreError::OutOfImage(tag));
+        }
+        if let Some(tag) = self.clash(state) {
+            return Err(CoreError::Conflict(tag));
+        }
+        self.join_into(alloc, state)?;
+        Ok(())
+    }
+}
+
+/// The state of old deltas and of those of lines, merged in order, for an image of `w` columns and `h` rows. It takes a
 /// time of about the size of the deltas times the logarithm of the state's.
 ///
 /// Errors, at the first delta that meets one: C1 where a stroke of it does not fit, live or not, else C2 where another
@@ -43,7 +82,7 @@ impl HasDelta for Frame {
 pub fn merge_all<D: HasDelta>(
     alloc: Global,
     old: &[D],
-    deltas: &[Delta],
+    deltas: &[LineDelta],
     w: u32,
     h: u32,
 ) -> Result<State, CoreError>
@@ -70,7 +109,7 @@ fn merge_each<D: HasDelta>(
 {
     join_of_a_longer_list();
     for holder in holders {
-        merge_one(alloc, state, holder.delta(), w, h)?;
+        holder.merge_into(alloc, state, w, h)?;
     }
     Ok(())
 }

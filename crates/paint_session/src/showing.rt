@@ -12,12 +12,13 @@ use crate::input::read_input;
 use crate::merging::{HasDelta, merge_all};
 use crate::run_error::RunError;
 use derived_views::reconstruction;
+use edit_lang::LineDelta;
 use grid_core::Conn;
 use pgm_codec::Image;
 use spd_codec::write_frames;
 use std::alloc::Global;
 use std::slice;
-use stroke_lattice::{Delta, State};
+use stroke_lattice::State;
 
 /// The image that an input asks for over an old state, and the state that it shows.
 ///
@@ -54,12 +55,12 @@ pub fn show_kept(
     Ok((image, new))
 }
 
-// The image that a mask shows of old deltas and of others, merged in order, and the state that they join to.
+// The image that a mask shows of old deltas and of those of lines, merged in order, and the state that they join to.
 fn show<D: HasDelta>(
     alloc: Global,
     mask: &Image,
     old: &[D],
-    deltas: &[Delta],
+    deltas: &[LineDelta],
     conn: Conn,
 ) -> Result<(Image, State), RunError>
     ensures merged { IfOk result (λ parts. AreMerged mask.now.raster.width mask.now.raster.height
