@@ -5,4 +5,5 @@ pub mod Lines
 pub mod Numbers
 pub mod Shapes
 pub mod Edit
+pub mod Writing
 pub mod Code
