@@ -63,7 +63,8 @@ cut_lines_none b (c ∷ bs) h =
     cut_lines-cons_no b (c ∷ bs) (All-head (λ x. eqb x line_feed ≡ false) b (c ∷ bs) h)
     ∙ ap (onto_first b) (cut_lines_none c bs (All-tail (λ x. eqb x line_feed ≡ false) b (c ∷ bs) h))
 
-cut_lines_at : (xs : List ℕ) (y : ℕ) (ys : List ℕ) → All (λ x. eqb x line_feed ≡ false) xs
+-- the first line ends before the first LF
+pub cut_lines_at : (xs : List ℕ) (y : ℕ) (ys : List ℕ) → All (λ x. eqb x line_feed ≡ false) xs
     → eqb y line_feed ≡ true → cut_lines (xs ++ y ∷ ys) ≡ xs ∷ cut_lines ys
 cut_lines_at [] y ys h e = cut_lines-cons_yes y ys e
 cut_lines_at (x ∷ xs) y ys h e =

@@ -24,7 +24,7 @@ many_digits word h = no_number word (and_right _ _ (and_left _ _ (lt-leb (length
 pub wrong_byte : (word : List ℕ) → list_all is_ascii_digit word ≡ false → None ≡ number_of word
 wrong_byte word h = no_number word (and_right _ _ (and_right _ _ h))
 
-all_three : (a b c : Bool) → a ≡ true → b ≡ true → c ≡ true → (a && (b && c)) ≡ true
+pub all_three : (a b c : Bool) → a ≡ true → b ≡ true → c ≡ true → (a && (b && c)) ≡ true
 all_three a b c p q r = rw (p, q, r) refl
 
 -- one to five digits, of which the last has been read

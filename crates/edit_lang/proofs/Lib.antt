@@ -1,6 +1,12 @@
 pub mod Lists
 pub mod Cutting
 pub mod Digits
+pub mod Bytes
+pub mod WrittenWords
+pub mod WrittenShapes
+pub mod WrittenLines
+pub mod LiveStrokes
+pub mod Room
 pub mod Runs
 pub mod Seeds
 pub mod Meaning

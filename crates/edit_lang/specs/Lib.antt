@@ -5,5 +5,6 @@ pub mod Lines
 pub mod Numbers
 pub mod Shapes
 pub mod Edit
+pub mod Writing
 pub mod Code
 pub mod Held

@@ -32,3 +32,5 @@ mod texts;
 mod tiles;
 #[cfg(test)]
 mod views;
+#[cfg(test)]
+mod written;

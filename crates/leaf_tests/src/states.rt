@@ -16,8 +16,8 @@ pub fn state_of(alloc: Global, text: &str) -> Option<State> {
     }
 }
 
-// The join of these states, if none clash.
-fn join_of(alloc: Global, states: &[State]) -> Option<State> {
+/// The join of these states, if none clash.
+pub fn join_of(alloc: Global, states: &[State]) -> Option<State> {
     match State::empty(alloc) {
         Ok(mut joined) => {
             for state in states {
