@@ -10,8 +10,10 @@ use Rattle.border_queues.specs.declared.hint.Hint.{Hint}
 use Rattle.core_rules.specs.Image.{IsOpen}
 use Rattle.core_rules.specs.Image.{IsSupported, IsOfSize}
 use Rattle.grid_core.specs.Tiles.{tile_of}
+use Rattle.grid_core.proofs.Tilings.{each_pixel_in_one_tile}
 use Rattle.core_rules.specs.Work.{Core, domain, tiling, mask_at, image_at, IsTile, work_at, with_work}
 use Rattle.border_queues.specs.TileWork.{TileWork, idle}
+use Rattle.core_rules.specs.Hits.{IsInTile}
 use Rattle.core_rules.specs.Hints.{IsPresent}
 use Rattle.core_rules.specs.Invariant.{IsShaped, IsValid, HasHint, HasWork, IsSound}
 
@@ -33,6 +35,14 @@ field_kept core t work f within same u = elim (cases_eq u t) [
       (ap f (work_there core t work within) ∙ same)
   | inr other ↦ ap f (work_elsewhere core t u work other)
 ]
+
+-- a tile with a pixel is one of the core's
+pub tile_of_pixel_is_tile : (core : Core) (t : ℕ) (p : Pixel) → IsShaped core → IsInTile (tiling core) t p → IsTile core t
+tile_of_pixel_is_tile core t p shape in_tile =
+    let in_one = (each_pixel_in_one_tile (tiling core) p shape.tiled in_tile.inside).0 in
+    let count = shape.tiles in
+    let is_tile : IsTile core (tile_of (tiling core) p) = omega (arith, in_one, count) in
+    subst (IsTile core) in_tile.tile is_tile
 
 -- a pixel of the domain is one of the image
 pub inside_image : (core : Core) (p : Pixel) → IsShaped core → Inside (domain core) p

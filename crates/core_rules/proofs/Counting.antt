@@ -36,7 +36,8 @@ use Rattle.core_rules.specs.Sweeps.{taken, IsKnown, IsTaken, IsGivenBack, IsAban
 use Rattle.core_rules.specs.Hints.{without_hint, raised, IsHanded}
 use Rattle.core_rules.specs.Events.{Event, Answer, Happens, Merge, Take, GiveBack, Abandon, Hand}
 use Rattle.core_rules.specs.Events.{OfMerge, OfTake, OfGiveBack, OfAbandon, OfHand}
-use Rattle.core_rules.specs.Runs.{Entry, IsRun, jobs_of, abandons_of, abandoned, tickets_out, IsWorkedOff, IsSettled}
+use Rattle.core_rules.specs.Runs.{Entry, IsRun, jobs_of, abandons_of, abandoned, tickets_out, IsWorkedOff, IsSettling}
+use Rattle.core_rules.specs.Runs.{IsSettled}
 use Rattle.core_rules.specs.Schedule.{Progress, started, IsStep, AreSteps}
 use Rattle.core_rules.specs.Counting.{dirty_tiles, tiles_out, Owes, merges_of, IsWithinWork}
 use Rattle.core_rules.specs.Invariant.{IsSound}
@@ -44,7 +45,7 @@ use Rattle.core_rules.proofs.Removals.{taken_was_there}
 use Rattle.core_rules.proofs.Handing.{hint_of_tile, home_is_tile, at_home, raised_rise}
 use Rattle.core_rules.proofs.Joining.{local, placed, in_rect_size, rises, same_dirty}
 use Rattle.core_rules.proofs.Quiet.{sound_is_lawful, quiet_is_reconstruction}
-use Rattle.core_rules.proofs.Running.{event_keeps_sound, run_keeps_sound, settled_is_run}
+use Rattle.core_rules.proofs.Running.{event_keeps_sound, run_keeps_sound, settling_is_run}
 use Rattle.core_rules.proofs.Schedules.{schedule_is_run}
 
 -- ---- how many tiles are dirty
@@ -387,16 +388,20 @@ worked_merges before after ((Take t, answer) ∷ log) (is_next, (next, happens, 
     worked_merges next after log rest
 worked_merges before after ((_, _) ∷ log) (is_next, (next, happens, rest)) = absurd is_next
 
-pub settled_is_within_work : EdgesAreOpen → (before after : Core) (log : List Entry) → IsSound before
-    → IsSettled before log after → IsWithinWork before after (jobs_of log) (abandons_of log) × Owes after 0
-settled_is_within_work edges_open before after log sound settled =
-    let settling = settled.settling in
+pub settling_is_within_work : EdgesAreOpen → (before after : Core) (log : List Entry) → IsSound before
+    → IsSettling before log after → IsWithinWork before after (jobs_of log) (abandons_of log)
+settling_is_within_work edges_open before after log sound settling =
     let tickets = tickets_out 0 before.tiles in
     let none : merges_of log ≡ 0 =
     ap merges_of settling.parts ∙ no_merges_abandoned tickets settling.work
     ∙ worked_merges settling.cleared after settling.work settling.works in
-    let run = settled_is_run before after log settled in (
-      run_is_within_work edges_open before after log sound run none,
+    run_is_within_work edges_open before after log sound (settling_is_run before after log settling) none
+
+pub settled_is_within_work : EdgesAreOpen → (before after : Core) (log : List Entry) → IsSound before
+    → IsSettled before log after → IsWithinWork before after (jobs_of log) (abandons_of log) × Owes after 0
+settled_is_within_work edges_open before after log sound settled =
+    let run = settling_is_run before after log settled.settling in (
+      settling_is_within_work edges_open before after log sound settled.settling,
       quiet_owes_nothing after (run_keeps_sound edges_open before after log sound run) settled.quiet,
     )
 

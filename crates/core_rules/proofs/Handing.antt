@@ -138,7 +138,7 @@ module _ (before : Core) (sound : IsSound before) (t i : ℕ) (hint : Hint) (the
         (record (work_at (without_hint before t i) home) { dirty = true }) f (home_is_tile valid)
         (same (work_at (without_hint before t i) home)) u
 
-    home_dirty : IsTrue (work_at (raised (without_hint before t i) hint) (tile_of (tiling before) hint.to_pixel)).dirty
+    pub home_dirty : IsTrue (work_at (raised (without_hint before t i) hint) (tile_of (tiling before) hint.to_pixel)).dirty
     home_dirty =
         let home = tile_of (tiling before) hint.to_pixel in
         let work = record (work_at (without_hint before t i) home) { dirty = true } in
@@ -164,7 +164,7 @@ module _ (before : Core) (sound : IsSound before) (t i : ℕ) (hint : Hint) (the
         set_is_read before.image hint.to_pixel hint.value sound.shape.image.filled
         (inside_image before hint.to_pixel sound.shape valid.to.inside)
 
-    elsewhere : (p : Pixel) → Inside (domain before) p → (p ≡ hint.to_pixel → ⊥)
+    pub elsewhere : (p : Pixel) → Inside (domain before) p → (p ≡ hint.to_pixel → ⊥)
         → value_at (with_value before.image hint.to_pixel hint.value) p ≡ image_at before p
     elsewhere p inside other =
         set_keeps_others before.image hint.to_pixel p hint.value

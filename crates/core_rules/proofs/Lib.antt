@@ -17,3 +17,4 @@ pub mod Successors
 pub mod Pieces
 pub mod InPlaceSweeps
 pub mod Counting
+pub mod Leaving

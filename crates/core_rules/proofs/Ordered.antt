@@ -4,17 +4,17 @@ use Rattle.std.specs.Prelude.{Contains, ◌↔◌}
 use Rattle.std.specs.List.{AllByRecursion}
 
 -- an element of a longer list is its first or one of the others
-in_front_or_rest : {X : Type 0} (y : X) (ys : List X) (x : X) → Contains (y ∷ ys) x → (y ≡ x) ⊎ Contains ys x
+pub in_front_or_rest : {X : Type 0} (y : X) (ys : List X) (x : X) → Contains (y ∷ ys) x → (y ≡ x) ⊎ Contains ys x
 in_front_or_rest y ys x (zero, within, there) = inl there
 in_front_or_rest y ys x (suc k, within, there) = inr (k, omega (arith, within), there)
 
-in_front : {X : Type 0} (y : X) (ys : List X) → Contains (y ∷ ys) y
+pub in_front : {X : Type 0} (y : X) (ys : List X) → Contains (y ∷ ys) y
 in_front y ys = (zero, omega arith, refl)
 
-in_rest : {X : Type 0} (y : X) (ys : List X) (x : X) → Contains ys x → Contains (y ∷ ys) x
+pub in_rest : {X : Type 0} (y : X) (ys : List X) (x : X) → Contains ys x → Contains (y ∷ ys) x
 in_rest y ys x (k, within, there) = (suc k, omega (arith, within), there)
 
-none_there : {X : Type 0} (x : X) → Contains [] x → ⊥
+pub none_there : {X : Type 0} (x : X) → Contains [] x → ⊥
 none_there x (k, within, there) = omega (arith, within)
 
 -- what holds of each holds of an element

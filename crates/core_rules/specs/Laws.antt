@@ -1,5 +1,6 @@
 -- The laws of one replica's core, as statements. Public functions have them as their contracts.
-use Rattle.std.specs.Prelude.{◌≡◌, ℕ, ◌+◌, ◌≤◌, Bool, max, List, [], ◌∷◌, ◌++◌, length, Option, Some}
+use Rattle.std.specs.Prelude.{◌≡◌, ℕ, ◌+◌, ◌≤◌, Bool, max, List, [], ◌∷◌, ◌++◌, length, Option}
+use Rattle.std.specs.Prelude.{Some, None}
 use Rattle.grid_core.specs.declared.pixel.Pixel.{Pixel}
 use Rattle.grid_core.specs.declared.conn.Conn.{Conn}
 use Rattle.grid_core.specs.Raster.{Raster, IsFilled}
@@ -27,7 +28,8 @@ use Rattle.core_rules.specs.Events.{Event, Answer, Happens, Take, GiveBack, OfTa
 use Rattle.core_rules.specs.declared.answers.Back.TheVariants.{Joined}
 use Rattle.core_rules.specs.InPlace.{IsSweptInPlace}
 use Rattle.core_rules.specs.Runs.{Entry, IsRun, IsNext, IsWorkedOff, IsSettled, IsCutShort, jobs_of, abandons_of}
-use Rattle.core_rules.specs.Runs.{tickets_out}
+use Rattle.core_rules.specs.Runs.{IsSettling, NoneOut, IsDirty, tickets_out}
+use Rattle.core_rules.specs.Shown.{IsPassedOver, ShowsTheSame}
 use Rattle.core_rules.specs.Schedule.{Progress, started, AreSteps, AreEditsAt}
 use Rattle.core_rules.specs.Counting.{Owes, merges_of, IsWithinWork, tiles_out}
 use Rattle.core_rules.specs.Invariant.{IsSound, HasLawfulImage, HasReconstruction}
@@ -194,6 +196,36 @@ WorkGoesOn =
     (a b c : Core) (first second : List Entry) → IsWorkedOff a first b → IsWorkedOff b second c
     → IsWorkedOff a (first ++ second) c
 
+-- settling that goes on once no job is out is settling
+abbrev pub SettlingGoesOn : Type 0
+SettlingGoesOn =
+    (a b c : Core) (first second : List Entry) → IsSettling a first b → NoneOut b → IsSettling b second c
+    → IsSettling a (first ++ second) c
+
+-- a merge changes only tiles that it leaves dirty
+abbrev pub MergeChangesDirtyTiles : Type 0
+MergeChangesDirtyTiles =
+    (before after : Core) (delta : State) (turnover : Turnover) → IsMerged before delta turnover after
+    → (t : ℕ) → IsTile before t → (IsDirty after t → ⊥) → ShowsTheSame before after t
+
+-- a list of events changes only tiles of which a job was out before, or that it takes, or that it leaves dirty
+abbrev pub RunChangesFewTiles : Type 0
+RunChangesFewTiles =
+    (before after : Core) (log : List Entry) → IsSound before → IsRun before log after
+    → (t : ℕ) → (work_at before t).out ≡ None → IsPassedOver log after t → ShowsTheSame before after t
+
+-- settling changes only tiles that it takes or leaves dirty
+abbrev pub SettlingChangesFewTiles : Type 0
+SettlingChangesFewTiles =
+    (before after : Core) (log : List Entry) → IsSound before → IsSettling before log after
+    → (t : ℕ) → IsPassedOver log after t → ShowsTheSame before after t
+
+-- so does settling that ended for want of memory
+abbrev pub CutShortChangesFewTiles : Type 0
+CutShortChangesFewTiles =
+    (before after : Core) (log : List Entry) → IsSound before → IsCutShort before log after
+    → (t : ℕ) → IsPassedOver log after t → ShowsTheSame before after t
+
 -- a core owes one number
 abbrev pub OneDebt : Type 0
 OneDebt = (core : Core) (n m : ℕ) → Owes core n → Owes core m → n ≡ m
@@ -214,6 +246,12 @@ ScheduleIsWithinWork =
     (start : Core) (steps : List Step) (end : Progress) → IsSound start → AreSteps steps (started start) end
     → end.accepted ≡ []
     → IsWithinWork start end.core (jobs_of end.log) (abandons_of end.log)
+
+-- settling, as far as it came, took no more jobs than there was work
+abbrev pub SettlingSoFarIsWithinWork : Type 0
+SettlingSoFarIsWithinWork =
+    (before after : Core) (log : List Entry) → IsSound before → IsSettling before log after
+    → IsWithinWork before after (jobs_of log) (abandons_of log)
 
 -- settling takes no more jobs than there is work, and leaves nothing owed
 abbrev pub SettlingIsWithinWork : Type 0

@@ -22,6 +22,7 @@ pub mod InPlace
 pub mod Events
 pub mod Invariant
 pub mod Runs
+pub mod Shown
 pub mod Schedule
 pub mod Counting
 pub mod Laws

@@ -1,5 +1,5 @@
 -- Lists of events, and the one by which a core settles.
-use Rattle.std.specs.Prelude.{◌≡◌, ◌≢◌, ℕ, ◌+◌, ◌≤◌, true, List, [], ◌∷◌, ◌++◌, map, length, IsTrue}
+use Rattle.std.specs.Prelude.{◌≡◌, ◌≢◌, ℕ, ◌+◌, ◌≤◌, true, List, [], ◌∷◌, ◌++◌, map, length, IsTrue, Contains}
 use Rattle.std.specs.Prelude.{Option, Some, None, option_map, option_to_list}
 use Rattle.tile_generations.specs.declared.ticket.Ticket.{Ticket}
 use Rattle.tile_generations.specs.Jobs.{Job}
@@ -23,6 +23,16 @@ abbrev pub jobs_of : List Entry → ℕ
 jobs_of [] = 0
 jobs_of ((Take t, OfTake (Some job)) ∷ log) = 1 + jobs_of log
 jobs_of (entry ∷ log) = jobs_of log
+
+-- the tiles of which takes gave jobs, each as often as one did
+abbrev pub tiles_taken : List Entry → List ℕ
+tiles_taken [] = []
+tiles_taken ((Take t, OfTake (Some job)) ∷ log) = t ∷ tiles_taken log
+tiles_taken (entry ∷ log) = tiles_taken log
+
+-- a job of the tile is taken in the log
+abbrev pub IsTakenIn : List Entry → ℕ → Type 0
+IsTakenIn log t = Contains (tiles_taken log) t
 
 -- how many jobs were abandoned
 abbrev pub abandons_of : List Entry → ℕ

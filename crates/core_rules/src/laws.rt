@@ -10,6 +10,9 @@ ghost use Rattle.core_rules.specs.Laws.{AcceptedAreEdits, MergedIsAcceptable, Re
 ghost use Rattle.core_rules.specs.Laws.{OneSuccessor, SweptInPlaceIsWorkedOff, WorkGoesOn};
 ghost use Rattle.core_rules.specs.Laws.{OneDebt, QuietOwesNothing, RunIsWithinWork, ScheduleIsWithinWork};
 ghost use Rattle.core_rules.specs.Laws.{SettlingIsWithinWork, OneJobOutATile};
+ghost use Rattle.core_rules.specs.Laws.{SettlingSoFarIsWithinWork, SettlingGoesOn};
+ghost use Rattle.core_rules.specs.Laws.{MergeChangesDirtyTiles, RunChangesFewTiles};
+ghost use Rattle.core_rules.specs.Laws.{SettlingChangesFewTiles, CutShortChangesFewTiles};
 ghost use Rattle.core_rules.specs.Laws.{TakenDeltasAreJoined, TakenDeltasKeepTheMask};
 
 use border_queues::laws::edges_are_open;
@@ -160,6 +163,34 @@ pub fn work_goes_on()
     ensures { WorkGoesOn }
 {}
 
+/// Settling that goes on once no job is out is settling.
+pub fn settling_goes_on()
+    ensures { SettlingGoesOn }
+{}
+
+/// A merge changes only tiles that it leaves dirty.
+pub fn merge_changes_dirty_tiles()
+    ensures { MergeChangesDirtyTiles }
+{}
+
+/// A list of events changes only tiles of which a job was out before, or that it takes, or that it leaves dirty.
+pub fn run_changes_few_tiles()
+    ensures { RunChangesFewTiles }
+{
+    edges_are_open();
+}
+
+/// Settling changes only tiles that it takes or leaves dirty, and so does settling that ended for want of memory.
+///
+/// A hint that is handed over raises a pixel and leaves its tile dirty. So where settling stops in between, a tile can
+/// have changed that was not swept yet.
+pub fn settling_changes_few_tiles()
+    ensures settling { SettlingChangesFewTiles }
+    ensures cut_short { CutShortChangesFewTiles }
+{
+    edges_are_open();
+}
+
 /// What a core owes is one number.
 pub fn one_debt()
     ensures { OneDebt }
@@ -180,6 +211,13 @@ pub fn run_is_within_work()
 /// A schedule of which no edit is accepted takes no more jobs than there is work.
 pub fn schedule_is_within_work()
     ensures { ScheduleIsWithinWork }
+{
+    edges_are_open();
+}
+
+/// Settling, as far as it came, took no more jobs than there was work.
+pub fn settling_so_far_is_within_work()
+    ensures { SettlingSoFarIsWithinWork }
 {
     edges_are_open();
 }

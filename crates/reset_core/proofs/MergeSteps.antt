@@ -6,8 +6,7 @@ use Rattle.std.proofs.lemmas.Bool.{cases_lt, cases_eq}
 use Rattle.grid_core.specs.declared.pixel.Pixel.{Pixel}
 use Rattle.grid_core.specs.Raster.{Raster, IsInside, value_at}
 use Rattle.grid_core.specs.Path.{Inside}
-use Rattle.grid_core.specs.Tiles.{Tiles, tile_of, count_of}
-use Rattle.grid_core.proofs.Tilings.{each_pixel_in_one_tile}
+use Rattle.grid_core.specs.Tiles.{Tiles, count_of}
 use Rattle.stroke_lattice.specs.State.{State, StateFits, AreCompatible, IsJoin, IsLive, IsLiveTag}
 use Rattle.grid_core.specs.declared.conn.Conn.{Conn}
 use Rattle.stroke_lattice.specs.Change.{Turnover}
@@ -20,7 +19,7 @@ use Rattle.core_rules.specs.declared.error.CoreError.{CoreError}
 use Rattle.core_rules.specs.declared.error.CoreError.TheVariants.{GenerationsSpent}
 use Rattle.core_rules.specs.Work.{Core, domain, tiling, mask_at, image_at, IsTile, work_at}
 use Rattle.border_queues.specs.TileWork.{TileWork, work_of}
-use Rattle.core_rules.specs.Hits.{IsInTile, HoldsOne, LosesStroke, AreLinked, LeadFrom, IsHit, TouchesHit}
+use Rattle.core_rules.specs.Hits.{HoldsOne, LosesStroke, AreLinked, LeadFrom, IsHit, TouchesHit}
 use Rattle.core_rules.specs.Merge.{HasRisen, IsReset, IsKept, IsMerged, IsRefused, IsAcceptable}
 use Rattle.core_rules.specs.Invariant.{IsSound}
 use Rattle.tile_work.specs.TileSet.{Has}
@@ -35,24 +34,18 @@ use Rattle.reset_core.specs.MergeSteps.{IsMarked, HasSpentMark, IsGrown, IsRenew
 use Rattle.tile_resets.specs.Marks.{AreHits}
 use Rattle.reset_core.proofs.Storing.{empty_still}
 use Rattle.tile_resets.proofs.RenewingResets.{reset_stays}
+use Rattle.core_rules.proofs.Cores.{tile_of_pixel_is_tile}
 use Rattle.core_rules.proofs.Merging.{merge_keeps_sound}
 use Rattle.core_rules.proofs.Resets.{one_refusal}
 
 -- ---- tiles that are hit
 
-tile_of_pixel_is_tile : (core : Core) (t : ℕ) (p : Pixel) → IsSound core → IsInTile (tiling core) t p → IsTile core t
-tile_of_pixel_is_tile core t p sound in_tile =
-    let in_one = (each_pixel_in_one_tile (tiling core) p sound.shape.tiled in_tile.inside).0 in
-    let count = sound.shape.tiles in
-    let is_tile : IsTile core (tile_of (tiling core) p) = omega (arith, in_one, count) in
-    subst (IsTile core) in_tile.tile is_tile
-
 hit_is_tile : (core : Core) (after : State) (list : List ℕ) (t : ℕ) → IsSound core
     → LeadFrom (HoldsOne (tiling core) (LosesStroke core.state after)) (AreLinked (tiling core) core.image core.conn)
     list t
     → IsTile core t
-hit_is_tile core after [] t sound (p, in_tile, loses) = tile_of_pixel_is_tile core t p sound in_tile
-hit_is_tile core after (u ∷ list) t sound (lead, linked) = tile_of_pixel_is_tile core t linked.q sound linked.to
+hit_is_tile core after [] t sound (p, in_tile, loses) = tile_of_pixel_is_tile core t p sound.shape in_tile
+hit_is_tile core after (u ∷ list) t sound (lead, linked) = tile_of_pixel_is_tile core t linked.q sound.shape linked.to
 
 module _ (core : Core) (delta : State) (marks : List Bool) (sound : IsSound core) (marked : IsMarked core delta marks)
   where

@@ -2,7 +2,8 @@
 use Rattle.std.proofs.Common.{◌≡◌, ℕ, zero, suc, ◌+◌, ◌-◌, ◌*◌, ◌<◌, ◌≤◌, true, List, [], ◌∷◌, ◌++◌, length}
 use Rattle.std.proofs.Common.{refl, sym, ap, ◌∙◌, subst, arith, set, get_or, IsTrue}
 use Rattle.std.specs.Prelude.{◌≢◌, IsSome, Bool, false, Option, option_map, option_to_list, Some, None, remove}
-use Rattle.std.specs.Prelude.{slice_get, if◌then◌else◌}
+use Rattle.std.specs.Prelude.{slice_get, if◌then◌else◌, Contains, ◌↔◌, Result, Ok, Err, IfOk}
+use Rattle.std.proofs.Common.{inr}
 use Rattle.std.specs.List.{All}
 use Rattle.border_queues.specs.declared.hint.Hint.{Hint}
 use Rattle.grid_core.specs.Tiles.{tile_of}
@@ -25,31 +26,39 @@ use Rattle.core_rules.specs.Hints.{hint_at, without_hint, raised, IsHanded}
 use Rattle.core_rules.specs.Events.{Merge, Take, GiveBack, Abandon, Hand}
 use Rattle.core_rules.specs.Events.{OfTake, OfAbandon, OfHand}
 use Rattle.core_rules.specs.Runs.{IsSettled, IsCutShort, Entry, IsRun, IsWorkedOff, NoneOut, HasHints, IsDirty}
-use Rattle.core_rules.specs.Runs.{jobs_of, abandons_of, abandoned, tickets_out}
+use Rattle.core_rules.specs.Runs.{IsSettling, IsTakenIn, jobs_of, tiles_taken, abandons_of, abandoned, tickets_out}
 use Rattle.core_rules.specs.Counting.{IsWithinWork, Owes}
-use Rattle.core_rules.specs.Laws.{SettlingIsWithinWork}
+use Rattle.core_rules.specs.Laws.{SettlingIsWithinWork, SettlingSoFarIsWithinWork, OneJobOutATile}
+use Rattle.core_rules.specs.Laws.{SettlingChangesFewTiles, CutShortChangesFewTiles}
+use Rattle.core_rules.specs.Shown.{ShowsTheSame}
+use Rattle.tile_work.specs.TileSet.{Has, HasGained}
 use Rattle.tile_work.specs.WorkTable.{HasJobOut}
+use Rattle.tile_work.proofs.TileSetUnions.{HasGained-one, HasGained-none}
 use Rattle.reset_core.specs.Telling.{burden}
 use Rattle.reset_core.specs.Settling.{waiting_count, AreAbandoned, IsFirstHandedOver, IsOneWorkedOff, AreHanded}
-use Rattle.reset_core.specs.Settling.{AreWorkedOff}
+use Rattle.reset_core.specs.Settling.{IsAllWorkedOff, AreWorkedOff, AreWorkedOffWithin}
+use Rattle.reset_core.specs.Answers.{IsSlice, IsSliceCutShort}
 use Rattle.core_rules.proofs.Cores.{field_kept}
 use Rattle.reset_core.proofs.Sweeping.{let_go}
 use Rattle.core_rules.proofs.Running.{run_append}
 use Rattle.core_rules.proofs.InPlaceSweeps.{work_goes_on}
+use Rattle.core_rules.proofs.Leaving.{taken_append, none_taken_abandoned}
 
 -- ---- counts of lists of events
 
-pub jobs_append : (first second : List Entry) → jobs_of (first ++ second) ≡ jobs_of first + jobs_of second
-jobs_append [] second = omega arith
-jobs_append ((Take t, OfTake (Some job)) ∷ log) second =
-    let rest = jobs_append log second in
-    let e : 1 + (jobs_of log + jobs_of second) ≡ 1 + jobs_of log + jobs_of second = omega arith in
-    ap (λ n. 1 + n) rest ∙ e
-jobs_append (entry ∷ log) second = jobs_append log second
+-- as many takes gave jobs as tiles were taken
+pub jobs_are_taken : (log : List Entry) → jobs_of log ≡ length (tiles_taken log)
+jobs_are_taken [] = refl
+jobs_are_taken ((Take t, OfTake (Some job)) ∷ log) = let rest = jobs_are_taken log in omega (arith, rest)
+jobs_are_taken (entry ∷ log) = jobs_are_taken log
 
-pub no_jobs_abandoned : (tickets : List Ticket) → jobs_of (abandoned tickets) ≡ 0
-no_jobs_abandoned [] = refl
-no_jobs_abandoned (ticket ∷ tickets) = no_jobs_abandoned tickets
+pub jobs_append : (first second : List Entry) → jobs_of (first ++ second) ≡ jobs_of first + jobs_of second
+jobs_append first second =
+    let all = jobs_are_taken (first ++ second) ∙ ap length (taken_append first second) in
+    let long = length-append (tiles_taken first) (tiles_taken second) in
+    let one = jobs_are_taken first in
+    let other = jobs_are_taken second in
+    omega (arith, all, long, one, other)
 
 pub abandons_append : (tickets : List Ticket) (second : List Entry)
     → abandons_of (abandoned tickets ++ second) ≡ length tickets + abandons_of second
@@ -106,13 +115,6 @@ few_tickets k (work ∷ works) =
     let few = few_with (λ serial. record { tile = k; generation = work.generation; serial = serial })
     (tickets_out (k + 1) works) (length works) (few_tickets (k + 1) works) work.out in
     omega (arith, few)
-
-pub no_tickets : (k : ℕ) (works : List TileWork) → ((t : ℕ) → t < length works → (get_or works t idle).out ≡ None)
-    → tickets_out k works ≡ []
-no_tickets k [] none = refl
-no_tickets k (work ∷ works) none =
-    ap (λ o. tickets_out k (record work { out = o } ∷ works)) (none 0 (omega arith))
-    ∙ no_tickets (k + 1) works (λ t within. none (suc t) (omega (arith, within)))
 
 some_out : (serial : ℕ) (o : Option ℕ) → o ≡ Some serial → IsSome o
 some_out serial o some = subst IsSome (sym some) refl
@@ -195,6 +197,11 @@ module _ (before : Core) (t : ℕ) (first : IsLeast (HasHints before) t) (none_o
         some_length [] some = absurd (some refl)
         some_length (hint ∷ hints) some = omega arith
 
+  count_without : length (without_hint before t 0).tiles ≡ length before.tiles
+  count_without =
+      let work : TileWork = record (work_at before t) { inbox = remove (work_at before t).inbox 0 } in
+      length-set before.tiles t work
+
   none_out_without : NoneOut (without_hint before t 0)
   none_out_without u within =
       let work : TileWork = record (work_at before t) { inbox = remove (work_at before t).inbox 0 } in
@@ -211,6 +218,7 @@ module _ (before : Core) (t : ℕ) (first : IsLeast (HasHints before) t) (none_o
     none_out = subst NoneOut (sym same) none_out_without;
     fewer =
         subst (λ (core : Core). waiting_count core.tiles < waiting_count before.tiles) (sym same) fewer_without;
+    count = ap (λ (core : Core). length core.tiles) same ∙ count_without;
     tiling = ap tiling same;
   }
 
@@ -244,6 +252,8 @@ module _ (before : Core) (t : ℕ) (first : IsLeast (HasHints before) t) (none_o
               let less = fewer_without in
               subst (λ (core : Core). waiting_count core.tiles < waiting_count before.tiles) (sym same)
               (omega (arith, moved, less));
+          count =
+              ap (λ (core : Core). length core.tiles) same ∙ length-set lost.tiles home work ∙ count_without;
           tiling = ap tiling same;
         }
 
@@ -274,31 +284,54 @@ one_more_handed before now next so_far first = record {
   works =
       work_goes_on before now next so_far.log ((Hand first.t 0, OfHand first.handed) ∷ []) so_far.works
       ((so_far.none_out, first.first, refl), (next, first.happens, refl));
-  no_jobs =
-      let more = jobs_append so_far.log ((Hand first.t 0, OfHand first.handed) ∷ []) in
-      let none = so_far.no_jobs in
-      omega (arith, more, none);
+  none_taken =
+      taken_append so_far.log ((Hand first.t 0, OfHand first.handed) ∷ []) ∙ append-nil (tiles_taken so_far.log)
+      ∙ so_far.none_taken;
+  count = first.count ∙ so_far.count;
   none_out = first.none_out;
   tiling = first.tiling ∙ so_far.tiling;
 }
 
 -- ---- tiles that are swept
 
--- one tile more is swept
-pub one_more_swept : (before now next : Core) (jobs : ℕ) → AreWorkedOff before now jobs
-    → IsOneWorkedOff now next → tiling next ≡ tiling now → AreWorkedOff before next (jobs + 1)
-one_more_swept before now next jobs so_far one same = record {
-  log = so_far.log ++ one.log;
-  works = work_goes_on before now next so_far.log one.log so_far.works one.works;
-  count =
-      let more = jobs_append so_far.log one.log in
-      let count = so_far.count in
-      let one_job = one.one_job in
-      omega (arith, more, count, one_job);
-  none_out = one.none_out;
-  no_hints = one.no_hints;
-  tiling = same ∙ so_far.tiling;
-  spent = let spent = so_far.spent in let less = one.less in omega (arith, spent, less);
+-- one tile more is swept, and put into the set
+pub one_more_swept : (before : Core) (old : List Bool) (now : Core) (tiles : List Bool) (jobs t : ℕ) (next : Core)
+    → AreWorkedOff before old now tiles jobs → IsOneWorkedOff now t next → tiling next ≡ tiling now → t < length tiles
+    → AreWorkedOff before old next (set tiles t true) (jobs + 1)
+one_more_swept before old now tiles jobs t next so_far one same within =
+    let taken : tiles_taken (so_far.log ++ one.log) ≡ tiles_taken so_far.log ++ t ∷ [] =
+    taken_append so_far.log one.log ∙ ap (λ (ts : List ℕ). tiles_taken so_far.log ++ ts) one.one_taken in
+    record {
+      log = so_far.log ++ one.log;
+      works = work_goes_on before now next so_far.log one.log so_far.works one.works;
+      jobs_are =
+          let all = jobs_append so_far.log one.log in
+          let one_job = jobs_are_taken one.log ∙ ap length one.one_taken in
+          let count = so_far.jobs_are in
+          omega (arith, all, one_job, count);
+      swept =
+          subst (λ (ts : List ℕ). HasGained old (Contains ts) (set tiles t true)) (sym taken)
+          (HasGained-one old tiles (tiles_taken so_far.log) t within so_far.swept);
+      count = one.count ∙ so_far.count;
+      none_out = one.none_out;
+      no_hints = one.no_hints;
+      tiling = same ∙ so_far.tiling;
+      spent = let spent = so_far.spent in let less = one.less in omega (arith, spent, less);
+    }
+
+-- no tile is swept yet
+pub none_swept : (core : Core) (set : List Bool) → NoneOut core → ((u : ℕ) → HasHints core u → ⊥)
+    → AreWorkedOff core set core set 0
+none_swept core set none_out no_hints = record {
+  log = [];
+  works = refl;
+  jobs_are = refl;
+  swept = HasGained-none set;
+  count = refl;
+  none_out = none_out;
+  no_hints = no_hints;
+  tiling = refl;
+  spent = omega arith;
 }
 
 -- a core's burden is far below 2^64
@@ -349,9 +382,10 @@ quiet_from core none_out no_hints clean t within = record {
 -- where memory is wanted before a tile is swept, the jobs that were out are abandoned, and the hints handed over
 pub cut_before_sweeps : (before cleared handed after : Core)
     → IsRun before (abandoned (tickets_out 0 before.tiles)) cleared
-    → ((log : List Entry) × IsWorkedOff cleared log handed × (jobs_of log ≡ 0)) → NoneOut handed
-    → ((t : ℕ) × IsDirty handed t) → after ≡ handed → (log : List Entry) × IsCutShort before log after
-cut_before_sweeps before cleared handed after clears (hints, hands, no_jobs) none_out dirty same =
+    → ((log : List Entry) × IsWorkedOff cleared log handed × (tiles_taken log ≡ [])) → NoneOut handed
+    → ((t : ℕ) × IsDirty handed t) → after ≡ handed
+    → (log : List Entry) × IsCutShort before log after × (tiles_taken log ≡ [])
+cut_before_sweeps before cleared handed after clears (hints, hands, none_taken) none_out dirty same =
     let tickets = abandoned (tickets_out 0 before.tiles) in
     let cut : IsCutShort before (tickets ++ hints) handed = record {
       reached = handed;
@@ -363,8 +397,12 @@ cut_before_sweeps before cleared handed after clears (hints, hands, no_jobs) non
       none_out = none_out;
       some_dirty = dirty;
       parts = sym (append-nil (tickets ++ hints));
-    } in
-    (tickets ++ hints, subst (IsCutShort before (tickets ++ hints)) (sym same) cut)
+    } in (
+      tickets ++ hints,
+      subst (IsCutShort before (tickets ++ hints)) (sym same) cut,
+      taken_append tickets hints ∙ ap (λ (ts : List ℕ). ts ++ tiles_taken hints) (none_taken_abandoned (tickets_out 0 before.tiles))
+          ∙ none_taken,
+    )
 
 -- nothing is abandoned at a quiet core
 none_abandoned_where_quiet : (core after : Core) (tickets : List Ticket) → IsQuiet core
@@ -392,9 +430,9 @@ none_worked_where_quiet core after ((Abandon ticket, answer) ∷ log) quiet (is_
 
 -- so a tile that is dirty once that is done was not one of a quiet core
 pub some_work_before : (before cleared handed : Core) → IsRun before (abandoned (tickets_out 0 before.tiles)) cleared
-    → ((log : List Entry) × IsWorkedOff cleared log handed × (jobs_of log ≡ 0)) → ((t : ℕ) × IsDirty handed t)
+    → ((log : List Entry) × IsWorkedOff cleared log handed × (tiles_taken log ≡ [])) → ((t : ℕ) × IsDirty handed t)
     → IsQuiet before → ⊥
-some_work_before before cleared handed clears (hints, hands, no_jobs) (t, dirty) quiet =
+some_work_before before cleared handed clears (hints, hands, none_taken) (t, dirty) quiet =
     let same_cleared = none_abandoned_where_quiet before cleared (tickets_out 0 before.tiles) quiet clears in
     let same : handed ≡ before =
     none_worked_where_quiet cleared handed hints (subst IsQuiet (sym same_cleared) quiet) hands ∙ same_cleared in
@@ -402,28 +440,108 @@ some_work_before before cleared handed clears (hints, hands, no_jobs) (t, dirty)
     let e : true ≡ false = sym was.1 ∙ (quiet t was.0).clean in
     absurd cc
 
--- jobs that are abandoned, hints that are handed over and tiles that are swept until the core is quiet
-pub settled_by : (before cleared handed after : Core) (jobs abandons : ℕ)
+-- jobs that are abandoned, hints that are handed over and tiles that are swept are settling; it takes the tiles that are
+-- swept
+pub settling_by : (before cleared handed after : Core) (abandons : ℕ)
     → IsRun before (abandoned (tickets_out 0 before.tiles)) cleared → abandons ≡ length (tickets_out 0 before.tiles)
-    → ((log : List Entry) × IsWorkedOff cleared log handed × (jobs_of log ≡ 0))
-    → ((log : List Entry) × IsWorkedOff handed log after × (jobs_of log ≡ jobs)) → IsQuiet after
-    → (log : List Entry) × IsSettled before log after × (jobs ≡ jobs_of log) × (abandons ≡ abandons_of log)
-settled_by before cleared handed after jobs abandons clears count (hints, hands, no_jobs) (sweeps, works, swept) quiet =
+    → ((log : List Entry) × IsWorkedOff cleared log handed × (tiles_taken log ≡ [])) → (sweeps : List Entry)
+    → IsWorkedOff handed sweeps after
+    → (log : List Entry) × IsSettling before log after × (tiles_taken sweeps ≡ tiles_taken log)
+    × (abandons ≡ abandons_of log)
+settling_by before cleared handed after abandons clears count (hints, hands, none_taken) sweeps works =
     let tickets = tickets_out 0 before.tiles in
     let work = hints ++ sweeps in
     let works_off = work_goes_on cleared handed after hints sweeps hands works in
-    let worked = jobs_append hints sweeps in
-    let all = jobs_append (abandoned tickets) work in
-    let no_sweeps = no_jobs_abandoned tickets in
     let dropped = abandons_append tickets work in
-    let no_more = none_abandoned cleared after work works_off in (
+    let no_more = none_abandoned cleared after work works_off in
+    let taken : tiles_taken (abandoned tickets ++ work) ≡ tiles_taken sweeps =
+    taken_append (abandoned tickets) work ∙ ap (λ (ts : List ℕ). ts ++ tiles_taken work) (none_taken_abandoned tickets)
+    ∙ taken_append hints sweeps ∙ ap (λ (ts : List ℕ). ts ++ tiles_taken sweeps) none_taken in (
       abandoned tickets ++ work,
-      record {
-        settling = record { cleared = cleared; work = work; clears = clears; works = works_off; parts = refl };
-        quiet = quiet;
-      },
-      omega (arith, worked, all, no_sweeps, no_jobs, swept),
+      record { cleared = cleared; work = work; clears = clears; works = works_off; parts = refl },
+      sym taken,
       omega (arith, dropped, no_more, count),
+    )
+
+-- logs that take the same tiles take as many jobs
+same_jobs : (one other : List Entry) → tiles_taken one ≡ tiles_taken other → jobs_of one ≡ jobs_of other
+same_jobs one other same = jobs_are_taken one ∙ ap length same ∙ sym (jobs_are_taken other)
+
+-- until the core is quiet
+pub settled_by : (before cleared handed after : Core) (jobs abandons : ℕ)
+    → IsRun before (abandoned (tickets_out 0 before.tiles)) cleared → abandons ≡ length (tickets_out 0 before.tiles)
+    → ((log : List Entry) × IsWorkedOff cleared log handed × (tiles_taken log ≡ []))
+    → ((log : List Entry) × IsWorkedOff handed log after × (jobs_of log ≡ jobs)) → IsQuiet after
+    → (log : List Entry) × IsSettled before log after × (jobs ≡ jobs_of log) × (abandons ≡ abandons_of log)
+settled_by before cleared handed after jobs abandons clears count hints (sweeps, works, swept) quiet =
+    let (log, settling, taken, dropped) =
+    settling_by before cleared handed after abandons clears count hints sweeps works in
+    (log, record { settling = settling; quiet = quiet }, sym swept ∙ same_jobs sweeps log taken, dropped)
+
+-- where so many jobs may be taken as never are, no work is left
+pub all_worked_off : {E : Type 0} (limit : ℕ) (handed after : Core) (old new : List Bool) (result : Result ℕ E)
+    → IfOk result (AreWorkedOffWithin limit handed old after new) → IfOk result (λ jobs. jobs + 1 < 18446744073709551616)
+    → 18446744073709551615 ≤ limit → IfOk result (λ jobs. IsAllWorkedOff handed jobs after)
+all_worked_off limit handed after old new (Ok jobs) within few unlimited = record {
+  works = (within.off.log, within.off.works, within.off.jobs_are);
+  quiet = within.to_the_end (omega (arith, few, unlimited));
+}
+all_worked_off limit handed after old new (Err e) within few unlimited = tt
+
+-- a slice of settling
+pub slice_by : SettlingSoFarIsWithinWork → OneJobOutATile → (before cleared handed after : Core) (old new : List Bool)
+    (limit jobs abandons : ℕ) (is_quiet : Bool) → IsSound before
+    → IsRun before (abandoned (tickets_out 0 before.tiles)) cleared → abandons ≡ length (tickets_out 0 before.tiles)
+    → ((log : List Entry) × IsWorkedOff cleared log handed × (tiles_taken log ≡ []))
+    → AreWorkedOffWithin limit handed old after new jobs → IsTrue is_quiet ↔ IsQuiet after
+    → IsSlice before old limit (record { count = record { jobs = jobs; abandons = abandons }; is_quiet = is_quiet }) after new
+slice_by law one_a_tile before cleared handed after old new limit jobs abandons is_quiet sound clears count hints within
+    quiet =
+    let off = within.off in
+    let (log, settling, taken, dropped) =
+    settling_by before cleared handed after abandons clears count hints off.log off.works in
+    let swept : jobs ≡ jobs_of log = sym off.jobs_are ∙ same_jobs off.log log taken in
+    record {
+      log = log;
+      settling = settling;
+      jobs_are = swept;
+      abandons_are = dropped;
+      swept = subst (λ (ts : List ℕ). HasGained old (Contains ts) new) taken off.swept;
+      at_most = within.at_most;
+      to_the_end = within.to_the_end;
+      quiet = quiet;
+      bound =
+          subst (λ n. IsWithinWork before after n abandons) (sym swept)
+          (subst (λ n. IsWithinWork before after (jobs_of log) n) (sym dropped) (law before after log sound settling));
+      each_out = count ∙ one_a_tile before;
+    }
+
+-- a tile that is neither in the new set nor dirty shows what it showed, and so it does where memory was wanting
+pub slice_shows : SettlingChangesFewTiles → (before after : Core) (old new : List Bool) (log : List Entry)
+    → IsSound before → IsSettling before log after → HasGained old (IsTakenIn log) new → (t : ℕ) → (Has new t → ⊥)
+    → (IsDirty after t → ⊥) → ShowsTheSame before after t
+slice_shows law before after old new log sound settling gained t absent clean =
+    law before after log sound settling t
+    (record { untaken = λ taken. absent ((gained.each t).1 (inr taken)); clean = clean })
+
+pub cut_short_shows : CutShortChangesFewTiles → (before after : Core) (old new : List Bool) → IsSound before
+    → IsSliceCutShort before old after new → (t : ℕ) → (Has new t → ⊥) → (IsDirty after t → ⊥)
+    → ShowsTheSame before after t
+cut_short_shows law before after old new sound (log, cut, gained) t absent clean =
+    law before after log sound cut t
+    (record { untaken = λ taken. absent ((gained.each t).1 (inr taken)); clean = clean })
+
+-- where memory is wanted before a tile is swept, the set is as it was
+pub slice_cut_short : (before cleared handed after : Core) (old new : List Bool)
+    → IsRun before (abandoned (tickets_out 0 before.tiles)) cleared
+    → ((log : List Entry) × IsWorkedOff cleared log handed × (tiles_taken log ≡ [])) → NoneOut handed
+    → ((t : ℕ) × IsDirty handed t) → after ≡ handed → new ≡ old → IsSliceCutShort before old after new
+slice_cut_short before cleared handed after old new clears hints none_out dirty same same_set =
+    let (log, cut, taken) = cut_before_sweeps before cleared handed after clears hints none_out dirty same in (
+      log,
+      cut,
+      subst (λ (tiles : List Bool). HasGained old (IsTakenIn log) tiles) (sym same_set)
+          (subst (λ (ts : List ℕ). HasGained old (Contains ts) old) (sym taken) (HasGained-none old)),
     )
 
 -- ---- the bound on the work

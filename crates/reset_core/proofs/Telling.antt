@@ -14,7 +14,7 @@ use Rattle.border_queues.specs.TileWork.{TileWork, idle, received}
 use Rattle.core_rules.specs.Sweeps.{hints_for}
 use Rattle.core_rules.specs.Hints.{hint_at, IsPresent, without_hint, raised, IsHanded}
 use Rattle.core_rules.specs.Events.{Hand, OfHand}
-use Rattle.core_rules.specs.Runs.{Entry, jobs_of, NoneOut, IsNext, IsWorkedOff}
+use Rattle.core_rules.specs.Runs.{Entry, tiles_taken, NoneOut, IsNext, IsWorkedOff}
 use Rattle.reset_core.specs.Telling.{ImageAndWork, image_and_work, risen_by, all_handed, hints_in, AreInTileOrder}
 use Rattle.core_rules.proofs.Cores.{work_there, work_elsewhere, field_kept}
 use Rattle.reset_core.proofs.TellingHands.{hint_rises, hint_stays}
@@ -328,7 +328,7 @@ module _ (core : Core) (hint : Hint) (rest : List Hint) (told : AreToldAt core (
 pub record HandsOver (before after : Core) : Type 0 where
   pub log : List Entry
   pub works : IsWorkedOff before log after
-  pub no_jobs : jobs_of log ≡ 0
+  pub none_taken : tiles_taken log ≡ []
   pub none_out : NoneOut after
   pub none_wait : (t : ℕ) → IsTile after t → (work_at after t).inbox ≡ []
 
@@ -337,7 +337,7 @@ pub hands_over : (core : Core) (hints : List Hint) → AreToldAt core hints
 hands_over core [] told = record {
   log = [];
   works = sym (telling_none core);
-  no_jobs = refl;
+  none_taken = refl;
   none_out = told.none_out;
   none_wait = told.none_wait;
 }
@@ -354,7 +354,7 @@ hands_over core (hint ∷ rest) told =
               first_is_next core hint rest told,
               (telling (risen_core core hint) rest, hand_rises core hint rest told above, more.works),
             );
-            no_jobs = more.no_jobs;
+            none_taken = more.none_taken;
             none_out = more.none_out;
             none_wait = more.none_wait;
           })
@@ -366,7 +366,7 @@ hands_over core (hint ∷ rest) told =
               first_is_next core hint rest told,
               (telling core rest, hand_stays core hint rest told enough, more.works),
             );
-            no_jobs = more.no_jobs;
+            none_taken = more.none_taken;
             none_out = more.none_out;
             none_wait = more.none_wait;
           })

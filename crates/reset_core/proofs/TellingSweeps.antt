@@ -218,7 +218,7 @@ pub one_step : EdgesAreOpen → (before : Core) (t : ℕ) → IsSound before →
     → IsGrownAt before t image → (s : ImageAndWork)
     → AreTold (tiling before) (hints_of before (grown_core before t image) t)
     (image_and_work (grown_core before t image)) s
-    → IsOneWorkedOff before (with_image_and_work (grown_core before t image) s)
+    → IsOneWorkedOff before t (with_image_and_work (grown_core before t image) s)
     × IsSound (with_image_and_work (grown_core before t image) s)
 one_step edges_open before t sound next image grown s told =
     let middle = grown_core before t image in
@@ -243,7 +243,8 @@ one_step edges_open before t sound next image grown s told =
       record {
         log = sweep ++ off.log;
         works = works;
-        one_job = ap (λ n. 1 + n) off.no_jobs;
+        one_taken = ap (λ (ts : List ℕ). t ∷ ts) off.none_taken;
+        count = told.over.count ∙ length-set before.tiles t (clean before t);
         none_out = off.none_out;
         no_hints = λ u waits. waits.1 (off.none_wait u waits.0);
         less = omega (arith, less, kept);

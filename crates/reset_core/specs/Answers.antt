@@ -1,5 +1,5 @@
 -- What the core's methods answer. Public functions have these words in their contracts.
-use Rattle.std.specs.Prelude.{◌≡◌, ◌⊎◌, ℕ, List}
+use Rattle.std.specs.Prelude.{◌≡◌, ◌⊎◌, ◌↔◌, ℕ, ◌<◌, ◌≤◌, Bool, List, IsTrue}
 use Rattle.grid_core.specs.declared.conn.Conn.{Conn}
 use Rattle.grid_core.specs.Raster.{Raster, IsSized, IsBelow}
 use Rattle.grid_core.specs.Tiles.{IsTileSide}
@@ -13,10 +13,12 @@ use Rattle.core_rules.specs.Opening.{opened}
 use Rattle.core_rules.specs.Invariant.{HasLawfulImage, HasReconstruction}
 use Rattle.core_rules.specs.Merge.{IsRefused, IsAcceptable}
 use Rattle.core_rules.specs.Sweeps.{IsKnown, IsOut, IsUnchanged, HasOnlyRisen}
-use Rattle.core_rules.specs.Runs.{Entry, IsSettled, jobs_of, abandons_of}
+use Rattle.core_rules.specs.Runs.{Entry, IsSettling, IsSettled, IsCutShort, IsTakenIn, jobs_of, abandons_of}
 use Rattle.core_rules.specs.Schedule.{Progress, Ran, AreSteps, started, ran_of}
 use Rattle.core_rules.specs.Counting.{IsWithinWork, Owes, tiles_out}
+use Rattle.tile_work.specs.TileSet.{HasGained}
 use Rattle.reset_core.specs.declared.replica.settling.Count.{Count}
+use Rattle.reset_core.specs.declared.replica.settling.Slice.{Slice}
 
 -- the core is one of this mask before anything happened, and its side is one that tiles may have
 abbrev pub IsOpened : Raster → Conn → ℕ → ℕ → Core → Type 0
@@ -55,6 +57,26 @@ pub record IsSettledBy (before : Core) (count : Count) (after : Core) : Type 0 w
   pub bound : IsWithinWork before after count.jobs count.abandons
   pub owes_nothing : Owes after 0
   pub abandons_are : count.abandons ≡ tiles_out before
+
+-- a slice of settling: the set has gained the tiles that were swept, which were no more than the limit, and fewer only
+-- where no work is left; each job that was out was abandoned
+pub record IsSlice (before : Core) (old : List Bool) (limit : ℕ) (slice : Slice) (after : Core) (new : List Bool)
+    : Type 0 where
+  pub log : List Entry
+  pub settling : IsSettling before log after
+  pub jobs_are : slice.count.jobs ≡ jobs_of log
+  pub abandons_are : slice.count.abandons ≡ abandons_of log
+  pub swept : HasGained old (IsTakenIn log) new
+  pub at_most : slice.count.jobs ≤ limit
+  pub to_the_end : slice.count.jobs < limit → IsQuiet after
+  pub quiet : IsTrue slice.is_quiet ↔ IsQuiet after
+  pub bound : IsWithinWork before after slice.count.jobs slice.count.abandons
+  pub each_out : slice.count.abandons ≡ tiles_out before
+
+-- a slice that ended for want of memory: the set has gained the tiles that were swept
+abbrev pub IsSliceCutShort : Core → List Bool → Core → List Bool → Type 0
+IsSliceCutShort before old after new =
+    (log : List Entry) × IsCutShort before log after × HasGained old (IsTakenIn log) new
 
 -- the steps of a schedule were run, and this is what it did
 abbrev pub HaveRun : Core → List Step → Ran → Core → Type 0

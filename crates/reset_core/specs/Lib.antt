@@ -12,6 +12,7 @@ pub use Rattle.tile_generations.specs.Jobs
 pub use Rattle.border_queues.specs.OpenEdges
 pub use Rattle.border_queues.specs.TileWork
 pub use Rattle.tile_work.specs.Least
+pub use Rattle.tile_work.specs.TileSet
 pub use Rattle.tile_work.specs.WorkTable
 pub use Rattle.core_rules.specs.Work
 pub use Rattle.core_rules.specs.Image
@@ -22,6 +23,7 @@ pub use Rattle.core_rules.specs.Hints
 pub use Rattle.core_rules.specs.Events
 pub use Rattle.core_rules.specs.Invariant
 pub use Rattle.core_rules.specs.Runs
+pub use Rattle.core_rules.specs.Shown
 pub use Rattle.core_rules.specs.Schedule
 pub use Rattle.core_rules.specs.Counting
 pub mod Replica

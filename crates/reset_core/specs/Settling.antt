@@ -7,7 +7,9 @@ use Rattle.core_rules.specs.Work.{Core, IsQuiet, tiling}
 use Rattle.border_queues.specs.TileWork.{TileWork, IsLeast}
 use Rattle.core_rules.specs.Sweeps.{IsAbandoned}
 use Rattle.core_rules.specs.Hints.{IsHanded}
-use Rattle.core_rules.specs.Runs.{Entry, IsRun, IsWorkedOff, NoneOut, HasHints, jobs_of, abandoned, tickets_out}
+use Rattle.core_rules.specs.Runs.{Entry, IsRun, IsWorkedOff, NoneOut, HasHints, IsTakenIn, abandoned, tickets_out}
+use Rattle.core_rules.specs.Runs.{jobs_of, tiles_taken}
+use Rattle.tile_work.specs.TileSet.{HasGained}
 use Rattle.reset_core.specs.Telling.{burden}
 
 -- some of the jobs that were out are abandoned
@@ -36,6 +38,7 @@ pub record IsFirstHandedOver (before after : Core) : Type 0 where
   pub happens : IsHanded before t 0 handed after
   pub none_out : NoneOut after
   pub fewer : waiting_count after.tiles < waiting_count before.tiles
+  pub count : length after.tiles ≡ length before.tiles
   pub tiling : tiling after ≡ tiling before
 
 -- the first hint that waits is handed over, where there is one
@@ -48,7 +51,8 @@ IsFirstHanded before was_one after =
 pub record AreHanded (before now : Core) : Type 0 where
   pub log : List Entry
   pub works : IsWorkedOff before log now
-  pub no_jobs : jobs_of log ≡ 0
+  pub none_taken : tiles_taken log ≡ []
+  pub count : length now.tiles ≡ length before.tiles
   pub none_out : NoneOut now
   pub tiling : tiling now ≡ tiling before
 
@@ -57,12 +61,13 @@ pub record HasOnlySweeps (core : Core) : Type 0 where
   pub none_out : NoneOut core
   pub no_hints : (u : ℕ) → HasHints core u → ⊥
 
--- the next tile is worked off: it was swept and its hints were handed over, no job is out, no hint waits, and less work
--- can be left
-pub record IsOneWorkedOff (before after : Core) : Type 0 where
+-- the tile is worked off: it was swept and its hints were handed over, no job is out, no hint waits, and less work can be
+-- left
+pub record IsOneWorkedOff (before : Core) (t : ℕ) (after : Core) : Type 0 where
   pub log : List Entry
   pub works : IsWorkedOff before log after
-  pub one_job : jobs_of log ≡ 1
+  pub one_taken : tiles_taken log ≡ t ∷ []
+  pub count : length after.tiles ≡ length before.tiles
   pub none_out : NoneOut after
   pub no_hints : (u : ℕ) → HasHints after u → ⊥
   pub less : burden after < burden before
@@ -76,12 +81,21 @@ pub record IsAllWorkedOff (before : Core) (jobs : ℕ) (after : Core) : Type 0 w
   pub works : IsWorkedOffBy before jobs after
   pub quiet : IsQuiet after
 
--- so many tiles are swept, and no hint waits
-pub record AreWorkedOff (before now : Core) (jobs : ℕ) : Type 0 where
+-- so many tiles are swept, the set has gained them, and no hint waits
+pub record AreWorkedOff (before : Core) (old : List Bool) (now : Core) (set : List Bool) (jobs : ℕ) : Type 0 where
   pub log : List Entry
   pub works : IsWorkedOff before log now
-  pub count : jobs_of log ≡ jobs
+  pub jobs_are : jobs_of log ≡ jobs
+  pub swept : HasGained old (IsTakenIn log) set
+  pub count : length now.tiles ≡ length before.tiles
   pub none_out : NoneOut now
   pub no_hints : (u : ℕ) → HasHints now u → ⊥
   pub tiling : tiling now ≡ tiling before
   pub spent : jobs + burden now ≤ burden before
+
+-- so they are, no more than allowed, and fewer only where no work is left
+pub record AreWorkedOffWithin (limit : ℕ) (before : Core) (old : List Bool) (now : Core) (set : List Bool) (jobs : ℕ)
+    : Type 0 where
+  pub off : AreWorkedOff before old now set jobs
+  pub at_most : jobs ≤ limit
+  pub to_the_end : jobs < limit → IsQuiet now

@@ -26,4 +26,5 @@ mod replica;
 
 pub use core_rules::{Back, CoreError, Handed, Step, laws};
 pub use grid_core::TILE_SIDE;
-pub use replica::{Core, Count, Ran, RefusedMask};
+pub use replica::{Core, Count, Ran, RefusedMask, Slice};
+pub use tile_work::TileSet;

@@ -36,7 +36,7 @@ mod settling;
 mod sweeping;
 
 pub use scheduling::Ran;
-pub use settling::Count;
+pub use settling::{Count, Slice};
 
 /// A mask of which no core was opened.
 #[derive(Debug, Drop)]

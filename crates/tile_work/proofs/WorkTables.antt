@@ -201,11 +201,15 @@ least_by_set bits P says from first found =
 
 module _ (table : Inside) (now : List TileWork) (view_is : works_of table.rows.items ≡ now)
     (in_step : AreInStep (works_of table.rows.items) table.dirty table.out table.waiting) where
-  dirty_of_table : (t : ℕ) → Has table.dirty t ↔ IsDirtyTile now t
+  pub dirty_of_table : (t : ℕ) → Has table.dirty t ↔ IsDirtyTile now t
   dirty_of_table = dirty_says now table.dirty (in_step.dirty_in_step ∙ ap dirty_bits view_is)
 
   out_of_table : (t : ℕ) → Has table.out t ↔ HasJobOut now t
   out_of_table = out_says now table.out (in_step.out_in_step ∙ ap out_bits view_is)
+
+  pub dirty_set_count : length table.dirty ≡ length now
+  dirty_set_count =
+      ap length (in_step.dirty_in_step ∙ ap dirty_bits view_is) ∙ length-map now (λ work. work.dirty)
 
   pub out_count : length table.out ≡ length table.dirty
   out_count =

@@ -1,6 +1,6 @@
 -- Sets of the tiles of an image: for each tile, by its number, whether it is in the set.
 use Rattle.std.specs.Prelude.{◌≡◌, ◌≢◌, ℕ, ◌+◌, ◌/◌, ◌%◌, ◌<◌, ◌≤◌, Bool, false, IsTrue, ◌==◌, List, length, map}
-use Rattle.std.specs.Prelude.{slice_index, slice_index_or, count_by}
+use Rattle.std.specs.Prelude.{◌↔◌, ◌⊎◌, slice_index, slice_index_or, count_by, bit_or, EachIndex}
 use Rattle.std.specs.List.{range_with_len}
 use Rattle.std.specs.Int.{bit_at}
 
@@ -17,6 +17,11 @@ pub record IsFirstFrom (set : List Bool) (start t : ℕ) : Type 0 where
   pub has : Has set t
   pub from : start ≤ t
   pub first : (u : ℕ) → start ≤ u → Has set u → t ≤ u
+
+-- the new set has the tiles of the old one and those of which this holds, and no others
+pub record HasGained (old : List Bool) (P : ℕ → Type 0) (new : List Bool) : Type 0 where
+  pub count : length new ≡ length old
+  pub each : (t : ℕ) → Has new t ↔ (Has old t ⊎ P t)
 
 -- how many tiles are in the set
 abbrev pub members : List Bool → ℕ
@@ -48,6 +53,11 @@ pub record IsWritten (old new : List ℕ) (place bit : ℕ) : Type 0 where
   pub written : bit_of new place ≡ bit
   pub others : (other : ℕ) → other ≢ place → bit_of new other ≡ bit_of old other
   pub words : (word : ℕ) → word ≢ place / 64 → slice_index new word ≡ slice_index old word
+
+-- the new words have the bits of the old ones and those of the others
+pub record AreUnited (old others new : List ℕ) : Type 0 where
+  pub count : length new ≡ length old
+  pub each : EachIndex old (λ i. slice_index new i ≡ bit_or (slice_index old i) (slice_index others i))
 
 -- the words have bits of so many tiles alone, and bit w of the summary says whether word w is not 0
 pub record IsSummed (count : ℕ) (words summary : List ℕ) : Type 0 where

@@ -4,7 +4,8 @@ ghost use Rattle.std.specs.Prelude.{◌≡◌, ℕ, ◌+◌, ◌*◌, ◌/◌, �
 ghost use Rattle.std.specs.Prelude.{MatchOption, slice_index_or, slice_set};
 ghost use Rattle.std.specs.Int.{bit_at};
 ghost use Rattle.tile_work.specs.Least.{IsLeastFrom};
-ghost use Rattle.tile_work.specs.TileSet.{AreZeroFrom, Has, HasNoneFrom, IsFirstFrom, bit_of, IsLowestFrom, IsWritten};
+ghost use Rattle.tile_work.specs.TileSet.{AreZeroFrom, Has, HasNoneFrom, HasGained, IsFirstFrom, bit_of, IsLowestFrom};
+ghost use Rattle.tile_work.specs.TileSet.{AreUnited, IsWritten};
 
 use grid_core::Memory;
 use std::alloc::Global;
@@ -69,6 +70,16 @@ impl TileSet {
     {
         set_place(&mut self.words, tile);
         set_place(&mut self.summary, tile / 64);
+    }
+
+    /// Puts each tile of the other set into this one, 64 tiles a step. Both sets are over as many tiles. It takes no
+    /// memory.
+    pub fn insert_all(&mut self, other: &TileSet)
+        requires { length other.now ≡ length self.old }
+        ensures { HasGained self.old (Has other.now) self.new }
+    {
+        unite(&mut self.words, &other.words);
+        unite(&mut self.summary, &other.summary);
     }
 
     /// Takes the tile out of the set.
@@ -141,6 +152,16 @@ fn set_place(words: &mut [u64], place: usize)
     ensures { IsWritten words.old words.new place 1 }
 {
     words[place / 64] |= 1 << (place % 64);
+}
+
+// Sets each bit that is set in the others.
+fn unite(words: &mut [u64], others: &[u64])
+    requires { length others.now ≡ length words.old }
+    ensures { AreUnited words.old others.now words.new }
+{
+    for i in 0..words.len() {
+        words[i] |= others[i];
+    }
 }
 
 // Clears the bit at the place.

@@ -9,6 +9,7 @@ ghost use Rattle.grid_core.specs.Tiles.{count_of};
 ghost use Rattle.tile_generations.specs.Generations.{max_generation};
 ghost use Rattle.border_queues.specs.TileWork.{IsIdle, fresh, reset_work, IsLeast, work_of};
 ghost use Rattle.tile_work.specs.Least.{IsLeastFrom};
+ghost use Rattle.tile_work.specs.TileSet.{HasGained};
 ghost use Rattle.tile_work.specs.WorkTable.{IsDirtyTile, HasJobOut, HasHintsAt, CanBeTaken, IsToTouching, AreReceived};
 ghost use Rattle.tile_work.specs.WorkTable.{taken, without_hint};
 
@@ -154,6 +155,14 @@ impl WorkTable {
         ensures { IsLeastFrom (HasHintsAt self.now) from result }
     {
         self.waiting.first_from(from)
+    }
+
+    /// Puts each dirty tile into the set, 64 tiles a step. It takes no memory.
+    pub fn add_dirty(&self, set: &mut TileSet)
+        requires { length set.old ≡ length self.now }
+        ensures { HasGained set.old (IsDirtyTile self.now) set.new }
+    {
+        set.insert_all(&self.dirty);
     }
 
     /// A job of the tile goes out under this serial, and the tile is no longer dirty.

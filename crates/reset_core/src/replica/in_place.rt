@@ -33,7 +33,7 @@ impl Core {
     pub(crate) fn work_off(&mut self, tile: usize, room: &mut Room, told: &mut Inbox)
         requires next { IsNext self.old (Take tile) }
         requires enough { room_for_edges (tiling self.old) ≤ places told.old }
-        ensures worked { IsOneWorkedOff self.old self.new × (tiling self.new ≡ tiling self.old) }
+        ensures worked { IsOneWorkedOff self.old tile self.new × (tiling self.new ≡ tiling self.old) }
         ensures enough { places told.old ≤ places told.new }
     {
         edges_are_open();

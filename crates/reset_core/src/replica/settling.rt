@@ -1,19 +1,26 @@
-//! Settling: working until nothing is left to do.
+//! Settling: working until nothing is left to do, or for so many jobs.
 
-ghost use Rattle.std.specs.Prelude.{◌≡◌, ◌≤◌, ℕ, List, length, IfOk, OnErr};
+ghost use Rattle.std.specs.Prelude.{◌≡◌, ◌+◌, ◌^◌, ◌<◌, ◌≤◌, ℕ, List, length, IfOk, OnErr};
 ghost use Rattle.border_queues.specs.Waiting.{places};
 ghost use Rattle.border_queues.specs.OpenEdges.{room_for_edges};
 ghost use Rattle.core_rules.specs.Work.{IsQuiet, tiling};
 ghost use Rattle.core_rules.specs.Runs.{Entry, IsRun, IsCutShort, NoneOut, HasHints, IsDirty, abandoned, tickets_out};
-ghost use Rattle.reset_core.specs.Answers.{IsSettledBy};
+ghost use Rattle.core_rules.specs.Shown.{ShowsTheSame};
+ghost use Rattle.tile_work.specs.TileSet.{Has, HasGained};
+ghost use Rattle.reset_core.specs.Answers.{IsSettledBy, IsSlice, IsSliceCutShort};
 ghost use Rattle.reset_core.specs.Settling.{AreHanded, IsFirstAbandoned, IsFirstHanded, IsAllWorkedOff, HasOnlySweeps};
+ghost use Rattle.reset_core.specs.Settling.{AreWorkedOffWithin};
 
 use super::Core;
 use border_queues::{Inbox, room_for_edges};
-use core_rules::laws::{one_job_out_a_tile, settling_is_within_work};
+use core_rules::laws::{
+    one_job_out_a_tile, settling_changes_few_tiles, settling_is_within_work,
+    settling_so_far_is_within_work,
+};
 use grid_core::Memory;
 use raster_sweeps::Room;
 use std::alloc::Global;
+use tile_work::TileSet;
 
 /// What settling took.
 #[derive(Clone, Copy, Debug, PartialEq, Eq)]
@@ -22,6 +29,15 @@ pub struct Count {
     pub jobs: u64,
     /// How many jobs were out at the start. They were abandoned.
     pub abandons: u64,
+}
+
+/// What a slice of settling took, and what it left.
+#[derive(Clone, Copy, Debug, PartialEq, Eq)]
+pub struct Slice {
+    /// What it took.
+    pub count: Count,
+    /// Whether no work is left.
+    pub is_quiet: bool,
 }
 
 impl Core {
@@ -47,6 +63,56 @@ impl Core {
         self.hand_all();
         let jobs = self.sweep_all(alloc)?;
         Ok(Count { jobs, abandons })
+    }
+
+    /// Works like [`settle`](Core::settle), but sweeps no more than `jobs` tiles, puts each tile that it sweeps into the
+    /// set, and says whether no work is left. Slice after slice until then it does what `settle` does at once.
+    ///
+    /// A tile that is neither in the set nor dirty afterwards shows what it showed. A tile that is dirty and not in the
+    /// set can have pixels that hints raised; it is swept, and put into the set, by a later slice.
+    /// [`add_dirty`](Core::add_dirty) adds those tiles too.
+    ///
+    /// Where nothing but slices works on the core, no job is out and no hint waits, so that a slice begins with two
+    /// looks at empty sets.
+    ///
+    /// Errors: out of memory, where a tile has still to be swept. The set has then the tiles that were swept, and no
+    /// job is out. A core that is quiet takes no memory, nor does a slice of no jobs.
+    pub fn settle_within(
+        &mut self,
+        alloc: Global,
+        swept: &mut TileSet,
+        jobs: u64,
+    ) -> Result<Slice, Memory>
+        requires { length swept.old ≡ length self.old.tiles }
+        ensures slice { IfOk result (λ slice. IsSlice self.old swept.old jobs slice self.new swept.new) }
+        ensures cut_short { OnErr result (IsSliceCutShort self.old swept.old self.new swept.new) }
+        ensures some_work { OnErr result ((IsQuiet self.old → ⊥) × (0 < jobs)) }
+        ensures none_out { NoneOut self.new }
+        ensures unchanged { (t : ℕ) → (Has swept.new t → ⊥) → (IsDirty self.new t → ⊥)
+            → ShowsTheSame self.old self.new t }
+    {
+        self.soundness();
+        settling_so_far_is_within_work();
+        settling_changes_few_tiles();
+        one_job_out_a_tile();
+        let abandons = self.abandon_all();
+        self.hand_all();
+        let jobs = self.sweep_within(alloc, swept, jobs)?;
+        let is_quiet = self.is_quiet();
+        Ok(Slice {
+            count: Count { jobs, abandons },
+            is_quiet,
+        })
+    }
+
+    /// Puts each dirty tile into the set, 64 tiles a step. It takes no memory.
+    ///
+    /// Each tile that a merge changed is dirty then.
+    pub fn add_dirty(&self, set: &mut TileSet)
+        requires { length set.old ≡ length self.now.tiles }
+        ensures { HasGained set.old (IsDirty self.now) set.new }
+    {
+        self.work.add_dirty(set);
     }
 
     /// Abandons each job that is out, tile by tile, and says how many there were. It takes no memory.
@@ -112,26 +178,64 @@ impl Core {
         let Some(_first) = self.work.first_dirty() else {
             return Ok(0);
         };
+        let mut swept = TileSet::empty(alloc, self.tiles())?;
+        self.sweep_within(alloc, &mut swept, u64::MAX)
+    }
+
+    // Sweeps dirty tiles until none is left or so many were swept, puts each into the set, and says how often. Where none
+    // is dirty, it takes no memory.
+    //
+    // Errors: out of memory, where a tile is dirty and may be swept, and core and set are as they were.
+    fn sweep_within(
+        &mut self,
+        alloc: Global,
+        swept: &mut TileSet,
+        limit: u64,
+    ) -> Result<u64, Memory>
+        requires left { HasOnlySweeps self.old }
+        requires count { length swept.old ≡ length self.old.tiles }
+        ensures works { IfOk result (AreWorkedOffWithin limit self.old swept.old self.new swept.new) }
+        ensures few { IfOk result (λ jobs. jobs + 1 < 2 ^ 64) }
+        ensures dirty { OnErr result (((t : ℕ) × IsDirty self.old t) × (0 < limit)) }
+        ensures err { OnErr result ((self.new ≡ self.old) × (swept.new ≡ swept.old)) }
+    {
+        if limit == 0 {
+            return Ok(0);
+        }
+        let Some(_first) = self.work.first_dirty() else {
+            return Ok(0);
+        };
         let tiling = self.tiling();
         let mut room = Room::new(alloc, tiling.side() * tiling.side())?;
         let mut told = Inbox::new(alloc);
         told.reserve(room_for_edges(&tiling)).map_err(|_| Memory)?;
-        Ok(self.work_all_off(&mut room, &mut told))
+        Ok(self.work_off_within(&mut room, &mut told, swept, limit))
     }
 
-    // Sweeps the first dirty tile in place until none is dirty, and says how often.
-    fn work_all_off(&mut self, room: &mut Room, told: &mut Inbox) -> u64
+    // Sweeps the first dirty tile in place until none is dirty or so many were swept, puts each into the set, and says
+    // how often.
+    fn work_off_within(
+        &mut self,
+        room: &mut Room,
+        told: &mut Inbox,
+        swept: &mut TileSet,
+        limit: u64,
+    ) -> u64
         requires left { HasOnlySweeps self.old }
+        requires count { length swept.old ≡ length self.old.tiles }
         requires enough { room_for_edges (tiling self.old) ≤ places told.old }
-        ensures { IsAllWorkedOff self.old result self.new }
+        ensures works { AreWorkedOffWithin limit self.old swept.old self.new swept.new result }
+        ensures few { result + 1 < 2 ^ 64 }
     {
         let _ = self.tiling();
         let _ = self.image();
-        let mut jobs = 0;
-        while let Some(tile) = self.work.first_dirty() {
+        for jobs in 0..limit {
+            let Some(tile) = self.work.first_dirty() else {
+                return jobs;
+            };
             self.work_off(tile, room, told);
-            jobs += 1;
+            swept.insert(tile);
         }
-        jobs
+        limit
     }
 }

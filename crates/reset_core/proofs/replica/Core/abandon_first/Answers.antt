@@ -5,7 +5,8 @@ use Rattle.border_queues.specs.TileWork.{TileWork}
 use Rattle.core_rules.specs.Sweeps.{IsAbandoned}
 use Rattle.core_rules.specs.Runs.{NoneOut, tickets_out}
 use Rattle.reset_core.specs.Replica.{core_of, IsStored}
-use Rattle.reset_core.proofs.Settling.{first_abandoned, few_tickets, no_tickets, none_is_out}
+use Rattle.reset_core.proofs.Settling.{first_abandoned, few_tickets, none_is_out}
+use Rattle.core_rules.proofs.Leaving.{no_tickets}
 use Rattle.reset_core.proofs.Storing.{let_go_is_stored}
 use Rattle.reset_core.proofs.Sweeping.{let_go}
 use Rattle.reset_core.proofs.replica.Core.abandon_first.Goals as goal

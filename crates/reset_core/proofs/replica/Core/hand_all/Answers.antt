@@ -5,7 +5,7 @@ use Rattle.reset_core.proofs.Settling.{one_more_handed}
 use Rattle.reset_core.proofs.replica.Core.hand_all.Goals as goal
 
 pub loop-init : goal.loop-init
-loop-init c = record { log = []; works = refl; no_jobs = refl; none_out = c.requires; tiling = refl }
+loop-init c = record { log = []; works = refl; none_taken = refl; count = refl; none_out = c.requires; tiling = refl }
 
 pub hand_first-requires : goal.hand_first-requires
 hand_first-requires c = c.loop.invariant.none_out

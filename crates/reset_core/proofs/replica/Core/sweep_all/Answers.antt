@@ -1,8 +1,7 @@
 use Rattle.std.proofs.Common.{[], refl, subst, arith}
-use Rattle.std.proofs.lemmas.Grind.{common_steps}
 use Rattle.core_rules.specs.Work.{Core}
 use Rattle.core_rules.specs.Runs.{IsDirty}
-use Rattle.reset_core.proofs.Settling.{quiet_from}
+use Rattle.reset_core.proofs.Settling.{quiet_from, all_worked_off}
 use Rattle.reset_core.proofs.replica.Core.sweep_all.Goals as goal
 
 pub returns-in_default-clause-works : goal.returns-in_default-clause-works
@@ -13,5 +12,6 @@ returns-in_default-clause-works c =
       quiet = quiet_from c.args.self.now c.requires.none_out c.requires.no_hints none;
     }
 
-pub work_all_off-requires-clause-enough : goal.work_all_off-requires-clause-enough
-work_all_off-requires-clause-enough c = grind (arith, common_steps)
+pub returns-clause-works : goal.returns-clause-works
+returns-clause-works c =
+    all_worked_off _ _ _ _ _ c.sweep_within.result c.sweep_within.ensures.works c.sweep_within.ensures.few (omega arith)

@@ -176,7 +176,7 @@ told c =
     (subst (λ rows. to c.tiling-tiling.result c.mask-mask.result.now generation rows) (cleaned c)
     c.tell.ensures.hints)))
 
-step : (c : After-tell) → IsOneWorkedOff (before c) (core_of (worked_parts (parts c) (reached c)))
+step : (c : After-tell) → IsOneWorkedOff (before c) c.args.tile (core_of (worked_parts (parts c) (reached c)))
     × IsSound (core_of (worked_parts (parts c) (reached c)))
 step c =
     one_step c.edges_are_open.ensures (before c) c.args.tile c.self.invariant.sound (is_next c)
@@ -267,7 +267,7 @@ invariant_of-self c =
 pub returns-clause-worked : goal.returns-clause-worked
 returns-clause-worked c =
     let final = core_of (worked_parts (parts c) (reached c)) in
-    (subst (λ core. IsOneWorkedOff core final) c.self.view_is (step c).0, ap tiling c.self.view_is)
+    (subst (λ core. IsOneWorkedOff core c.args.tile final) c.self.view_is (step c).0, ap tiling c.self.view_is)
 
 pub returns-clause-enough : goal.returns-clause-enough
 returns-clause-enough c = c.tell.ensures.enough
