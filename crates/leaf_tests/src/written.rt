@@ -88,7 +88,7 @@ fn random_stroke(alloc: Global, seed: &mut u64) -> Option<Stroke> {
 fn random_state(alloc: Global, seed: &mut u64) -> Option<State> {
     let mut state = State::empty(alloc).ok()?;
     for _ in 0..draw(seed, 12) {
-        let tag = Tag(u128::from(draw(seed, 1_000)) << 100);
+        let tag = Tag(u128::from(draw(seed, 1_000)) * 1_000_000_007);
         let stroke = random_stroke(alloc, seed)?;
         if !state.has_stroke(tag) {
             state.insert(tag, stroke).ok()?;
@@ -100,27 +100,39 @@ fn random_state(alloc: Global, seed: &mut u64) -> Option<State> {
     Some(state)
 }
 
-// Whether what the live lines of a state spell has its live strokes, and no tombstone.
-fn is_read_back(alloc: Global, state: &State) -> bool {
-    let Ok(text) = live_lines(alloc, state) else {
-        return false;
-    };
-    let Ok(deltas) = parse(alloc, &text) else {
-        return false;
-    };
-    let Some(read) = join_of(alloc, &deltas) else {
-        return false;
-    };
-    for (tag, stroke) in state.live() {
-        let is_there = match read.stroke(*tag) {
-            Some(other) => other.is_same(stroke),
+// Whether each live stroke of the first state is one of the second.
+fn lives_in(first: &State, second: &State) -> bool {
+    for (tag, stroke) in first.live() {
+        let is_there = match second.stroke(*tag) {
+            Some(other) => other.is_same(stroke) && second.is_live(*tag),
             None => false,
         };
         if !is_there {
             return false;
         }
     }
-    read.strokes().len() == state.live().count() && read.tombstones().len() == 0
+    true
+}
+
+// The join of what the live lines of a state spell.
+fn read_back(alloc: Global, state: &State) -> Option<State> {
+    match live_lines(alloc, state) {
+        Ok(text) => match parse(alloc, &text) {
+            Ok(deltas) => join_of(alloc, &deltas),
+            Err(_) => None,
+        },
+        Err(_) => None,
+    }
+}
+
+// Whether that has the live strokes of the state, and no tombstone.
+fn is_read_back(alloc: Global, state: &State) -> bool {
+    match read_back(alloc, state) {
+        Some(read) => {
+            lives_in(state, &read) && lives_in(&read, state) && read.tombstones().len() == 0
+        }
+        None => false,
+    }
 }
 
 #[test]
