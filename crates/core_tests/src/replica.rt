@@ -3,4 +3,5 @@
 mod any_order;
 mod cases;
 mod refusals;
+mod slices;
 mod stage;
