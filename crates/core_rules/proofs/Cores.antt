@@ -37,7 +37,8 @@ field_kept core t work f within same u = elim (cases_eq u t) [
 ]
 
 -- a tile with a pixel is one of the core's
-pub tile_of_pixel_is_tile : (core : Core) (t : ℕ) (p : Pixel) → IsShaped core → IsInTile (tiling core) t p → IsTile core t
+pub tile_of_pixel_is_tile : (core : Core) (t : ℕ) (p : Pixel) → IsShaped core → IsInTile (tiling core) t p
+    → IsTile core t
 tile_of_pixel_is_tile core t p shape in_tile =
     let in_one = (each_pixel_in_one_tile (tiling core) p shape.tiled in_tile.inside).0 in
     let count = shape.tiles in

@@ -138,7 +138,8 @@ module _ (before : Core) (sound : IsSound before) (t i : ℕ) (hint : Hint) (the
         (record (work_at (without_hint before t i) home) { dirty = true }) f (home_is_tile valid)
         (same (work_at (without_hint before t i) home)) u
 
-    pub home_dirty : IsTrue (work_at (raised (without_hint before t i) hint) (tile_of (tiling before) hint.to_pixel)).dirty
+    pub home_dirty : IsTrue
+        (work_at (raised (without_hint before t i) hint) (tile_of (tiling before) hint.to_pixel)).dirty
     home_dirty =
         let home = tile_of (tiling before) hint.to_pixel in
         let work = record (work_at (without_hint before t i) home) { dirty = true } in

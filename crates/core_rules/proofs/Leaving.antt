@@ -1,5 +1,6 @@
 -- What events leave as it was at a tile that they do not take.
-use Rattle.std.proofs.Common.{◌≡◌, ◌≢◌, ℕ, zero, suc, ◌+◌, ◌%◌, ◌^◌, ◌<◌, true, false, List, [], ◌∷◌, ◌++◌, length, get_or, refl, sym, ◌∙◌, ap}
+use Rattle.std.proofs.Common.{◌≡◌, ◌≢◌, ℕ, zero, suc, ◌+◌, ◌%◌, ◌^◌, ◌<◌, true, false, List, [], ◌∷◌, ◌++◌, length}
+use Rattle.std.proofs.Common.{get_or, refl, sym, ◌∙◌, ap}
 use Rattle.std.proofs.Common.{subst, arith, inl, inr, IsTrue}
 use Rattle.std.specs.Prelude.{Contains, Option, Some, None, remove, option_to_list}
 use Rattle.std.proofs.lemmas.Bool.{cases_lt, cases_eq}
@@ -33,11 +34,12 @@ use Rattle.core_rules.proofs.Handing.{hint_of_tile, home_is_tile, home_dirty, el
 use Rattle.core_rules.proofs.InPlaceSweeps.{work_goes_on}
 use Rattle.core_rules.proofs.Ordered.{in_front_or_rest, in_front, none_there}
 use Rattle.core_rules.proofs.Removals.{taken_was_there}
-use Rattle.core_rules.proofs.Running.{event_keeps_sound, run_keeps_sound, worked_is_run, settling_is_run, cut_short_is_run}
+use Rattle.core_rules.proofs.Running.{event_keeps_sound, run_keeps_sound, worked_is_run, settling_is_run}
+use Rattle.core_rules.proofs.Running.{cut_short_is_run}
 
 -- ---- what is left at a tile
 
--- the second core has as many tiles; a tile that was dirty is still; of one of which no job was out none is, and where it
+-- the second core has as many tiles; the tile is dirty where it was; and where no job of it was out, none is, and if it
 -- is not dirty, it shows what it showed
 record Leaves (before after : Core) (t : ℕ) : Type 0 where
   count : length after.tiles ≡ length before.tiles
@@ -257,8 +259,10 @@ run_leaves edges_open before after ((event, answer) ∷ log) t sound is_tile (ne
     let entry : List Entry = (event, answer) ∷ [] in
     let first = event_leaves before next event answer t sound is_tile happens
     (λ taken. untaken (taken_first entry log t taken)) in
-    let rest = run_leaves edges_open next after log t (event_keeps_sound edges_open before next event answer sound happens)
-    (let count = first.count in omega (arith, is_tile, count)) run (λ taken. untaken (taken_second entry log t taken)) in
+    let next_sound = event_keeps_sound edges_open before next event answer sound happens in
+    let count = first.count in
+    let rest = run_leaves edges_open next after log t next_sound (omega (arith, is_tile, count)) run
+    (λ taken. untaken (taken_second entry log t taken)) in
     leaves_on before next after t first rest
 
 pub run_shows : EdgesAreOpen → (before after : Core) (log : List Entry) → IsSound before → IsRun before log after

@@ -1,5 +1,6 @@
 -- Bytes above a bound, as those of digits, tags and words are.
-use Rattle.std.proofs.Common.{◌≡◌, ℕ, zero, suc, ◌<◌, ◌≤◌, Bool, true, false, eqb, cond, List, [], ◌∷◌, ◌++◌, length, All}
+use Rattle.std.proofs.Common.{◌≡◌, ℕ, zero, suc, ◌<◌, ◌≤◌, Bool, true, false, eqb, cond}
+use Rattle.std.proofs.Common.{List, [], ◌∷◌, ◌++◌, length, All}
 use Rattle.std.proofs.Common.{get_or, refl, arith, decimal}
 use Rattle.std.specs.List.{AllByRecursion, list_all}
 use Rattle.std.specs.Char.{is_ascii_digit}

@@ -6,7 +6,8 @@ use Rattle.std.proofs.lemmas.Bool.Decides.{nat_tests}
 use Rattle.std.proofs.lemmas.Fmt.{decimal_nonempty}
 use Rattle.stroke_core.specs.declared.run.Run.{Run}
 use Rattle.stroke_core.specs.Seed.{Shape, Runs, Disc, IsCanonicalShape}
-use Rattle.edit_lang.specs.Shapes.{plus, comma, dash, colon, run_between, run_of, each_run, runs_of, disc_round, disc_of}
+use Rattle.edit_lang.specs.Shapes.{plus, comma, dash, colon, run_between, run_of, each_run, runs_of}
+use Rattle.edit_lang.specs.Shapes.{disc_round, disc_of}
 use Rattle.edit_lang.specs.Writing.{run_text, shape_text, HasCoordinates, ShapeHasCoordinates}
 use Rattle.edit_lang.proofs.Bytes.{Above, above_append, above_less, none_pass, decimal_above, decimal_apart}
 use Rattle.edit_lang.proofs.WrittenWords.{coordinate_read, cut_read, split_joined, joined_above, IsWord}

@@ -400,7 +400,8 @@ cut_before_sweeps before cleared handed after clears (hints, hands, none_taken) 
     } in (
       tickets ++ hints,
       subst (IsCutShort before (tickets ++ hints)) (sym same) cut,
-      taken_append tickets hints ∙ ap (λ (ts : List ℕ). ts ++ tiles_taken hints) (none_taken_abandoned (tickets_out 0 before.tiles))
+      taken_append tickets hints
+          ∙ ap (λ (ts : List ℕ). ts ++ tiles_taken hints) (none_taken_abandoned (tickets_out 0 before.tiles))
           ∙ none_taken,
     )
 
@@ -440,8 +441,8 @@ some_work_before before cleared handed clears (hints, hands, none_taken) (t, dir
     let e : true ≡ false = sym was.1 ∙ (quiet t was.0).clean in
     absurd cc
 
--- jobs that are abandoned, hints that are handed over and tiles that are swept are settling; it takes the tiles that are
--- swept
+-- jobs that are abandoned, hints that are handed over and tiles that are swept are settling; it takes the tiles that
+-- are swept
 pub settling_by : (before cleared handed after : Core) (abandons : ℕ)
     → IsRun before (abandoned (tickets_out 0 before.tiles)) cleared → abandons ≡ length (tickets_out 0 before.tiles)
     → ((log : List Entry) × IsWorkedOff cleared log handed × (tiles_taken log ≡ [])) → (sweeps : List Entry)
@@ -480,7 +481,8 @@ settled_by before cleared handed after jobs abandons clears count hints (sweeps,
 
 -- where so many jobs may be taken as never are, no work is left
 pub all_worked_off : {E : Type 0} (limit : ℕ) (handed after : Core) (old new : List Bool) (result : Result ℕ E)
-    → IfOk result (AreWorkedOffWithin limit handed old after new) → IfOk result (λ jobs. jobs + 1 < 18446744073709551616)
+    → IfOk result (AreWorkedOffWithin limit handed old after new)
+    → IfOk result (λ jobs. jobs + 1 < 18446744073709551616)
     → 18446744073709551615 ≤ limit → IfOk result (λ jobs. IsAllWorkedOff handed jobs after)
 all_worked_off limit handed after old new (Ok jobs) within few unlimited = record {
   works = (within.off.log, within.off.works, within.off.jobs_are);
@@ -494,7 +496,8 @@ pub slice_by : SettlingSoFarIsWithinWork → OneJobOutATile → (before cleared 
     → IsRun before (abandoned (tickets_out 0 before.tiles)) cleared → abandons ≡ length (tickets_out 0 before.tiles)
     → ((log : List Entry) × IsWorkedOff cleared log handed × (tiles_taken log ≡ []))
     → AreWorkedOffWithin limit handed old after new jobs → IsTrue is_quiet ↔ IsQuiet after
-    → IsSlice before old limit (record { count = record { jobs = jobs; abandons = abandons }; is_quiet = is_quiet }) after new
+    → IsSlice before old limit
+    (record { count = record { jobs = jobs; abandons = abandons }; is_quiet = is_quiet }) after new
 slice_by law one_a_tile before cleared handed after old new limit jobs abandons is_quiet sound clears count hints within
     quiet =
     let off = within.off in

@@ -61,8 +61,8 @@ pub record HasOnlySweeps (core : Core) : Type 0 where
   pub none_out : NoneOut core
   pub no_hints : (u : ℕ) → HasHints core u → ⊥
 
--- the tile is worked off: it was swept and its hints were handed over, no job is out, no hint waits, and less work can be
--- left
+-- the tile is worked off: it was swept and its hints were handed over, no job is out, no hint waits, and less work can
+-- be left
 pub record IsOneWorkedOff (before : Core) (t : ℕ) (after : Core) : Type 0 where
   pub log : List Entry
   pub works : IsWorkedOff before log after

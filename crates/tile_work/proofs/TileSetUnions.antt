@@ -176,5 +176,8 @@ HasGained-one old now tiles t within gained =
 pub HasGained-none : (old : List Bool) → HasGained old (Contains []) old
 HasGained-none old = record {
   count = refl;
-  each = λ t. (λ has. inl has, λ has. elim has [ inl was ↦ was | inr (k, within, there) ↦ absurd (omega (arith, within)) ]);
+  each = λ t. (
+    λ has. inl has,
+    λ has. elim has [ inl was ↦ was | inr (k, within, there) ↦ absurd (omega (arith, within)) ],
+  );
 }

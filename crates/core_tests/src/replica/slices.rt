@@ -8,8 +8,8 @@ use std::test::Fail;
 use stroke_core::{Stroke, Tag};
 use stroke_lattice::State;
 
-// A row of fours of sixteen tiles of side 8, with a stroke at its left end. Each job lights a tile, and its hint the first
-// pixel of the next one, which is dirty then.
+// A row of fours of sixteen tiles of side 8, with a stroke at its left end. Each job lights a tile, and its hint the
+// first pixel of the next one, which is dirty then.
 fn opened(alloc: Global) -> Result<Core, Fail> {
     let row = Mask {
         width: 128,
@@ -83,8 +83,8 @@ fn slices_sweep_what_settling_sweeps(rt: HostRuntime) -> Result<(), Fail> {
     Ok(())
 }
 
-// Whether a slice of no jobs does nothing, dirty tiles come into a set beside one that is in it, and so do the tiles that
-// are swept, also where a job is abandoned first; and whether a core that is quiet stays so.
+// Whether a slice of no jobs does nothing, dirty tiles come into a set beside one that is in it, and so do the tiles
+// that are swept, also where a job is abandoned first; and whether a core that is quiet stays so.
 fn keeps_what_is_in_the_set(alloc: Global) -> Result<bool, Fail> {
     let mut core = opened(alloc)?;
     let mut set = TileSet::empty(alloc, core.tiles())?;

@@ -65,8 +65,8 @@ impl Core {
         Ok(Count { jobs, abandons })
     }
 
-    /// Works like [`settle`](Core::settle), but sweeps no more than `jobs` tiles, puts each tile that it sweeps into the
-    /// set, and says whether no work is left. Slice after slice until then it does what `settle` does at once.
+    /// Works like [`settle`](Core::settle), but sweeps no more than `jobs` tiles, puts each tile that it sweeps into
+    /// the set, and says whether no work is left. Slice after slice until then it does what `settle` does at once.
     ///
     /// A tile that is neither in the set nor dirty afterwards shows what it showed. A tile that is dirty and not in the
     /// set can have pixels that hints raised; it is swept, and put into the set, by a later slice.
@@ -182,8 +182,8 @@ impl Core {
         self.sweep_within(alloc, &mut swept, u64::MAX)
     }
 
-    // Sweeps dirty tiles until none is left or so many were swept, puts each into the set, and says how often. Where none
-    // is dirty, it takes no memory.
+    // Sweeps dirty tiles until none is left or so many were swept, puts each into the set, and says how often. Where
+    // none is dirty, it takes no memory.
     //
     // Errors: out of memory, where a tile is dirty and may be swept, and core and set are as they were.
     fn sweep_within(

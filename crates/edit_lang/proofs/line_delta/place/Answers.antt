@@ -6,7 +6,8 @@ use Rattle.edit_lang.proofs.line_delta.place.Goals as goal
 
 pub returns-then-has_stroke-clause-join : goal.returns-then-has_stroke-clause-join
 returns-then-has_stroke-clause-join c =
-    join_with_held c.args.state.now c.args.tag c.args.stroke.now (c.has_stroke.ensures.0 c.if-has_stroke.true) c.requires
+    join_with_held c.args.state.now c.args.tag c.args.stroke.now (c.has_stroke.ensures.0 c.if-has_stroke.true)
+    c.requires
 
 pub returns-clause-join : goal.returns-clause-join
 returns-clause-join c =

@@ -34,8 +34,8 @@ returns-clause-settled c =
     let worked = c.in_ok-jobs in
     let settled =
     settled_by c.args.self.now cleared.new.self c.hand_all.new.self c.sweep_all.new.self worked.jobs cleared.result
-    cleared.ensures.clears cleared.ensures.count (handed.log, handed.works, handed.none_taken) worked.ensures.works.works
-    worked.ensures.works.quiet in
+    cleared.ensures.clears cleared.ensures.count (handed.log, handed.works, handed.none_taken)
+    worked.ensures.works.works worked.ensures.works.quiet in
     let within =
     settled_within_work c.settling_is_within_work.ensures c.args.self.now c.sweep_all.new.self worked.jobs
     cleared.result c.soundness.ensures settled in

@@ -20,7 +20,8 @@ sweep_within-requires-clause-count c =
 
 -- ---- where memory was wanting
 
-cut_short : (c : goal.After-from_residual) → IsSliceCutShort c.args.self.now c.args.swept.now c.sweep_within.new.self c.sweep_within.new.swept
+cut_short : (c : goal.After-from_residual)
+    → IsSliceCutShort c.args.self.now c.args.swept.now c.sweep_within.new.self c.sweep_within.new.swept
 cut_short c =
     let cleared = c.abandon_all-abandons in
     let handed = c.hand_all.ensures.handed in

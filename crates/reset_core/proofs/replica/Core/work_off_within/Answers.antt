@@ -44,7 +44,9 @@ loop-jobs-preserved c =
     let tiles = c.loop-jobs.invariant.0.count in
     let gained = c.loop-jobs.invariant.0.swept.count in
     let count = c.requires.count in (
-      subst (λ (s : List Bool). AreWorkedOff c.args.self.now c.args.swept.now c.work_off.new.self s (c.loop-jobs.jobs + 1))
+      subst
+          (λ (s : List Bool). AreWorkedOff c.args.self.now c.args.swept.now c.work_off.new.self s
+          (c.loop-jobs.jobs + 1))
           (sym c.insert.ensures)
           (one_more_swept c.args.self.now c.args.swept.now c.loop-jobs.self c.loop-jobs.swept c.loop-jobs.jobs
           c.in-Some.tile c.work_off.new.self c.loop-jobs.invariant.0 c.work_off.ensures.worked.0
