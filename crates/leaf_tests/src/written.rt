@@ -1,5 +1,7 @@
 //! Strokes and withdrawals as lines of the edit language: worked lines, and states that are read back.
 
+ghost use Rattle.std.specs.Prelude.{◌<◌};
+
 use crate::states::{join_of, state_of};
 use edit_lang::{live_lines, parse, push_placement, push_withdrawal};
 use std::alloc::Global;
