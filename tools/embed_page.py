@@ -1,0 +1,67 @@
+#!/usr/bin/env python3
+"""Write crates/paint_html/src/page.rt from page/page.html: there is no `include_str!`.
+
+    python3 tools/embed_page.py            writes it
+    python3 tools/embed_page.py --check    ends with status 1 where it is not up to date
+
+Beside the page it writes the page's content security policy, which allows its one script and its one style by their
+SHA-256, and requests to where the page came from.
+"""
+
+import argparse
+import base64
+import hashlib
+import pathlib
+import re
+import sys
+
+TOP = pathlib.Path(__file__).resolve().parent.parent
+SOURCE, TARGET = TOP / "page" / "page.html", TOP / "crates" / "paint_html" / "src" / "page.rt"
+
+MODULE = '''//! The page and its policy, written by tools/embed_page.py from page/page.html.
+
+/// The page: HTML with its style and its script.
+pub const PAGE: &str = r##"{page}"##;
+
+/// The value of its `Content-Security-Policy` (W3C CSP Level 3): its one style and its one script by their SHA-256, and
+/// requests to its own origin alone.
+pub const POLICY: &str = "{policy}";
+'''
+
+
+def hash_of(page, name):
+    """The source expression that allows the one element of this name."""
+    texts = re.findall(f"<{name}>(.*?)</{name}>", page, re.DOTALL)
+    if len(texts) != 1:
+        sys.exit(f"embed_page.py: {SOURCE} has {len(texts)} times <{name}>, not once")
+    return "'sha256-" + base64.b64encode(hashlib.sha256(texts[0].encode()).digest()).decode() + "'"
+
+
+def policy_of(page):
+    """The content security policy of a page."""
+    return "; ".join(["default-src 'none'", f"script-src {hash_of(page, 'script')}",
+                      f"style-src {hash_of(page, 'style')}", "connect-src 'self'", "img-src data:",
+                      "frame-ancestors 'none'", "base-uri 'none'", "form-action 'none'"])
+
+
+def module_of(page):
+    """The module that holds a page as a raw string."""
+    if '"##' in page:
+        sys.exit(f"embed_page.py: {SOURCE} has a text that ends a raw string")
+    return MODULE.format(page=page, policy=policy_of(page).replace("; ", "; \\\n     "))
+
+
+def main():
+    """Write the module, or check it."""
+    parser = argparse.ArgumentParser(description="Write the page's module from the page.")
+    parser.add_argument("--check", action="store_true", help="write nothing; status 1 where the module is another")
+    words = parser.parse_args()
+    module = module_of(SOURCE.read_text(encoding="utf-8"))
+    if not words.check:
+        TARGET.write_text(module, encoding="utf-8")
+    elif not TARGET.is_file() or TARGET.read_text(encoding="utf-8") != module:
+        sys.exit(f"embed_page.py: {TARGET} is not up to date; run it without --check")
+
+
+if __name__ == "__main__":
+    main()

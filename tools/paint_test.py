@@ -1,0 +1,582 @@
+#!/usr/bin/env python3
+"""Test the page of `seedpaint paint` in Chromium, with real mouse and key events.
+
+    python3 tools/paint_test.py crates/seedpaint/out/seedpaint paint
+
+The words are the command that serves. It is started with a mask, `--state FILE` and `--port N` behind them, and its
+first line is the address. What the page shows is compared with the plain reconstruction of bench/fuzz, or with the
+program's own view where `--view` names it. The first check that fails ends the script with status 1. With
+`--pictures FOLDER` it writes the pictures of the README.
+
+It needs Python 3 and Debian's package chromium.
+"""
+
+import argparse
+import base64
+import pathlib
+import shutil
+import signal
+import socket
+import subprocess
+import sys
+import tempfile
+import time
+import urllib.request
+
+from browser import ALT, CONTROL, SHIFT, Browser, Fault, wait_for
+
+TOP = pathlib.Path(__file__).resolve().parent.parent
+sys.path.insert(0, str(TOP / "bench" / "fuzz"))
+import readers  # noqa: E402
+import simulator  # noqa: E402
+
+MOST_SECONDS_TO_THE_OTHER = 0.5
+MINE = [[(51, 54), (60, 44)], [(84, 68), (98, 74)], [(120, 140), (127, 136)], [(200, 30)], [(206, 188)],
+        [(40, 162), (58, 168), (66, 170)]]  # the strokes of the pictures, each by its pixels
+THEIRS = [[(285, 138), (287, 148)], [(297, 42)], [(264, 222), (276, 234)]]
+COLLEAGUE = [b"disc 7e57ab1e-0000-4000-8000-00000000000%d %d %d:%d+2\n" % (k, level, y, x)
+             for k, (level, y, x) in enumerate([(200, 30, 40), (255, 188, 206), (255, 142, 285)])]
+
+
+def check(holds, name):
+    """Says that a check passed, or ends."""
+    if not holds:
+        raise Fault(f"failed: {name}")
+    print(f"ok: {name}", flush=True)
+
+
+# ---- The program ----
+
+class Program:
+    """The program that serves, with its mask and its state file."""
+
+    def __init__(self, words, folder):
+        self.words, self.state, self.port = words, folder / "strokes.spd", free_port()
+        self.process, self.address = None, None
+
+    def start(self, mask):
+        """Starts it; the address is its first line."""
+        command = [*self.words, str(mask), "--state", str(self.state), "--port", str(self.port)]
+        self.process = subprocess.Popen(command, stdout=subprocess.PIPE, text=True)
+        self.address = self.process.stdout.readline().strip()
+        if not self.address:
+            raise Fault(f"{' '.join(command)} printed no address")
+
+    def stop(self):
+        """Ends it as a terminal does."""
+        if self.process and self.process.poll() is None:
+            self.process.send_signal(signal.SIGINT)
+            try:
+                self.process.wait(5)
+            except subprocess.TimeoutExpired:
+                self.process.kill()
+                self.process.wait()
+
+    def get(self, path):
+        """What it answers to GET."""
+        with urllib.request.urlopen(self.address + path) as answer:
+            return answer.read()
+
+
+def free_port():
+    """A port that nobody uses now."""
+    with socket.socket() as probe:
+        probe.bind(("127.0.0.1", 0))
+        return probe.getsockname()[1]
+
+
+# ---- The page ----
+
+class Page:
+    """A page in a tab, by the places of the mask's pixels."""
+
+    def __init__(self, tab):
+        self.tab = tab
+        self.await_open()
+
+    def await_open(self):
+        """Waits until the picture is there."""
+        self.tab.wait("board.isOpen && document.title.includes('×')")
+
+    def at(self, x, y):
+        """Where a pixel of the mask lies in the window."""
+        return self.tab.run(f"""(() => {{ const box = overlay.getBoundingClientRect();
+            return [Math.round(box.left + sight.left + ({x} + .5) * sight.zoom - .5),
+                    Math.round(box.top + sight.top + ({y} + .5) * sight.zoom - .5)]; }})()""")
+
+    def drag(self, *pixels, **more):
+        """Presses the button at the first pixel and lets it go at the last."""
+        self.tab.drag([self.at(*pixel) for pixel in pixels], **more)
+
+    def strokes(self):
+        """The live strokes that the page knows, as lines."""
+        return self.tab.run("[...board.strokes.values()].map(({ kind, tag, level, shape }) =>"
+                            " `${kind} ${tag} ${level} ${shape}`)")
+
+    def painted(self, number):
+        """A stroke that the page knows, and its pixels."""
+        (stroke,) = readers.read_edits(self.strokes()[number].encode())[0].strokes.values()
+        size = self.tab.run("[board.width, board.height]")
+        return stroke, set(simulator.pixels_of(stroke.shape, *size))
+
+    def settle(self, count, seconds=20):
+        """Waits until all edits are answered and grown, and so many strokes are there."""
+        self.tab.wait(f"outbox.length === 0 && board.isQuiet && board.strokes.size === {count}", seconds)
+
+    def shades(self):
+        """The red parts of the picture on the canvas, row by row, where the zoom is 100 % and all is in sight."""
+        text = self.tab.run("""new Promise(done => requestAnimationFrame(() => requestAnimationFrame(() => {
+            const pixels = pictureContext.getImageData(screenX(0), screenY(0), board.width, board.height).data;
+            let text = "";
+            for (let k = 0; k < pixels.length; k += 4) text += String.fromCharCode(pixels[k]);
+            done(btoa(text)); })))""")
+        return list(base64.b64decode(text))
+
+    def result_shades(self):
+        """The shades of the result alone, without strokes, pixel for pixel."""
+        for key in ("h", "Tab", "0", "1"):
+            self.tab.key(key)
+        shades = self.shades()
+        self.tab.key("Tab", SHIFT)
+        self.tab.key("h")
+        self.tab.key("0")
+        return shades
+
+    def colour_at(self, x, y):
+        """The colour of a pixel of the mask on the canvas."""
+        return self.tab.run(f"""new Promise(done => requestAnimationFrame(() => requestAnimationFrame(() => {{
+            const data = pictureContext.getImageData(screenX({x}), screenY({y}), 1, 1).data;
+            done([...data]); }})))""")
+
+    def under_pointer(self):
+        """What the foot says of the pixel under the pointer."""
+        return self.tab.text("pixel").split(" · mask")[0]
+
+
+# ---- What is expected ----
+
+def brushed(path, radius, width):
+    """The pixels of discs at all pixels of the lines between the pixels of a path, away from the picture's border."""
+    centres = set()
+    for (x0, y0), (x1, y1) in zip(path, path[1:]):
+        steps = max(abs(x1 - x0), abs(y1 - y0))
+        centres |= {((2 * (x0 * steps + (x1 - x0) * k) + steps) // (2 * steps),
+                     (2 * (y0 * steps + (y1 - y0) * k) + steps) // (2 * steps)) for k in range(steps + 1)}
+    around = range(-radius, radius + 1)
+    return {(y + down) * width + x + across for x, y in centres for down in around for across in around
+            if across * across + down * down <= radius * radius}
+
+
+def reference(program, mask, view):
+    """The raw file that the strokes of the program grow into, by the plain reference or by the program's view."""
+    data = program.get("strokes") + b"image\n" + mask.read_bytes()
+    if view:
+        return subprocess.run([view, "view"], input=data, stdout=subprocess.PIPE, check=True).stdout
+    return simulator.view(data, 4).output
+
+
+def shades_of(raw, mask):
+    """The grey shades in which the samples of a raw file are shown: with 16 bits the mask's highest is white."""
+    image = readers.read_image(raw)
+    white = 255 if image.maxval == 255 else max(readers.read_image(mask.read_bytes()).samples)
+    return [sample * 255 // white for sample in image.samples]
+
+
+def check_shown(page, program, mask, view, name):
+    """The canvas shows the reference, and `image` is it."""
+    raw = reference(program, mask, view)
+    check(program.get("image") == raw, f"{name}: `image` is the reference")
+    check(page.result_shades() == shades_of(raw, mask), f"{name}: the canvas's pixels are those of the reference")
+    check(sorted(page.strokes()) == sorted(program.get("strokes").decode().splitlines()), f"{name}: the strokes, too")
+
+
+# ---- The masks ----
+
+def write_masks(folder):
+    """The cells of the examples with 8 and with 16 bits, and grains as another mask."""
+    cells = readers.read_image(readers.split_input((TOP / "examples" / "cells.txt").read_bytes())[1])
+    deep = cells._replace(maxval=65_535, samples=[sample * 16 + 15 for sample in cells.samples])
+    grains = subprocess.run([sys.executable, str(TOP / "examples" / "grains.py")], stdout=subprocess.PIPE, check=True)
+    masks = {"cells": simulator.raw_file(cells), "deep": simulator.raw_file(deep),
+             "grains": simulator.raw_file(readers.read_image(grains.stdout))}
+    for name, data in masks.items():
+        (folder / f"{name}.pgm").write_bytes(data)
+    return {name: folder / f"{name}.pgm" for name in masks}
+
+
+def write_state(path, mask):
+    """A colleague's state file for a mask."""
+    raw = mask.read_bytes()
+    state = simulator.EMPTY
+    for delta in readers.read_edits(b"".join(COLLEAGUE)):
+        state = simulator.join(state, delta)
+    path.write_bytes(simulator.state_file(4, simulator.fingerprint_of(readers.read_image(raw)), state))
+
+
+# ---- The checks, in the order of a sitting ----
+
+class Sitting:
+    """Two people with a browser each, one program, and what a check of them needs."""
+
+    def __init__(self, words, folder, browsers):
+        self.words, self.folder, self.masks = words, folder, write_masks(folder)
+        self.program = Program(words.command, folder)
+        self.program.start(self.masks["cells"])
+        self.first, self.second = (Page(browser.open(self.program.address)) for browser in browsers)
+
+    def shown(self, name):
+        """The first page shows the reference."""
+        check_shown(self.first, self.program, self.masks["cells"], self.words.view, name)
+
+    def open_anew(self, mask, state):
+        """Starts the program over another mask or state file, and opens its page in both tabs."""
+        self.program.stop()
+        self.program.state = self.folder / state
+        self.program.start(self.masks[mask])
+        for page in (self.first, self.second):
+            page.tab.run("document.title = ''")
+            page.tab.go(self.program.address)
+            page.await_open()
+
+    def both(self, count):
+        """Both pages have so many strokes, all of them grown."""
+        self.first.settle(count)
+        self.second.settle(count)
+
+
+def paint_run_and_disc(sitting):
+    """A stroke and a disc, which the other page shows within half a second."""
+    first, second = sitting.first, sitting.second
+    second.tab.run("""window.seen = new Promise(done => { const look = () => {
+        if (board.strokes.size === 1 && !asked.picture) done(performance.timeOrigin + performance.now());
+        else requestAnimationFrame(look); }; look(); }), 0""")
+    first.drag((83, 66), (91, 71), (101, 77))
+    first.settle(1)
+    seen = second.tab.run("seen") - first.tab.run("performance.timeOrigin + timings[0].answered")
+    check(seen < 1000 * MOST_SECONDS_TO_THE_OTHER, f"the other page draws the stroke, {seen:.0f} ms after its answer")
+    image, (stroke, pixels) = readers.read_image(sitting.masks["cells"].read_bytes()), first.painted(0)
+    check(isinstance(stroke.shape, tuple) and pixels == brushed([(83, 66), (91, 71), (101, 77)], 6, image.width),
+          "a drag is the runs of the brush along its path")
+    check(stroke.level == max(image.samples[pixel] for pixel in pixels), "its level is the mask's highest under them")
+    first.drag((206, 188))
+    sitting.both(2)
+    kind, tag, _, shape = next(line for line in first.strokes() if "disc" in line).split(" ")
+    check((kind, shape) == ("disc", "188:206+6"), "a click is a disc")
+    check(tag.replace("-", "")[:16] == first.tab.run("localStorage.author"), "its tag begins with the author")
+    sitting.shown("after a stroke and a disc")
+
+
+def undo_and_redo(sitting):
+    """Undo withdraws the disc, redo places it under another tag."""
+    before = sitting.first.strokes()
+    sitting.first.tab.key("z", CONTROL)
+    sitting.both(1)
+    check(sitting.first.strokes() == before[:1], "undo withdraws the last gesture, on both pages")
+    sitting.first.tab.key("Z", CONTROL | SHIFT)
+    sitting.both(2)
+    (_, gone, *shape), (_, tag, *again) = before[1].split(" "), sitting.first.strokes()[1].split(" ")
+    check(again == shape and tag != gone, "redo places it under a new tag")
+
+
+def withdraw_the_others(sitting):
+    """A click withdraws a stroke of the other page; its own undo brings it back."""
+    first, second = sitting.first, sitting.second
+    second.tab.key("]")
+    second.drag((116, 136), (124, 140))
+    sitting.both(3)
+    first.tab.key("x")
+    first.tab.mouse("mouseMoved", *first.at(120, 138))
+    check(first.tab.run("hand.hovered !== null && hand.hovered.colour > 1"), "hovering finds the other's stroke")
+    first.drag((120, 138))
+    first.drag((120, 138))
+    sitting.both(2)
+    check(True, "a click withdraws the other's stroke, on both pages")
+    check(first.tab.run("hand.hovered === null && done.length === 3"), "a second click there takes nothing more")
+    first.tab.key("z", CONTROL)
+    sitting.both(3)
+    check(True, "undo of a withdrawal places it anew")
+    first.tab.key("b")
+    sitting.shown("after a withdrawal")
+
+
+def levels(sitting):
+    """Fixed levels: of a pixel, and the greatest."""
+    page = sitting.first
+    value = page.tab.run("board.mask[136 * board.width + 117]")
+    page.drag((117, 136), modifiers=ALT)
+    check(page.tab.run("brush.level") == value, "Alt+click takes the value of the pixel")
+    page.drag((240, 70))
+    page.settle(4)
+    check(page.strokes()[3].split(" ")[2] == str(value), "a fixed level is used")
+    page.tab.key("m")
+    check(page.tab.run("brush.level") == 255, "M takes the greatest level")
+    page.tab.key("z", CONTROL)
+    page.tab.key("a")
+    sitting.both(3)
+
+
+def long_gesture(sitting):
+    """A gesture of more than 160 runs is several strokes, and comes off with one undo."""
+    page = sitting.first
+    page.drag((300, 2), (310, 254))
+    page.settle(5)
+    check(all(line.split(" ")[3].count(",") < 160 for line in page.strokes()), "runs are cut at 160 a stroke")
+    page.tab.key("z", CONTROL)
+    sitting.both(3)
+    check(True, "they come off with one undo")
+    page.tab.mouse("mousePressed", *page.at(50, 50), "left")
+    page.tab.mouse("mouseMoved", *page.at(60, 60), "left")
+    page.tab.key("Escape")
+    page.tab.mouse("mouseReleased", *page.at(60, 60), "left")
+    time.sleep(0.3)
+    check(page.tab.run("board.strokes.size + outbox.length") == 3, "Escape drops the stroke in hand")
+
+
+def at_the_border(sitting):
+    """What a brush has outside the picture is left out."""
+    page = sitting.first
+    page.drag((3, 100), (-9, 104))
+    page.settle(4)
+    stroke, pixels = page.painted(3)
+    check(pixels and all(run.x0 >= 0 for run in stroke.shape), "a stroke over the border is cut there")
+    page.drag((-2, 60))
+    page.settle(5)
+    stroke, _ = page.painted(4)
+    check(isinstance(stroke.shape, tuple), "a disc whose centre lies outside is runs")
+    page.drag((-40, 60))
+    page.tab.key("z", CONTROL)
+    page.tab.key("z", CONTROL)
+    sitting.both(3)
+    check(page.tab.text("message") == "", "and nothing of it is refused")
+
+
+def strokes_shown(sitting):
+    """Strokes are seen on the canvas, mine and the other's in two colours, and H hides them."""
+    colours = [page.colour_at(206, 188) for page in (sitting.first, sitting.second)]
+    sitting.first.tab.key("h")
+    hidden = sitting.first.colour_at(206, 188)
+    sitting.first.tab.key("h")
+    check(len({tuple(colour) for colour in (*colours, hidden)}) == 3,
+          "a stroke has a colour of its own in each page, and none once H hides it")
+
+
+def join_files(sitting):
+    """A colleague's file is dropped on the page, and one for another mask is refused."""
+    page, folder = sitting.first, sitting.folder
+    write_state(folder / "colleague.spd", sitting.masks["cells"])
+    write_state(folder / "stranger.spd", sitting.masks["grains"])
+    page.tab.drop(*page.at(160, 128), folder / "colleague.spd")
+    sitting.both(6)
+    check("3 strokes came" in page.tab.text("message"), "a dropped state file is joined, on both pages")
+    page.tab.drop(*page.at(160, 128), folder / "stranger.spd")
+    page.tab.wait("element('message').textContent.includes('D1')")
+    check("another picture" in page.tab.text("message"), "a file for another mask is refused in words")
+    sitting.shown("after a join")
+
+
+def save_copy(sitting):
+    """The state file as a download."""
+    page = sitting.first
+    page.tab.download_to(sitting.folder / "downloads")
+    page.tab.click_element("save")
+    saved = sitting.folder / "downloads" / "strokes.spd"
+    wait_for(saved.is_file, "the download")
+    time.sleep(0.2)
+    check(saved.read_bytes() == sitting.program.get("state") == sitting.program.state.read_bytes(),
+          "the download is the state file")
+
+
+def zoom_and_pan(sitting):
+    """The pixel under the pointer stays there."""
+    page = sitting.first
+    point = page.at(123, 87)
+    page.tab.mouse("mouseMoved", *point)
+    for delta in (-120,) * 9 + (120,) * 16 + (-120,) * 5 + (-7, -9, 12, 20, -33):
+        page.tab.wheel(*point, delta)
+        if page.under_pointer() != "x 123 · y 87":
+            raise Fault(f"after a turn by {delta} the pointer is at {page.under_pointer()}")
+    check(True, "zooming keeps the pixel under the pointer")
+    check_seen_pixel(page, point)
+    goal = (point[0] + 151, point[1] - 67)
+    page.tab.key_down(" ")
+    page.tab.drag([point, (point[0] + 40, point[1] + 3), goal])
+    page.tab.key_up(" ")
+    check(page.under_pointer() == "x 123 · y 87", "panning with space takes the pixel along")
+    page.tab.drag([goal, point], button="middle")
+    check(page.under_pointer() == "x 123 · y 87", "so does the middle button")
+    check_zoom_limits(page, point)
+    page.tab.key("0")
+
+
+def check_seen_pixel(page, point):
+    """The canvas has under the pointer the colour of the mask's pixel."""
+    for key in ("h", "Tab", "Tab"):
+        page.tab.key(key)
+    page.tab.run("new Promise(done => requestAnimationFrame(() => requestAnimationFrame(done)))")
+    top = page.tab.run("overlay.getBoundingClientRect().top")
+    seen = page.tab.run(f"pictureContext.getImageData({point[0]}, {point[1] - top}, 1, 1).data[0]")
+    check(seen == page.tab.run("board.mask[87 * board.width + 123]"), "the canvas shows that pixel there")
+    for key in ("Tab", "h"):
+        page.tab.key(key)
+
+
+def check_zoom_limits(page, point):
+    """2 % and 6400 %."""
+    for _ in range(40):
+        page.tab.wheel(*point, -120)
+    check(page.tab.run("sight.zoom") == 64, "zoom ends at 6400 %")
+    for _ in range(40):
+        page.tab.wheel(*point, 120)
+    check(page.tab.run("sight.zoom") == 0.02, "and at 2 %")
+
+
+def reload_page(sitting):
+    """A reload loses nothing, and undo goes on."""
+    page, before = sitting.first, sorted(sitting.first.strokes())
+    page.drag((285, 200), (292, 204))
+    page.settle(7)
+    page.tab.run("document.title = ''")
+    page.tab.call("Page.reload")
+    page.await_open()
+    page.settle(7)
+    check(True, "a reload loses nothing")
+    page.tab.key("z", CONTROL)
+    page.settle(6)
+    check(sorted(page.strokes()) == before, "undo goes on behind it")
+
+
+def restart(sitting):
+    """What is painted while the program is away is sent once it is there again."""
+    page, program = sitting.first, sitting.program
+    address = program.address
+    program.stop()
+    page.drag((60, 200), (66, 203))
+    page.tab.wait("silence.failures > 0")
+    check(page.tab.text("kept") == "1 not kept yet", "an unanswered edit is told")
+    program.start(sitting.masks["cells"])
+    if program.address != address:
+        page.tab.wait("!element('banner').hidden")
+        check("another address" in page.tab.text("banner"), "a restart under another address is told")
+        for each in (page, sitting.second):
+            each.tab.run("document.title = ''")
+            each.tab.go(program.address)
+            each.await_open()
+    sitting.both(7)
+    check(page.tab.text("kept") == "all kept", "a restart loses nothing, and the edit is sent again")
+    sitting.shown("after a restart")
+
+
+def restart_with_another_mask(sitting):
+    """Another mask under the same port is told, and nothing is sent to it."""
+    page, program = sitting.first, sitting.program
+    address = program.address
+    program.stop()
+    page.drag((60, 220), (66, 221))
+    program.state = sitting.folder / "other.spd"
+    program.start(sitting.masks["grains"])
+    page.tab.wait("!element('banner').hidden")
+    told = "another mask" if program.address == address else "another address"
+    check(told in page.tab.text("banner"), "a restart with another mask is told")
+    page.tab.run("document.title = ''")
+    page.tab.go(program.address)
+    page.await_open()
+    page.settle(0)
+    check(program.get("strokes") == b"", "no stroke for the one mask goes to the other")
+
+
+def back_to_the_mask(sitting):
+    """The edit that was not sent to the other mask waits for its own."""
+    sitting.open_anew("cells", "strokes.spd")
+    sitting.first.tab.wheel(*sitting.first.at(100, 100), -120)
+    check(sitting.first.tab.run("sight.zoom") > 3, "the wheel zooms before the pointer has moved, too")
+    sitting.both(8)
+    sitting.shown("an edit that waited for its mask")
+
+
+def deep_mask(sitting):
+    """A mask of 16 bits."""
+    page, program = sitting.first, sitting.program
+    sitting.open_anew("deep", "deep.spd")
+    page.drag((83, 66), (101, 77))
+    page.drag((206, 188))
+    page.settle(2)
+    check(max(int(line.split(" ")[2]) for line in page.strokes()) > 255, "levels of 16 bits")
+    check_shown(page, program, sitting.masks["deep"], sitting.words.view, "16 bits")
+
+
+def take_pictures(sitting):
+    """The pictures of the README: the work of two people, what it grew into, and a stroke about to be withdrawn."""
+    first, second, folder = sitting.first, sitting.second, sitting.words.pictures
+    for page, author in ((first, 16 * "1"), (second, 16 * "2")):
+        page.tab.run(f"localStorage.author = '{author}'")
+    sitting.open_anew("cells", "pictures.spd")
+    for count, line in enumerate(MINE, 1):
+        first.drag(*line)
+        first.settle(count)
+    for count, line in enumerate(THEIRS, 1 + len(MINE)):
+        second.drag(*line)
+        sitting.both(count)
+    first.tab.run("say(''), 0")
+    first.tab.mouse("mouseMoved", *first.at(250, 118))
+    first.tab.screenshot(folder / "paint-page.png")
+    second.tab.key("Tab")
+    second.tab.key("h")
+    second.tab.mouse("mouseMoved", *second.at(140, 195))
+    second.tab.screenshot(folder / "paint-result.png")
+    first.tab.key("x")
+    first.tab.mouse("mouseMoved", *first.at(270, 228))
+    first.tab.screenshot(folder / "paint-withdraw.png")
+    first.tab.key("b")
+
+
+CHECKS = [paint_run_and_disc, undo_and_redo, withdraw_the_others, levels, long_gesture, at_the_border, strokes_shown,
+          join_files, save_copy, zoom_and_pan, reload_page, restart, restart_with_another_mask, back_to_the_mask,
+          deep_mask]
+
+
+def sit(words, folder):
+    """All checks; behind each, neither page has thrown or broken its policy."""
+    with Browser() as one, Browser() as other:
+        sitting = Sitting(words, folder, (one, other))
+        try:
+            for each in CHECKS:
+                each(sitting)
+                faults = sitting.first.tab.faults() + sitting.second.tab.faults()
+                if faults:
+                    raise Fault(f"{each.__name__}: {faults}")
+            check(True, "no exception, and no report of the content security policy")
+            if words.pictures:
+                take_pictures(sitting)
+        finally:
+            if words.look:
+                sitting.first.tab.screenshot(words.look)
+            sitting.program.stop()
+
+
+def read_words():
+    """The words of the command line."""
+    parser = argparse.ArgumentParser(description="Test the page of `seedpaint paint` in Chromium.")
+    parser.add_argument("--view", metavar="PROGRAM", help="compare with `PROGRAM view`, not with the plain reference")
+    parser.add_argument("--pictures", type=pathlib.Path, metavar="FOLDER", help="write the README's pictures there")
+    parser.add_argument("--look", type=pathlib.Path, metavar="FILE", help="write a picture of the end, or of a failure")
+    parser.add_argument("command", nargs=argparse.REMAINDER, help="the words that serve, as `seedpaint paint`")
+    words = parser.parse_args()
+    if not words.command:
+        parser.error("the command that serves is missing")
+    return words
+
+
+def main():
+    """Run the checks in a folder that is thrown away."""
+    words = read_words()
+    folder = pathlib.Path(tempfile.mkdtemp(prefix="paint-test-"))
+    try:
+        sit(words, folder)
+    except Fault as fault:
+        sys.exit(f"paint_test.py: {fault}")
+    finally:
+        shutil.rmtree(folder, ignore_errors=True)
+
+
+if __name__ == "__main__":
+    main()
