@@ -1,11 +1,14 @@
 #!/usr/bin/env python3
-"""Refuse each growth of memory in turn to each call of the program refused_growths, and count what becomes of it.
+"""Refuse each growth of memory in turn to each call of a program made for that, and count what becomes of it.
 
     python3 bench/refused.py crates/refused_growths/out/refused_growths
+    python3 bench/refused.py crates/refused_studios/out/refused_studios
 
 The program has to be built, by `rt run` in its crate, and a C compiler has to be there, for refuse.c. A call is made
-with the growth of number 1 refused, then with that of number 2, and so on, until a run meets none; the program compares
-what is there after a refusal with what has to be. A table in Markdown has a row for each call, with these columns:
+with the growth of number 1 refused, then with that of number 2, and so on, until runs meet none; the program compares
+what is there after a refusal with what has to be. Where threads run, as in the run of a node, two runs may grow in
+another order and not equally often: so it takes ten runs in a row that meet none. A table in Markdown has a row for each
+call, with these columns:
 
     growths                  the runs that met a refusal, one for each growth
     begun without memory     of these, those where it fell into what the call is made on, or into reading its name
@@ -13,7 +16,7 @@ what is there after a refusal with what has to be. A table in Markdown has a row
     answered                 those where it was answered all the same
     wrong                    those that ended in any other way, which are told beneath the table
 
-The script ends with status 1 where a run was wrong, or where the one that met no refusal was not answered.
+The script ends with status 1 where a run was wrong, or where one that met no refusal was not answered.
 """
 
 import argparse
@@ -26,9 +29,11 @@ import tempfile
 
 from run import HERE, say, table
 
-NAMES = HERE.parent / "crates" / "refused_growths" / "stdin"
+CRATES = HERE.parent / "crates"
 # The exit statuses of the program that are right where a growth is refused, in the order of the columns.
 RIGHT = [11, 10, 0]
+# So many runs in a row that meet no refusal are the last ones.
+LAST = 10
 
 
 class Refuser:
@@ -46,21 +51,23 @@ class Refuser:
         ran = subprocess.run([self.program], input=name + "\n", env=environment, capture_output=True, text=True,
                              timeout=60)
         growths = re.search(r"growths: (\d+)", ran.stderr)
-        return ran.returncode, ran.stdout.strip(), not growths or int(growths.group(1)) >= number
+        if not growths and ran.returncode in RIGHT:
+            sys.exit("the program does not take the allocator of refuse.c")
+        return ran.returncode, ran.stdout.strip(), bool(growths) and int(growths.group(1)) >= number
 
     def count(self, name):
-        """Refuse each growth of a call: how many there are, the counts by status, and the runs that were wrong."""
+        """Refuse each growth of a call: the counts by status, and the runs that were wrong."""
         counts, wrong = dict.fromkeys(RIGHT, 0), []
-        number = 1
-        while True:
+        number, unmet = 1, 0
+        while unmet < LAST:
             status, line, met = self.run(name, number)
-            if not met:
-                return number - 1, counts, wrong if status == 0 else wrong + [(0, status, line)]
-            if status in counts:
-                counts[status] += 1
-            else:
+            unmet = 0 if met else unmet + 1
+            if status not in (RIGHT if met else [0]):
                 wrong.append((number, status, line))
+            elif met:
+                counts[status] += 1
             number += 1
+        return counts, wrong
 
 
 def main():
@@ -68,12 +75,14 @@ def main():
     parser.add_argument("program", type=pathlib.Path)
     parser.add_argument("--only", help="the name of one call")
     chosen = parser.parse_args()
-    names = [chosen.only] if chosen.only else NAMES.read_text().splitlines()
+    stored = CRATES / chosen.program.name / "stdin"
+    names = [chosen.only] if chosen.only else stored.read_text().splitlines()
     rows, told = [], []
     with tempfile.TemporaryDirectory() as folder:
         refuser = Refuser(chosen.program.resolve(), folder)
         for name in names:
-            growths, counts, wrong = refuser.count(name)
+            counts, wrong = refuser.count(name)
+            growths = sum(counts.values()) + len(wrong)
             say(f"{name}: {growths} growths, {len(wrong)} wrong")
             rows.append([name, *(str(count) for count in [growths, *counts.values(), len(wrong)])])
             told += [f"{name}, growth {number}: status {status}, {line}" for number, status, line in wrong]
