@@ -1,0 +1,2 @@
+-- The definitions of this crate.
+pub mod Company
