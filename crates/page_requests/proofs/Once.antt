@@ -1,7 +1,10 @@
 -- One answer fits a request.
-use Rattle.std.proofs.Common.{◌≡◌, ℕ, List, [], ◌∷◌, ◌++◌, Option, Some, None, refl, sym, ap, ◌∙◌, ◌⊎◌, inl, inr, cond}
-use Rattle.std.specs.Prelude.{codes, bytes_eq, if◌then◌else◌}
+use Rattle.std.proofs.Common.{◌≡◌, ℕ, List, [], ◌∷◌, ◌++◌, Option, Some, None, Result, Ok, Err, refl, sym, ap, ◌∙◌, subst}
+use Rattle.std.proofs.Common.{◌⊎◌, inl, inr}
+use Rattle.std.specs.Prelude.{codes, bytes_eq, if◌then◌else◌, IfErr}
 use Rattle.std.proofs.lemmas.List.{append_cancel_left}
+use Rattle.std.specs.Str.Parse.{digits_value}
+use Rattle.form_urlencoded.specs.Form.{raw_pairs}
 use Rattle.http.specs.declared.request.Request.{Request}
 use Rattle.http.specs.Request.{head_of}
 use Rattle.http_uri.specs.Uri.{uri_path, uri_query}
@@ -42,7 +45,7 @@ pub one_name : (a b : Resource) → name_of a ≡ name_of b → a ≡ b
 one_name a b same = sym (named_back a) ∙ ap place_of same ∙ named_back b
 
 -- a path has one rest behind the key
-one_rest : (key path a b : List ℕ) → IsBehindKey key path a → IsBehindKey key path b → a ≡ b
+pub one_rest : (key path a b : List ℕ) → IsBehindKey key path a → IsBehindKey key path b → a ≡ b
 one_rest key path a b h k =
     append_cancel_left (codes "/") a b (append_cancel_left key (codes "/" ++ a) (codes "/" ++ b)
     (append_cancel_left (codes "/") (key ++ (codes "/" ++ a)) (key ++ (codes "/" ++ b)) (sym h ∙ k)))
@@ -74,10 +77,53 @@ not_missed key r asked (WrongMethod at) asks h =
 not_missed key r asked WrongQuery asks h =
     h.2.1 asked (record { at = one_place key r h.0 (resource_of asked) h.1 asks.0; by = asks.1.by; with = asks.1.with })
 
+-- what is at a resource that does not take it is not found
+pub not_found : (key : List ℕ) (r : Request (List ℕ)) (place : Resource) (why : Refusal) → IsAt key r place
+    → IsNotTaken place (head_of r).method (uri_query (head_of r).uri) why → IsNotFound key r why
+not_found key r place NotOneHost at h = absurd h
+not_found key r place NotToUs at h = absurd h
+not_found key r place NotFromUs at h = absurd h
+not_found key r place NoKey at h = absurd h
+not_found key r place NoPath at h = absurd h
+not_found key r place (WrongMethod other) at h = (place, at, h)
+not_found key r place WrongQuery at h = (place, at, h)
+
+-- and is refused
+pub refused_there : (port : ℕ) (key : List ℕ) (r : Request (List ℕ)) (place : Resource) (method : List ℕ)
+    (query : Option (List ℕ)) (x : Result Asked Refusal) → MayAsk port r → IsAt key r place
+    → method ≡ (head_of r).method → query ≡ uri_query (head_of r).uri → IfErr x (IsNotTaken place method query)
+    → IfErr x (IsRefused port key r)
+refused_there port key r place method query (Ok found) may at by with h = tt
+refused_there port key r place method query (Err why) may at by with h =
+    inr (
+      may,
+      not_found key r place why at (subst (λ (q : Option (List ℕ)). IsNotTaken place (head_of r).method q why) with
+          (subst (λ (m : List ℕ). IsNotTaken place m query why) by h)),
+    )
+
 pub not_both : (port : ℕ) (key : List ℕ) (r : Request (List ℕ)) (asked : Asked) (why : Refusal)
     → MayAsk port r → AsksFor key r asked → IsRefused port key r why → ⊥
 not_both port key r asked why may asks (inl turned) = not_turned port r why may turned
 not_both port key r asked why may asks (inr missed) = not_missed key r asked why asks missed.1
+
+-- the fields of a query that spells a moment, and their values
+abbrev two_fields : List ℕ → List ℕ → List (List ℕ × List ℕ)
+two_fields run since = (codes "run", run) ∷ (codes "since", since) ∷ []
+
+abbrev first_value : List (List ℕ × List ℕ) → List ℕ
+first_value (field ∷ fields) = field.1
+first_value [] = []
+
+abbrev second_value : List (List ℕ × List ℕ) → List ℕ
+second_value (field ∷ fields) = first_value fields
+second_value [] = []
+
+abbrev moment_at : ℕ → ℕ → Moment
+moment_at run version = record { run = run; version = version }
+
+same_moment : (a b : Moment) → a.run ≡ b.run → a.version ≡ b.version → a ≡ b
+same_moment a b run version =
+    ap (λ (n : ℕ). moment_at n a.version) run ∙ ap (λ (n : ℕ). moment_at b.run n) version
 
 -- a query spells one moment
 one_moment : (query : Option (List ℕ)) (a b : Option Moment) → HasQuery query a → HasQuery query b → a ≡ b
@@ -85,14 +131,14 @@ one_moment query None None h k = refl
 one_moment query None (Some b) h k = absurd (let none = h in let some = k.1 in cc)
 one_moment query (Some a) None h k = absurd (let none = k in let some = h.1 in cc)
 one_moment query (Some a) (Some b) h k =
-    let first = h.1 in
-    let second = k.1 in
-    let form = h.2.form in
-    let other = k.2.form in
-    let run = h.2.run_number.value in
-    let other_run = k.2.run_number.value in
-    let since = h.2.since_number.value in
-    let other_since = k.2.since_number.value in cc
+    let text : h.0 ≡ k.0 = (let first = h.1 in let second = k.1 in cc) in
+    let forms : two_fields h.2.run h.2.since ≡ two_fields k.2.run k.2.since =
+    sym h.2.form ∙ ap raw_pairs text ∙ k.2.form in
+    let run = sym h.2.run_number.value ∙ ap (λ fields. digits_value 10 (first_value fields)) forms ∙
+    k.2.run_number.value in
+    let version = sym h.2.since_number.value ∙ ap (λ fields. digits_value 10 (second_value fields)) forms ∙
+    k.2.since_number.value in
+    ap Some (same_moment a b run version)
 
 -- what is asked, by its resource, its method and its moment
 abbrev asked_by : Resource → List ℕ → Option Moment → Asked
@@ -171,11 +217,11 @@ missed_once key r (WrongMethod at) NoPath h k = absurd (k.1 h.0 h.1)
 missed_once key r (WrongMethod at) (WrongMethod other) h k =
     ap WrongMethod (h.2.0 ∙ one_place key r h.0 k.0 h.1 k.1 ∙ sym k.2.0)
 missed_once key r (WrongMethod at) WrongQuery h k =
-    absurd (h.2.1 (k.2.0.0, one_place key r h.0 k.0 h.1 k.1 ∙ k.2.0.1.0, k.2.0.1.1))
+    absurd (h.2.1 (k.2.0.0, one_place key r h.0 k.0 h.1 k.1 ∙ k.2.0.1, k.2.0.2))
 missed_once key r WrongQuery NoKey h k = absurd (k (has_key key r h.0 h.1))
 missed_once key r WrongQuery NoPath h k = absurd (k.1 h.0 h.1)
 missed_once key r WrongQuery (WrongMethod at) h k =
-    absurd (k.2.1 (h.2.0.0, one_place key r k.0 h.0 k.1 h.1 ∙ h.2.0.1.0, h.2.0.1.1))
+    absurd (k.2.1 (h.2.0.0, one_place key r k.0 h.0 k.1 h.1 ∙ h.2.0.1, h.2.0.2))
 missed_once key r WrongQuery WrongQuery h k = refl
 missed_once key r NotOneHost b h k = absurd h.2
 missed_once key r NotToUs b h k = absurd h.2

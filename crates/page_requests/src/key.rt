@@ -52,7 +52,6 @@ impl Key {
 }
 
 /// What stands behind a front, or `None` where the text does not begin with it.
-#[tactic(auto, using(crate::proofs::Fronts::behind_front))]
 fn behind<'a>(text: &'a [u8], front: &[u8]) -> Option<&'a [u8]>
     ensures some { IfSome result (λ rest. text.now ≡ front.now ++ rest.now) }
     ensures none { IfNone result ((rest : List ℕ) → text.now ≡ front.now ++ rest → ⊥) }
