@@ -1,0 +1,5 @@
+pub mod Fronts
+pub mod Numbers
+pub mod Once
+pub mod Queries
+pub mod Senders
