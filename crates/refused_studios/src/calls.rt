@@ -2,9 +2,11 @@
 
 use crate::outcome::Outcome;
 use crate::studios::Try;
-use crate::{closing, studios};
+use crate::{closing, nodes, studios};
 use std::alloc::Global;
 use std::sync::Wait;
+use std::thread::Threads;
+use std::time::Clock;
 
 // A call that takes memory.
 #[derive(Clone, Copy)]
@@ -13,6 +15,7 @@ enum Name {
     OnStudio(Try),
     CloseNewStudio,
     CloseStudio,
+    RunNode,
 }
 
 const NAMES: &[(&str, Name)] = &[
@@ -23,10 +26,15 @@ const NAMES: &[(&str, Name)] = &[
     ("mirror", Name::OnStudio(Try::Mirror)),
     ("close a new studio", Name::CloseNewStudio),
     ("close a studio", Name::CloseStudio),
+    ("run a node", Name::RunNode),
 ];
 
 /// What becomes of the call of this name.
-pub fn outcome_by_name<R: Wait>(rt: &R, alloc: Global, wanted: &str) -> Outcome {
+pub fn outcome_by_name<R: Threads + Wait + Clock + Sync>(
+    rt: &R,
+    alloc: Global,
+    wanted: &str,
+) -> Outcome {
     for (name, call) in NAMES {
         if *name == wanted {
             return outcome_of_call(rt, alloc, *call);
@@ -36,11 +44,12 @@ pub fn outcome_by_name<R: Wait>(rt: &R, alloc: Global, wanted: &str) -> Outcome 
 }
 
 // What becomes of a call.
-fn outcome_of_call<R: Wait>(rt: &R, alloc: Global, call: Name) -> Outcome {
+fn outcome_of_call<R: Threads + Wait + Clock + Sync>(rt: &R, alloc: Global, call: Name) -> Outcome {
     match call {
         Name::OpenStudio => studios::open(rt, alloc),
         Name::OnStudio(what) => studios::on_studio(rt, alloc, what),
         Name::CloseNewStudio => closing::close_new(rt, alloc),
         Name::CloseStudio => closing::close(rt, alloc),
+        Name::RunNode => nodes::run(rt, alloc),
     }
 }

@@ -1,6 +1,6 @@
 #![tactic(auto)]
-//! Calls of a studio that take memory, made where one growth of memory is refused. What each promises then is compared
-//! with what is there, and made once more it has to give the right answer.
+//! Calls of a studio, and the run of a node, which take memory, made where one growth of memory is refused. What each
+//! promises then is compared with what is there, and made once more it has to give the right answer.
 //!
 //! ```text
 //! echo "open a studio" | refused_studios
@@ -22,6 +22,7 @@
 
 mod calls;
 mod closing;
+mod nodes;
 mod outcome;
 mod pictures;
 mod studios;
