@@ -7,6 +7,7 @@
 #include <stdatomic.h>
 #include <stdio.h>
 #include <stdlib.h>
+#include <sys/syscall.h>
 #include <unistd.h>
 
 extern void *__libc_malloc(size_t);
@@ -23,10 +24,20 @@ __attribute__((constructor)) static void begin(void) {
   growths = 0;
 }
 
+static _Noreturn void leave(int status) {
+  for (;;) syscall(SYS_exit_group, status);
+}
+
 __attribute__((destructor)) static void end(void) {
   char line[40];
   int length = snprintf(line, sizeof line, "growths: %ld\n", (long)growths);
-  if (write(2, line, length) < 0) _exit(3);
+  if (write(2, line, length) < 0) leave(3);
+}
+
+// A program that started threads ends by this, which calls no destructor.
+void _exit(int status) {
+  end();
+  leave(status);
 }
 
 static int is_refused(void) {
