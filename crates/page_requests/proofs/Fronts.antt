@@ -1,5 +1,5 @@
 -- What stands behind a front of bytes.
-use Rattle.std.proofs.Common.{◌≡◌, ◌≢◌, ℕ, ◌+◌, Bool, true, false, nat_eq, List, ◌++◌, length, take, drop, Bor, Option}
+use Rattle.std.proofs.Common.{◌≡◌, ◌≢◌, ℕ, ◌+◌, true, false, nat_eq, List, ◌++◌, length, take, drop, Bor, Option}
 use Rattle.std.proofs.Common.{Some, None, sym, ◌∙◌, ◌∷◌}
 use Rattle.std.specs.Prelude.{MatchOption, IfSome, IfNone}
 use Rattle.std.specs.Cmp.Lexicographic.{pointwise}

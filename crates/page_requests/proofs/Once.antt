@@ -1,6 +1,6 @@
 -- One answer fits a request.
-use Rattle.std.proofs.Common.{◌≡◌, ℕ, List, [], ◌∷◌, ◌++◌, Option, Some, None, Result, Ok, Err, refl, sym, ap, ◌∙◌, subst}
-use Rattle.std.proofs.Common.{◌⊎◌, inl, inr}
+use Rattle.std.proofs.Common.{◌≡◌, ℕ, List, [], ◌∷◌, ◌++◌, Option, Some, None, Result, Ok, Err}
+use Rattle.std.proofs.Common.{inl, inr, refl, sym, ap, ◌∙◌, subst}
 use Rattle.std.specs.Prelude.{codes, bytes_eq, if◌then◌else◌, IfErr}
 use Rattle.std.proofs.lemmas.List.{append_cancel_left}
 use Rattle.std.specs.Str.Parse.{digits_value}
@@ -8,17 +8,19 @@ use Rattle.form_urlencoded.specs.Form.{raw_pairs}
 use Rattle.http.specs.declared.request.Request.{Request}
 use Rattle.http.specs.Request.{head_of}
 use Rattle.http_uri.specs.Uri.{uri_path, uri_query}
-use Rattle.page_requests.specs.Sender.{HasOneHost, IsToUs, IsFromUs, IsPost, MayAsk}
-use Rattle.page_requests.specs.Table.{name_of, resource_of, method_of, moment_of, Spells, HasQuery, Asks, IsBehindKey}
+use Rattle.page_requests.specs.Sender.{MayAsk}
+use Rattle.page_requests.specs.Table.{name_of, resource_of, method_of, moment_of, HasQuery, IsBehindKey}
 use Rattle.page_requests.specs.Table.{HasKey, IsAt, AsksFor}
-use Rattle.page_requests.specs.Refusing.{IsTurnedAway, Takes, IsNotTaken, IsNotFound, IsRefused}
+use Rattle.page_requests.specs.Refusing.{IsTurnedAway, IsNotTaken, IsNotFound, IsRefused}
 use Rattle.page_requests.specs.declared.table.Asked.{Asked}
-use Rattle.page_requests.specs.declared.table.Asked.TheVariants.{Page, Mask, Image, State, Strokes, Changes, Edits, Join}
+use Rattle.page_requests.specs.declared.table.Asked.TheVariants.{Page, Mask, Image, State, Strokes}
+use Rattle.page_requests.specs.declared.table.Asked.TheVariants.{Changes, Edits, Join}
 use Rattle.page_requests.specs.declared.table.Moment.{Moment}
 use Rattle.page_requests.specs.declared.table.Resource.{Resource}
 use Rattle.page_requests.specs.declared.table.Resource.TheVariants as places
 use Rattle.page_requests.specs.declared.refusal.Refusal.{Refusal}
-use Rattle.page_requests.specs.declared.refusal.Refusal.TheVariants.{NotOneHost, NotToUs, NotFromUs, NoKey, NoPath, WrongMethod, WrongQuery}
+use Rattle.page_requests.specs.declared.refusal.Refusal.TheVariants.{NotOneHost, NotToUs, NotFromUs, NoKey}
+use Rattle.page_requests.specs.declared.refusal.Refusal.TheVariants.{NoPath, WrongMethod, WrongQuery}
 
 -- the resource of a name
 abbrev place_of : List ℕ → Resource

@@ -1,10 +1,12 @@
 -- Requests whose query is not taken.
-use Rattle.std.proofs.Common.{◌≡◌, ◌≢◌, ℕ, List, Bool, true, false, Option, Some, None, Result, Ok, Err, refl, sym, ap, ◌∙◌, subst}
+use Rattle.std.proofs.Common.{◌≡◌, ◌≢◌, ℕ, List, Bool, true, false, Option, Some, None, Result, Ok, Err}
+use Rattle.std.proofs.Common.{refl, sym, ap, ◌∙◌, subst}
 use Rattle.std.specs.Prelude.{IfErr}
-use Rattle.page_requests.specs.Table.{resource_of, method_of, moment_of, HasQuery, Asks}
-use Rattle.page_requests.specs.Refusing.{Takes, IsNotTaken}
+use Rattle.page_requests.specs.Table.{resource_of, method_of, moment_of, HasQuery}
+use Rattle.page_requests.specs.Refusing.{IsNotTaken}
 use Rattle.page_requests.specs.declared.table.Asked.{Asked}
-use Rattle.page_requests.specs.declared.table.Asked.TheVariants.{Page, Mask, Image, State, Strokes, Changes, Edits, Join}
+use Rattle.page_requests.specs.declared.table.Asked.TheVariants.{Page, Mask, Image, State, Strokes}
+use Rattle.page_requests.specs.declared.table.Asked.TheVariants.{Changes, Edits, Join}
 use Rattle.page_requests.specs.declared.table.Moment.{Moment}
 use Rattle.page_requests.specs.declared.table.Resource.{Resource}
 use Rattle.page_requests.specs.declared.table.Resource.TheVariants as places
@@ -27,7 +29,8 @@ without_moment (Changes moment) e = absurd cc
 without_moment (Edits moment) e = absurd cc
 without_moment Join e = refl
 
-with_moment : (asked : Asked) → is_queried (resource_of asked) ≡ true → (moment : Moment) × (moment_of asked ≡ Some moment)
+with_moment : (asked : Asked) → is_queried (resource_of asked) ≡ true
+    → (moment : Moment) × (moment_of asked ≡ Some moment)
 with_moment Page e = absurd cc
 with_moment Mask e = absurd cc
 with_moment Image e = absurd cc

@@ -6,7 +6,8 @@ use Rattle.page_requests.specs.declared.answer.Media.TheVariants.{Html, Text, Gr
 use Rattle.page_requests.specs.declared.table.Resource.{Resource}
 use Rattle.page_requests.specs.declared.table.Resource.TheVariants.{State, Edits}
 use Rattle.page_requests.specs.declared.refusal.Refusal.{Refusal}
-use Rattle.page_requests.specs.declared.refusal.Refusal.TheVariants.{NotOneHost, NotToUs, NotFromUs, NoKey, NoPath, WrongMethod, WrongQuery}
+use Rattle.page_requests.specs.declared.refusal.Refusal.TheVariants.{NotOneHost, NotToUs, NotFromUs, NoKey}
+use Rattle.page_requests.specs.declared.refusal.Refusal.TheVariants.{NoPath, WrongMethod, WrongQuery}
 
 -- the media type of a body
 abbrev pub media_text : Media → List ℕ

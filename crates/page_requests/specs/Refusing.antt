@@ -1,5 +1,5 @@
 -- Which requests are refused, and for which reason: the first, in this order.
-use Rattle.std.specs.Prelude.{◌≡◌, ℕ, List, codes, ◌⊎◌, Option}
+use Rattle.std.specs.Prelude.{◌≡◌, ℕ, List, ◌⊎◌, Option}
 use Rattle.http.specs.declared.request.Request.{Request}
 use Rattle.http.specs.Request.{head_of}
 use Rattle.http_uri.specs.Uri.{uri_query}
@@ -8,7 +8,8 @@ use Rattle.page_requests.specs.Table.{Asks, HasKey, IsAt, resource_of, method_of
 use Rattle.page_requests.specs.declared.table.Asked.{Asked}
 use Rattle.page_requests.specs.declared.table.Resource.{Resource}
 use Rattle.page_requests.specs.declared.refusal.Refusal.{Refusal}
-use Rattle.page_requests.specs.declared.refusal.Refusal.TheVariants.{NotOneHost, NotToUs, NotFromUs, NoKey, NoPath, WrongMethod, WrongQuery}
+use Rattle.page_requests.specs.declared.refusal.Refusal.TheVariants.{NotOneHost, NotToUs, NotFromUs, NoKey}
+use Rattle.page_requests.specs.declared.refusal.Refusal.TheVariants.{NoPath, WrongMethod, WrongQuery}
 
 -- who asks is turned away: no one host; another host; a post that is not from a page of ours
 abbrev pub IsTurnedAway : ℕ → Request (List ℕ) → Refusal → Type 0
@@ -24,7 +25,8 @@ Takes resource method = (asked : Asked) × (resource ≡ resource_of asked) × (
 -- the resource does not take the method; or it does, and no such query with it
 abbrev pub IsNotTaken : Resource → List ℕ → Option (List ℕ) → Refusal → Type 0
 IsNotTaken resource method query (WrongMethod at) = (at ≡ resource) × (Takes resource method → ⊥)
-IsNotTaken resource method query WrongQuery = Takes resource method × ((asked : Asked) → Asks resource method query asked → ⊥)
+IsNotTaken resource method query WrongQuery =
+    Takes resource method × ((asked : Asked) → Asks resource method query asked → ⊥)
 IsNotTaken resource method query _ = ⊥
 
 -- nothing behind the key has this path, or what has it does not take the request

@@ -6,7 +6,8 @@ use Rattle.http.specs.Request.{head_of}
 use Rattle.http_uri.specs.Uri.{uri_path, uri_query}
 use Rattle.form_urlencoded.specs.Form.{raw_pairs}
 use Rattle.page_requests.specs.declared.table.Asked.{Asked}
-use Rattle.page_requests.specs.declared.table.Asked.TheVariants.{Page, Mask, Image, State, Strokes, Changes, Edits, Join}
+use Rattle.page_requests.specs.declared.table.Asked.TheVariants.{Page, Mask, Image, State, Strokes}
+use Rattle.page_requests.specs.declared.table.Asked.TheVariants.{Changes, Edits, Join}
 use Rattle.page_requests.specs.declared.table.Moment.{Moment}
 use Rattle.page_requests.specs.declared.table.Resource.{Resource}
 use Rattle.page_requests.specs.declared.table.Resource.TheVariants as places

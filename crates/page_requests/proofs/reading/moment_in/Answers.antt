@@ -1,4 +1,4 @@
-use Rattle.std.proofs.Common.{◌≡◌, Some, refl, sym, ap, ◌∙◌, subst}
+use Rattle.std.proofs.Common.{refl, sym, ap, ◌∙◌, subst}
 use Rattle.std.specs.Prelude.{option_copied, ℕ, List}
 use Rattle.page_requests.specs.Table.{Spells}
 use Rattle.page_requests.proofs.Queries.{same_text}

@@ -1,4 +1,4 @@
-use Rattle.std.proofs.Common.{◌≡◌, ℕ, List, ◌++◌, inr, sym, ap, ◌∙◌}
+use Rattle.std.proofs.Common.{ℕ, List, ◌++◌, inr, sym, ap, ◌∙◌}
 use Rattle.std.specs.Prelude.{codes, option_copied}
 use Rattle.http.specs.Request.{head_of}
 use Rattle.http_uri.specs.Uri.{uri_path, uri_query}
@@ -15,7 +15,10 @@ returns-in_default-named-clause-refused c =
     ∙ c.in-Some.ensures.some in
     inr (
       c.in_ok-check_sender.ensures.ok,
-      ((name, at), λ place there. c.in_default-named.ensures.none place (one_rest key path name (name_of place) at there)),
+      (
+        (name, at),
+        λ place there. c.in_default-named.ensures.none place (one_rest key path name (name_of place) at there),
+      ),
     )
 
 pub returns-clause-refused : goal.returns-clause-refused

@@ -1,4 +1,4 @@
-use Rattle.std.proofs.Common.{sym, ◌∙◌, ap, ◌++◌, List, ℕ}
+use Rattle.std.proofs.Common.{◌∙◌, ap, ◌++◌, List, ℕ}
 use Rattle.page_requests.proofs.Fronts.{not_keyed}
 use Rattle.page_requests.proofs.key.Key.rest_of.Goals as goal
 
