@@ -121,11 +121,11 @@ second_value (field ∷ fields) = first_value fields
 second_value [] = []
 
 abbrev moment_at : ℕ → ℕ → Moment
-moment_at run version = record { run = run; version = version }
+moment_at run step = record { run = run; step = step }
 
-same_moment : (a b : Moment) → a.run ≡ b.run → a.version ≡ b.version → a ≡ b
-same_moment a b run version =
-    ap (λ (n : ℕ). moment_at n a.version) run ∙ ap (λ (n : ℕ). moment_at b.run n) version
+same_moment : (a b : Moment) → a.run ≡ b.run → a.step ≡ b.step → a ≡ b
+same_moment a b run step =
+    ap (λ (n : ℕ). moment_at n a.step) run ∙ ap (λ (n : ℕ). moment_at b.run n) step
 
 -- a query spells one moment
 one_moment : (query : Option (List ℕ)) (a b : Option Moment) → HasQuery query a → HasQuery query b → a ≡ b
@@ -138,9 +138,9 @@ one_moment query (Some a) (Some b) h k =
     sym h.2.form ∙ ap raw_pairs text ∙ k.2.form in
     let run = sym h.2.run_number.value ∙ ap (λ fields. digits_value 10 (first_value fields)) forms ∙
     k.2.run_number.value in
-    let version = sym h.2.since_number.value ∙ ap (λ fields. digits_value 10 (second_value fields)) forms ∙
+    let step = sym h.2.since_number.value ∙ ap (λ fields. digits_value 10 (second_value fields)) forms ∙
     k.2.since_number.value in
-    ap Some (same_moment a b run version)
+    ap Some (same_moment a b run step)
 
 -- what is asked, by its resource, its method and its moment
 abbrev asked_by : Resource → List ℕ → Option Moment → Asked

@@ -57,7 +57,7 @@ pub record Spells (query : List ℕ) (moment : Moment) : Type 0 where
   pub since : List ℕ
   pub form : raw_pairs query ≡ (codes "run", run) ∷ (codes "since", since) ∷ []
   pub run_number : IsDecimal run moment.run
-  pub since_number : IsDecimal since moment.version
+  pub since_number : IsDecimal since moment.step
 
 -- there is no query, or it spells the moment that is asked with
 abbrev pub HasQuery : Option (List ℕ) → Option Moment → Type 0

@@ -32,8 +32,6 @@ mod reading;
 mod refusal;
 mod sender;
 mod table;
-#[cfg(test)]
-mod tests;
 
 pub use answer::{Media, put_answer, put_refusal};
 pub use hosts::{Hosts, address};

@@ -38,6 +38,6 @@ pub(crate) fn read_moment(query: &str) -> Option<Moment>
     }
     Some(Moment {
         run: read_number(run)?,
-        version: read_number(since)?,
+        step: read_number(since)?,
     })
 }

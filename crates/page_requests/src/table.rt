@@ -4,13 +4,13 @@ ghost use Rattle.std.specs.Prelude.{◌≡◌, IfSome, IfNone};
 ghost use Rattle.page_requests.specs.Table.{name_of};
 ghost use Rattle.page_requests.specs.declared.table.Resource.{Resource as Place};
 
-/// What a page has, by the run of the program that answered it and the version of that answer.
+/// What a page has, by the run of the program that answered it and the step that it was told.
 #[derive(Clone, Copy, Debug, PartialEq, Eq)]
 pub struct Moment {
     /// The run: new with each start of the program.
     pub run: u64,
-    /// The version within that run.
-    pub version: u64,
+    /// The step within that run.
+    pub step: u64,
 }
 
 /// What a request asks for, with what the page has where the answer depends on it.

@@ -11,7 +11,7 @@ returns-in_err-moment_in-in-Changes-clause-err c =
     let p = err_from_is_err_and c.from_residual.result c.from_residual.ensures.1 in
     let why = c.in_err-moment_in-in-Changes.ensures.err in
     rw (p.1, p.2, why.0, c.in-Changes.is)
-    (no_moment_spelled (asked.Changes (record { run = 0; version = 0 })) (option_copied c.args.query) refl why.1)
+    (no_moment_spelled (asked.Changes (record { run = 0; step = 0 })) (option_copied c.args.query) refl why.1)
 
 pub returns-in-Page-clause-err : goal.returns-in-Page-clause-err
 returns-in-Page-clause-err c =
