@@ -1,0 +1,20 @@
+-- What the tactics leave open of `open`.
+use Rattle.std.proofs.Common.{◌≡◌, sym, ap, ◌∙◌, false, replicate}
+use Rattle.grid_core.specs.Raster.{Raster}
+use Rattle.grid_core.specs.Tiles.{count_of}
+use Rattle.core_rules.specs.Opening.{opened}
+use Rattle.core_rules.specs.Work.{tiling}
+use Rattle.paint_board.proofs.Opened.{opened_is, opened_is_stored}
+use Rattle.paint_board.proofs.board.Board.open.Goals as goal
+
+pub invariant_of-result : goal.invariant_of-result
+invariant_of-result c =
+    let tiles : c.count-tiles.result ≡ count_of (tiling c.in-Ok.core) =
+    c.count-tiles.ensures.value ∙ ap count_of c.tiling.ensures.value in
+    opened_is_stored _ c.args.mask c.args.conn c.args.side c.args.run
+    (opened_is c.args.mask c.args.conn c.args.side c.args.run c.in-Ok.core c.maxval-maxval.result
+    c.count-tiles.result c.in_ok-shown.shown.items c.new.result.items
+    (c.in-Ok.ensures.opened.0 ∙ ap (λ (r : Raster). opened r c.args.conn c.args.side 0) c.into_grid.ensures)
+    c.maxval-maxval.ensures.value tiles c.tiling.ensures.count c.in_ok-shown.ensures c.new.ensures.items)
+    c.maxval-maxval.ensures.is_graymap c.in-Ok.ensures.opened.1 c.print_of-print.ensures
+    (c.in_ok-marks.ensures ∙ ap (λ n. replicate n false) (tiles ∙ sym c.tiling.ensures.count))

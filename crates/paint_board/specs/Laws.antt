@@ -1,0 +1,39 @@
+-- The laws of boards, as statements. Public functions have them as their contracts.
+use Rattle.std.specs.Prelude.{◌≡◌, ◌≢◌, ℕ, List, ◌⊎◌, Contains}
+use Rattle.grid_core.specs.declared.pixel.Pixel.{Pixel}
+use Rattle.grid_core.specs.Raster.{IsInside}
+use Rattle.stroke_lattice.specs.State.{IsLiveTag}
+use Rattle.core_rules.specs.Work.{image_at}
+use Rattle.paint_board.specs.Board.{Board, IsWhole}
+use Rattle.paint_board.specs.Later.{IsLater, HasSameStroke}
+use Rattle.paint_board.specs.Changes.{AreChanges, IsCovered}
+
+-- a board is itself, later
+abbrev pub EachIsLater : Type 0
+EachIsLater = (b : Board) → IsLater b b
+
+-- what is later than a later board is later
+abbrev pub LaterGoesOn : Type 0
+LaterGoesOn = (a b c : Board) → IsLater a b → IsLater b c → IsLater a c
+
+-- each pixel has the value that it had when the page was told a step, or lies in a rectangle of what it is told now;
+-- and each tag has the live stroke that it had then, or has a line
+pub record TellsAllSince (old new : Board) (text : List ℕ) (changes : AreChanges new old.run old.step text)
+    : Type 0 where
+  pub pixels : (p : Pixel) → IsInside old.core.mask.width old.core.mask.height p
+      → (image_at new.core p ≡ image_at old.core p) ⊎ IsCovered changes.rects p
+  pub strokes : (tag : ℕ) → HasSameStroke old.core.state new.core.state tag ⊎ Contains changes.tags tag
+
+-- what a later board tells a page that was told the step of an earlier one
+abbrev pub ChangesTellAll : Type 0
+ChangesTellAll =
+    (old new : Board) (text : List ℕ) → IsWhole old → IsLater old new
+    → (changes : AreChanges new old.run old.step text) → TellsAllSince old new text changes
+
+-- a page of another run is told each pixel and each live stroke
+abbrev pub AnotherRunIsToldAll : Type 0
+AnotherRunIsToldAll =
+    (b : Board) (run since : ℕ) (text : List ℕ) → IsWhole b → run ≢ b.run
+    → (changes : AreChanges b run since text)
+    → ((p : Pixel) → IsInside b.core.mask.width b.core.mask.height p → IsCovered changes.rects p)
+    × ((tag : ℕ) → IsLiveTag b.core.state tag → Contains changes.tags tag)
