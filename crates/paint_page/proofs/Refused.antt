@@ -1,0 +1,44 @@
+-- What becomes of requests that are refused, and of what is posted and refused.
+use Rattle.std.proofs.Common.{◌≡◌, ℕ, List, ◌⊎◌, inl, inr, OnOk, refl, subst}
+use Rattle.std.specs.Prelude.{Result, Ok, Err}
+use Rattle.http.specs.declared.request.Request.{Request}
+use Rattle.http_server.specs.declared.response.Response.{Response}
+use Rattle.http_server.specs.Response.{IsResponse}
+use Rattle.page_requests.specs.Refusing.{IsRefused}
+use Rattle.page_requests.specs.Answering.{refusal_fields, status_of, words_of}
+use Rattle.page_requests.specs.declared.answer.Media.TheVariants.{Text}
+use Rattle.page_requests.specs.declared.refusal.Refusal.{Refusal}
+use Rattle.paint_session.specs.RunError.{IsMemory, fault_text}
+use Rattle.paint_session.specs.declared.run_error.RunError.{RunError}
+use Rattle.paint_page.specs.Painting.{Painting}
+use Rattle.paint_page.specs.Answering.{Says, IsTurnedDown, Answers}
+
+-- a request that is refused, and is told so, has its answer
+pub is_refused : {X F : Type 0} (result : Result X F) (old : Painting) (r : Request (List ℕ)) (why : Refusal)
+    (response : Response)
+    → IsRefused old.port old.key r why
+    → OnOk result (IsResponse (status_of why) (refusal_fields why) (words_of why) response)
+    → OnOk result (Answers old r response old)
+is_refused (Ok x) old r why response refused told =
+    inl (record { why = why; refused = refused; same = refl; told = told })
+is_refused (Err e) old r why response refused told = told
+
+-- a fault that is not want of memory is the other one
+other_fault : (e : RunError) (P : Type 0) → (IsMemory e → ⊥) → IsMemory e ⊎ P → P
+other_fault e P not_memory (inl memory) = absurd (not_memory memory)
+other_fault e P not_memory (inr other) = other
+
+-- where a fault was answered with its line, and the painting is as it was, what was posted is turned down
+pub is_turned_down : {X F : Type 0} (result : Result X F) (taken : Type 0) (refuses : RunError → Type 0)
+    (old new : Painting) (e : RunError) (response : Response)
+    → new ≡ old → IsMemory e ⊎ refuses e → OnOk result (IsMemory e → ⊥)
+    → OnOk result (Says new 409 Text (fault_text e) response)
+    → OnOk result (taken ⊎ IsTurnedDown refuses old response new)
+is_turned_down (Ok x) taken refuses old new e response same fault not_memory told =
+    inr (record {
+      why = e;
+      refused = other_fault e (refuses e) not_memory fault;
+      same = same;
+      told = subst (λ (p : Painting). Says p 409 Text (fault_text e) response) same told;
+    })
+is_turned_down (Err x) taken refuses old new e response same fault not_memory told = told

@@ -1,0 +1,15 @@
+use Rattle.std.proofs.Common.{◌⊎◌, subst}
+use Rattle.paint_session.specs.RunError.{IsMemory}
+use Rattle.paint_board.specs.Taking.{FileIsTaken, FileIsRefused}
+use Rattle.paint_page.specs.Painting.{Painting}
+use Rattle.paint_page.proofs.painting.Painting.take_file.Goals as goal
+
+pub returns-in-Ok-clause-taken : goal.returns-in-Ok-clause-taken
+returns-in-Ok-clause-taken c =
+    subst (λ (p : Painting). FileIsTaken p.board c.args.file.now c.take_file.new.self) c.self.view_is
+    c.in-Ok.ensures.taken
+
+pub returns-in-Err-clause-refused : goal.returns-in-Err-clause-refused
+returns-in-Err-clause-refused c =
+    subst (λ (p : Painting). IsMemory c.in-Err.fault ⊎ FileIsRefused p.board c.args.file.now c.in-Err.fault)
+    c.self.view_is c.in-Err.ensures.refused

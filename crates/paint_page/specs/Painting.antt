@@ -1,0 +1,37 @@
+-- What stands behind a page: a board, the port and the key by which it is asked, the page, and its content security
+-- policy.
+use Rattle.std.specs.Prelude.{◌≡◌, ℕ, List, refl}
+use Rattle.std.specs.Coded.{Coded, code_by, coded×, coded_ℕ, coded_list}
+use Rattle.stroke_core.specs.Seed.{Seed}
+use Rattle.pgm_codec.specs.Writing.{raw_text}
+use Rattle.core_rules.specs.Work.{IsQuiet}
+use Rattle.core_rules.specs.Invariant.{HasLawfulImage, HasReconstruction}
+use Rattle.paint_session.specs.Kept.{kept_text}
+use Rattle.paint_board.specs.Board.{Board, board_code, mask_of, image_of}
+
+pub record Painting : Type 0 where
+  pub board : Board
+  pub port : ℕ
+  pub key : List ℕ
+  pub page : List ℕ
+  pub policy : List ℕ
+
+-- the bytes are the raw file of the image as it is, which lies between the marker of the strokes and the reconstruction
+-- of the mask from it, and where no work is left is that reconstruction
+pub record IsImageFile (b : Board) (bytes : List ℕ) : Type 0 where
+  pub spelled : bytes ≡ raw_text (image_of b)
+  pub lawful : HasLawfulImage b.core
+  pub quiet : IsQuiet b.core → HasReconstruction b.core
+
+-- the bytes of a state file that keeps the strokes and tombstones of the board
+abbrev pub state_text : Board → List ℕ
+state_text b = kept_text b.core.conn (mask_of b) b.core.state
+
+-- a painting is stored as the parts of its record
+abbrev pub painting_code : Coded Seed → Coded Painting
+painting_code seed_code =
+    code_by (Board × (ℕ × (List ℕ × (List ℕ × List ℕ))))
+    (coded× (board_code seed_code) (coded× coded_ℕ (coded× (coded_list coded_ℕ)
+    (coded× (coded_list coded_ℕ) (coded_list coded_ℕ)))))
+    (λ p. (p.board, (p.port, (p.key, (p.page, p.policy)))))
+    (λ q. record { board = q.0; port = q.1.0; key = q.1.1.0; page = q.1.1.1.0; policy = q.1.1.1.1 }) (λ _. refl)

@@ -1,0 +1,121 @@
+//! The painting: what requests look at and change.
+
+ghost use Rattle.std.specs.Prelude.{◌≡◌, ◌<◌, ◌↔◌, IsTrue, IfOk, OnOk, OnErr};
+ghost use Rattle.core_rules.specs.Work.{IsQuiet};
+ghost use Rattle.http_header.specs.FieldValue.{is_visible_text};
+ghost use Rattle.http_server.specs.Response.{IsBlank};
+ghost use Rattle.paint_board.specs.Growing.{IsGrown, IsSettledFor};
+ghost use Rattle.paint_board.specs.Later.{IsLater};
+ghost use Rattle.paint_page.specs.Answering.{Says};
+
+use bytes::Bytes;
+use grid_core::Memory;
+use http::StatusCode;
+use http_server::Response;
+use page_requests::{Hosts, Key, Media, put_answer};
+use paint_board::Board;
+use std::alloc::{AllocError, Global};
+use std::marker::Model;
+
+mod answer;
+mod files;
+mod posts;
+mod service;
+
+/// A board behind the requests of a page.
+#[derive(Drop)]
+pub struct Painting {
+    alloc: Global,
+    board: Board,
+    hosts: Hosts,
+    key: Key,
+    page: &'static str,
+    policy: &'static str,
+    // The files of the mask and of the image, where they were asked for and nothing has changed since.
+    mask: Option<Bytes>,
+    image: Option<Bytes>,
+}
+
+impl Model for Painting {
+    ghost use Rattle.stroke_core.specs.contracts.stroke.Stroke as stroke;
+    ghost use Rattle.paint_page.specs.Painting.{Painting as Data, painting_code};
+
+    ghost Value = { Data };
+
+    ghost coded = { painting_code stroke.the_row.coded };
+
+    ghost use Rattle.paint_page.specs.Stored.{painting_of, IsStored};
+
+    ghost view = { painting_of };
+
+    ghost invariant = { IsStored };
+}
+
+impl Painting {
+    /// The service of a board, asked at these hosts under this key; `page` is the page, `policy` its content security
+    /// policy.
+    pub fn new(
+        alloc: Global,
+        board: Board,
+        hosts: Hosts,
+        key: Key,
+        page: &'static str,
+        policy: &'static str,
+    ) -> Painting
+        requires visible { IsTrue (is_visible_text policy.now) }
+        ensures { result ≡ record {
+          board = board;
+          port = hosts;
+          key = key;
+          page = page.now;
+          policy = policy.now;
+        } }
+    {
+        Painting {
+            alloc,
+            board,
+            hosts,
+            key,
+            page,
+            policy,
+            mask: None,
+            image: None,
+        }
+    }
+
+    /// The board.
+    pub fn board(&self) -> &Board
+        ensures { result.now ≡ self.now.board }
+    {
+        &self.board
+    }
+
+    /// One slice of settling: at most so many jobs. Says whether no work is left.
+    ///
+    /// Errors: out of memory. The board is then as some steps of settling left it.
+    pub fn grow(&mut self, jobs: u64) -> Result<bool, Memory>
+        ensures grown { IsGrown self.old.board jobs self.new.board }
+        ensures settled { OnOk result (IsSettledFor self.old.board.core jobs self.new.board.core) }
+        ensures some_work { OnErr result ((IsQuiet self.old.board.core → ⊥) × (0 < jobs)) }
+        ensures quiet { IfOk result (λ quiet. IsTrue quiet ↔ IsQuiet self.new.board.core) }
+        ensures later { IsLater self.old.board self.new.board }
+        ensures rest { self.new ≡ record self.old { board = self.new.board } }
+    {
+        self.image = None;
+        self.board.grow(self.alloc, jobs)
+    }
+
+    // Fills a blank response with a status, the fields that every answer has, and a body.
+    fn put(
+        &self,
+        response: &mut Response,
+        status: StatusCode,
+        media: Media,
+        body: Bytes,
+    ) -> Result<(), AllocError>
+        requires { IsBlank response.old }
+        ensures { OnOk result (Says self.now status media body response.new) }
+    {
+        put_answer(response, status, media, self.policy, body)
+    }
+}

@@ -1,0 +1,80 @@
+//! The answer to what is asked.
+
+ghost use Rattle.std.specs.Prelude.{◌≡◌, OnOk, OnErr};
+ghost use Rattle.http_server.specs.Response.{IsBlank};
+ghost use Rattle.edit_lang.specs.Writing.{live_text};
+ghost use Rattle.page_requests.specs.declared.answer.Media.TheVariants as media;
+ghost use Rattle.paint_page.specs.Painting.{state_text};
+ghost use Rattle.paint_page.specs.Answering.{Says, AnswersAsked};
+
+use super::Painting;
+use bytes::Bytes;
+use http::StatusCode;
+use http_server::Response;
+use page_requests::{Asked, Media};
+use std::alloc::AllocError;
+
+impl Painting {
+    /// Fills a blank response with the answer to what is asked; `body` is the body of the request.
+    ///
+    /// Errors: out of memory. Nothing has changed.
+    pub(crate) fn answer(
+        &mut self,
+        asked: Asked,
+        body: &[u8],
+        response: &mut Response,
+    ) -> Result<(), AllocError>
+        requires { IsBlank response.old }
+        ensures ok { OnOk result (AnswersAsked asked self.old body.now response.new self.new) }
+        ensures err { OnErr result (self.new ≡ self.old) }
+    {
+        match asked {
+            Asked::Page => {
+                let page = Bytes::from_static(self.page.as_bytes());
+                self.put(response, StatusCode::OK, Media::Html, page)
+            }
+            Asked::Mask => {
+                let file = self.mask_file()?;
+                self.put(response, StatusCode::OK, Media::Graymap, file)
+            }
+            Asked::Image => {
+                let file = self.image_file()?;
+                self.put(response, StatusCode::OK, Media::Graymap, file)
+            }
+            Asked::State => self.put_state(response),
+            Asked::Strokes => self.put_strokes(response),
+            Asked::Changes(moment) => self.put_changes(moment.run, moment.step, response),
+            Asked::Edits(moment) => self.edit(moment, body, response),
+            Asked::Join => self.join(body, response),
+        }
+    }
+
+    // Fills a blank response with the state file.
+    fn put_state(&self, response: &mut Response) -> Result<(), AllocError>
+        requires { IsBlank response.old }
+        ensures { OnOk result (Says self.now 200 media.Binary (state_text self.now.board) response.new) }
+    {
+        let file = self.board.state_file(self.alloc).map_err(|_| AllocError)?;
+        self.put(
+            response,
+            StatusCode::OK,
+            Media::Binary,
+            Bytes::from_vec(file)?,
+        )
+    }
+
+    // Fills a blank response with the live strokes.
+    fn put_strokes(&self, response: &mut Response) -> Result<(), AllocError>
+        requires { IsBlank response.old }
+        ensures { OnOk result
+            (Says self.now 200 media.Text (live_text self.now.board.core.state) response.new) }
+    {
+        let lines = self.board.strokes(self.alloc).map_err(|_| AllocError)?;
+        self.put(
+            response,
+            StatusCode::OK,
+            Media::Text,
+            Bytes::from_vec(lines)?,
+        )
+    }
+}
