@@ -1,0 +1,58 @@
+use Rattle.std.proofs.Common.{◌≡◌, false, refl}
+use Rattle.paint_rounds.proofs.Tracking.{tracked_after, in_file_after}
+use Rattle.paint_rounds.proofs.Flags.{never_quiet}
+use Rattle.paint_rounds.proofs.Turns.{InTurn-finished}
+use Rattle.paint_rounds.proofs.rounds.round.Goals as goal
+
+pub returns-then-came-clause-round : goal.returns-then-came-clause-round
+returns-then-came-clause-round g c =
+    let taken = c.take_in-came.ensures in
+    let went = c.finish-went.result in
+    let came = c.take_in-came.result in
+    let quiet : came ≡ false → went ≡ false = never_quiet came went c.if-came.true in (
+      taken.0,
+      (_, _, taken.2, c.keep-kept.ensures.settles, refl),
+      InTurn-finished c.keep-kept.result came went c.args.now quiet _ _ _ taken.0 taken.1 c.finish-went.ensures,
+    )
+
+pub returns-then-came-clause-tracked : goal.returns-then-came-clause-tracked
+returns-then-came-clause-tracked g c =
+    λ tracked.
+    let service = g.S.Kept in
+    let taken = c.take_in-came.ensures in
+    tracked_after service.version service.spells g.S.Service.answers g.met.S.Kept.calls_count taken.0 c.keep-kept.result
+    _ _ _ taken.2 c.keep-kept.ensures.settles tracked
+
+pub returns-then-came-clause-in_file : goal.returns-then-came-clause-in_file
+returns-then-came-clause-in_file g c =
+    λ tracked stands.
+    let service = g.S.Kept in
+    let taken = c.take_in-came.ensures in
+    in_file_after service.version service.spells g.S.Service.answers g.met.S.Kept.calls_count taken.0 c.keep-kept.result
+    _ _ _ taken.2 c.keep-kept.ensures.settles tracked stands
+
+pub returns-else-came-clause-round : goal.returns-else-came-clause-round
+returns-else-came-clause-round g c =
+    let taken = c.take_in-came.ensures in
+    let went = c.finish-went.result in
+    let quiet : went ≡ false → went ≡ false = λ none. none in (
+      taken.0,
+      (_, _, taken.2, c.keep-kept.ensures.settles, refl),
+      InTurn-finished c.keep-kept.result went went c.args.now quiet _ _ _ taken.0 taken.1 c.finish-went.ensures,
+    )
+
+pub returns-else-came-clause-tracked : goal.returns-else-came-clause-tracked
+returns-else-came-clause-tracked g c =
+    λ tracked.
+    let service = g.S.Kept in
+    let taken = c.take_in-came.ensures in
+    tracked_after service.version service.spells g.S.Service.answers g.met.S.Kept.calls_count taken.0 c.keep-kept.result
+    _ _ _ taken.2 c.keep-kept.ensures.settles tracked
+
+pub returns-else-came-clause-in_file : goal.returns-else-came-clause-in_file
+returns-else-came-clause-in_file g c =
+    λ tracked stands.
+    let service = g.S.Kept in
+    let taken = c.take_in-came.ensures in
+    in_file_after service.version service.spells g.S.Service.answers g.met.S.Kept.calls_count taken.0 c.keep-kept.result
+    _ _ _ taken.2 c.keep-kept.ensures.settles tracked stands

@@ -1,0 +1,20 @@
+use Rattle.std.proofs.Common.{◌≡◌, ℕ, List, ◌++◌, false}
+use Rattle.std.specs.Io.KnownBytes.{Consumes}
+use Rattle.http_server.specs.Connection.{config_of, history}
+use Rattle.http_server.specs.Exchange.{Calls}
+use Rattle.http_server.specs.History.{Rests}
+use Rattle.paint_rounds.proofs.transfer.take_in.Given as goal
+
+abbrev pub invariant-loop : goal.invariant-loop
+invariant-loop g l =
+    let old = history l.fn.connection in
+    let new = history l.connection in
+    record {
+      calls : Calls g.S.Service.answers l.fn.service l.service old.calls new.calls;
+      read : (more : List ℕ) × Consumes (g.R.Read.remaining l.fn.reader) (g.R.Read.remaining l.reader) more
+          × (new.received ≡ old.received ++ more);
+      unsent : new.sent ≡ old.sent;
+      still : l.came ≡ false → new.received ≡ old.received;
+      rests : Rests (config_of l.connection) new;
+      config : config_of l.connection ≡ config_of l.fn.connection;
+    }

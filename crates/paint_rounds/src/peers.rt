@@ -1,0 +1,111 @@
+//! The peers that are open.
+
+ghost use Rattle.std.specs.Prelude.{◌≡◌, ◌∷◌, [], ◌++◌, ◌≤◌, ◌↔◌, List, IfOk, length, filter, IsTrue, IsFalse};
+ghost use Rattle.std.specs.List.{AllZip};
+ghost use Rattle.http_server.specs.Exchange.{Call, Chain};
+ghost use Rattle.paint_rounds.specs.Keeping.{Answers};
+ghost use Rattle.paint_rounds.specs.Keeper.{keeping};
+ghost use Rattle.paint_rounds.specs.Peer.{TakesIn, Finishes, InTurn, IsFresh};
+ghost use Rattle.paint_rounds.specs.Peers.{peers_of, most_of, stays};
+
+use crate::keeper::Keeper;
+use crate::kept::Kept;
+use crate::peer::Peer;
+use grid_core::Memory;
+use http_server::Connection;
+use paint_session::store::StateStore;
+use std::alloc::Global;
+use std::io::{Read, Write};
+
+/// The peers that are open, at most so many.
+#[derive(Drop)]
+pub struct Peers<C> {
+    pub(crate) list: Vec<Peer<C>>,
+    most: usize,
+}
+
+impl<C: Drop> Peers<C> {
+    /// No peers, with room for so many.
+    ///
+    /// Errors: out of memory.
+    pub fn new(alloc: Global, most: usize) -> Result<Peers<C>, Memory>
+        ensures none { IfOk result (λ peers. peers_of peers ≡ []) }
+        ensures most { IfOk result (λ peers. most_of peers ≡ most) }
+    {
+        let list = Vec::with_capacity(alloc, most)?;
+        Ok(Peers { list, most })
+    }
+
+    /// How many there are, those that were closed and not yet swept among them.
+    pub fn len(&self) -> usize
+        ensures { result ≡ length (peers_of self.now) }
+    {
+        self.list.len()
+    }
+
+    /// Whether there is none.
+    pub fn is_empty(&self) -> bool
+        ensures { IsTrue result ↔ (peers_of self.now ≡ []) }
+    {
+        self.list.is_empty()
+    }
+
+    /// Takes a peer in, whose connection is new. Says whether it did: not where there are too many, or where memory
+    /// is wanting. Then the stream is dropped.
+    pub fn admit(&mut self, stream: C, connection: Connection, now: u64) -> bool
+        ensures admitted { IsTrue result → (peer : _) × IsFresh now connection peer
+            × (peers_of self.new ≡ peers_of self.old ++ peer ∷ []) }
+        ensures refused { IsFalse result → peers_of self.new ≡ peers_of self.old }
+        ensures full { most_of self.old ≤ length (peers_of self.old) → IsFalse result }
+    {
+        if self.list.len() >= self.most {
+            return false;
+        }
+        let peer = Peer::new(stream, connection, now);
+        match self.list.push(peer) {
+            Ok(()) => true,
+            Err(_) => false,
+        }
+    }
+
+    /// Drops the peers that were closed, and those over which no byte has moved for so many milliseconds.
+    pub fn sweep(&mut self, now: u64, limit: u64)
+        ensures { peers_of self.new ≡ filter (stays now limit) (peers_of self.old) }
+    {
+        self.list
+            .retain(|peer| peer.is_open() && !peer.is_idle(now, limit));
+    }
+}
+
+impl<C: Read + Write + Drop> Peers<C> {
+    // Takes in what has come, from one peer after another. Says whether bytes came.
+    pub(crate) fn take_in<S: Kept, T: StateStore>(
+        &mut self,
+        keeper: &mut Keeper<S, T>,
+        now: u64,
+    ) -> bool
+        ensures { (calls : List Call) × InTurn (TakesIn now) (peers_of self.old) (peers_of self.new) calls
+            × Chain (Answers S.answers) (keeping T.seen keeper.old) calls (keeping T.seen keeper.new) }
+    {
+        let mut came = false;
+        for peer in self.list.iter_mut() {
+            if peer.take_in(keeper, now) {
+                came = true;
+            }
+        }
+        came
+    }
+
+    // Sends what waits, to one peer after another. Says whether bytes went.
+    pub(crate) fn finish(&mut self, kept: bool, now: u64) -> bool
+        ensures { AllZip (Finishes kept result now) (peers_of self.old) (peers_of self.new) }
+    {
+        let mut went = false;
+        for peer in self.list.iter_mut() {
+            if peer.finish(kept, now) {
+                went = true;
+            }
+        }
+        went
+    }
+}
