@@ -1,0 +1,4 @@
+pub mod Openings
+pub mod Counting
+pub mod Servings
+pub mod Views

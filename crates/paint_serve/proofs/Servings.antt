@@ -1,0 +1,37 @@
+-- Why a page is not served, by where that is found.
+use Rattle.std.proofs.Common.{◌≡◌, ◌⊎◌, ℕ, List, Result, Ok, Err, inl, inr}
+use Rattle.std.specs.Prelude.{OnOk}
+use Rattle.grid_core.specs.declared.conn.Conn.{Conn}
+use Rattle.paint_session.specs.RunError.{IsTransferFault}
+use Rattle.paint_session.specs.Store.{Held, IsHeldIn}
+use Rattle.paint_session.specs.declared.run_error.RunError.{RunError}
+use Rattle.paint_session.specs.declared.run_error.RunError.TheVariants.{Link, Memory}
+use Rattle.paint_serve.specs.Opening.{IsNotOpenedFrom, IsOpeningFault}
+use Rattle.paint_serve.specs.Serving.{IsNotServed}
+
+module _ (conn : Conn) (held : Held) (name : List ℕ) where
+  -- in opening the board, whatever is known of the input
+  pub not_opened_not_served : (Comes : List ℕ → Type 0) (e : RunError) → IsOpeningFault e ⊎ IsTransferFault e
+      ⊎ ((old input : List ℕ) × IsHeldIn held name old × Comes input × IsNotOpenedFrom conn old input e)
+      → IsNotServed conn held name e
+  not_opened_not_served Comes e (inl early) = inr (inl early)
+  not_opened_not_served Comes e (inr (inl device)) = inr (inr (inl device))
+  not_opened_not_served Comes e (inr (inr (old, input, is_held, comes, why))) =
+      inr (inr (inr (old, input, is_held, why)))
+
+  -- in finding a place for it, and telling where that is
+  pub not_told_not_served : (e : RunError) → (e ≡ Link) ⊎ (e ≡ Memory) ⊎ IsTransferFault e
+      → IsNotServed conn held name e
+  not_told_not_served e (inl link) = inl link
+  not_told_not_served e (inr (inl memory)) = inr (inl (inr (inl memory)))
+  not_told_not_served e (inr (inr device)) = inr (inr (inl device))
+
+  -- in serving it
+  pub ended_not_served : (e : RunError) → (e ≡ Link) ⊎ (e ≡ Memory) → IsNotServed conn held name e
+  ended_not_served e (inl link) = inl link
+  ended_not_served e (inr memory) = inr (inl (inr (inl memory)))
+
+-- what holds, holds where a result is good
+pub holds_on_ok : {T E : Type 0} (result : Result T E) (P : Type 0) → P → OnOk result P
+holds_on_ok (Ok value) P holds = holds
+holds_on_ok (Err e) P holds = tt

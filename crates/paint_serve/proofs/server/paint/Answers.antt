@@ -1,0 +1,25 @@
+use Rattle.std.proofs.lemmas.Result.{IfErr-weaker, err_from_is_err_and}
+use Rattle.paint_serve.proofs.Servings.{ended_not_served, holds_on_ok, not_told_not_served}
+use Rattle.paint_serve.proofs.server.paint.Goals as goal
+
+pub returns-in_err-board-clause-refused : goal.returns-in_err-board-clause-refused
+returns-in_err-board-clause-refused g c =
+    let p = err_from_is_err_and c.from_residual.result c.from_residual.ensures.1 in
+    rw (p.1, p.2) c.in_err-board.ensures
+
+pub returns-in_err-site-clause-refused : goal.returns-in_err-site-clause-refused
+returns-in_err-site-clause-refused g c =
+    let p = err_from_is_err_and c.from_residual-in_err-site.result c.from_residual-in_err-site.ensures.1 in
+    let held = (g.T.StateStore.seen c.args.store).held in
+    rw (p.1, p.2) (not_told_not_served c.args.call.conn held c.args.call.file c.in_err-site.field-0.0
+    c.in_err-site.ensures.refused)
+
+pub returns-clause-told : goal.returns-clause-told
+returns-clause-told g c =
+    let site = c.in_ok-site.site in
+    holds_on_ok c.serve.result _ (site.hosts, site.key, c.in_ok-site.ensures.told)
+
+pub returns-clause-refused : goal.returns-clause-refused
+returns-clause-refused g c =
+    let held = (g.T.StateStore.seen c.args.store).held in
+    IfErr-weaker c.serve.result _ _ (ended_not_served c.args.call.conn held c.args.call.file) c.serve.ensures

@@ -1,0 +1,12 @@
+pub use Rattle.paint_session.specs.Kept
+pub use Rattle.paint_session.specs.RunError
+pub use Rattle.paint_session.specs.Store
+pub use Rattle.paint_session.specs.View
+pub use Rattle.paint_board.specs.Board
+pub use Rattle.paint_board.specs.Opening as BoardOpening
+pub use Rattle.paint_board.specs.Taking
+pub use Rattle.paint_page.specs.Answering
+pub use Rattle.paint_page.specs.Painting
+pub mod Opening
+pub mod Page
+pub mod Serving

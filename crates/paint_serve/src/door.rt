@@ -1,0 +1,69 @@
+//! The door of the loopback: the listener, and what tells that there is something to do.
+
+use mio::net::{TcpListener, TcpStream};
+use mio::{Events, Interest, Poll, Token};
+use std::alloc::Global;
+use std::io;
+use std::net::{Ipv4Addr, Net, SocketAddr};
+use std::time::Duration;
+
+// How many events are told at a time. Which they are does not matter: a turn tries all that are open.
+const EVENTS: usize = 128;
+
+// All sources are registered under one name.
+const ANYBODY: Token = Token(0);
+
+/// A listener on 127.0.0.1 alone, and what tells that somebody came or is ready.
+#[derive(Drop)]
+pub(crate) struct Door {
+    listener: TcpListener,
+    poll: Poll,
+    events: Events,
+}
+
+impl Door {
+    /// Binds a port, or a free one where it is 0.
+    ///
+    /// Errors: the port could not be bound; out of memory.
+    pub(crate) fn bind<R: Net>(rt: &R, alloc: Global, port: u16) -> io::Result<Door> {
+        let address = SocketAddr::from((Ipv4Addr::LOCALHOST, port));
+        let mut listener = TcpListener::bind(rt, address)?;
+        let poll = Poll::new(rt)?;
+        poll.registry()
+            .register(&mut listener, ANYBODY, Interest::READABLE)?;
+        let events = Events::with_capacity(alloc, EVENTS)?;
+        Ok(Door {
+            listener,
+            poll,
+            events,
+        })
+    }
+
+    /// The port that was bound.
+    ///
+    /// Errors: the system does not tell.
+    pub(crate) fn port(&self) -> io::Result<u16> {
+        Ok(self.listener.local_addr()?.port())
+    }
+
+    /// Waits until there is something to do, at most for so long.
+    ///
+    /// Errors: the system refused to wait.
+    pub(crate) fn wait(&mut self, most: Duration) -> io::Result<()> {
+        self.poll.poll(&mut self.events, Some(most))
+    }
+
+    /// The next who came, whose bytes will be told of.
+    ///
+    /// Errors: nobody is there, or who was there could not be let in.
+    pub(crate) fn accept(&self) -> io::Result<TcpStream> {
+        let (mut stream, _) = self.listener.accept()?;
+        stream.set_nodelay(true)?;
+        self.poll.registry().register(
+            &mut stream,
+            ANYBODY,
+            Interest::READABLE | Interest::WRITABLE,
+        )?;
+        Ok(stream)
+    }
+}

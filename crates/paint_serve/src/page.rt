@@ -1,0 +1,64 @@
+//! The service of a page, with its share of settling.
+
+ghost use Rattle.std.specs.Prelude.{◌≡◌};
+ghost use Rattle.paint_serve.specs.Page.{PageAnswers, PageGrows, PageSpells, page_version, calls_count, works_count};
+
+use bytes::Bytes;
+use grid_core::Memory;
+use http::Request;
+use http_server::{Response, Service};
+use paint_page::Painting;
+use paint_rounds::Kept;
+use std::alloc::{AllocError, Global};
+
+/// A painting, and how many jobs a share of its settling has.
+#[derive(Drop)]
+pub(crate) struct Page {
+    pub(crate) alloc: Global,
+    pub(crate) painting: Painting,
+    pub(crate) jobs: u64,
+}
+
+impl Service for Page {
+    ghost answers = { PageAnswers };
+
+    fn call(
+        &mut self,
+        request: &Request<Bytes>,
+        response: &mut Response,
+    ) -> Result<(), AllocError> {
+        self.painting.call(request, response)
+    }
+}
+
+impl Kept for Page {
+    ghost version = { page_version };
+
+    ghost spells = { PageSpells };
+
+    ghost works = { PageGrows };
+
+    ghost calls_count = { calls_count };
+
+    ghost works_count = { works_count };
+
+    fn version(&self) -> u64 {
+        self.painting.board().version()
+    }
+
+    fn file(&self) -> Result<Vec<u8>, Memory> {
+        self.painting.board().state_file(self.alloc)
+    }
+
+    // Where no work is left, nothing is touched, so that the files that the painting has made stay. Where memory is
+    // wanting, the rest waits for the next turn.
+    fn work(&mut self) -> bool {
+        if self.painting.board().is_quiet() {
+            return false;
+        }
+        match self.painting.grow(self.jobs) {
+            Ok(is_quiet) => !is_quiet,
+            Err(Memory) => false,
+        }
+    }
+}

@@ -1,0 +1,92 @@
+//! Where a page is served.
+
+ghost use Rattle.std.specs.Prelude.{◌≡◌, ◌⊎◌, IfOk, IfErr, OnOk, string_bytes};
+ghost use Rattle.std.specs.Io.KnownBytes.{Appends};
+ghost use Rattle.paint_session.specs.RunError.{IsTransferFault};
+ghost use Rattle.paint_session.specs.declared.run_error.RunError.TheVariants as errors;
+ghost use Rattle.paint_serve.specs.Serving.{address_line};
+
+use crate::chance::key_bits;
+use crate::door::Door;
+use byte_devices::{Sink, put_all};
+use grid_core::Memory;
+use page_requests::{Hosts, Key, address};
+use paint_session::run_error::RunError;
+use pgm_codec::PgmError;
+use std::alloc::Global;
+use std::net::Net;
+use std::random::RandomSource;
+
+/// The door of a page, the names under which it is asked, and its key.
+#[derive(Drop)]
+pub(crate) struct Site {
+    pub(crate) door: Door,
+    pub(crate) hosts: Hosts,
+    pub(crate) key: Key,
+}
+
+impl Site {
+    /// A site that was opened, of which the sink has the line.
+    ///
+    /// Errors: D3 where the port could not be bound, or where there are no random bytes; P11 where the sink failed; out
+    /// of memory.
+    pub(crate) fn told<R: Net + RandomSource, K: Sink>(
+        rt: &R,
+        alloc: Global,
+        port: u16,
+        sink: &mut K,
+    ) -> Result<Site, RunError>
+        ensures told { IfOk result (λ site. Appends (K.seen sink.old).written (K.seen sink.new).written
+            (address_line site.hosts site.key)) }
+        ensures refused { IfErr result (λ e. (e ≡ errors.Link) ⊎ (e ≡ errors.Memory) ⊎ IsTransferFault e) }
+    {
+        let site = Site::open(rt, alloc, port)?;
+        site.tell(alloc, sink)?;
+        Ok(site)
+    }
+
+    /// Binds a port of 127.0.0.1, or a free one where it is 0, and draws a key.
+    ///
+    /// Errors: D3 where the port could not be bound, or where there are no random bytes; out of memory.
+    pub(crate) fn open<R: Net + RandomSource>(
+        rt: &R,
+        alloc: Global,
+        port: u16,
+    ) -> Result<Site, RunError>
+        ensures { IfErr result (λ e. (e ≡ errors.Link) ⊎ (e ≡ errors.Memory)) }
+    {
+        let (Ok(bits), Ok(door)) = (key_bits(rt), Door::bind(rt, alloc, port)) else {
+            return Err(RunError::Link);
+        };
+        let Ok(port) = door.port() else {
+            return Err(RunError::Link);
+        };
+        let hosts = Hosts::new(alloc, port).map_err(|_| Memory)?;
+        let key = Key::new(alloc, bits).map_err(|_| Memory)?;
+        Ok(Site { door, hosts, key })
+    }
+
+    /// Puts the address of the page, and an LF behind it.
+    ///
+    /// Errors: P11 where the sink failed; out of memory, and then nothing is put.
+    pub(crate) fn tell<K: Sink>(&self, alloc: Global, sink: &mut K) -> Result<(), RunError>
+        ensures told { OnOk result (Appends (K.seen sink.old).written (K.seen sink.new).written
+            (address_line self.now.hosts self.now.key)) }
+        ensures refused { IfErr result (λ e. (e ≡ errors.Memory) ⊎ IsTransferFault e) }
+    {
+        let line = self.line(alloc)?;
+        match put_all(sink, line.as_bytes()) {
+            Ok(()) => Ok(()),
+            Err(_) => Err(RunError::Pgm(PgmError::Device)),
+        }
+    }
+
+    // The line of the address.
+    fn line(&self, alloc: Global) -> Result<String, Memory>
+        ensures { IfOk result (λ line. string_bytes line ≡ address_line self.now.hosts self.now.key) }
+    {
+        let mut line = address(alloc, &self.hosts, &self.key).map_err(|_| Memory)?;
+        line.push_str("\n")?;
+        Ok(line)
+    }
+}
