@@ -1,6 +1,5 @@
 #![tactic(auto)]
-//! A page to paint on: HTML with its style and its script in one text, and the policy that allows these two alone. No
-//! program serves it yet.
+//! A page to paint on: HTML with its style and its script in one text, and the policy that allows these two alone.
 //!
 //! Both stand in a module that `tools/embed_page.py` writes from `page/page.html`. The script is not proved:
 //! `tools/paint_test.py` tests it in a browser.

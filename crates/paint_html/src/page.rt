@@ -909,7 +909,7 @@ function noteDrawn() {
 }
 
 async function refuse(edit, response) {
-  const code = response.status === 413 ? "413" : (await response.text()).trim();
+  const code = response.status === 413 ? "413" : (await response.text()).trim().replace(/^seedpaint: /, "");
   dropEdit(edit);
   sayFault(`Refused${edit.subject && ` ${edit.subject}`}: ${wordsFor(code)} (${code}).`);
   sayBoard();
@@ -1326,7 +1326,7 @@ open().catch(() => showBanner("The picture could not be fetched: the program doe
 /// The value of its `Content-Security-Policy` (W3C CSP Level 3): its one style and its one script by their SHA-256, and
 /// requests to its own origin alone.
 pub const POLICY: &str = "default-src 'none'; \
-     script-src 'sha256-HIc3/FR9w4waZBe0xOfvMoZYoLRTlbTUaX+Qd6PyPJc='; \
+     script-src 'sha256-YcHl0znL9xZVQMvuiaN0pA9e7O8ZFjKEhpwZFUP2f0o='; \
      style-src 'sha256-Tyckw2A+0rVWOOHu9jEA5l6n6g7y9hMDd2Ro9aqA66E='; \
      connect-src 'self'; \
      img-src data:; \
