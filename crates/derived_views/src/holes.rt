@@ -13,30 +13,41 @@ ghost use Rattle.derived_views.specs.Views.{IsView};
 
 use grid_core::{Conn, Grid, Memory, Pixel};
 use pgm_codec::Image;
-use raster_sweeps::grow_in_place;
+use raster_sweeps::Grower;
 use std::alloc::Global;
 
 /// The image with its holes filled, under this connectivity: at each pixel the least level at which a path leads from
-/// it to the border, with no value on the path above that level (Soille). Width, height and maxval are the image's.
+/// it to the border, with no value on the path above that level (Soille). Width, height and maxval are the image's. It
+/// grows by `grower`.
 ///
 /// Errors: out of memory.
-pub fn fill(alloc: Global, image: &Image, conn: Conn) -> Result<Image, Memory>
+pub fn fill<G: Grower>(
+    grower: &G,
+    alloc: Global,
+    image: &Image,
+    conn: Conn,
+) -> Result<Image, Memory>
     ensures { IfOk result (IsView image.now image.now.maxval (IsFill (domain_of image.now.raster conn))) }
 {
     let copy = image.grid().copy(alloc)?;
-    into_filled(alloc, Image::over(copy, image.maxval()), conn)
+    into_filled(grower, alloc, Image::over(copy, image.maxval()), conn)
 }
 
 /// The image with its holes filled, as [`fill`] says, in the memory of the image and of one grid more.
 ///
 /// Errors: out of memory.
-pub fn into_filled(alloc: Global, image: Image, conn: Conn) -> Result<Image, Memory>
+pub fn into_filled<G: Grower>(
+    grower: &G,
+    alloc: Global,
+    image: Image,
+    conn: Conn,
+) -> Result<Image, Memory>
     ensures { IfOk result (IsView image image.maxval (IsFill (domain_of image.raster conn))) }
 {
     let top = image.maxval();
     let mask = complemented(image.into_grid(), top);
     let mut grown = border_of(alloc, &mask)?;
-    grow_in_place(alloc, &mask, &mut grown, conn)?;
+    grower.grow(alloc, &mask, &mut grown, conn)?;
     let filled = complemented(grown, top);
     Ok(Image::over(filled, top))
 }

@@ -11,13 +11,13 @@
 //!
 //! ```text
 //! // 1 4 3 5 1, maxval 9
-//! h_maxima(alloc, &image, 2, Conn::Four)?;        // 1 3 3 3 1, maxval 9
-//! regional_maxima(alloc, &image, Conn::Four)?;    // 0 1 0 1 0, maxval 1
-//! fill(alloc, &image, Conn::Four)?;               // 1 4 3 5 1: in one row each pixel lies on the border
+//! h_maxima(&OneThread, alloc, &image, 2, Conn::Four)?;        // 1 3 3 3 1, maxval 9
+//! regional_maxima(&OneThread, alloc, &image, Conn::Four)?;    // 0 1 0 1 0, maxval 1
+//! fill(&OneThread, alloc, &image, Conn::Four)?;               // 1 4 3 5 1: in one row each pixel lies on the border
 //! ```
 //!
-//! Each takes the memory of at most one grid beside the image that it gives back, and the room of growing
-//! ([`raster_sweeps::Room`]). Want of memory is its one error.
+//! Each grows by a [`Grower`](raster_sweeps::Grower), in one thread or in several. It takes the memory of at most one grid
+//! beside the image that it gives back, and the room of growing. Want of memory is its one error.
 //!
 //! Read on: `specs/Shown.antt`, `specs/Holes.antt`, `specs/HMaxima.antt` and `specs/Plateaus.antt` say what the views
 //! are. They are computed by growing (`raster_sweeps`), each in a way of its own that its module tells.

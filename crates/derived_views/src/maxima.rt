@@ -8,18 +8,25 @@ ghost use Rattle.derived_views.specs.Views.{IsView};
 
 use grid_core::{Conn, Grid, Memory};
 use pgm_codec::{Image, below_keeps_maxval};
-use raster_sweeps::grow_in_place;
+use raster_sweeps::Grower;
 use std::alloc::Global;
 
 /// The h-maxima of an image under this connectivity: its reconstruction from the image less `h`, where no value falls
 /// below 0 (Vincent 1993). `h` is 0 to 65535; with 0 the answer is the image. Width, height and maxval are the image's.
+/// It grows by `grower`.
 ///
 /// Errors: out of memory.
-pub fn h_maxima(alloc: Global, image: &Image, h: u16, conn: Conn) -> Result<Image, Memory>
+pub fn h_maxima<G: Grower>(
+    grower: &G,
+    alloc: Global,
+    image: &Image,
+    h: u16,
+    conn: Conn,
+) -> Result<Image, Memory>
     ensures { IfOk result (IsView image.now image.now.maxval (IsHMaxima (domain_of image.now.raster conn) h)) }
 {
     let mut grown = lowered(alloc, image.grid(), h)?;
-    grow_in_place(alloc, image.grid(), &mut grown, conn)?;
+    grower.grow(alloc, image.grid(), &mut grown, conn)?;
     below_keeps_maxval();
     Ok(Image::over(grown, image.maxval()))
 }

@@ -13,19 +13,24 @@ ghost use Rattle.derived_views.specs.Views.{IsView};
 use crate::maxima::lowered;
 use grid_core::{Conn, Grid, Memory};
 use pgm_codec::Image;
-use raster_sweeps::grow_in_place;
+use raster_sweeps::Grower;
 use std::alloc::Global;
 
 /// The regional maxima of an image under this connectivity: 1 at each pixel of a plateau that strictly lower pixels
 /// surround, and 0 elsewhere (Vincent 1993). A plateau that is the whole image counts. Width and height are those of
-/// the image, and maxval is 1.
+/// the image, and maxval is 1. It grows by `grower`.
 ///
 /// Errors: out of memory.
-pub fn regional_maxima(alloc: Global, image: &Image, conn: Conn) -> Result<Image, Memory>
+pub fn regional_maxima<G: Grower>(
+    grower: &G,
+    alloc: Global,
+    image: &Image,
+    conn: Conn,
+) -> Result<Image, Memory>
     ensures { IfOk result (IsView image.now 1 (IsRegionalMaxima (domain_of image.now.raster conn))) }
 {
     let mut grown = lowered(alloc, image.grid(), 1)?;
-    grow_in_place(alloc, image.grid(), &mut grown, conn)?;
+    grower.grow(alloc, image.grid(), &mut grown, conn)?;
     let all = is_black(image.samples());
     let maxima = where_lower(image.grid(), grown, all);
     Ok(Image::over(maxima, 1))

@@ -7,16 +7,17 @@ ghost use Rattle.derived_views.specs.Shown.{IsShown};
 use grid_core::{Conn, Memory};
 use marker_tiles::marker;
 use pgm_codec::{Image, below_keeps_maxval};
-use raster_sweeps::grow_in_place;
+use raster_sweeps::Grower;
 use std::alloc::Global;
 use stroke_lattice::State;
 
 /// The reconstruction by dilation of a mask from the marker of the live strokes of a state, under this connectivity
 /// (Vincent 1993). Width, height and maxval are the mask's. Condition: each stroke of the state fits the mask
-/// (`State::outside` tells).
+/// (`State::outside` tells). It grows by `grower`.
 ///
 /// Errors: out of memory.
-pub fn reconstruction(
+pub fn reconstruction<G: Grower>(
+    grower: &G,
     alloc: Global,
     mask: &Image,
     state: &State,
@@ -27,6 +28,6 @@ pub fn reconstruction(
 {
     below_keeps_maxval();
     let mut image = marker(alloc, mask.grid(), state)?;
-    grow_in_place(alloc, mask.grid(), &mut image, conn)?;
+    grower.grow(alloc, mask.grid(), &mut image, conn)?;
     Ok(Image::over(image, mask.maxval()))
 }

@@ -4,6 +4,7 @@ use crate::grids::{advance, grid_of};
 use derived_views::{fill, h_maxima, regional_maxima};
 use grid_core::{Conn, Memory};
 use pgm_codec::Image;
+use raster_sweeps::OneThread;
 use std::alloc::Global;
 
 // A view of an image.
@@ -35,9 +36,9 @@ fn image_of(alloc: Global, picture: &Picture) -> Option<Image> {
 // The view of an image.
 fn view_of(alloc: Global, image: &Image, view: View, conn: Conn) -> Result<Image, Memory> {
     match view {
-        View::Fill => fill(alloc, image, conn),
-        View::Domes(h) => h_maxima(alloc, image, h, conn),
-        View::Maxima => regional_maxima(alloc, image, conn),
+        View::Fill => fill(&OneThread, alloc, image, conn),
+        View::Domes(h) => h_maxima(&OneThread, alloc, image, h, conn),
+        View::Maxima => regional_maxima(&OneThread, alloc, image, conn),
     }
 }
 

@@ -15,6 +15,7 @@ use derived_views::{h_maxima, into_filled, regional_maxima};
 use grid_core::laws::{at_most_one_reconstruction, equal_pixels_equal_images};
 use grid_core::{Conn, Memory};
 use pgm_codec::{Image, one_fault, one_image, read};
+use raster_sweeps::{Grower, OneThread};
 use std::alloc::Global;
 
 /// What can be derived from an image.
@@ -46,18 +47,43 @@ pub fn derive_run<S: Source, K: Sink>(
     ensures { Answers (λ input _ text. IsDerivation kind h conn input text) DerivationStops
         result S.seen source.old source.new K.seen sink.old sink.new }
 {
-    respond(alloc, &Deriver { kind, h, conn }, source, sink)
+    derive_run_by(&OneThread, alloc, source, kind, h, conn, sink)
+}
+
+/// As [`derive_run`], and grows by `grower`.
+///
+/// Errors: as [`derive_run`].
+pub fn derive_run_by<G: Grower, S: Source, K: Sink>(
+    grower: &G,
+    alloc: Global,
+    source: &mut S,
+    kind: Derivation,
+    h: u16,
+    conn: Conn,
+    sink: &mut K,
+) -> Result<(), RunError>
+    ensures { Answers (λ input _ text. IsDerivation kind h conn input text) DerivationStops
+        result S.seen source.old source.new K.seen sink.old sink.new }
+{
+    let deriver = Deriver {
+        grower,
+        kind,
+        h,
+        conn,
+    };
+    respond(alloc, &deriver, source, sink)
 }
 
 // Derives images of one kind.
 #[derive(Drop)]
-struct Deriver {
+struct Deriver<'a, G: Grower> {
+    grower: &'a G,
     kind: Derivation,
     h: u16,
     conn: Conn,
 }
 
-impl Responder for Deriver {
+impl<'a, G: Grower> Responder for Deriver<'a, G> {
     type Value = ();
 
     ghost answers = { λ d input _ text. IsDerivation d.kind d.h d.conn input text };
@@ -67,13 +93,14 @@ impl Responder for Deriver {
     fn answer(&self, alloc: Global, input: &[u8]) -> Result<((), Image), RunError> {
         one_fault();
         let image = read(alloc, input)?;
-        let derived = derived_image(alloc, image, self.kind, self.h, self.conn)?;
+        let derived = derived_image(self.grower, alloc, image, self.kind, self.h, self.conn)?;
         Ok(((), derived))
     }
 }
 
 // The image that is derived from another, some in its memory.
-fn derived_image(
+fn derived_image<G: Grower>(
+    grower: &G,
     alloc: Global,
     image: Image,
     kind: Derivation,
@@ -83,9 +110,9 @@ fn derived_image(
     ensures { IfOk result (IsDerived kind h conn image) }
 {
     match kind {
-        Derivation::Fill => into_filled(alloc, image, conn),
-        Derivation::HMax => h_maxima(alloc, &image, h, conn),
-        Derivation::RegMax => regional_maxima(alloc, &image, conn),
+        Derivation::Fill => into_filled(grower, alloc, image, conn),
+        Derivation::HMax => h_maxima(grower, alloc, &image, h, conn),
+        Derivation::RegMax => regional_maxima(grower, alloc, &image, conn),
     }
 }
 

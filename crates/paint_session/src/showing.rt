@@ -15,6 +15,7 @@ use derived_views::reconstruction;
 use edit_lang::LineDelta;
 use grid_core::Conn;
 use pgm_codec::Image;
+use raster_sweeps::Grower;
 use spd_codec::write_frames;
 use std::alloc::Global;
 use std::slice;
@@ -23,7 +24,8 @@ use stroke_lattice::State;
 /// The image that an input asks for over an old state, and the state that it shows.
 ///
 /// Errors: those of [`view_from`](crate::view::view_from) but the devices'.
-pub fn show_over(
+pub fn show_over<G: Grower>(
+    grower: &G,
     alloc: Global,
     input: &[u8],
     old: &State,
@@ -33,13 +35,14 @@ pub fn show_over(
     ensures refused { IfErr result (λ e. IsReadingFault e ⊎ InputStops old.now input.now e) }
 {
     let (deltas, mask) = read_input(alloc, input)?;
-    show(alloc, &mask, slice::from_ref(old), &deltas, conn)
+    show(grower, alloc, &mask, slice::from_ref(old), &deltas, conn)
 }
 
 /// The image that an input asks for over the old bytes of a state file, and the new bytes.
 ///
 /// Errors: those of [`view_kept`](crate::view::view_kept) but the devices' and C5.
-pub fn show_kept(
+pub fn show_kept<G: Grower>(
+    grower: &G,
     alloc: Global,
     input: &[u8],
     old: &[u8],
@@ -50,13 +53,14 @@ pub fn show_kept(
     ensures refused { IfErr result (λ e. IsReadingFault e ⊎ KeptStops conn old.now input.now e) }
 {
     let gathered = gather(alloc, input, old, conn)?;
-    let image = reconstruction(alloc, &gathered.mask, &gathered.state, conn)?;
+    let image = reconstruction(grower, alloc, &gathered.mask, &gathered.state, conn)?;
     let new = write_frames(alloc, conn, &gathered.print, &gathered.state)?;
     Ok((image, new))
 }
 
 // The image that a mask shows of old deltas and of those of lines, merged in order, and the state that they join to.
-fn show<D: HasDelta>(
+fn show<G: Grower, D: HasDelta>(
+    grower: &G,
     alloc: Global,
     mask: &Image,
     old: &[D],
@@ -70,6 +74,6 @@ fn show<D: HasDelta>(
         ⊎ DeltasHalt (map D.delta_of old.now ++ deltas.now) mask.now e) }
 {
     let state = merge_all(alloc, old, deltas, mask.width(), mask.height())?;
-    let image = reconstruction(alloc, mask, &state, conn)?;
+    let image = reconstruction(grower, alloc, mask, &state, conn)?;
     Ok((image, state))
 }

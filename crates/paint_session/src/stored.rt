@@ -5,15 +5,16 @@ ghost use Rattle.paint_session.specs.Serving.{AnswersOverStore, IsStoreFault, Is
 
 use crate::run_error::RunError;
 use crate::store::{StatePath, StateStore};
-use crate::view::view_kept;
+use crate::view::view_kept_by;
 use byte_devices::{Sink, Source};
 use grid_core::Conn;
+use raster_sweeps::{Grower, OneThread};
 use std::alloc::Global;
 
 /// A view over the strokes of a state file: the file is loaded from the store before the source is read, the view is
-/// written as [`view_kept`] writes it, and the file is saved after it.
+/// written as [`view_kept`](crate::view::view_kept) writes it, and the file is saved after it.
 ///
-/// Errors: V2 where the file could not be loaded, with source and sink as they were; those of [`view_kept`]; V2 where
+/// Errors: V2 where the file could not be loaded, with source and sink as they were; those of [`view_kept`](crate::view::view_kept); V2 where
 /// it could not be saved, after the image was written. After each the files are as they were.
 pub fn view_stored<S: Source, T: StateStore, K: Sink>(
     alloc: Global,
@@ -28,7 +29,27 @@ pub fn view_stored<S: Source, T: StateStore, K: Sink>(
     ensures { AnswersOverStore (λ held. IsStoredView conn held path.now) (λ held. StoredStops conn held path.now)
         IsStoreFault result S.seen source.old source.new T.seen store.old store.new K.seen sink.old sink.new }
 {
+    view_stored_by(&OneThread, alloc, source, conn, side, path, store, sink)
+}
+
+/// As [`view_stored`], and grows by `grower`.
+///
+/// Errors: as [`view_stored`].
+pub fn view_stored_by<G: Grower, S: Source, T: StateStore, K: Sink>(
+    grower: &G,
+    alloc: Global,
+    source: &mut S,
+    conn: Conn,
+    side: u32,
+    path: &StatePath,
+    store: &mut T,
+    sink: &mut K,
+) -> Result<(), RunError>
+    requires { IsTileSide side }
+    ensures { AnswersOverStore (λ held. IsStoredView conn held path.now) (λ held. StoredStops conn held path.now)
+        IsStoreFault result S.seen source.old source.new T.seen store.old store.new K.seen sink.old sink.new }
+{
     let old = store.load(alloc, path)?;
-    let new = view_kept(alloc, source, &old, conn, side, sink)?;
+    let new = view_kept_by(grower, alloc, source, &old, conn, side, sink)?;
     store.save(path, &new)
 }

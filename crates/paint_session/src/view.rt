@@ -12,6 +12,7 @@ use byte_devices::{Sink, Source};
 use core_rules::CoreError;
 use grid_core::{Conn, is_tile_side};
 use pgm_codec::{Image, one_fault};
+use raster_sweeps::{Grower, OneThread};
 use std::alloc::Global;
 use stroke_lattice::State;
 
@@ -33,7 +34,23 @@ pub fn view_run<S: Source, K: Sink>(
     ensures { Answers (λ input _ text. (state : State) × IsView conn nothing input state text) (InputStops nothing)
         result S.seen source.old source.new K.seen sink.old sink.new }
 {
-    respond(alloc, &FirstView { conn }, source, sink)
+    view_run_by(&OneThread, alloc, source, conn, sink)
+}
+
+/// As [`view_run`], and grows by `grower`.
+///
+/// Errors: as [`view_run`].
+pub fn view_run_by<G: Grower, S: Source, K: Sink>(
+    grower: &G,
+    alloc: Global,
+    source: &mut S,
+    conn: Conn,
+    sink: &mut K,
+) -> Result<(), RunError>
+    ensures { Answers (λ input _ text. (state : State) × IsView conn nothing input state text) (InputStops nothing)
+        result S.seen source.old source.new K.seen sink.old sink.new }
+{
+    respond(alloc, &FirstView { grower, conn }, source, sink)
 }
 
 /// Reads an input to its end, merges the old state and then the input's deltas in order, and writes the image that
@@ -50,7 +67,8 @@ pub fn view_from<S: Source, K: Sink>(
     ensures { Answers (λ input state text. IsView conn old.now input state text) (InputStops old.now)
         result S.seen source.old source.new K.seen sink.old sink.new }
 {
-    respond(alloc, &ViewBehind { old, conn }, source, sink)
+    let grower = &OneThread;
+    respond(alloc, &ViewBehind { grower, old, conn }, source, sink)
 }
 
 /// As [`view_from`], for a side of tiles. Neither what is written nor what is answered depends on it.
@@ -94,19 +112,38 @@ pub fn view_kept<S: Source, K: Sink>(
     ensures { AnswersForSide side (λ input new text. IsKeptView conn old.now input text new.items)
         (KeptStops conn old.now) result S.seen source.old source.new K.seen sink.old sink.new }
 {
+    view_kept_by(&OneThread, alloc, source, old, conn, side, sink)
+}
+
+/// As [`view_kept`], and grows by `grower`.
+///
+/// Errors: as [`view_kept`].
+pub fn view_kept_by<G: Grower, S: Source, K: Sink>(
+    grower: &G,
+    alloc: Global,
+    source: &mut S,
+    old: &[u8],
+    conn: Conn,
+    side: u32,
+    sink: &mut K,
+) -> Result<Vec<u8>, RunError>
+    ensures { AnswersForSide side (λ input new text. IsKeptView conn old.now input text new.items)
+        (KeptStops conn old.now) result S.seen source.old source.new K.seen sink.old sink.new }
+{
     if !is_tile_side(side) {
         return Err(RunError::Core(CoreError::BadSide));
     }
-    respond(alloc, &KeptView { old, conn }, source, sink)
+    respond(alloc, &KeptView { grower, old, conn }, source, sink)
 }
 
 // Views over no state.
 #[derive(Drop)]
-struct FirstView {
+struct FirstView<'a, G: Grower> {
+    grower: &'a G,
     conn: Conn,
 }
 
-impl Responder for FirstView {
+impl<'a, G: Grower> Responder for FirstView<'a, G> {
     ghost use Rattle.stroke_lattice.specs.State.{State, nothing};
     ghost use Rattle.paint_session.specs.View.{IsView, InputStops};
 
@@ -122,19 +159,20 @@ impl Responder for FirstView {
             Ok(old) => old,
             Err(_) => return Err(RunError::Memory),
         };
-        let (image, _) = show_over(alloc, input, &old, self.conn)?;
+        let (image, _) = show_over(self.grower, alloc, input, &old, self.conn)?;
         Ok(((), image))
     }
 }
 
 // Views over an old state.
 #[derive(Drop)]
-struct ViewBehind<'a> {
+struct ViewBehind<'a, G: Grower> {
+    grower: &'a G,
     old: &'a State,
     conn: Conn,
 }
 
-impl<'a> Responder for ViewBehind<'a> {
+impl<'a, G: Grower> Responder for ViewBehind<'a, G> {
     ghost use Rattle.paint_session.specs.View.{IsView, InputStops};
 
     type Value = State;
@@ -145,19 +183,20 @@ impl<'a> Responder for ViewBehind<'a> {
 
     fn answer(&self, alloc: Global, input: &[u8]) -> Result<(State, Image), RunError> {
         one_fault();
-        let (image, state) = show_over(alloc, input, self.old, self.conn)?;
+        let (image, state) = show_over(self.grower, alloc, input, self.old, self.conn)?;
         Ok((state, image))
     }
 }
 
 // Views over the old bytes of a state file.
 #[derive(Drop)]
-struct KeptView<'a> {
+struct KeptView<'a, G: Grower> {
+    grower: &'a G,
     old: &'a [u8],
     conn: Conn,
 }
 
-impl<'a> Responder for KeptView<'a> {
+impl<'a, G: Grower> Responder for KeptView<'a, G> {
     ghost use Rattle.paint_session.specs.Kept.{IsKeptView, KeptStops};
 
     type Value = Vec<u8>;
@@ -168,7 +207,7 @@ impl<'a> Responder for KeptView<'a> {
 
     fn answer(&self, alloc: Global, input: &[u8]) -> Result<(Vec<u8>, Image), RunError> {
         one_fault();
-        let (image, new) = show_kept(alloc, input, self.old, self.conn)?;
+        let (image, new) = show_kept(self.grower, alloc, input, self.old, self.conn)?;
         Ok((new, image))
     }
 }

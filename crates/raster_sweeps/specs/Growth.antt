@@ -1,4 +1,4 @@
--- Growing an image in place, inside a rectangle. Only private functions have these words in their contracts, but for
+-- Growing an image in place, inside a rectangle. Only the steps of growing have these words in their contracts, but for
 -- `CanGrow`, and for open pairs, of which `specs/OpenBounds.antt` speaks. What a reconstruction is stands in
 -- `grid_core`'s `specs/Reconstruction.antt`, and what a rectangle is in `specs/Rects.antt` there.
 use Rattle.std.specs.Prelude.{◌≡◌, ◌≢◌, ℕ, ◌+◌, ◌<◌, ◌≤◌, ◌⊎◌, Bool, IsTrue, List, [], ◌∷◌, length}

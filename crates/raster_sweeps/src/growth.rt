@@ -137,10 +137,11 @@ pub fn grow_in_place(alloc: Global, mask: &Grid, image: &mut Grid, conn: Conn) -
     Ok(())
 }
 
-// Lets the open pairs within the bounds spread until none is left, and answers the bounds within which pixels rose.
-//
-// It answers none where the bounds are those of the whole rectangle, and where the queue is full.
-fn raise_from_bounds(
+/// Lets the open pairs of a rectangle within the bounds spread until none is left, and answers the bounds within which
+/// pixels rose.
+///
+/// It answers none where the bounds are those of the whole rectangle, and where the queue is full.
+pub fn raise_from_bounds(
     mask: &[u16],
     image: &mut [u16],
     size: Size,
@@ -170,8 +171,15 @@ fn raise_from_bounds(
     drain_within(mask, image, size, rect, conn, waiting, bounds)
 }
 
-// Raises the image inside the rectangle until no pair of neighbours there is open.
-fn close(mask: &[u16], image: &mut [u16], size: Size, rect: Rect, conn: Conn, waiting: &mut Waiting)
+/// Raises the image inside a rectangle until no pair of neighbours there is open: by both scans and the queue.
+pub fn close(
+    mask: &[u16],
+    image: &mut [u16],
+    size: Size,
+    rect: Rect,
+    conn: Conn,
+    waiting: &mut Waiting,
+)
     requires { CanClose rect (rows_of size mask.now) (rows_of size image.old) }
     ensures { IsGrownUp conn rect (rows_of size mask.now) (rows_of size image.old) (rows_of size image.new) }
 {

@@ -20,6 +20,10 @@
 //! where it leaves every pixel outside as it was. That takes no memory: the caller lends it a [`Room`], and may use
 //! that again. [`grow_from_bounds`] looks only within bounds, where no pixel outside of them can raise a neighbour.
 //!
+//! A [`Grower`] is what grows a whole image for those above, who need not know how many threads it takes.
+//!
+//! [`steps`] has what these are made of, on whole rows of cells, which can be given away.
+//!
 //! [`slow`] floods one threshold after another, as the definition says it, and so takes time for each level. It is
 //! there to compare with.
 //!
@@ -29,6 +33,7 @@
 
 mod closed;
 mod corridors;
+mod grower;
 mod growth;
 pub mod laws;
 mod neighbourhood;
@@ -38,9 +43,11 @@ mod row_raises;
 mod rows;
 mod scans;
 mod size;
+pub mod steps;
 mod thresholds;
 mod waiting;
 
 pub use closed::is_closed;
+pub use grower::{Grower, OneThread};
 pub use growth::{Room, grow, grow_from_bounds, grow_in_place, grow_within};
 pub use thresholds::slow;

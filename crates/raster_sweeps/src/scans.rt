@@ -93,9 +93,9 @@ fn greatest(row: &[u16]) -> u16
     most
 }
 
-// Raises the pixels of the rectangle's row `to` by their neighbours in the row `from`, which touches it, so that none
-// of these can raise them further.
-fn raise_row_by(
+/// Raises the pixels of the rectangle's row `to` by their neighbours in the row `from`, which touches it, so that none
+/// of these can raise them further.
+pub fn raise_row_by(
     mask: &[u16],
     image: &mut [u16],
     size: Size,
@@ -141,8 +141,8 @@ fn raise_cells_by(limits: &[u16], cells: &mut [u16], source: usize, target: usiz
     }
 }
 
-// Raises the pixels of the rectangle's row `y`, from the left, by those to their left.
-fn raise_row_from_left(mask: &[u16], image: &mut [u16], size: Size, rect: Rect, y: u32)
+/// Raises the pixels of the rectangle's row `y`, from the left, by those to their left.
+pub fn raise_row_from_left(mask: &[u16], image: &mut [u16], size: Size, rect: Rect, y: u32)
     requires { CanGrowRow rect (rows_of size mask.now) (rows_of size image.old) y }
     ensures { (conn : _) → IsRowGrown conn rect (rows_of size mask.now) y (rows_of size image.old)
         (rows_of size image.new) }
@@ -153,8 +153,8 @@ fn raise_row_from_left(mask: &[u16], image: &mut [u16], size: Size, rect: Rect, 
     raise_from_left(limits, &mut image[start..start + rect.w as usize]);
 }
 
-// Raises the pixels of the rectangle's row `y`, from the right, by those to their right.
-fn raise_row_from_right(mask: &[u16], image: &mut [u16], size: Size, rect: Rect, y: u32)
+/// Raises the pixels of the rectangle's row `y`, from the right, by those to their right.
+pub fn raise_row_from_right(mask: &[u16], image: &mut [u16], size: Size, rect: Rect, y: u32)
     requires { CanGrowRow rect (rows_of size mask.now) (rows_of size image.old) y }
     ensures grown { (conn : _) → IsRowGrown conn rect (rows_of size mask.now) y (rows_of size image.old)
         (rows_of size image.new) }

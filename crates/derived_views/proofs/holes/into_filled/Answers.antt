@@ -10,11 +10,11 @@ use Rattle.derived_views.proofs.Growing.{fill_from, graymap_from}
 use Rattle.derived_views.proofs.Rasters.{complement_is}
 use Rattle.derived_views.proofs.holes.into_filled.Goals as goal
 
-pub grow_in_place-requires : goal.grow_in_place-requires
-grow_in_place-requires c = border_below c.complemented-mask.result c.in_ok-grown.grown c.in_ok-grown.ensures.part
+pub grow-requires : goal.grow-requires
+grow-requires g c = border_below c.complemented-mask.result c.in_ok-grown.grown c.in_ok-grown.ensures.part
 
 pub over-requires : goal.over-requires
-over-requires c =
+over-requires g c =
     let image = c.args.image in
     let is = c.maxval-top.ensures.is_graymap in
     let top : c.maxval-top.result ≡ image.maxval = c.maxval-top.ensures.value in
@@ -23,7 +23,7 @@ over-requires c =
     (subst (λ r. IsFilled r) (sym c.into_grid.ensures) is.sized.filled) c.complemented-mask.ensures
     ∙ ap (λ r. complement_of c.maxval-top.result r) c.into_grid.ensures in
     let turned = c.complemented-filled.ensures in
-    let grown = c.in_ok-grow_in_place.ensures.grown in
+    let grown = c.in_ok-grow.ensures.grown in
     graymap_from image c.complemented-filled.result c.maxval-top.result is
     (omega (arith, top, is.some_maxval))
     (omega (arith, top, is.maxval_within))
@@ -33,7 +33,7 @@ over-requires c =
     (λ k within. omega (arith, turned.values k within))
 
 pub returns : goal.returns
-returns c =
+returns g c =
     let image = c.args.image in
     let is = c.maxval-top.ensures.is_graymap in
     let d = domain_of image.raster c.args.conn in
@@ -46,12 +46,12 @@ returns c =
     λ k within. omega (arith, is.samples_within k within, top)
     in
     let turned = c.complemented-filled.ensures in
-    let grown = c.in_ok-grow_in_place.ensures.grown in
+    let grown = c.in_ok-grow.ensures.grown in
     let part = c.in_ok-grown.ensures.part in
     let shown =
     subst (λ (g : Graymap). IsFill d (value_at image.raster) (value_at g.raster)) (sym c.over.ensures)
     (fill_from c.args.conn c.maxval-top.result image.raster c.complemented-mask.result c.in_ok-grown.grown
-    c.grow_in_place.new.image c.complemented-filled.result mask is.sized.filled turned.filled bound
+    c.grow.new.image c.complemented-filled.result mask is.sized.filled turned.filled bound
     part c.in_ok-grown.ensures.border (grown.width ∙ sym part.width) turned.width (grown.height ∙ sym part.height)
     turned.height turned.values grown.reconstruction) in
     record {

@@ -7,14 +7,14 @@ use Rattle.derived_views.proofs.Growing.{h_maxima_from}
 use Rattle.derived_views.proofs.maxima.h_maxima.Goals as goal
 
 pub returns : goal.returns
-returns c =
+returns g c =
     let image = c.args.image.now.raster in
     let d = domain_of image c.args.conn in
     let shown =
     subst (λ (g : Graymap). IsHMaxima d c.args.h (value_at image) (value_at g.raster)) (sym c.over.ensures)
     (h_maxima_from c.args.conn c.args.h image c.grid.result.now c.grid-2.result.now c.in_ok-grown.grown
-    c.grow_in_place.new.image c.grid.ensures.value c.grid-2.ensures.value c.in_ok-grown.ensures
-    c.in_ok-grow_in_place.ensures.grown.reconstruction) in
+    c.grow.new.image c.grid.ensures.value c.grid-2.ensures.value c.in_ok-grown.ensures
+    c.in_ok-grow.ensures.grown.reconstruction) in
     record {
       graymap = search rules;
       width = search rules;

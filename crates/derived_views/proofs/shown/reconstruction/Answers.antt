@@ -5,20 +5,20 @@ use Rattle.derived_views.proofs.Grown.{grown_is_shown}
 use Rattle.derived_views.proofs.shown.reconstruction.Goals as goal
 
 pub marker-requires : goal.marker-requires
-marker-requires c =
+marker-requires g c =
     subst (λ (r : Raster). StateFits r.width r.height c.args.state.now) (sym c.grid.ensures.value) c.requires
 
-pub grow_in_place-requires : goal.grow_in_place-requires
-grow_in_place-requires c =
+pub grow-requires : goal.grow-requires
+grow-requires g c =
     subst (IsBelow c.in_ok-image.image) (c.grid.ensures.value ∙ sym c.grid-2.ensures.value) c.in_ok-image.ensures.below
 
 pub returns : goal.returns
-returns c =
+returns g c =
     grown_is_shown c.args.conn c.args.mask.now c.over.result c.args.state.now c.grid.result.now c.grid-2.result.now
     c.in_ok-image.image
-    c.grow_in_place.new.image c.maxval.result c.grid.ensures.value c.grid-2.ensures.value
+    c.grow.new.image c.maxval.result c.grid.ensures.value c.grid-2.ensures.value
     (c.in_ok-image.ensures.marks c.args.conn)
-    c.in_ok-grow_in_place.ensures.grown.below c.in_ok-grow_in_place.ensures.grown.filled
-    c.in_ok-grow_in_place.ensures.grown.reconstruction
+    c.in_ok-grow.ensures.grown.below c.in_ok-grow.ensures.grown.filled
+    c.in_ok-grow.ensures.grown.reconstruction
     c.maxval.ensures.value
     c.over.ensures

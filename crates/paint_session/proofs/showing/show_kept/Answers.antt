@@ -8,22 +8,22 @@ use Rattle.paint_session.proofs.KeptViews.{memory_behind, spells_pieces}
 use Rattle.paint_session.proofs.showing.show_kept.Goals as goal
 
 pub returns-in_err-gathered-clause-refused : goal.returns-in_err-gathered-clause-refused
-returns-in_err-gathered-clause-refused c =
+returns-in_err-gathered-clause-refused g c =
     let p = err_from_is_err_and c.from_residual.result c.from_residual.ensures.1 in
     rw (p.1, p.2) c.in_err-gathered.ensures.refused
 
 pub reconstruction-requires : goal.reconstruction-requires
-reconstruction-requires c = c.in_ok-gathered.ensures.fits
+reconstruction-requires g c = c.in_ok-gathered.ensures.fits
 
 pub returns-in_err-image-clause-refused : goal.returns-in_err-image-clause-refused
-returns-in_err-image-clause-refused c =
+returns-in_err-image-clause-refused g c =
     let p = err_from_is_err_and c.from_residual-in_err-image.result c.from_residual-in_err-image.ensures.1 in
     let found = c.in_ok-gathered.gathered in
     rw (p.1, p.2) (inr (memory_behind c.args.conn c.args.old.now c.args.input.now found.mask found.state
     c.in_ok-gathered.ensures.gathered))
 
 pub returns-in_err-new-clause-refused : goal.returns-in_err-new-clause-refused
-returns-in_err-new-clause-refused c =
+returns-in_err-new-clause-refused g c =
     let p = err_from_is_err_and c.from_residual-in_err-new.result c.from_residual-in_err-new.ensures.1 in
     let gathered = c.in_ok-gathered.ensures.gathered in
     rw (p.1, p.2) (inr (inr (inl (
@@ -34,7 +34,7 @@ returns-in_err-new-clause-refused c =
     ))))
 
 pub returns-clause-shown : goal.returns-clause-shown
-returns-clause-shown c =
+returns-clause-shown g c =
     let mask = c.in_ok-gathered.gathered.mask in
     let state = c.in_ok-gathered.gathered.state in
     let print = c.in_ok-gathered.gathered.print in

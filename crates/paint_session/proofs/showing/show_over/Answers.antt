@@ -12,7 +12,7 @@ use Rattle.paint_session.proofs.Results.{ok_both}
 use Rattle.paint_session.proofs.showing.show_over.Goals as goal
 
 pub returns-in_err-deltas-clause-refused : goal.returns-in_err-deltas-clause-refused
-returns-in_err-deltas-clause-refused c =
+returns-in_err-deltas-clause-refused g c =
     let p = err_from_is_err_and c.from_residual.result c.from_residual.ensures.1 in
     rw (p.1, p.2) (elim c.in_err-deltas.ensures.refused [
       | inl memory ↦ inl memory
@@ -21,7 +21,7 @@ returns-in_err-deltas-clause-refused c =
     ])
 
 pub returns-clause-shown : goal.returns-clause-shown
-returns-clause-shown c =
+returns-clause-shown g c =
     let mask = c.in_ok-deltas.mask in
     let old = c.args.old.now in
     let deltas = c.in_ok-deltas.deltas.items in
@@ -41,7 +41,7 @@ returns-clause-shown c =
     c.show.ensures.merged c.show.ensures.shown
 
 pub returns-clause-refused : goal.returns-clause-refused
-returns-clause-refused c =
+returns-clause-refused g c =
     let mask = c.in_ok-deltas.mask in
     let old = c.args.old.now in
     let deltas = c.in_ok-deltas.deltas.items in
