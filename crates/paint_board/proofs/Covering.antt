@@ -1,6 +1,6 @@
 -- Rectangles that are added one after another, and what they cover.
-use Rattle.std.proofs.Common.{◌≡◌, ℕ, ◌+◌, ◌<◌, ◌≤◌, ◌⊎◌, inl, inr, refl, sym, subst}
-use Rattle.std.proofs.Common.{List, [], ◌∷◌, ◌++◌, length, arith}
+use Rattle.std.proofs.Common.{ℕ, ◌+◌, ◌<◌, ◌≤◌, ◌⊎◌, inl, inr, sym, subst}
+use Rattle.std.proofs.Common.{List, [], ◌∷◌, ◌++◌, arith}
 use Rattle.std.specs.Prelude.{◌↔◌, slice_index, Contains}
 use Rattle.std.proofs.lemmas.Bool.{cases_eq}
 use Rattle.std.proofs.lemmas.Bool.Decides.{leb_tells}

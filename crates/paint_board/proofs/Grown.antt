@@ -1,7 +1,7 @@
 -- A board that settled for a slice is later, and whole.
-use Rattle.std.proofs.Common.{◌≡◌, ℕ, ◌+◌, ◌<◌, ◌≤◌, ◌⊎◌, inl, inr, refl, sym, ◌∙◌, ap, subst}
+use Rattle.std.proofs.Common.{◌≡◌, ℕ, ◌<◌, ◌≤◌, ◌⊎◌, inl, inr, refl, sym, ◌∙◌, ap, subst}
 use Rattle.std.proofs.Common.{List, Bool, length, arith}
-use Rattle.std.specs.Prelude.{Contains, ◌↔◌, min, replicate, slice_index_or, false, Result, Ok, Err, IfOk, OnErr}
+use Rattle.std.specs.Prelude.{Contains, ◌↔◌, replicate, slice_index_or, false, Result, Ok, Err, IfOk, OnErr}
 use Rattle.std.proofs.lemmas.List.{length-replicate, get_or-replicate}
 use Rattle.byte_devices.specs.Device.{count_after}
 use Rattle.grid_core.specs.Tiles.{count_of}

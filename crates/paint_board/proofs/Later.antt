@@ -1,11 +1,10 @@
 -- Boards that are later than others.
-use Rattle.std.proofs.Common.{◌≡◌, ℕ, ◌<◌, ◌≤◌, ◌⊎◌, inl, inr, refl, ◌∙◌, sym, ap, subst, length, arith}
-use Rattle.grid_core.specs.declared.pixel.Pixel.{Pixel}
+use Rattle.std.proofs.Common.{◌≡◌, ℕ, ◌<◌, ◌⊎◌, inl, inr, refl, ◌∙◌, sym, subst, arith}
 use Rattle.grid_core.specs.Tiles.{Tiles}
 use Rattle.core_rules.specs.Shown.{ShowsTheSame}
 use Rattle.core_rules.specs.Work.{Core, tiling, IsTile}
 use Rattle.core_rules.specs.Hits.{IsInTile}
-use Rattle.paint_board.specs.Board.{Board, shown_at, last_step, since_in, HasTurned}
+use Rattle.paint_board.specs.Board.{Board, last_step, since_in, HasTurned}
 use Rattle.paint_board.specs.Later.{HasSameGround, HasSameStroke, IsNewsSince, IsLater}
 use Rattle.paint_board.proofs.Since.{since_falls, turned_after}
 

@@ -1,5 +1,5 @@
 -- Tiles of a set that are given a step, one after another.
-use Rattle.std.proofs.Common.{◌≡◌, ℕ, suc, ◌+◌, ◌<◌, ◌≤◌, ◌⊎◌, inl, inr, refl, sym, ◌∙◌, List, Bool, length, set, arith}
+use Rattle.std.proofs.Common.{◌≡◌, ℕ, suc, ◌+◌, ◌<◌, ◌⊎◌, inl, inr, refl, ◌∙◌, List, Bool, length, set, arith}
 use Rattle.std.specs.Prelude.{◌≢◌, slice_index, slice_index_or, false}
 use Rattle.std.proofs.lemmas.Bool.{cases_eq}
 use Rattle.std.proofs.lemmas.Bool.Decides.{leb_tells}

@@ -1,9 +1,9 @@
 -- From which step on a page has to be told what changed.
-use Rattle.std.proofs.Common.{◌≡◌, ℕ, suc, ◌<◌, ◌≤◌, inl, inr, arith, true, false}
+use Rattle.std.proofs.Common.{◌≡◌, ℕ, suc, ◌≤◌, inl, inr, arith, true, false}
 use Rattle.std.specs.Prelude.{◌≢◌, Bool, ◌==◌, nat_lt, if◌then◌else◌}
 use Rattle.std.proofs.lemmas.Bool.Decides.{leb_tells}
 use Rattle.std.proofs.lemmas.Bool.{ne_eqb}
-use Rattle.paint_board.specs.Board.{Board, last_step, since_in, since_of, HasTurned}
+use Rattle.paint_board.specs.Board.{Board, since_in, since_of, HasTurned}
 
 -- once steps have gone on, it is the same or earlier
 pub since_falls : (a b s t last : ℕ) → a ≤ b → s ≤ t

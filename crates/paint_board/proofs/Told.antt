@@ -1,11 +1,11 @@
 -- What a page is told covers each difference.
-use Rattle.std.proofs.Common.{◌≡◌, ℕ, List, ◌<◌, ◌⊎◌, inl, inr, refl, sym, ap, subst, length, arith}
+use Rattle.std.proofs.Common.{◌≡◌, ℕ, List, ◌<◌, ◌⊎◌, inl, inr, refl, sym, subst, arith}
 use Rattle.std.specs.Prelude.{◌≢◌, Contains}
 use Rattle.grid_core.specs.declared.pixel.Pixel.{Pixel}
 use Rattle.grid_core.specs.declared.rect.Rect.{Rect}
 use Rattle.grid_core.specs.Raster.{Raster, IsInside}
 use Rattle.grid_core.specs.TileLaws.{EachPixelInOneTile}
-use Rattle.grid_core.specs.Tiles.{Tiles, tile_of, count_of}
+use Rattle.grid_core.specs.Tiles.{Tiles, tile_of}
 use Rattle.stroke_lattice.specs.State.{IsLiveTag}
 use Rattle.core_rules.specs.Work.{tiling, image_at, IsTile}
 use Rattle.paint_board.specs.Board.{Board, shown_at, since_in, since_of, IsWhole, HasTurned}

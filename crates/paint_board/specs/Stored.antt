@@ -1,6 +1,5 @@
 -- Which board the parts of a stored one are, and what is true of each stored board.
 use Rattle.std.specs.Prelude.{◌≡◌, false, length, replicate}
-use Rattle.core_rules.specs.Work.{IsTile}
 use Rattle.paint_session.specs.Kept.{print_of}
 use Rattle.paint_board.specs.Board.{Board, mask_of, IsWhole}
 use Rattle.paint_board.specs.declared.board.Board.TheInside.{Inside as Parts}

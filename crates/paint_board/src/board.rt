@@ -21,8 +21,8 @@ mod files;
 mod growing;
 mod taking;
 
-/// What stands behind a page: a core, the greatest level of its files, and the numbers by which a page knows what it has
-/// seen.
+/// What stands behind a page: a core, the greatest level of its files, and the numbers by which a page knows what it
+/// has seen.
 #[derive(Drop)]
 pub struct Board {
     core: Core,
@@ -89,12 +89,12 @@ impl Board {
         })
     }
 
-    /// The board of a mask with the strokes and tombstones that the bytes of a state file keep for it. A state file that
-    /// is not there has no bytes.
+    /// The board of a mask with the strokes and tombstones that the bytes of a state file keep for it. A state file
+    /// that is not there has no bytes.
     ///
-    /// Errors, the first that is met: C5 where the side is less than 8 or more than 256; M1 to M7 of the bytes; D1 where
-    /// a frame of them is for another mask or connectivity; C1 or C2 at the first frame whose delta those before it do
-    /// not take. M8, C4 or plain want of memory.
+    /// Errors, the first that is met: C5 where the side is less than 8 or more than 256; M1 to M7 of the bytes; D1
+    /// where a frame of them is for another mask or connectivity; C1 or C2 at the first frame whose delta those before
+    /// it do not take. M8, C4 or plain want of memory.
     pub fn open_kept(
         alloc: Global,
         mask: Image,

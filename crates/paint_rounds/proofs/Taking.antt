@@ -1,5 +1,6 @@
 -- What a peer takes in, from what its connection did.
-use Rattle.std.proofs.Common.{◌≡◌, ℕ, Bool, true, false, List, [], ◌++◌, refl, sym, ap, ◌∙◌, subst, append-nil, inl, inr}
+use Rattle.std.proofs.Common.{◌≡◌, ℕ, Bool, true, false, List, [], ◌++◌, refl, sym, ap, ◌∙◌, subst, append-nil}
+use Rattle.std.proofs.Common.{inl, inr}
 use Rattle.std.specs.Prelude.{if◌then◌else◌, IsFalse}
 use Rattle.http.specs.declared.request.Request.{Request}
 use Rattle.http_server.specs.declared.response.Response.{Response}
@@ -34,7 +35,8 @@ TakesIn-closed now p closed = record {
 }
 
 -- nothing came, or its moment is now
-pub moment_after : {C : Type 0} (now : ℕ) (came : Bool) (old new : Peer C) → new.moved ≡ (if came then now else old.moved)
+pub moment_after : {C : Type 0} (now : ℕ) (came : Bool) (old new : Peer C)
+    → new.moved ≡ (if came then now else old.moved)
     → (IsFalse came → (past new).received ≡ (past old).received) → (past new).sent ≡ (past old).sent
     → NotesMoment now old new
 moment_after now true old new moved still unsent is_open = inl moved
@@ -53,18 +55,19 @@ pub taken : {S T C : Type 0} (answers : S → Request (List ℕ) → Response �
     → NotesMoment now old new
     → (mine : List Call) × TakesIn now old new mine
     × Chain (Answers answers) (keeping seen keeper) mine (keeping seen after)
-taken {S} {T} answers seen now keeper forgot after old new forgets calls received unsent config said was_open rests moment = (
-  calls.0,
-  record {
-    config = config;
-    received = received;
-    calls = calls.1;
-    unsent = unsent;
-    noted = λ none. none_answered answers calls.0 forgot after calls.2 (sym said ∙ none);
-    rests = rests;
-    moment = moment;
-    closed = λ closed. absurd (cc);
-  },
-  subst (λ k. Chain (Answers answers) k calls.0 (keeping seen after)) (ap (λ (k : Keeper S T). keeping seen k) forgets)
-      (Chain-keeping answers seen calls.0 forgot after calls.2),
-)
+taken {S} {T} answers seen now keeper forgot after old new forgets calls received unsent config said was_open rests
+    moment = (
+      calls.0,
+      record {
+        config = config;
+        received = received;
+        calls = calls.1;
+        unsent = unsent;
+        noted = λ none. none_answered answers calls.0 forgot after calls.2 (sym said ∙ none);
+        rests = rests;
+        moment = moment;
+        closed = λ closed. absurd (cc);
+      },
+      subst (λ k. Chain (Answers answers) k calls.0 (keeping seen after)) (ap (λ (k : Keeper S T). keeping seen k) forgets)
+          (Chain-keeping answers seen calls.0 forgot after calls.2),
+    )

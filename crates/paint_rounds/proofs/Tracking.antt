@@ -94,8 +94,9 @@ module _ {S : Type 0} (version : S → ℕ) (spells : S → List ℕ → Type 0)
 
   -- a round
   module _ (answers : S → Request (List ℕ) → Response → S → Type 0)
-      (counts : (old : S) (request : Request (List ℕ)) (response : Response) (new : S) → answers old request response new
-      → IsLater version spells old new) (calls : List Call) (kept : Bool) (a b c : Keeping S)
+      (counts : (old : S) (request : Request (List ℕ)) (response : Response) (new : S)
+      → answers old request response new → IsLater version spells old new)
+      (calls : List Call) (kept : Bool) (a b c : Keeping S)
       (called : Chain (Answers answers) a calls b) (settled : Settles version spells b kept c)
       (tracked : IsTracked version spells a) where
     pub tracked_after : IsTracked version spells c

@@ -1,7 +1,7 @@
 //! A service with the file that keeps its state.
 
 ghost use Rattle.std.specs.Prelude.{◌≡◌, ◌↔◌, false, IsTrue};
-ghost use Rattle.paint_rounds.specs.Keeping.{IsBehind, IsInFile, IsTracked, Settles};
+ghost use Rattle.paint_rounds.specs.Keeping.{IsBehind, IsTracked, Settles};
 ghost use Rattle.paint_rounds.specs.Keeper.{keeping, KeeperAnswers};
 
 use crate::kept::Kept;

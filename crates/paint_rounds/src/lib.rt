@@ -11,8 +11,7 @@
 //! loop {
 //!     // .. wait for the streams
 //!     while round(&mut keeper, &mut peers, now).moved {}
-//!     peers.drop_idle(now, 30_000);
-//!     peers.sweep();
+//!     peers.sweep(now, 30_000);   // those that are closed, and those that said nothing for half a minute
 //! }
 //! ```
 //!

@@ -42,8 +42,8 @@ impl Board {
     /// Takes the bytes of a state file: the core merges the join of its frames, in one event. Nothing is settled.
     ///
     /// Errors: M1 to M7 of the bytes; D1 where a frame is for another mask or connectivity; else C1 or C2 at the first
-    /// frame whose delta those before it do not take; else, of the join, C2 where another stroke of the board has one of
-    /// its tags, else C3. M8, C4 or plain want of memory. The board is then as it was.
+    /// frame whose delta those before it do not take; else, of the join, C2 where another stroke of the board has one
+    /// of its tags, else C3. M8, C4 or plain want of memory. The board is then as it was.
     pub fn take_file(&mut self, alloc: Global, bytes: &[u8]) -> Result<(), RunError>
         ensures taken { OnOk result (FileIsTaken self.old bytes.now self.new) }
         ensures refused { IfErr result (λ e. IsMemory e ⊎ FileIsRefused self.old bytes.now e) }

@@ -8,7 +8,7 @@ use Rattle.paint_board.specs.Stored.{board_of}
 use Rattle.paint_board.specs.Growing.{IsGrown, IsSettledFor}
 use Rattle.paint_board.specs.Later.{IsLater}
 use Rattle.paint_board.specs.declared.board.Board.TheInside.{Inside as Parts}
-use Rattle.paint_board.proofs.Grown.{IsSliceOf, swept_room, marks_room, parts_are_grown, parts_are_later}
+use Rattle.paint_board.proofs.Grown.{swept_room, marks_room, parts_are_grown, parts_are_later}
 use Rattle.paint_board.proofs.Grown.{parts_are_stored, settled_for}
 use Rattle.paint_board.proofs.board.Board.grow.Goals as goal
 

@@ -10,7 +10,8 @@ invariant-loop-peer g l =
     let olds = l.fn.self.list.items in
     let seen = g.T.StateStore.seen in
     record {
-      taken : (calls : List Call) × InTurn (TakesIn l.now) (take l.peer-index olds) (take l.peer-index l.peer-items) calls
+      taken : (calls : List Call)
+          × InTurn (TakesIn l.now) (take l.peer-index olds) (take l.peer-index l.peer-items) calls
           × Chain (Answers g.S.Service.answers) (keeping seen l.fn.keeper) calls (keeping seen l.keeper);
       rest : drop l.peer-index l.peer-items ≡ drop l.peer-index olds;
     }
