@@ -22,7 +22,8 @@ use Rattle.paint_session.specs.declared.run_error.RunError.TheVariants.{StateFil
 use Rattle.seedpaint.specs.Run.{CanBeMade, EndsEarly, IsAnswer, RunEndsEarly, StopsOn, TellsLine}
 use Rattle.seedpaint.specs.Words.{IsRefusalOfWords, ProcessSays, Reads, Says, SideIs}
 use Rattle.seedpaint.specs.declared.words.Call.{Call}
-use Rattle.seedpaint.specs.declared.words.Call.TheVariants.{View, Node, Derive}
+use Rattle.seedpaint.specs.declared.words.Call.TheVariants.{View, Node, Derive, Paint}
+use Rattle.paint_serve.specs.declared.call.PaintCall.{PaintCall}
 
 -- what holds of the value of an `Ok` gives what it implies
 ok_gives : {T E : Type 0} (r : Result T E) (P : T → Type 0) (Q : Type 0) → ((x : T) → P x → Q) → IsOkAnd r P → Q
@@ -50,21 +51,34 @@ value_side : (value : Option Text) (side : ℕ) → SideIs value side → IsTile
 value_side None side is = subst IsTileSide (sym is) (record { at_least = omega arith; at_most = omega arith })
 value_side (Some text) side is = is.1
 
--- the call that words say can be made
-said_can_be_made : (words : List Text) (call : Call) → Says words call → CanBeMade call
-said_can_be_made words call (inl (none, is)) =
+-- the call that words say can be made, unless it is a painting
+said_can_be_made : (words : List Text) (call : Call) → ((painting : PaintCall) → call ≡ Paint painting → ⊥)
+    → Says words call → CanBeMade call
+said_can_be_made words call no_painting (inl (none, is)) =
     subst CanBeMade (sym is) (record { at_least = omega arith; at_most = omega arith })
-said_can_be_made words (View conn side file) (inr (no_fault, (rows, named, conn_is, side_is, file_is))) =
-    value_side _ side side_is
-said_can_be_made words (Node conn side port ticks hands peers file) (inr (no_fault, (rows, named, node))) =
-    value_side _ side node.side_is
-said_can_be_made words (Derive kind h conn) (inr said) = tt
+said_can_be_made words (View conn side file) no_painting
+    (inr (no_fault, (rows, named, conn_is, side_is, file_is))) = value_side _ side side_is
+said_can_be_made words (Node conn side port ticks hands peers file) no_painting
+    (inr (no_fault, (rows, named, node))) = value_side _ side node.side_is
+said_can_be_made words (Derive kind h conn) no_painting (inr said) = tt
+said_can_be_made words (Paint painting) no_painting (inr said) = no_painting painting refl
 
 -- and so the call that the words of a process say
 pub process_can_be_made : {Z E : Type 0} (args : Result (IntoIter (String Z) Z) E) (call : Call)
-    → ProcessSays args call → CanBeMade call
-process_can_be_made args call says =
-    ok_gives args _ (CanBeMade call) (λ given said. said_can_be_made said.0 call said.2) says
+    → ((painting : PaintCall) → call ≡ Paint painting → ⊥) → ProcessSays args call → CanBeMade call
+process_can_be_made args call no_painting says =
+    ok_gives args _ (CanBeMade call) (λ given said. said_can_be_made said.0 call no_painting said.2) says
+
+-- a painting that words say names a side that tiles may have
+said_painting_side : (words : List Text) (painting : PaintCall) → Says words (Paint painting)
+    → IsTileSide painting.side
+said_painting_side words painting (inl (none, is)) = cc
+said_painting_side words painting (inr (no_fault, (rows, named, paint))) = value_side _ painting.side paint.side_is
+
+pub process_painting_side : {Z E : Type 0} (args : Result (IntoIter (String Z) Z) E) (painting : PaintCall)
+    → ProcessSays args (Paint painting) → IsTileSide painting.side
+process_painting_side args painting says =
+    ok_gives args _ (IsTileSide painting.side) (λ given said. said_painting_side said.0 painting said.2) says
 
 -- reading words gives usage or want of memory
 pub words_are_early : {Z E : Type 0} (args : Result (IntoIter (String Z) Z) E) (e : RunError)

@@ -18,12 +18,14 @@ use Rattle.grid_core.specs.declared.conn.Conn.{Conn}
 use Rattle.grid_core.specs.Tiles.{IsTileSide}
 use Rattle.seedpaint.proofs.Numbers.{is_decimal, number_value, one_number, one_within}
 use Rattle.seedpaint.proofs.Ports.{one_peers}
-use Rattle.seedpaint.specs.Words.{program, ConnIs, SideIs, KindIs, HIs, IsCall, IsNode, IsUsage, Says}
+use Rattle.seedpaint.specs.Words.{program, ConnIs, SideIs, KindIs, HIs, IsCall, IsNode, IsPaint, IsUsage, Says}
+use Rattle.seedpaint.specs.Words.{KeptFileIs}
 use Rattle.seedpaint.specs.Words.{NamesNoConn, NamesNoSide, NamesNoKind, NamesNoH}
 use Rattle.paint_session.specs.declared.derive.Derivation.{Derivation as Kind}
 use Rattle.paint_session.specs.declared.derive.Derivation.TheVariants.{Fill, HMax, RegMax}
 use Rattle.seedpaint.specs.declared.words.Call.{Call}
-use Rattle.seedpaint.specs.declared.words.Call.TheVariants.{View, Node, Derive}
+use Rattle.seedpaint.specs.declared.words.Call.TheVariants.{View, Node, Derive, Paint}
+use Rattle.paint_serve.specs.declared.call.PaintCall.{PaintCall}
 
 -- both parts of a pair in an option
 both_parts : {B X Y : Type 0} (f : B → X × Y) (o : Option B) (x : X) (y : Y)
@@ -67,6 +69,8 @@ no_call rows named is none (Node conn side port ticks hands peers file) (other, 
     search rules
 no_call rows named is none (Derive kind h conn) (other, same, is_kind, is_h, is_conn) =
     search rules
+no_call rows named is none (Paint painting) (other, same, is_paint) =
+    search rules
 
 pub no_sided_call : (rows : List Row) (named : Option (Text × List Row)) → named ≡ Some (codes "view", rows)
     → NamesNoSide (first_of (codes "tile") rows) → (call : Call) → IsCall named call → ⊥
@@ -75,6 +79,8 @@ no_sided_call rows named is none (View conn side file) (other, same, says, tile,
 no_sided_call rows named is none (Node conn side port ticks hands peers file) (other, same, node) =
     search rules
 no_sided_call rows named is none (Derive kind h conn) (other, same, is_kind, is_h, is_conn) =
+    search rules
+no_sided_call rows named is none (Paint painting) (other, same, is_paint) =
     search rules
 
 -- a derivation that names no view, no number for `--h` or no connectivity is no call
@@ -86,6 +92,8 @@ no_kind_call rows named is none (Node conn side port ticks hands peers file) (ot
     search rules
 no_kind_call rows named is none (Derive kind h conn) (other, same, is_kind, is_h, is_conn) =
     search rules
+no_kind_call rows named is none (Paint painting) (other, same, is_paint) =
+    search rules
 
 pub no_h_call : (rows : List Row) (named : Option (Text × List Row)) → named ≡ Some (codes "derive", rows)
     → NamesNoH (first_of (codes "h") rows) → (call : Call) → IsCall named call → ⊥
@@ -95,6 +103,8 @@ no_h_call rows named is none (Node conn side port ticks hands peers file) (other
     search rules
 no_h_call rows named is none (Derive kind h conn) (other, same, is_kind, is_h, is_conn) =
     search rules
+no_h_call rows named is none (Paint painting) (other, same, is_paint) =
+    search rules
 
 pub no_joined_call : (rows : List Row) (named : Option (Text × List Row)) → named ≡ Some (codes "derive", rows)
     → NamesNoConn (first_of (codes "conn") rows) → (call : Call) → IsCall named call → ⊥
@@ -103,6 +113,8 @@ no_joined_call rows named is none (View conn side file) (other, same, says, tile
 no_joined_call rows named is none (Node conn side port ticks hands peers file) (other, same, node) =
     search rules
 no_joined_call rows named is none (Derive kind h conn) (other, same, is_kind, is_h, is_conn) =
+    search rules
+no_joined_call rows named is none (Paint painting) (other, same, is_paint) =
     search rules
 
 -- a name has one list of rows
@@ -120,6 +132,17 @@ no_node_call rows none (Node conn side port ticks hands peers file) (other, same
     none conn side port ticks hands peers file
     (subst (λ (r : List Row). IsNode r conn side port ticks hands peers file) is node)
 no_node_call rows none (Derive kind h conn) (other, same, is_kind, is_h, is_conn) = search rules
+no_node_call rows none (Paint painting) (other, same, is_paint) = search rules
+
+-- a call of a painting is one by its rows
+pub no_paint_call : (rows : List Row) → ((painting : PaintCall) → IsPaint rows painting → ⊥) → (call : Call)
+    → IsCall (Some (codes "paint", rows)) call → ⊥
+no_paint_call rows none (View conn side file) (other, same, says, tile, kept) = search rules
+no_paint_call rows none (Node conn side port ticks hands peers file) (other, same, node) = search rules
+no_paint_call rows none (Derive kind h conn) (other, same, is_kind, is_h, is_conn) = search rules
+no_paint_call rows none (Paint painting) (other, same, is_paint) =
+    let is : other ≡ rows = same_rows (codes "paint") other rows (sym same) in
+    none painting (subst (λ (r : List Row). IsPaint r painting) is is_paint)
 
 -- no word is no subcommand
 no_word_is_fault : fault_of program [] ≡ [] → ⊥
@@ -200,6 +223,34 @@ one_node rows a b s t p q k l h i ps qs f g first second =
     let peers : ps ≡ qs = one_peers (all_of (codes "peer") rows) ps qs first.peers_are second.peers_are in
     cc
 
+-- a painting's state file has at most one name
+one_file : (mask : Text) (value : Option Text) (a b : Text) → KeptFileIs mask value a → KeptFileIs mask value b → a ≡ b
+one_file mask None a b first second = first ∙ sym second
+one_file mask (Some v) a b first second = first ∙ sym second
+
+-- and its mask, too
+one_mask : (value : Option Text) (a b : Text) → value ≡ Some a → value ≡ Some b → a ≡ b
+one_mask value a b first second = ap (λ (v : Option Text). option_map_or (λ t. t) v []) (sym first ∙ second)
+
+-- a painting is the parts of it
+same_parts : (a b f g : Text) (c d : Conn) (s t k l : ℕ) → a ≡ b → f ≡ g → c ≡ d → s ≡ t → k ≡ l
+    → ◌≡◌ {A = PaintCall} (record { mask = a; file = f; conn = c; side = s; port = k })
+    (record { mask = b; file = g; conn = d; side = t; port = l })
+same_parts a b f g c d s t k l mask file conn side port = cc
+
+-- rows say at most one painting
+one_painting : (rows : List Row) (p q : PaintCall) → IsPaint rows p → IsPaint rows q → p ≡ q
+one_painting rows p q first second =
+    let mask : p.mask ≡ q.mask = one_mask (first_of (codes "mask") rows) p.mask q.mask first.mask_is second.mask_is in
+    let named : KeptFileIs p.mask (first_of (codes "state") rows) q.file =
+    subst (λ (m : Text). KeptFileIs m (first_of (codes "state") rows) q.file) (sym mask) second.file_is in
+    same_parts p.mask q.mask p.file q.file p.conn q.conn p.side q.side p.port q.port mask
+    (one_file p.mask (first_of (codes "state") rows) p.file q.file first.file_is named)
+    (one_conn (first_of (codes "conn") rows) p.conn q.conn first.conn_is second.conn_is)
+    (one_side (first_of (codes "tile") rows) p.side q.side first.side_is second.side_is)
+    (one_within (Some 0) 0 65535 (omega arith) (first_of (codes "port") rows) p.port q.port first.port_is
+    second.port_is)
+
 -- words say at most one call
 pub one_call : (words : List Text) (a b : Call) → Says words a → Says words b → a ≡ b
 one_call words (View a s f) (View b t g) first second = search (rules, one_conn, one_side, no_word_is_fault)
@@ -218,6 +269,17 @@ one_call words (Node a s p k h ps f) (Node b t q l i qs g) (inl (none, is)) seco
 one_call words (Node a s p k h ps f) (Node b t q l i qs g) (inr first) (inl (none, is)) = cc
 one_call words (Derive kind h a) (Derive other g b) first second =
     search (rules, one_kind, one_h, one_conn, no_word_is_fault)
+one_call words (Paint p) (View b t g) first second = search (rules, no_word_is_fault)
+one_call words (Paint p) (Derive kind h conn) first second = search (rules, no_word_is_fault)
+one_call words (Paint p) (Node b t q l i qs g) first second = search (rules, no_word_is_fault)
+one_call words (View a s f) (Paint q) first second = search (rules, no_word_is_fault)
+one_call words (Derive kind h conn) (Paint q) first second = search (rules, no_word_is_fault)
+one_call words (Node a s p k h ps f) (Paint q) first second = search (rules, no_word_is_fault)
+one_call words (Paint p) (Paint q) (inr (fault, (rows, named, paint))) (inr (same, (others, is, other))) =
+    let again : others ≡ rows = same_rows (codes "paint") others rows (sym is ∙ named) in
+    ap Paint (one_painting rows p q paint (subst (λ (r : List Row). IsPaint r q) again other))
+one_call words (Paint p) (Paint q) (inl (none, is)) second = cc
+one_call words (Paint p) (Paint q) (inr first) (inl (none, is)) = cc
 
 -- words in which clap finds a fault say no call
 pub usage_at_fault : (words : List Text) → is_empty words ≡ false → is_empty (fault_of program words) ≡ false
@@ -271,6 +333,20 @@ pub usage_at_node : (words : List Text) (rows : List Row) → is_empty words ≡
 usage_at_node words rows some is none call (inl (no_word, is_call)) = search rules
 usage_at_node words rows some is none call (inr (no_fault, is_call)) =
     no_node_call rows none call (subst (λ named. IsCall named call) is is_call)
+
+-- where there is no word, none is named
+pub names_none : {T : Type 0} (f : T → Text) (o : Option T) (name : Text) → ((x : T) → o ≡ Some x → ⊥)
+    → option_map f o ≡ Some name → ⊥
+names_none f None name none is = cc
+names_none f (Some x) name none is = none x refl
+
+-- words behind `paint` that say none say no call
+pub usage_at_paint : (words : List Text) (rows : List Row) → is_empty words ≡ false
+    → subcommand_of program words ≡ Some (codes "paint", rows)
+    → ((painting : PaintCall) → IsPaint rows painting → ⊥) → IsUsage words
+usage_at_paint words rows some is none call (inl (no_word, is_call)) = search rules
+usage_at_paint words rows some is none call (inr (no_fault, is_call)) =
+    no_paint_call rows none call (subst (λ named. IsCall named call) is is_call)
 
 -- the row of a word that is given several times
 abbrev pub words_row : Text → List Text → Row

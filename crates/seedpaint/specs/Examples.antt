@@ -5,7 +5,7 @@ use Rattle.grid_core.specs.declared.conn.Conn.TheVariants.{Four, Eight}
 use Rattle.paint_session.specs.declared.derive.Derivation.TheVariants.{Fill, HMax, RegMax}
 use Rattle.seedpaint.specs.Words.{Says}
 use Rattle.seedpaint.specs.declared.words.Call.{Call}
-use Rattle.seedpaint.specs.declared.words.Call.TheVariants.{View, Node, Derive}
+use Rattle.seedpaint.specs.declared.words.Call.TheVariants.{View, Node, Derive, Paint}
 
 -- words, and the call that they are to say
 abbrev pub Example : Type 0
@@ -50,6 +50,20 @@ of_a_derivation =
       Derive HMax 2 Eight,
     ) ∷
     []
+
+-- a painting: as short as it can be; with every option, and the greatest port; with its word behind an option
+abbrev pub of_a_painting : List Example
+of_a_painting = (
+  codes "paint" ∷ codes "m" ∷ [],
+  Paint (record { mask = codes "m"; file = codes "m.spd"; conn = Four; side = 64; port = 0 }),
+) ∷ (
+  codes "paint" ∷ codes "m" ∷ codes "--port" ∷ codes "65535" ∷ codes "--state" ∷ codes "a" ∷ codes "--conn"
+      ∷ codes "8" ∷ codes "--tile" ∷ codes "8" ∷ [],
+  Paint (record { mask = codes "m"; file = codes "a"; conn = Eight; side = 8; port = 65535 }),
+) ∷ (
+  codes "paint" ∷ codes "--port" ∷ codes "0" ∷ codes "m" ∷ [],
+  Paint (record { mask = codes "m"; file = codes "m.spd"; conn = Four; side = 64; port = 0 }),
+) ∷ []
 
 -- no call: another value, no value or a second one, a word too many, an option of no or of another subcommand, help,
 -- another subcommand
@@ -107,5 +121,19 @@ of_no_node =
     (codes "node" ∷ codes "--port" ∷ codes "9" ∷ codes "--ticks" ∷ codes "3" ∷ codes "1" ∷ codes "65536" ∷ []) ∷
     (codes "node" ∷ codes "--port" ∷ codes "9" ∷ codes "--ticks" ∷ codes "3" ∷ codes "--port" ∷ codes "9" ∷ codes "1"
     ∷ []) ∷
+    (codes "view" ∷ codes "--port" ∷ codes "9" ∷ []) ∷
+    []
+
+-- no painting: no mask or two of them, a port that is too great or not in decimal, a side that tiles may not have, an
+-- option that is there twice, and options of other subcommands
+abbrev pub of_no_painting : List (List Text)
+of_no_painting =
+    (codes "paint" ∷ []) ∷
+    (codes "paint" ∷ codes "m" ∷ codes "m" ∷ []) ∷
+    (codes "paint" ∷ codes "m" ∷ codes "--port" ∷ codes "65536" ∷ []) ∷
+    (codes "paint" ∷ codes "m" ∷ codes "--port" ∷ codes "08" ∷ []) ∷
+    (codes "paint" ∷ codes "m" ∷ codes "--tile" ∷ codes "7" ∷ []) ∷
+    (codes "paint" ∷ codes "m" ∷ codes "--port" ∷ codes "9" ∷ codes "--port" ∷ codes "9" ∷ []) ∷
+    (codes "paint" ∷ codes "m" ∷ codes "--ticks" ∷ codes "3" ∷ []) ∷
     (codes "view" ∷ codes "--port" ∷ codes "9" ∷ []) ∷
     []

@@ -1,5 +1,6 @@
 -- What a run does: the call that the words say, on an input and over what its state file holds.
-use Rattle.std.specs.Prelude.{◌≡◌, ◌⊎◌, ◌++◌, ◌∷◌, [], ⊤, ℕ, List, Some, None, Result, Ok, Err, String}
+use Rattle.std.specs.Prelude.{◌≡◌, ◌⊎◌, ◌++◌, ◌∷◌, [], ⊤, ℕ, List, Option, Some, None, Result, Ok, Err, String}
+use Rattle.std.specs.Prelude.{IfOk, IfSome}
 use Rattle.std.specs.Io.KnownBytes.{Appends}
 use Rattle.std.specs.declared.vec.IntoIter.{IntoIter}
 use Rattle.byte_devices.specs.Device.{SinkSeen, HasRisen}
@@ -17,13 +18,15 @@ use Rattle.node_session.specs.Network.{IsBound, NetworkSeen}
 use Rattle.node_session.specs.Stored.{IsNodeFault, IsStoredNode, StoredNodeStops}
 use Rattle.seedpaint.specs.Words.{ProcessSays}
 use Rattle.seedpaint.specs.declared.words.Call.{Call}
-use Rattle.seedpaint.specs.declared.words.Call.TheVariants.{View, Node, Derive}
+use Rattle.seedpaint.specs.declared.words.Call.TheVariants.{View, Node, Derive, Paint}
 
--- the call can be made: tiles may have the side that it names, where it names one
+-- the call is made here: it is no painting, which is handed back, and tiles may have the side that it names, where it
+-- names one
 abbrev pub CanBeMade : Call → Type 0
 CanBeMade (View conn side file) = IsTileSide side
 CanBeMade (Node conn side port ticks hands peers file) = IsTileSide side
 CanBeMade (Derive kind h conn) = ⊤
+CanBeMade (Paint painting) = ⊥
 
 -- the text is what the call writes for an input, and this is to be kept: for a view or a node with a state file the new
 -- bytes of that, over what files hold, else nothing
@@ -34,6 +37,7 @@ IsAnswer (View conn side (Some name)) held input text kept = IsStoredView conn h
 IsAnswer (Node conn side port ticks hands peers file) held input text kept =
     IsStoredNode conn hands file held input text kept
 IsAnswer (Derive kind h conn) held input text kept = IsDerivation kind h conn input text × (kept ≡ None)
+IsAnswer (Paint painting) held input text kept = ⊥
 
 -- where the call stops on an input
 abbrev pub StopsOn : Call → Held → List ℕ → RunError → Type 0
@@ -41,6 +45,7 @@ StopsOn (View conn side None) held input e = InputStops nothing input e
 StopsOn (View conn side (Some name)) held input e = StoredStops conn held name input e
 StopsOn (Node conn side port ticks hands peers file) held input e = StoredNodeStops conn hands file held input e
 StopsOn (Derive kind h conn) held input e = DerivationStops input e
+StopsOn (Paint painting) held input e = ⊥
 
 -- the errors of the call that may come whatever the input is; V2 is among them where it has a state file, and D3 where
 -- it is a node
@@ -49,12 +54,14 @@ EndsEarly (View conn side None) e = IsReadingFault e
 EndsEarly (View conn side (Some name)) e = IsStoreFault e
 EndsEarly (Node conn side port ticks hands peers file) e = IsNodeFault file e
 EndsEarly (Derive kind h conn) e = IsReadingFault e
+EndsEarly (Paint painting) e = ⊥
 
 -- how the call leaves the network: a node bound its port, to its peers, and no other call asks it
 abbrev pub Leaves : Call → NetworkSeen → NetworkSeen → Type 0
 Leaves (View conn side file) old new = new ≡ old
 Leaves (Node conn side port ticks hands peers file) old new = IsBound port peers new
 Leaves (Derive kind h conn) old new = new ≡ old
+Leaves (Paint painting) old new = ⊥
 
 -- the words of the process say a call, and this holds of it
 abbrev pub IsSaid : {Z E : Type 0} → Result (IntoIter (String Z) Z) E → (Call → Type 0) → Type 0
@@ -72,6 +79,16 @@ RunEndsEarly args e = (e ≡ Usage) ⊎ (e ≡ Memory) ⊎ IsSaid args (λ call.
 
 abbrev pub RunLeaves : {Z E : Type 0} → Result (IntoIter (String Z) Z) E → NetworkSeen → NetworkSeen → Type 0
 RunLeaves args old new = IsSaid args (λ call. Leaves call old new)
+
+-- the run ended, and this holds of its end; where it hands a painting back, it has not ended
+abbrev pub IfEnded : {X : Type 0} → Result (Option X) RunError → (Result (Unit {0}) RunError → Type 0) → Type 0
+IfEnded (Ok None) P = P (Ok tt)
+IfEnded (Ok (Some painting)) P = ⊤
+IfEnded (Err e) P = P (Err e)
+
+-- the run handed a painting back, and this holds of it
+abbrev pub IfHandedBack : {X : Type 0} → Result (Option X) RunError → (X → Type 0) → Type 0
+IfHandedBack result P = IfOk result (λ back. IfSome back P)
 
 -- the line of a fault, with its LF
 abbrev pub error_line : RunError → List ℕ

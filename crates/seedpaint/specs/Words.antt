@@ -1,5 +1,6 @@
 -- What the words of the command line say.
-use Rattle.std.specs.Prelude.{◌≡◌, ◌≤◌, ◌⊎◌, ℕ, [], List, Option, Some, None, String, map, drop, codes, true, false}
+use Rattle.std.specs.Prelude.{◌≡◌, ◌≤◌, ◌⊎◌, ◌++◌, ℕ, [], List, Option, Some, None, String, map, drop, codes}
+use Rattle.std.specs.Prelude.{true, false}
 use Rattle.std.specs.Prelude.{string_bytes, decimal, length, All, Result, Err, IfOk, IfErr, IsOkAnd}
 use Rattle.std.specs.Iterator.{Drains}
 use Rattle.std.specs.Vec.Iter.{into_iter_steps}
@@ -15,7 +16,8 @@ use Rattle.grid_core.specs.declared.conn.Conn.{Conn}
 use Rattle.grid_core.specs.declared.conn.Conn.TheVariants.{Four, Eight}
 use Rattle.grid_core.specs.Tiles.{IsTileSide}
 use Rattle.seedpaint.specs.declared.words.Call.{Call}
-use Rattle.seedpaint.specs.declared.words.Call.TheVariants.{View, Node, Derive}
+use Rattle.seedpaint.specs.declared.words.Call.TheVariants.{View, Node, Derive, Paint}
+use Rattle.paint_serve.specs.declared.call.PaintCall.{PaintCall}
 use Rattle.paint_session.specs.declared.derive.Derivation.{Derivation as Kind}
 use Rattle.paint_session.specs.declared.derive.Derivation.TheVariants.{Fill, HMax, RegMax}
 use Rattle.paint_session.specs.declared.run_error.RunError.{RunError}
@@ -49,14 +51,19 @@ abbrev pub derive_command : App
 derive_command = with_rule (with_rule (with_rule (new_app (codes "derive")) (new_rule (codes "kind")))
     (option_of (codes "h"))) (option_of (codes "conn"))
 
+-- the subcommand `paint`, with the options of a view and `--port`, and with the word behind it
+abbrev pub paint_command : App
+paint_command =
+    with_rule (with_rule (viewing_command (codes "paint")) (option_of (codes "port"))) (new_rule (codes "mask"))
+
 -- the program: its words begin behind its name, they have to name a subcommand, and they can ask for no help
 abbrev pub program : App
-program = with_subcommand (with_subcommand (with_subcommand (on_top (λ top. record top {
+program = with_subcommand (with_subcommand (with_subcommand (with_subcommand (on_top (λ top. record top {
   no_binary_name = true;
   disable_help_flag = true;
   disable_help_subcommand = true;
   subcommand_required = true;
-}) (new_app (codes "seedpaint"))) view_command.top) derive_command.top) node_command.top
+}) (new_app (codes "seedpaint"))) view_command.top) derive_command.top) node_command.top) paint_command.top
 
 -- what clap knows of the command is this, and none of its arguments is one of its subcommands too
 abbrev pub IsLocal : App → Command → Type 0
@@ -140,6 +147,24 @@ pub record IsNode (rows : List Row) (conn : Conn) (side port ticks hands : ℕ) 
   pub hands_is : HandsIs (first_of (codes "hands") rows) hands
   pub peers_are : PeersAre (all_of (codes "peer") rows) peers
 
+-- the value of `--port` behind `paint` is this port, 0 to 65535; where there is none, it is 0
+abbrev pub PagePortIs : Option Text → ℕ → Type 0
+PagePortIs = NumberIs (Some 0) 0 65535
+
+-- the state file of a painting has the name that is the value of `--state`; where there is none, it is the mask's with
+-- `.spd` behind it
+abbrev pub KeptFileIs : Text → Option Text → Text → Type 0
+KeptFileIs mask None name = name ≡ mask ++ codes ".spd"
+KeptFileIs mask (Some value) name = name ≡ value
+
+-- what the words give the options of `paint`, and its word, is this
+pub record IsPaint (rows : List Row) (painting : PaintCall) : Type 0 where
+  pub mask_is : first_of (codes "mask") rows ≡ Some painting.mask
+  pub file_is : KeptFileIs painting.mask (first_of (codes "state") rows) painting.file
+  pub conn_is : ConnIs (first_of (codes "conn") rows) painting.conn
+  pub side_is : SideIs (first_of (codes "tile") rows) painting.side
+  pub port_is : PagePortIs (first_of (codes "port") rows) painting.port
+
 -- the subcommand that the words name, with what they give its options, is this call; the value of `--state` is the name
 -- of the state file
 abbrev pub IsCall : Option (Text × List Row) → Call → Type 0
@@ -151,6 +176,7 @@ IsCall named (Node conn side port ticks hands peers file) =
 IsCall named (Derive kind h conn) =
     (rows : List Row) × (named ≡ Some (codes "derive", rows)) × KindIs (first_of (codes "kind") rows) kind
     × HIs (first_of (codes "h") rows) h × ConnIs (first_of (codes "conn") rows) conn
+IsCall named (Paint painting) = (rows : List Row) × (named ≡ Some (codes "paint", rows)) × IsPaint rows painting
 
 -- the words say this call: no word says `view` with four neighbours and tiles of side 64, without a state file, and in
 -- others clap finds no fault and reads it

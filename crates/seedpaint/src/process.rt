@@ -6,14 +6,18 @@ ghost use Rattle.paint_session.specs.RunError.{HasStatus};
 ghost use Rattle.paint_session.specs.Serving.{AnswersOverStore};
 ghost use Rattle.node_session.specs.Network.{TellsNetwork};
 ghost use Rattle.seedpaint.specs.Run.{CanBeMade, EndsEarly, IsAnswer, Leaves, StopsOn, error_line};
+ghost use Rattle.seedpaint.specs.Run.{IfEnded, IfHandedBack, IsSaid};
 ghost use Rattle.seedpaint.specs.Run.{RunAnswers, RunEndsEarly, RunLeaves, RunStops, Tells, TellsFault, TellsLine};
 ghost use Rattle.seedpaint.specs.Words.{ProcessSaysNone};
+ghost use Rattle.seedpaint.specs.declared.words.Call.TheVariants as call;
+ghost use Rattle.grid_core.specs.Tiles.{IsTileSide};
 
 use crate::words::{Call, read_process_words};
 use byte_devices::{Sink, Source, put_all};
 use grid_core::Memory;
 use node_session::network::Network;
 use node_session::stored::{NodeCall, node_stored};
+use paint_serve::PaintCall;
 use paint_session::derive::derive_run;
 use paint_session::run_error::{RunError, fault_line, status};
 use paint_session::store::StateStore;
@@ -28,7 +32,8 @@ use std::{env, io};
 
 /// Makes the call that the words of the process say, as `env::args` gives them, from the source to the sink. The state
 /// file of a view or a node that has one is loaded from the store before the source is read, and saved after the image
-/// is written. A node binds its port on the network, between the load and the reading.
+/// is written. A node binds its port on the network, between the load and the reading. A painting is handed back, with
+/// source, store, network and sink as they were.
 ///
 /// Errors: usage, with source, store, network and sink as they were; else those of the call ([`view_run`],
 /// [`view_stored`], [`node_stored`], [`derive_run`]). After each the files are as they were.
@@ -40,22 +45,34 @@ pub fn run<R: Threads + Wait + Clock + Sync, S: Source, T: StateStore, N: Networ
     store: &mut T,
     network: &mut N,
     sink: &mut K,
-) -> Result<(), RunError>
-    ensures runs { AnswersOverStore (RunAnswers args) (RunStops args) (RunEndsEarly args) result
-        S.seen source.old source.new T.seen store.old store.new K.seen sink.old sink.new }
-    ensures network { TellsNetwork (RunLeaves args (N.seen network.old)) result
-        (N.seen network.old) (N.seen network.new) }
+) -> Result<Option<PaintCall>, RunError>
+    ensures runs { IfEnded result (λ ended. AnswersOverStore (RunAnswers args) (RunStops args) (RunEndsEarly args) ended
+        S.seen source.old source.new T.seen store.old store.new K.seen sink.old sink.new) }
+    ensures network { IfEnded result (λ ended. TellsNetwork (RunLeaves args (N.seen network.old)) ended
+        (N.seen network.old) (N.seen network.new)) }
+
+    // A painting that the words say.
+    ensures painting { IfHandedBack result (λ painting. IsSaid args (λ said. said ≡ call.Paint painting)) }
+    ensures side { IfHandedBack result (λ painting. IsTileSide painting.side) }
+    ensures untouched { IfHandedBack result (λ _. (source.new ≡ source.old) × (store.new ≡ store.old)
+        × (network.new ≡ network.old) × (sink.new ≡ sink.old)) }
 
     // Words that say no call are usage, and leave the source alone. So does a port that could not be bound.
     ensures usage { IsErrOf result RunError.Usage → ProcessSaysNone args }
     ensures unread { IsErrOf result RunError.Usage → source.new ≡ source.old }
     ensures unbound { IsErrOf result RunError.Link → source.new ≡ source.old }
 {
-    let call = read_process_words(alloc, args)?;
-    make(rt, alloc, source, call, store, network, sink)
+    let said = read_process_words(alloc, args)?;
+    match said {
+        Call::Paint(painting) => Ok(Some(painting)),
+        call => {
+            make(rt, alloc, source, call, store, network, sink)?;
+            Ok(None)
+        }
+    }
 }
 
-// Makes a call, from the source to the sink.
+// Makes a call that is no painting, from the source to the sink.
 fn make<R: Threads + Wait + Clock + Sync, S: Source, T: StateStore, N: Network, K: Sink>(
     rt: &R,
     alloc: Global,
@@ -99,6 +116,7 @@ fn make<R: Threads + Wait + Clock + Sync, S: Source, T: StateStore, N: Network, 
             node_stored(rt, alloc, source, call, store, network, sink)
         }
         Call::Derive { kind, h, conn } => derive_run(alloc, source, kind, h, conn, sink),
+        Call::Paint(_) => unreachable!(),
     }
 }
 

@@ -7,6 +7,7 @@ use byte_devices::{MemorySink, MemorySource};
 use grid_core::Memory;
 use link_nodes::{Link, MemoryLink};
 use node_session::network::MemoryNetwork;
+use paint_serve::PaintCall;
 use paint_session::memory_store::MemoryStore;
 use paint_session::run_error::{RunError, StudioFault};
 use paint_session::store::StatePath;
@@ -190,6 +191,14 @@ const RUNS: &[Run] = &[
         words: "seedpaint|node|--port|40001|--ticks|3",
         ..USAGE
     },
+    Run {
+        words: "seedpaint|paint|--port|40001",
+        ..USAGE
+    },
+    Run {
+        words: "seedpaint|paint|m.pgm|--port|65536",
+        ..USAGE
+    },
 ];
 
 // The words between the bars of a text.
@@ -230,6 +239,23 @@ fn is_told(alloc: Global, case: &Run, outcome: &Result<(), RunError>) -> bool {
     code == ExitCode::from(case.status) && errors.written() == case.line
 }
 
+// The outcome of a run that hands back no painting.
+fn made(outcome: Result<Option<PaintCall>, RunError>) -> Option<Result<(), RunError>> {
+    match outcome {
+        Ok(Some(_)) => None,
+        Ok(None) => Some(Ok(())),
+        Err(error) => Some(Err(error)),
+    }
+}
+
+// Whether a run hands back no painting, and is told so.
+fn is_ended(alloc: Global, case: &Run, outcome: Result<Option<PaintCall>, RunError>) -> bool {
+    match made(outcome) {
+        Some(outcome) => is_told(alloc, case, &outcome),
+        None => false,
+    }
+}
+
 // Whether a run over this store, this network and this sink is told so, and reads its input or leaves it.
 fn does_end<R: Threads + Wait + Clock + Sync>(
     rt: &R,
@@ -250,7 +276,7 @@ fn does_end<R: Threads + Wait + Clock + Sync>(
         network,
         sink,
     );
-    Ok(is_told(alloc, case, &outcome) && (source.pulls() > 0) == case.is_read)
+    Ok(is_ended(alloc, case, outcome) && (source.pulls() > 0) == case.is_read)
 }
 
 // Whether a run ends so, and leaves file and network so.
@@ -280,6 +306,46 @@ fn runs(rt: HostRuntime) {
             case.words
         );
     }
+}
+
+// Whether a run hands back a painting of these names at this port, and leaves its input.
+fn is_handed_back<R: Threads + Wait + Clock + Sync>(
+    rt: &R,
+    alloc: Global,
+    words: &str,
+    mask: &str,
+    file: &str,
+    port: u16,
+) -> Result<bool, Memory> {
+    let words = words_of(alloc, words)?;
+    let mut source = MemorySource::new(Vec::from_slice(alloc, PLACED.as_bytes())?);
+    let mut store = MemoryStore::new(alloc).failing_at(1);
+    let mut network = MemoryNetwork::new(None);
+    let mut sink = MemorySink::new(alloc);
+    let outcome = run(
+        rt,
+        alloc,
+        Ok(words.into_iter()),
+        &mut source,
+        &mut store,
+        &mut network,
+        &mut sink,
+    );
+    let Ok(Some(painting)) = outcome else {
+        return Ok(false);
+    };
+    let is_named = painting.mask.as_str() == mask && painting.file.name() == file;
+    Ok(is_named && painting.port == port && source.pulls() == 0 && sink.written().is_empty())
+}
+
+#[test]
+fn paintings(rt: HostRuntime) {
+    let alloc = rt.alloc();
+    let plain = is_handed_back(&rt, alloc, "seedpaint|paint|m.pgm", "m.pgm", "m.pgm.spd", 0);
+    assert!(rt; matches!(plain, Ok(true)));
+    let words = "seedpaint|paint|--state|kept|--port|65535|--conn|8|--tile|16|m";
+    let full = is_handed_back(&rt, alloc, words, "m", "kept", 65_535);
+    assert!(rt; matches!(full, Ok(true)));
 }
 
 // Why there is no studio, or none that closes, the line and the status.

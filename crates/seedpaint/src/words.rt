@@ -13,16 +13,20 @@ ghost use Rattle.seedpaint.specs.Words.{program, derive_command, viewing_command
 ghost use Rattle.seedpaint.specs.Words.{IsCall, Says, IsUsage, ProcessSays, ProcessSaysNone, Reads, IsRefusalOfWords};
 ghost use Rattle.seedpaint.specs.Words.{ConnIs, NamesNoConn, SideIs, KindIs, NamesNoKind, HIs};
 ghost use Rattle.seedpaint.specs.Examples.{IsSaidSo, of_a_view, of_a_node, of_a_derivation, of_no_call, of_no_node};
+ghost use Rattle.seedpaint.specs.Examples.{of_a_painting, of_no_painting};
 ghost use Rattle.seedpaint.specs.declared.words.Call.{Call};
 ghost use Rattle.seedpaint.specs.declared.words.Call.TheVariants as call;
 ghost use Rattle.paint_session.specs.declared.run_error.RunError.TheVariants as errors;
 
 mod node;
+mod paint;
 
 use clap::{Arg, ArgMatches, Command};
 use grid_core::{Conn, Memory, TILE_SIDE, is_tile_side};
 pub use node::Peers;
 use node::{node_command, node_of};
+use paint::{paint_command, paint_of};
+use paint_serve::PaintCall;
 use paint_session::derive::Derivation;
 use paint_session::run_error::RunError;
 use paint_session::store::StatePath;
@@ -67,6 +71,8 @@ pub enum Call {
         /// Which pixels are neighbours.
         conn: Conn,
     },
+    /// Serves a page to paint on.
+    Paint(PaintCall),
 }
 
 // What a refusal of `clap` is: want of memory, or usage.
@@ -81,11 +87,13 @@ fn refusal_of(error: &clap::Error) -> RunError
 }
 
 /// Reads the words behind the program's name: no word at all, `view [--conn 4|8] [--tile N] [--state FILE]`,
-/// `node --port PORT --ticks N [--hands N] [--conn 4|8] [--tile N] [--state FILE] PEER..`, or
-/// `derive KIND [--h N] [--conn 4|8]`. Without `--conn` the connectivity is that of four neighbours. The N of `--tile`
-/// is 8 to 256, and 64 where it is not given. FILE is any text. PORT and each PEER, of which there are 1 to 8, are 1 to
-/// 65535. The N of `--ticks` is 1 to 100000, that of `--hands` 1 to 16, and 2 where it is not given. KIND is `fill`,
-/// `hmax` or `regmax`. The N of `--h` is 0 to 65535 with each KIND, and 1 where it is not given.
+/// `node --port PORT --ticks N [--hands N] [--conn 4|8] [--tile N] [--state FILE] PEER..`,
+/// `derive KIND [--h N] [--conn 4|8]`, or `paint MASK [--state FILE] [--port N] [--conn 4|8] [--tile N]`. Without
+/// `--conn` the connectivity is that of four neighbours. The N of `--tile` is 8 to 256, and 64 where it is not given.
+/// FILE is any text. PORT and each PEER, of which there are 1 to 8, are 1 to 65535. The N of `--ticks` is 1 to 100000,
+/// that of `--hands` 1 to 16, and 2 where it is not given. KIND is `fill`, `hmax` or `regmax`. The N of `--h` is 0 to
+/// 65535 with each KIND, and 1 where it is not given. MASK is any text; where behind `paint` no FILE is given, it is
+/// MASK with `.spd` behind it. The N of `--port` there is 0 to 65535, and 0 where it is not given.
 ///
 /// `--conn=8`, the options in another order and a `--` at the end are taken too, as `clap` does. A value is its very
 /// text: `08` is no value. There is no help and no version.
@@ -151,6 +159,11 @@ pub fn words_of_a_derivation()
     ensures { All IsSaidSo of_a_derivation }
 {}
 
+/// Words that say a painting.
+pub fn words_of_a_painting()
+    ensures { All IsSaidSo of_a_painting }
+{}
+
 /// Words that say no call: another value, no value or a second one, a word too many, an option of no or of another
 /// subcommand, help, another subcommand.
 pub fn words_of_no_call()
@@ -161,6 +174,12 @@ pub fn words_of_no_call()
 /// is missing or there twice, no peer or nine of them, an option of another subcommand.
 pub fn words_of_no_node()
     ensures { All IsUsage of_no_node }
+{}
+
+/// Words that say no painting, and no other call: no mask or two of them, a port that is too great or not in decimal, a
+/// side that tiles may not have, an option that is there twice, or is one of another subcommand.
+pub fn words_of_no_painting()
+    ensures { All IsUsage of_no_painting }
 {}
 
 // The program as `clap` parses its words.
@@ -177,7 +196,9 @@ fn program<'a>(alloc: Global) -> Result<Command<'a>, AllocError>
     let derive = derive_command(alloc)?;
     let seedpaint = seedpaint.subcommand(derive)?;
     let node = node_command(alloc)?;
-    seedpaint.subcommand(node)
+    let seedpaint = seedpaint.subcommand(node)?;
+    let paint = paint_command(alloc)?;
+    seedpaint.subcommand(paint)
 }
 
 // A subcommand with the options of a view.
@@ -218,6 +239,9 @@ fn call_of(alloc: Global, matches: &ArgMatches<'_>) -> Result<Call, RunError>
     }
     if let Some(node) = matches.subcommand_matches("node") {
         return node_of(alloc, node);
+    }
+    if let Some(paint) = matches.subcommand_matches("paint") {
+        return paint_of(alloc, paint);
     }
     match matches.subcommand_matches("derive") {
         Some(derive) => derive_of(alloc, derive),

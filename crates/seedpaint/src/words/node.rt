@@ -100,8 +100,10 @@ fn port_of(alloc: Global, value: Option<&str>) -> Result<u16, RunError>
     }
 }
 
-// The number that a value is in decimal, in this range, or the default, if there is one.
-fn number_within(
+/// The number that a value is in decimal, in this range, or the default, if there is one.
+///
+/// Errors: usage where it is no such number; out of memory.
+pub(super) fn number_within(
     alloc: Global,
     value: Option<&str>,
     default: Option<u32>,

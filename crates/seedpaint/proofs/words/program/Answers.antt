@@ -2,7 +2,7 @@ use Rattle.std.proofs.Common.{ap, ap₂, ◌∙◌, ◌≡◌, codes, true}
 use Rattle.std.proofs.lemmas.Result.{IfOk-weaker}
 use Rattle.clap.specs.Words.{App, app_of, new_app, with_subcommand}
 use Rattle.clap.specs.Simple.{app_of_fields, on_top}
-use Rattle.seedpaint.specs.Words.{view_command, derive_command, node_command}
+use Rattle.seedpaint.specs.Words.{view_command, derive_command, node_command, paint_command}
 use Rattle.seedpaint.proofs.words.program.Goals as goal
 
 abbrev unnamed : App → App
@@ -32,6 +32,8 @@ returns c =
     ∙ ap₂ with_subcommand top_is (ap (λ (a : App). a.top) {y = view_command} c.in_ok-view.ensures.0) in
     let with_derive = c.in_ok-seedpaint-2.ensures.shape c.in_ok-derive.ensures.1
     ∙ ap₂ with_subcommand with_view (ap (λ (a : App). a.top) {y = derive_command} c.in_ok-derive.ensures.0) in
-    IfOk-weaker c.subcommand-3.result _ _ (λ command adds. adds.shape c.in_ok-node.ensures.1
-    ∙ ap₂ with_subcommand with_derive (ap (λ (a : App). a.top) {y = node_command} c.in_ok-node.ensures.0))
-    c.subcommand-3.ensures
+    let with_node = c.in_ok-seedpaint-3.ensures.shape c.in_ok-node.ensures.1
+    ∙ ap₂ with_subcommand with_derive (ap (λ (a : App). a.top) {y = node_command} c.in_ok-node.ensures.0) in
+    IfOk-weaker c.subcommand-4.result _ _ (λ command adds. adds.shape c.in_ok-paint.ensures.1
+    ∙ ap₂ with_subcommand with_node (ap (λ (a : App). a.top) {y = paint_command} c.in_ok-paint.ensures.0))
+    c.subcommand-4.ensures

@@ -1,0 +1,58 @@
+//! The words behind `paint`.
+
+ghost use Rattle.std.specs.Prelude.{◌≡◌, codes, option_map, Some, IfOk};
+ghost use Rattle.clap.specs.Words.{found_of, rows_of};
+ghost use Rattle.seedpaint.specs.Words.{paint_command, IsLocal, IsCall, Reads, KeptFileIs};
+
+use super::node::number_within;
+use super::{Call, conn_of, side_of, viewing_command, with_option};
+use clap::{Arg, ArgMatches, Command};
+use grid_core::Memory;
+use paint_serve::{MaskName, PaintCall};
+use paint_session::run_error::RunError;
+use paint_session::store::StatePath;
+use std::alloc::{AllocError, Global};
+
+/// The subcommand `paint`.
+pub(super) fn paint_command<'a>(alloc: Global) -> Result<Command<'a>, AllocError>
+    ensures { IfOk result (IsLocal paint_command) }
+{
+    let paint = viewing_command(alloc, "paint")?;
+    let paint = with_option(alloc, paint, "port")?;
+    paint.arg(Arg::new(alloc, "mask"))
+}
+
+/// The painting that its word and options ask for.
+pub(super) fn paint_of(alloc: Global, paint: &ArgMatches<'_>) -> Result<Call, RunError>
+    ensures { Reads (IsCall (Some (codes "paint", rows_of (found_of paint.now)))) result }
+{
+    let Some(name) = paint.get_str("mask") else {
+        return Err(RunError::Usage);
+    };
+    let conn = conn_of(paint.get_str("conn"))?;
+    let side = side_of(alloc, paint.get_str("tile"))?;
+    let port = number_within(alloc, paint.get_str("port"), Some(0), 0, 65_535)?;
+    let file = kept_file_of(alloc, name, paint.get_str("state"))?;
+    let mask = MaskName::new(alloc, name)?;
+    Ok(Call::Paint(PaintCall {
+        mask,
+        file,
+        conn,
+        side,
+        port: port as u16,
+    }))
+}
+
+// The state file of a painting by the value of `--state`.
+fn kept_file_of(alloc: Global, mask: &str, value: Option<&str>) -> Result<StatePath, Memory>
+    ensures { IfOk result (KeptFileIs mask.now (option_map (λ text. text.now) value.entry)) }
+{
+    match value {
+        Some(name) => StatePath::new(alloc, name),
+        None => {
+            let mut name = String::from_str(alloc, mask)?;
+            name.push_str(".spd")?;
+            StatePath::new(alloc, name.as_str())
+        }
+    }
+}
