@@ -3,6 +3,7 @@
 
     python3 bench/refused.py crates/refused_growths/out/refused_growths
     python3 bench/refused.py crates/refused_studios/out/refused_studios
+    python3 bench/refused.py crates/refused_pages/out/refused_pages
 
 The program has to be built, by `rt run` in its crate, and a C compiler has to be there, for refuse.c. A call is made
 with the growth of number 1 refused, then with that of number 2, and so on, until runs meet none; the program compares

@@ -1,0 +1,24 @@
+#![tactic(auto)]
+//! Tests of the page's service, by the bytes of a connection in memory.
+//!
+//! They stand in a crate of their own because tests are proved safe as well. No function here promises anything: what
+//! is sent is compared when the tests run. `exchange` has the connection, `senders` who may ask, `paths` what is asked,
+//! `sizes` what is too large, `edits` and `files` what is posted, `telling` what a page is told. `strokes` has what
+//! these three share.
+
+#[cfg(test)]
+mod edits;
+#[cfg(test)]
+mod exchange;
+#[cfg(test)]
+mod files;
+#[cfg(test)]
+mod paths;
+#[cfg(test)]
+mod senders;
+#[cfg(test)]
+mod sizes;
+#[cfg(test)]
+mod strokes;
+#[cfg(test)]
+mod telling;

@@ -1,0 +1,114 @@
+//! Pages that are served for some turns, and asked once.
+
+ghost use Rattle.std.specs.Prelude.{IfSome};
+ghost use Rattle.grid_core.specs.Tiles.{IsTileSide};
+
+use crate::caller::{Caller, Question};
+use crate::world::{MaskFile, World};
+use byte_devices::StdSink;
+use grid_core::Conn;
+use paint_serve::{MaskName, PaintCall, paint};
+use paint_session::memory_store::MemoryStore;
+use paint_session::run_error::RunError;
+use paint_session::store::StatePath;
+use std::alloc::Global;
+use std::net::Net;
+
+/// A page that is served for three turns, and asked when the first of them begins.
+#[derive(Clone, Copy, Drop)]
+pub struct Play {
+    /// The mask's file.
+    pub mask: MaskFile,
+    /// The bytes of the state file.
+    pub kept: &'static [u8],
+    /// The side of the tiles.
+    pub side: u32,
+    /// Each of the random bytes.
+    pub random: u8,
+    /// The key that they make.
+    pub key: &'static str,
+    /// What is asked.
+    pub question: Question,
+    /// The status of the answer.
+    pub status: &'static str,
+    /// What the body of the answer begins with.
+    pub front: &'static str,
+    /// What it ends with.
+    pub end: &'static str,
+}
+
+// The call of a page with tiles of this side.
+fn call_of(alloc: Global, side: u32) -> Option<PaintCall>
+    ensures { IfSome result (λ call. IsTileSide call.side) }
+{
+    if side < 8 || 256 < side {
+        return None;
+    }
+    match (MaskName::new(alloc, "mask"), StatePath::new(alloc, "kept")) {
+        (Ok(mask), Ok(file)) => Some(PaintCall {
+            mask,
+            file,
+            conn: Conn::Eight,
+            side,
+            port: 0,
+        }),
+        _ => None,
+    }
+}
+
+// The store of a call, with these bytes in its state file.
+fn store_of(alloc: Global, call: &PaintCall, kept: &[u8]) -> Option<MemoryStore> {
+    MemoryStore::new(alloc).with_file(&call.file, kept).ok()
+}
+
+// Whether a page is served, and then no longer, since nobody tells the time.
+fn ends<R: Net>(
+    world: &World<'_, R>,
+    alloc: Global,
+    play: &Play,
+    sink: &mut StdSink<Caller<'_, R>>,
+) -> bool {
+    match call_of(alloc, play.side) {
+        Some(call) => match store_of(alloc, &call, play.kept) {
+            Some(store) => paint(world, alloc, call, store, sink) == Err(RunError::Link),
+            None => false,
+        },
+        None => false,
+    }
+}
+
+// Whether an answer is the one of the play.
+fn is_answer(answer: &[u8], play: &Play) -> bool {
+    match str::from_utf8(answer) {
+        Ok(text) => match text.split_once("\r\n\r\n") {
+            Some((head, body)) => {
+                head.starts_with(play.status)
+                    && body.starts_with(play.front)
+                    && body.ends_with(play.end)
+            }
+            None => false,
+        },
+        Err(_) => false,
+    }
+}
+
+// Whether a client was answered as the play says.
+fn is_answered<R: Net>(alloc: Global, caller: &mut Caller<'_, R>, play: &Play) -> bool {
+    let mut answer = Vec::new(alloc);
+    let is_whole = caller.is_answered(&mut answer);
+    let is_right = is_answer(&answer, play);
+    drop(answer);
+    is_whole & is_right
+}
+
+/// Whether a page is served, and answers as it should.
+pub fn plays<R: Net>(rt: &R, alloc: Global, play: &Play) -> bool {
+    let world = World::new(rt, play.mask, play.random);
+    let mut sink = StdSink::new(Caller::new(rt, play.question, play.key));
+    let is_ended = ends(&world, alloc, play, &mut sink);
+    drop(world);
+    let mut caller = sink.into_inner();
+    let is_right = is_answered(alloc, &mut caller, play);
+    drop(caller);
+    is_ended & is_right
+}
