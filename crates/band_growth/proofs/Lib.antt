@@ -1,0 +1,5 @@
+-- The lemmas of this crate.
+pub mod Halves
+pub mod Joined
+pub mod Risen
+pub mod HalfLaws

@@ -1,0 +1,19 @@
+use Rattle.std.proofs.Common.{subst}
+use Rattle.grid_core.specs.Path.{domain_of}
+use Rattle.grid_core.specs.Raster.{Raster, value_at}
+use Rattle.grid_core.specs.Reconstruction.{IsReconstruction}
+use Rattle.band_growth.proofs.growth.grow_on.Goals as goal
+
+pub returns : goal.returns
+returns g c =
+    let mask = c.args.mask.now in
+    record {
+      filled = c.in_ok-grow_in_place_on.ensures.grown.filled;
+      width = c.in_ok-grow_in_place_on.ensures.grown.below.width;
+      height = c.in_ok-grow_in_place_on.ensures.grown.below.height;
+      below = c.in_ok-grow_in_place_on.ensures.grown.below;
+      reconstruction =
+          subst (λ (r : Raster). IsReconstruction (domain_of mask c.args.conn) (value_at mask) (value_at r)
+          (value_at c.grow_in_place_on.new.image)) c.in_ok-image.ensures
+          c.in_ok-grow_in_place_on.ensures.grown.reconstruction;
+    }

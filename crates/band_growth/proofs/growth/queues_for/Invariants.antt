@@ -1,0 +1,9 @@
+use Rattle.std.proofs.Common.{◌≤◌, ◌≡◌}
+use Rattle.std.specs.Vec.{vec_capacity, vec_len}
+use Rattle.band_growth.proofs.growth.queues_for.Given as goal
+
+abbrev pub invariant-loop-band : goal.invariant-loop-band
+invariant-loop-band l = record {
+  capacity : l.count ≤ vec_capacity l.queues;
+  long : vec_len l.queues ≡ l.band;
+}

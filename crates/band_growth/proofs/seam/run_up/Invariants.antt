@@ -1,0 +1,6 @@
+use Rattle.std.proofs.Common.{◌-◌}
+use Rattle.band_growth.specs.Steps.{HaveGrownBetween}
+use Rattle.band_growth.proofs.seam.run_up.Given as goal
+
+abbrev pub invariant-loop-y : goal.invariant-loop-y
+invariant-loop-y l = HaveGrownBetween l.limits l.fn.image l.image (l.y - 1) l.bottom

@@ -1,0 +1,72 @@
+-- Whole rows that are cut into those above a row and those from it on. But for the two halves and what lies across the
+-- cut, of which `specs/Laws.antt` speaks, only private functions have these words in their contracts.
+use Rattle.std.specs.Prelude.{◌≡◌, ℕ, ◌+◌, ◌-◌, ◌<◌, ◌⊎◌, List}
+use Rattle.grid_core.specs.declared.bounds.Bounds.{Bounds}
+use Rattle.grid_core.specs.declared.conn.Conn.{Conn}
+use Rattle.grid_core.specs.declared.pixel.Pixel.{Pixel}
+use Rattle.grid_core.specs.declared.rect.Rect.{Rect}
+use Rattle.grid_core.specs.Bounds.{LieIn}
+use Rattle.raster_sweeps.specs.declared.size.Size.{Size}
+use Rattle.raster_sweeps.specs.Growth.{CanClose, IsGrown, IsGrownUp, rows_of}
+use Rattle.raster_sweeps.specs.OpenBounds.{OpenPairsBeginIn}
+
+-- the rectangle of all pixels of whole rows
+abbrev pub all_of : Size → Rect
+all_of size = record { x = 0; y = 0; w = size.w; h = size.h }
+
+-- the rows may grow
+abbrev pub CanGrowRows : Size → List ℕ → List ℕ → Type 0
+CanGrowRows size mask image = CanClose (all_of size) (rows_of size mask) (rows_of size image)
+
+-- the rows have grown
+abbrev pub AreGrown : Conn → Size → List ℕ → List ℕ → List ℕ → Type 0
+AreGrown conn size mask before after =
+    IsGrown conn (all_of size) (rows_of size mask) (rows_of size before) (rows_of size after)
+
+-- the rows have grown until no pixel can raise a neighbour
+abbrev pub AreGrownUp : Conn → Size → List ℕ → List ℕ → List ℕ → Type 0
+AreGrownUp conn size mask before after =
+    IsGrownUp conn (all_of size) (rows_of size mask) (rows_of size before) (rows_of size after)
+
+-- the first of so many rows, and those after them
+abbrev pub above : Size → ℕ → Size
+above size cut = record { w = size.w; h = cut }
+
+abbrev pub below : Size → ℕ → Size
+below size cut = record { w = size.w; h = size.h - cut }
+
+-- the rectangle of the rows above a row, and that of the rows from it on
+abbrev pub rows_above : ℕ → ℕ → Rect
+rows_above width cut = record { x = 0; y = 0; w = width; h = cut }
+
+abbrev pub rows_from : ℕ → ℕ → ℕ → Rect
+rows_from width height cut = record { x = 0; y = cut; w = width; h = height - cut }
+
+-- one of the pixels lies in the last row above the cut, and the other in the first row below it
+abbrev pub IsAcross : ℕ → Pixel → Pixel → Type 0
+IsAcross cut p q = ((p.y + 1 ≡ cut) × (q.y ≡ cut)) ⊎ ((p.y ≡ cut) × (q.y + 1 ≡ cut))
+
+-- a row lies between two rows
+pub record IsCut (size : Size) (cut : ℕ) : Type 0 where
+  pub some_above : 0 < cut
+  pub some_below : cut < size.h
+
+-- the bounds of the rows from one to before another
+abbrev pub rows_between : Size → ℕ → ℕ → Bounds
+rows_between size top bottom = record { left = 0; right = size.w; top = top; bottom = bottom }
+
+-- each open pair begins in the rows from one to before another
+abbrev pub PairsBeginBetween : Conn → Size → List ℕ → List ℕ → ℕ → ℕ → Type 0
+PairsBeginBetween conn size mask image top bottom =
+    OpenPairsBeginIn conn (all_of size) (rows_of size mask) (rows_of size image) (rows_between size top bottom)
+
+-- the rows have grown, and each open pair begins in the rows from one to before another
+pub record AreGrownBetween (conn : Conn) (size : Size) (mask before after : List ℕ) (top bottom : ℕ) : Type 0 where
+  pub grown : AreGrown conn size mask before after
+  pub pairs : PairsBeginBetween conn size mask after top bottom
+
+-- the rows have grown, and each open pair begins within the bounds, which lie in the rows
+pub record AreGrownWithin (conn : Conn) (size : Size) (mask before after : List ℕ) (bounds : Bounds) : Type 0 where
+  pub grown : AreGrown conn size mask before after
+  pub pairs : OpenPairsBeginIn conn (all_of size) (rows_of size mask) (rows_of size after) bounds
+  pub lie : LieIn bounds (all_of size)
