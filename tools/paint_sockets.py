@@ -78,19 +78,22 @@ class Program:
         return int(next(line for line in status.splitlines() if line.startswith("VmRSS")).split()[1]) * 1024
 
 
-def answer_of(peer):
-    """The status and the body of the next answer, or None where the connection ended."""
-    text = b""
-    while b"\r\n\r\n" not in text:
-        more = peer.recv(65536)
-        if not more:
+def answer_in(reader):
+    """The status and the body of the next answer in a stream of answers, or None where the stream ended."""
+    head = b""
+    while not head.endswith(b"\r\n\r\n"):
+        line = reader.readline()
+        if not line:
             return None
-        text += more
-    head, body = text.split(b"\r\n\r\n", 1)
+        head += line
     length = next(int(line.split(b":")[1]) for line in head.split(b"\r\n") if line.lower().startswith(b"content-length"))
-    while len(body) < length:
-        body += peer.recv(1 << 20)
-    return int(head.split(b" ")[1]), body
+    return int(head.split(b" ")[1]), reader.read(length)
+
+
+def answer_of(peer):
+    """The status and the body of the one answer that is to come, or None where the connection ended."""
+    with peer.makefile("rb") as reader:
+        return answer_in(reader)
 
 
 def is_ended(peer, seconds):
@@ -136,7 +139,8 @@ def pipelined(program):
     with program.connect() as peer:
         peer.sendall(b"".join(program.request("edits?run=0&since=0", STROKE % (k, k)) for k in range(3))
                      + program.request("state"))
-        answers = [answer_of(peer) for _ in range(4)]
+        with peer.makefile("rb") as reader:
+            answers = [answer_in(reader) for _ in range(4)]
     check([status for status, _ in answers] == [200] * 4, "requests behind one another are answered in their order")
     check(answers[3][1] == program.state.read_bytes(), "and what they posted is in the file")
 
