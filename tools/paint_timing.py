@@ -25,6 +25,8 @@ from browser import Browser, Fault
 from paint_test import Page, Program
 
 STROKES_A_POST = 2_000
+# A step that no board comes to.
+NEVER = 10 ** 18
 
 
 # ---- The picture ----
@@ -196,19 +198,29 @@ def frames_of_pan(page, zoom):
 
 
 class Looker(threading.Thread):
-    """Looks for news without a pause, in a thread of its own: the milliseconds of each look, and the tiles left."""
+    """Looks for news without a pause, in a thread of its own: the milliseconds of each look, and the tiles left.
 
-    def __init__(self, address):
+    Without news it asks for what is newer than anything, so that its answers have numbers alone.
+    """
+
+    def __init__(self, address, news=True):
         super().__init__(daemon=True)
         self.client, self.milliseconds, self.tiles_left, self.is_ended = Client(address), [], [], False
+        self.news = news
         self.start()
 
     def run(self):
         (run, _, since, *_), _ = self.client.numbers()
         while not self.is_ended:
-            (run, _, since, _, left), milliseconds = self.client.numbers(run, since)
+            (run, _, step, _, left), milliseconds = self.client.numbers(run, since if self.news else NEVER)
+            since = step
             self.milliseconds.append(milliseconds)
             self.tiles_left.append(left)
+
+    def in_growth(self):
+        """The milliseconds of those looks that began and ended while tiles were left."""
+        befores = self.tiles_left[:-1]
+        return [time for time, before, after in zip(self.milliseconds[1:], befores, self.tiles_left[1:]) if before and after]
 
     def end(self):
         """Ends it."""
@@ -217,18 +229,20 @@ class Looker(threading.Thread):
 
 
 def withdraw(page, address, cell, known):
-    """A withdrawal by a click while another client looks without a pause: seconds of growth, and the looks."""
+    """A withdrawal by a click while two other clients look without a pause, one of them for no news: seconds of growth, and
+    the looks of both."""
     x, y, _ = cell
     page.tab.key("x")
     look_at(page.tab, x, y, 1)
-    looker = Looker(address)
+    looker, waiter = Looker(address), Looker(address, news=False)
     begun = time.perf_counter()
     page.drag((x, y))
     page.tab.wait(f"outbox.length === 0 && board.isQuiet && board.strokes.size === {known - 1}", 120)
     seconds = time.perf_counter() - begun
     looker.end()
+    waiter.end()
     page.tab.key("b")
-    return seconds, looker
+    return seconds, looker, waiter
 
 
 def measure(words, folder, browser):
@@ -268,9 +282,10 @@ def tell(words, program, browser, page, client, cells):
         print(f"| between two frames of panning at {100 * zoom:g} %, ms | {figures} |", flush=True)
     if words.lit:
         known = words.strokes + words.edits
-        seconds, looker = withdraw(page, program.address, cells[0], known)
+        seconds, looker, waiter = withdraw(page, program.address, cells[0], known)
         print(f"| a withdrawal until all is grown and drawn, s | {seconds:.2f} | | |")
         print(f"| a look meanwhile, ms | {spread(looker.milliseconds)} |")
+        print(f"| a request without pixels while tiles are left, ms | {spread(waiter.in_growth())} |")
         print(f"| most tiles left meanwhile | {max(looker.tiles_left)} | | |")
     print(f"| memory of the program, MB | {peak_size(program.process.pid):.0f} | | |")
     print(f"| memory of the page's tab, MB | {largest_renderer(browser):.0f} | | |", flush=True)
