@@ -66,12 +66,27 @@ fn board(alloc: Global, path: &StatePath, store: &mut MemoryStore) -> Result<Boa
     }
 }
 
-// The service of a board, asked at port 8080.
-fn served(alloc: Global, board: Board) -> Option<Served> {
+// What is made before a board is opened.
+#[derive(Drop)]
+struct Setting {
+    // The name of the file, to look at it.
+    name: StatePath,
+    hosts: Hosts,
+    key: Key,
+}
+
+// These for a service at port 8080.
+fn prepared(alloc: Global) -> Option<Setting> {
+    let name = path(alloc)?;
     let hosts = Hosts::new(alloc, 8080).ok()?;
     let key = Key::new(alloc, KEY).ok()?;
+    Some(Setting { name, hosts, key })
+}
+
+// The service of a board.
+fn served(alloc: Global, hosts: Hosts, key: Key, board: Board) -> Served {
     let painting = Painting::new(alloc, board, hosts, key, "page", "default-src 'self'");
-    Some(Served::new(alloc, painting))
+    Served::new(alloc, painting)
 }
 
 // The peers of a round: a client alone.
@@ -149,19 +164,25 @@ fn ask_all(rt: &HostRuntime, keeper: &mut Keeper<Served, MemoryStore>, path: &St
 }
 
 // The session over a board.
-fn serve(rt: &HostRuntime, board: Board, path: StatePath, store: MemoryStore) -> End {
-    let (Some(name), Some(served)) = (self::path(rt.alloc()), served(rt.alloc(), board)) else {
-        return End::Wrong;
-    };
-    let mut keeper = Keeper::new(served, store, path);
-    ask_all(rt, &mut keeper, &name)
+fn serve(
+    rt: &HostRuntime,
+    setting: Setting,
+    board: Board,
+    path: StatePath,
+    store: MemoryStore,
+) -> End {
+    let Setting { name, hosts, key } = setting;
+    let mut keeper = Keeper::new(served(rt.alloc(), hosts, key, board), store, path);
+    let end = ask_all(rt, &mut keeper, &name);
+    drop(keeper);
+    end
 }
 
 // The session over a store.
-fn play_over(rt: &HostRuntime, path: StatePath, store: MemoryStore) -> End {
+fn play_over(rt: &HostRuntime, setting: Setting, path: StatePath, store: MemoryStore) -> End {
     let mut store = store;
     match board(rt.alloc(), &path, &mut store) {
-        Ok(board) => serve(rt, board, path, store),
+        Ok(board) => serve(rt, setting, board, path, store),
         Err(Unopened::Store) if store.file(&path) == OLD => End::Failed,
         Err(_) => End::Wrong,
     }
@@ -169,11 +190,11 @@ fn play_over(rt: &HostRuntime, path: StatePath, store: MemoryStore) -> End {
 
 // The session, where the store's call of this number fails.
 fn play(rt: &HostRuntime, number: u64) -> End {
-    let Some(path) = path(rt.alloc()) else {
+    let (Some(path), Some(setting)) = (path(rt.alloc()), prepared(rt.alloc())) else {
         return End::Wrong;
     };
     match store(rt.alloc(), &path, number) {
-        Some(store) => play_over(rt, path, store),
+        Some(store) => play_over(rt, setting, path, store),
         None => End::Wrong,
     }
 }
