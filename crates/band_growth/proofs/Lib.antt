@@ -3,3 +3,4 @@ pub mod Halves
 pub mod Joined
 pub mod Risen
 pub mod HalfLaws
+pub mod Sharing

@@ -7,3 +7,4 @@ pub use Rattle.raster_sweeps.specs.Regrowth
 pub mod Bands
 pub mod Laws
 pub mod Steps
+pub mod Sharing

@@ -17,14 +17,17 @@
 //! queue spreads into both halves. Where much is open, the two scans run on from the cut first. [`laws`] says so.
 //!
 //! [`grow_in_place_on`] does the same to an image that is there already. All memory is taken before a cell rises. A
-//! thread that cannot start is no error: its band is then grown by the thread that wanted to start it.
+//! thread that cannot start is no error: its band is then grown by the thread that wanted to start it. [`ManyThreads`]
+//! is a `Grower` that grows so, for those above, who need not know how many threads it takes.
 //!
 //! Read on in `raster_sweeps`, whose `steps` are used here, and then at [`laws`].
 
 mod bands;
+mod grower;
 mod growth;
 pub mod laws;
 mod limits;
 mod seam;
 
+pub use grower::{ManyThreads, Shared};
 pub use growth::{grow_in_bands, grow_in_place_on, grow_on};

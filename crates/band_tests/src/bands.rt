@@ -1,9 +1,9 @@
 //! Images of 1 to 300 rows, by 1, 2, 3 and 5 bands.
 
 use crate::families::{FAMILIES, Family, marker_of, mask_of};
-use band_growth::{grow_in_bands, grow_on};
+use band_growth::{ManyThreads, grow_in_bands, grow_on};
 use grid_core::{Conn, Grid};
-use raster_sweeps::grow;
+use raster_sweeps::{Grower, grow};
 use std::alloc::Global;
 use std::marker::Sync;
 use std::thread::Threads;
@@ -146,4 +146,47 @@ fn threads_give_the_cells_of_one(rt: HostRuntime) {
     for family in FAMILIES {
         assert!(rt; all_threads_grow(&rt, rt.alloc(), *family));
     }
+}
+
+// Whether a grower gives the cells of one thread.
+fn grower_grows<G: Grower>(grower: &G, alloc: Global, mask: &Grid, marker: &Grid) -> bool {
+    if !marker.is_below(mask) {
+        return false;
+    }
+    match (grow(alloc, mask, marker, Conn::Eight), marker.copy(alloc)) {
+        (Ok(one), Ok(mut image)) => {
+            let grown = grower.grow(alloc, mask, &mut image, Conn::Eight).is_ok();
+            grown && one.cells() == image.cells()
+        }
+        _ => false,
+    }
+}
+
+// Whether a grower does so with a mask of so many columns and rows, and one pixel in 97 as its marker.
+fn grower_grows_mask<G: Grower>(grower: &G, alloc: Global, columns: u32, rows: u32) -> bool {
+    let Ok(mut mask) = Grid::new(alloc, columns, rows, 0) else {
+        return false;
+    };
+    let mut place: u16 = 0;
+    for cell in mask.cells_mut() {
+        *cell = place.wrapping_mul(place) % 251;
+        place = place.wrapping_add(1);
+    }
+    let Ok(mut marker) = mask.copy(alloc) else {
+        return false;
+    };
+    for cell in marker.cells_mut() {
+        if place % 97 > 0 {
+            *cell = 0;
+        }
+        place = place.wrapping_add(1);
+    }
+    grower_grows(grower, alloc, &mask, &marker)
+}
+
+#[test]
+fn many_threads_give_the_cells_of_one(rt: HostRuntime) {
+    let grower = ManyThreads::new(&rt);
+    assert!(rt; grower_grows_mask(&grower, rt.alloc(), 40, 500));
+    assert!(rt; grower_grows_mask(&grower, rt.alloc(), 1_000, 2_000));
 }

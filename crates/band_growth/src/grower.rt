@@ -1,0 +1,63 @@
+//! Growing a whole image by as many threads as there are processors, for those who grow by a `Grower`.
+
+ghost use Rattle.std.specs.Prelude.{◌≡◌, ◌<◌};
+ghost use Rattle.band_growth.specs.Sharing.{IsShared};
+
+use crate::growth::grow_in_place_on;
+use grid_core::{Conn, Grid, Memory};
+use raster_sweeps::Grower;
+use std::alloc::Global;
+use std::marker::Sync;
+use std::thread::{Threads, available_parallelism};
+
+// With fewer pixels than these an image is not worth a second thread.
+const SHARED_PIXELS: usize = 2_000_000;
+
+/// What threads may share. Each `Sync` type is, so nobody else says it of a type.
+///
+/// It lets a struct keep for its methods what the bound `Sync` says where the struct is made.
+pub trait Shared {
+    /// A reference to any value says the same to every thread.
+    ghost shared: { Type 0 };
+}
+
+impl<R: Sync> Shared for R {
+    ghost shared = { IsShared R.row };
+}
+
+/// Growing in bands of whole rows by as many threads as there are processors, as [`grow_in_place_on`] does (Vincent
+/// 1993). An image of fewer than 2,000,000 pixels is grown in this thread alone, and so is any image where the number
+/// of processors is not known.
+#[derive(Drop)]
+pub struct ManyThreads<'a, R: Shared> {
+    rt: &'a R,
+    ghost may_share: { ∥ R.shared ∥₁ },
+}
+
+impl<'a, R: Threads + Sync> ManyThreads<'a, R> {
+    /// Growing by the threads of this handle.
+    pub fn new(rt: &'a R) -> Self {
+        ManyThreads { rt }
+    }
+}
+
+impl<'a, R: Threads + Sync> Grower for ManyThreads<'a, R> {
+    fn grow(&self, alloc: Global, mask: &Grid, image: &mut Grid, conn: Conn) -> Result<(), Memory> {
+        let threads = threads_for(self.rt, image.cells().len());
+        grow_in_place_on(self.rt, alloc, mask, image, conn, threads)
+    }
+}
+
+// The number of threads for so many pixels.
+fn threads_for<R: Threads>(rt: &R, pixels: usize) -> usize
+    ensures some { 0 < result }
+    ensures few { pixels < 2_000_000 → result ≡ 1 }
+{
+    if pixels < SHARED_PIXELS {
+        return 1;
+    }
+    match available_parallelism(rt) {
+        Ok(processors) => processors.get(),
+        Err(_) => 1,
+    }
+}
