@@ -13,16 +13,17 @@ ghost use Rattle.seedpaint.specs.declared.words.Call.TheVariants as call;
 ghost use Rattle.grid_core.specs.Tiles.{IsTileSide};
 
 use crate::words::{Call, read_process_words};
+use band_growth::ManyThreads;
 use byte_devices::{Sink, Source, put_all};
 use grid_core::Memory;
 use node_session::network::Network;
 use node_session::stored::{NodeCall, node_stored};
 use paint_serve::PaintCall;
-use paint_session::derive::derive_run;
+use paint_session::derive::derive_run_by;
 use paint_session::run_error::{RunError, fault_line, status};
 use paint_session::store::StateStore;
-use paint_session::stored::view_stored;
-use paint_session::view::view_run;
+use paint_session::stored::view_stored_by;
+use paint_session::view::view_run_by;
 use std::alloc::Global;
 use std::process::ExitCode;
 use std::sync::Wait;
@@ -33,10 +34,11 @@ use std::{env, io};
 /// Makes the call that the words of the process say, as `env::args` gives them, from the source to the sink. The state
 /// file of a view or a node that has one is loaded from the store before the source is read, and saved after the image
 /// is written. A node binds its port on the network, between the load and the reading. A painting is handed back, with
-/// source, store, network and sink as they were.
+/// source, store, network and sink as they were. A view and a derivation of a large image use all processors
+/// ([`ManyThreads`]).
 ///
-/// Errors: usage, with source, store, network and sink as they were; else those of the call ([`view_run`],
-/// [`view_stored`], [`node_stored`], [`derive_run`]). After each the files are as they were.
+/// Errors: usage, with source, store, network and sink as they were; else those of the call ([`view_run_by`],
+/// [`view_stored_by`], [`node_stored`], [`derive_run_by`]). After each the files are as they were.
 pub fn run<R: Threads + Wait + Clock + Sync, S: Source, T: StateStore, N: Network, K: Sink>(
     rt: &R,
     alloc: Global,
@@ -90,10 +92,11 @@ fn make<R: Threads + Wait + Clock + Sync, S: Source, T: StateStore, N: Network, 
     ensures no_usage { IsErrOf result RunError.Usage → ⊥ }
     ensures unbound { IsErrOf result RunError.Link → source.new ≡ source.old }
 {
+    let grower = ManyThreads::new(rt);
     match call {
         Call::View { conn, side, file } => match file {
-            None => view_run(alloc, source, conn, sink),
-            Some(path) => view_stored(alloc, source, conn, side, &path, store, sink),
+            None => view_run_by(&grower, alloc, source, conn, sink),
+            Some(path) => view_stored_by(&grower, alloc, source, conn, side, &path, store, sink),
         },
         Call::Node {
             conn,
@@ -115,7 +118,9 @@ fn make<R: Threads + Wait + Clock + Sync, S: Source, T: StateStore, N: Network, 
             };
             node_stored(rt, alloc, source, call, store, network, sink)
         }
-        Call::Derive { kind, h, conn } => derive_run(alloc, source, kind, h, conn, sink),
+        Call::Derive { kind, h, conn } => derive_run_by(
+            &grower, alloc, source, kind, h, conn, sink,
+        ),
         Call::Paint(_) => unreachable!(),
     }
 }

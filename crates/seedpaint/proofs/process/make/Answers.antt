@@ -25,49 +25,49 @@ pub returns-in-None-clause-runs : goal.returns-in-None-clause-runs
 returns-in-None-clause-runs g c =
     view_runs c.args.call c.in-View.conn c.in-View.side
     (with_file c.args.call c.in-View.conn c.in-View.side c.in-View.file None c.in-View.is c.in-None.is)
-    c.view_run.ensures
+    c.view_run_by.ensures
 
 pub returns-in-None-clause-network : goal.returns-in-None-clause-network
 returns-in-None-clause-network g c =
-    network_unasked _ c.view_run.result _
+    network_unasked _ c.view_run_by.result _
     (view_leaves c.args.call c.in-View.conn c.in-View.side c.in-View.file _ c.in-View.is)
-    (alone_is_no_link _ _ c.view_run.result (input_stops_of_input _) c.view_run.ensures.responds.refused)
+    (alone_is_no_link _ _ c.view_run_by.result (input_stops_of_input _) c.view_run_by.ensures.responds.refused)
 
 pub returns-in-None-clause-no_usage : goal.returns-in-None-clause-no_usage
 returns-in-None-clause-no_usage g c =
-    alone_is_no_usage _ _ c.view_run.result (input_stops_of_input _) c.view_run.ensures.responds.refused
+    alone_is_no_usage _ _ c.view_run_by.result (input_stops_of_input _) c.view_run_by.ensures.responds.refused
 
 pub returns-in-None-clause-unbound : goal.returns-in-None-clause-unbound
 returns-in-None-clause-unbound g c =
-    λ link. absurd (alone_is_no_link _ _ c.view_run.result (input_stops_of_input _)
-    c.view_run.ensures.responds.refused link)
+    λ link. absurd (alone_is_no_link _ _ c.view_run_by.result (input_stops_of_input _)
+    c.view_run_by.ensures.responds.refused link)
 
 pub returns-in-Some-clause-runs : goal.returns-in-Some-clause-runs
 returns-in-Some-clause-runs g c =
     let path = c.in-Some.path in
     stored_view_runs c.args.call c.in-View.conn c.in-View.side path
     (with_file c.args.call c.in-View.conn c.in-View.side c.in-View.file (Some path) c.in-View.is c.in-Some.is)
-    c.view_stored.ensures
+    c.view_stored_by.ensures
 
 pub returns-in-Some-clause-network : goal.returns-in-Some-clause-network
 returns-in-Some-clause-network g c =
-    network_unasked _ c.view_stored.result _
+    network_unasked _ c.view_stored_by.result _
     (view_leaves c.args.call c.in-View.conn c.in-View.side c.in-View.file _ c.in-View.is)
     (stored_is_no_link (g.S.Source.seen c.args.source.now).remaining c.in-View.conn
-    (g.T.StateStore.seen c.args.store.now).held c.in-Some.path c.view_stored.result
-    c.view_stored.ensures.serves.refused)
+    (g.T.StateStore.seen c.args.store.now).held c.in-Some.path c.view_stored_by.result
+    c.view_stored_by.ensures.serves.refused)
 
 pub returns-in-Some-clause-no_usage : goal.returns-in-Some-clause-no_usage
 returns-in-Some-clause-no_usage g c =
     stored_is_no_usage (g.S.Source.seen c.args.source.now).remaining c.in-View.conn
-    (g.T.StateStore.seen c.args.store.now).held c.in-Some.path c.view_stored.result
-    c.view_stored.ensures.serves.refused
+    (g.T.StateStore.seen c.args.store.now).held c.in-Some.path c.view_stored_by.result
+    c.view_stored_by.ensures.serves.refused
 
 pub returns-in-Some-clause-unbound : goal.returns-in-Some-clause-unbound
 returns-in-Some-clause-unbound g c =
     λ link. absurd (stored_is_no_link (g.S.Source.seen c.args.source.now).remaining c.in-View.conn
-    (g.T.StateStore.seen c.args.store.now).held c.in-Some.path c.view_stored.result
-    c.view_stored.ensures.serves.refused link)
+    (g.T.StateStore.seen c.args.store.now).held c.in-Some.path c.view_stored_by.result
+    c.view_stored_by.ensures.serves.refused link)
 
 pub returns-in-Node-clause-runs : goal.returns-in-Node-clause-runs
 returns-in-Node-clause-runs g c =
@@ -76,18 +76,18 @@ returns-in-Node-clause-runs g c =
 
 pub returns-in-Derive-clause-runs : goal.returns-in-Derive-clause-runs
 returns-in-Derive-clause-runs g c =
-    derivation_runs c.args.call c.in-Derive.kind c.in-Derive.h c.in-Derive.conn c.in-Derive.is c.derive_run.ensures
+    derivation_runs c.args.call c.in-Derive.kind c.in-Derive.h c.in-Derive.conn c.in-Derive.is c.derive_run_by.ensures
 
 pub returns-in-Derive-clause-network : goal.returns-in-Derive-clause-network
 returns-in-Derive-clause-network g c =
-    network_unasked _ c.derive_run.result _ (rw c.in-Derive.is refl)
-    (alone_is_no_link _ _ c.derive_run.result derivation_stops_of_input c.derive_run.ensures.responds.refused)
+    network_unasked _ c.derive_run_by.result _ (rw c.in-Derive.is refl)
+    (alone_is_no_link _ _ c.derive_run_by.result derivation_stops_of_input c.derive_run_by.ensures.responds.refused)
 
 pub returns-in-Derive-clause-no_usage : goal.returns-in-Derive-clause-no_usage
 returns-in-Derive-clause-no_usage g c =
-    alone_is_no_usage _ _ c.derive_run.result derivation_stops_of_input c.derive_run.ensures.responds.refused
+    alone_is_no_usage _ _ c.derive_run_by.result derivation_stops_of_input c.derive_run_by.ensures.responds.refused
 
 pub returns-in-Derive-clause-unbound : goal.returns-in-Derive-clause-unbound
 returns-in-Derive-clause-unbound g c =
-    λ link. absurd (alone_is_no_link _ _ c.derive_run.result derivation_stops_of_input
-    c.derive_run.ensures.responds.refused link)
+    λ link. absurd (alone_is_no_link _ _ c.derive_run_by.result derivation_stops_of_input
+    c.derive_run_by.ensures.responds.refused link)
