@@ -154,17 +154,24 @@ none_lie tiles t tiled within =
       omega arith,
     )
 
--- where the image is 0 everywhere, nothing is area
-pub none_bounded : (core : Core) (count : ℕ) → IsTiled (tiling core) → count ≡ count_of (tiling core)
-    → ((p : Pixel) → Inside (domain core) p → image_at core p ≡ 0) → AreBounded core (replicate count no_bounds)
-none_bounded core count tiled same black = record {
+-- where no pair is open, nothing open begins outside the bounds of no pixel
+pub closed_bounded : (core : Core) (count : ℕ) → IsTiled (tiling core) → count ≡ count_of (tiling core)
+    → ((p q : Pixel) → IsOpen (domain core) (mask_at core) (image_at core) p q → ⊥)
+    → AreBounded core (replicate count no_bounds)
+closed_bounded core count tiled same closed = record {
   count = length-replicate count no_bounds ∙ same;
   lie = λ t within.
       let there : t < count = omega (arith, within, length-replicate count no_bounds) in
       subst (λ b. LieIn b (rect_of (tiling core) t)) (sym (get_or-replicate count t no_bounds no_bounds there))
       (none_lie (tiling core) t tiled (omega (arith, there, same)));
-  begin = λ p q wide. absurd (omega (arith, wide.lower, black p wide.from_inside));
+  begin = λ p q wide. absurd (closed p q wide);
 }
+
+-- where the image is 0 everywhere, no pair is open
+pub none_bounded : (core : Core) (count : ℕ) → IsTiled (tiling core) → count ≡ count_of (tiling core)
+    → ((p : Pixel) → Inside (domain core) p → image_at core p ≡ 0) → AreBounded core (replicate count no_bounds)
+none_bounded core count tiled same black =
+    closed_bounded core count tiled same (λ p q wide. omega (arith, wide.lower, black p wide.from_inside))
 
 module _ (tiles : Tiles) (conn : Conn) (image : Raster) (table : List Bounds) (q : Pixel) (value t : ℕ)
     (tiled : IsTiled tiles) (count : length table ≡ count_of tiles) (filled : IsFilled image)

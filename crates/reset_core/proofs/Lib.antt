@@ -11,3 +11,4 @@ pub mod Masking
 pub mod MergeSteps
 pub mod Bounding
 pub mod Scheduling
+pub mod Starting

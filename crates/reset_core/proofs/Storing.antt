@@ -148,7 +148,7 @@ module _ (parts : Parts) (stored : IsStored parts) (t i : ℕ) (hint : Hint)
 -- ---- the masks of tiles
 
 -- of no tile the mask was cut out
-none_cut : (mask : Raster) (tiles : Tiles) → mask.width ≡ tiles.width → mask.height ≡ tiles.height
+pub none_cut : (mask : Raster) (tiles : Tiles) → mask.width ≡ tiles.width → mask.height ≡ tiles.height
     → AreTileMasks mask tiles (replicate (count_of tiles) None)
 none_cut mask tiles width height = record {
   width = width;

@@ -3,7 +3,7 @@
 use Rattle.std.specs.Prelude.{◌≡◌, ℕ, Bool, false, List, length, replicate, None}
 use Rattle.grid_core.specs.declared.conn.Conn.{Conn}
 use Rattle.grid_core.specs.Raster.{Raster}
-use Rattle.stroke_lattice.specs.State.{nothing}
+use Rattle.stroke_lattice.specs.State.{State, nothing}
 use Rattle.marker_tiles.specs.Kept.{Kept, IsMarkerOf}
 use Rattle.core_rules.specs.Work.{Core}
 use Rattle.core_rules.specs.Opening.{blank}
@@ -27,18 +27,22 @@ core_of parts = record {
   serial = parts.serial;
 }
 
--- what a core begins with beside its markers: no strokes, an image of zeros of the mask's size, and so many tiles
--- without work, of none of which the mask was cut out
-abbrev pub at_first : Raster → ℕ → ℕ → Beginning
-at_first mask count first = record {
-  state = nothing;
-  image = blank mask;
+-- what a core begins with beside its markers: these strokes, this image, and so many tiles without work, of none of
+-- which the mask was cut out
+abbrev pub with_image : State → Raster → ℕ → ℕ → Beginning
+with_image state image count first = record {
+  state = state;
+  image = image;
   work = replicate count (fresh first);
   bounds = replicate count no_bounds;
   masks = replicate count None;
   marks = replicate count false;
   queue = replicate count false;
 }
+
+-- so, with no strokes and an image of zeros of the mask's size
+abbrev pub at_first : Raster → ℕ → ℕ → Beginning
+at_first mask count first = with_image nothing (blank mask) count first
 
 -- the parts of a core that begins so
 abbrev pub begun : Beginning → Conn → Kept → Parts

@@ -14,10 +14,14 @@
 //! the hints that wait ([`Core::hand`]). A withdrawal resets the tiles that the stroke's growth can have reached, and
 //! raises their generations, so that results and hints from before are known.
 //!
+//! A core can begin with strokes ([`Core::over_state`]): its image is grown at once, and no work is left at it. It
+//! shows what one shows that was opened, merged the strokes and settled ([`begun_is_as_settled`]).
+//!
 //! What a core is, what can happen to it and what each event answers is one table, in the crate `core_rules`, which the
 //! contracts here cite; [`laws`] are that crate's.
 //!
-//! In the code, `replica` has the core, a module for each kind of event below it, and `parts` has pieces of an image.
+//! In the code, `replica` has the core, with a module below it for each kind of event and one for cores that begin with
+//! strokes, and `parts` has pieces of an image.
 //! They stand on the crates `tile_work` (the work at each tile) and `tile_resets` (which tiles a withdrawal resets, and
 //! what a merge does to image and work).
 
@@ -26,5 +30,5 @@ mod replica;
 
 pub use core_rules::{Back, CoreError, Handed, Step, laws};
 pub use grid_core::TILE_SIDE;
-pub use replica::{Core, Count, Ran, RefusedMask, Slice};
+pub use replica::{Core, Count, Ran, RefusedMask, Slice, begun_is_as_settled};
 pub use tile_work::TileSet;

@@ -11,7 +11,7 @@ ghost use Rattle.core_rules.specs.Invariant.{IsSound};
 ghost use Rattle.core_rules.specs.Opening.{opened};
 ghost use Rattle.border_queues.specs.TileWork.{fresh};
 ghost use Rattle.reset_core.specs.Answers.{IsImageOf, IsNotOpened, IsOpened};
-ghost use Rattle.reset_core.specs.Replica.{core_of, IsStored, at_first, begun};
+ghost use Rattle.reset_core.specs.Replica.{core_of, IsStored, at_first, begun, with_image};
 ghost use Rattle.core_rules.specs.Runs.{ticket_out, HasHints};
 ghost use Rattle.core_rules.specs.Sweeps.{IsReady};
 ghost use Rattle.tile_work.specs.Least.{IsLeastFrom};
@@ -33,10 +33,12 @@ mod judging;
 mod merging;
 mod scheduling;
 mod settling;
+mod starting;
 mod sweeping;
 
 pub use scheduling::Ran;
 pub use settling::{Count, Slice};
+pub use starting::begun_is_as_settled;
 
 /// A mask of which no core was opened.
 #[derive(Debug, Drop)]
@@ -355,11 +357,25 @@ impl Beginning {
         ensures filled { IsFilled mask.now }
     {
         let cells = vec![in alloc; 0; mask.cells().len()]?;
+        let image = Grid::from_cells(mask.width(), mask.height(), cells);
         let state = State::empty(alloc)?;
+        Ok(Beginning::with(alloc, state, image, count, first)?)
+    }
+
+    // These strokes, this image, and so many tiles without work.
+    fn with(
+        alloc: Global,
+        state: State,
+        image: Grid,
+        count: usize,
+        first: u64,
+    ) -> Result<Beginning, Memory>
+        requires { first ≤ max_generation }
+        ensures { IfOk result (λ b. b ≡ with_image state image count first) }
+    {
         let (work, marks, queue) = without_work(alloc, count, first)?;
         let bounds = OpenBounds::none(alloc, count)?;
         let masks = TileMasks::none(alloc, count)?;
-        let image = Grid::from_cells(mask.width(), mask.height(), cells);
         Ok(Beginning {
             state,
             image,

@@ -1,5 +1,8 @@
 use Rattle.std.proofs.Common.{◌≡◌, ℕ, List, length, replicate, ap, ◌∙◌, rules}
 use Rattle.core_rules.specs.Opening.{blank}
+use Rattle.stroke_lattice.specs.State.{State, nothing}
+use Rattle.grid_core.specs.Raster.{Raster}
+use Rattle.reset_core.specs.Replica.{with_image}
 use Rattle.reset_core.proofs.replica.Beginning.new.Goals as goal
 
 pub returns-clause-value : goal.returns-clause-value
@@ -10,13 +13,6 @@ returns-clause-value c =
     let image : c.from_cells-image.result ≡ blank c.args.mask.now = c.from_cells-image.ensures
     ∙ (λ i. record { width = c.width.ensures.value i; height = c.height.ensures.value i; cells = zeros i }) in
     let empty = c.in_ok-state.ensures.value in
-    let work = c.in_ok-work.ensures in
-    λ i. record {
-      state = empty i;
-      image = image i;
-      work = (work i).0;
-      bounds = c.in_ok-bounds.ensures i;
-      masks = c.in_ok-masks.ensures i;
-      marks = (work i).1;
-      queue = (work i).2;
-    }
+    c.in_ok-with.ensures
+    ∙ ap (λ (state : State). with_image state c.from_cells-image.result c.args.count c.args.first) empty
+    ∙ ap (λ (r : Raster). with_image nothing r c.args.count c.args.first) image
