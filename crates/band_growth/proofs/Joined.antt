@@ -10,8 +10,8 @@ use Rattle.grid_core.specs.Raster.{IsBelow, value_at}
 use Rattle.grid_core.specs.Rects.{part}
 use Rattle.raster_sweeps.specs.declared.size.Size.{Size}
 use Rattle.raster_sweeps.specs.Growth.{rows_of}
-use Rattle.band_growth.specs.Bands.{AreGrown, AreGrownBetween, AreGrownUp, CanGrowRows, IsCut, PairsBeginBetween, above}
-use Rattle.band_growth.specs.Bands.{all_of, below, rows_above, rows_from}
+use Rattle.band_growth.specs.Bands.{AreClosedApart, AreGrown, AreGrownApart, AreGrownUp, CanGrowRows, IsAcross}
+use Rattle.band_growth.specs.Bands.{IsCut, IsOpenPair, above, all_of, below, rows_above, rows_from}
 use Rattle.band_growth.proofs.Halves.{IsPartOf, halves_closed, halves_lawful}
 
 -- the values of whole rows
@@ -195,26 +195,33 @@ module _ (conn : Conn) (size : Size) (cut : ℕ) (is_cut : IsCut size cut)
         up.grown.lawful down.grown.lawful;
   }
 
-  pairs_at_cut : PairsBeginBetween conn size (upper_mask ++ lower_mask) (upper_new ++ lower_new) (cut - 1) (cut + 1)
-  pairs_at_cut p q raises =
-      elim
-      (halves_closed conn size.w size.h cut (omega (arith, is_cut.some_below))
+  open_across : (p q : Pixel) → IsOpenPair conn size (upper_mask ++ lower_mask) (upper_new ++ lower_new) p q
+      → IsAcross cut p q
+  open_across p q raises =
+      halves_closed conn size.w size.h cut (omega (arith, is_cut.some_below))
       (values_of size (upper_mask ++ lower_mask)) (values_of size (upper_new ++ lower_new))
       (values_of (above size cut) upper_mask) (values_of (above size cut) upper_new)
       (values_of (below size cut) lower_mask) (values_of (below size cut) lower_new)
       (front_values size cut upper_mask lower_mask long_mask) (front_values size cut upper_new lower_new long_new)
       (back_values size cut upper_mask lower_mask long_mask) (back_values size cut upper_new lower_new long_new)
-      up.closed down.closed p q raises) [
-        | inl from_above ↦
-            (omega arith, omega (arith, raises.from_inside.0), omega (arith, from_above.0), omega (arith, from_above.0))
-        | inr from_below ↦
-            (omega arith, omega (arith, raises.from_inside.0), omega (arith, from_below.0), omega (arith, from_below.0))
-      ]
+      up.closed down.closed p q raises
 
-  -- the rows have grown, and what is still open begins at the cut
-  pub rows_joined : AreGrownBetween conn size (upper_mask ++ lower_mask) (upper ++ lower) (upper_new ++ lower_new)
-      (cut - 1) (cut + 1)
-  rows_joined = record { grown = rows_grown; pairs = pairs_at_cut }
+  halves_closed_apart : AreClosedApart conn size (upper_mask ++ lower_mask) (upper_new ++ lower_new) cut cut
+  halves_closed_apart = record {
+    before = λ p q raises p_above q_above. elim (open_across p q raises) [
+      | inl from_above ↦ omega (arith, from_above.1, q_above)
+      | inr from_below ↦ omega (arith, from_below.0, p_above)
+    ];
+    from = λ p q raises p_below q_below. elim (open_across p q raises) [
+      | inl from_above ↦ omega (arith, from_above.0, p_below)
+      | inr from_below ↦ omega (arith, from_below.1, q_below)
+    ];
+  }
+
+  -- the rows have grown, and both halves are closed
+  pub rows_joined : AreGrownApart conn size (upper_mask ++ lower_mask) (upper ++ lower) (upper_new ++ lower_new)
+      cut cut
+  rows_joined = record { grown = rows_grown; closed = halves_closed_apart }
 
 -- ---- a mask and an image, and their parts
 
@@ -233,10 +240,10 @@ module _ (size : Size) (cut : ℕ) (is_cut : IsCut size cut) (mask image upper_m
   pub halves_grown : (conn : Conn) (upper_new lower_new : List ℕ)
       → AreGrownUp conn (above size cut) upper_mask upper upper_new
       → AreGrownUp conn (below size cut) lower_mask lower lower_new
-      → AreGrownBetween conn size mask image (upper_new ++ lower_new) (cut - 1) (cut + 1)
+      → AreGrownApart conn size mask image (upper_new ++ lower_new) cut cut
   halves_grown conn upper_new lower_new up down =
-      subst (λ m. AreGrownBetween conn size m image (upper_new ++ lower_new) (cut - 1) (cut + 1)) mask_joined
-      (subst (λ b. AreGrownBetween conn size (upper_mask ++ lower_mask) b (upper_new ++ lower_new) (cut - 1) (cut + 1))
+      subst (λ m. AreGrownApart conn size m image (upper_new ++ lower_new) cut cut) mask_joined
+      (subst (λ b. AreGrownApart conn size (upper_mask ++ lower_mask) b (upper_new ++ lower_new) cut cut)
       (sym image_joined)
       (rows_joined conn size cut is_cut upper_mask lower_mask upper lower upper_new lower_new
       long_mask long up down))

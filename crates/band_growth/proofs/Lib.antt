@@ -1,6 +1,6 @@
 -- The lemmas of this crate.
 pub mod Halves
 pub mod Joined
-pub mod Risen
+pub mod Seams
 pub mod HalfLaws
 pub mod Sharing

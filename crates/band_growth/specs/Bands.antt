@@ -1,14 +1,11 @@
 -- Whole rows that are cut into those above a row and those from it on. But for the two halves and what lies across the
 -- cut, of which `specs/Laws.antt` speaks, only private functions have these words in their contracts.
-use Rattle.std.specs.Prelude.{◌≡◌, ℕ, ◌+◌, ◌-◌, ◌<◌, ◌⊎◌, List}
-use Rattle.grid_core.specs.declared.bounds.Bounds.{Bounds}
+use Rattle.std.specs.Prelude.{◌≡◌, ℕ, ◌+◌, ◌-◌, ◌<◌, ◌≤◌, ◌⊎◌, List}
 use Rattle.grid_core.specs.declared.conn.Conn.{Conn}
 use Rattle.grid_core.specs.declared.pixel.Pixel.{Pixel}
 use Rattle.grid_core.specs.declared.rect.Rect.{Rect}
-use Rattle.grid_core.specs.Bounds.{LieIn}
 use Rattle.raster_sweeps.specs.declared.size.Size.{Size}
-use Rattle.raster_sweeps.specs.Growth.{CanClose, IsGrown, IsGrownUp, rows_of}
-use Rattle.raster_sweeps.specs.OpenBounds.{OpenPairsBeginIn}
+use Rattle.raster_sweeps.specs.Growth.{CanClose, IsGrown, IsGrownUp, IsOpenIn, rows_of}
 
 -- the rectangle of all pixels of whole rows
 abbrev pub all_of : Size → Rect
@@ -51,22 +48,17 @@ pub record IsCut (size : Size) (cut : ℕ) : Type 0 where
   pub some_above : 0 < cut
   pub some_below : cut < size.h
 
--- the bounds of the rows from one to before another
-abbrev pub rows_between : Size → ℕ → ℕ → Bounds
-rows_between size top bottom = record { left = 0; right = size.w; top = top; bottom = bottom }
+-- the first pixel of the rows can raise the second, which is its neighbour
+abbrev pub IsOpenPair : Conn → Size → List ℕ → List ℕ → Pixel → Pixel → Type 0
+IsOpenPair conn size mask image p q = IsOpenIn conn (all_of size) (rows_of size mask) (rows_of size image) p q
 
--- each open pair begins in the rows from one to before another
-abbrev pub PairsBeginBetween : Conn → Size → List ℕ → List ℕ → ℕ → ℕ → Type 0
-PairsBeginBetween conn size mask image top bottom =
-    OpenPairsBeginIn conn (all_of size) (rows_of size mask) (rows_of size image) (rows_between size top bottom)
+-- of the pixels before the row `top` none can raise a neighbour there, and of those from the row `bottom` on none one
+-- there
+pub record AreClosedApart (conn : Conn) (size : Size) (mask image : List ℕ) (top bottom : ℕ) : Type 0 where
+  pub before : (p q : Pixel) → IsOpenPair conn size mask image p q → p.y < top → q.y < top → ⊥
+  pub from : (p q : Pixel) → IsOpenPair conn size mask image p q → bottom ≤ p.y → bottom ≤ q.y → ⊥
 
--- the rows have grown, and each open pair begins in the rows from one to before another
-pub record AreGrownBetween (conn : Conn) (size : Size) (mask before after : List ℕ) (top bottom : ℕ) : Type 0 where
+-- the rows have grown, and both those before the row `top` and those from the row `bottom` on are closed by themselves
+pub record AreGrownApart (conn : Conn) (size : Size) (mask before after : List ℕ) (top bottom : ℕ) : Type 0 where
   pub grown : AreGrown conn size mask before after
-  pub pairs : PairsBeginBetween conn size mask after top bottom
-
--- the rows have grown, and each open pair begins within the bounds, which lie in the rows
-pub record AreGrownWithin (conn : Conn) (size : Size) (mask before after : List ℕ) (bounds : Bounds) : Type 0 where
-  pub grown : AreGrown conn size mask before after
-  pub pairs : OpenPairsBeginIn conn (all_of size) (rows_of size mask) (rows_of size after) bounds
-  pub lie : LieIn bounds (all_of size)
+  pub closed : AreClosedApart conn size mask after top bottom

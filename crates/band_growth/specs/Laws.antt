@@ -1,14 +1,11 @@
 -- Laws of images that are grown in two halves, as statements. Public functions have them as their contracts.
 use Rattle.std.specs.Prelude.{ℕ, ◌≤◌}
-use Rattle.grid_core.specs.declared.bounds.Bounds.{Bounds}
 use Rattle.grid_core.specs.declared.conn.Conn.{Conn}
 use Rattle.grid_core.specs.declared.pixel.Pixel.{Pixel}
 use Rattle.grid_core.specs.declared.rect.Rect.{Rect}
 use Rattle.grid_core.specs.Path.{Domain}
-use Rattle.grid_core.specs.Raster.{Raster, value_at}
 use Rattle.grid_core.specs.Reconstruction.{IsClosed, IsLawful, IsOpen, IsReconstruction}
 use Rattle.grid_core.specs.Rects.{domain_in, part}
-use Rattle.raster_sweeps.specs.OpenBounds.{OpenPairsBeginIn, RiseWithin}
 use Rattle.band_growth.specs.Bands.{IsAcross, rows_above, rows_from}
 
 -- the pixels of an image of this width and height
@@ -41,12 +38,3 @@ OpenPairsLieAcross =
     (part (rows_from width height cut) image)
     → (p q : Pixel) → IsOpen (pixels_of conn width height) mask image p q
     → IsAcross cut p q
-
--- where an image has grown in a rectangle, each open pair of it begins at a pixel that has risen, or within the bounds
--- within which open pairs began before
-abbrev pub OpenPairsBeginWhereRisen : Type 0
-OpenPairsBeginWhereRisen =
-    (conn : Conn) (rect : Rect) (mask before after : Raster) (old new : Bounds)
-    → IsLawfulIn conn rect (value_at mask) (value_at before) (value_at after)
-    → OpenPairsBeginIn conn rect mask before old → RiseWithin rect before after old new
-    → OpenPairsBeginIn conn rect mask after new

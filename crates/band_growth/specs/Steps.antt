@@ -1,12 +1,11 @@
 -- The steps of growing by bands, in words of what the rows are grown under. Only private functions have these words in
 -- their contracts.
-use Rattle.std.specs.Prelude.{ℕ, List}
-use Rattle.grid_core.specs.declared.bounds.Bounds.{Bounds}
-use Rattle.raster_sweeps.specs.Growth.{rows_of}
-use Rattle.raster_sweeps.specs.RowPairs.{CanGrowAcross}
+use Rattle.std.specs.Prelude.{ℕ, Bool, List}
+use Rattle.raster_sweeps.specs.Growth.{IsScannedInto, rows_of}
+use Rattle.raster_sweeps.specs.RowPairs.{CanGrowAcross, IsFromTo, IsScannedUp, NoneOpen}
 use Rattle.raster_sweeps.specs.RowRaises.{IsRowGrown}
 use Rattle.band_growth.specs.declared.limits.Limits.{Limits}
-use Rattle.band_growth.specs.Bands.{AreGrownBetween, AreGrownUp, AreGrownWithin, CanGrowRows, PairsBeginBetween, all_of}
+use Rattle.band_growth.specs.Bands.{AreClosedApart, AreGrownApart, AreGrownUp, CanGrowRows, all_of}
 
 -- the rows may grow
 abbrev pub MayGrow : Limits → List ℕ → Type 0
@@ -16,19 +15,20 @@ MayGrow limits image = CanGrowRows limits.size limits.mask.now image
 abbrev pub HaveGrownUp : Limits → List ℕ → List ℕ → Type 0
 HaveGrownUp limits before after = AreGrownUp limits.conn limits.size limits.mask.now before after
 
--- each open pair begins in the rows from one to before another
-abbrev pub BeginBetween : Limits → List ℕ → ℕ → ℕ → Type 0
-BeginBetween limits image top bottom = PairsBeginBetween limits.conn limits.size limits.mask.now image top bottom
+-- both the rows before the row `top` and those from the row `bottom` on are closed by themselves
+abbrev pub ClosedApart : Limits → List ℕ → ℕ → ℕ → Type 0
+ClosedApart limits image top bottom = AreClosedApart limits.conn limits.size limits.mask.now image top bottom
 
--- the rows have grown, and each open pair begins in the rows from one to before another
-abbrev pub HaveGrownBetween : Limits → List ℕ → List ℕ → ℕ → ℕ → Type 0
-HaveGrownBetween limits before after top bottom =
-    AreGrownBetween limits.conn limits.size limits.mask.now before after top bottom
+-- the rows have grown, and so they are closed
+abbrev pub HaveGrownApart : Limits → List ℕ → List ℕ → ℕ → ℕ → Type 0
+HaveGrownApart limits before after top bottom =
+    AreGrownApart limits.conn limits.size limits.mask.now before after top bottom
 
--- the rows have grown, and each open pair begins within the bounds, which lie in the rows
-abbrev pub HaveGrownWithin : Limits → List ℕ → List ℕ → Bounds → Type 0
-HaveGrownWithin limits before after bounds =
-    AreGrownWithin limits.conn limits.size limits.mask.now before after bounds
+-- the rows have grown, and each pair that is still open waits, if there was room for all of them
+abbrev pub HaveGrownInto : Limits → List ℕ → List ℕ → Bool → List ℕ → Type 0
+HaveGrownInto limits before after room waiting =
+    IsScannedInto limits.conn (all_of limits.size) (rows_of limits.size limits.mask.now)
+    (rows_of limits.size before) (rows_of limits.size after) room waiting
 
 -- the rows may grow, and there are these two rows, and they touch
 abbrev pub MayRaise : Limits → List ℕ → ℕ → ℕ → Type 0
@@ -40,3 +40,15 @@ abbrev pub HasRowGrown : Limits → ℕ → List ℕ → List ℕ → Type 0
 HasRowGrown limits row before after =
     IsRowGrown limits.conn (all_of limits.size) (rows_of limits.size limits.mask.now) row
     (rows_of limits.size before) (rows_of limits.size after)
+
+-- no pixel of the one row can raise a neighbour in the other
+abbrev pub NoneOpenBetween : Limits → List ℕ → ℕ → ℕ → Type 0
+NoneOpenBetween limits image from to =
+    NoneOpen limits.conn (all_of limits.size) (rows_of limits.size limits.mask.now) (rows_of limits.size image)
+    (IsFromTo from to)
+
+-- the rows have grown in this one row, as the anti-raster scan raises it
+pub record HasRowGrownUp (limits : Limits) (row : ℕ) (before after : List ℕ) : Type 0 where
+  pub grown : HasRowGrown limits row before after
+  pub scanned : IsScannedUp limits.conn (all_of limits.size) (rows_of limits.size limits.mask.now)
+      (rows_of limits.size after) row

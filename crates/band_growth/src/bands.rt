@@ -1,8 +1,8 @@
 //! Bands of whole rows, each grown by a thread of its own.
 
-ghost use Rattle.std.specs.Prelude.{◌+◌, ◌-◌, ◌<◌, length};
+ghost use Rattle.std.specs.Prelude.{◌<◌, length};
 ghost use Rattle.band_growth.specs.Bands.{IsCut};
-ghost use Rattle.band_growth.specs.Steps.{HaveGrownBetween, HaveGrownUp, MayGrow};
+ghost use Rattle.band_growth.specs.Steps.{HaveGrownApart, HaveGrownUp, MayGrow};
 
 use crate::limits::{Limits, all_of};
 use crate::seam::close_seam;
@@ -51,7 +51,7 @@ fn grow_halves<R: Threads + Sync>(
     requires close { MayGrow limits.now image.old }
     requires cut { IsCut limits.now.size cut }
     requires some { 1 < length queues.old }
-    ensures { HaveGrownBetween limits.now image.old image.new (cut - 1) (cut + 1) }
+    ensures { HaveGrownApart limits.now image.old image.new cut cut }
 {
     let Limits { mask, size, conn } = *limits;
     let cells = cut as usize * size.w as usize;

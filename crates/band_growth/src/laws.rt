@@ -1,6 +1,6 @@
 //! Laws of images that are grown in two halves. Each is the contract of a function that does nothing.
 
-ghost use Rattle.band_growth.specs.Laws.{HalvesHaveTheReconstruction, OpenPairsBeginWhereRisen, OpenPairsLieAcross};
+ghost use Rattle.band_growth.specs.Laws.{HalvesHaveTheReconstruction, OpenPairsLieAcross};
 
 /// Where the rows above a cut and those below it are lawful images, each by itself, the reconstruction of all rows from
 /// what they are together is the one from what they were (Vincent 1993 for what a reconstruction is).
@@ -12,10 +12,4 @@ pub fn halves_have_the_reconstruction()
 /// is still open lies across the cut. So the queue of Vincent 1993 has to begin at the cut alone.
 pub fn open_pairs_lie_across()
     ensures { OpenPairsLieAcross }
-{}
-
-/// Of an image that has grown, each open pair begins at a pixel that rose, or where one was open before. So after the
-/// two scans of Vincent 1993 have run on from the cut, the queue has to begin in the rows that they raised.
-pub fn open_pairs_begin_where_risen()
-    ensures { OpenPairsBeginWhereRisen }
 {}

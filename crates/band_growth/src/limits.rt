@@ -3,7 +3,7 @@
 ghost use Rattle.std.specs.Prelude.{◌≡◌};
 ghost use Rattle.band_growth.specs.Bands as bands;
 
-use grid_core::{Bounds, Conn, Rect};
+use grid_core::{Conn, Rect};
 use raster_sweeps::steps::Size;
 
 /// What whole rows are grown under: their mask, how many columns and rows there are, and which pixels are neighbours.
@@ -23,17 +23,5 @@ pub fn all_of(size: Size) -> Rect
         y: 0,
         w: size.w,
         h: size.h,
-    }
-}
-
-/// The bounds of the rows from one to before another.
-pub fn rows_between(size: Size, top: u32, bottom: u32) -> Bounds
-    ensures { result ≡ bands.rows_between size top bottom }
-{
-    Bounds {
-        left: 0,
-        right: size.w,
-        top,
-        bottom,
     }
 }

@@ -1,53 +1,53 @@
 //! Where rows that were grown in two halves meet: what is still open there spreads into both.
 
-ghost use Rattle.std.specs.Prelude.{◌+◌, ◌-◌, ◌<◌, ◌≤◌, length};
+ghost use Rattle.std.specs.Prelude.{◌≡◌, ◌+◌, ◌<◌, ◌≤◌, [], length, IsTrue};
 ghost use Rattle.raster_sweeps.specs.RowPairs.{AreRows};
 ghost use Rattle.band_growth.specs.Bands.{IsCut};
-ghost use Rattle.band_growth.specs.Steps.{BeginBetween, HasRowGrown, HaveGrownBetween, HaveGrownUp, HaveGrownWithin};
-ghost use Rattle.band_growth.specs.Steps.{MayGrow, MayRaise};
+ghost use Rattle.band_growth.specs.Steps.{ClosedApart, HasRowGrown, HasRowGrownUp, HaveGrownApart, HaveGrownInto};
+ghost use Rattle.band_growth.specs.Steps.{HaveGrownUp, MayGrow, MayRaise, NoneOpenBetween};
 
-use crate::limits::{Limits, all_of, rows_between};
-use grid_core::{Bounds, Conn};
+use crate::limits::{Limits, all_of};
+use grid_core::Conn;
 use raster_sweeps::steps::{
-    Waiting, close, raise_from_bounds, raise_row_by, raise_row_from_left, raise_row_from_right,
-    row_in,
+    Waiting, close, drain, is_closed_to, queue_onward, queue_row, raise_row_by,
+    raise_row_from_left, raise_row_from_right, row_in,
 };
 
-/// Raises whole rows until no pair of neighbours is open, where all open pairs begin in the two rows at a cut.
+/// Raises whole rows until no pair of neighbours is open, where the rows above a cut and those below it are closed by
+/// themselves.
 ///
 /// Where many pixels are open there, both scans run on from the cut first. Then a queue spreads from what is still
 /// open, and where it is full, it goes on with scans of all rows (Vincent 1993). It takes no memory.
 pub fn close_seam(limits: &Limits<'_>, image: &mut [u16], cut: u32, waiting: &mut Waiting)
     requires close { MayGrow limits.now image.old }
     requires cut { IsCut limits.now.size cut }
-    requires pairs { BeginBetween limits.now image.old (cut - 1) (cut + 1) }
+    requires closed { ClosedApart limits.now image.old cut cut }
     ensures { HaveGrownUp limits.now image.old image.new }
 {
     let Limits { mask, size, conn } = *limits;
     let all = all_of(size);
-    let bounds = run_on(limits, image, cut);
-    let risen = raise_from_bounds(mask, image, size, all, conn, waiting, bounds);
-    if let Some(_risen) = risen {
+    waiting.clear();
+    let room = fill(limits, image, cut, waiting);
+    if room && drain(mask, image, size, all, conn, waiting) {
         return;
     }
     close(mask, image, size, all, conn, waiting);
 }
 
-// Where more than an eighth of the pixels at the cut can raise one across it, lets both scans run on from there while
-// rows change: down from the row below the cut, and up from the row above it. It answers the bounds within which the
-// open pairs then begin.
-fn run_on(limits: &Limits<'_>, image: &mut [u16], cut: u32) -> Bounds
+// Fills the queue with the cells whose neighbours can be raised, and says whether there was room for all of them.
+fn fill(limits: &Limits<'_>, image: &mut [u16], cut: u32, waiting: &mut Waiting) -> bool
     requires close { MayGrow limits.now image.old }
     requires cut { IsCut limits.now.size cut }
-    requires pairs { BeginBetween limits.now image.old (cut - 1) (cut + 1) }
-    ensures { HaveGrownWithin limits.now image.old image.new result }
+    requires closed { ClosedApart limits.now image.old cut cut }
+    requires empty { waiting.old ≡ [] }
+    ensures { HaveGrownInto limits.now image.old image.new result waiting.new }
 {
-    if !is_wide_open(limits, image, cut) {
-        return rows_between(limits.size, cut - 1, cut + 1);
+    if is_wide_open(limits, image, cut) {
+        let bottom = run_down(limits, image, cut);
+        return run_up(limits, image, cut, bottom, waiting);
     }
-    let bottom = run_down(limits, image, cut);
-    let top = run_up(limits, image, cut, bottom);
-    rows_between(limits.size, top, bottom)
+    let Limits { mask, size, conn } = *limits;
+    queue_row(mask, image, size, all_of(size), cut - 1, conn, waiting)
 }
 
 // Whether more than an eighth of the pixels at the cut can raise one across it. This is a matter of speed alone.
@@ -60,56 +60,104 @@ fn is_wide_open(limits: &Limits<'_>, image: &[u16], cut: u32) -> bool
     down + up > limits.size.w as usize / 8
 }
 
-// Raises the rows below the cut, each by the one above it, until a row is not raised so. It answers the row before
-// which the open pairs then begin.
+// The raster scan, from the cut on, until a row is not raised by the one above it. It answers that row, or the number
+// of rows.
 fn run_down(limits: &Limits<'_>, image: &mut [u16], cut: u32) -> u32
     requires close { MayGrow limits.now image.old }
     requires cut { IsCut limits.now.size cut }
-    requires pairs { BeginBetween limits.now image.old (cut - 1) (cut + 1) }
-    ensures grown { HaveGrownBetween limits.now image.old image.new (cut - 1) result }
-    ensures rows { (cut < result) × (result ≤ limits.now.size.h) }
+    requires closed { ClosedApart limits.now image.old cut cut }
+    ensures grown { HaveGrownApart limits.now image.old image.new cut result }
+    ensures row { result ≤ limits.now.size.h }
 {
     for y in cut..limits.size.h {
-        if !raise_next(limits, image, y - 1, y) {
-            return y + 1;
+        if is_row_closed(limits, image, y - 1, y) {
+            return y;
         }
+        raise_downwards(limits, image, y);
     }
     limits.size.h
 }
 
-// Raises the rows above the cut, each by the one below it, until a row is not raised so. It answers the row from which
-// on the open pairs then begin, as they did before the row `bottom`.
-fn run_up(limits: &Limits<'_>, image: &mut [u16], cut: u32, bottom: u32) -> u32
+// The anti-raster scan, from the row before `bottom` back through the cut, until a row above it and the one below that
+// cannot raise one another. After each row those of its pixels that can still raise the one to their right or one in the
+// row below are put into the queue. It answers whether there was room for all of them.
+fn run_up(
+    limits: &Limits<'_>,
+    image: &mut [u16],
+    cut: u32,
+    bottom: u32,
+    waiting: &mut Waiting,
+) -> bool
     requires close { MayGrow limits.now image.old }
     requires cut { IsCut limits.now.size cut }
-    requires bottom { cut < bottom }
-    requires pairs { BeginBetween limits.now image.old (cut - 1) bottom }
-    ensures grown { HaveGrownBetween limits.now image.old image.new result bottom }
-    ensures row { result < cut }
+    requires closed { ClosedApart limits.now image.old cut bottom }
+    requires row { bottom ≤ limits.now.size.h }
+    requires empty { waiting.old ≡ [] }
+    ensures { HaveGrownInto limits.now image.old image.new result waiting.new }
 {
-    for y in (0..cut).rev() {
-        if !raise_next(limits, image, y + 1, y) {
-            return y;
-        }
-    }
-    0
-}
-
-// Raises a row by one that touches it, and then along itself, where a pixel of the other row can raise one of it. It
-// answers whether there was one.
-fn raise_next(limits: &Limits<'_>, image: &mut [u16], from: u32, to: u32) -> bool
-    requires { MayRaise limits.now image.old from to }
-    ensures { HasRowGrown limits.now to image.old image.new }
-{
-    if count_raised(limits, image, from, to) == 0 {
-        return false;
-    }
     let Limits { mask, size, conn } = *limits;
     let all = all_of(size);
-    raise_row_by(mask, image, size, all, from, to, conn);
-    raise_row_from_left(mask, image, size, all, to);
-    raise_row_from_right(mask, image, size, all, to);
-    true
+    let mut room = true;
+    for y in (0..bottom).rev() {
+        if y < cut && are_rows_closed(limits, image, y) {
+            return room;
+        }
+        raise_upwards(limits, image, y);
+        room = room && queue_onward(mask, image, size, all, y, conn, waiting);
+    }
+    room
+}
+
+// Raises the pixels of row `y` by those of the row above it, and then along itself, from the left.
+fn raise_downwards(limits: &Limits<'_>, image: &mut [u16], y: u32)
+    requires some { 0 < y }
+    requires row { y < limits.now.size.h }
+    requires close { MayGrow limits.now image.old }
+    ensures { HasRowGrown limits.now y image.old image.new }
+{
+    let Limits { mask, size, conn } = *limits;
+    let all = all_of(size);
+    raise_row_by(mask, image, size, all, y - 1, y, conn);
+    raise_row_from_left(mask, image, size, all, y);
+}
+
+// Raises the pixels of row `y` by those of the row below it, where there is one, and then along itself, from the right.
+fn raise_upwards(limits: &Limits<'_>, image: &mut [u16], y: u32)
+    requires row { y < limits.now.size.h }
+    requires close { MayGrow limits.now image.old }
+    ensures { HasRowGrownUp limits.now y image.old image.new }
+{
+    let Limits { mask, size, conn } = *limits;
+    let all = all_of(size);
+    if y + 1 == size.h {
+        raise_row_from_right(mask, image, size, all, y);
+        return;
+    }
+    raise_row_by(mask, image, size, all, y + 1, y, conn);
+    raise_row_from_right(mask, image, size, all, y);
+}
+
+// Whether no pixel of row `y` can raise one of the row below it, and none of that one of row `y`.
+fn are_rows_closed(limits: &Limits<'_>, image: &[u16], y: u32) -> bool
+    requires row { y + 1 < limits.now.size.h }
+    requires close { MayGrow limits.now image.now }
+    ensures up { IsTrue result → NoneOpenBetween limits.now image.now (y + 1) y }
+    ensures down { IsTrue result → NoneOpenBetween limits.now image.now y (y + 1) }
+{
+    is_row_closed(limits, image, y + 1, y) && is_row_closed(limits, image, y, y + 1)
+}
+
+// Whether no pixel of a row can raise one of another row, which touches it.
+fn is_row_closed(limits: &Limits<'_>, image: &[u16], from: u32, to: u32) -> bool
+    requires { MayRaise limits.now image.now from to }
+    ensures { IsTrue result → NoneOpenBetween limits.now image.now from to }
+{
+    let Limits { mask, size, conn } = *limits;
+    let all = all_of(size);
+    let source = row_in(image, size, all, from);
+    let most = row_in(mask, size, all, to);
+    let target = row_in(image, size, all, to);
+    is_closed_to(source, most, target, conn)
 }
 
 // How many pixels of a row can be raised by one that touches it, each counted for every pixel that can raise it.

@@ -1,51 +1,57 @@
-use Rattle.std.proofs.Common.{subst}
-use Rattle.std.specs.Option.{IfSome}
-use Rattle.raster_sweeps.specs.Growth.{IsClosedIn, IsGrown, rows_of}
+use Rattle.std.proofs.Common.{sym, subst}
+use Rattle.raster_sweeps.specs.Growth.{AllWait, AreInside, IsClosedIn, IsGrown, rows_of}
 use Rattle.raster_sweeps.proofs.Grown.{grown_twice}
 use Rattle.band_growth.specs.Bands.{AreGrown, all_of}
 use Rattle.band_growth.proofs.seam.close_seam.Goals as goal
-use Rattle.band_growth.proofs.seam.close_seam.Goals.{After-raise_from_bounds-risen}
+use Rattle.band_growth.proofs.seam.close_seam.Goals.{else-room-via-then-room+else-drain, else-room-via-else-room}
 
--- the rows have grown to what the queue left
-raised : (c : After-raise_from_bounds-risen)
-    → AreGrown c.args.limits.now.conn c.args.limits.now.size c.args.limits.now.mask.now c.args.image.now
-    c.raise_from_bounds-risen.new.image
-raised c =
+pub drain-requires-clause-inside : goal.drain-requires-clause-inside
+drain-requires-clause-inside c =
+    subst (λ rect. AreInside rect c.args.limits.now.size.w c.fill-room.new.waiting) (sym c.all_of-all.ensures)
+    c.fill-room.ensures.inside
+
+pub returns-then-drain : goal.returns-then-drain
+returns-then-drain c =
     let limits = c.args.limits.now in
     let size = limits.size in
-    grown_twice limits.conn (all_of size) (rows_of size limits.mask.now) (rows_of size c.args.image.now)
-    (rows_of size c.run_on-bounds.new.image) (rows_of size c.raise_from_bounds-risen.new.image)
-    c.run_on-bounds.ensures.grown
-    (subst
-    (λ rect. IsGrown limits.conn rect (rows_of size limits.mask.now) (rows_of size c.run_on-bounds.new.image)
-    (rows_of size c.raise_from_bounds-risen.new.image)) c.all_of-all.ensures c.raise_from_bounds-risen.ensures.grown)
-
-pub returns-in-Some : goal.returns-in-Some
-returns-in-Some c =
-    let limits = c.args.limits.now in
-    let size = limits.size in
-    let after = rows_of size c.raise_from_bounds-risen.new.image in
+    let conn = limits.conn in
     let mask = rows_of size limits.mask.now in
+    let filled = rows_of size c.fill-room.new.image in
+    let after = rows_of size c.drain.new.image in
     record {
-      grown = raised (goal.at.returns-in-Some c).After-raise_from_bounds-risen;
+      grown =
+          grown_twice conn (all_of size) mask (rows_of size c.args.image.now) filled after c.fill-room.ensures.grown
+          (subst (λ rect. IsGrown conn rect mask filled after) c.all_of-all.ensures c.drain.ensures.grown);
       closed =
-          subst (λ rect. IsClosedIn limits.conn rect mask after) c.all_of-all.ensures
-          (subst (λ o. IfSome o (λ bounds. IsClosedIn limits.conn c.all_of-all.result mask after)) c.in-Some.is
-          c.raise_from_bounds-risen.ensures.closed);
+          subst (λ rect. IsClosedIn conn rect mask after) c.all_of-all.ensures
+          (c.drain.ensures.closed c.if-drain.true
+          (subst (λ rect. AllWait conn rect mask filled c.fill-room.new.waiting) (sym c.all_of-all.ensures)
+          (c.fill-room.ensures.waits c.if-room.true)));
     }
 
 pub returns : goal.returns
 returns c =
     let limits = c.args.limits.now in
     let size = limits.size in
+    let conn = limits.conn in
     let mask = rows_of size limits.mask.now in
+    let image = rows_of size c.args.image.now in
+    let filled = rows_of size c.fill-room.new.image in
     let after = rows_of size c.close.new.image in
+    let IsFrom = AreGrown conn size limits.mask.now c.args.image.now in
+    let between : IsFrom c.else-room.image = elim c.else-room.branch [
+      | else-room-via-then-room+else-drain w ↦
+          subst IsFrom (sym w.image-is)
+          (grown_twice conn (all_of size) mask image filled (rows_of size w.drain.new.image)
+          c.fill-room.ensures.grown
+          (subst (λ rect. IsGrown conn rect mask filled (rows_of size w.drain.new.image)) c.all_of-all.ensures
+          w.drain.ensures.grown))
+      | else-room-via-else-room w ↦ subst IsFrom (sym w.image-is) c.fill-room.ensures.grown
+    ] in
     record {
       grown =
-          grown_twice limits.conn (all_of size) mask (rows_of size c.args.image.now)
-          (rows_of size c.raise_from_bounds-risen.new.image) after
-          (raised (goal.at.returns c).After-raise_from_bounds-risen)
-          (subst (λ rect. IsGrown limits.conn rect mask (rows_of size c.raise_from_bounds-risen.new.image) after)
-          c.all_of-all.ensures c.close.ensures.grown);
-      closed = subst (λ rect. IsClosedIn limits.conn rect mask after) c.all_of-all.ensures c.close.ensures.closed;
+          grown_twice conn (all_of size) mask image (rows_of size c.else-room.image) after between
+          (subst (λ rect. IsGrown conn rect mask (rows_of size c.else-room.image) after) c.all_of-all.ensures
+          c.close.ensures.grown);
+      closed = subst (λ rect. IsClosedIn conn rect mask after) c.all_of-all.ensures c.close.ensures.closed;
     }

@@ -1,0 +1,110 @@
+-- Rows that have grown, and where they are then closed.
+use Rattle.std.proofs.Common.{◌≡◌, ℕ, ◌+◌, ◌-◌, ◌<◌, ◌≤◌, List, arith, inl, inr}
+use Rattle.std.proofs.lemmas.Bool.{cases_lt}
+use Rattle.grid_core.specs.declared.conn.Conn.{Conn}
+use Rattle.grid_core.specs.declared.pixel.Pixel.{Pixel}
+use Rattle.grid_core.proofs.Pixels.{near}
+use Rattle.raster_sweeps.specs.declared.size.Size.{Size}
+use Rattle.raster_sweeps.specs.Growth.{AllWait, WaitFrom, rows_of}
+use Rattle.raster_sweeps.specs.RowPairs.{IsFromTo, NoneOpen}
+use Rattle.raster_sweeps.specs.RowRaises.{IsRowGrown}
+use Rattle.raster_sweeps.proofs.Grown.{fits_below, grown_same, grown_twice}
+use Rattle.band_growth.specs.Bands.{AreClosedApart, AreGrownApart, CanGrowRows, IsOpenPair, all_of}
+
+-- rows that are closed apart have grown from themselves
+pub apart_same : (conn : Conn) (size : Size) (mask image : List ℕ) (top bottom : ℕ) → CanGrowRows size mask image
+    → AreClosedApart conn size mask image top bottom
+    → AreGrownApart conn size mask image image top bottom
+apart_same conn size mask image top bottom close closed = record {
+  grown =
+      grown_same conn (all_of size) (rows_of size mask) (rows_of size image) close.filled close.below
+      (fits_below (all_of size) (rows_of size mask) (rows_of size image) close.below close.fits);
+  closed = closed;
+}
+
+-- a pair that is open after a row has risen was open before, where neither pixel lies in that row
+pub open_before : (conn : Conn) (size : Size) (mask : List ℕ) (y : ℕ) (before after : List ℕ) (p q : Pixel)
+    → IsRowGrown conn (all_of size) (rows_of size mask) y (rows_of size before) (rows_of size after)
+    → IsOpenPair conn size mask after p q → (p.y ≡ y → ⊥) → (q.y ≡ y → ⊥)
+    → IsOpenPair conn size mask before p q
+open_before conn size mask y before after p q grown raises other_p other_q = record {
+  from_inside = raises.from_inside;
+  to_inside = raises.to_inside;
+  beside = raises.beside;
+  lower =
+      omega (
+        arith,
+        raises.lower,
+        grown.others p raises.from_inside other_p,
+        grown.others q raises.to_inside other_q,
+      );
+}
+
+-- where one row has risen, the rows before it and those from the next one on stay closed
+pub apart_more : (conn : Conn) (size : Size) (mask before between after : List ℕ) (y top bottom new_top new_bottom : ℕ)
+    → AreGrownApart conn size mask before between top bottom
+    → IsRowGrown conn (all_of size) (rows_of size mask) y (rows_of size between) (rows_of size after)
+    → new_top ≤ top → new_top ≤ y → bottom ≤ new_bottom → y < new_bottom
+    → AreGrownApart conn size mask before after new_top new_bottom
+apart_more conn size mask before between after y top bottom new_top new_bottom first second up up_row down down_row =
+    record {
+      grown =
+          grown_twice conn (all_of size) (rows_of size mask) (rows_of size before) (rows_of size between)
+          (rows_of size after) first.grown second.grown;
+      closed = record {
+        before = λ p q raises p_above q_above.
+            first.closed.before p q
+            (open_before conn size mask y between after p q second raises (λ e. omega arith) (λ e. omega arith))
+            (omega arith) (omega arith);
+        from = λ p q raises p_below q_below.
+            first.closed.from p q
+            (open_before conn size mask y between after p q second raises (λ e. omega arith) (λ e. omega arith))
+            (omega arith) (omega arith);
+      };
+    }
+
+-- rows that are closed by themselves have no open pair that would have to wait
+pub closed_waits : (conn : Conn) (size : Size) (mask image : List ℕ) (top bottom : ℕ) (waiting : List ℕ)
+    → AreClosedApart conn size mask image top bottom
+    → WaitFrom conn (all_of size) (rows_of size mask) (rows_of size image) bottom waiting
+closed_waits conn size mask image top bottom waiting closed p q raises from_p from_q =
+    absurd (closed.from p q raises from_p from_q)
+
+-- where the rows up to one are closed by themselves, and it and the one below it cannot raise one another, all open
+-- pairs wait if those below wait
+pub settled_waits : (conn : Conn) (size : Size) (mask image : List ℕ) (waiting : List ℕ) (y : ℕ)
+    → ((p q : Pixel) → IsOpenPair conn size mask image p q → p.y ≤ y → q.y ≤ y → ⊥)
+    → NoneOpen conn (all_of size) (rows_of size mask) (rows_of size image) (IsFromTo (y + 1) y)
+    → NoneOpen conn (all_of size) (rows_of size mask) (rows_of size image) (IsFromTo y (y + 1))
+    → WaitFrom conn (all_of size) (rows_of size mask) (rows_of size image) (y + 1) waiting
+    → AllWait conn (all_of size) (rows_of size mask) (rows_of size image) waiting
+settled_waits conn size mask image waiting y above up down waits p q raises =
+    let near_rows = (near conn p q raises.beside).1 in
+    elim (cases_lt y p.y) [
+      | inl p_below ↦ elim (cases_lt y q.y) [
+        | inl q_below ↦ waits p q raises (omega arith) (omega arith)
+        | inr q_above ↦
+            absurd (up p q raises (omega (arith, near_rows, p_below, q_above), omega (arith, near_rows, p_below, q_above)))
+      ]
+      | inr p_above ↦ elim (cases_lt y q.y) [
+        | inl q_below ↦
+            absurd
+            (down p q raises (omega (arith, near_rows, p_above, q_below), omega (arith, near_rows, p_above, q_below)))
+        | inr q_above ↦ absurd (above p q raises (omega (arith, p_above)) (omega (arith, q_above)))
+      ]
+    ]
+
+-- where those above a cut are closed by themselves, all open pairs wait if those from the row above it on wait
+pub cut_waits : (conn : Conn) (size : Size) (mask image : List ℕ) (waiting : List ℕ) (cut bottom : ℕ) → 0 < cut
+    → AreClosedApart conn size mask image cut bottom
+    → WaitFrom conn (all_of size) (rows_of size mask) (rows_of size image) (cut - 1) waiting
+    → AllWait conn (all_of size) (rows_of size mask) (rows_of size image) waiting
+cut_waits conn size mask image waiting cut bottom some closed waits p q raises =
+    let near_rows = (near conn p q raises.beside).1 in
+    elim (cases_lt p.y (cut - 1)) [
+      | inl p_above ↦ absurd (closed.before p q raises (omega (arith, p_above)) (omega (arith, near_rows, p_above)))
+      | inr p_below ↦ elim (cases_lt q.y (cut - 1)) [
+        | inl q_above ↦ absurd (closed.before p q raises (omega (arith, near_rows, q_above)) (omega (arith, q_above)))
+        | inr q_below ↦ waits p q raises (omega (arith, p_below)) (omega (arith, q_below))
+      ]
+    ]
