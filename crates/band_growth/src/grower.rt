@@ -1,14 +1,14 @@
 //! Growing a whole image by as many threads as there are processors, for those who grow by a `Grower`.
 
-ghost use Rattle.std.specs.Prelude.{◌≡◌, ◌<◌};
+ghost use Rattle.std.specs.Prelude.{◌≡◌, ◌<◌, replicate, IfOk};
 ghost use Rattle.band_growth.specs.Sharing.{IsShared};
 
 use crate::growth::grow_in_place_on;
 use grid_core::{Conn, Grid, Memory};
-use raster_sweeps::Grower;
-use std::alloc::Global;
+use raster_sweeps::{Grower, OneThread};
+use std::alloc::{AllocError, Global};
 use std::marker::Sync;
-use std::thread::{Threads, available_parallelism};
+use std::thread::{Threads, available_parallelism, join};
 
 // With fewer pixels than these an image is not worth a second thread.
 const SHARED_PIXELS: usize = 2_000_000;
@@ -46,6 +46,37 @@ impl<'a, R: Threads + Sync> Grower for ManyThreads<'a, R> {
         let threads = threads_for(self.rt, image.cells().len());
         grow_in_place_on(self.rt, alloc, mask, image, conn, threads)
     }
+
+    fn zeros_beside<T, F: FnOnce() -> T>(
+        &self,
+        alloc: Global,
+        count: usize,
+        work: F,
+    ) -> (T, Result<Vec<u16>, AllocError>) {
+        if threads_for(self.rt, count) > 1 {
+            zeros_in_thread(self.rt, alloc, count, work)
+        } else {
+            OneThread.zeros_beside(alloc, count, work)
+        }
+    }
+}
+
+// Does some work, and makes so many zeros in a thread of their own.
+fn zeros_in_thread<R: Threads, T, F: FnOnce() -> T>(
+    rt: &R,
+    alloc: Global,
+    count: usize,
+    work: F,
+) -> (T, Result<Vec<u16>, AllocError>)
+    requires { F.pre work }
+    ensures done { F.post work result.0 }
+    ensures zeros { IfOk result.1 (λ cells. cells.items ≡ replicate count 0) }
+{
+    let make = move || -> Result<Vec<u16>, AllocError>
+        ensures { IfOk result (λ cells. cells.items ≡ replicate count 0) }
+    { vec![in alloc; 0; count] };
+    let (zeros, done) = join(rt, make, work);
+    (done, zeros)
 }
 
 // The number of threads for so many pixels.

@@ -1,5 +1,6 @@
 -- Lists of cells of which one has a cell more, and the cells of several lists.
-use Rattle.std.proofs.Common.{◌≡◌, ℕ, zero, suc, ◌<◌, List, [], ◌∷◌, ◌++◌, length, get_or, set}
+use Rattle.std.proofs.Common.{◌≡◌, ℕ, zero, suc, ◌<◌, Bool, true, false, MatchBool, List, [], ◌∷◌, ◌++◌, length}
+use Rattle.std.proofs.Common.{get_or, set}
 use Rattle.std.proofs.Common.{refl, sym, ◌∙◌, ap, subst, inl, inr, arith, length-append, length-set}
 use Rattle.std.specs.List.{Contains}
 use Rattle.std.specs.VecDeque.{deque_capacity, deque_items}
@@ -86,6 +87,14 @@ module _ (cell : ℕ) (fewer more : List ℕ) (one : AreOneMore cell fewer more)
     );
     count = omega (arith, length-append others fewer, length-append others more, one.count);
   }
+
+-- where a cell was put behind the one that comes next, if there was room for it, it was put into all of them
+pub more_behind_next : (room : Bool) (cell next : ℕ) (fewer more all : List ℕ) → next ∷ fewer ≡ all
+    → MatchBool room (AreOneMore cell fewer more) (more ≡ fewer)
+    → MatchBool room (AreOneMore cell all (next ∷ more)) (next ∷ more ≡ all)
+more_behind_next true cell next fewer more all same one =
+    subst (λ old. AreOneMore cell old (next ∷ more)) same (one_more_behind cell fewer more one (next ∷ []))
+more_behind_next false cell next fewer more all same one = ap (λ others. next ∷ others) one ∙ same
 
 -- what has one cell more than a list has the cells of the list behind that cell, and no others
 module _ (cell : ℕ) (fewer more : List ℕ) (one : AreOneMore cell fewer more) where

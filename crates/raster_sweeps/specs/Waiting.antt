@@ -1,5 +1,5 @@
--- The lists of the cells that wait. Only private functions have these words in their contracts.
-use Rattle.std.specs.Prelude.{◌≡◌, ◌↔◌, ℕ, ◌+◌, ◌<◌, ◌⊎◌, List, [], length}
+-- The cells that wait. Only private functions have these words in their contracts.
+use Rattle.std.specs.Prelude.{◌≡◌, ◌↔◌, ℕ, ◌+◌, ◌<◌, ◌⊎◌, List, [], ◌∷◌, length, Option, None, Some}
 use Rattle.std.specs.List.{All, AllWithin, Contains, HoldsAt, flat_map}
 use Rattle.std.specs.declared.collections.VecDeque.{VecDeque}
 use Rattle.std.specs.VecDeque.{deque_capacity, deque_items}
@@ -8,6 +8,11 @@ use Rattle.std.specs.VecDeque.{deque_capacity, deque_items}
 pub record AreOneMore (cell : ℕ) (fewer more : List ℕ) : Type 0 where
   pub each : (i : ℕ) → Contains more i ↔ (Contains fewer i ⊎ (i ≡ cell))
   pub count : length more ≡ length fewer + 1
+
+-- the cell that comes next, if there is one, and the others
+abbrev pub next_and : Option ℕ → List ℕ → List ℕ
+next_and None others = others
+next_and (Some cell) others = cell ∷ others
 
 module _ {Z : Type 0} where
   -- the cells of the lists, one list after another

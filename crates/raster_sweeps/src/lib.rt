@@ -36,6 +36,7 @@ mod corridors;
 mod grower;
 mod growth;
 pub mod laws;
+mod lists;
 mod neighbourhood;
 mod open_pairs;
 mod raising;

@@ -1,33 +1,21 @@
-use Rattle.std.proofs.Common.{◌<◌, length, set, subst, sym, arith, inr}
-use Rattle.std.specs.VecDeque.{deque_capacity}
-use Rattle.raster_sweeps.specs.Waiting.{AreOneMore, cells_of}
-use Rattle.raster_sweeps.proofs.Bags.{cell_pushed, served_changed, some_cells}
+use Rattle.std.proofs.Common.{◌≡◌, ◌∷◌, MatchBool, ap, sym, subst, ◌∙◌}
+use Rattle.raster_sweeps.specs.Waiting.{AreOneMore, next_and}
+use Rattle.raster_sweeps.proofs.Bags.{more_behind_next, one_more_first}
 use Rattle.raster_sweeps.proofs.waiting.Waiting.push.Goals as goal
 
-pub returns-then-len-capacity-clause-full : goal.returns-then-len-capacity-clause-full
-returns-then-len-capacity-clause-full c =
-    let list = c.index_mut-list.result.now in
-    let lists = c.self.inside.strips.items in
-    let within : c.min.result < length lists = omega (arith, c.self.inside.strips.ok.0, c.self.invariant.within) in
-    let room : 0 < deque_capacity list =
-    subst (λ l. 0 < deque_capacity l) (sym c.index_mut-list.ensures.value)
-    (c.self.invariant.capacity c.min.result list within) in
-    let some : 0 < length (cells_of lists) =
-    some_cells list list lists c.min.result within c.index_mut-list.ensures.value
-    (omega (arith, room, c.if-len-capacity.true, list.ok.0)) in
-    inr (subst (λ cells. 0 < length cells) c.self.view_is some)
+pub returns-in-None-clause-added : goal.returns-in-None-clause-added
+returns-in-None-clause-added c =
+    let others = c.self.inside.lists in
+    subst (λ old. AreOneMore c.args.cell old (c.args.cell ∷ others))
+    (ap (λ next. next_and next others) (sym c.in-None.is) ∙ c.self.view_is) (one_more_first c.args.cell others)
 
-pub invariant_of-self-2 : goal.invariant_of-self-2
-invariant_of-self-2 c =
-    served_changed c.index_mut-list.result.now c.push_back_reserved.new.self c.self.inside.strips.items c.min.result
-    (omega (arith, c.self.inside.strips.ok.0, c.self.invariant.within)) c.index_mut-list.ensures.value
-    c.self.inside.at c.self.invariant.within c.self.invariant.capacity c.push_back_reserved.ensures.capacity
-
-pub returns-clause-added : goal.returns-clause-added
-returns-clause-added c =
-    let lists = c.self.inside.strips.items in
-    let list = c.push_back_reserved.new.self in
-    subst (λ cells. AreOneMore c.args.cell cells (cells_of (set lists c.min.result list))) c.self.view_is
-    (cell_pushed c.index_mut-list.result.now list lists c.min.result
-    (omega (arith, c.self.inside.strips.ok.0, c.self.invariant.within)) c.index_mut-list.ensures.value
-    c.args.cell c.push_back_reserved.ensures.items)
+pub returns-in-Some-clause-added : goal.returns-in-Some-clause-added
+returns-in-Some-clause-added c =
+    let old = c.self.inside.lists in
+    let new = c.push.new.self in
+    let all = c.args.self.now in
+    let cell = c.args.cell in
+    subst (λ next. MatchBool c.push.result (AreOneMore cell all (next_and next new)) (next_and next new ≡ all))
+    (sym c.in-Some.is)
+    (more_behind_next c.push.result cell c.in-Some.field-0 old new all
+    (ap (λ next. next_and next old) (sym c.in-Some.is) ∙ c.self.view_is) c.push.ensures.added)

@@ -1,6 +1,6 @@
 use Rattle.std.proofs.Common.{arith}
 use Rattle.raster_sweeps.proofs.Bags.{no_cells}
-use Rattle.raster_sweeps.proofs.waiting.Waiting.new.Goals as goal
+use Rattle.raster_sweeps.proofs.lists.Lists.new.Goals as goal
 
 pub invariant_of-result : goal.invariant_of-result
 invariant_of-result c = record {

@@ -1,5 +1,5 @@
 use Rattle.raster_sweeps.specs.Waiting.{AreEmptyWithin}
-use Rattle.raster_sweeps.proofs.waiting.last_before.Given as goal
+use Rattle.raster_sweeps.proofs.lists.last_before.Given as goal
 
 abbrev pub invariant-loop-at : goal.invariant-loop-at
 invariant-loop-at l = AreEmptyWithin l.lists l.at l.end

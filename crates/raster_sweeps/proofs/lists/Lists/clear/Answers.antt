@@ -2,7 +2,7 @@ use Rattle.std.proofs.Common.{◌≡◌, length, subst, sym, ap, ◌∙◌, arit
 use Rattle.std.proofs.lemmas.List.{with_items_is}
 use Rattle.raster_sweeps.specs.Waiting.{AreServed, cells_of}
 use Rattle.raster_sweeps.proofs.Bags.{no_cells}
-use Rattle.raster_sweeps.proofs.waiting.Waiting.clear.Goals as goal
+use Rattle.raster_sweeps.proofs.lists.Lists.clear.Goals as goal
 
 pub invariant_of-self : goal.invariant_of-self
 invariant_of-self c =

@@ -1,7 +1,7 @@
 use Rattle.std.proofs.Common.{◌≤◌, ◌≡◌}
 use Rattle.std.specs.Vec.{vec_capacity, vec_len}
 use Rattle.raster_sweeps.specs.Waiting.{AreEmptyLists}
-use Rattle.raster_sweeps.proofs.waiting.empty_lists.Given as goal
+use Rattle.raster_sweeps.proofs.lists.empty_lists.Given as goal
 
 abbrev pub invariant-loop : goal.invariant-loop
 invariant-loop l = record {

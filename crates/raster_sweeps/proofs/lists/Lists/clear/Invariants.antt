@@ -1,5 +1,5 @@
 use Rattle.raster_sweeps.specs.Waiting.{AreEmptyWithin, HaveCapacity}
-use Rattle.raster_sweeps.proofs.waiting.Waiting.clear.Given as goal
+use Rattle.raster_sweeps.proofs.lists.Lists.clear.Given as goal
 
 abbrev pub invariant-loop-list : goal.invariant-loop-list
 invariant-loop-list l = record {

@@ -1,7 +1,7 @@
 use Rattle.std.proofs.Common.{◌≡◌, [], set, subst, sym, ◌∙◌}
 use Rattle.raster_sweeps.specs.Waiting.{AreAllEmpty, AreOneMore, HasCellAt, cells_of}
 use Rattle.raster_sweeps.proofs.Bags.{cell_popped, no_cells, served_changed}
-use Rattle.raster_sweeps.proofs.waiting.Waiting.pop_next.Goals as goal
+use Rattle.raster_sweeps.proofs.lists.Lists.pop_next.Goals as goal
 
 pub returns-in_err-at : goal.returns-in_err-at
 returns-in_err-at c =
