@@ -26,9 +26,22 @@ pub fn marker(alloc: Global, mask: &Grid, state: &State) -> Result<Grid, Memory>
     ensures marks { IfOk result (λ m. (conn : Conn)
         → IsMarker (domain_of mask.now conn) (value_at mask.now) state.now (value_at m)) }
 {
-    let mut marker = blank(alloc, mask)?;
+    let blank = blank(alloc, mask)?;
+    Ok(marker_over(blank, mask, state))
+}
+
+/// The marker of a mask and a state, as [`marker`] says, in the memory of an image of zeros of the mask's size.
+///
+/// Each stroke of the state, live or not, has to fit the mask. It takes no memory.
+pub fn marker_over(blank: Grid, mask: &Grid, state: &State) -> Grid
+    requires fits { StateFits mask.now.width mask.now.height state.now }
+    requires blank { IsBlankOn mask.now blank }
+    ensures below { IsBelow result mask.now }
+    ensures marks { (conn : Conn) → IsMarker (domain_of mask.now conn) (value_at mask.now) state.now (value_at result) }
+{
+    let mut marker = blank;
     raise_by_live(&mut marker, mask, state, &[Window::whole(mask)]);
-    Ok(marker)
+    marker
 }
 
 /// An image of zeros, of the mask's size.

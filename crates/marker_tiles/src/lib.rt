@@ -36,5 +36,5 @@ mod window;
 mod windows;
 
 pub use error::MarkersError;
-pub use from_state::marker;
+pub use from_state::{marker, marker_over};
 pub use mask_and_marker::Markers;

@@ -39,6 +39,8 @@ pub use byte_devices::{
 pub use error::PgmError;
 pub use image::{Image, below_keeps_maxval};
 pub use plain_writing::write_plain;
-pub use reading::{every_text, one_fault, one_image, plain_text_is_read, raw_text_is_read, read};
+pub use reading::{
+    every_text, one_fault, one_image, pixels_in, plain_text_is_read, raw_text_is_read, read,
+};
 pub use transfer::{read_all, read_all_within, read_from, write_to};
 pub use writing::{put_samples, sample_len, write_raw};

@@ -3,6 +3,7 @@ ghost use Rattle.std.specs.Prelude.{◌≡◌, ◌*◌, ◌≤◌, false, nat_lt
 ghost use Rattle.std.specs.Int.{w16, from_be_bytes};
 ghost use Rattle.std.specs.List.{list_any};
 ghost use Rattle.pgm_codec.specs.declared.grammar.Encoding.TheVariants.{Plain, Raw};
+ghost use Rattle.grid_core.specs.Raster.{max_pixels};
 ghost use Rattle.pgm_codec.specs.Spelling.{is_wide};
 ghost use Rattle.pgm_codec.specs.Reading.{Gives, GivesOrMemory, AreSamples, AreRawValues};
 ghost use Rattle.pgm_codec.specs.Reading.{sample_at, sample_width, samples_at, end_at};
@@ -74,6 +75,16 @@ fn sample_width(wide: bool) -> usize
     ensures { result ≡ sample_width wide }
 {
     if wide { 2 } else { 1 }
+}
+
+// The least number of bytes that so many samples take.
+pub(crate) fn shortest_raster(encoding: Encoding, maxval: u16, count: usize) -> usize
+    requires { count ≤ max_pixels }
+{
+    match encoding {
+        Encoding::Plain => (2 * count).saturating_sub(1),
+        Encoding::Raw => count * sample_width(maxval > 255),
+    }
 }
 
 // The first values of a raw raster, of two bytes each or of one.

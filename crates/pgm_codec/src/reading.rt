@@ -1,5 +1,5 @@
 //! Reading a whole file, from left to right.
-ghost use Rattle.std.specs.Prelude.{◌≡◌, ◌⊎◌, List, ℕ, Ok, IfOk, IfErr, IsErrOf};
+ghost use Rattle.std.specs.Prelude.{◌≡◌, ◌≤◌, ◌⊎◌, List, ℕ, length, Ok, IfOk, IfErr, IsErrOf};
 ghost use Rattle.pgm_codec.specs.declared.error.PgmError.{PgmError};
 ghost use Rattle.pgm_codec.specs.declared.error.PgmError.TheVariants as errors;
 ghost use Rattle.pgm_codec.specs.Graymap.{Graymap};
@@ -12,7 +12,7 @@ ghost use Rattle.pgm_codec.specs.PlainWriting.{plain_text};
 use crate::error::PgmError;
 use crate::header::{height, magic, maxval, width};
 use crate::image::Image;
-use crate::raster::{end, samples};
+use crate::raster::{end, samples, shortest_raster};
 use grid_core::Grid;
 use std::alloc::Global;
 
@@ -28,6 +28,30 @@ fn image(alloc: Global, text: &[u8]) -> Result<Image, PgmError>
     let (samples, rest) = samples(alloc, encoding, rest, maxval, w as usize * h as usize)?;
     end(encoding, rest)?;
     Ok(Image::over(Grid::from_cells(w, h, samples), maxval))
+}
+
+// How many pixels the header says, where the text behind it is long enough for so many samples.
+fn pixels(text: &[u8]) -> Result<usize, PgmError> {
+    let (encoding, rest) = magic(text)?;
+    let (w, rest) = width(rest)?;
+    let (h, rest) = height(rest, w)?;
+    let (maxval, rest) = maxval(rest)?;
+    let count = w as usize * h as usize;
+    if shortest_raster(encoding, maxval, count) > rest.len() {
+        return Err(PgmError::Truncated);
+    }
+    Ok(count)
+}
+
+/// How many pixels the image has that a text spells, by its header alone; 0 where there is no such header, or too little
+/// behind it. For who makes room for an image of the same size before the text is read. It takes no memory.
+pub fn pixels_in(text: &[u8]) -> usize
+    ensures { result ≤ length text.now }
+{
+    match pixels(text) {
+        Ok(count) => count.min(text.len()),
+        Err(_) => 0,
+    }
 }
 
 /// The image that a text spells: one file (Netpbm, pgm(5)), all of the text. What is read is spelled so, and what is
