@@ -1,5 +1,5 @@
 -- A board that begins with what a state file keeps is whole, and stored as one; and why there is none.
-use Rattle.std.proofs.Common.{◌≡◌, ℕ, ◌⊎◌, inl, inr, refl, sym, ◌∙◌, ap, subst, List, [], ◌∷◌, ◌++◌}
+use Rattle.std.proofs.Common.{◌≡◌, ℕ, ◌⊎◌, inl, inr, sym, ◌∙◌, ap, subst, List, [], ◌∷◌}
 use Rattle.std.proofs.Common.{length, false, arith}
 use Rattle.std.specs.Prelude.{replicate, Contains}
 use Rattle.std.proofs.lemmas.List.Elements.{Contains-push}
@@ -7,17 +7,15 @@ use Rattle.grid_core.specs.declared.conn.Conn.{Conn}
 use Rattle.grid_core.specs.Raster.{Raster}
 use Rattle.grid_core.specs.Tiles.{IsTileSide}
 use Rattle.pgm_codec.specs.Graymap.{Graymap, IsGraymap}
-use Rattle.stroke_lattice.specs.State.{State, IsLiveTag, AreCompatible, HasStroke, nothing}
+use Rattle.stroke_lattice.specs.State.{State, IsLiveTag}
 use Rattle.stroke_lattice.proofs.Joins.{nothing_has_no_stroke}
 use Rattle.spd_codec.specs.StateFile.{IsFileFault}
 use Rattle.spd_codec.specs.declared.error.SpdError.{SpdError}
 use Rattle.spd_codec.specs.declared.error.SpdError.TheVariants as spd
-use Rattle.core_rules.specs.declared.error.CoreError.{CoreError}
 use Rattle.core_rules.specs.Opening.{opened}
 use Rattle.core_rules.specs.Work.{Core}
 use Rattle.reset_core.specs.Starting.{IsBegunWith}
-use Rattle.paint_session.specs.Kept.{print_of, FileSpells, FileIsOfAnother, OldIsRefused}
-use Rattle.paint_session.specs.Merging.{IsStop}
+use Rattle.paint_session.specs.Kept.{print_of, FileIsOfAnother, OldIsRefused}
 use Rattle.paint_session.specs.RunError.{IsMemory}
 use Rattle.paint_session.specs.declared.run_error.RunError.{RunError}
 use Rattle.paint_session.specs.declared.run_error.RunError.TheVariants as errors
@@ -37,7 +35,7 @@ each_is_told board state (turnover, change, only) tag live = record {
   news = record { step = 1; change = turnover };
   told =
       subst (λ (all : List News). Contains all (record { step = 1; change = turnover })) (sym only)
-      (Contains-push {A = News} [] (record { step = 1; change = turnover }));
+      (Contains-push [] (record { step = 1; change = turnover }));
   later = omega arith;
   turned = inl ((change.born tag).1 (live, λ was. nothing_has_no_stroke tag was.0 was.1.0));
 }
@@ -121,30 +119,14 @@ module _ (mask : Graymap) (conn : Conn) (side run : ℕ) (state : State) where
     no_marks = marks;
   }
 
--- a state without strokes clashes with none
-pub none_clash : (empty state : State) → empty ≡ nothing → AreCompatible empty state
-none_clash empty state none tag clash =
-    nothing_has_no_stroke tag clash.seed (subst (λ (s : State). HasStroke s tag clash.seed) none clash.in_first)
-
 -- ---- what is refused
 
-module _ (conn : Conn) (print old : List ℕ) (mask : Graymap) (same : print ≡ print_of mask) where
-  spelled_for : (deltas : List State) → FileSpells conn print old deltas → FileSpells conn (print_of mask) old deltas
-  spelled_for deltas spelled = subst (λ (p : List ℕ). FileSpells conn p old deltas) same spelled
-
-  pub bytes_refused : (e : RunError)
-      → (e ≡ errors.Spd spd.Memory) ⊎ ((why : SpdError) × (e ≡ errors.Spd why) × IsFileFault old why)
-      ⊎ ((e ≡ errors.OtherMask) × FileIsOfAnother conn print old)
-      → IsMemory e ⊎ OldIsRefused conn old [] mask e
-  bytes_refused e (inl memory) = inl (inr (inr (inr (inr memory))))
-  bytes_refused e (inr (inl fault)) = inr (inl fault)
-  bytes_refused e (inr (inr (is, another))) =
-      inr (inr (inl (is, subst (λ (p : List ℕ). FileIsOfAnother conn p old) same another)))
-
-  pub frames_refused : (deltas : List State) (why : CoreError) → FileSpells conn print old deltas
-      → IsStop mask.raster.width mask.raster.height (deltas ++ []) why
-      → IsMemory (errors.Core why) ⊎ OldIsRefused conn old [] mask (errors.Core why)
-  frames_refused deltas why spelled (inl refused) =
-      inr (inr (inr (deltas, spelled_for deltas spelled, (why, refl, refused))))
-  frames_refused deltas why spelled (inr (memory, halted)) =
-      inl (inr (inr (inr (inl (ap (λ (e : CoreError). errors.Core e) memory)))))
+-- why the frames of a mask's fingerprint were not read is why no board is opened over them
+pub bytes_refused : (conn : Conn) (print old : List ℕ) (mask : Graymap) (e : RunError) → print ≡ print_of mask
+    → (e ≡ errors.Spd spd.Memory) ⊎ ((why : SpdError) × (e ≡ errors.Spd why) × IsFileFault old why)
+    ⊎ ((e ≡ errors.OtherMask) × FileIsOfAnother conn print old)
+    → IsMemory e ⊎ OldIsRefused conn old [] mask e
+bytes_refused conn print old mask e same (inl memory) = inl (inr (inr (inr (inr memory))))
+bytes_refused conn print old mask e same (inr (inl fault)) = inr (inl fault)
+bytes_refused conn print old mask e same (inr (inr (is, another))) =
+    inr (inr (inl (is, subst (λ (p : List ℕ). FileIsOfAnother conn p old) same another)))

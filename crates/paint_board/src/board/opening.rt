@@ -158,8 +158,10 @@ fn first_steps(alloc: Global, tiles: usize) -> Result<Vec<u64>, Memory>
 fn first_news(alloc: Global, state: &State) -> Result<Vec<News>, Memory>
     ensures { IfOk result (λ news. AreFirstNews state.now news.items) }
 {
-    let mut empty = State::empty(alloc).map_err(|_| Memory)?;
-    let change = empty.join(alloc, state)?;
+    let Ok(mut copy) = State::empty(alloc) else {
+        return Err(Memory);
+    };
+    let change = copy.join(alloc, state)?;
     let mut news = Vec::new(alloc);
     news.push(News { step: 1, change })?;
     Ok(news)

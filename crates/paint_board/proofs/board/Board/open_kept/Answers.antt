@@ -1,0 +1,16 @@
+-- What the tactics leave open of `open_kept`.
+use Rattle.std.proofs.Common.{subst}
+use Rattle.std.proofs.lemmas.Result.{IfOk-weaker}
+use Rattle.pgm_codec.specs.Graymap.{Graymap}
+use Rattle.paint_board.specs.Opening.{IsBegunBoard}
+use Rattle.paint_board.proofs.board.Board.open_kept.Goals as goal
+
+pub returns-clause-opened : goal.returns-clause-opened
+returns-clause-opened g c =
+    let state = c.in_ok-gathered.gathered.state in
+    IfOk-weaker c.begun.result _ _ (λ board begun. (
+      state,
+      c.in_ok-gathered.ensures.kept,
+      subst (λ (m : Graymap). IsBegunBoard m c.args.conn c.args.side c.args.run state board)
+          c.in_ok-gathered.ensures.mask begun,
+    )) c.begun.ensures.begun
