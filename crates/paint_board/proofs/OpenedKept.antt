@@ -1,5 +1,5 @@
 -- A board that begins with what a state file keeps is whole, and stored as one; and why there is none.
-use Rattle.std.proofs.Common.{◌≡◌, ℕ, ◌⊎◌, inl, inr, sym, ◌∙◌, ap, subst, List, [], ◌∷◌}
+use Rattle.std.proofs.Common.{◌≡◌, ℕ, ◌⊎◌, inl, inr, sym, ◌∙◌, ap, subst, List, []}
 use Rattle.std.proofs.Common.{length, false, arith}
 use Rattle.std.specs.Prelude.{replicate, Contains}
 use Rattle.std.proofs.lemmas.List.Elements.{Contains-push}
