@@ -5,13 +5,12 @@ use Rattle.grid_core.specs.Raster.{Raster}
 use Rattle.pgm_codec.specs.Graymap.{Graymap}
 use Rattle.pgm_codec.specs.FirstFault.{PgmFault}
 use Rattle.pgm_codec.specs.declared.error.PgmError.TheVariants.{Device}
-use Rattle.stroke_lattice.specs.State.{State, nothing, IsJoin}
+use Rattle.stroke_lattice.specs.State.{State}
 use Rattle.stroke_lattice.specs.Pieces.{pieces_of}
-use Rattle.stroke_lattice.proofs.Joins.{same_state, below_itself, nothing_has_no_stroke, nothing_has_no_tombstone}
 use Rattle.spd_codec.specs.StateFile.{SpellsFile, file_text, frames_of}
 use Rattle.derived_views.specs.Shown.{IsShown}
 use Rattle.core_rules.specs.Work.{Core}
-use Rattle.core_rules.specs.Opening.{opened}
+use Rattle.reset_core.specs.Starting.{IsBegunWith}
 use Rattle.paint_session.specs.Kept.{print_of, IsGathered, FileSpells}
 use Rattle.paint_session.specs.RunError.{IsReadingFault, IsTransferFault}
 use Rattle.paint_session.specs.declared.run_error.RunError.{RunError}
@@ -19,27 +18,17 @@ use Rattle.paint_session.proofs.KeptViews.{spells_pieces, no_kept_device}
 use Rattle.link_nodes.specs.Links.{LinkSeen}
 use Rattle.node_session.specs.Given.{HasGiven, ComesFrom}
 use Rattle.node_session.specs.Shared.{IsImageShared, NodeStops, StudioFails}
-use Rattle.node_session.specs.Working.{IsCoreOf, IsShared, MergesInto}
+use Rattle.node_session.specs.Working.{IsCoreOf, IsShared}
 
 -- ---- a core begins
 
--- the join of no strokes and others is the others
-joins_nothing : (s join : State) → IsJoin nothing s join → join ≡ s
-joins_nothing s join is = same_state join s
-    (is.least s (record {
-      strokes = λ tag seed has. absurd (nothing_has_no_stroke tag seed has);
-      tombstones = λ tag has. absurd (nothing_has_no_tombstone tag has);
-    }) (below_itself s))
-    is.second
-
--- strokes that are merged into a new core
-pub begins : (mask : Raster) (conn : Conn) (side : ℕ) (state : State) (new core : Core) → new ≡ opened mask conn side 0
-    → MergesInto new state core → IsCoreOf mask conn state core
-begins mask conn side state new core is (turnover, merged) = record {
-  mask_is = ap (λ (c : Core). c.mask) merged.rest ∙ ap (λ (c : Core). c.mask) is;
-  conn_is = ap (λ (c : Core). c.conn) merged.rest ∙ ap (λ (c : Core). c.conn) is;
-  state_is = joins_nothing state core.state
-      (subst (λ (c : Core). IsJoin c.state state core.state) is merged.join);
+-- a core that begins with strokes has them
+pub begins : (mask : Raster) (conn : Conn) (side first : ℕ) (state : State) (core : Core)
+    → IsBegunWith mask conn side first state core → IsCoreOf mask conn state core
+begins mask conn side first state core is = record {
+  mask_is = ap (λ (c : Core). c.mask) is.core_is;
+  conn_is = ap (λ (c : Core). c.conn) is.core_is;
+  state_is = ap (λ (c : Core). c.state) is.core_is;
 }
 
 -- ---- the end

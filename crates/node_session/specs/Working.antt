@@ -4,9 +4,7 @@ use Rattle.byte_devices.specs.Device.{HasRisenBy}
 use Rattle.grid_core.specs.declared.conn.Conn.{Conn}
 use Rattle.grid_core.specs.Raster.{Raster}
 use Rattle.stroke_lattice.specs.State.{State}
-use Rattle.stroke_lattice.specs.Change.{Turnover}
 use Rattle.core_rules.specs.Work.{Core}
-use Rattle.core_rules.specs.Merge.{IsMerged}
 use Rattle.pen_desks.specs.declared.pen.PenEnd.{PenEnd}
 use Rattle.pen_desks.specs.Pens.{IsOf, all_submitted}
 use Rattle.core_dispatch.specs.Turns.{GrowsOn}
@@ -89,7 +87,3 @@ pub record IsCoreOf (mask : Raster) (conn : Conn) (state : State) (core : Core) 
   pub mask_is : core.mask ≡ mask
   pub conn_is : core.conn ≡ conn
   pub state_is : core.state ≡ state
-
--- a delta was merged into the core, and this is the core
-abbrev pub MergesInto : Core → State → Core → Type 0
-MergesInto old delta new = (turnover : Turnover) × IsMerged old delta turnover new

@@ -1,23 +1,26 @@
 //! What a node's run makes of an input.
 
-ghost use Rattle.std.specs.Prelude.{◌≡◌, ◌⊎◌, IsTrue, IfOk, IfErr};
+ghost use Rattle.std.specs.Prelude.{◌≡◌, ◌⊎◌, IfOk, IfErr};
 ghost use Rattle.byte_devices.specs.Device.{HasRisenBy};
 ghost use Rattle.grid_core.specs.Tiles.{IsTileSide};
 ghost use Rattle.pgm_codec.specs.Graymap.{IsGraymap};
 ghost use Rattle.stroke_lattice.specs.Pieces.{pieces_of};
+ghost use Rattle.stroke_lattice.specs.State.{StateFits};
 ghost use Rattle.spd_codec.specs.StateFile.{SpellsFile, file_text, frames_of};
 ghost use Rattle.spd_codec.specs.Spelling.{max_bytes};
 ghost use Rattle.derived_views.specs.Shown.{IsShown};
 ghost use Rattle.core_rules.specs.Work.{IsQuiet};
+ghost use Rattle.reset_core.specs.Starting.{IsBegunWith};
 ghost use Rattle.paint_session.specs.RunError.{IsReadingFault};
 ghost use Rattle.paint_session.specs.declared.run_error.RunError.TheVariants as errors;
 ghost use Rattle.spd_codec.specs.declared.error.SpdError.TheVariants as spd;
 ghost use Rattle.node_session.specs.Shared.{IsImageShared, NodeStops};
 ghost use Rattle.studio.specs.Opening.{IsCount};
 ghost use Rattle.node_session.specs.Given.{HasGiven};
-ghost use Rattle.node_session.specs.Working.{IsCoreOf, MergesInto};
+ghost use Rattle.node_session.specs.Working.{IsCoreOf};
 
 use crate::sharing::{Room, Sharing, share};
+use band_growth::ManyThreads;
 use grid_core::{Conn, Memory};
 use link_nodes::Link;
 use paint_session::gathering::{Gathered, gather};
@@ -62,7 +65,7 @@ pub(crate) fn paint<R: Threads + Wait + Clock + Sync, L: Link>(
     let gathered = gather(alloc, input, old, plan.conn)?;
     let Gathered { mask, print, state } = gathered;
     let maxval = mask.maxval();
-    let core = core_of(alloc, mask, state, plan)?;
+    let core = core_of(rt, alloc, mask, state, plan)?;
     let sharing = Sharing {
         conn: plan.conn,
         print,
@@ -73,27 +76,32 @@ pub(crate) fn paint<R: Threads + Wait + Clock + Sync, L: Link>(
     spelled(alloc, quiet, maxval, &print)
 }
 
-// A core of the mask with these strokes. They fit, nothing in a new core clashes with them, and no tile of it has spent
-// its generations, so that memory alone can be wanting.
-fn core_of(alloc: Global, mask: Image, state: State, plan: Plan) -> Result<Core, Memory>
+// A core of the mask that begins with these strokes, which fit it, so that memory alone can be wanting. Its image is
+// grown at once, by as many threads as there are processors.
+fn core_of<R: Threads + Sync>(
+    rt: &R,
+    alloc: Global,
+    mask: Image,
+    state: State,
+    plan: Plan,
+) -> Result<Core, Memory>
     requires side { IsTileSide plan.side }
-    ensures { IfOk result (IsCoreOf mask.raster plan.conn state) }
+    requires fits { StateFits mask.raster.width mask.raster.height state }
+    ensures { IfOk result (IsBegunWith mask.raster plan.conn plan.side 0 state) }
 {
-    let Ok(mut core) = Core::over(alloc, mask.into_grid(), plan.conn, plan.side, 0) else {
-        return Err(Memory);
-    };
-    if merges(alloc, &mut core, &state) {
-        Ok(core)
-    } else {
-        Err(let_go(core))
+    let grower = ManyThreads::new(rt);
+    match Core::over_state(
+        &grower,
+        alloc,
+        mask.into_grid(),
+        plan.conn,
+        plan.side,
+        0,
+        &state,
+    ) {
+        Ok(core) => Ok(core),
+        Err(_refused) => Err(Memory),
     }
-}
-
-// Merges the strokes into a core, and says whether there was memory. It lets go what became live.
-fn merges(alloc: Global, core: &mut Core, state: &State) -> bool
-    ensures { IsTrue result → MergesInto core.old state.now core.new }
-{
-    core.merge(alloc, state).is_ok()
 }
 
 // Lets a core go, for want of memory.

@@ -20,11 +20,12 @@ use std::thread::Threads;
 use std::time::Clock;
 
 /// Reads an input to its end, and merges the strokes and tombstones that the old bytes of a state file spell and then
-/// the input's deltas, as [`view_kept`](paint_session::view::view_kept) does; then shares them in a studio for so many
-/// ticks. At each tick the keeper takes a turn and shows the core, and the node polls the link once, submits what it
-/// hears and sends a piece of what is shown. Between ticks it rests for a millisecond. At last it closes the studio,
-/// works until no work is left, and writes the image as a raw PGM file with the mask's maxval. Answers the new bytes of
-/// the state file.
+/// the input's deltas, as [`view_kept`](paint_session::view::view_kept) does. A core begins with them, whose image is
+/// grown at once, by [`ManyThreads`](band_growth::ManyThreads); then they are shared in a studio for so many ticks. At
+/// each tick the keeper takes a turn and shows the core, and the node polls the link once, submits what it hears and
+/// sends a piece of what is shown. Between ticks it rests for a millisecond. At last it closes the studio, works until
+/// no work is left, and writes the image as a raw PGM file with the mask's maxval. Answers the new bytes of the state
+/// file.
 ///
 /// A datagram that is refused, a link that fails and memory that is wanting within a tick do not end it, and neither
 /// does a thread that cannot be started: without hands the work is done at the end.

@@ -2,7 +2,7 @@ use Rattle.std.proofs.Common.{◌∙◌, sym, inl, inr, subst}
 use Rattle.std.proofs.lemmas.Result.{err_from_is_err_and, IfOk-weaker, IfErr-weaker}
 use Rattle.pgm_codec.specs.Graymap.{IsGraymap}
 use Rattle.paint_session.proofs.KeptViews.{memory_behind}
-use Rattle.node_session.proofs.Paintings.{same_mask, shown_behind}
+use Rattle.node_session.proofs.Paintings.{begins, same_mask, shown_behind}
 use Rattle.node_session.proofs.Results.{ok_three}
 use Rattle.node_session.proofs.painting.paint.Goals as goal
 
@@ -41,7 +41,8 @@ spelled-requires-clause-quiet g c = c.in_ok-quiet.ensures.quiet
 
 pub spelled-requires-clause-graymap : goal.spelled-requires-clause-graymap
 spelled-requires-clause-graymap g c =
-    let is = c.in_ok-quiet.ensures.same.mask_is ∙ c.in_ok-shared.ensures.shared.mask ∙ c.in_ok-core.ensures.mask_is in
+    let begun = begins _ _ _ _ _ _ c.in_ok-core.ensures in
+    let is = c.in_ok-quiet.ensures.same.mask_is ∙ c.in_ok-shared.ensures.shared.mask ∙ begun.mask_is in
     subst IsGraymap (sym (same_mask _ _ c.in_ok-gathered.gathered.mask is c.maxval-maxval.ensures.value))
     c.maxval-maxval.ensures.is_graymap
 
@@ -57,10 +58,11 @@ pub returns-clause-shown : goal.returns-clause-shown
 returns-clause-shown g c =
     let found = c.in_ok-gathered.gathered in
     let gathered = c.in_ok-gathered.ensures in
+    let begun = begins _ _ _ _ _ _ c.in_ok-core.ensures in
     ok_three c.spelled.result _ _ _ _
     (λ parts shown text spells. shown_behind _ _ _ found.mask found.state found.print _ _ _ _ c.in_ok-core.core
     c.in_ok-shared.shared c.in_ok-quiet.quiet parts.0 parts.1.items gathered.print c.maxval-maxval.ensures.value
-    gathered.gathered c.in_ok-core.ensures c.in_ok-shared.ensures.shared c.in_ok-quiet.ensures.same shown text spells)
+    gathered.gathered begun c.in_ok-shared.ensures.shared c.in_ok-quiet.ensures.same shown text spells)
     c.spelled.ensures.shown c.spelled.ensures.text c.spelled.ensures.spells
 
 pub returns-clause-refused : goal.returns-clause-refused
