@@ -1,70 +1,132 @@
--- A board as it is opened refuses no state file but for the reasons of the file itself.
-use Rattle.std.proofs.Common.{◌≡◌, ℕ, ◌⊎◌, inl, inr, refl, sym, subst, List, [], ◌∷◌, append-nil}
+-- A board that begins with what a state file keeps is whole, and stored as one; and why there is none.
+use Rattle.std.proofs.Common.{◌≡◌, ℕ, ◌⊎◌, inl, inr, sym, ◌∙◌, ap, subst, List, []}
+use Rattle.std.proofs.Common.{length, false, arith}
+use Rattle.std.specs.Prelude.{replicate, Contains}
+use Rattle.std.proofs.lemmas.List.Elements.{Contains-push}
 use Rattle.grid_core.specs.declared.conn.Conn.{Conn}
-use Rattle.pgm_codec.specs.Graymap.{Graymap}
-use Rattle.stroke_lattice.specs.State.{State, StateFits, HasStroke, nothing}
+use Rattle.grid_core.specs.Raster.{Raster}
+use Rattle.grid_core.specs.Tiles.{IsTileSide}
+use Rattle.pgm_codec.specs.Graymap.{Graymap, IsGraymap}
+use Rattle.stroke_lattice.specs.State.{State, IsLiveTag}
 use Rattle.stroke_lattice.proofs.Joins.{nothing_has_no_stroke}
-use Rattle.core_rules.specs.declared.error.CoreError.{CoreError}
-use Rattle.core_rules.specs.declared.error.CoreError.TheVariants.{OutOfImage, Conflict, GenerationsSpent, Memory}
-use Rattle.core_rules.specs.declared.error.CoreError.TheVariants.{BadSide}
-use Rattle.core_rules.specs.Hits.{LosesStroke, HoldsOne, AreLinked, LeadFrom}
-use Rattle.core_rules.specs.Merge.{IsRefused}
+use Rattle.spd_codec.specs.StateFile.{IsFileFault}
+use Rattle.spd_codec.specs.declared.error.SpdError.{SpdError}
+use Rattle.spd_codec.specs.declared.error.SpdError.TheVariants as spd
 use Rattle.core_rules.specs.Opening.{opened}
-use Rattle.core_rules.specs.Work.{Core, tiling}
-use Rattle.paint_session.proofs.Deltas.{join_fits}
-use Rattle.paint_session.specs.Kept.{OldIsRefused}
+use Rattle.core_rules.specs.Work.{Core}
+use Rattle.reset_core.specs.Starting.{IsBegunWith}
+use Rattle.paint_session.specs.Kept.{print_of, FileIsOfAnother, OldIsRefused}
 use Rattle.paint_session.specs.RunError.{IsMemory}
-use Rattle.paint_session.specs.View.{DeltasAreRefused}
 use Rattle.paint_session.specs.declared.run_error.RunError.{RunError}
-use Rattle.paint_board.specs.Board.{Board}
-use Rattle.paint_board.specs.Opening.{opened_board, IsOpenedBoard, IsNotOpenedOver}
-use Rattle.paint_board.specs.Taking.{FileIsRefused}
+use Rattle.paint_session.specs.declared.run_error.RunError.TheVariants as errors
+use Rattle.paint_board.specs.declared.board.Board.TheInside.{Inside as Parts}
+use Rattle.paint_board.specs.declared.news.News.{News}
+use Rattle.paint_board.specs.Board.{Board, mask_of, IsWhole, HasTurned}
+use Rattle.paint_board.specs.Opening.{opened_board, AreFirstNews, IsBegunBoard}
+use Rattle.paint_board.specs.Stored.{board_of, IsStored}
+use Rattle.paint_board.proofs.Opened.{opened_is_whole}
 
--- where there is no stroke, none is lost
-none_lost : (core : Core) (after : State) (before : List ℕ) (t : ℕ) → core.state ≡ nothing
-    → LeadFrom (HoldsOne (tiling core) (LosesStroke core.state after)) (AreLinked (tiling core) core.image core.conn)
-    before t
-    → ⊥
-none_lost core after [] t none (p, in_tile, loses) =
-    nothing_has_no_stroke loses.tag loses.seed
-    (subst (λ (s : State). HasStroke s loses.tag loses.seed) none loses.was.0)
-none_lost core after (u ∷ before) t none (lead, linked) = none_lost core after before u none lead
+-- ---- the board
 
--- a core without strokes takes each delta that fits, want of memory aside
-refuses_none : (core : Core) (delta : State) (why : CoreError) → core.state ≡ nothing
-    → StateFits core.mask.width core.mask.height delta → IsRefused core delta why → ⊥
-refuses_none core delta (OutOfImage tag) none fits least = least.0.2 (fits tag least.0.0 least.0.1)
-refuses_none core delta (Conflict tag) none fits (fits_too, clash) =
-    nothing_has_no_stroke tag clash.0.seed
-    (subst (λ (s : State). HasStroke s tag clash.0.seed) none clash.0.in_first)
-refuses_none core delta GenerationsSpent none fits (fits_too, spent) =
-    none_lost core spent.joined spent.hit.0 spent.t none spent.hit.1
-refuses_none core delta Memory none fits refused = refused
-refuses_none core delta BadSide none fits refused = refused
+-- each live stroke of the state is told
+each_is_told : (board : Board) (state : State) → AreFirstNews state board.news → (tag : ℕ) → IsLiveTag state tag
+    → HasTurned board 0 tag
+each_is_told board state (turnover, change, only) tag live = record {
+  news = record { step = 1; change = turnover };
+  told =
+      subst (λ (all : List News). Contains all (record { step = 1; change = turnover })) (sym only)
+      (Contains-push [] (record { step = 1; change = turnover }));
+  later = omega arith;
+  turned = inl ((change.born tag).1 (live, λ was. nothing_has_no_stroke tag was.0 was.1.0));
+}
 
-pub old_is_refused : (mask : Graymap) (conn : Conn) (side run : ℕ) (old : List ℕ) (e : RunError)
-    → FileIsRefused (opened_board mask conn side run) old e → OldIsRefused conn old [] mask e
-old_is_refused mask conn side run old e (inl fault) = inl fault
-old_is_refused mask conn side run old e (inr (inl another)) = inr (inl another)
-old_is_refused mask conn side run old e (inr (inr (deltas, spelled, inl refused))) =
-    inr (inr (
-      deltas,
-      spelled,
-      subst (λ (all : List State). DeltasAreRefused all mask e)
-          (sym (append-nil deltas)) refused,
-    ))
-old_is_refused mask conn side run old e (inr (inr (deltas, spelled, inr (delta, why, merged, refused, is)))) =
-    absurd (refuses_none (opened mask.raster conn side 0) delta why refl
-    (join_fits mask.raster.width mask.raster.height deltas delta merged) refused)
+module _ (mask : Graymap) (conn : Conn) (side run : ℕ) (state : State) where
+  -- the board that is one as it is opened but for strokes, image and news
+  abbrev begun_board : Raster → List News → Board
+  begun_board image news =
+      record (opened_board mask conn side run) {
+        core = record (opened mask.raster conn side 0) { state = state; image = image };
+        version = 1;
+        news = news;
+      }
 
--- why the board that was opened does not take the file is why none is opened over it
-pub none_over : (mask : Graymap) (conn : Conn) (side run : ℕ) (old : List ℕ) (board : Board) (e : RunError)
-    → IsOpenedBoard mask conn side run board → IsMemory e ⊎ FileIsRefused board old e
-    → IsNotOpenedOver mask conn side old e
-none_over mask conn side run old board e (same, tile_side) (inl memory) = inr (tile_side, inl memory)
-none_over mask conn side run old board e (same, tile_side) (inr refused) =
-    inr (
-      tile_side,
-      inr (old_is_refused mask conn side run old e
-          (subst (λ (b : Board). FileIsRefused b old e) same refused)),
-    )
+  begun_board_is_whole : (image : Raster) (news : List News) → IsGraymap mask → IsTileSide side
+      → AreFirstNews state news → IsWhole (begun_board image news)
+  begun_board_is_whole image news graymap tile_side first =
+      let whole = opened_is_whole mask conn side run graymap tile_side in
+      record {
+        graymap = graymap;
+        tiled = whole.tiled;
+        tiles = whole.tiles;
+        count = whole.count;
+        begun = whole.begun;
+        past = whole.past;
+        version = omega arith;
+        step = omega arith;
+        told = each_is_told (begun_board image news) state first;
+      }
+
+  same_board : (board : Board) → IsBegunBoard mask conn side run state board
+      → board ≡ begun_board board.core.image board.news
+  same_board board begun =
+      begun.rest
+      ∙ ap (λ (core : Core). record (opened_board mask conn side run) {
+        core = core;
+        version = 1;
+        news = board.news;
+      }) begun.core.core_is
+
+  begun_is_whole : (board : Board) → IsGraymap mask → IsBegunBoard mask conn side run state board → IsWhole board
+  begun_is_whole board graymap begun =
+      subst IsWhole (sym (same_board board begun))
+      (begun_board_is_whole board.core.image board.news graymap begun.core.tile_side begun.news)
+
+  -- the parts of such a board make it
+  pub begun_is : (core : Core) (maxval : ℕ) (shown : List ℕ) (news : List News)
+      → IsBegunWith mask.raster conn side 0 state core → maxval ≡ mask.maxval
+      → shown ≡ replicate (length core.tiles) 1 → AreFirstNews state news
+      → IsBegunBoard mask conn side run state (record {
+        core = core;
+        maxval = maxval;
+        run = run;
+        version = 1;
+        step = 1;
+        shown = shown;
+        news = news;
+      })
+  begun_is core maxval shown news begins maxval_is shown_is first =
+      let ones = shown_is ∙ ap (λ (c : Core). replicate (length c.tiles) 1) begins.core_is in
+      record {
+        core = begins;
+        news = first;
+        rest = λ i. record {
+          core = core;
+          maxval = maxval_is i;
+          run = run;
+          version = 1;
+          step = 1;
+          shown = ones i;
+          news = news;
+        };
+      }
+
+  -- so they may be stored
+  pub begun_is_stored : (parts : Parts) → IsBegunBoard mask conn side run state (board_of parts) → IsGraymap mask
+      → parts.print ≡ print_of mask → parts.marks ≡ replicate (length parts.core.tiles) false → IsStored parts
+  begun_is_stored parts begun graymap print marks = record {
+    whole = begun_is_whole (board_of parts) graymap begun;
+    print = print ∙ ap print_of (sym (ap mask_of (same_board (board_of parts) begun)));
+    no_marks = marks;
+  }
+
+-- ---- what is refused
+
+-- why the frames of a mask's fingerprint were not read is why no board is opened over them
+pub bytes_refused : (conn : Conn) (print old : List ℕ) (mask : Graymap) (e : RunError) → print ≡ print_of mask
+    → (e ≡ errors.Spd spd.Memory) ⊎ ((why : SpdError) × (e ≡ errors.Spd why) × IsFileFault old why)
+    ⊎ ((e ≡ errors.OtherMask) × FileIsOfAnother conn print old)
+    → IsMemory e ⊎ OldIsRefused conn old [] mask e
+bytes_refused conn print old mask e same (inl memory) = inl (inr (inr (inr (inr memory))))
+bytes_refused conn print old mask e same (inr (inl fault)) = inr (inl fault)
+bytes_refused conn print old mask e same (inr (inr (is, another))) =
+    inr (inr (inl (is, subst (λ (p : List ℕ). FileIsOfAnother conn p old) same another)))

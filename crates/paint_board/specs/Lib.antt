@@ -7,6 +7,7 @@ pub use Rattle.spd_codec.specs.StateFile
 pub use Rattle.core_rules.specs.Merge
 pub use Rattle.core_rules.specs.Runs
 pub use Rattle.core_rules.specs.Shown
+pub use Rattle.reset_core.specs.Starting
 pub use Rattle.paint_session.specs.Kept
 pub use Rattle.paint_session.specs.Merging
 pub mod Board

@@ -1,17 +1,21 @@
 -- A board as it is opened.
-use Rattle.std.specs.Prelude.{◌≡◌, ℕ, ◌⊎◌, List, [], length, replicate}
+use Rattle.std.specs.Prelude.{◌≡◌, ℕ, ◌⊎◌, List, [], ◌∷◌, length, replicate}
 use Rattle.grid_core.specs.declared.conn.Conn.{Conn}
 use Rattle.grid_core.specs.Tiles.{IsTileSide}
+use Rattle.stroke_lattice.specs.State.{State, nothing}
+use Rattle.stroke_lattice.specs.Change.{Turnover, IsChange}
 use Rattle.pgm_codec.specs.Graymap.{Graymap}
 use Rattle.core_rules.specs.Work.{Core}
 use Rattle.core_rules.specs.Opening.{opened}
 use Rattle.core_rules.specs.declared.error.CoreError.TheVariants.{BadSide}
-use Rattle.paint_session.specs.Kept.{OldIsRefused}
+use Rattle.reset_core.specs.Starting.{IsBegunWith}
+use Rattle.paint_session.specs.Kept.{print_of, FileSpells, OldIsRefused}
+use Rattle.paint_session.specs.Merging.{AreMerged}
 use Rattle.paint_session.specs.RunError.{IsMemory}
 use Rattle.paint_session.specs.declared.run_error.RunError.{RunError}
 use Rattle.paint_session.specs.declared.run_error.RunError.TheVariants as errors
 use Rattle.paint_board.specs.Board.{Board}
-use Rattle.paint_board.specs.Taking.{FileIsTaken}
+use Rattle.paint_board.specs.declared.news.News.{News}
 
 -- the board of a mask as it is opened: no strokes, and all tiles changed at step 1
 abbrev pub opened_board : Graymap → Conn → ℕ → ℕ → Board
@@ -31,9 +35,29 @@ opened_board mask conn side run =
 abbrev pub IsOpenedBoard : Graymap → Conn → ℕ → ℕ → Board → Type 0
 IsOpenedBoard mask conn side run b = (b ≡ opened_board mask conn side run) × IsTileSide side
 
--- the board is one of this mask as it is opened, which took the bytes of a state file; and tiles may have the side
+-- the state is what the bytes of a state file keep for this mask and connectivity: the join of the frames that they
+-- spell, each of which fits the mask. Where there are no bytes it is the join of none
+pub record IsKeptFor (mask : Graymap) (conn : Conn) (old : List ℕ) (state : State) : Type 0 where
+  pub deltas : List State
+  pub spelled : FileSpells conn (print_of mask) old deltas
+  pub merged : AreMerged mask.raster.width mask.raster.height deltas state
+
+-- the only news, at step 1, are that each live stroke of the state came
+abbrev pub AreFirstNews : State → List News → Type 0
+AreFirstNews state news =
+    (turnover : Turnover) × IsChange nothing state turnover × (news ≡ record { step = 1; change = turnover } ∷ [])
+
+-- the board is one of this mask as it is opened, but that its core begins with the state, so that no work is left and
+-- its image is the reconstruction, that the state counts as one that was taken, and that its strokes are news
+pub record IsBegunBoard (mask : Graymap) (conn : Conn) (side run : ℕ) (state : State) (board : Board) : Type 0 where
+  pub core : IsBegunWith mask.raster conn side 0 state board.core
+  pub news : AreFirstNews state board.news
+  pub rest : board ≡ record (opened_board mask conn side run) { core = board.core; version = 1; news = board.news }
+
+-- the board begins with what the bytes of a state file keep for this mask and connectivity
 abbrev pub IsOpenedOver : Graymap → Conn → ℕ → ℕ → List ℕ → Board → Type 0
-IsOpenedOver mask conn side run old b = FileIsTaken (opened_board mask conn side run) old b × IsTileSide side
+IsOpenedOver mask conn side run old board =
+    (state : State) × IsKeptFor mask conn old state × IsBegunBoard mask conn side run state board
 
 -- why no board was opened: tiles may not have the side, or they may and memory was wanting
 abbrev pub IsNotOpened : ℕ → RunError → Type 0

@@ -1,17 +1,12 @@
 //! The board.
 
-ghost use Rattle.std.specs.Prelude.{◌≡◌, ◌↔◌, replicate, IsTrue, IfOk, IfErr};
+ghost use Rattle.std.specs.Prelude.{◌≡◌, ◌↔◌, IsTrue};
 ghost use Rattle.core_rules.specs.Work.{IsQuiet};
 ghost use Rattle.paint_board.specs.Board.{IsWhole};
-ghost use Rattle.paint_board.specs.Opening.{IsOpenedBoard, IsOpenedOver, IsNotOpened, IsNotOpenedOver};
 
 use crate::news::News;
-use grid_core::{Conn, Memory};
-use paint_session::run_error::RunError;
-use pgm_codec::Image;
 use reset_core::Core;
-use spd_codec::{Print, print_of};
-use std::alloc::Global;
+use spd_codec::Print;
 use std::marker::Model;
 use stroke_lattice::State;
 use tile_work::TileSet;
@@ -19,6 +14,7 @@ use tile_work::TileSet;
 mod changes;
 mod files;
 mod growing;
+mod opening;
 mod taking;
 
 /// What stands behind a page: a core, the greatest level of its files, and the numbers by which a page knows what it
@@ -53,64 +49,6 @@ impl Model for Board {
 }
 
 impl Board {
-    /// The board of a mask without strokes, with tiles of this side. Its run is a number by which pages tell it from
-    /// another board.
-    ///
-    /// Errors: C5 where the side is less than 8 or more than 256, else C4 or plain want of memory.
-    pub fn open(
-        alloc: Global,
-        mask: Image,
-        conn: Conn,
-        side: u32,
-        run: u64,
-    ) -> Result<Board, RunError>
-        ensures opened { IfOk result (IsOpenedBoard mask conn side run) }
-        ensures refused { IfErr result (IsNotOpened side) }
-    {
-        let maxval = mask.maxval();
-        let print = print_of(&mask);
-        let core = match Core::over(alloc, mask.into_grid(), conn, side, 0) {
-            Ok(core) => core,
-            Err(refused) => return Err(RunError::Core(refused.why)),
-        };
-        let tiles = core.tiling().count();
-        let shown = first_steps(alloc, tiles)?;
-        let marks = TileSet::empty(alloc, tiles)?;
-        Ok(Board {
-            core,
-            maxval,
-            print,
-            run,
-            version: 0,
-            step: 1,
-            shown,
-            news: Vec::new(alloc),
-            marks,
-        })
-    }
-
-    /// The board of a mask with the strokes and tombstones that the bytes of a state file keep for it. A state file
-    /// that is not there has no bytes.
-    ///
-    /// Errors, the first that is met: C5 where the side is less than 8 or more than 256; M1 to M7 of the bytes; D1
-    /// where a frame of them is for another mask or connectivity; C1 or C2 at the first frame whose delta those before
-    /// it do not take. M8, C4 or plain want of memory.
-    pub fn open_kept(
-        alloc: Global,
-        mask: Image,
-        conn: Conn,
-        side: u32,
-        run: u64,
-        old: &[u8],
-    ) -> Result<Board, RunError>
-        ensures opened { IfOk result (IsOpenedOver mask conn side run old.now) }
-        ensures refused { IfErr result (IsNotOpenedOver mask conn side old.now) }
-    {
-        let mut board = Board::open(alloc, mask, conn, side, run)?;
-        board.take_file(alloc, old)?;
-        Ok(board)
-    }
-
     /// The number by which pages tell this board from another.
     pub fn run(&self) -> u64
         ensures { result ≡ self.now.run }
@@ -153,12 +91,4 @@ impl Board {
         // A look at a field opens the board, so that what each board keeps is known.
         let _run = self.run;
     }
-}
-
-// Step 1 for each of so many tiles.
-fn first_steps(alloc: Global, tiles: usize) -> Result<Vec<u64>, Memory>
-    ensures { IfOk result (λ shown. shown.items ≡ replicate tiles 1) }
-{
-    let shown = vec![in alloc; 1; tiles]?;
-    Ok(shown)
 }
