@@ -79,7 +79,7 @@ module _ {S : Type 0} (version : S → ℕ) (spells : S → List ℕ → Type 0)
       → IsTracked version spells old → IsTracked version spells new
   IsTracked-settled true old new (inl saved) tracked = (saved_then old new saved tracked).0
   IsTracked-settled true old new (inr same) tracked = untouched_then old new same.1 tracked
-  IsTracked-settled false old new untouched tracked = untouched_then old new untouched tracked
+  IsTracked-settled false old new lost tracked = untouched_then old new lost.1 tracked
 
   same_behind : (old new : Keeping S) → IsUntouched old new → ¬ (IsBehind version old) → ¬ (IsBehind version new)
   same_behind old new untouched not_behind =

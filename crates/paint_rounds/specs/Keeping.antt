@@ -46,7 +46,7 @@ module _ {S : Type 0} (version : S → ℕ) (spells : S → List ℕ → Type 0)
     pub rest : new ≡ record old { files = new.files; saved = version old.service }
 
   -- How a round ends. Its answers stand: the file was saved, or what is kept has not changed since it was. Or they do
-  -- not, and nothing changed.
+  -- not, since what is kept may have changed and could not be saved, and nothing changed.
   abbrev pub Settles : Keeping S → Bool → Keeping S → Type 0
   Settles old true new = IsSaved old new ⊎ (¬ (IsBehind version old) × IsUntouched old new)
-  Settles old false new = IsUntouched old new
+  Settles old false new = IsBehind version old × IsUntouched old new

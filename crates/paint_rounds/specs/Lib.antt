@@ -3,5 +3,7 @@ pub use Rattle.paint_session.specs.Store
 pub mod Kept
 pub mod Keeping
 pub mod Keeper
+pub mod Pairs
 pub mod Peer
 pub mod Peers
+pub mod Round

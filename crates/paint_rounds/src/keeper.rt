@@ -65,9 +65,11 @@ impl<S: Kept, T: StateStore> Keeper<S, T> {
         self.saved < version || version == u64::MAX
     }
 
-    /// Does a share of the work that calls have left. Says whether work is left after it.
+    /// Does a share of the work that calls have left. Says whether work is left after it, also where memory was
+    /// wanting.
     pub fn work(&mut self) -> bool
         ensures works { S.works (keeping T.seen self.old).service (keeping T.seen self.new).service }
+        ensures left { IsTrue result ↔ S.has_work (keeping T.seen self.new).service }
         ensures rest { keeping T.seen self.new
             ≡ record (keeping T.seen self.old) { service = (keeping T.seen self.new).service } }
         ensures tracked { IsTracked S.version S.spells (keeping T.seen self.old)

@@ -1,6 +1,6 @@
 //! Services whose state a file keeps.
 
-ghost use Rattle.std.specs.Prelude.{◌≡◌, ℕ, List, IfOk};
+ghost use Rattle.std.specs.Prelude.{◌≡◌, ◌↔◌, ℕ, List, IfOk, IsTrue};
 ghost use Rattle.http.specs.declared.request.Request.{Request};
 ghost use Rattle.http_server.specs.declared.response.Response.{Response};
 ghost use Rattle.paint_rounds.specs.Kept.{IsLater};
@@ -20,6 +20,9 @@ pub trait Kept: Service {
     // A share of work leads from the first state to the second.
     ghost works: { Self → Self → Type 0 };
 
+    // Work is left that calls have left.
+    ghost has_work: { Self → Type 0 };
+
     /// The version.
     fn version(&self) -> u64
         ensures { result ≡ version self.now };
@@ -30,9 +33,11 @@ pub trait Kept: Service {
     fn file(&self) -> Result<Vec<u8>, Memory>
         ensures { IfOk result (λ file. spells self.now file.items) };
 
-    /// Does a share of the work that calls have left. Says whether work is left after it.
+    /// Does a share of the work that calls have left. Says whether work is left after it, also where memory was
+    /// wanting.
     fn work(&mut self) -> bool
-        ensures { works self.old self.new };
+        ensures works { works self.old self.new }
+        ensures left { IsTrue result ↔ has_work self.new };
 
     // Where a call leaves the version as it was, it leaves the files that spell the state, too.
     ghost calls_count: { (old : Self) (request : Request (List ℕ)) (response : Response) (new : Self)

@@ -1,17 +1,18 @@
 //! A peer: a stream, and the connection over it.
 
-ghost use Rattle.std.specs.Prelude.{◌≡◌, ◌+◌, nat_le, List, if◌then◌else◌};
+ghost use Rattle.std.specs.Prelude.{◌≡◌, ◌+◌, ◌↔◌, nat_le, true, List, IsTrue};
 ghost use Rattle.http_server.specs.Exchange.{Call, Chain};
 ghost use Rattle.paint_rounds.specs.Keeping.{Answers};
 ghost use Rattle.paint_rounds.specs.Keeper.{keeping};
-ghost use Rattle.paint_rounds.specs.Peer.{TakesIn, Finishes, IsFresh};
+ghost use Rattle.paint_rounds.specs.Peer.{TakesIn, Finishes, IsFresh, HasReceived, HasSent};
+ghost use Rattle.paint_rounds.specs.Peer.{after_transfer, ClosesIfDone};
 
 use crate::keeper::Keeper;
 use crate::kept::Kept;
 use crate::transfer::{send_out, take_in};
 use http_server::Connection;
 use paint_session::store::StateStore;
-use std::io::{Read, Write};
+use std::io::{self, Read, Write};
 
 /// A stream, the connection over it, and the moment in milliseconds at which bytes last moved.
 #[derive(Drop)]
@@ -52,12 +53,31 @@ impl<C> Peer<C> {
         now >= self.moved && now - self.moved >= limit
     }
 
-    // Notes that bytes moved, if they did.
-    fn note(&mut self, moved: bool, now: u64)
-        ensures { self.new ≡ record self.old { moved = (if moved then now else self.old.moved) } }
+    // Notes the end of a transfer: the moment, where bytes moved. Where the stream failed the peer is closed. Says
+    // whether bytes moved over a stream that did not fail.
+    fn note(&mut self, moved: io::Result<bool>, now: u64) -> bool
+        ensures noted { self.new ≡ after_transfer moved now self.old }
+        ensures moved { IsTrue result ↔ (moved ≡ Ok true) }
     {
-        if moved {
-            self.moved = now;
+        match moved {
+            Ok(true) => {
+                self.moved = now;
+                true
+            }
+            Ok(false) => false,
+            Err(_) => {
+                self.is_open = false;
+                false
+            }
+        }
+    }
+
+    // Closes it where HTTP has nothing more to do over it.
+    fn close_if_done(&mut self)
+        ensures { ClosesIfDone self.old self.new }
+    {
+        if self.connection.is_done() {
+            self.is_open = false;
         }
     }
 }
@@ -69,8 +89,9 @@ impl<C: Read + Write> Peer<C> {
         keeper: &mut Keeper<S, T>,
         now: u64,
     ) -> bool
-        ensures { (mine : List Call) × TakesIn now self.old self.new mine
+        ensures part { (mine : List Call) × TakesIn result now self.old self.new mine
             × Chain (Answers S.answers) (keeping T.seen keeper.old) mine (keeping T.seen keeper.new) }
+        ensures came { IsTrue result → HasReceived self.old self.new }
     {
         if !self.is_open {
             return false;
@@ -78,22 +99,14 @@ impl<C: Read + Write> Peer<C> {
         keeper.forget();
         let came = take_in(&mut self.connection, keeper, &mut self.stream);
         self.has_called = keeper.has_answered();
-        match came {
-            Ok(came) => {
-                self.note(came, now);
-                came
-            }
-            Err(_) => {
-                self.is_open = false;
-                false
-            }
-        }
+        self.note(came, now)
     }
 
     // Sends what waits, unless the answers of the round do not stand and the peer made a call in it: then it is
     // closed. Says whether bytes went. A peer that is done, or whose stream fails, is closed, too.
     pub(crate) fn finish(&mut self, kept: bool, now: u64) -> bool
-        ensures { Finishes kept result now self.old self.new }
+        ensures part { Finishes kept result now self.old self.new }
+        ensures went { IsTrue result → HasSent self.old self.new }
     {
         if !self.is_open {
             return false;
@@ -102,17 +115,9 @@ impl<C: Read + Write> Peer<C> {
             self.is_open = false;
             return false;
         }
-        let went = send_out(&mut self.connection, &mut self.stream);
-        match went {
-            Ok(went) => {
-                self.note(went, now);
-                self.is_open = !self.connection.is_done();
-                went
-            }
-            Err(_) => {
-                self.is_open = false;
-                false
-            }
-        }
+        let sent = send_out(&mut self.connection, &mut self.stream);
+        let went = self.note(sent, now);
+        self.close_if_done();
+        went
     }
 }

@@ -1,12 +1,12 @@
 //! The peers that are open.
 
-ghost use Rattle.std.specs.Prelude.{◌≡◌, ◌∷◌, [], ◌++◌, ◌≤◌, ◌↔◌, List, IfOk, length, filter, IsTrue, IsFalse};
+ghost use Rattle.std.specs.Prelude.{◌≡◌, ◌∷◌, [], ◌++◌, ◌≤◌, ◌↔◌, List, IfOk, length, filter, IsTrue, IsFalse, vec_capacity};
 ghost use Rattle.std.specs.List.{AllZip};
 ghost use Rattle.http_server.specs.Exchange.{Call, Chain};
 ghost use Rattle.paint_rounds.specs.Keeping.{Answers};
 ghost use Rattle.paint_rounds.specs.Keeper.{keeping};
-ghost use Rattle.paint_rounds.specs.Peer.{TakesIn, Finishes, InTurn, IsFresh};
-ghost use Rattle.paint_rounds.specs.Peers.{peers_of, most_of, stays};
+ghost use Rattle.paint_rounds.specs.Pairs.{InTurn, InSomePair};
+ghost use Rattle.paint_rounds.specs.Peer.{TakesIn, Finishes, IsFresh, HasReceived, HasSent};
 
 use crate::keeper::Keeper;
 use crate::kept::Kept;
@@ -22,9 +22,13 @@ use std::io::{Read, Write};
 pub struct Peers<C> {
     pub(crate) list: Vec<Peer<C>>,
     most: usize,
+    // None is turned away for want of memory.
+    ghost room: { most ≤ vec_capacity list },
 }
 
 impl<C: Drop> Peers<C> {
+    ghost use Rattle.paint_rounds.specs.Peers.{peers_of, most_of, stays};
+
     /// No peers, with room for so many.
     ///
     /// Errors: out of memory.
@@ -50,27 +54,26 @@ impl<C: Drop> Peers<C> {
         self.list.is_empty()
     }
 
-    /// Takes a peer in, whose connection is new. Says whether it did: not where there are too many, or where memory
-    /// is wanting. Then the stream is dropped.
+    /// Takes a peer in, whose connection is new. Says whether it did: not where there are as many as there may be. Then
+    /// the stream is dropped.
     pub fn admit(&mut self, stream: C, connection: Connection, now: u64) -> bool
         ensures admitted { IsTrue result → (peer : _) × IsFresh now connection peer
             × (peers_of self.new ≡ peers_of self.old ++ peer ∷ []) }
         ensures refused { IsFalse result → peers_of self.new ≡ peers_of self.old }
-        ensures full { most_of self.old ≤ length (peers_of self.old) → IsFalse result }
+        ensures full { IsFalse result ↔ (most_of self.old ≤ length (peers_of self.old)) }
+        ensures most { most_of self.new ≡ most_of self.old }
     {
         if self.list.len() >= self.most {
             return false;
         }
-        let peer = Peer::new(stream, connection, now);
-        match self.list.push(peer) {
-            Ok(()) => true,
-            Err(_) => false,
-        }
+        self.list.push_reserved(Peer::new(stream, connection, now));
+        true
     }
 
     /// Drops the peers that were closed, and those over which no byte has moved for so many milliseconds.
     pub fn sweep(&mut self, now: u64, limit: u64)
-        ensures { peers_of self.new ≡ filter (stays now limit) (peers_of self.old) }
+        ensures swept { peers_of self.new ≡ filter (stays now limit) (peers_of self.old) }
+        ensures most { most_of self.new ≡ most_of self.old }
     {
         self.list
             .retain(|peer| peer.is_open() && !peer.is_idle(now, limit));
@@ -78,14 +81,18 @@ impl<C: Drop> Peers<C> {
 }
 
 impl<C: Read + Write + Drop> Peers<C> {
+    ghost use Rattle.paint_rounds.specs.Peers.{peers_of, most_of};
+
     // Takes in what has come, from one peer after another. Says whether bytes came.
     pub(crate) fn take_in<S: Kept, T: StateStore>(
         &mut self,
         keeper: &mut Keeper<S, T>,
         now: u64,
     ) -> bool
-        ensures { (calls : List Call) × InTurn (TakesIn now) (peers_of self.old) (peers_of self.new) calls
+        ensures parts { (calls : List Call) × InTurn (TakesIn result now) (peers_of self.old) (peers_of self.new) calls
             × Chain (Answers S.answers) (keeping T.seen keeper.old) calls (keeping T.seen keeper.new) }
+        ensures came { IsTrue result → InSomePair HasReceived (peers_of self.old) (peers_of self.new) }
+        ensures most { most_of self.new ≡ most_of self.old }
     {
         let mut came = false;
         for peer in self.list.iter_mut() {
@@ -98,7 +105,9 @@ impl<C: Read + Write + Drop> Peers<C> {
 
     // Sends what waits, to one peer after another. Says whether bytes went.
     pub(crate) fn finish(&mut self, kept: bool, now: u64) -> bool
-        ensures { AllZip (Finishes kept result now) (peers_of self.old) (peers_of self.new) }
+        ensures parts { AllZip (Finishes kept result now) (peers_of self.old) (peers_of self.new) }
+        ensures went { IsTrue result → InSomePair HasSent (peers_of self.old) (peers_of self.new) }
+        ensures most { most_of self.new ≡ most_of self.old }
     {
         let mut went = false;
         for peer in self.list.iter_mut() {

@@ -1,12 +1,10 @@
 //! A round of all peers.
 
-ghost use Rattle.std.specs.Prelude.{◌≡◌, ◌∷◌, [], List, IsTrue};
-ghost use Rattle.http_server.specs.Exchange.{Call};
-ghost use Rattle.http_server.specs.Rounds.{Rounds};
-ghost use Rattle.paint_rounds.specs.Keeping.{Answers, Settles, IsTracked, IsInFile};
+ghost use Rattle.std.specs.Prelude.{◌≡◌, IsTrue};
+ghost use Rattle.paint_rounds.specs.Keeping.{IsTracked, IsInFile};
 ghost use Rattle.paint_rounds.specs.Keeper.{keeping};
-ghost use Rattle.paint_rounds.specs.Peer.{TakesPart, InTurn};
-ghost use Rattle.paint_rounds.specs.Peers.{peers_of};
+ghost use Rattle.paint_rounds.specs.Peers.{peers_of, most_of};
+ghost use Rattle.paint_rounds.specs.Round.{IsRound};
 
 use crate::keeper::Keeper;
 use crate::kept::Kept;
@@ -33,10 +31,9 @@ pub fn round<S: Kept, T: StateStore, C: Read + Write + Drop>(
     peers: &mut Peers<C>,
     now: u64,
 ) -> RoundEnd
-    ensures round { (calls : List Call)
-        × Rounds (Answers S.answers) (Settles S.version S.spells)
-        (keeping T.seen keeper.old) ((calls, result.kept) ∷ []) (keeping T.seen keeper.new)
-        × InTurn (TakesPart result.kept result.moved now) (peers_of peers.old) (peers_of peers.new) calls }
+    ensures round { IsRound S.answers S.version S.spells now result.kept result.moved
+        (keeping T.seen keeper.old) (keeping T.seen keeper.new) (peers_of peers.old) (peers_of peers.new) }
+    ensures most { most_of peers.new ≡ most_of peers.old }
     ensures tracked { IsTracked S.version S.spells (keeping T.seen keeper.old)
         → IsTracked S.version S.spells (keeping T.seen keeper.new) }
     ensures in_file { IsTracked S.version S.spells (keeping T.seen keeper.old)

@@ -45,6 +45,8 @@ impl Kept for Counter {
 
     ghost works = { λ old new. new ≡ old };
 
+    ghost has_work = { λ c. ⊥ };
+
     fn version(&self) -> u64 {
         self.count
     }

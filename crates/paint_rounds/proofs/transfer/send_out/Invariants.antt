@@ -1,6 +1,8 @@
 use Rattle.std.proofs.Common.{◌≡◌, ℕ, List, ◌++◌, false}
+use Rattle.std.specs.Prelude.{◌↔◌, IsTrue}
 use Rattle.std.specs.Io.KnownBytes.{Appends}
 use Rattle.http_server.specs.Connection.{config_of, history}
+use Rattle.paint_rounds.specs.Peer.{HasGrown}
 use Rattle.paint_rounds.proofs.transfer.send_out.Given as goal
 
 abbrev pub invariant-loop : goal.invariant-loop
@@ -12,6 +14,7 @@ invariant-loop g l =
           × (new.sent ≡ old.sent ++ more);
       calls : new.calls ≡ old.calls;
       received : new.received ≡ old.received;
+      went : IsTrue l.went ↔ HasGrown old.sent new.sent;
       still : l.went ≡ false → new ≡ old;
       config : config_of l.connection ≡ config_of l.fn.connection;
     }

@@ -1,8 +1,10 @@
-use Rattle.std.proofs.Common.{◌≡◌, ℕ, List, ◌++◌, false}
+use Rattle.std.proofs.Common.{◌≡◌, ℕ, List, ◌++◌}
+use Rattle.std.specs.Prelude.{◌↔◌, IsTrue}
 use Rattle.std.specs.Io.KnownBytes.{Consumes}
 use Rattle.http_server.specs.Connection.{config_of, history}
 use Rattle.http_server.specs.Exchange.{Calls}
 use Rattle.http_server.specs.History.{Rests}
+use Rattle.paint_rounds.specs.Peer.{HasGrown}
 use Rattle.paint_rounds.proofs.transfer.take_in.Given as goal
 
 abbrev pub invariant-loop : goal.invariant-loop
@@ -14,7 +16,7 @@ invariant-loop g l =
       read : (more : List ℕ) × Consumes (g.R.Read.remaining l.fn.reader) (g.R.Read.remaining l.reader) more
           × (new.received ≡ old.received ++ more);
       unsent : new.sent ≡ old.sent;
-      still : l.came ≡ false → new.received ≡ old.received;
+      came : IsTrue l.came ↔ HasGrown old.received new.received;
       rests : Rests (config_of l.connection) new;
       config : config_of l.connection ≡ config_of l.fn.connection;
     }
