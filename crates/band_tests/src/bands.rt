@@ -3,7 +3,7 @@
 use crate::families::{FAMILIES, Family, marker_of, mask_of};
 use band_growth::{ManyThreads, grow_in_bands, grow_on};
 use grid_core::{Conn, Grid};
-use raster_sweeps::{Grower, grow};
+use raster_sweeps::{Grower, OneThread, grow};
 use std::alloc::Global;
 use std::marker::Sync;
 use std::thread::Threads;
@@ -189,4 +189,22 @@ fn many_threads_give_the_cells_of_one(rt: HostRuntime) {
     let grower = ManyThreads::new(&rt);
     assert!(rt; grower_grows_mask(&grower, rt.alloc(), 40, 500));
     assert!(rt; grower_grows_mask(&grower, rt.alloc(), 1_000, 2_000));
+}
+
+// Whether a grower makes so many zeros, and does some work beside.
+fn makes_zeros<G: Grower>(grower: &G, alloc: Global, count: usize) -> bool {
+    let (sum, zeros) = grower.zeros_beside(alloc, count, || 40_u32.wrapping_add(2));
+    match zeros {
+        Ok(cells) => sum == 42 && cells.len() == count && cells.iter().all(|cell| *cell == 0),
+        Err(_) => false,
+    }
+}
+
+#[test]
+fn zeros_are_made_beside_other_work(rt: HostRuntime) {
+    let grower = ManyThreads::new(&rt);
+    for count in [0, 1, 1_999_999, 2_000_000, 2_000_001] {
+        assert!(rt; makes_zeros(&OneThread, rt.alloc(), count), "{count}");
+        assert!(rt; makes_zeros(&grower, rt.alloc(), count), "{count}");
+    }
 }

@@ -31,4 +31,4 @@ mod shown;
 pub use holes::{fill, into_filled};
 pub use maxima::h_maxima;
 pub use plateaus::regional_maxima;
-pub use shown::reconstruction;
+pub use shown::{reconstruction, reconstruction_in};

@@ -1,5 +1,5 @@
 -- What a run shows: from the bytes of the input to the bytes of the image.
-use Rattle.std.specs.Prelude.{◌≡◌, ℕ, List, ◌∷◌, ◌⊎◌}
+use Rattle.std.specs.Prelude.{◌≡◌, ℕ, List, ◌∷◌, ◌⊎◌, length, replicate}
 use Rattle.grid_core.specs.declared.conn.Conn.{Conn}
 use Rattle.pgm_codec.specs.Graymap.{Graymap}
 use Rattle.pgm_codec.specs.Spelling.{PgmSpells}
@@ -41,6 +41,10 @@ pub record IsImageOfView (conn : Conn) (old : State) (input : List ℕ) (state :
 abbrev pub IsView : Conn → State → List ℕ → State → List ℕ → Type 0
 IsView conn old input state text = (image : Graymap) × IsImageOfView conn old input state image ×
     (text ≡ raw_text image)
+
+-- all values are 0
+abbrev pub AreZeros : List ℕ → Type 0
+AreZeros cells = cells ≡ replicate (length cells) 0
 
 -- ---- what is refused
 

@@ -8,7 +8,7 @@ ghost use Rattle.paint_session.specs.View.{InputSpells, InputIsRefusedBy, no_mor
 
 use crate::run_error::RunError;
 use edit_lang::{LineDelta, parse_lines};
-use pgm_codec::{Image, read};
+use pgm_codec::{Image, pixels_in, read};
 use std::alloc::Global;
 
 // Where the line at the front ends: the index of its LF, or the length where there is none.
@@ -52,6 +52,14 @@ pub fn split(input: &[u8]) -> Option<(&[u8], &[u8])>
         start += length + 1;
     }
     None
+}
+
+/// How many pixels the mask has behind an input's `image` line, as [`pixels_in`] says; 0 where there is no such line.
+pub fn mask_pixels_in(input: &[u8]) -> usize {
+    match split(input) {
+        Some((_, file)) => pixels_in(file),
+        None => 0,
+    }
 }
 
 /// The deltas of an input's edit lines, in order, and the mask behind them.

@@ -1,23 +1,24 @@
 //! What an input shows: its image, made once from the join of all deltas.
 
 ghost use Rattle.std.specs.Prelude.{◌++◌, ◌⊎◌, IfOk, IfErr, map};
+ghost use Rattle.stroke_lattice.specs.State.{StateFits};
 ghost use Rattle.paint_session.specs.Kept.{IsImageKept, KeptStops};
 ghost use Rattle.paint_session.specs.Merging.{AreMerged};
 ghost use Rattle.paint_session.specs.RunError.{IsReadingFault};
 ghost use Rattle.derived_views.specs.Shown.{IsShown};
-ghost use Rattle.paint_session.specs.View.{DeltasAreRefused, DeltasHalt, InputStops, IsImageOfView};
+ghost use Rattle.paint_session.specs.View.{AreZeros, DeltasAreRefused, DeltasHalt, InputStops, IsImageOfView};
 
 use crate::gathering::gather;
-use crate::input::read_input;
+use crate::input::{mask_pixels_in, read_input};
 use crate::merging::{HasDelta, merge_all};
 use crate::run_error::RunError;
-use derived_views::reconstruction;
+use derived_views::{reconstruction, reconstruction_in};
 use edit_lang::LineDelta;
-use grid_core::Conn;
+use grid_core::{Conn, Memory};
 use pgm_codec::Image;
 use raster_sweeps::Grower;
 use spd_codec::write_frames;
-use std::alloc::Global;
+use std::alloc::{AllocError, Global};
 use std::slice;
 use stroke_lattice::State;
 
@@ -34,8 +35,10 @@ pub fn show_over<G: Grower>(
     ensures shown { IfOk result (λ parts. IsImageOfView conn old.now input.now parts.1 parts.0) }
     ensures refused { IfErr result (λ e. IsReadingFault e ⊎ InputStops old.now input.now e) }
 {
-    let (deltas, mask) = read_input(alloc, input)?;
-    show(grower, alloc, &mask, slice::from_ref(old), &deltas, conn)
+    let pixels = mask_pixels_in(input);
+    let (read, zeros) = grower.zeros_beside(alloc, pixels, || read_input(alloc, input));
+    let (deltas, mask) = read?;
+    show(grower, alloc, zeros, &mask, slice::from_ref(old), &deltas, conn)
 }
 
 /// The image that an input asks for over the old bytes of a state file, and the new bytes.
@@ -52,8 +55,11 @@ pub fn show_kept<G: Grower>(
         × IsImageKept conn old.now input.now state parts.0 parts.1.items) }
     ensures refused { IfErr result (λ e. IsReadingFault e ⊎ KeptStops conn old.now input.now e) }
 {
-    let gathered = gather(alloc, input, old, conn)?;
-    let image = reconstruction(grower, alloc, &gathered.mask, &gathered.state, conn)?;
+    let pixels = mask_pixels_in(input);
+    let (gathered, zeros) =
+        grower.zeros_beside(alloc, pixels, || gather(alloc, input, old, conn));
+    let gathered = gathered?;
+    let image = shown_in(grower, alloc, zeros, &gathered.mask, &gathered.state, conn)?;
     let new = write_frames(alloc, conn, &gathered.print, &gathered.state)?;
     Ok((image, new))
 }
@@ -62,11 +68,13 @@ pub fn show_kept<G: Grower>(
 fn show<G: Grower, D: HasDelta>(
     grower: &G,
     alloc: Global,
+    zeros: Result<Vec<u16>, AllocError>,
     mask: &Image,
     old: &[D],
     deltas: &[LineDelta],
     conn: Conn,
 ) -> Result<(Image, State), RunError>
+    requires { IfOk zeros (λ cells. AreZeros cells.items) }
     ensures merged { IfOk result (λ parts. AreMerged mask.now.raster.width mask.now.raster.height
         (map D.delta_of old.now ++ deltas.now) parts.1) }
     ensures shown { IfOk result (λ parts. IsShown conn mask.now parts.1 parts.0) }
@@ -74,6 +82,27 @@ fn show<G: Grower, D: HasDelta>(
         ⊎ DeltasHalt (map D.delta_of old.now ++ deltas.now) mask.now e) }
 {
     let state = merge_all(alloc, old, deltas, mask.width(), mask.height())?;
-    let image = reconstruction(grower, alloc, mask, &state, conn)?;
+    let image = shown_in(grower, alloc, zeros, mask, &state, conn)?;
     Ok((image, state))
+}
+
+// The image that a mask shows of a state, in the memory of zeros, if they are as many as the mask has pixels.
+fn shown_in<G: Grower>(
+    grower: &G,
+    alloc: Global,
+    zeros: Result<Vec<u16>, AllocError>,
+    mask: &Image,
+    state: &State,
+    conn: Conn,
+) -> Result<Image, Memory>
+    requires zeros { IfOk zeros (λ cells. AreZeros cells.items) }
+    requires fits { StateFits mask.now.raster.width mask.now.raster.height state.now }
+    ensures { IfOk result (IsShown conn mask.now state.now) }
+{
+    let cells = zeros?;
+    if cells.len() == mask.samples().len() {
+        return reconstruction_in(grower, alloc, cells, mask, state, conn);
+    }
+    drop(cells);
+    reconstruction(grower, alloc, mask, state, conn)
 }

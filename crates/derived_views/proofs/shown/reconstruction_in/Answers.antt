@@ -2,22 +2,22 @@ use Rattle.std.proofs.Common.{sym, ◌∙◌, subst}
 use Rattle.grid_core.specs.Raster.{Raster, IsBelow}
 use Rattle.stroke_lattice.specs.State.{StateFits}
 use Rattle.derived_views.proofs.Grown.{grown_is_shown}
-use Rattle.derived_views.proofs.shown.reconstruction.Goals as goal
+use Rattle.derived_views.proofs.shown.reconstruction_in.Goals as goal
 
-pub marker-requires : goal.marker-requires
-marker-requires g c =
-    subst (λ (r : Raster). StateFits r.width r.height c.args.state.now) (sym c.grid.ensures.value) c.requires
+pub marker_over-image-requires-clause-fits : goal.marker_over-image-requires-clause-fits
+marker_over-image-requires-clause-fits g c =
+    subst (λ (r : Raster). StateFits r.width r.height c.args.state.now) (sym c.grid.ensures.value) c.requires.fits
 
 pub grow-requires : goal.grow-requires
 grow-requires g c =
-    subst (IsBelow c.in_ok-image.image) (c.grid.ensures.value ∙ sym c.grid-2.ensures.value) c.in_ok-image.ensures.below
+    subst (IsBelow c.marker_over-image.result) (c.grid.ensures.value ∙ sym c.grid-2.ensures.value) c.marker_over-image.ensures.below
 
 pub returns : goal.returns
 returns g c =
     grown_is_shown c.args.conn c.args.mask.now c.over.result c.args.state.now c.grid.result.now c.grid-2.result.now
-    c.in_ok-image.image
+    c.marker_over-image.result
     c.grow.new.image c.maxval.result c.grid.ensures.value c.grid-2.ensures.value
-    (c.in_ok-image.ensures.marks c.args.conn)
+    (c.marker_over-image.ensures.marks c.args.conn)
     c.in_ok-grow.ensures.grown.below c.in_ok-grow.ensures.grown.filled
     c.in_ok-grow.ensures.grown.reconstruction
     c.maxval.ensures.value
