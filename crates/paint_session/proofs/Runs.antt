@@ -6,7 +6,7 @@ use Rattle.pgm_codec.specs.Graymap.{Graymap}
 use Rattle.pgm_codec.specs.Transfer.{IsOfMemory, IsOfDevice, WritesFile}
 use Rattle.pgm_codec.specs.Writing.{raw_text}
 use Rattle.pgm_codec.specs.declared.error.PgmError.{PgmError}
-use Rattle.pgm_codec.specs.declared.error.PgmError.TheVariants.{Memory, Device}
+use Rattle.pgm_codec.specs.declared.error.PgmError.TheVariants.{Memory}
 use Rattle.paint_session.specs.Answering.{Answers}
 use Rattle.paint_session.specs.RunError.{IsReadingFault, IsTransferFault}
 use Rattle.paint_session.specs.declared.run_error.RunError.{RunError}

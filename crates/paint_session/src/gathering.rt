@@ -4,15 +4,17 @@ ghost use Rattle.std.specs.Prelude.{◌≡◌, ◌⊎◌, IfOk, IfErr};
 ghost use Rattle.stroke_lattice.specs.State.{StateFits};
 ghost use Rattle.paint_session.specs.Kept.{print_of, IsGathered, KeptStops};
 ghost use Rattle.paint_session.specs.RunError.{IsReadingFault};
+ghost use Rattle.paint_session.specs.View.{AreZeros};
 
-use crate::input::read_input;
+use crate::input::{mask_pixels_in, read_input};
 use crate::kept::frames_for;
 use crate::merging::merge_all;
 use crate::run_error::RunError;
 use grid_core::Conn;
 use pgm_codec::Image;
+use raster_sweeps::Grower;
 use spd_codec::Print;
-use std::alloc::Global;
+use std::alloc::{AllocError, Global};
 use stroke_lattice::State;
 
 /// What a run begins with: a mask, its fingerprint, and the join of the old strokes and of the input's.
@@ -41,4 +43,33 @@ pub fn gather(alloc: Global, input: &[u8], old: &[u8], conn: Conn) -> Result<Gat
     let frames = frames_for(alloc, old, conn, &print)?;
     let state = merge_all(alloc, &frames, &deltas, mask.width(), mask.height())?;
     Ok(Gathered { mask, print, state })
+}
+
+/// What a run begins with, as [`gather`] gives it, and as many zeros as its header says that the mask has pixels, made
+/// meanwhile by `grower`; want of memory for these is in their place.
+///
+/// Errors: as [`gather`].
+pub fn gather_beside<G: Grower>(
+    grower: &G,
+    alloc: Global,
+    input: &[u8],
+    old: &[u8],
+    conn: Conn,
+) -> Result<(Gathered, Result<Vec<u16>, AllocError>), RunError>
+    ensures gathered { IfOk result (λ parts. IsGathered conn old.now input.now parts.0.mask parts.0.state) }
+    ensures print { IfOk result (λ parts. parts.0.print ≡ print_of parts.0.mask) }
+    ensures fits { IfOk result (λ parts.
+        StateFits parts.0.mask.raster.width parts.0.mask.raster.height parts.0.state) }
+    ensures zeros { IfOk result (λ parts. IfOk parts.1 (λ cells. AreZeros cells.items)) }
+    ensures refused { IfErr result (λ e. IsReadingFault e ⊎ KeptStops conn old.now input.now e) }
+{
+    let pixels = mask_pixels_in(input);
+    let gather_all = || -> Result<Gathered, RunError>
+        ensures { IfOk result (λ g. IsGathered conn old.entry.now input.entry.now g.mask g.state)
+            × IfOk result (λ g. g.print ≡ print_of g.mask)
+            × IfOk result (λ g. StateFits g.mask.raster.width g.mask.raster.height g.state)
+            × IfErr result (λ e. IsReadingFault e ⊎ KeptStops conn old.entry.now input.entry.now e) }
+    { gather(alloc, input, old, conn) };
+    let (gathered, zeros) = grower.zeros_beside(alloc, pixels, gather_all);
+    Ok((gathered?, zeros))
 }

@@ -4,12 +4,13 @@ ghost use Rattle.std.specs.Prelude.{◌≡◌, ◌≢◌, ℕ, ◌<◌, ◌≤�
 ghost use Rattle.std.specs.Prelude.{IsTrue, IfSome, IfNone, IfOk, IfErr};
 ghost use Rattle.paint_session.specs.Input.{IsImageLine, IsSplit, HasNoImageLine};
 ghost use Rattle.paint_session.specs.RunError.{IsReadingFault};
-ghost use Rattle.paint_session.specs.View.{InputSpells, InputIsRefusedBy, no_more};
+ghost use Rattle.paint_session.specs.View.{AreZeros, InputSpells, InputIsRefusedBy, no_more};
 
 use crate::run_error::RunError;
 use edit_lang::{LineDelta, parse_lines};
 use pgm_codec::{Image, pixels_in, read};
-use std::alloc::Global;
+use raster_sweeps::Grower;
+use std::alloc::{AllocError, Global};
 
 // Where the line at the front ends: the index of its LF, or the length where there is none.
 fn line_length(bytes: &[u8]) -> usize
@@ -54,8 +55,8 @@ pub fn split(input: &[u8]) -> Option<(&[u8], &[u8])>
     None
 }
 
-/// How many pixels the mask has behind an input's `image` line, as [`pixels_in`] says; 0 where there is no such line.
-pub fn mask_pixels_in(input: &[u8]) -> usize {
+// How many pixels the mask has behind an input's `image` line, as `pixels_in` says; 0 where there is no such line.
+pub(crate) fn mask_pixels_in(input: &[u8]) -> usize {
     match split(input) {
         Some((_, file)) => pixels_in(file),
         None => 0,
@@ -76,4 +77,27 @@ pub fn read_input(alloc: Global, input: &[u8]) -> Result<(Vec<LineDelta>, Image)
     let deltas = parse_lines(alloc, edits)?;
     let mask = read(alloc, file)?;
     Ok((deltas, mask))
+}
+
+/// The deltas and the mask of an input, as [`read_input`] gives them, and as many zeros as its header says that the mask
+/// has pixels, made meanwhile by `grower`; want of memory for these is in their place.
+///
+/// Errors: as [`read_input`].
+pub fn read_beside<G: Grower>(
+    grower: &G,
+    alloc: Global,
+    input: &[u8],
+) -> Result<(Vec<LineDelta>, Image, Result<Vec<u16>, AllocError>), RunError>
+    ensures spelled { IfOk result (λ parts. InputSpells input.now parts.1 parts.0.items) }
+    ensures zeros { IfOk result (λ parts. IfOk parts.2 (λ cells. AreZeros cells.items)) }
+    ensures refused { IfErr result (λ e. IsReadingFault e ⊎ InputIsRefusedBy no_more input.now e) }
+{
+    let pixels = mask_pixels_in(input);
+    let read = || -> Result<(Vec<LineDelta>, Image), RunError>
+        ensures { IfOk result (λ parts. InputSpells input.entry.now parts.1 parts.0.items)
+            × IfErr result (λ e. IsReadingFault e ⊎ InputIsRefusedBy no_more input.entry.now e) }
+    { read_input(alloc, input) };
+    let (read, zeros) = grower.zeros_beside(alloc, pixels, read);
+    let (deltas, mask) = read?;
+    Ok((deltas, mask, zeros))
 }

@@ -8,8 +8,8 @@ ghost use Rattle.paint_session.specs.RunError.{IsReadingFault};
 ghost use Rattle.derived_views.specs.Shown.{IsShown};
 ghost use Rattle.paint_session.specs.View.{AreZeros, DeltasAreRefused, DeltasHalt, InputStops, IsImageOfView};
 
-use crate::gathering::gather;
-use crate::input::{mask_pixels_in, read_input};
+use crate::gathering::gather_beside;
+use crate::input::read_beside;
 use crate::merging::{HasDelta, merge_all};
 use crate::run_error::RunError;
 use derived_views::{reconstruction, reconstruction_in};
@@ -35,10 +35,16 @@ pub fn show_over<G: Grower>(
     ensures shown { IfOk result (λ parts. IsImageOfView conn old.now input.now parts.1 parts.0) }
     ensures refused { IfErr result (λ e. IsReadingFault e ⊎ InputStops old.now input.now e) }
 {
-    let pixels = mask_pixels_in(input);
-    let (read, zeros) = grower.zeros_beside(alloc, pixels, || read_input(alloc, input));
-    let (deltas, mask) = read?;
-    show(grower, alloc, zeros, &mask, slice::from_ref(old), &deltas, conn)
+    let (deltas, mask, zeros) = read_beside(grower, alloc, input)?;
+    show(
+        grower,
+        alloc,
+        zeros,
+        &mask,
+        slice::from_ref(old),
+        &deltas,
+        conn,
+    )
 }
 
 /// The image that an input asks for over the old bytes of a state file, and the new bytes.
@@ -55,10 +61,7 @@ pub fn show_kept<G: Grower>(
         × IsImageKept conn old.now input.now state parts.0 parts.1.items) }
     ensures refused { IfErr result (λ e. IsReadingFault e ⊎ KeptStops conn old.now input.now e) }
 {
-    let pixels = mask_pixels_in(input);
-    let (gathered, zeros) =
-        grower.zeros_beside(alloc, pixels, || gather(alloc, input, old, conn));
-    let gathered = gathered?;
+    let (gathered, zeros) = gather_beside(grower, alloc, input, old, conn)?;
     let image = shown_in(grower, alloc, zeros, &gathered.mask, &gathered.state, conn)?;
     let new = write_frames(alloc, conn, &gathered.print, &gathered.state)?;
     Ok((image, new))

@@ -1,6 +1,6 @@
-use Rattle.std.proofs.Common.{◌≡◌, ◌++◌, ◌⊎◌, List, ℕ, inl, inr, ap, subst}
+use Rattle.std.proofs.Common.{◌++◌, List, ℕ, inl, inr, subst}
 use Rattle.std.proofs.lemmas.Result.{err_from_is_err_and}
-use Rattle.stroke_lattice.specs.State.{State, StateFits}
+use Rattle.stroke_lattice.specs.State.{State}
 use Rattle.spd_codec.specs.declared.frame.Frame.{Frame}
 use Rattle.paint_session.specs.Kept.{print_of, deltas_of, FileSpells, OldIsRefused}
 use Rattle.paint_session.specs.Merging.{AreMerged, IsStop}

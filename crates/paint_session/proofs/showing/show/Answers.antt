@@ -16,8 +16,8 @@ returns-in_err-state-clause-refused g c =
     c.height.result
     c.args.mask.now.raster.height c.width.ensures.value c.height.ensures.value c.in_err-state.ensures.stopped))
 
-pub reconstruction-requires : goal.reconstruction-requires
-reconstruction-requires g c =
+pub shown_in-requires-clause-fits : goal.shown_in-requires-clause-fits
+shown_in-requires-clause-fits g c =
     resized (λ w h. StateFits w h c.in_ok-state.state) c.width.result c.args.mask.now.raster.width c.height.result
     c.args.mask.now.raster.height c.width.ensures.value c.height.ensures.value
     (join_fits c.width.result c.height.result (map g.D.HasDelta.delta_of c.args.old.now ++ c.args.deltas.now)

@@ -12,8 +12,8 @@ returns-in_err-gathered-clause-refused g c =
     let p = err_from_is_err_and c.from_residual.result c.from_residual.ensures.1 in
     rw (p.1, p.2) c.in_err-gathered.ensures.refused
 
-pub reconstruction-requires : goal.reconstruction-requires
-reconstruction-requires g c = c.in_ok-gathered.ensures.fits
+pub shown_in-requires-clause-fits : goal.shown_in-requires-clause-fits
+shown_in-requires-clause-fits g c = c.in_ok-gathered.ensures.fits
 
 pub returns-in_err-image-clause-refused : goal.returns-in_err-image-clause-refused
 returns-in_err-image-clause-refused g c =
