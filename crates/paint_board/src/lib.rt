@@ -14,6 +14,9 @@
 //! merge the tags that came and went with it. So a page that was told a step is told later what is new since then, and
 //! all that is told in one answer is of one moment.
 //!
+//! A board opens without strokes, or with those that a state file keeps ([`Board::open_kept`]). Then its image has
+//! grown at once, and no work is left.
+//!
 //! In the code, `board` has the board: `opening`, `taking` (texts and state files), `growing`, `files` and `changes`.
 //! `raw` has raw spellings, `lines` the lines of what changed, `marking` the steps of tiles, `strips` the rectangles of
 //! tiles that changed, `turning` the tags that came or went. [`laws`] says that no difference is left out.
