@@ -5,6 +5,7 @@ use http_server::Connection;
 use page_requests::{Hosts, Key, config};
 use paint_board::Board;
 use paint_page::Painting;
+use raster_sweeps::OneThread;
 use std::alloc::Global;
 use std::hash::RandomState;
 
@@ -32,11 +33,16 @@ fn board(alloc: Global, mask: &[u8]) -> Option<Board> {
     Board::open(alloc, mask, Conn::Four, 8, 5).ok()
 }
 
-/// The service of a mask, asked at port 8080. Its run is 5.
-pub fn open(alloc: Global, mask: &[u8]) -> Option<Painting> {
+// The board of a mask that begins with a state file. Its run is 5.
+fn board_over(alloc: Global, mask: &[u8], file: &[u8]) -> Option<Board> {
+    let mask = pgm_codec::read(alloc, mask).ok()?;
+    Board::open_kept(&OneThread, alloc, mask, Conn::Four, 8, 5, file).ok()
+}
+
+// The service of a board, asked at port 8080.
+fn painting(alloc: Global, board: Board) -> Option<Painting> {
     let hosts = Hosts::new(alloc, 8080).ok()?;
     let key = Key::new(alloc, KEY).ok()?;
-    let board = board(alloc, mask)?;
     Some(Painting::new(
         alloc,
         board,
@@ -45,6 +51,16 @@ pub fn open(alloc: Global, mask: &[u8]) -> Option<Painting> {
         "<p>page</p>",
         "default-src 'self'",
     ))
+}
+
+/// The service of a mask, asked at port 8080. Its run is 5.
+pub fn open(alloc: Global, mask: &[u8]) -> Option<Painting> {
+    painting(alloc, board(alloc, mask)?)
+}
+
+/// The service of a mask that begins with a state file, asked at port 8080. Its run is 5.
+pub fn open_over(alloc: Global, mask: &[u8], file: &[u8]) -> Option<Painting> {
+    painting(alloc, board_over(alloc, mask, file)?)
 }
 
 // Lets the connection read all of these bytes, or as many as it wants, and the service answer. Whether no read failed.
@@ -171,9 +187,9 @@ impl Play for Requests {
     }
 }
 
-/// Whether a play on the service of a mask comes out.
-pub fn comes_out_on<P: Play>(rt: &HostRuntime, mask: &[u8], play: &P) -> bool {
-    match open(rt.alloc(), mask) {
+// Whether a play on a service comes out.
+fn comes_out_of<P: Play>(rt: &HostRuntime, service: Option<Painting>, play: &P) -> bool {
+    match service {
         Some(mut painting) => {
             let is_right = play.comes_out(rt, &mut painting);
             drop(painting);
@@ -181,6 +197,16 @@ pub fn comes_out_on<P: Play>(rt: &HostRuntime, mask: &[u8], play: &P) -> bool {
         }
         None => false,
     }
+}
+
+/// Whether a play on the service of a mask comes out.
+pub fn comes_out_on<P: Play>(rt: &HostRuntime, mask: &[u8], play: &P) -> bool {
+    comes_out_of(rt, open(rt.alloc(), mask), play)
+}
+
+/// Whether a play on the service of a mask that begins with a state file comes out.
+pub fn comes_out_over<P: Play>(rt: &HostRuntime, mask: &[u8], file: &[u8], play: &P) -> bool {
+    comes_out_of(rt, open_over(rt.alloc(), mask, file), play)
 }
 
 /// What stands behind the head of an answer.

@@ -5,7 +5,7 @@ use crate::strokes::{STROKE, STROKES};
 use paint_page::Painting;
 
 /// A mask of the same size as that of the other tests, with another level.
-const OTHER: &[u8] = b"P2\n4 1\n9\n3 9 9 4\n";
+pub const OTHER: &[u8] = b"P2\n4 1\n9\n3 9 9 4\n";
 
 /// Length, magic number, connectivity and fingerprint of a frame.
 const HEAD: usize = 2 + 4 + 1 + 32;
@@ -18,8 +18,8 @@ fn state_of(rt: &HostRuntime, painting: &mut Painting) -> Option<Vec<u8>> {
     body_of(&told).to_vec(rt.alloc()).ok()
 }
 
-// The state file of the stroke, for this mask.
-fn state_over(rt: &HostRuntime, mask: &[u8]) -> Option<Vec<u8>> {
+/// The state file of the stroke, for this mask.
+pub fn state_over(rt: &HostRuntime, mask: &[u8]) -> Option<Vec<u8>> {
     match open(rt.alloc(), mask) {
         Some(mut painting) => {
             let state = state_of(rt, &mut painting);

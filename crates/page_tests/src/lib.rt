@@ -3,9 +3,11 @@
 //!
 //! They stand in a crate of their own because tests are proved safe as well. No function here promises anything: what
 //! is sent is compared when the tests run. `exchange` has the connection, `senders` who may ask, `paths` what is asked,
-//! `sizes` what is too large, `edits` and `files` what is posted, `telling` what a page is told. `strokes` has what
-//! these three share.
+//! `sizes` what is too large, `edits` and `files` what is posted, `telling` what a page is told, `beginnings` what one
+//! begins with. `strokes` has what these four share.
 
+#[cfg(test)]
+mod beginnings;
 #[cfg(test)]
 mod edits;
 #[cfg(test)]

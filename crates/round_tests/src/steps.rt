@@ -54,14 +54,14 @@ const THIRD: &[u8] = b"\
 /// The requests: a stroke on the second pixel; one on the third; a state file with one on the first; the state file.
 pub const STEPS: &[Step] = &[
     Step {
-        request: b"POST /0123456789abcdef0011223344556677/edits?run=5&since=2 HTTP/1.1\r\n\
+        request: b"POST /0123456789abcdef0011223344556677/edits?run=5&since=1 HTTP/1.1\r\n\
             Host: localhost:8080\r\nOrigin: http://localhost:8080\r\nContent-Length: 51\r\n\r\n\
             place 67e55044-10b1-426f-9247-bb680e5fe0c8 9 0:1-1\n",
-        end: b"0 0 4 1\nplace 67e55044-10b1-426f-9247-bb680e5fe0c8 9 0:1-1\n\n\0\t\0\x03",
+        end: b"0 0 4 1\nplace 67e55044-10b1-426f-9247-bb680e5fe0c8 9 0:1-1\n\n\x03\t\x03\x03",
         file: FIRST,
     },
     Step {
-        request: b"POST /0123456789abcdef0011223344556677/edits?run=5&since=4 HTTP/1.1\r\n\
+        request: b"POST /0123456789abcdef0011223344556677/edits?run=5&since=3 HTTP/1.1\r\n\
             Host: localhost:8080\r\nOrigin: http://localhost:8080\r\nContent-Length: 51\r\n\r\n\
             place 67e55044-10b1-426f-9247-bb680e5fe0c9 8 0:2-2\n",
         end: b"place 67e55044-10b1-426f-9247-bb680e5fe0c9 8 0:2-2\n\n",

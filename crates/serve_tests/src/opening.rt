@@ -96,7 +96,7 @@ fn is_line_of(alloc: Global, error: RunError, line: &str) -> bool {
     }
 }
 
-// Whether a board is opened, as new, or refused by the line.
+// Whether a board is opened, as new and without work, or refused by the line.
 fn opens(
     alloc: Global,
     case: &Opening,
@@ -106,7 +106,8 @@ fn opens(
 ) -> bool {
     match open_board(alloc, source, path, store, case.conn, 16, 7) {
         Ok(board) => {
-            let is_new = board.run() == 7 && board.version() == 1;
+            let is_new = board.run() == 7 && board.version() == 1 && board.step() == 1;
+            let is_new = is_new && board.is_quiet();
             drop(board);
             case.line.is_empty() && is_new
         }

@@ -1,10 +1,10 @@
-//! Pages that are served for some turns, and asked once.
+//! Pages that are served for some turns, and asked once or twice.
 
 ghost use Rattle.std.specs.Prelude.{IfSome};
 ghost use Rattle.grid_core.specs.Tiles.{IsTileSide};
 
-use crate::caller::{Caller, Question};
-use crate::world::{MaskFile, World};
+use crate::caller::{Caller, Line, Question, is_answered};
+use crate::world::{LastWord, MaskFile, World};
 use byte_devices::StdSink;
 use grid_core::Conn;
 use paint_serve::{MaskName, PaintCall, paint};
@@ -12,6 +12,8 @@ use paint_session::memory_store::MemoryStore;
 use paint_session::run_error::RunError;
 use paint_session::store::StatePath;
 use std::alloc::Global;
+use std::cell::RefCell;
+use std::io::Read;
 use std::net::Net;
 
 /// A page that is served for three turns, and asked when the first of them begins.
@@ -29,9 +31,11 @@ pub struct Play {
     pub key: &'static str,
     /// What is asked.
     pub question: Question,
-    /// The status of the answer.
+    /// What is asked when the last turn begins, if anything.
+    pub last: Option<Question>,
+    /// The status of the first answer.
     pub status: &'static str,
-    /// What the body of the answer begins with.
+    /// What the body of the last answer begins with.
     pub front: &'static str,
     /// What it ends with.
     pub end: &'static str,
@@ -77,10 +81,10 @@ fn ends<R: Net>(
     }
 }
 
-// Whether an answer is the one of the play.
+// Whether the answers are those of the play.
 fn is_answer(answer: &[u8], play: &Play) -> bool {
     match str::from_utf8(answer) {
-        Ok(text) => match text.split_once("\r\n\r\n") {
+        Ok(text) => match text.rsplit_once("\r\n\r\n") {
             Some((head, body)) => {
                 head.starts_with(play.status)
                     && body.starts_with(play.front)
@@ -93,22 +97,34 @@ fn is_answer(answer: &[u8], play: &Play) -> bool {
 }
 
 // Whether a client was answered as the play says.
-fn is_answered<R: Net>(alloc: Global, caller: &mut Caller<'_, R>, play: &Play) -> bool {
+fn is_told<S: Read>(alloc: Global, line: &Line<S>, play: &Play) -> bool {
     let mut answer = Vec::new(alloc);
-    let is_whole = caller.is_answered(&mut answer);
+    let is_whole = is_answered(line, &mut answer);
     let is_right = is_answer(&answer, play);
     drop(answer);
     is_whole & is_right
 }
 
+// What is asked when the last turn begins, if anything.
+fn last_of(alloc: Global, play: &Play) -> Option<LastWord> {
+    let question = play.last?;
+    let key = play.key;
+    Some(LastWord {
+        alloc,
+        question,
+        key,
+    })
+}
+
 /// Whether a page is served, and answers as it should.
 pub fn plays<R: Net>(rt: &R, alloc: Global, play: &Play) -> bool {
-    let world = World::new(rt, play.mask, play.random);
-    let mut sink = StdSink::new(Caller::new(rt, play.question, play.key));
+    let line: Line<R::Stream> = RefCell::new(None);
+    let world = World::new(rt, play.mask, play.random, &line, last_of(alloc, play));
+    let mut sink = StdSink::new(Caller::new(rt, alloc, play.question, play.key, &line));
     let is_ended = ends(&world, alloc, play, &mut sink);
     drop(world);
-    let mut caller = sink.into_inner();
-    let is_right = is_answered(alloc, &mut caller, play);
-    drop(caller);
+    drop(sink);
+    let is_right = is_told(alloc, &line, play);
+    drop(line);
     is_ended & is_right
 }

@@ -20,6 +20,7 @@ pub const STROKES: Play = Play {
         path: "strokes",
         body: "",
     },
+    last: None,
     status: "HTTP/1.1 200",
     front: "",
     end: "2 3 0:4-4\n",

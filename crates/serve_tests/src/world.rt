@@ -1,6 +1,7 @@
 //! What a server runs on, so that it ends: a clock that stops, chosen random bytes, and one file.
 
-use std::alloc::Allocator;
+use crate::caller::{Line, Question, ask};
+use std::alloc::{Allocator, Global};
 use std::cell::Cell;
 use std::fs::{Metadata, OpenFile, OpenOptions};
 use std::io::{self, ErrorKind, Read, Seek, SeekFrom, Write};
@@ -67,35 +68,71 @@ impl OpenFile for MaskFile {
     }
 }
 
+/// What a client asks when the last turn begins.
+#[derive(Clone, Copy, Drop)]
+pub struct LastWord {
+    /// Where memory for the request comes from.
+    pub alloc: Global,
+    /// The question.
+    pub question: Question,
+    /// The key of the address.
+    pub key: &'static str,
+}
+
 /// A clock that stops after a few looks, random bytes that are all the same, one file, whatever name it is opened by,
-/// and the network of a runtime.
+/// and the network of a runtime. At the last look a client asks once more, where it has something to ask.
 #[derive(Drop)]
-pub struct World<'a, R> {
+pub struct World<'a, R: Net> {
     rt: &'a R,
     mask: MaskFile,
     random: u8,
     left: Cell<u64>,
+    line: &'a Line<R::Stream>,
+    last: Option<LastWord>,
 }
 
-impl<'a, R> World<'a, R> {
-    /// Over the network of this runtime, with this file and this random byte.
-    pub fn new(rt: &'a R, mask: MaskFile, random: u8) -> World<'a, R> {
+impl<'a, R: Net> World<'a, R> {
+    /// Over the network of this runtime, with this file and this random byte, and a client on this line.
+    pub fn new(
+        rt: &'a R,
+        mask: MaskFile,
+        random: u8,
+        line: &'a Line<R::Stream>,
+        last: Option<LastWord>,
+    ) -> World<'a, R> {
         World {
             rt,
             mask,
             random,
             left: Cell::new(LOOKS),
+            line,
+            last,
+        }
+    }
+
+    // Lets the client ask once more.
+    fn ask_last(&self, last: LastWord) -> io::Result<()> {
+        let Ok(mut line) = self.line.try_borrow_mut() else {
+            return Err(ErrorKind::Other.into());
+        };
+        match line.as_mut() {
+            Some((stream, port)) => ask(last.alloc, stream, last.question, *port, last.key),
+            None => Err(ErrorKind::NotConnected.into()),
         }
     }
 }
 
-impl<R> Clock for World<'_, R> {
+impl<R: Net> Clock for World<'_, R> {
     fn monotonic(&self) -> io::Result<Duration> {
         let left = self.left.get();
         if left == 0 {
             return Err(ErrorKind::TimedOut.into());
         }
         self.left.set(left - 1);
+        match self.last {
+            Some(last) if left == 1 => self.ask_last(last)?,
+            _ => {}
+        }
         Ok(Duration::ZERO)
     }
 
@@ -104,7 +141,7 @@ impl<R> Clock for World<'_, R> {
     }
 }
 
-impl<R> RandomSource for World<'_, R> {
+impl<R: Net> RandomSource for World<'_, R> {
     fn fill_bytes(&self, buf: &mut [u8]) -> io::Result<()> {
         buf.fill(self.random);
         Ok(())
@@ -125,7 +162,7 @@ impl<R: Net> Net for World<'_, R> {
     }
 }
 
-impl<R> Files for World<'_, R> {
+impl<R: Net> Files for World<'_, R> {
     type File = MaskFile;
 
     type Dir = MaskFile;

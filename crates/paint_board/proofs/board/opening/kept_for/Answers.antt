@@ -8,8 +8,8 @@ use Rattle.paint_board.proofs.board.opening.kept_for.Goals as goal
 pub returns-in_err-frames-clause-refused : goal.returns-in_err-frames-clause-refused
 returns-in_err-frames-clause-refused c =
     let p = err_from_is_err_and c.from_residual.result c.from_residual.ensures.1 in
-    rw (p.1, p.2) (bytes_refused c.args.conn c.print_of-print.result c.args.old.now c.args.mask c.print_of-print.ensures
-    c.in_err-frames.field-0.0 c.in_err-frames.ensures.refused)
+    rw (p.1, p.2) (bytes_refused c.args.conn c.print_of-print.result c.args.old.now c.args.mask
+    c.in_err-frames.field-0.0 c.print_of-print.ensures c.in_err-frames.ensures.refused)
 
 pub returns-clause-fits : goal.returns-clause-fits
 returns-clause-fits c =
