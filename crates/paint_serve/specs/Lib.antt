@@ -10,3 +10,5 @@ pub use Rattle.paint_page.specs.Painting
 pub mod Opening
 pub mod Page
 pub mod Serving
+pub mod Slices
+pub mod Turning

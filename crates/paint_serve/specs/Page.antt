@@ -3,6 +3,7 @@ use mathlib.Core.Path.{◌∙◌}
 use Rattle.std.specs.Prelude.{◌≡◌, ◌⊎◌, ℕ, ◌<◌, ◌≤◌, List}
 use Rattle.http.specs.declared.request.Request.{Request}
 use Rattle.http_server.specs.declared.response.Response.{Response}
+use Rattle.core_rules.specs.Work.{IsQuiet}
 use Rattle.paint_board.specs.Growing.{IsGrown}
 use Rattle.paint_page.specs.Answering.{Answers}
 use Rattle.paint_page.specs.Painting.{state_text}
@@ -16,6 +17,10 @@ page_version page = page.painting.board.version
 -- the bytes are those of the state file that keeps the strokes and tombstones
 abbrev pub PageSpells : Page → List ℕ → Type 0
 PageSpells page file = file ≡ state_text page.painting.board
+
+-- work of its board is left
+abbrev pub HasPageWork : Page → Type 0
+HasPageWork page = ¬ (IsQuiet page.painting.board.core)
 
 -- the version does not fall, and where it stays, below the last one, so does the state file
 pub record IsCounted (old new : Page) : Type 0 where

@@ -3,7 +3,7 @@
 //!
 //! ```text
 //! let call = PaintCall { mask, file, conn: Conn::Four, side: 64, port: 0 };
-//! paint(&rt, alloc, call, FileStore::new(&rt), &mut StdSink::new(rt.stdout()))?;
+//! paint(&rt, &OneThread, alloc, call, FileStore::new(&rt), &mut StdSink::new(rt.stdout()))?;
 //! ```
 //!
 //! [`paint`] opens the board of a mask and a state file, binds a port of 127.0.0.1, prints the page's address, and

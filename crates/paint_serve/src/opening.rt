@@ -19,16 +19,18 @@ use paint_board::Board;
 use paint_session::run_error::RunError;
 use paint_session::store::{StatePath, StateStore};
 use pgm_codec::{Image, PgmError, read, read_all};
+use raster_sweeps::Grower;
 use std::alloc::Global;
 
 /// The board of the mask that a source gives, with the strokes and tombstones that the state file of this name keeps
-/// for it. The file is loaded before the source is read.
+/// for it. The file is loaded before the source is read. The image grows by `grower`, so that no work is left.
 ///
 /// Errors, the first that is met: V2 where the file could not be loaded, with the source as it was; P1 to P9 of what
 /// the source gave; M1 to M7 of the state file; D1 where a frame of it is for another mask or connectivity; C1 or C2 at
 /// the first frame that those before it do not take. P11 where the source failed or did not end; P10, M8, C4 or plain
 /// want of memory. Files stay as they are.
-pub fn open_board<S: Source, T: StateStore>(
+pub fn open_board<G: Grower, S: Source, T: StateStore>(
+    grower: &G,
     alloc: Global,
     source: &mut S,
     path: &StatePath,
@@ -54,7 +56,7 @@ pub fn open_board<S: Source, T: StateStore>(
 {
     let old = store.load(alloc, path)?;
     let mask = mask_from(alloc, source)?;
-    Board::open_kept(alloc, mask, conn, side, run, &old)
+    Board::open_kept(grower, alloc, mask, conn, side, run, &old)
 }
 
 /// A mask's file is refused over the bytes of a state file where a view of it without strokes is, and for the same

@@ -1,7 +1,8 @@
 //! The service of a page, with its share of settling.
 
 ghost use Rattle.std.specs.Prelude.{◌≡◌};
-ghost use Rattle.paint_serve.specs.Page.{PageAnswers, PageGrows, PageSpells, page_version, calls_count, works_count};
+ghost use Rattle.paint_serve.specs.Page.{PageAnswers, PageGrows, PageSpells, HasPageWork, page_version};
+ghost use Rattle.paint_serve.specs.Page.{calls_count, works_count};
 
 use bytes::Bytes;
 use grid_core::Memory;
@@ -38,6 +39,8 @@ impl Kept for Page {
 
     ghost works = { PageGrows };
 
+    ghost has_work = { HasPageWork };
+
     ghost calls_count = { calls_count };
 
     ghost works_count = { works_count };
@@ -51,14 +54,12 @@ impl Kept for Page {
     }
 
     // Where no work is left, nothing is touched, so that the files that the painting has made stay. Where memory is
-    // wanting, the rest waits for the next turn.
+    // wanting, the rest is left.
     fn work(&mut self) -> bool {
         if self.painting.board().is_quiet() {
             return false;
         }
-        match self.painting.grow(self.jobs) {
-            Ok(is_quiet) => !is_quiet,
-            Err(Memory) => false,
-        }
+        let _ = self.painting.grow(self.jobs);
+        !self.painting.board().is_quiet()
     }
 }

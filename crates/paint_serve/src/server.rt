@@ -1,12 +1,16 @@
 //! The server of a page.
 
-ghost use Rattle.std.specs.Prelude.{◌≡◌, ◌⊎◌, ℕ, List, IfOk, IfErr, OnOk};
+ghost use Rattle.std.specs.Prelude.{◌≡◌, ◌⊎◌, ◌/◌, ◌-◌, ◌^◌, min, ℕ, List, IfOk, IfErr, OnOk, IsTrue, IsFalse};
+ghost use Rattle.std.specs.Duration.{as_nanos};
 ghost use Rattle.std.specs.Io.KnownBytes.{Appends};
 ghost use Rattle.grid_core.specs.Tiles.{IsTileSide};
 ghost use Rattle.paint_session.specs.Store.{IsHeldIn};
 ghost use Rattle.paint_session.specs.declared.run_error.RunError.TheVariants as errors;
 ghost use Rattle.paint_serve.specs.Opening.{IsOpenedFrom};
-ghost use Rattle.paint_serve.specs.Serving.{IsNotServed, address_line};
+ghost use Rattle.paint_board.specs.Board.{Board as BoardSeen};
+ghost use Rattle.paint_rounds.specs.Peers.{most_of};
+ghost use Rattle.paint_serve.specs.Serving.{IsServed, IsNotServed, address_line};
+ghost use Rattle.paint_serve.specs.Turning.{IsNewServer, AreRounds, LetsIn, TakesTurn, scene};
 
 use crate::call::PaintCall;
 use crate::chance::run_number;
@@ -27,6 +31,7 @@ use paint_page::Painting;
 use paint_rounds::{Keeper, Peers, round};
 use paint_session::run_error::RunError;
 use paint_session::store::{StatePath, StateStore};
+use raster_sweeps::Grower;
 use std::alloc::Global;
 use std::hash::RandomState;
 use std::io;
@@ -48,15 +53,16 @@ const MOST_ROUNDS: u32 = 16;
 const PATIENCE: u64 = 30_000;
 
 /// Serves the page of a mask and of the state file that keeps its strokes, on 127.0.0.1, until the process is ended.
-/// Puts one line into the sink, the address of the page.
+/// Puts one line into the sink, the address of the page. The image grows by `grower` before that.
 ///
 /// Errors, the first that is met: V2 where the state file could not be loaded; P1 to P9 of the mask's file; M1 to M7 of
 /// the state file; D1 where it is for another mask or connectivity; C1 or C2 at the first frame that those before it do
 /// not take; D3 where there are no random bytes, where the port could not be bound, or where the system refused to
 /// tell the time or who is ready. P11 where the mask's file could not be read, or the line not be written; P10, M8, C4
 /// or plain want of memory.
-pub fn paint<R: Net + Files + Clock + RandomSource, T: StateStore + Drop, K: Sink>(
+pub fn paint<R: Net + Files + Clock + RandomSource, G: Grower, T: StateStore + Drop, K: Sink>(
     rt: &R,
+    grower: &G,
     alloc: Global,
     call: PaintCall,
     store: T,
@@ -65,33 +71,38 @@ pub fn paint<R: Net + Files + Clock + RandomSource, T: StateStore + Drop, K: Sin
     requires { IsTileSide call.side }
     ensures told { OnOk result ((port : ℕ) × (key : List ℕ)
         × Appends (K.seen sink.old).written (K.seen sink.new).written (address_line port key)) }
+    ensures opened { OnOk result ((board : BoardSeen)
+        × IsServed call.conn call.side (T.seen store).held call.file board) }
     ensures refused { IfErr result (IsNotServed call.conn (T.seen store).held call.file) }
 {
     let mut store = store;
-    let board = board_of(rt, alloc, &call, &mut store)?;
+    let board = board_of(rt, grower, alloc, &call, &mut store)?;
     let site = Site::told(rt, alloc, call.port, sink)?;
     serve(rt, alloc, site, board, call.side, store, call.file)
 }
 
 // The board of a call, under a new number.
-fn board_of<R: Files + RandomSource, T: StateStore>(
+fn board_of<R: Files + RandomSource, G: Grower, T: StateStore>(
     rt: &R,
+    grower: &G,
     alloc: Global,
     call: &PaintCall,
     store: &mut T,
 ) -> Result<Board, RunError>
     requires { IsTileSide call.now.side }
-    ensures { IfErr result (IsNotServed call.now.conn (T.seen store.old).held call.now.file) }
+    ensures opened { IfOk result (IsServed call.now.conn call.now.side (T.seen store.old).held call.now.file) }
+    ensures refused { IfErr result (IsNotServed call.now.conn (T.seen store.old).held call.now.file) }
 {
     match run_number(rt) {
-        Ok(run) => open(rt, alloc, call, run, store),
+        Ok(run) => open(rt, grower, alloc, call, run, store),
         Err(_) => Err(RunError::Link),
     }
 }
 
 // The board of a call, under this number.
-fn open<R: Files, T: StateStore>(
+fn open<R: Files, G: Grower, T: StateStore>(
     rt: &R,
+    grower: &G,
     alloc: Global,
     call: &PaintCall,
     run: u64,
@@ -104,6 +115,7 @@ fn open<R: Files, T: StateStore>(
 {
     let mut source = StdSource::new(MaskFile::<R>::open(rt, call.mask.as_str()));
     open_board(
+        grower,
         alloc,
         &mut source,
         &call.file,
@@ -155,6 +167,7 @@ impl<T: StateStore + Drop> Server<T> {
         file: StatePath,
     ) -> Result<Server<T>, Memory>
         requires { IsTileSide side }
+        ensures { IfOk result (IsNewServer T.seen site board side store file) }
     {
         let Site { door, hosts, key } = site;
         let peers = Peers::new(alloc, MOST_PEERS)?;
@@ -184,8 +197,12 @@ impl<T: StateStore + Drop> Server<T> {
         Ok(())
     }
 
-    // How long there may be nothing to do.
-    fn patience(&self) -> Duration {
+    // How long to wait at most where nobody is ready: not at all where there is something to do, else for a second,
+    // so that those are dropped who are still for too long.
+    fn patience(&self) -> Duration
+        ensures busy { IsTrue self.now.is_busy → as_nanos result ≡ 0 }
+        ensures idle { IsFalse self.now.is_busy → as_nanos result ≡ 1_000_000_000 }
+    {
         if self.is_busy {
             Duration::ZERO
         } else {
@@ -194,7 +211,9 @@ impl<T: StateStore + Drop> Server<T> {
     }
 
     // A turn: bytes come and go, places become free, whoever came is let in, and the board settles a little.
-    fn turn<R: RandomSource>(&mut self, rt: &R, now: u64) {
+    fn turn<R: RandomSource>(&mut self, rt: &R, now: u64)
+        ensures { TakesTurn T.seen now self.old self.new }
+    {
         let is_moving = self.make_rounds(now);
         self.peers.sweep(now, PATIENCE);
         self.let_in(rt, now);
@@ -203,7 +222,9 @@ impl<T: StateStore + Drop> Server<T> {
     }
 
     // Lets in who came. Those for whom there is no place are turned away.
-    fn let_in<R: RandomSource>(&mut self, rt: &R, now: u64) {
+    fn let_in<R: RandomSource>(&mut self, rt: &R, now: u64)
+        ensures { LetsIn now self.old self.new }
+    {
         for _ in 0..MOST_COMERS {
             let Ok(stream) = self.door.accept() else {
                 return;
@@ -216,7 +237,10 @@ impl<T: StateStore + Drop> Server<T> {
     }
 
     // Makes rounds while bytes move. Says whether more may be there to do.
-    fn make_rounds(&mut self, now: u64) -> bool {
+    fn make_rounds(&mut self, now: u64) -> bool
+        ensures rounds { AreRounds now MOST_ROUNDS result (scene T.seen self.old) (scene T.seen self.new) }
+        ensures most { most_of self.new.peers ≡ most_of self.old.peers }
+    {
         for _ in 0..MOST_ROUNDS {
             if !round(&mut self.keeper, &mut self.peers, now).moved {
                 return false;
@@ -226,8 +250,10 @@ impl<T: StateStore + Drop> Server<T> {
     }
 }
 
-// The time in milliseconds.
-fn millis(time: Duration) -> u64 {
+// The time in milliseconds, or `u64::MAX` where there are more.
+fn millis(time: Duration) -> u64
+    ensures { result ≡ min (as_nanos time / 1_000_000) (2 ^ 64 - 1) }
+{
     time.as_secs()
         .saturating_mul(1000)
         .saturating_add(time.subsec_millis() as u64)

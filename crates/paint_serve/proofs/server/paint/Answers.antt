@@ -5,7 +5,7 @@ use Rattle.paint_serve.proofs.server.paint.Goals as goal
 pub returns-in_err-board-clause-refused : goal.returns-in_err-board-clause-refused
 returns-in_err-board-clause-refused g c =
     let p = err_from_is_err_and c.from_residual.result c.from_residual.ensures.1 in
-    rw (p.1, p.2) c.in_err-board.ensures
+    rw (p.1, p.2) c.in_err-board.ensures.refused
 
 pub returns-in_err-site-clause-refused : goal.returns-in_err-site-clause-refused
 returns-in_err-site-clause-refused g c =
@@ -18,6 +18,10 @@ pub returns-clause-told : goal.returns-clause-told
 returns-clause-told g c =
     let site = c.in_ok-site.site in
     holds_on_ok c.serve.result _ (site.hosts, site.key, c.in_ok-site.ensures.told)
+
+pub returns-clause-opened : goal.returns-clause-opened
+returns-clause-opened g c =
+    holds_on_ok c.serve.result _ (c.in_ok-board.board, c.in_ok-board.ensures.opened)
 
 pub returns-clause-refused : goal.returns-clause-refused
 returns-clause-refused g c =

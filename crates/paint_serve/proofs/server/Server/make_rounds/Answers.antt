@@ -1,0 +1,33 @@
+use Rattle.std.proofs.Common.{refl, ◌∙◌, arith}
+use Rattle.paint_serve.specs.Turning.{scene}
+use Rattle.paint_serve.proofs.Turnings.{round_moved, round_still, one_more}
+use Rattle.paint_serve.proofs.server.Server.make_rounds.Goals as goal
+
+pub loop-init : goal.loop-init
+loop-init g c = record { moving = refl; most = refl }
+
+pub loop-preserved : goal.loop-preserved
+loop-preserved g c =
+    let seen = g.T.StateStore.seen in
+    record {
+      moving = one_more c.args.now c.loop.counter (scene seen c.args.self.now) (scene seen c.loop.self) _
+          c.loop.invariant.moving
+          (round_moved c.args.now c.round.result.moved c.round.result.kept (scene seen c.loop.self) _
+          c.if-not-round.false c.round.ensures.round);
+      most = c.round.ensures.most ∙ c.loop.invariant.most;
+    }
+
+pub returns-then-not-round-clause-rounds : goal.returns-then-not-round-clause-rounds
+returns-then-not-round-clause-rounds g c =
+    let seen = g.T.StateStore.seen in (
+      c.loop.counter,
+      scene seen c.loop.self,
+      c.loop-test.true,
+      c.loop.invariant.moving,
+      round_still c.args.now c.round.result.moved c.round.result.kept (scene seen c.loop.self) _
+          c.if-not-round.true c.round.ensures.round,
+    )
+
+pub returns-clause-rounds : goal.returns-clause-rounds
+returns-clause-rounds g c =
+    (c.loop.counter, omega (arith, c.loop-test.false, c.loop.auto.counter-end), c.loop.invariant.moving)

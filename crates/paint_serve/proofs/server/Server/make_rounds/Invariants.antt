@@ -1,0 +1,12 @@
+use Rattle.std.proofs.Common.{◌≡◌}
+use Rattle.paint_rounds.specs.Peers.{most_of}
+use Rattle.paint_serve.specs.Turning.{AreMoving, scene}
+use Rattle.paint_serve.proofs.server.Server.make_rounds.Given as goal
+
+abbrev pub invariant-loop : goal.invariant-loop
+invariant-loop g l =
+    let seen = g.T.StateStore.seen in
+    record {
+      moving : AreMoving l.now l.counter (scene seen l.fn.self) (scene seen l.self);
+      most : most_of l.self.peers ≡ most_of l.fn.self.peers;
+    }
