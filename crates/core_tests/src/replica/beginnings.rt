@@ -5,37 +5,72 @@ use grid_core::{Conn, Grid};
 use raster_sweeps::OneThread;
 use reset_core::{Core, CoreError, RefusedMask};
 use std::alloc::Global;
-use std::test::Fail;
 use stroke_core::{Stroke, Tag};
 use stroke_lattice::State;
 
 // The generation that the tiles of these cores begin with.
 const FIRST: u64 = 4;
 
+// Strokes: tag, level, and the column and row of the middle and the radius of a disc.
+const STROKES: [(u128, u32, u16, u16, u32); 3] = [
+    (3, 9, 5, 5, 3),
+    (5, 12, 30, 20, 4),
+    (8, 6, 18, 14, 2),
+];
+
+// The tags of the second of them, and of none.
+const WITHDRAWN: [u128; 2] = [5, 77];
+
 // A mask of 37 columns and 29 rows, with values up to 12.
-fn some_mask(alloc: Global) -> Result<Grid, Fail> {
-    let mut mask = Grid::new(alloc, 37, 29, 0)?;
+fn some_mask(alloc: Global) -> Option<Grid> {
+    let mut mask = Grid::new(alloc, 37, 29, 0).ok()?;
     let mut seed: u64 = 1;
     for cell in mask.cells_mut() {
         *cell = draw(&mut seed, 5).saturating_mul(3);
     }
-    Ok(mask)
+    Some(mask)
 }
 
-// The delta of the third of its strokes.
-fn third(alloc: Global) -> Result<State, Fail> {
-    Ok(State::placed(alloc, Tag(8), Stroke::disc(6, 18, 14, 2)?)?)
+// The delta of a stroke.
+fn placed(alloc: Global, stroke: (u128, u32, u16, u16, u32)) -> Option<State> {
+    let (tag, level, x, y, radius) = stroke;
+    let disc = Stroke::disc(level, x, y, radius).ok()?;
+    State::placed(alloc, Tag(tag), disc).ok()
 }
 
-// Three strokes, the second of which is withdrawn, and a tombstone of none.
-fn some_state(alloc: Global) -> Result<State, Fail> {
-    let mut state = State::placed(alloc, Tag(3), Stroke::disc(9, 5, 5, 3)?)?;
-    let second = State::placed(alloc, Tag(5), Stroke::disc(12, 30, 20, 4)?)?;
-    state.merge(alloc, &second)?;
-    state.merge(alloc, &third(alloc)?)?;
-    state.merge(alloc, &State::withdrawn(alloc, Tag(5))?)?;
-    state.merge(alloc, &State::withdrawn(alloc, Tag(77))?)?;
-    Ok(state)
+// Whether a state merges a delta.
+fn is_merged(alloc: Global, state: &mut State, delta: Option<State>) -> bool {
+    match delta {
+        Some(delta) => state.merge(alloc, &delta).is_ok(),
+        None => false,
+    }
+}
+
+// Whether it merges the strokes.
+fn has_strokes(alloc: Global, state: &mut State) -> bool {
+    for stroke in STROKES {
+        if !is_merged(alloc, state, placed(alloc, stroke)) {
+            return false;
+        }
+    }
+    true
+}
+
+// Whether it merges the tombstones.
+fn has_tombstones(alloc: Global, state: &mut State) -> bool {
+    for tag in WITHDRAWN {
+        if !is_merged(alloc, state, State::withdrawn(alloc, Tag(tag)).ok()) {
+            return false;
+        }
+    }
+    true
+}
+
+// The three strokes, the second of which is withdrawn, and a tombstone of none.
+fn some_state(alloc: Global) -> Option<State> {
+    let mut state = State::empty(alloc).ok()?;
+    let is_whole = has_strokes(alloc, &mut state) && has_tombstones(alloc, &mut state);
+    is_whole.then_some(state)
 }
 
 // A core that begins with a state. C1 where a stroke does not fit.
@@ -70,7 +105,7 @@ fn is_fresh(core: &Core, state: &State, image: &Grid) -> bool {
     core.is_quiet() && core.state().is_same(state) && core.image().is_same(image)
 }
 
-// The image of a core that is opened, merges a state and settles. None where memory is wanting.
+// The image of a core of this mask that is opened, merges a state and settles. None where memory is wanting.
 fn settled_image(alloc: Global, mask: Grid, conn: Conn, side: u32, state: &State) -> Option<Grid> {
     match Core::over(alloc, mask, conn, side, FIRST) {
         Ok(mut core) => {
@@ -82,7 +117,15 @@ fn settled_image(alloc: Global, mask: Grid, conn: Conn, side: u32, state: &State
     }
 }
 
-// Whether a core that begins with a state is fresh, and shows this image.
+// The same of the mask.
+fn image_of(alloc: Global, conn: Conn, side: u32, state: &State) -> Option<Grid> {
+    match some_mask(alloc) {
+        Some(mask) => settled_image(alloc, mask, conn, side, state),
+        None => None,
+    }
+}
+
+// Whether a core of this mask that begins with a state is fresh, and shows this image.
 fn begins_with(
     alloc: Global,
     mask: Grid,
@@ -97,45 +140,58 @@ fn begins_with(
     }
 }
 
-// Whether it shows what a core shows that settles.
-fn begins_as_settled(alloc: Global, conn: Conn, side: u32) -> Result<bool, Fail> {
-    let state = some_state(alloc)?;
-    let image = settled_image(alloc, some_mask(alloc)?, conn, side, &state);
-    match image {
-        Some(image) => Ok(begins_with(alloc, some_mask(alloc)?, conn, side, &state, &image)),
-        None => Ok(false),
+// Whether one of the mask shows what a core shows that settles.
+fn begins_as_settled(alloc: Global, conn: Conn, side: u32, state: &State) -> bool {
+    match (image_of(alloc, conn, side, state), some_mask(alloc)) {
+        (Some(image), Some(mask)) => begins_with(alloc, mask, conn, side, state, &image),
+        _ => false,
+    }
+}
+
+// Whether it does with the strokes.
+fn is_as_settled(alloc: Global, conn: Conn, side: u32) -> bool {
+    match some_state(alloc) {
+        Some(state) => begins_as_settled(alloc, conn, side, &state),
+        None => false,
     }
 }
 
 #[test]
-fn a_core_begins_as_it_settles(rt: HostRuntime) -> Result<(), Fail> {
+fn a_core_begins_as_it_settles(rt: HostRuntime) {
     for conn in [Conn::Four, Conn::Eight] {
         for side in [8, 16, 256] {
-            assert!(rt;
-                begins_as_settled(rt.alloc(), conn, side)?,
-                "{conn:?}, {side}"
-            );
+            assert!(rt; is_as_settled(rt.alloc(), conn, side), "{conn:?}, {side}");
         }
     }
-    Ok(())
 }
 
-// Whether no core of tiles of this side begins, and the mask comes back.
-fn is_handed_back(alloc: Global, side: u32) -> Result<bool, Fail> {
-    let state = some_state(alloc)?;
-    let copy = some_mask(alloc)?;
-    match begun(alloc, some_mask(alloc)?, Conn::Four, side, &state) {
-        Ok(_) => Ok(false),
-        Err(refused) => Ok(refused.why == CoreError::BadSide && refused.mask.is_same(&copy)),
+// Whether no core begins with tiles of this side, and the mask comes back.
+fn is_handed_back(alloc: Global, mask: Grid, side: u32, state: &State, copy: &Grid) -> bool {
+    match begun(alloc, mask, Conn::Four, side, state) {
+        Ok(_) => false,
+        Err(refused) => refused.why == CoreError::BadSide && refused.mask.is_same(copy),
+    }
+}
+
+// Whether it is so with the mask and the strokes.
+fn comes_back(alloc: Global, side: u32, state: &State) -> bool {
+    match (some_mask(alloc), some_mask(alloc)) {
+        (Some(mask), Some(copy)) => is_handed_back(alloc, mask, side, state, &copy),
+        _ => false,
+    }
+}
+
+// Whether it does for a side that is too small and one that is too large.
+fn all_come_back(alloc: Global) -> bool {
+    match some_state(alloc) {
+        Some(state) => comes_back(alloc, 7, &state) && comes_back(alloc, 257, &state),
+        None => false,
     }
 }
 
 #[test]
-fn a_mask_of_which_no_core_begins_comes_back(rt: HostRuntime) -> Result<(), Fail> {
-    for side in [7, 257] {
-        assert!(rt; is_handed_back(rt.alloc(), side)?, "{side}");
-    }
-    Ok(())
+fn a_mask_of_which_no_core_begins_comes_back(rt: HostRuntime) {
+    assert!(rt; all_come_back(rt.alloc()));
 }
 
 // Whether a core shows this image once it is without the first of its strokes and has settled.
@@ -146,21 +202,40 @@ fn goes_on_to(alloc: Global, core: &mut Core, image: &Grid) -> bool {
     }
 }
 
-// Whether a core that begins with the strokes shows the third alone, once the first is withdrawn as well.
-fn goes_on(alloc: Global, conn: Conn, side: u32) -> Result<bool, Fail> {
-    let state = some_state(alloc)?;
-    let third = third(alloc)?;
-    let image = settled_image(alloc, some_mask(alloc)?, conn, side, &third);
-    match (image, begun(alloc, some_mask(alloc)?, conn, side, &state)) {
-        (Some(image), Ok(mut core)) => Ok(goes_on_to(alloc, &mut core, &image)),
-        _ => Ok(false),
+// Whether a core of this mask that begins with a state does.
+fn begins_and_goes_on(
+    alloc: Global,
+    mask: Grid,
+    conn: Conn,
+    side: u32,
+    state: &State,
+    image: &Grid,
+) -> bool {
+    match begun(alloc, mask, conn, side, state) {
+        Ok(mut core) => goes_on_to(alloc, &mut core, image),
+        Err(_) => false,
+    }
+}
+
+// Whether one of the mask comes to what the third stroke alone shows.
+fn goes_on(alloc: Global, conn: Conn, state: &State, third: &State) -> bool {
+    match (image_of(alloc, conn, 8, third), some_mask(alloc)) {
+        (Some(image), Some(mask)) => begins_and_goes_on(alloc, mask, conn, 8, state, &image),
+        _ => false,
+    }
+}
+
+// Whether it does with the strokes.
+fn goes_on_with(alloc: Global, conn: Conn) -> bool {
+    match (some_state(alloc), placed(alloc, STROKES[2])) {
+        (Some(state), Some(third)) => goes_on(alloc, conn, &state, &third),
+        _ => false,
     }
 }
 
 #[test]
-fn a_core_that_began_with_strokes_goes_on(rt: HostRuntime) -> Result<(), Fail> {
+fn a_core_that_began_with_strokes_goes_on(rt: HostRuntime) {
     for conn in [Conn::Four, Conn::Eight] {
-        assert!(rt; goes_on(rt.alloc(), conn, 8)?, "{conn:?}");
+        assert!(rt; goes_on_with(rt.alloc(), conn), "{conn:?}");
     }
-    Ok(())
 }
