@@ -1,6 +1,7 @@
 //! The service of a page, with its file.
 
 ghost use Rattle.std.specs.Prelude.{◌≤◌, ⊤};
+ghost use Rattle.core_rules.specs.Work.{IsQuiet};
 
 use bytes::Bytes;
 use grid_core::Memory;
@@ -11,7 +12,7 @@ use paint_rounds::Kept;
 use std::alloc::{AllocError, Global};
 use std::marker::Model;
 
-/// A painting whose board is kept. It is seen as the number of texts and files that its board took.
+/// A painting whose board is kept. It is seen as the number of texts and files that its board took, and its core.
 #[derive(Drop)]
 pub struct Served {
     alloc: Global,
@@ -20,10 +21,11 @@ pub struct Served {
 
 impl Model for Served {
     ghost use Rattle.std.specs.Prelude.{ℕ};
+    ghost use Rattle.core_rules.specs.Work.{Core};
 
-    ghost Value = { ℕ };
+    ghost Value = { ℕ × Core };
 
-    ghost view = { λ s. s.painting.board.version };
+    ghost view = { λ s. (s.painting.board.version, s.painting.board.core) };
 }
 
 impl Served {
@@ -34,7 +36,7 @@ impl Served {
 }
 
 impl Service for Served {
-    ghost answers = { λ old request response new. old ≤ new };
+    ghost answers = { λ old request response new. old.0 ≤ new.0 };
 
     fn call(
         &mut self,
@@ -48,11 +50,13 @@ impl Service for Served {
 
 // Which bytes the file has is compared when the tests run.
 impl Kept for Served {
-    ghost version = { λ version. version };
+    ghost version = { λ s. s.0 };
 
-    ghost spells = { λ version file. ⊤ };
+    ghost spells = { λ s file. ⊤ };
 
-    ghost works = { λ old new. old ≤ new };
+    ghost works = { λ old new. old.0 ≤ new.0 };
+
+    ghost has_work = { λ s. ¬ (IsQuiet s.1) };
 
     fn version(&self) -> u64 {
         self.painting.board().version()
@@ -63,10 +67,8 @@ impl Kept for Served {
     }
 
     fn work(&mut self) -> bool {
-        match self.painting.grow(64) {
-            Ok(is_quiet) => !is_quiet,
-            Err(Memory) => false,
-        }
+        let _ = self.painting.grow(64);
+        !self.painting.board().is_quiet()
     }
 
     ghost calls_count = { λ old request response new later. record {

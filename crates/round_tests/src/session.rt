@@ -14,6 +14,7 @@ use paint_serve::opening::open_board;
 use paint_session::memory_store::MemoryStore;
 use paint_session::run_error::RunError;
 use paint_session::store::StatePath;
+use raster_sweeps::OneThread;
 use std::alloc::Global;
 use std::cell::RefCell;
 use std::hash::RandomState;
@@ -59,7 +60,16 @@ fn board(alloc: Global, path: &StatePath, store: &mut MemoryStore) -> Result<Boa
         return Err(Unopened::Other);
     };
     let mut source = MemorySource::new(mask);
-    match open_board(alloc, &mut source, path, store, Conn::Four, 8, 5) {
+    match open_board(
+        &OneThread,
+        alloc,
+        &mut source,
+        path,
+        store,
+        Conn::Four,
+        8,
+        5,
+    ) {
         Ok(board) => Ok(board),
         Err(RunError::StateFile) => Err(Unopened::Store),
         Err(_) => Err(Unopened::Other),

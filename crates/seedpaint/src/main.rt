@@ -10,6 +10,7 @@
 pub mod process;
 pub mod words;
 
+use band_growth::ManyThreads;
 use byte_devices::{StdSink, StdSource};
 use node_session::network::Loopback;
 use paint_serve::paint;
@@ -32,7 +33,14 @@ fn main(rt: HostRuntime) -> ExitCode {
         &mut network,
         &mut sink,
     ) {
-        Ok(Some(call)) => paint(&rt, rt.alloc(), call, store, &mut sink),
+        Ok(Some(call)) => paint(
+            &rt,
+            &ManyThreads::new(&rt),
+            rt.alloc(),
+            call,
+            store,
+            &mut sink,
+        ),
         Ok(None) => Ok(()),
         Err(error) => Err(error),
     };

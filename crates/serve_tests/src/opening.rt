@@ -7,6 +7,7 @@ use paint_serve::opening::open_board;
 use paint_session::memory_store::MemoryStore;
 use paint_session::run_error::{RunError, fault_line};
 use paint_session::store::StatePath;
+use raster_sweeps::OneThread;
 use std::alloc::Global;
 
 // A board that is to be opened: the mask's file, the pull of it that fails, the state file, the call of the store that
@@ -104,7 +105,7 @@ fn opens(
     source: &mut MemorySource,
     store: &mut MemoryStore,
 ) -> bool {
-    match open_board(alloc, source, path, store, case.conn, 16, 7) {
+    match open_board(&OneThread, alloc, source, path, store, case.conn, 16, 7) {
         Ok(board) => {
             let is_new = board.run() == 7 && board.version() == 1 && board.step() == 1;
             let is_new = is_new && board.is_quiet();

@@ -11,6 +11,7 @@ use paint_serve::{MaskName, PaintCall, paint};
 use paint_session::memory_store::MemoryStore;
 use paint_session::run_error::RunError;
 use paint_session::store::StatePath;
+use raster_sweeps::OneThread;
 use std::alloc::Global;
 use std::cell::RefCell;
 use std::io::Read;
@@ -74,7 +75,8 @@ fn ends<R: Net>(
 ) -> bool {
     match call_of(alloc, play.side) {
         Some(call) => match store_of(alloc, &call, play.kept) {
-            Some(store) => paint(world, alloc, call, store, sink) == Err(RunError::Link),
+            Some(store) => paint(world, &OneThread, alloc, call, store, sink)
+                == Err(RunError::Link),
             None => false,
         },
         None => false,
