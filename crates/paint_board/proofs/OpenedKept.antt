@@ -82,9 +82,9 @@ module _ (mask : Graymap) (conn : Conn) (side run : ℕ) (state : State) where
       (begun_board_is_whole board.core.image board.news graymap begun.core.tile_side begun.news)
 
   -- the parts of such a board make it
-  pub begun_is : (core : Core) (maxval : ℕ) (shown : List ℕ) (news : List News)
-      → IsBegunWith mask.raster conn side 0 state core → maxval ≡ mask.maxval
-      → shown ≡ replicate (length core.tiles) 1 → AreFirstNews state news
+  pub begun_is : (raster : Raster) (core : Core) (maxval tiles : ℕ) (shown : List ℕ) (news : List News)
+      → raster ≡ mask.raster → IsBegunWith raster conn side 0 state core → maxval ≡ mask.maxval
+      → tiles ≡ length core.tiles → shown ≡ replicate tiles 1 → AreFirstNews state news
       → IsBegunBoard mask conn side run state (record {
         core = core;
         maxval = maxval;
@@ -94,10 +94,14 @@ module _ (mask : Graymap) (conn : Conn) (side run : ℕ) (state : State) where
         shown = shown;
         news = news;
       })
-  begun_is core maxval shown news begins maxval_is shown_is first =
-      let ones = shown_is ∙ ap (λ (c : Core). replicate (length c.tiles) 1) begins.core_is in
+  begun_is raster core maxval tiles shown news raster_is begins maxval_is tiles_is shown_is first =
+      let begun : IsBegunWith mask.raster conn side 0 state core =
+      subst (λ (r : Raster). IsBegunWith r conn side 0 state core) raster_is begins in
+      let count : tiles ≡ length (opened mask.raster conn side 0).tiles =
+      tiles_is ∙ ap (λ (c : Core). length c.tiles) begun.core_is in
+      let ones = shown_is ∙ ap (λ (n : ℕ). replicate n 1) count in
       record {
-        core = begins;
+        core = begun;
         news = first;
         rest = λ i. record {
           core = core;
