@@ -1,8 +1,10 @@
 //! The calls, by their names.
 
 use crate::outcome::Outcome;
-use crate::{boards, cores, sessions, states, worlds};
+use crate::{bands, beginnings, boards, cores, sessions, states, worlds};
 use std::alloc::Global;
+use std::marker::Sync;
+use std::thread::Threads;
 
 // A call that takes memory.
 #[derive(Clone, Copy)]
@@ -22,6 +24,11 @@ enum Name {
     OpenBoard,
     CloseBoard,
     OpenPool,
+    GrowInBands,
+    GrowByThreads,
+    ZerosBeside,
+    BeginWithState,
+    ViewByThreads,
 }
 
 const NAMES: &[(&str, Name)] = &[
@@ -40,20 +47,25 @@ const NAMES: &[(&str, Name)] = &[
     ("open a board", Name::OpenBoard),
     ("close a board", Name::CloseBoard),
     ("open a pool", Name::OpenPool),
+    ("grow in bands", Name::GrowInBands),
+    ("grow by threads", Name::GrowByThreads),
+    ("zeros beside", Name::ZerosBeside),
+    ("begin with a state", Name::BeginWithState),
+    ("view by threads", Name::ViewByThreads),
 ];
 
 /// What becomes of the call of this name.
-pub fn outcome_by_name(alloc: Global, wanted: &str) -> Outcome {
+pub fn outcome_by_name<R: Threads + Sync>(rt: &R, alloc: Global, wanted: &str) -> Outcome {
     for (name, call) in NAMES {
         if *name == wanted {
-            return outcome_of_call(alloc, *call);
+            return outcome_of_call(rt, alloc, *call);
         }
     }
     Outcome::NoSuchCall
 }
 
 // What becomes of a call.
-fn outcome_of_call(alloc: Global, call: Name) -> Outcome {
+fn outcome_of_call<R: Threads + Sync>(rt: &R, alloc: Global, call: Name) -> Outcome {
     match call {
         Name::MergeStates => states::merge(alloc),
         Name::MergeBirths => cores::merge_births(alloc),
@@ -70,5 +82,10 @@ fn outcome_of_call(alloc: Global, call: Name) -> Outcome {
         Name::OpenBoard => boards::open(alloc),
         Name::CloseBoard => boards::close(alloc),
         Name::OpenPool => boards::open_pool(alloc),
+        Name::GrowInBands => bands::grow_by_bands(rt, alloc),
+        Name::GrowByThreads => bands::grow_by_threads(rt, alloc),
+        Name::ZerosBeside => bands::zeros_beside(rt, alloc),
+        Name::BeginWithState => beginnings::begin(alloc),
+        Name::ViewByThreads => sessions::view_by_threads(rt, alloc),
     }
 }

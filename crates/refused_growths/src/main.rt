@@ -20,6 +20,8 @@
 //! Where the gate runs it, memory is ample. `rt try --fail-alloc N` refuses the growth of number N, and
 //! `bench/refused.py` does so for each call and for each N.
 
+mod bands;
+mod beginnings;
 mod boards;
 mod calls;
 mod cores;
@@ -37,7 +39,7 @@ fn main(rt: HostRuntime) -> ExitCode {
     let mut status: u8 = 0;
     for line in rt.lines(rt.alloc()) {
         let outcome = match line {
-            Ok(name) => outcome_by_name(rt.alloc(), name.as_str()),
+            Ok(name) => outcome_by_name(&rt, rt.alloc(), name.as_str()),
             Err(_) => Outcome::NoMemory,
         };
         let _ = println!(rt; "{outcome}");

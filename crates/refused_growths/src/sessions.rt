@@ -3,15 +3,18 @@
 ghost use Rattle.std.specs.Prelude.{⊤};
 
 use crate::outcome::{Answer, Call, Outcome, play, right_if};
+use band_growth::ManyThreads;
 use byte_devices::{MemorySink, MemorySource};
 use grid_core::{Conn, TILE_SIDE};
 use paint_session::derive::{Derivation, derive_run};
 use paint_session::run_error::{RunError, status};
-use paint_session::view::{view_kept, view_run};
+use paint_session::view::{view_kept, view_run, view_run_by};
 use pgm_codec::PgmError;
+use raster_sweeps::Grower;
 use std::alloc::Global;
-use std::marker::Model;
+use std::marker::{Model, Sync};
 use std::mem::swap;
+use std::thread::Threads;
 
 // What is called.
 #[derive(Clone, Copy)]
@@ -131,30 +134,36 @@ fn answer(alloc: Global, case: &Case, devices: &mut Devices) -> Result<Vec<u8>, 
     }
 }
 
+// What is answered where a session ends in a fault. Memory and devices have this status.
+fn answer_to(fault: &RunError) -> Answer {
+    if status(fault) == 3 {
+        Answer::Memory
+    } else {
+        Answer::Wrong("a session is refused for another reason")
+    }
+}
+
+// Whether nothing was written of this; or a device failed, since the sink found no memory, and a front was.
+fn has_only_front(sink: &MemorySink, written: &[u8], fault: Option<RunError>) -> bool {
+    let has_failed = fault == Some(RunError::Pgm(PgmError::Device));
+    has_failed == (sink.refused() > 0)
+        && written.starts_with(sink.written())
+        && (has_failed || sink.written().is_empty())
+}
+
 impl Call for Running {
     fn make(&mut self, alloc: Global) -> Answer {
         match answer(alloc, self.case, &mut self.devices) {
             Ok(new) => right_if(self.is_right(&new), "what a session wrote"),
             Err(error) => {
                 self.fault = Some(error);
-                // Memory and devices have this status.
-                if status(&error) == 3 {
-                    Answer::Memory
-                } else {
-                    Answer::Wrong("a session is refused for another reason")
-                }
+                answer_to(&error)
             }
         }
     }
 
-    // Nothing was written; or a device failed, since the sink found no memory, and a front was.
     fn is_as_before(&mut self) -> bool {
-        let sink = &self.devices.sink;
-        let has_failed = self.fault == Some(RunError::Pgm(PgmError::Device));
-        let is_front = self.case.written.starts_with(sink.written());
-        let is_so = has_failed == (sink.refused() > 0)
-            && is_front
-            && (has_failed || sink.written().is_empty());
+        let is_so = has_only_front(&self.devices.sink, self.case.written, self.fault);
         swap(&mut self.devices, &mut self.next);
         is_so
     }
@@ -173,4 +182,87 @@ pub fn view_over_file(alloc: Global) -> Outcome {
 /// What becomes of a derivation.
 pub fn derive(alloc: Global) -> Outcome {
     play(alloc, Running::open(alloc, FILL))
+}
+
+// ---- a view by threads
+
+// What stands before the pixels of a large image, and so many pixels.
+const WIDE_HEAD: &[u8] = b"place 00000000-0000-0000-0000-000000000001 200 0:0-9\n\
+    place 00000000-0000-0000-0000-000000000002 90 1999:999-999\n\
+    image\nP5\n1000 2000\n255\n";
+
+const WIDE_PIXELS: usize = 2_000_000;
+
+// An input with an image of 1,000 columns and 2,000 rows. Its values look random, and none is 0.
+fn wide_input(alloc: Global) -> Option<Vec<u8>> {
+    let mut pixels = vec![in alloc; 0; WIDE_PIXELS].ok()?;
+    let mut place: u8 = 0;
+    for pixel in pixels.iter_mut() {
+        *pixel = place.wrapping_mul(place) % 251 + 1;
+        place = place.wrapping_add(1);
+    }
+    let mut input = Vec::from_slice(alloc, WIDE_HEAD).ok()?;
+    input.extend_from_slice(&pixels).ok()?;
+    Some(input)
+}
+
+// What a view by one thread writes on an input.
+fn viewed_by_one(alloc: Global, input: &[u8]) -> Option<MemorySink> {
+    let mut devices = Devices::open(alloc, input)?;
+    let Devices { source, sink } = &mut devices;
+    view_run(alloc, source, Conn::Four, sink).ok()?;
+    Some(devices.sink)
+}
+
+// What a view grows by, its devices, those of the next one, what it has to write, and why the one before was refused.
+#[derive(Drop)]
+struct Viewing<'a, G: Grower> {
+    grower: &'a G,
+    devices: Devices,
+    next: Devices,
+    wanted: MemorySink,
+    fault: Option<RunError>,
+}
+
+impl<'a, G: Grower> Viewing<'a, G> {
+    fn open(alloc: Global, grower: &'a G) -> Option<Self> {
+        let input = wide_input(alloc)?;
+        Some(Viewing {
+            grower,
+            devices: Devices::open(alloc, &input)?,
+            next: Devices::open(alloc, &input)?,
+            wanted: viewed_by_one(alloc, &input)?,
+            fault: None,
+        })
+    }
+}
+
+impl<'a, G: Grower> Call for Viewing<'a, G> {
+    fn make(&mut self, alloc: Global) -> Answer {
+        let Devices { source, sink } = &mut self.devices;
+        match view_run_by(self.grower, alloc, source, Conn::Four, sink) {
+            Ok(()) => right_if(sink.written() == self.wanted.written(), "what a view wrote"),
+            Err(error) => {
+                self.fault = Some(error);
+                answer_to(&error)
+            }
+        }
+    }
+
+    fn is_as_before(&mut self) -> bool {
+        let is_so = has_only_front(&self.devices.sink, self.wanted.written(), self.fault);
+        swap(&mut self.devices, &mut self.next);
+        is_so
+    }
+}
+
+// What becomes of a view that grows by this.
+fn view_by<G: Grower>(grower: &G, alloc: Global) -> Outcome {
+    play(alloc, Viewing::open(alloc, grower))
+}
+
+/// What becomes of a view of 1,000 columns and 2,000 rows that grows by as many threads as there are processors.
+pub fn view_by_threads<R: Threads + Sync>(rt: &R, alloc: Global) -> Outcome {
+    let grower = ManyThreads::new(rt);
+    view_by(&grower, alloc)
 }
