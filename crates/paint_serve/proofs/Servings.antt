@@ -35,3 +35,8 @@ module _ (conn : Conn) (held : Held) (name : List ℕ) where
 pub holds_on_ok : {T E : Type 0} (result : Result T E) (P : Type 0) → P → OnOk result P
 holds_on_ok (Ok value) P holds = holds
 holds_on_ok (Err e) P holds = tt
+
+-- and nothing is said where it is none
+pub none_on_err : {T E : Type 0} (result : Result T E) (P : Type 0) (e : E) → result ≡ Err e → OnOk result P
+none_on_err (Ok value) P e is = absurd (cc)
+none_on_err (Err other) P e is = tt

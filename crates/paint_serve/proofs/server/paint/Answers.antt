@@ -1,16 +1,16 @@
 use Rattle.std.proofs.lemmas.Result.{IfErr-weaker, err_from_is_err_and}
-use Rattle.paint_serve.proofs.Servings.{ended_not_served, holds_on_ok, not_told_not_served}
+use Rattle.paint_serve.proofs.Servings.{ended_not_served, holds_on_ok, none_on_err, not_told_not_served}
 use Rattle.paint_serve.proofs.server.paint.Goals as goal
 
 pub returns-in_err-board-clause-opened : goal.returns-in_err-board-clause-opened
 returns-in_err-board-clause-opened g c =
     let p = err_from_is_err_and c.from_residual.result c.from_residual.ensures.1 in
-    rw p.1 tt
+    none_on_err c.from_residual.result _ _ p.1
 
 pub returns-in_err-board-clause-told : goal.returns-in_err-board-clause-told
 returns-in_err-board-clause-told g c =
     let p = err_from_is_err_and c.from_residual.result c.from_residual.ensures.1 in
-    rw p.1 tt
+    none_on_err c.from_residual.result _ _ p.1
 
 pub returns-in_err-board-clause-refused : goal.returns-in_err-board-clause-refused
 returns-in_err-board-clause-refused g c =
@@ -20,12 +20,12 @@ returns-in_err-board-clause-refused g c =
 pub returns-in_err-site-clause-opened : goal.returns-in_err-site-clause-opened
 returns-in_err-site-clause-opened g c =
     let p = err_from_is_err_and c.from_residual-in_err-site.result c.from_residual-in_err-site.ensures.1 in
-    rw p.1 tt
+    none_on_err c.from_residual-in_err-site.result _ _ p.1
 
 pub returns-in_err-site-clause-told : goal.returns-in_err-site-clause-told
 returns-in_err-site-clause-told g c =
     let p = err_from_is_err_and c.from_residual-in_err-site.result c.from_residual-in_err-site.ensures.1 in
-    rw p.1 tt
+    none_on_err c.from_residual-in_err-site.result _ _ p.1
 
 pub returns-in_err-site-clause-refused : goal.returns-in_err-site-clause-refused
 returns-in_err-site-clause-refused g c =
