@@ -8,8 +8,8 @@ more than 1, 2 or 3 threads (RLIMIT_NPROC), of which the first thread of the pro
 status 0 and with the bytes of the run without a limit. A line a run tells so, and where strace is there it tells how
 many threads could be started and how many could not, in a second run that is traced and compared as well. Where one
 differs, the script ends with status 1. The limit binds neither root nor one user for another: so the script has to be
-run as root, and runs the program as a user who runs nothing else. It needs Python 3 with numpy, and Linux with util-
-linux.
+run as root, and runs the program as a user who runs nothing else. It needs Python 3 with numpy, and Linux with
+util-linux.
 """
 
 import argparse
