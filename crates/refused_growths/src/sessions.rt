@@ -209,9 +209,20 @@ fn wide_input(alloc: Global) -> Option<Vec<u8>> {
 // What a view by one thread writes on an input.
 fn viewed_by_one(alloc: Global, input: &[u8]) -> Option<MemorySink> {
     let mut devices = Devices::open(alloc, input)?;
-    let Devices { source, sink } = &mut devices;
-    view_run(alloc, source, Conn::Four, sink).ok()?;
-    Some(devices.sink)
+    if !is_viewed(alloc, &mut devices) {
+        return None;
+    }
+    let Devices { sink, .. } = devices;
+    Some(sink)
+}
+
+// Whether a view by one thread was answered.
+fn is_viewed(alloc: Global, devices: &mut Devices) -> bool {
+    let Devices { source, sink } = devices;
+    match view_run(alloc, source, Conn::Four, sink) {
+        Ok(()) => true,
+        Err(_) => false,
+    }
 }
 
 // What a view grows by, its devices, those of the next one, what it has to write, and why the one before was refused.
