@@ -3,7 +3,7 @@
 
     python3 bench/starts.py crates/seedpaint/out/seedpaint
 
-The image is that of `images.py discs`, with 4,000 discs that a state file keeps. A node makes no tick, so that it begins,
+The image is that of `images.py discs`, with 4,000 discs that a state file keeps. A node makes one tick, so that it begins,
 writes and ends; a page has begun when it tells its address. README.md says what the columns mean.
 """
 
@@ -30,10 +30,10 @@ def view(program, state, source):
 
 
 def node(program, state, source):
-    """Seconds of a node over the state file that makes no tick."""
+    """Seconds of a node over the state file that makes one tick."""
     with open(source, "rb") as reader:
         begin = time.perf_counter()
-        subprocess.run([program, "node", "--state", state, "--port", "40001", "--ticks", "0", "40002"], stdin=reader,
+        subprocess.run([program, "node", "--state", state, "--port", "40001", "--ticks", "1", "40002"], stdin=reader,
                        stdout=subprocess.DEVNULL, check=True)
         return time.perf_counter() - begin
 
