@@ -12,7 +12,7 @@ use paint_rounds::Kept;
 use std::alloc::{AllocError, Global};
 use std::marker::Model;
 
-/// A painting whose board is kept. It is seen as the number of texts and files that its board took, and its core.
+/// A painting whose board is kept. It is seen as that board.
 #[derive(Drop)]
 pub struct Served {
     alloc: Global,
@@ -20,12 +20,14 @@ pub struct Served {
 }
 
 impl Model for Served {
-    ghost use Rattle.std.specs.Prelude.{ℕ};
-    ghost use Rattle.core_rules.specs.Work.{Core};
+    ghost use Rattle.stroke_core.specs.contracts.stroke.Stroke as stroke;
+    ghost use Rattle.paint_board.specs.Board.{Board, board_code};
 
-    ghost Value = { ℕ × Core };
+    ghost Value = { Board };
 
-    ghost view = { λ s. (s.painting.board.version, s.painting.board.core) };
+    ghost coded = { board_code stroke.the_row.coded };
+
+    ghost view = { λ s. s.painting.board };
 }
 
 impl Served {
@@ -36,7 +38,7 @@ impl Served {
 }
 
 impl Service for Served {
-    ghost answers = { λ old request response new. old.0 ≤ new.0 };
+    ghost answers = { λ old request response new. old.version ≤ new.version };
 
     fn call(
         &mut self,
@@ -50,13 +52,13 @@ impl Service for Served {
 
 // Which bytes the file has is compared when the tests run.
 impl Kept for Served {
-    ghost version = { λ s. s.0 };
+    ghost version = { λ board. board.version };
 
-    ghost spells = { λ s file. ⊤ };
+    ghost spells = { λ board file. ⊤ };
 
-    ghost works = { λ old new. old.0 ≤ new.0 };
+    ghost works = { λ old new. old.version ≤ new.version };
 
-    ghost has_work = { λ s. ¬ (IsQuiet s.1) };
+    ghost has_work = { λ board. ¬ (IsQuiet board.core) };
 
     fn version(&self) -> u64 {
         self.painting.board().version()
