@@ -112,14 +112,25 @@ impl<'a, R: Net> World<'a, R> {
 
     // Lets the client ask once more.
     fn ask_last(&self, last: LastWord) -> io::Result<()> {
-        let Ok(mut line) = self.line.try_borrow_mut() else {
-            return Err(ErrorKind::Other.into());
-        };
-        match line.as_mut() {
-            Some((stream, port)) => ask(last.alloc, stream, last.question, *port, last.key),
-            None => Err(ErrorKind::NotConnected.into()),
+        match self.line.try_borrow_mut() {
+            Ok(mut line) => ask_on(&mut line, last),
+            Err(_) => Err(ErrorKind::Other.into()),
         }
     }
+}
+
+// Asks on a line that somebody holds.
+fn ask_on<S: Read + Write>(line: &mut Option<(S, u16)>, last: LastWord) -> io::Result<()> {
+    match line {
+        Some(held) => ask_over(held, last),
+        None => Err(ErrorKind::NotConnected.into()),
+    }
+}
+
+// Asks over a stream to this port.
+fn ask_over<S: Read + Write>(held: &mut (S, u16), last: LastWord) -> io::Result<()> {
+    let port = held.1;
+    ask(last.alloc, &mut held.0, last.question, port, last.key)
 }
 
 impl<R: Net> Clock for World<'_, R> {
