@@ -84,7 +84,10 @@ settled_waits conn size mask image waiting y above up down waits p q raises =
       | inl p_below ↦ elim (cases_lt y q.y) [
         | inl q_below ↦ waits p q raises (omega arith) (omega arith)
         | inr q_above ↦
-            absurd (up p q raises (omega (arith, near_rows, p_below, q_above), omega (arith, near_rows, p_below, q_above)))
+            absurd (up p q raises (
+              omega (arith, near_rows, p_below, q_above),
+              omega (arith, near_rows, p_below, q_above),
+            ))
       ]
       | inr p_above ↦ elim (cases_lt y q.y) [
         | inl q_below ↦

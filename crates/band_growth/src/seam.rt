@@ -79,8 +79,8 @@ fn run_down(limits: &Limits<'_>, image: &mut [u16], cut: u32) -> u32
 }
 
 // The anti-raster scan, from the row before `bottom` back through the cut, until a row above it and the one below that
-// cannot raise one another. After each row those of its pixels that can still raise the one to their right or one in the
-// row below are put into the queue. It answers whether there was room for all of them.
+// cannot raise one another. After each row those of its pixels that can still raise the one to their right or one in
+// the row below are put into the queue. It answers whether there was room for all of them.
 fn run_up(
     limits: &Limits<'_>,
     image: &mut [u16],

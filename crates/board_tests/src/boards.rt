@@ -81,8 +81,8 @@ fn what_grew_in_an_older_generation_is_gone(rt: HostRuntime) -> Result<(), Fail>
     Ok(())
 }
 
-// Whether the hand finds in its generation that a stroke's pixel has the stroke's value, and others none; and raises the
-// next pixel by what it read, as far as the mask lets it, once.
+// Whether the hand finds in its generation that a stroke's pixel has the stroke's value, and others none; and raises
+// the next pixel by what it read, as far as the mask lets it, once.
 fn passes_on(alloc: Global, board: &Board, seats: &mut Seats, mask: &Grid) -> bool
     requires { AreOf board.now mask.now seats.old }
 {

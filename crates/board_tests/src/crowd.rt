@@ -123,8 +123,8 @@ fn value_in(grid: &Grid, pixel: Pixel) -> u16 {
 }
 
 impl Sight {
-    // Whether a peek may answer so behind the step: a value that is live, no more than what the strokes of the step grow
-    // into, and no less than one that was seen before in the same generation.
+    // Whether a peek may answer so behind the step: a value that is live, no more than what the strokes of the step
+    // grow into, and no less than one that was seen before in the same generation.
     fn takes(&mut self, step: &Step, pixel: Pixel, answer: Peek) -> bool {
         if self.generation != step.generation {
             self.generation = step.generation;

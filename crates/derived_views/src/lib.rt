@@ -16,8 +16,8 @@
 //! fill(&OneThread, alloc, &image, Conn::Four)?;               // 1 4 3 5 1: in one row each pixel lies on the border
 //! ```
 //!
-//! Each grows by a [`Grower`](raster_sweeps::Grower), in one thread or in several. It takes the memory of at most one grid
-//! beside the image that it gives back, and the room of growing. Want of memory is its one error.
+//! Each grows by a [`Grower`](raster_sweeps::Grower), in one thread or in several. It takes the memory of at most one
+//! grid beside the image that it gives back, and the room of growing. Want of memory is its one error.
 //!
 //! Read on: `specs/Shown.antt`, `specs/Holes.antt`, `specs/HMaxima.antt` and `specs/Plateaus.antt` say what the views
 //! are. They are computed by growing (`raster_sweeps`), each in a way of its own that its module tells.

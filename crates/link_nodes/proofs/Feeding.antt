@@ -4,7 +4,8 @@ use Rattle.std.proofs.Common.{refl, sym, ap, subst, ◌∙◌, arith, append_ass
 use Rattle.std.specs.Prelude.{slice_get}
 use Rattle.std.specs.List.{AllZip}
 use Rattle.std.proofs.Common.{drop-cons, add-one, suc}
-use Rattle.std.proofs.lemmas.List.{take-append-le, take_min, take_more, take_all, length-take, length-append, map-append}
+use Rattle.std.proofs.lemmas.List.{take-append-le, take_min, take_more, take_all, length-take}
+use Rattle.std.proofs.lemmas.List.{length-append, map-append}
 use Rattle.std.proofs.lemmas.Option.{slice_get-get_or}
 use Rattle.link_nodes.specs.declared.link.TheConstants.{BUFFER_BYTES}
 use Rattle.link_nodes.specs.MemoryLinks.{MemoryLinkView, StandAt, IsFed, front_of}

@@ -65,11 +65,13 @@ module _ {S T C : Type 0} (answers : S → Request (List ℕ) → Response → S
       was_open = λ is_open. was_open;
       closed = λ closed. true_or_false _ old.is_open was_open closed;
     },
-    subst (λ k. Chain (Answers answers) k calls.0 (keeping seen after)) (ap (λ (k : Keeper S T). keeping seen k) forgets)
+    subst (λ k. Chain (Answers answers) k calls.0 (keeping seen after))
+        (ap (λ (k : Keeper S T). keeping seen k) forgets)
         (Chain-keeping answers seen calls.0 forgot after calls.2),
   )
 
-  pub taken_after : {E : Type 0} (came : Bool) (m : Result Bool E) → (IsTrue came ↔ (m ≡ Ok true)) → mid.moved ≡ old.moved
+  pub taken_after : {E : Type 0} (came : Bool) (m : Result Bool E) → (IsTrue came ↔ (m ≡ Ok true))
+      → mid.moved ≡ old.moved
       → IfOk m (λ moved. IsTrue moved ↔ HasReceived old mid)
       → (mine : List Call) × TakesIn came now old (after_transfer m now mid) mine
       × Chain (Answers answers) (keeping seen keeper) mine (keeping seen after)
@@ -118,11 +120,13 @@ module _ {C : Type 0} (kept : Bool) (now : ℕ) (old mid new : Peer C)
         closed = λ closed. true_or_false _ old.is_open was_open closed;
       }
 
-  pub finished_after : {E : Type 0} (went : Bool) (m : Result Bool E) → (IsTrue went ↔ (m ≡ Ok true)) → mid.moved ≡ old.moved
+  pub finished_after : {E : Type 0} (went : Bool) (m : Result Bool E) → (IsTrue went ↔ (m ≡ Ok true))
+      → mid.moved ≡ old.moved
       → IfOk m (λ moved. IsTrue moved ↔ HasSent old mid) → IfOk m (λ moved. IsFalse moved → past mid ≡ past old)
       → ClosesIfDone (after_transfer m now mid) new → Finishes kept went now old new
   finished_after went (Ok true) says moved grown still closes =
-      finished went (record mid { moved = now }) refl closes (λ nothing is_open. true_or_false _ went (says.1 refl) nothing)
+      finished went (record mid { moved = now }) refl closes
+      (λ nothing is_open. true_or_false _ went (says.1 refl) nothing)
       (λ is_open. inl (
         inr (subst (λ (p : Peer C). HasSent old p) (sym closes.rest) (grown.0 refl)),
         ap (λ (p : Peer C). p.moved) closes.rest,

@@ -37,7 +37,8 @@ module _ {X : Type 0} (a b c : List X) where
   grown_at_last first grew = omega (arith, grew, ap length first.1, length-append a first.0)
 
   -- where it did not grow at last, it has grown if it had before
-  pub grown_as_before : (was : Bool) → ((more : List X) × (c ≡ b ++ more)) → ¬ (HasGrown b c) → (IsTrue was ↔ HasGrown a b)
+  pub grown_as_before : (was : Bool) → ((more : List X) × (c ≡ b ++ more)) → ¬ (HasGrown b c)
+      → (IsTrue was ↔ HasGrown a b)
       → (IsTrue was ↔ HasGrown a c)
   grown_as_before was next still grown =
       let same : length c ≡ length b = ap length (stays_unless_grown b c next still) in

@@ -126,7 +126,8 @@ module _ {C : Type 0} where
       IsCleared-itself _ new.connection
       (done.calls ∙ taken.calls ∙ ap (λ (t : List Call). (past old).calls ++ t) (taken.noted said))
 
-  cleared_by : (came kept went : Bool) (now : ℕ) (old mid new : Peer C) (mine : List Call) → TakesIn came now old mid mine
+  cleared_by : (came kept went : Bool) (now : ℕ) (old mid new : Peer C) (mine : List Call)
+      → TakesIn came now old mid mine
       → Finishes kept went now mid new
       → IsCleared ((past old).calls ++ (if kept then mine else [])) new.connection
   cleared_by came true went now old mid new mine taken done =
@@ -155,7 +156,8 @@ module _ {C : Type 0} where
   moved_after old mid new received unsent (inr went) =
       inr (subst (λ (sent : List ℕ). HasGrown sent (past new).sent) unsent went)
 
-  moment_by : (came kept went : Bool) (now : ℕ) (old mid new : Peer C) (mine : List Call) → TakesIn came now old mid mine
+  moment_by : (came kept went : Bool) (now : ℕ) (old mid new : Peer C) (mine : List Call)
+      → TakesIn came now old mid mine
       → Finishes kept went now mid new → NotesMoment now old new
   moment_by came kept went now old mid new mine taken done is_open =
       elim (done.moment is_open) [

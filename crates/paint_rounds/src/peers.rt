@@ -1,6 +1,7 @@
 //! The peers that are open.
 
-ghost use Rattle.std.specs.Prelude.{◌≡◌, ◌∷◌, [], ◌++◌, ◌≤◌, ◌↔◌, List, IfOk, length, filter, IsTrue, IsFalse, vec_capacity};
+ghost use Rattle.std.specs.Prelude.{◌≡◌, ◌∷◌, [], ◌++◌, ◌≤◌, ◌↔◌};
+ghost use Rattle.std.specs.Prelude.{List, IfOk, length, filter, IsTrue, IsFalse, vec_capacity};
 ghost use Rattle.std.specs.List.{AllZip};
 ghost use Rattle.http_server.specs.Exchange.{Call, Chain};
 ghost use Rattle.paint_rounds.specs.Keeping.{Answers};

@@ -79,8 +79,8 @@ pub fn read_input(alloc: Global, input: &[u8]) -> Result<(Vec<LineDelta>, Image)
     Ok((deltas, mask))
 }
 
-/// The deltas and the mask of an input, as [`read_input`] gives them, and as many zeros as its header says that the mask
-/// has pixels, made meanwhile by `grower`; want of memory for these is in their place.
+/// The deltas and the mask of an input, as [`read_input`] gives them, and as many zeros as its header says that the
+/// mask has pixels, made meanwhile by `grower`; want of memory for these is in their place.
 ///
 /// Errors: as [`read_input`].
 pub fn read_beside<G: Grower>(

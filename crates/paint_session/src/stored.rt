@@ -14,8 +14,9 @@ use std::alloc::Global;
 /// A view over the strokes of a state file: the file is loaded from the store before the source is read, the view is
 /// written as [`view_kept`](crate::view::view_kept) writes it, and the file is saved after it.
 ///
-/// Errors: V2 where the file could not be loaded, with source and sink as they were; those of [`view_kept`](crate::view::view_kept); V2 where
-/// it could not be saved, after the image was written. After each the files are as they were.
+/// Errors: V2 where the file could not be loaded, with source and sink as they were; those of
+/// [`view_kept`](crate::view::view_kept); V2 where it could not be saved, after the image was written. After each the
+/// files are as they were.
 pub fn view_stored<S: Source, T: StateStore, K: Sink>(
     alloc: Global,
     source: &mut S,

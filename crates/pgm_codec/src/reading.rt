@@ -43,8 +43,8 @@ fn pixels(text: &[u8]) -> Result<usize, PgmError> {
     Ok(count)
 }
 
-/// How many pixels the image has that a text spells, by its header alone; 0 where there is no such header, or too little
-/// behind it. For who makes room for an image of the same size before the text is read. It takes no memory.
+/// How many pixels the image has that a text spells, by its header alone; 0 where there is no such header, or too
+/// little behind it. For who makes room for an image of the same size before the text is read. It takes no memory.
 pub fn pixels_in(text: &[u8]) -> usize
     ensures { result ≤ length text.now }
 {

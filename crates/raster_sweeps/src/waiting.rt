@@ -49,8 +49,8 @@ impl Waiting {
         Ok(Waiting { next: None, lists })
     }
 
-    /// Puts a cell into the list of a strip, or before all of them, and says whether there was room for it. A strip that
-    /// has no list shares that of the last one.
+    /// Puts a cell into the list of a strip, or before all of them, and says whether there was room for it. A strip
+    /// that has no list shares that of the last one.
     #[inline(always)]
     pub fn push(&mut self, strip: usize, cell: u32) -> bool
         ensures added { MatchBool result (AreOneMore cell self.old self.new) (self.new ≡ self.old) }

@@ -20,8 +20,8 @@ use std::time::Clock;
 const INPUT: &[u8] =
     b"place 00000000-0000-0000-0000-000000000002 3 0:4-4\nimage\nP2\n5 1\n9\n3 5 2 5 4\n";
 
-// The frame of the stroke of tag 1, of level 9 at x = 1: magic and connectivity, the SHA-256 of the raw file of the mask,
-// the numbers of strokes and of tombstones, and these.
+// The frame of the stroke of tag 1, of level 9 at x = 1: magic and connectivity, the SHA-256 of the raw file of the
+// mask, the numbers of strokes and of tombstones, and these.
 const HEARD: &[u8] = b"SPD1\x04\
     \xb2\xf1\x2a\xe1\xb5\x74\x90\x4e\x86\x3f\xd8\xdd\xc6\xb6\x7a\xb4\
     \xda\x2f\x6f\x78\x0c\x80\xba\x31\x0e\x75\x7a\xd2\xa9\x3b\xb0\xac\

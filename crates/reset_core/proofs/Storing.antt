@@ -210,7 +210,8 @@ pub opened_is_stored : (parts : Parts) (mask : Raster) (side first : ℕ) → Is
     → parts.markers.mask ≡ mask
     → parts.markers.tiling ≡ record { width = mask.width; height = mask.height; side = side }
     → IsStored parts
-opened_is_stored parts mask side first filled tiled bound is_open marks no_marks none_queued bounds_are masks_are same_mask
+opened_is_stored parts mask side first filled tiled bound is_open marks no_marks none_queued
+    bounds_are masks_are same_mask
     same_tiles =
     let tiling : Tiles = record { width = mask.width; height = mask.height; side = side } in
     let count : length parts.work ≡ count_of tiling =

@@ -63,8 +63,8 @@ begun beginning conn markers = record {
 abbrev pub IsEmptySet : List TileWork → List Bool → Type 0
 IsEmptySet work set = set ≡ replicate (length work) false
 
--- the core is sound, nothing open begins outside the bounds of a tile, the marker is that of the strokes, the masks that
--- jobs share are those of their tiles, and between merges no tile is marked and none waits to be looked at
+-- the core is sound, nothing open begins outside the bounds of a tile, the marker is that of the strokes, the masks
+-- that jobs share are those of their tiles, and between merges no tile is marked and none waits to be looked at
 pub record IsStored (parts : Parts) : Type 0 where
   pub sound : IsSound (core_of parts)
   pub bounded : AreBounded (core_of parts) parts.bounds

@@ -272,7 +272,8 @@ counted_all max s begun bytes now = elim now [
       let one : length (if_any some.f.last) ≤ 1 = at_most_one (nat_lt 0 (length (items_of some.f.last))) some.f.last in
       let longer : length (some.f.full ++ if_any some.f.last) ≡ length some.f.full + length (if_any some.f.last) =
       length-append some.f.full (if_any some.f.last) in
-      let whole : length (some.f.full ++ if_any some.f.last) ≡ length (pieces_of max s) = ap length some.filling.whole in
+      let whole : length (some.f.full ++ if_any some.f.last) ≡ length (pieces_of max s) =
+      ap length some.filling.whole in
       let is = some.begun_is in
       omega arith
 ]

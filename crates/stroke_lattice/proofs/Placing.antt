@@ -75,7 +75,8 @@ no_strokes : (tag : ℕ) (es : List (ℕ × Seed))
 no_strokes tag [] = refl
 no_strokes tag (e ∷ es) =
     ap (λ (b : Bool). cond b (e ∷ filter (λ e. range_contains nat_cmp (Included tag) (Excluded tag) e.0) es)
-    (filter (λ e. range_contains nat_cmp (Included tag) (Excluded tag) e.0) es)) (none_between (is_le (nat_cmp tag e.0)))
+    (filter (λ e. range_contains nat_cmp (Included tag) (Excluded tag) e.0) es))
+    (none_between (is_le (nat_cmp tag e.0)))
     ∙ no_strokes tag es
 
 strokes_before : (tag : ℕ) (es : List (ℕ × Seed)) (tags : List ℕ)

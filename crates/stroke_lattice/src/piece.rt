@@ -36,7 +36,8 @@ impl State {
         ensures pieces { IfOk result (λ found. pieces_from max_bytes self.now place
             ≡ found.0 ∷ pieces_behind max_bytes self.now found.1) }
         ensures fits { IfOk result (λ found. frame_length found.0 ≤ max_bytes) }
-        ensures more { IfOk result (λ found. IfSome found.1 (λ next. 0 < length (pieces_from max_bytes self.now next))) }
+        ensures more { IfOk result (λ found.
+            IfSome found.1 (λ next. 0 < length (pieces_from max_bytes self.now next))) }
     {
         let mut piece = OpenPiece::new(alloc);
         for entry in self.items_from(place) {

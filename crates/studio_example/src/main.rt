@@ -1,6 +1,6 @@
 #![tactic(auto)]
-//! The least program over the library `studio`: a pen draws a stroke, a hand grows it in a thread of its own, and an eye
-//! sees what grew.
+//! The least program over the library `studio`: a pen draws a stroke, a hand grows it in a thread of its own, and an
+//! eye sees what grew.
 
 use grid_core::{Conn, Grid, Pixel, TILE_SIDE};
 use pen_desks::Pen;

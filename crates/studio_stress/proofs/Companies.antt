@@ -1,7 +1,8 @@
 -- Who belongs to a keeper belongs to it still.
 use Rattle.std.proofs.Common.{◌≡◌, ℕ, ◌<◌, List, [], ◌∷◌, ◌++◌, length}
 use Rattle.std.proofs.Common.{refl, sym, ◌∙◌, subst}
-use Rattle.std.specs.Prelude.{All, if◌then◌else◌, Bool, true, false, Option, Some, None, IfSome, option_to_list, slice_index_or}
+use Rattle.std.specs.Prelude.{All, if◌then◌else◌, Bool, true, false, Option, Some, None, IfSome}
+use Rattle.std.specs.Prelude.{option_to_list, slice_index_or}
 use Rattle.std.proofs.lemmas.List.Elements.{All-nil, All-push, All-pop, All-weaker}
 use Rattle.pen_desks.specs.declared.pen.Pen.{Pen}
 use Rattle.pen_desks.specs.declared.pen.PenEnd.{PenEnd}

@@ -242,7 +242,8 @@ fn raise_all<R: Threads + Wait + Clock + Sync>(
     if are_all { Some(wall) } else { None }
 }
 
-// Has each hand go round in a thread of its own until it finds nothing to raise, and says whether all threads were made.
+// Has each hand go round in a thread of its own until it finds nothing to raise, and says whether all threads were
+// made.
 fn raise_in_threads<R: Threads + Wait + Sync>(
     rt: &R,
     board: &Board,

@@ -32,14 +32,15 @@
 //!
 //! `board` merges all edits, brings their marker to a board, and lets so many hands go round in threads of their own,
 //! with a peek in one more thread. A hand leaves when nothing rose in a round of it. When all have left, one more hand
-//! goes round in the first thread until nothing rises any more, mostly once. It writes the sum of the board's image, the
-//! same as `settle`, and with `--times` a line more: the time from the first hand's thread until nothing rises any more;
-//! how many rounds all hands made; how many peeks were made meanwhile, and the processor time of their thread; and the
-//! processor time of as many peeks after that, with nobody beside them. To pick the pixel is in the time of a peek.
+//! goes round in the first thread until nothing rises any more, mostly once. It writes the sum of the board's image,
+//! the same as `settle`, and with `--times` a line more: the time from the first hand's thread until nothing rises any
+//! more; how many rounds all hands made; how many peeks were made meanwhile, and the processor time of their thread;
+//! and the processor time of as many peeks after that, with nobody beside them. To pick the pixel is in the time of a
+//! peek.
 //!
-//! `mirror` merges and settles as `show` does, and brings the marker to a board. Each of the last edits is submitted and
-//! worked off, and the marker brought again; nobody raises the board. It writes the sum of the image at the end, and
-//! with `--times` a line for each edit: the time of bringing the marker, and 1 where a generation began, else 0.
+//! `mirror` merges and settles as `show` does, and brings the marker to a board. Each of the last edits is submitted
+//! and worked off, and the marker brought again; nobody raises the board. It writes the sum of the image at the end,
+//! and with `--times` a line for each edit: the time of bringing the marker, and 1 where a generation began, else 0.
 
 mod boards;
 mod call;

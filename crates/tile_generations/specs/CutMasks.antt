@@ -11,7 +11,8 @@ abbrev pub cut_mask : {Z : Type 0} → Option (Arc Raster Z) → Option Raster
 cut_mask None = None
 cut_mask (Some mask) = Some (arc_value mask)
 
--- there is a place for each tile of the tiling, and each mask that was cut out is the part of the whole mask in its tile
+-- there is a place for each tile of the tiling, and each mask that was cut out is the part of the whole mask in its
+-- tile
 pub record AreTileMasks (whole : Raster) (tiling : Tiles) (masks : List (Option Raster)) : Type 0 where
   pub width : whole.width ≡ tiling.width
   pub height : whole.height ≡ tiling.height

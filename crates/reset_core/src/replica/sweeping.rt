@@ -144,8 +144,8 @@ impl Core {
             && self.has_mask(ticket.tile, swept.mask())
     }
 
-    // Whether the piece is the mask of the tile. A mask that was cut out lies close together in memory, so that to compare
-    // with it is cheaper than with the whole mask.
+    // Whether the piece is the mask of the tile. A mask that was cut out lies close together in memory, so that to
+    // compare with it is cheaper than with the whole mask.
     fn has_mask(&self, tile: usize, piece: &Grid) -> bool
         requires { IsTile self.now tile }
         ensures { IsTrue result ↔ IsPart (tile_rect self.now tile) self.now.mask piece.now }

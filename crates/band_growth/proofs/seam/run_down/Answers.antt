@@ -8,4 +8,5 @@ loop-y-preserved c =
     let cut = c.args.cut in
     let y = c.loop-y.y in
     apart_more limits.conn limits.size limits.mask.now c.args.image.now c.loop-y.image c.raise_downwards.new.image y
-    cut y cut (y + 1) c.loop-y.invariant c.raise_downwards.ensures (omega arith) (omega arith) (omega arith) (omega arith)
+    cut y cut (y + 1) c.loop-y.invariant c.raise_downwards.ensures
+    (omega arith) (omega arith) (omega arith) (omega arith)

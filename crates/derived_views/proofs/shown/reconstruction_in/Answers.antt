@@ -10,7 +10,8 @@ marker_over-image-requires-clause-fits g c =
 
 pub grow-requires : goal.grow-requires
 grow-requires g c =
-    subst (IsBelow c.marker_over-image.result) (c.grid.ensures.value ∙ sym c.grid-2.ensures.value) c.marker_over-image.ensures.below
+    subst (IsBelow c.marker_over-image.result) (c.grid.ensures.value ∙ sym c.grid-2.ensures.value)
+    c.marker_over-image.ensures.below
 
 pub returns : goal.returns
 returns g c =

@@ -12,7 +12,8 @@ pub returns-in-Ok-clause-answer : goal.returns-in-Ok-clause-answer
 returns-in-Ok-clause-answer c = λ datagram spells.
     let same : c.is_for.result ≡ true = search rules in (
       c.args.frame.delta,
-      for_this datagram c.args.frame c.args.conn c.args.print.now spells (is_for c.is_for.result _ c.is_for.ensures same),
+      for_this datagram c.args.frame c.args.conn c.args.print.now spells
+          (is_for c.is_for.result _ c.is_for.ensures same),
       c.in-Ok.ensures.ok,
     )
 
@@ -20,7 +21,8 @@ pub returns-in-Err-clause-answer : goal.returns-in-Err-clause-answer
 returns-in-Err-clause-answer c = λ datagram spells.
     let same : c.is_for.result ≡ true = search rules in (
       c.args.frame.delta,
-      for_this datagram c.args.frame c.args.conn c.args.print.now spells (is_for c.is_for.result _ c.is_for.ensures same),
+      for_this datagram c.args.frame c.args.conn c.args.print.now spells
+          (is_for c.is_for.result _ c.is_for.ensures same),
       c.in-Err.ensures.full,
       c.in-Err.ensures.err,
     )

@@ -39,7 +39,8 @@ loop-preserved g c =
         | in-Interrupted w ↦
             subst (λ b. IsTrue b ↔ HasGrown a d) (sym w.came-is)
             (grown_as_before a b d c.loop.came (did.read.0, did.read.2)
-            (λ grew. absurd (let e = c.in_ok-read_once.ensures.moved.1 grew in let f = w.in-Interrupted.is in cc)) so_far.came)
+            (λ grew. absurd (let e = c.in_ok-read_once.ensures.moved.1 grew in
+            let f = w.in-Interrupted.is in cc)) so_far.came)
       ];
       rests = did.rests so_far.rests;
       config = did.config ∙ so_far.config;

@@ -27,10 +27,12 @@ returns-clause-part g c =
       is_open = c.args.self.now.is_open;
     } in
     let noted : Peer g.row.C.Denot = after_transfer c.take_in-came.result c.args.now mid in
-    let P : Peer g.row.C.Denot → Type 0 = λ p. (mine : List Call) × TakesIn c.note.result c.args.now c.args.self.now p mine
+    let P : Peer g.row.C.Denot → Type 0 = λ p.
+    (mine : List Call) × TakesIn c.note.result c.args.now c.args.self.now p mine
     × Chain (Answers answers) (keeping seen c.args.keeper.now) mine (keeping seen c.take_in-came.new.service) in
     subst P {x = noted} {y = c.note.new.self} (sym {b = noted} c.note.ensures.noted)
-    (taken_after answers seen c.args.now c.args.keeper.now c.forget.new.self c.take_in-came.new.service c.args.self.now mid
+    (taken_after answers seen c.args.now c.args.keeper.now c.forget.new.self c.take_in-came.new.service
+    c.args.self.now mid
     c.forget.ensures did.calls (did.read.0, did.read.2) did.unsent did.config c.has_answered-self.ensures was_open
     did.rests c.note.result c.take_in-came.result c.note.ensures.moved refl did.came)
 
@@ -54,4 +56,5 @@ returns-clause-came g c =
     subst P {x = noted} {y = c.note.new.self} (sym {b = noted} c.note.ensures.noted)
     (received_after answers seen c.args.now c.args.keeper.now c.forget.new.self c.take_in-came.new.service
     c.args.self.now mid c.forget.ensures did.calls (did.read.0, did.read.2) did.unsent did.config
-    c.has_answered-self.ensures was_open did.rests c.note.result c.take_in-came.result c.note.ensures.moved did.came came)
+    c.has_answered-self.ensures was_open did.rests c.note.result c.take_in-came.result
+    c.note.ensures.moved did.came came)

@@ -1,4 +1,5 @@
-use Rattle.std.proofs.Common.{◌≡◌, ℕ, ◌+◌, ◌<◌, ◌≤◌, ◌^◌, List, [], ◌∷◌, ◌++◌, drop, length, arith, sym, subst, ap, ◌∙◌, inl, refl}
+use Rattle.std.proofs.Common.{◌≡◌, ℕ, ◌+◌, ◌<◌, ◌≤◌, ◌^◌, List, [], ◌∷◌, ◌++◌, drop, length, arith}
+use Rattle.std.proofs.Common.{sym, subst, ap, ◌∙◌, inl, refl}
 use Rattle.stroke_lattice.specs.declared.split.TheConstants.{HEAD_BYTES}
 use Rattle.stroke_lattice.specs.State.{State}
 use Rattle.stroke_lattice.specs.Pieces.{Item, items_of, item_length, pieces_of}

@@ -12,6 +12,7 @@ invariant_of-self c =
     record {
       mask_is = old.mask_is ∙ sym grows.mask;
       follows =
-          grows_on (last_by old.publisher) (core_by old.dispatcher) (core_by new) old.has_state old.has_image old.follows
+          grows_on (last_by old.publisher) (core_by old.dispatcher) (core_by new)
+          old.has_state old.has_image old.follows
           grows;
     }
