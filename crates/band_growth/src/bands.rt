@@ -6,6 +6,7 @@ ghost use Rattle.band_growth.specs.Steps.{HaveGrownApart, HaveGrownUp, MayGrow};
 
 use crate::limits::{Limits, all_of};
 use crate::seam::close_seam;
+use crossbeam_utils::CachePadded;
 use raster_sweeps::steps::{Size, Waiting, close};
 use std::marker::Sync;
 use std::thread::{Threads, join_mut};
@@ -23,7 +24,7 @@ pub fn grow_rows<R: Threads + Sync>(
     rt: &R,
     limits: &Limits<'_>,
     image: &mut [u16],
-    queues: &mut [Waiting],
+    queues: &mut [CachePadded<Waiting>],
 )
     requires close { MayGrow limits.now image.old }
     requires some { 0 < length queues.old }
@@ -46,7 +47,7 @@ fn grow_halves<R: Threads + Sync>(
     limits: &Limits<'_>,
     cut: u32,
     image: &mut [u16],
-    queues: &mut [Waiting],
+    queues: &mut [CachePadded<Waiting>],
 )
     requires close { MayGrow limits.now image.old }
     requires cut { IsCut limits.now.size cut }
@@ -80,10 +81,10 @@ fn grow_both<R: Threads + Sync>(
     rt: &R,
     above: &Limits<'_>,
     upper: &mut [u16],
-    first: &mut [Waiting],
+    first: &mut [CachePadded<Waiting>],
     below: &Limits<'_>,
     lower: &mut [u16],
-    second: &mut [Waiting],
+    second: &mut [CachePadded<Waiting>],
 )
     requires above { MayGrow above.now upper.old }
     requires below { MayGrow below.now lower.old }

@@ -7,6 +7,7 @@ ghost use Rattle.raster_sweeps.specs.Regrowth.{IsRegrown};
 
 use crate::bands::grow_rows;
 use crate::limits::Limits;
+use crossbeam_utils::CachePadded;
 use grid_core::laws::cells_given_back;
 use grid_core::{Conn, Grid, Memory};
 use raster_sweeps::steps::{STRIP_ROWS, Size, Waiting};
@@ -104,8 +105,12 @@ fn bands_for(threads: usize, rows: u32) -> usize
 }
 
 // A queue for each band. The first serves seams of all rows as well, and each other one those of no more than about
-// half of them.
-fn queues_for(alloc: Global, size: Size, bands: usize) -> Result<Vec<Waiting>, AllocError>
+// half of them. No two lie on one line of a cache, as each is written to by another thread.
+fn queues_for(
+    alloc: Global,
+    size: Size,
+    bands: usize,
+) -> Result<Vec<CachePadded<Waiting>>, AllocError>
     requires { IsImageSize size.w size.h }
     ensures { IfOk result (λ queues. vec_len queues ≡ max (min bands size.h) 1) }
 {
@@ -119,7 +124,8 @@ fn queues_for(alloc: Global, size: Size, bands: usize) -> Result<Vec<Waiting>, A
         } else {
             strips.div_ceil(2)
         };
-        queues.push_reserved(Waiting::new(alloc, lists, room)?);
+        let queue = Waiting::new(alloc, lists, room)?;
+        queues.push_reserved(CachePadded::new(queue));
     }
     Ok(queues)
 }
