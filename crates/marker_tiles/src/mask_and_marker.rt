@@ -6,6 +6,7 @@ ghost use Rattle.grid_core.specs.Rects.{IsPart};
 ghost use Rattle.grid_core.specs.Tiles.{count_of, rect_of};
 ghost use Rattle.stroke_lattice.specs.State.{StateFits};
 ghost use Rattle.marker_tiles.specs.Kept.{HasGrown, AreFresh, AreRenewed};
+ghost use Rattle.marker_tiles.specs.UnderTags.{IsBlankOn};
 ghost use Rattle.marker_tiles.specs.declared.error.MarkersError.TheVariants as errors;
 
 use crate::error::MarkersError;
@@ -63,14 +64,27 @@ impl Markers {
         requires height { tiling.height ≡ mask.height }
         ensures { MatchResult result (AreFresh mask tiling) (λ e. (e.0 ≡ mask) × (e.1 ≡ errors.Memory)) }
     {
-        contents_of_nothing();
         match blank(alloc, &mask) {
-            Ok(marker) => Ok(Markers {
-                mask,
-                marker,
-                tiling,
-            }),
+            Ok(blank) => Ok(Markers::over_blank(mask, blank, tiling)),
             Err(e) => Err((mask, e.into())),
+        }
+    }
+
+    /// The marker of a mask and the state without strokes, in the memory of an image of zeros of the mask's size. Both
+    /// are taken over, without a copy. It takes no memory.
+    pub fn over_blank(mask: Grid, blank: Grid, tiling: Tiling) -> Markers
+        requires blank { IsBlankOn mask blank }
+        requires width { tiling.width ≡ mask.width }
+        requires height { tiling.height ≡ mask.height }
+        ensures { AreFresh mask tiling result }
+    {
+        contents_of_nothing();
+        // For its clause alone: the mask has as many cells as its sides say.
+        let _cells = mask.cells();
+        Markers {
+            mask,
+            marker: blank,
+            tiling,
         }
     }
 
