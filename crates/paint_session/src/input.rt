@@ -55,8 +55,8 @@ pub fn split(input: &[u8]) -> Option<(&[u8], &[u8])>
     None
 }
 
-// How many pixels the mask has behind an input's `image` line, as `pixels_in` says; 0 where there is no such line.
-pub(crate) fn mask_pixels_in(input: &[u8]) -> usize {
+/// How many pixels the mask has behind an input's `image` line, as [`pixels_in`] says; 0 where there is no such line.
+pub fn mask_pixels_in(input: &[u8]) -> usize {
     match split(input) {
         Some((_, file)) => pixels_in(file),
         None => 0,

@@ -97,7 +97,7 @@ fn begun(alloc: Global, mask: Grid, state: &State) -> Result<Core, RefusedMask> 
             mask,
             why: CoreError::OutOfImage(tag),
         }),
-        None => Core::over_state(&OneThread, alloc, mask, Conn::Four, SIDE, 0, state),
+        None => Core::over_state(&OneThread, alloc, mask, None, Conn::Four, SIDE, 0, state),
     }
 }
 

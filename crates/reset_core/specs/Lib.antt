@@ -35,4 +35,5 @@ pub mod Parts
 pub mod Sweeping
 pub mod MergeSteps
 pub mod Scheduling
+pub mod Blanks
 pub mod Starting

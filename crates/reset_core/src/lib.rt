@@ -15,7 +15,8 @@
 //! raises their generations, so that results and hints from before are known.
 //!
 //! A core can begin with strokes ([`Core::over_state`]): its image is grown at once, and no work is left at it. It
-//! shows what one shows that was opened, merged the strokes and settled ([`begun_is_as_settled`]).
+//! shows what one shows that was opened, merged the strokes and settled ([`begun_is_as_settled`]). The memory for that
+//! can be made while the mask is read ([`Blanks`]).
 //!
 //! What a core is, what can happen to it and what each event answers is one table, in the crate `core_rules`, which the
 //! contracts here cite; [`laws`] are that crate's.
@@ -30,5 +31,5 @@ mod replica;
 
 pub use core_rules::{Back, CoreError, Handed, Step, laws};
 pub use grid_core::TILE_SIDE;
-pub use replica::{Core, Count, Ran, RefusedMask, Slice, begun_is_as_settled};
+pub use replica::{Blanks, Core, Count, Ran, RefusedMask, Slice, begun_is_as_settled};
 pub use tile_work::TileSet;

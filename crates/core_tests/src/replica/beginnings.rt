@@ -3,7 +3,7 @@
 use crate::chance::draw;
 use grid_core::{Conn, Grid};
 use raster_sweeps::OneThread;
-use reset_core::{Core, CoreError, RefusedMask};
+use reset_core::{Blanks, Core, CoreError, RefusedMask};
 use std::alloc::Global;
 use stroke_core::{Stroke, Tag};
 use stroke_lattice::State;
@@ -20,6 +20,11 @@ const STROKES: [(u128, u32, u16, u16, u32); 3] = [
 
 // The tags of the second of them, and of none.
 const WITHDRAWN: [u128; 2] = [5, 77];
+
+// How many pixels the mask has, and how many zeros there are for marker and image: none, too few, as many, too many.
+const PIXELS: usize = 37 * 29;
+
+const BLANKS: [usize; 4] = [0, PIXELS - 1, PIXELS, PIXELS + 1];
 
 // A mask of 37 columns and 29 rows, with values up to 12.
 fn some_mask(alloc: Global) -> Option<Grid> {
@@ -73,20 +78,22 @@ fn some_state(alloc: Global) -> Option<State> {
     is_whole.then_some(state)
 }
 
-// A core that begins with a state. C1 where a stroke does not fit.
+// A core that begins with a state, with so many zeros made before. C1 where a stroke does not fit.
 fn begun(
     alloc: Global,
     mask: Grid,
+    count: usize,
     conn: Conn,
     side: u32,
     state: &State,
 ) -> Result<Core, RefusedMask> {
+    let ((), blanks) = Blanks::beside(&OneThread, alloc, count, || ());
     match state.outside(mask.width(), mask.height()) {
         Some(tag) => Err(RefusedMask {
             mask,
             why: CoreError::OutOfImage(tag),
         }),
-        None => Core::over_state(&OneThread, alloc, mask, conn, side, FIRST, state),
+        None => Core::over_state(&OneThread, alloc, mask, blanks, conn, side, FIRST, state),
     }
 }
 
@@ -129,29 +136,30 @@ fn image_of(alloc: Global, conn: Conn, side: u32, state: &State) -> Option<Grid>
 fn begins_with(
     alloc: Global,
     mask: Grid,
+    count: usize,
     conn: Conn,
     side: u32,
     state: &State,
     image: &Grid,
 ) -> bool {
-    match begun(alloc, mask, conn, side, state) {
+    match begun(alloc, mask, count, conn, side, state) {
         Ok(core) => is_fresh(&core, state, image),
         Err(_) => false,
     }
 }
 
 // Whether one of the mask shows what a core shows that settles.
-fn begins_as_settled(alloc: Global, conn: Conn, side: u32, state: &State) -> bool {
+fn begins_as_settled(alloc: Global, count: usize, conn: Conn, side: u32, state: &State) -> bool {
     match (image_of(alloc, conn, side, state), some_mask(alloc)) {
-        (Some(image), Some(mask)) => begins_with(alloc, mask, conn, side, state, &image),
+        (Some(image), Some(mask)) => begins_with(alloc, mask, count, conn, side, state, &image),
         _ => false,
     }
 }
 
 // Whether it does with the strokes.
-fn is_as_settled(alloc: Global, conn: Conn, side: u32) -> bool {
+fn is_as_settled(alloc: Global, count: usize, conn: Conn, side: u32) -> bool {
     match some_state(alloc) {
-        Some(state) => begins_as_settled(alloc, conn, side, &state),
+        Some(state) => begins_as_settled(alloc, count, conn, side, &state),
         None => false,
     }
 }
@@ -160,14 +168,24 @@ fn is_as_settled(alloc: Global, conn: Conn, side: u32) -> bool {
 fn a_core_begins_as_it_settles(rt: HostRuntime) {
     for conn in [Conn::Four, Conn::Eight] {
         for side in [8, 16, 256] {
-            assert!(rt; is_as_settled(rt.alloc(), conn, side), "{conn:?}, {side}");
+            assert!(rt;
+                is_as_settled(rt.alloc(), PIXELS, conn, side),
+                "{conn:?}, {side}"
+            );
         }
+    }
+}
+
+#[test]
+fn a_core_begins_in_whatever_memory(rt: HostRuntime) {
+    for count in BLANKS {
+        assert!(rt; is_as_settled(rt.alloc(), count, Conn::Four, 8), "{count}");
     }
 }
 
 // Whether no core begins with tiles of this side, and the mask comes back.
 fn is_handed_back(alloc: Global, mask: Grid, side: u32, state: &State, copy: &Grid) -> bool {
-    match begun(alloc, mask, Conn::Four, side, state) {
+    match begun(alloc, mask, PIXELS, Conn::Four, side, state) {
         Ok(_) => false,
         Err(refused) => refused.why == CoreError::BadSide && refused.mask.is_same(copy),
     }
@@ -211,7 +229,7 @@ fn begins_and_goes_on(
     state: &State,
     image: &Grid,
 ) -> bool {
-    match begun(alloc, mask, conn, side, state) {
+    match begun(alloc, mask, PIXELS, conn, side, state) {
         Ok(mut core) => goes_on_to(alloc, &mut core, image),
         Err(_) => false,
     }

@@ -1,16 +1,18 @@
 //! Cores that begin with strokes and tombstones.
 
-ghost use Rattle.std.specs.Prelude.{◌≡◌, ◌≤◌, IfOk, IfErr, OnOk};
-ghost use Rattle.grid_core.specs.Raster.{IsFilled};
+ghost use Rattle.std.specs.Prelude.{◌≡◌, ◌≤◌, length, IfOk, IfErr, IfSome, OnOk};
+ghost use Rattle.grid_core.specs.Raster.{IsFilled, IsOfSize};
 ghost use Rattle.stroke_lattice.specs.State.{StateFits, nothing};
 ghost use Rattle.marker_tiles.specs.Kept.{IsMarkerOf};
+ghost use Rattle.marker_tiles.specs.UnderTags.{IsBlankOn};
 ghost use Rattle.core_rules.specs.declared.error.CoreError.TheVariants as errors;
 ghost use Rattle.tile_generations.specs.Generations.{max_generation};
 ghost use Rattle.raster_sweeps.specs.Regrowth.{IsRegrown};
 ghost use Rattle.reset_core.specs.Answers.{IsNotOpened};
+ghost use Rattle.reset_core.specs.Blanks.{AreBlank};
 ghost use Rattle.reset_core.specs.Starting.{BegunIsAsSettled, IsBeginningOf, IsBegunWith};
 
-use super::{Beginning, Core, RefusedMask, tiling_of};
+use super::{Beginning, Blanks, Core, RefusedMask, tiling_of};
 use border_queues::laws::edges_are_open;
 use core_rules::CoreError;
 use grid_core::{Conn, Grid, Memory, is_tile_side};
@@ -33,18 +35,21 @@ impl Core {
     /// at it, and it shows what a core shows that was opened, merged them and settled ([`begun_is_as_settled`]).
     ///
     /// Each stroke, live or not, has to fit the mask, as [`State::outside`] tells. The mask is taken over, without a
-    /// copy, and the state is copied.
+    /// copy, and the state is copied. Marker and image take the memory of the blanks, where there are some and they are
+    /// as many as the mask has pixels.
     ///
     /// Errors: C5 where the side is less than 8 or more than 256, else C4, with the mask handed back.
     pub fn over_state<G: Grower>(
         grower: &G,
         alloc: Global,
         mask: Grid,
+        blanks: Option<Blanks>,
         conn: Conn,
         side: u32,
         first: u64,
         state: &State,
     ) -> Result<Core, RefusedMask>
+        requires blank { IfSome blanks (λ made. (count : _) × AreBlank count made) }
         requires first { first ≤ max_generation }
         requires fits { StateFits mask.width mask.height state.now }
         ensures begun { IfOk result (IsBegunWith mask conn side first state.now) }
@@ -56,24 +61,61 @@ impl Core {
                 why: CoreError::BadSide,
             });
         }
-        let tiling = tiling_of(&mask, side);
-        match Markers::over(alloc, mask, tiling) {
-            Ok(markers) => begin(grower, alloc, markers, conn, first, state),
-            Err((mask, _)) => Err(RefusedMask {
+        let Some(blanks) = blanks_for(grower, alloc, &mask, blanks) else {
+            return Err(RefusedMask {
                 mask,
                 why: CoreError::Memory,
-            }),
-        }
+            });
+        };
+        let tiling = tiling_of(&mask, side);
+        let (marker, image) = grids_of(&mask, blanks);
+        let markers = Markers::over_blank(mask, marker, tiling);
+        begin(grower, alloc, markers, image, conn, first, state)
     }
 }
 
-// The core that begins with a state, over markers that have no stroke yet.
+// The blanks, where they are as many as the mask has pixels, or others that are; none where memory is wanting.
+fn blanks_for<G: Grower>(
+    grower: &G,
+    alloc: Global,
+    mask: &Grid,
+    blanks: Option<Blanks>,
+) -> Option<Blanks>
+    requires { IfSome blanks (λ made. (count : _) × AreBlank count made) }
+    ensures { IfSome result (AreBlank (length mask.now.cells)) }
+{
+    let count = mask.cells().len();
+    if let Some(made) = blanks {
+        if made.marker.len() == count {
+            return Some(made);
+        }
+    }
+    Blanks::beside(grower, alloc, count, || ()).1
+}
+
+// Two images of zeros, of the mask's size.
+fn grids_of(mask: &Grid, blanks: Blanks) -> (Grid, Grid)
+    requires { AreBlank (length mask.now.cells) blanks }
+    ensures blank { IsBlankOn mask.now result.0 }
+    ensures size { IsOfSize mask.now result.1 }
+{
+    // For its clause alone: the mask has as many cells as its sides say.
+    let _cells = mask.cells();
+    let Blanks { marker, image } = blanks;
+    (
+        Grid::from_cells(mask.width(), mask.height(), marker),
+        Grid::from_cells(mask.width(), mask.height(), image),
+    )
+}
+
+// The core that begins with a state, over markers that have no stroke yet, with its image in the memory of another one.
 //
 // Errors: C4, with the mask handed back.
 fn begin<G: Grower>(
     grower: &G,
     alloc: Global,
     mut markers: Markers,
+    image: Grid,
     conn: Conn,
     first: u64,
     state: &State,
@@ -81,11 +123,12 @@ fn begin<G: Grower>(
     requires first { first ≤ max_generation }
     requires fits { StateFits markers.mask.width markers.mask.height state.now }
     requires blank { IsMarkerOf markers.mask nothing markers.marker }
+    requires image { IsOfSize markers.mask image }
     ensures begun { IfOk result (IsBegunWith markers.mask conn markers.tiling.side first state.now) }
     ensures why { IfErr result (λ refused. refused.why ≡ errors.Memory) }
     ensures returned { IfErr result (λ refused. refused.mask ≡ markers.mask) }
 {
-    match paint_and_grow(grower, alloc, &mut markers, conn, first, state) {
+    match paint_and_grow(grower, alloc, &mut markers, image, conn, first, state) {
         Ok(beginning) => Ok(beginning.with_markers(conn, markers)),
         Err(_) => {
             let (mask, _) = markers.into_grids();
@@ -102,6 +145,7 @@ fn paint_and_grow<G: Grower>(
     grower: &G,
     alloc: Global,
     markers: &mut Markers,
+    image: Grid,
     conn: Conn,
     first: u64,
     state: &State,
@@ -109,12 +153,13 @@ fn paint_and_grow<G: Grower>(
     requires first { first ≤ max_generation }
     requires fits { StateFits markers.old.mask.width markers.old.mask.height state.now }
     requires blank { IsMarkerOf markers.old.mask nothing markers.old.marker }
+    requires image { IsOfSize markers.old.mask image }
     ensures mask { markers.new.mask ≡ markers.old.mask }
     ensures tiling { markers.new.tiling ≡ markers.old.tiling }
     ensures beginning { IfOk result (IsBeginningOf conn first state.now markers.new) }
 {
     let state = paint(alloc, markers, state)?;
-    let image = grown(grower, alloc, markers, conn)?;
+    let image = grown(grower, alloc, markers, image, conn)?;
     let count = markers.tiling().count();
     Ok(Beginning::with(alloc, state, image, count, first)?)
 }
@@ -134,17 +179,20 @@ fn paint(alloc: Global, markers: &mut Markers, state: &State) -> Result<State, S
     Ok(copy)
 }
 
-// The image that grows from the marker.
+// The image that grows from the marker, in the memory of another one.
 fn grown<G: Grower>(
     grower: &G,
     alloc: Global,
     markers: &Markers,
+    image: Grid,
     conn: Conn,
 ) -> Result<Grid, Memory>
+    requires { IsOfSize markers.now.mask image }
     ensures grown { IfOk result (IsRegrown conn markers.now.mask markers.now.marker) }
     ensures filled { OnOk result (IsFilled markers.now.mask) }
 {
-    let mut image = markers.marker().copy(alloc)?;
+    let mut image = image;
+    image.assign(markers.marker());
     grower.grow(alloc, markers.mask(), &mut image, conn)?;
     Ok(image)
 }
