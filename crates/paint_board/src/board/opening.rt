@@ -1,8 +1,9 @@
 //! Boards as they are opened: without strokes, or with those that a state file keeps.
 
-ghost use Rattle.std.specs.Prelude.{◌≡◌, ◌⊎◌, [], replicate, IfOk, IfErr};
+ghost use Rattle.std.specs.Prelude.{◌≡◌, ◌⊎◌, [], replicate, IfOk, IfErr, IfSome};
 ghost use Rattle.grid_core.specs.Tiles.{IsTileSide};
 ghost use Rattle.stroke_lattice.specs.State.{StateFits};
+ghost use Rattle.reset_core.specs.Blanks.{AreBlank};
 ghost use Rattle.paint_session.specs.Kept.{print_of, OldIsRefused};
 ghost use Rattle.paint_session.specs.RunError.{IsMemory};
 ghost use Rattle.paint_board.specs.Opening.{IsOpenedBoard, IsOpenedOver, IsNotOpened, IsNotOpenedOver};
@@ -18,7 +19,7 @@ use paint_session::merging::merge_all;
 use paint_session::run_error::RunError;
 use pgm_codec::Image;
 use raster_sweeps::Grower;
-use reset_core::Core;
+use reset_core::{Blanks, Core};
 use spd_codec::print_of;
 use std::alloc::Global;
 use stroke_lattice::State;
@@ -85,22 +86,24 @@ impl Board {
         if !is_tile_side(side) {
             return Err(RunError::Core(CoreError::BadSide));
         }
-        let gathered = kept_for(alloc, mask, conn, old)?;
-        Board::begun(grower, alloc, gathered, conn, side, run)
+        let (gathered, blanks) = kept_beside(grower, alloc, mask, conn, old)?;
+        Board::begun(grower, alloc, gathered, blanks, conn, side, run)
     }
 
-    // The board of a mask as it begins with a state.
+    // The board of a mask as it begins with a state, in the memory of the blanks.
     //
     // Errors: C4 or plain want of memory.
     fn begun<G: Grower>(
         grower: &G,
         alloc: Global,
         gathered: Gathered,
+        blanks: Option<Blanks>,
         conn: Conn,
         side: u32,
         run: u64,
     ) -> Result<Board, RunError>
         requires side { IsTileSide side }
+        requires blank { IfSome blanks (λ made. (count : _) × AreBlank count made) }
         requires fits { StateFits gathered.mask.raster.width gathered.mask.raster.height gathered.state }
         requires print { gathered.print ≡ print_of gathered.mask }
         ensures begun { IfOk result (IsBegunBoard gathered.mask conn side run gathered.state) }
@@ -109,7 +112,16 @@ impl Board {
         let Gathered { mask, print, state } = gathered;
         let maxval = mask.maxval();
         let news = first_news(alloc, &state)?;
-        let core = match Core::over_state(grower, alloc, mask.into_grid(), conn, side, 0, &state) {
+        let core = match Core::over_state(
+            grower,
+            alloc,
+            mask.into_grid(),
+            blanks,
+            conn,
+            side,
+            0,
+            &state,
+        ) {
             Ok(core) => core,
             Err(refused) => return Err(RunError::Core(refused.why)),
         };
@@ -127,6 +139,35 @@ impl Board {
             marks,
         })
     }
+}
+
+// What `kept_for` gives, and the memory that a core over the mask begins in, made meanwhile.
+//
+// Errors: as `kept_for`.
+fn kept_beside<G: Grower>(
+    grower: &G,
+    alloc: Global,
+    mask: Image,
+    conn: Conn,
+    old: &[u8],
+) -> Result<(Gathered, Option<Blanks>), RunError>
+    ensures mask { IfOk result (λ parts. parts.0.mask ≡ mask) }
+    ensures print { IfOk result (λ parts. parts.0.print ≡ print_of mask) }
+    ensures kept { IfOk result (λ parts. IsKeptFor mask conn old.now parts.0.state) }
+    ensures fits { IfOk result (λ parts. StateFits mask.raster.width mask.raster.height parts.0.state) }
+    ensures blank { IfOk result (λ parts. IfSome parts.1 (λ made. (count : _) × AreBlank count made)) }
+    ensures refused { IfErr result (λ e. IsMemory e ⊎ OldIsRefused conn old.now [] mask e) }
+{
+    let pixels = mask.samples().len();
+    let gather_kept = || -> Result<Gathered, RunError>
+        ensures { IfOk result (λ gathered. gathered.mask ≡ mask)
+            × IfOk result (λ gathered. gathered.print ≡ print_of mask)
+            × IfOk result (λ gathered. IsKeptFor mask conn old.entry.now gathered.state)
+            × IfOk result (λ gathered. StateFits mask.raster.width mask.raster.height gathered.state)
+            × IfErr result (λ e. IsMemory e ⊎ OldIsRefused conn old.entry.now [] mask e) }
+    { kept_for(alloc, mask, conn, old) };
+    let (gathered, blanks) = Blanks::beside(grower, alloc, pixels, gather_kept);
+    Ok((gathered?, blanks))
 }
 
 // A mask, its fingerprint, and the join of what the bytes of a state file keep for it.
