@@ -1,9 +1,9 @@
 //! Boards as they are opened: without strokes, or with those that a state file keeps.
 
-ghost use Rattle.std.specs.Prelude.{◌≡◌, ◌⊎◌, [], replicate, IfOk, IfErr, IfSome};
+ghost use Rattle.std.specs.Prelude.{◌≡◌, ◌⊎◌, [], replicate, IfOk, IfErr};
 ghost use Rattle.grid_core.specs.Tiles.{IsTileSide};
 ghost use Rattle.stroke_lattice.specs.State.{StateFits};
-ghost use Rattle.reset_core.specs.Blanks.{AreBlank};
+ghost use Rattle.reset_core.specs.Blanks.{AreBlanks};
 ghost use Rattle.paint_session.specs.Kept.{print_of, OldIsRefused};
 ghost use Rattle.paint_session.specs.RunError.{IsMemory};
 ghost use Rattle.paint_board.specs.Opening.{IsOpenedBoard, IsOpenedOver, IsNotOpened, IsNotOpenedOver};
@@ -103,7 +103,7 @@ impl Board {
         run: u64,
     ) -> Result<Board, RunError>
         requires side { IsTileSide side }
-        requires blank { IfSome blanks (λ made. (count : _) × AreBlank count made) }
+        requires blank { AreBlanks blanks }
         requires fits { StateFits gathered.mask.raster.width gathered.mask.raster.height gathered.state }
         requires print { gathered.print ≡ print_of gathered.mask }
         ensures begun { IfOk result (IsBegunBoard gathered.mask conn side run gathered.state) }
@@ -155,7 +155,7 @@ fn kept_beside<G: Grower>(
     ensures print { IfOk result (λ parts. parts.0.print ≡ print_of mask) }
     ensures kept { IfOk result (λ parts. IsKeptFor mask conn old.now parts.0.state) }
     ensures fits { IfOk result (λ parts. StateFits mask.raster.width mask.raster.height parts.0.state) }
-    ensures blank { IfOk result (λ parts. IfSome parts.1 (λ made. (count : _) × AreBlank count made)) }
+    ensures blank { IfOk result (λ parts. AreBlanks parts.1) }
     ensures refused { IfErr result (λ e. IsMemory e ⊎ OldIsRefused conn old.now [] mask e) }
 {
     let pixels = mask.samples().len();

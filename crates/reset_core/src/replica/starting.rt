@@ -9,7 +9,7 @@ ghost use Rattle.core_rules.specs.declared.error.CoreError.TheVariants as errors
 ghost use Rattle.tile_generations.specs.Generations.{max_generation};
 ghost use Rattle.raster_sweeps.specs.Regrowth.{IsRegrown};
 ghost use Rattle.reset_core.specs.Answers.{IsNotOpened};
-ghost use Rattle.reset_core.specs.Blanks.{AreBlank};
+ghost use Rattle.reset_core.specs.Blanks.{AreBlank, AreBlanks};
 ghost use Rattle.reset_core.specs.Starting.{BegunIsAsSettled, IsBeginningOf, IsBegunWith};
 
 use super::{Beginning, Blanks, Core, RefusedMask, tiling_of};
@@ -49,7 +49,7 @@ impl Core {
         first: u64,
         state: &State,
     ) -> Result<Core, RefusedMask>
-        requires blank { IfSome blanks (λ made. (count : _) × AreBlank count made) }
+        requires blank { AreBlanks blanks }
         requires first { first ≤ max_generation }
         requires fits { StateFits mask.width mask.height state.now }
         ensures begun { IfOk result (IsBegunWith mask conn side first state.now) }
@@ -81,7 +81,7 @@ fn blanks_for<G: Grower>(
     mask: &Grid,
     blanks: Option<Blanks>,
 ) -> Option<Blanks>
-    requires { IfSome blanks (λ made. (count : _) × AreBlank count made) }
+    requires { AreBlanks blanks }
     ensures { IfSome result (AreBlank (length mask.now.cells)) }
 {
     let count = mask.cells().len();
