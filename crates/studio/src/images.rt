@@ -35,11 +35,21 @@ impl Images {
     pub(crate) fn copy(&mut self, image: &Grid) -> Result<Arc<Grid>, Memory>
         ensures { IfOk result (λ copy. arc_value copy ≡ image.now) }
     {
-        let copy = match self.oldest.take().and_then(unshared) {
-            Some(spare) => copy_into(self.alloc, spare, image)?,
-            None => image.copy(self.alloc)?,
-        };
-        let copy = Arc::new(self.alloc, copy)?;
+        let spare = self.oldest.take().and_then(unshared);
+        self.copy_over(spare, image)
+    }
+
+    /// A copy of an image, to be shared, in a spare one where there is one of its size.
+    ///
+    /// Errors: out of memory.
+    pub(crate) fn copy_over(
+        &mut self,
+        spare: Option<Grid>,
+        image: &Grid,
+    ) -> Result<Arc<Grid>, Memory>
+        ensures { IfOk result (λ copy. arc_value copy ≡ image.now) }
+    {
+        let copy = shared_copy(self.alloc, spare, image)?;
         self.keep(Arc::try_clone(&copy).ok());
         Ok(copy)
     }
@@ -55,6 +65,31 @@ impl Images {
 // The image, where nobody else holds it.
 fn unshared(image: Arc<Grid>) -> Option<Grid> {
     Arc::try_unwrap(image).ok()
+}
+
+/// A copy of an image, to be shared, in a spare one where there is one of its size.
+///
+/// Errors: out of memory.
+pub(crate) fn shared_copy(
+    alloc: Global,
+    spare: Option<Grid>,
+    image: &Grid,
+) -> Result<Arc<Grid>, Memory>
+    ensures { IfOk result (λ copy. arc_value copy ≡ image.now) }
+{
+    let copy = match spare {
+        Some(spare) => copy_into(alloc, spare, image)?,
+        None => image.copy(alloc)?,
+    };
+    Ok(Arc::new(alloc, copy)?)
+}
+
+/// A grid of an image's size in this memory, where that has as many cells. What it shows does not matter.
+pub(crate) fn grid_in(cells: Vec<u16>, image: &Grid) -> Option<Grid> {
+    if cells.len() != image.cells().len() {
+        return None;
+    }
+    Some(Grid::from_cells(image.width(), image.height(), cells))
 }
 
 // A copy of an image, in a spare one where that has its size.

@@ -50,6 +50,27 @@ impl Studio {
         ensures opened { IfOk result (IsOpened core pens hands eyes) }
         ensures returned { IfErr result (λ e. e.core ≡ core) }
     {
+        Studio::open_over(rt, alloc, core, Vec::new(alloc), pens, hands, eyes)
+    }
+
+    /// As [`open`](Studio::open). All shots share a copy of the mask, and the first has one of the image: they take the
+    /// memory of the last two of `spares`, where these have as many cells as the mask.
+    ///
+    /// Errors: as [`open`](Studio::open).
+    pub fn open_over<R: Wait>(
+        rt: &R,
+        alloc: Global,
+        core: Core,
+        spares: Vec<Vec<u16>>,
+        pens: usize,
+        hands: usize,
+        eyes: usize,
+    ) -> Result<Studio, NotOpened>
+        ensures counts { IfErr result (λ e. (e.why ≡ errors.BadCounts) ↔ (AreCounts pens hands eyes → ⊥)) }
+        ensures counted { OnOk result (AreCounts pens hands eyes) }
+        ensures opened { IfOk result (IsOpened core pens hands eyes) }
+        ensures returned { IfErr result (λ e. e.core ≡ core) }
+    {
         if !are_counts(pens, hands, eyes) {
             return Err(NotOpened {
                 core,
@@ -66,7 +87,7 @@ impl Studio {
             }
         };
         let Opened { books, pens } = opened;
-        match open_over(rt, alloc, books, hands, eyes) {
+        match over_books(rt, alloc, books, spares, hands, eyes) {
             Ok(over) => Ok(over.with_pens(pens)),
             Err((books, why)) => Err(NotOpened {
                 core: books.into_parts().0,
@@ -117,10 +138,11 @@ impl Over {
 // A studio over books, without the pens.
 //
 // Errors: out of memory, or a place for an eye was refused, with the books handed back as they were.
-fn open_over<R: Wait>(
+fn over_books<R: Wait>(
     rt: &R,
     alloc: Global,
     books: Books,
+    spares: Vec<Vec<u16>>,
     hands: usize,
     eyes: usize,
 ) -> Result<Over, (Books, OpenError)>
@@ -135,7 +157,7 @@ fn open_over<R: Wait>(
     };
     let Pool { owner, hands } = pool;
     let dispatcher = Dispatcher::new(alloc, books, owner);
-    let mut keeper = match Keeper::open(rt, alloc, dispatcher, eyes) {
+    let mut keeper = match Keeper::open(rt, alloc, dispatcher, spares, eyes) {
         Ok(keeper) => keeper,
         Err(dispatcher) => return Err((dispatcher.into_books(), OpenError::Memory)),
     };

@@ -10,7 +10,7 @@ ghost use Rattle.studio.specs.declared.refused.OpenError.TheVariants as errors;
 ghost use Rattle.studio.specs.Opening.{IsFirst, AreEyesOf, ShowsTheSame};
 
 use super::Keeper;
-use crate::images::Images;
+use crate::images::{Images, grid_in, shared_copy};
 use crate::refused::OpenError;
 use core_dispatch::Dispatcher;
 use grid_core::{Grid, Memory};
@@ -21,24 +21,29 @@ use std::sync::{Arc, Wait};
 use stroke_lattice::State;
 
 impl Keeper {
-    /// A keeper that shows the core as it is, with places for so many eyes.
+    /// A keeper that shows the core as it is, with places for so many eyes. Mask and image are copied into spare memory,
+    /// where there is some of their size.
     ///
     /// Errors: out of memory, with the dispatcher handed back.
     pub(crate) fn open<R: Wait>(
         rt: &R,
         alloc: Global,
         dispatcher: Dispatcher,
+        spares: Vec<Vec<u16>>,
         eyes: usize,
     ) -> Result<Keeper, Dispatcher>
         requires eyes { (1 ≤ eyes) × (eyes ≤ 16) }
         ensures first { IfOk result (IsFirst dispatcher) }
         ensures returned { IfErr result (λ d. d ≡ dispatcher) }
     {
-        let Ok(mask) = copy_of(alloc, dispatcher.core().mask()) else {
+        let mut spares = spares;
+        let for_mask = next_spare(&mut spares, dispatcher.core());
+        let Ok(mask) = shared_copy(alloc, for_mask, dispatcher.core().mask()) else {
             return Err(dispatcher);
         };
         let mut images = Images::new(alloc);
-        let Ok(shot) = first_shot(alloc, &mut images, &mask, dispatcher.core()) else {
+        let for_image = next_spare(&mut spares, dispatcher.core());
+        let Ok(shot) = first_shot(alloc, &mut images, for_image, &mask, dispatcher.core()) else {
             return Err(dispatcher);
         };
         match Publisher::open(rt, alloc, shot, eyes) {
@@ -154,14 +159,9 @@ fn eyes_of(alloc: Global, publisher: &mut Publisher, count: usize) -> Result<Vec
     Ok(eyes)
 }
 
-// A copy of a grid, to be shared.
-//
-// Errors: out of memory.
-fn copy_of(alloc: Global, grid: &Grid) -> Result<Arc<Grid>, Memory>
-    ensures { IfOk result (λ copy. arc_value copy ≡ grid.now) }
-{
-    let copy = grid.copy(alloc)?;
-    Ok(Arc::new(alloc, copy)?)
+// A grid in the next spare memory, where that is of the size of the core's mask.
+fn next_spare(spares: &mut Vec<Vec<u16>>, core: &Core) -> Option<Grid> {
+    grid_in(spares.pop()?, core.mask())
 }
 
 // A copy of the strokes of a core, to be shared.
@@ -182,6 +182,7 @@ fn strokes_of(alloc: Global, core: &Core) -> Result<Arc<State>, Memory>
 fn first_shot(
     alloc: Global,
     images: &mut Images,
+    spare: Option<Grid>,
     mask: &Arc<Grid>,
     core: &Core,
 ) -> Result<Shot, Memory>
@@ -191,7 +192,7 @@ fn first_shot(
 {
     let shared = Arc::try_clone(mask)?;
     let state = strokes_of(alloc, core)?;
-    let image = images.copy(core.image())?;
+    let image = images.copy_over(spare, core.image())?;
     Ok(shot_of(core, shared, state, image))
 }
 

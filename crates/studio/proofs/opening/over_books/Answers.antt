@@ -2,7 +2,7 @@ use Rattle.std.proofs.Common.{sym, ap, ◌∙◌, subst}
 use Rattle.core_dispatch.specs.Dispatching.{books_by, owner_by}
 use Rattle.studio.specs.Opening.{IsNewOwner}
 use Rattle.studio.proofs.Beginnings.{eyes_kept, shown_once_kept, new_owner}
-use Rattle.studio.proofs.opening.open_over.Goals as goal
+use Rattle.studio.proofs.opening.over_books.Goals as goal
 
 pub returns-in-Ok-eyes-clause-over : goal.returns-in-Ok-eyes-clause-over
 returns-in-Ok-eyes-clause-over g c =

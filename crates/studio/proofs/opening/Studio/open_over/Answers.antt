@@ -2,11 +2,11 @@ use Rattle.std.proofs.Common.{sym, ap, ◌∙◌, subst}
 use Rattle.pen_desks.specs.Books.{ledger}
 use Rattle.pen_desks.specs.Pens.{HasItsDesk}
 use Rattle.studio.specs.Opening.{HasShownOnce, IsOpened}
-use Rattle.studio.proofs.opening.Studio.open.Goals as goal
+use Rattle.studio.proofs.opening.Studio.open_over.Goals as goal
 
-pub returns-in-Ok-open_over-clause-opened : goal.returns-in-Ok-open_over-clause-opened
-returns-in-Ok-open_over-clause-opened g c =
-    let over = c.in-Ok-open_over.ensures.over in
+pub returns-in-Ok-over_books-clause-opened : goal.returns-in-Ok-over_books-clause-opened
+returns-in-Ok-over_books-clause-opened g c =
+    let over = c.in-Ok-over_books.ensures.over in
     let opened = c.in-Ok.ensures in
     let same = over.books_are in
     subst (IsOpened c.args.core c.args.pens c.args.hands c.args.eyes) (sym c.with_pens.ensures) (record {
@@ -19,5 +19,5 @@ returns-in-Ok-open_over-clause-opened g c =
       owner = over.owner;
       hands_are = over.hands_are;
       eyes_are = over.eyes_are;
-      shown = subst (HasShownOnce c.in-Ok-open_over.over.keeper) opened.core over.shown;
+      shown = subst (HasShownOnce c.in-Ok-over_books.over.keeper) opened.core over.shown;
     })
