@@ -3,10 +3,11 @@ use Rattle.std.specs.Prelude.{◌≡◌, ◌⊎◌, ◌↔◌, ℕ, List}
 use Rattle.grid_core.specs.declared.conn.Conn.{Conn}
 use Rattle.pgm_codec.specs.Graymap.{Graymap}
 use Rattle.pgm_codec.specs.Writing.{raw_text}
-use Rattle.stroke_lattice.specs.State.{State}
+use Rattle.stroke_lattice.specs.State.{State, StateFits}
 use Rattle.stroke_lattice.specs.Pieces.{pieces_of}
 use Rattle.derived_views.specs.Shown.{IsShown}
 use Rattle.paint_session.specs.Kept.{print_of, kept_text, FileSpells, IsGathered, KeptStops}
+use Rattle.paint_session.specs.declared.gathering.Gathered.{Gathered}
 use Rattle.paint_session.specs.declared.run_error.RunError.{RunError}
 use Rattle.paint_session.specs.declared.run_error.RunError.TheVariants.{Studio}
 use Rattle.paint_session.specs.declared.run_error.StudioFault.{StudioFault}
@@ -18,6 +19,12 @@ use Rattle.studio.specs.declared.refused.OpenError.{OpenError}
 use Rattle.studio.specs.declared.refused.OpenError.TheVariants as opening
 use Rattle.link_nodes.specs.Links.{LinkSeen}
 use Rattle.node_session.specs.Given.{HasGiven, ComesFrom}
+
+-- what is gathered of the old bytes and an input: a mask, its fingerprint, and the join of the strokes, which fit it
+pub record IsGatheredFrom (conn : Conn) (old input : List ℕ) (found : Gathered) : Type 0 where
+  pub gathered : IsGathered conn old input found.mask found.state
+  pub print : found.print ≡ print_of found.mask
+  pub fits : StateFits found.mask.raster.width found.mask.raster.height found.state
 
 -- the image shows a state on the input's mask, which the new bytes spell; it comes from the join of the deltas of the
 -- old bytes and of the input, and from frames for this mask among the datagrams

@@ -16,6 +16,7 @@
 mod desk;
 mod ending;
 mod faults;
+mod gathering;
 mod hands;
 pub mod network;
 mod pace;

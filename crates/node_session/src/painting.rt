@@ -10,6 +10,7 @@ ghost use Rattle.spd_codec.specs.StateFile.{SpellsFile, file_text, frames_of};
 ghost use Rattle.spd_codec.specs.Spelling.{max_bytes};
 ghost use Rattle.derived_views.specs.Shown.{IsShown};
 ghost use Rattle.core_rules.specs.Work.{IsQuiet};
+ghost use Rattle.reset_core.specs.Blanks.{AreBlanks};
 ghost use Rattle.reset_core.specs.Starting.{IsBegunWith};
 ghost use Rattle.paint_session.specs.RunError.{IsReadingFault};
 ghost use Rattle.paint_session.specs.declared.run_error.RunError.TheVariants as errors;
@@ -19,14 +20,16 @@ ghost use Rattle.studio.specs.Opening.{IsCount};
 ghost use Rattle.node_session.specs.Given.{HasGiven};
 ghost use Rattle.node_session.specs.Working.{IsCoreOf};
 
+use crate::gathering::{Start, gather_in_memory};
 use crate::sharing::{Room, Sharing, share};
 use band_growth::ManyThreads;
 use grid_core::{Conn, Memory};
 use link_nodes::Link;
-use paint_session::gathering::{Gathered, gather};
+use paint_session::gathering::Gathered;
 use paint_session::run_error::RunError;
 use pgm_codec::{Image, below_keeps_maxval};
-use reset_core::Core;
+use raster_sweeps::Grower;
+use reset_core::{Blanks, Core};
 use spd_codec::{Print, write_frames};
 use std::alloc::Global;
 use std::sync::Wait;
@@ -62,38 +65,46 @@ pub(crate) fn paint<R: Threads + Wait + Clock + Sync, L: Link>(
     ensures refused { IfErr result (λ e. IsReadingFault e
         ⊎ NodeStops plan.conn plan.room.hands old.now input.now e) }
 {
-    let gathered = gather(alloc, input, old, plan.conn)?;
+    let grower = ManyThreads::new(rt);
+    let start = gather_in_memory(&grower, alloc, input, old, plan.conn)?;
+    let Start {
+        gathered,
+        blanks,
+        spares,
+    } = start;
     let Gathered { mask, print, state } = gathered;
     let maxval = mask.maxval();
-    let core = core_of(rt, alloc, mask, state, plan)?;
+    let core = core_of(&grower, alloc, mask, blanks, state, plan)?;
     let sharing = Sharing {
         conn: plan.conn,
         print,
         room: plan.room,
     };
-    let shared = share(rt, alloc, core, sharing, link)?;
+    let shared = share(rt, alloc, core, spares, sharing, link)?;
     let quiet = settled(alloc, shared)?;
     spelled(alloc, quiet, maxval, &print)
 }
 
 // A core of the mask that begins with these strokes, which fit it, so that memory alone can be wanting. Its image is
-// grown at once, by as many threads as there are processors.
-fn core_of<R: Threads + Sync>(
-    rt: &R,
+// grown at once, by `grower`.
+fn core_of<G: Grower>(
+    grower: &G,
     alloc: Global,
     mask: Image,
+    blanks: Option<Blanks>,
     state: State,
     plan: Plan,
 ) -> Result<Core, Memory>
+    requires blank { AreBlanks blanks }
     requires side { IsTileSide plan.side }
     requires fits { StateFits mask.raster.width mask.raster.height state }
     ensures { IfOk result (IsBegunWith mask.raster plan.conn plan.side 0 state) }
 {
-    let grower = ManyThreads::new(rt);
     match Core::over_state(
-        &grower,
+        grower,
         alloc,
         mask.into_grid(),
+        blanks,
         plan.conn,
         plan.side,
         0,

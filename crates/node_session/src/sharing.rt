@@ -46,12 +46,14 @@ pub(crate) struct Sharing {
 }
 
 /// Shares a core over the link, and gives it back once all hands have ended and the studio is closed. Work may be left.
+/// What is shown first is copied into the spare memory.
 ///
 /// Errors: U1 to U3 and B1 to B3.
 pub(crate) fn share<R: Threads + Wait + Clock + Sync, L: Link>(
     rt: &R,
     alloc: Global,
     core: Core,
+    spares: Vec<Vec<u16>>,
     sharing: Sharing,
     link: &mut L,
 ) -> Result<Core, RunError>
@@ -62,7 +64,7 @@ pub(crate) fn share<R: Threads + Wait + Clock + Sync, L: Link>(
 {
     let room = sharing.room;
     let hands = room.hands;
-    match Studio::open(rt, alloc, core, 1, hands, 1) {
+    match Studio::open_over(rt, alloc, core, spares, 1, hands, 1) {
         Ok(studio) => share_in(rt, alloc, studio, sharing, link),
         Err(not_opened) => Err(refusal_of(not_opened)),
     }

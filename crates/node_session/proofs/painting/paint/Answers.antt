@@ -6,10 +6,10 @@ use Rattle.node_session.proofs.Paintings.{begins, same_mask, shown_behind}
 use Rattle.node_session.proofs.Results.{ok_three}
 use Rattle.node_session.proofs.painting.paint.Goals as goal
 
-pub returns-in_err-gathered-clause-refused : goal.returns-in_err-gathered-clause-refused
-returns-in_err-gathered-clause-refused g c =
+pub returns-in_err-start-clause-refused : goal.returns-in_err-start-clause-refused
+returns-in_err-start-clause-refused g c =
     let p = err_from_is_err_and c.from_residual.result c.from_residual.ensures.1 in
-    rw (p.1, p.2) (elim c.in_err-gathered.ensures.refused [
+    rw (p.1, p.2) (elim c.in_err-start.ensures.refused [
       | inl early ↦ inl early
       | inr stops ↦ inr (inl stops)
     ])
@@ -17,24 +17,24 @@ returns-in_err-gathered-clause-refused g c =
 pub returns-in_err-core-clause-refused : goal.returns-in_err-core-clause-refused
 returns-in_err-core-clause-refused g c =
     let p = err_from_is_err_and c.from_residual-in_err-core.result c.from_residual-in_err-core.ensures.1 in
-    let found = c.in_ok-gathered.gathered in
-    rw (p.1, p.2) (inr (inl (memory_behind _ _ _ found.mask found.state c.in_ok-gathered.ensures.gathered)))
+    let found = c.in_ok-start.start.gathered in
+    rw (p.1, p.2) (inr (inl (memory_behind _ _ _ found.mask found.state c.in_ok-start.ensures.gathered.gathered)))
 
 pub returns-in_err-shared-clause-refused : goal.returns-in_err-shared-clause-refused
 returns-in_err-shared-clause-refused g c =
     let p = err_from_is_err_and c.from_residual-in_err-shared.result c.from_residual-in_err-shared.ensures.1 in
     rw (p.1, p.2) (inr (inr (
-      c.in_ok-gathered.gathered.mask,
-      c.in_ok-gathered.gathered.state,
-      c.in_ok-gathered.ensures.gathered,
+      c.in_ok-start.start.gathered.mask,
+      c.in_ok-start.start.gathered.state,
+      c.in_ok-start.ensures.gathered.gathered,
       c.in_err-shared.ensures.refused,
     )))
 
 pub returns-in_err-quiet-clause-refused : goal.returns-in_err-quiet-clause-refused
 returns-in_err-quiet-clause-refused g c =
     let p = err_from_is_err_and c.from_residual-in_err-quiet.result c.from_residual-in_err-quiet.ensures.1 in
-    let found = c.in_ok-gathered.gathered in
-    rw (p.1, p.2) (inr (inl (memory_behind _ _ _ found.mask found.state c.in_ok-gathered.ensures.gathered)))
+    let found = c.in_ok-start.start.gathered in
+    rw (p.1, p.2) (inr (inl (memory_behind _ _ _ found.mask found.state c.in_ok-start.ensures.gathered.gathered)))
 
 pub spelled-requires-clause-quiet : goal.spelled-requires-clause-quiet
 spelled-requires-clause-quiet g c = c.in_ok-quiet.ensures.quiet
@@ -43,7 +43,7 @@ pub spelled-requires-clause-graymap : goal.spelled-requires-clause-graymap
 spelled-requires-clause-graymap g c =
     let begun = begins _ _ _ _ _ _ c.in_ok-core.ensures in
     let is = c.in_ok-quiet.ensures.same.mask_is ∙ c.in_ok-shared.ensures.shared.mask ∙ begun.mask_is in
-    subst IsGraymap (sym (same_mask _ _ c.in_ok-gathered.gathered.mask is c.maxval-maxval.ensures.value))
+    subst IsGraymap (sym (same_mask _ _ c.in_ok-start.start.gathered.mask is c.maxval-maxval.ensures.value))
     c.maxval-maxval.ensures.is_graymap
 
 pub returns-clause-hands : goal.returns-clause-hands
@@ -56,8 +56,8 @@ returns-clause-polled g c =
 
 pub returns-clause-shown : goal.returns-clause-shown
 returns-clause-shown g c =
-    let found = c.in_ok-gathered.gathered in
-    let gathered = c.in_ok-gathered.ensures in
+    let found = c.in_ok-start.start.gathered in
+    let gathered = c.in_ok-start.ensures.gathered in
     let begun = begins _ _ _ _ _ _ c.in_ok-core.ensures in
     ok_three c.spelled.result _ _ _ _
     (λ parts shown text spells. shown_behind _ _ _ found.mask found.state found.print _ _ _ _ c.in_ok-core.core
@@ -67,7 +67,7 @@ returns-clause-shown g c =
 
 pub returns-clause-refused : goal.returns-clause-refused
 returns-clause-refused g c =
-    let gathered = c.in_ok-gathered.ensures.gathered in
+    let gathered = c.in_ok-start.ensures.gathered.gathered in
     IfErr-weaker c.spelled.result _ _
-    (λ e is. inr (inl (inr (inl (is, c.in_ok-gathered.gathered.mask, gathered.deltas, gathered.spelled)))))
+    (λ e is. inr (inl (inr (inl (is, c.in_ok-start.start.gathered.mask, gathered.deltas, gathered.spelled)))))
     c.spelled.ensures.memory
