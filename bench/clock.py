@@ -11,6 +11,7 @@ mean.
 import argparse
 import os
 import pathlib
+import resource
 import statistics
 import subprocess
 import sys
@@ -36,15 +37,21 @@ class Image(run.Input):
                            subprocess.DEVNULL)
 
 
+def worked():
+    """Seconds of all processors together that ended children took."""
+    used = resource.getrusage(resource.RUSAGE_CHILDREN)
+    return used.ru_utime + used.ru_stime
+
+
 def timed(command, source):
     """Seconds by the clock of one run, its output thrown away, and those of all processors together."""
     with open(source.path, "rb") as reader, open(os.devnull, "wb") as writer:
-        begin, before = time.perf_counter(), os.times()
+        begin, before = time.perf_counter(), worked()
         done = subprocess.run(command, stdin=reader, stdout=writer, check=False)
-        seconds, after = time.perf_counter() - begin, os.times()
+        seconds, work = time.perf_counter() - begin, worked() - before
     if done.returncode != 0:
         run.stop(f"{command} ended with status {done.returncode} on {source.path}")
-    return seconds, (after.children_user - before.children_user) + (after.children_system - before.children_system)
+    return seconds, work
 
 
 def on(processors, command):
