@@ -16,27 +16,29 @@ use crate::size::{Size, row_in};
 use crate::waiting::Waiting;
 use grid_core::{Conn, Rect};
 
-/// The raster scan: row by row from the top, each row from the left, each pixel of the rectangle is raised by its
-/// earlier neighbours there, as far as the mask lets it. A row that is 0 as is the one before it is passed over:
-/// nothing rises there.
+/// The raster scan: row by row from the top, each pixel of the rectangle is raised by its neighbours in the row above,
+/// and then along its row, as far as the mask lets it. A row that is 0 as is the one before it is passed over: nothing
+/// rises there.
+///
+/// Vincent's scan runs along a row from the left alone. To run back from the right as well leaves less for later.
 pub fn scan_down(mask: &[u16], image: &mut [u16], size: Size, rect: Rect, conn: Conn)
     requires { CanClose rect (rows_of size mask.now) (rows_of size image.old) }
     ensures { IsGrown conn rect (rows_of size mask.now) (rows_of size image.old) (rows_of size image.new) }
 {
-    raise_row_from_left(mask, image, size, rect, 0);
+    raise_row_along(mask, image, size, rect, 0);
     let mut dark = is_dark(image, size, rect, 0);
     for y in 1..rect.h {
         if dark && is_dark(image, size, rect, y) {
             continue;
         }
         raise_row_by(mask, image, size, rect, y - 1, y, conn);
-        raise_row_from_left(mask, image, size, rect, y);
+        raise_row_along(mask, image, size, rect, y);
         dark = is_dark(image, size, rect, y);
     }
 }
 
-/// The anti-raster scan, from the last pixel of the rectangle back. After each row those of its pixels that can still
-/// raise the one to their right or one in the row below are put into the queue. A row that is 0 as is the one below it
+/// The anti-raster scan: row by row from the bottom, as [`scan_down`] from the top. After each row those of its pixels
+/// that can still raise the one to their right or one in the row below are put into the queue. A row that is 0 as is the one below it
 /// is passed over: nothing rises there.
 ///
 /// It answers whether there was room for all of them. Where there was not, the rows above are raised and not checked.
@@ -54,7 +56,7 @@ pub fn scan_up(
         (rows_of size image.new) result waiting.new }
 {
     let last = rect.h - 1;
-    raise_row_from_right(mask, image, size, rect, last);
+    raise_row_along(mask, image, size, rect, last);
     let mut all = queue_onward(mask, image, size, rect, last, conn, waiting);
     let mut dark = is_dark(image, size, rect, last);
     for y in (0..last).rev() {
@@ -62,7 +64,7 @@ pub fn scan_up(
             continue;
         }
         raise_row_by(mask, image, size, rect, y + 1, y, conn);
-        raise_row_from_right(mask, image, size, rect, y);
+        raise_row_along(mask, image, size, rect, y);
         dark = is_dark(image, size, rect, y);
         all = all && queue_onward(mask, image, size, rect, y, conn, waiting);
     }
@@ -139,6 +141,17 @@ fn raise_cells_by(limits: &[u16], cells: &mut [u16], source: usize, target: usiz
             conn,
         );
     }
+}
+
+// Raises the pixels of the rectangle's row `y` along the row, from the left and then from the right.
+fn raise_row_along(mask: &[u16], image: &mut [u16], size: Size, rect: Rect, y: u32)
+    requires { CanGrowRow rect (rows_of size mask.now) (rows_of size image.old) y }
+    ensures grown { (conn : _) → IsRowGrown conn rect (rows_of size mask.now) y (rows_of size image.old)
+        (rows_of size image.new) }
+    ensures closed { (conn : _) → NoneOpenToLeft conn rect (rows_of size mask.now) (rows_of size image.new) y }
+{
+    raise_row_from_left(mask, image, size, rect, y);
+    raise_row_from_right(mask, image, size, rect, y);
 }
 
 /// Raises the pixels of the rectangle's row `y`, from the left, by those to their left.

@@ -12,7 +12,7 @@ pub queue_onward-all-requires : goal.queue_onward-all-requires
 queue_onward-all-requires c =
     let size = c.args.size in
     let mask = rows_of size c.args.mask.now in
-    let after = rows_of size c.raise_row_from_right.new.image in
+    let after = rows_of size c.raise_row_along.new.image in
     let conn = c.args.conn in
     let rect = c.args.rect in
     let row : rect.h - 1 < rect.h = omega (arith, c.requires.close.fits.some_height) in
@@ -20,15 +20,15 @@ queue_onward-all-requires c =
       grow =
           record {
             size = c.requires.close.size;
-            filled = (c.raise_row_from_right.ensures.grown conn).grown.filled ∙ c.requires.close.filled;
+            filled = (c.raise_row_along.ensures.grown conn).grown.filled ∙ c.requires.close.filled;
             mask_filled = c.requires.close.mask_filled;
-            below = (c.raise_row_from_right.ensures.grown conn).grown.below;
+            below = (c.raise_row_along.ensures.grown conn).grown.below;
             fits = c.requires.close.fits;
             row = row;
           };
       scanned =
           last_scanned_up conn rect mask after (rect.h - 1) (omega (arith, row))
-          (c.raise_row_from_right.ensures.closed conn);
+          (c.raise_row_along.ensures.closed conn);
     }
 
 pub queue_onward-all-requires-then-all : goal.queue_onward-all-requires-then-all
@@ -37,23 +37,23 @@ queue_onward-all-requires-then-all c =
     let mask = rows_of size c.args.mask.now in
     let conn = c.args.conn in
     let y = c.loop-y.y - 1 in
-    let after = rows_of size c.raise_row_from_right-in-loop-y.new.image in
+    let after = rows_of size c.raise_row_along-in-loop-y.new.image in
     record {
       grow =
           record {
             size = c.requires.close.size;
             filled =
-                (c.raise_row_from_right-in-loop-y.ensures.grown conn).grown.filled
+                (c.raise_row_along-in-loop-y.ensures.grown conn).grown.filled
                 ∙ c.raise_row_by.ensures.grown.grown.filled ∙ c.loop-y.invariant.grown.filled
                 ∙ c.requires.close.filled;
             mask_filled = c.requires.close.mask_filled;
-            below = (c.raise_row_from_right-in-loop-y.ensures.grown conn).grown.below;
+            below = (c.raise_row_along-in-loop-y.ensures.grown conn).grown.below;
             fits = c.requires.close.fits;
             row = omega arith;
           };
       scanned =
           scanned_up conn c.args.rect mask y (rows_of size c.raise_row_by.new.image) after c.raise_row_by.ensures.closed
-          (c.raise_row_from_right-in-loop-y.ensures.grown conn) (c.raise_row_from_right-in-loop-y.ensures.closed conn);
+          (c.raise_row_along-in-loop-y.ensures.grown conn) (c.raise_row_along-in-loop-y.ensures.closed conn);
     }
 
 pub loop-y-init : goal.loop-y-init
@@ -63,9 +63,9 @@ loop-y-init c =
     let image = rows_of size c.args.image.now in
     let conn = c.args.conn in
     let rect = c.args.rect in
-    let after = rows_of size c.raise_row_from_right.new.image in
+    let after = rows_of size c.raise_row_along.new.image in
     let grown : IsRowGrown conn rect mask (rect.h - 1) image after =
-    c.raise_row_from_right.ensures.grown conn in
+    c.raise_row_along.ensures.grown conn in
     record {
       grown = grown.grown;
       inside =
@@ -87,11 +87,11 @@ loop-y-preserved-then-all c =
     let conn = c.args.conn in
     let rect = c.args.rect in
     let before = rows_of size c.loop-y.image in
-    let after = rows_of size c.raise_row_from_right-in-loop-y.new.image in
+    let after = rows_of size c.raise_row_along-in-loop-y.new.image in
     let y = c.loop-y.y - 1 in
     let grown : IsRowGrown conn rect mask y before after =
     row_grown_twice conn rect mask y before (rows_of size c.raise_row_by.new.image) after c.raise_row_by.ensures.grown
-    (c.raise_row_from_right-in-loop-y.ensures.grown conn) in
+    (c.raise_row_along-in-loop-y.ensures.grown conn) in
     let next : c.loop-y.y ≡ y + 1 = omega arith in
     record {
       grown =
@@ -117,11 +117,11 @@ loop-y-preserved c =
     let conn = c.args.conn in
     let rect = c.args.rect in
     let before = rows_of size c.loop-y.image in
-    let after = rows_of size c.raise_row_from_right-in-loop-y.new.image in
+    let after = rows_of size c.raise_row_along-in-loop-y.new.image in
     let y = c.loop-y.y - 1 in
     let grown : IsRowGrown conn rect mask y before after =
     row_grown_twice conn rect mask y before (rows_of size c.raise_row_by.new.image) after c.raise_row_by.ensures.grown
-    (c.raise_row_from_right-in-loop-y.ensures.grown conn) in
+    (c.raise_row_along-in-loop-y.ensures.grown conn) in
     record {
       grown =
           grown_twice conn rect mask image before after c.loop-y.invariant.grown grown.grown;
@@ -135,15 +135,15 @@ pub is_dark-dark-requires-clause-fits : goal.is_dark-dark-requires-clause-fits
 is_dark-dark-requires-clause-fits c =
     let size = c.args.size in
     let mask = rows_of size c.args.mask.now in
-    fits_below c.args.rect mask (rows_of size c.raise_row_from_right.new.image)
-    (c.raise_row_from_right.ensures.grown c.args.conn).grown.below c.requires.close.fits
+    fits_below c.args.rect mask (rows_of size c.raise_row_along.new.image)
+    (c.raise_row_along.ensures.grown c.args.conn).grown.below c.requires.close.fits
 
 pub is_dark-dark-requires-in-loop-y-clause-fits : goal.is_dark-dark-requires-in-loop-y-clause-fits
 is_dark-dark-requires-in-loop-y-clause-fits c =
     let size = c.args.size in
     let mask = rows_of size c.args.mask.now in
-    fits_below c.args.rect mask (rows_of size c.raise_row_from_right-in-loop-y.new.image)
-    (c.raise_row_from_right-in-loop-y.ensures.grown c.args.conn).grown.below c.requires.close.fits
+    fits_below c.args.rect mask (rows_of size c.raise_row_along-in-loop-y.new.image)
+    (c.raise_row_along-in-loop-y.ensures.grown c.args.conn).grown.below c.requires.close.fits
 
 pub loop-y-preserved-then-is_dark : goal.loop-y-preserved-then-is_dark
 loop-y-preserved-then-is_dark c =
