@@ -12,9 +12,10 @@
 //! is_closed(&mask, &image, Conn::Four);                   // true: no pixel can raise a neighbour further
 //! ```
 //!
-//! It has the hybrid form of that paper: a raster scan raises each pixel by those before it, an anti-raster scan by
-//! those after it, and what can then still be raised goes through a queue, a list for each strip of 32 rows. Where a
-//! list is full, it goes back to the scans. A corridor that leads up or down is followed without the queue.
+//! It has the hybrid form of that paper: a raster scan raises each row by the one above it, an anti-raster scan by the
+//! one below it, each then along the row both ways, and what can then still be raised goes through a queue, a list for
+//! each strip of 32 rows. Where a list is full, it goes back to the scans. A corridor that leads up or down is followed
+//! without the queue.
 //!
 //! [`grow_in_place`] does the same to an image that is there already, and [`grow_within`] inside a rectangle of one,
 //! where it leaves every pixel outside as it was. That takes no memory: the caller lends it a [`Room`], and may use

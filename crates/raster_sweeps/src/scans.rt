@@ -38,8 +38,8 @@ pub fn scan_down(mask: &[u16], image: &mut [u16], size: Size, rect: Rect, conn: 
 }
 
 /// The anti-raster scan: row by row from the bottom, as [`scan_down`] from the top. After each row those of its pixels
-/// that can still raise the one to their right or one in the row below are put into the queue. A row that is 0 as is the one below it
-/// is passed over: nothing rises there.
+/// that can still raise the one to their right or one in the row below are put into the queue. A row that is 0 as is
+/// the one below it is passed over: nothing rises there.
 ///
 /// It answers whether there was room for all of them. Where there was not, the rows above are raised and not checked.
 pub fn scan_up(

@@ -21,8 +21,8 @@ use std::sync::{Arc, Wait};
 use stroke_lattice::State;
 
 impl Keeper {
-    /// A keeper that shows the core as it is, with places for so many eyes. Mask and image are copied into spare memory,
-    /// where there is some of their size.
+    /// A keeper that shows the core as it is, with places for so many eyes. Mask and image are copied into spare
+    /// memory, where there is some of their size.
     ///
     /// Errors: out of memory, with the dispatcher handed back.
     pub(crate) fn open<R: Wait>(
