@@ -1,8 +1,5 @@
 //! Boards in one thread.
 
-ghost use Rattle.std.specs.Prelude.{◌≡◌};
-ghost use Rattle.live_board.specs.Seats.{IsKeeperOf, ground_of};
-ghost use Rattle.live_board.specs.Words.{mask_of};
 ghost use Rattle.board_tests.specs.Company.{AreOf};
 
 use crate::chance::draw;

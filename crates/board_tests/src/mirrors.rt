@@ -1,6 +1,6 @@
 //! Boards that follow a core.
 
-ghost use Rattle.std.specs.Prelude.{◌≡◌, ◌≤◌};
+ghost use Rattle.std.specs.Prelude.{◌≤◌};
 ghost use Rattle.live_board.specs.Words.{max_generation};
 ghost use Rattle.board_tests.specs.Company.{AreOf};
 

@@ -1,6 +1,6 @@
 //! Masks, markers, and what grows from them.
 
-ghost use Rattle.std.specs.Prelude.{IfSome, ◌≡◌};
+ghost use Rattle.std.specs.Prelude.{IfSome};
 ghost use Rattle.grid_core.specs.Raster.{IsBelow};
 
 use grid_core::{Conn, Grid, Pixel};

@@ -1,9 +1,9 @@
 //! Boards that are opened for a test, and what their seats do.
 
-ghost use Rattle.std.specs.Prelude.{All, IfSome, ◌<◌, ◌≡◌, ◌≤◌};
+ghost use Rattle.std.specs.Prelude.{All, IfSome, ◌<◌, ◌≤◌};
 ghost use Rattle.grid_core.specs.Raster.{IsBelow};
-ghost use Rattle.live_board.specs.Seats.{IsHandOf, IsKeeperOf, IsPeekOf, ground_of};
-ghost use Rattle.live_board.specs.Words.{mask_of, max_generation};
+ghost use Rattle.live_board.specs.Seats.{IsHandOf, IsKeeperOf, IsPeekOf};
+ghost use Rattle.live_board.specs.Words.{max_generation};
 ghost use Rattle.board_tests.specs.Company.{AreOf, IsReady};
 
 use grid_core::{Conn, Grid, Pixel};

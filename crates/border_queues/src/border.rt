@@ -1,10 +1,9 @@
 //! The walk along a tile's border.
 
-ghost use Rattle.std.specs.Prelude.{◌≡◌, ◌+◌, ◌*◌, ◌<◌, ◌≤◌, [], ◌∷◌, true, if◌then◌else◌};
-ghost use Rattle.std.specs.Prelude.{IsTrue, ◌↔◌, ◌++◌};
-ghost use Rattle.std.specs.List.{flat_map};
+ghost use Rattle.std.specs.Prelude.{◌≡◌, ◌+◌, ◌*◌, ◌<◌, ◌≤◌, [], ◌∷◌, true};
+ghost use Rattle.std.specs.Prelude.{IsTrue, ◌↔◌};
 ghost use Rattle.grid_core.specs.declared.conn.Conn.TheVariants.{Eight, Four};
-ghost use Rattle.grid_core.specs.Raster.{IsInside, value_at};
+ghost use Rattle.grid_core.specs.Raster.{IsInside};
 ghost use Rattle.grid_core.specs.Rects.{IsInRect};
 ghost use Rattle.grid_core.specs.Rows.{pixel_if};
 ghost use Rattle.border_queues.specs.Waiting.{Adds, AddsWithin};

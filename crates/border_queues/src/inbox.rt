@@ -1,7 +1,7 @@
 //! Hints that wait.
 
-ghost use Rattle.std.specs.Prelude.{◌≡◌, ◌+◌, ◌<◌, ◌≤◌, ◌↔◌, [], ◌∷◌, ◌++◌, length, remove, slice_get};
-ghost use Rattle.std.specs.Prelude.{IsOk, IsSome, OnOk, OnErr, IfErr, OnSome, IfNone, IsTrue};
+ghost use Rattle.std.specs.Prelude.{◌≡◌, ◌+◌, ◌<◌, ◌≤◌, ◌↔◌, [], ◌∷◌, length, remove, slice_get};
+ghost use Rattle.std.specs.Prelude.{IsOk, OnOk, OnErr, IfErr, OnSome, IfNone, IsTrue};
 ghost use Rattle.border_queues.specs.Waiting.{Adds};
 
 use crate::error::QueueError;

@@ -1,6 +1,6 @@
 //! Lines: from the words of a line to its delta.
 
-ghost use Rattle.std.specs.Prelude.{◌≡◌, ◌⊎◌, Ok, Err, Some, IfOk, option_map};
+ghost use Rattle.std.specs.Prelude.{◌≡◌, Ok, Err, Some, IfOk, option_map};
 ghost use Rattle.edit_lang.specs.Lines.{words_of};
 ghost use Rattle.edit_lang.specs.Edit.{Withdraw, three_of, runs_edit, disc_edit, withdrawal};
 ghost use Rattle.edit_lang.specs.Edit.{runs_placement, disc_placement, edit_named, AnswersEdit, AnswersLine};

@@ -1,7 +1,7 @@
 //! Where a node is among the pieces of a state, each short enough for a frame.
 
-ghost use Rattle.std.specs.Prelude.{◌≡◌, ◌+◌, ◌<◌, ◌≤◌, ◌^◌, ◌∷◌, [], drop, length, Some};
-ghost use Rattle.std.specs.Prelude.{IsTrue, IfOk, IfNone, IfSome, MatchOption};
+ghost use Rattle.std.specs.Prelude.{◌≡◌, ◌+◌, ◌<◌, ◌≤◌, ◌^◌, [], drop, length, Some};
+ghost use Rattle.std.specs.Prelude.{IsTrue, IfOk, IfNone, IfSome};
 ghost use Rattle.stroke_lattice.specs.Pieces.{frame_length};
 ghost use Rattle.stroke_lattice.specs.Places.{pieces_from, pieces_behind};
 ghost use Rattle.spd_codec.specs.Spelling.{max_bytes};

@@ -1,7 +1,6 @@
 //! What painting leaves on the values of a row.
 
 ghost use Rattle.std.specs.Prelude.{◌≡◌, length};
-ghost use Rattle.stroke_core.specs.Seed.{Seed};
 ghost use Rattle.marker_tiles.specs.Painting.{AreBrushed};
 ghost use Rattle.marker_tiles.specs.declared.brush.Brush.{Brush};
 

@@ -1,23 +1,22 @@
 -- What the run of a node says over a store and a network, from what these and the run say.
-use Rattle.std.proofs.Common.{◌≡◌, ◌⊎◌, ℕ, ◌<◌, ◌≤◌, List, Option, Result, Ok, Err, Some, None, inl, inr, refl, sym}
+use Rattle.std.proofs.Common.{◌≡◌, ◌⊎◌, ℕ, ◌≤◌, List, Option, Result, Ok, Err, Some, None, inl, inr, refl, sym}
 use Rattle.std.proofs.Common.{ap, ◌∙◌}
 use Rattle.std.proofs.Common.{subst, arith}
 use Rattle.std.specs.Prelude.{IfSome, IsOk}
-use Rattle.byte_devices.specs.Device.{SourceSeen, SinkSeen, HasRisen, count_after}
+use Rattle.byte_devices.specs.Device.{SourceSeen, SinkSeen, count_after}
 use Rattle.byte_devices.specs.Response.{Responds, TellsDevices}
 use Rattle.byte_devices.specs.Transfer.{IsInputOf}
-use Rattle.byte_devices.proofs.Shared.{TellsDevices-wider}
 use Rattle.grid_core.specs.declared.conn.Conn.{Conn}
 use Rattle.link_nodes.specs.Links.{LinkSeen}
 use Rattle.paint_session.specs.RunError.{IsReadingFault, IsTransferFault}
-use Rattle.paint_session.specs.Serving.{IsKeptIn, IsStoreFault, Serves, TellsStore}
+use Rattle.paint_session.specs.Serving.{IsKeptIn, Serves, TellsStore}
 use Rattle.paint_session.specs.Store.{AreSame, Held, StoreSeen}
 use Rattle.paint_session.specs.declared.run_error.RunError.{RunError}
 use Rattle.paint_session.specs.declared.run_error.RunError.TheVariants.{Link, Memory, StateFile}
 use Rattle.paint_session.proofs.Shared.{input_is_no_file, kept_stops_of_input, reading_is_no_file, transfer_is_no_file}
 use Rattle.paint_session.proofs.StoredViews.{load_fault, store_unloaded, store_shown}
-use Rattle.node_session.specs.Network.{Binds, NetworkSeen, TellsNetwork}
-use Rattle.node_session.specs.Shared.{IsNodeView, IsSharedView, NodeStops, StudioFails}
+use Rattle.node_session.specs.Network.{NetworkSeen, TellsNetwork}
+use Rattle.node_session.specs.Shared.{IsNodeView, IsSharedView, NodeStops}
 use Rattle.node_session.specs.Stored.{IsHeldFor, IsNodeFault, IsStoredNode, LoadsFor, SavesFor, StoredNodeStops}
 use Rattle.node_session.specs.Stored.{to_keep}
 

@@ -1,6 +1,6 @@
 //! What a node begins with, and the memory in which it does.
 
-ghost use Rattle.std.specs.Prelude.{◌≡◌, ◌⊎◌, IfOk, IfErr};
+ghost use Rattle.std.specs.Prelude.{◌⊎◌, IfOk, IfErr};
 ghost use Rattle.reset_core.specs.Blanks.{AreBlanks};
 ghost use Rattle.paint_session.specs.Kept.{KeptStops};
 ghost use Rattle.paint_session.specs.RunError.{IsReadingFault};

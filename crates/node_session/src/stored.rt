@@ -1,6 +1,6 @@
 //! A view that is shared by a node, over a state file or over none.
 
-ghost use Rattle.std.specs.Prelude.{◌≡◌, option_map, IfErr, IfOk, IsErrOf};
+ghost use Rattle.std.specs.Prelude.{◌≡◌, option_map, IfErr, IsErrOf};
 ghost use Rattle.grid_core.specs.Tiles.{IsTileSide};
 ghost use Rattle.paint_session.specs.Serving.{AnswersOverStore};
 ghost use Rattle.paint_session.specs.declared.run_error.RunError.TheVariants as errors;

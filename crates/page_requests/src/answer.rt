@@ -1,6 +1,6 @@
 //! What every answer carries.
 
-ghost use Rattle.std.specs.Prelude.{◌≡◌, [], ◌++◌, codes, IsTrue, OnOk, OnErr};
+ghost use Rattle.std.specs.Prelude.{◌≡◌, [], IsTrue, OnOk, OnErr};
 ghost use Rattle.http_header.specs.FieldValue.{is_visible_text};
 ghost use Rattle.http_server.specs.Response.{IsBlank, IsResponse, fields_of};
 ghost use Rattle.page_requests.specs.Answering.{media_text, answer_fields, refusal_fields, status_of, words_of};

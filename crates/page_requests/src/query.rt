@@ -1,6 +1,6 @@
 //! Queries.
 
-ghost use Rattle.std.specs.Prelude.{◌≡◌, ℕ, Some, IfSome, IfNone};
+ghost use Rattle.std.specs.Prelude.{ℕ, Some, IfSome, IfNone};
 ghost use Rattle.page_requests.specs.Table.{IsDecimal, Spells};
 ghost use Rattle.page_requests.specs.declared.table.Moment.{Moment as Since};
 

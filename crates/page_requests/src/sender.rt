@@ -3,7 +3,7 @@
 ghost use Rattle.std.specs.Prelude.{◌≡◌, ◌↔◌, [], ◌∷◌, IsTrue, IfSome, IfNone, IfErr, OnOk};
 ghost use Rattle.http_header.specs.FieldValue.{FieldValue};
 ghost use Rattle.http_header.specs.HeaderMap.{get_all};
-ghost use Rattle.page_requests.specs.Sender.{IsToUs, IsFromUs, MayAsk};
+ghost use Rattle.page_requests.specs.Sender.{IsFromUs, MayAsk};
 ghost use Rattle.page_requests.specs.Refusing.{IsTurnedAway};
 
 use crate::hosts::Hosts;

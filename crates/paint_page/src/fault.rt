@@ -1,6 +1,6 @@
 //! Want of memory among faults.
 
-ghost use Rattle.std.specs.Prelude.{◌≡◌, ◌↔◌, IsTrue};
+ghost use Rattle.std.specs.Prelude.{◌↔◌, IsTrue};
 ghost use Rattle.paint_session.specs.RunError.{IsMemory};
 
 use core_rules::CoreError;

@@ -1,6 +1,5 @@
 //! The service of a page, with its share of settling.
 
-ghost use Rattle.std.specs.Prelude.{◌≡◌};
 ghost use Rattle.paint_serve.specs.Page.{PageAnswers, PageGrows, PageSpells, HasPageWork, page_version};
 ghost use Rattle.paint_serve.specs.Page.{calls_count, works_count};
 

@@ -1,6 +1,6 @@
 //! Merging deltas, one after another, into the state of an image.
 
-ghost use Rattle.std.specs.Prelude.{◌≡◌, ◌++◌, IfOk, IfErr, OnOk, List, map};
+ghost use Rattle.std.specs.Prelude.{◌++◌, IfOk, IfErr, OnOk, map};
 ghost use Rattle.stroke_lattice.specs.State.{State, StateFits, IsJoin};
 ghost use Rattle.paint_session.specs.Merging.{AreMerged, IsStop, IsKeptOut, LeadsOn, StopsBehind};
 

@@ -3,7 +3,6 @@
 ghost use Rattle.std.specs.Prelude.{◌≡◌, ◌≤◌, ◌<◌, ℕ, [], length, map, replicate, IfOk, IfErr};
 ghost use Rattle.pen_desks.specs.Books.{IsFaithful, ledger, edits_of};
 ghost use Rattle.pen_desks.specs.Pens.{submitted, HasItsDesk};
-ghost use Rattle.pen_desks.specs.Rings.{ring_room};
 
 use crate::desk::PenDesk;
 use crate::pen::{Pen, RING};

@@ -1,5 +1,5 @@
 //! The header of a file: its magic, the sides and maxval.
-ghost use Rattle.std.specs.Prelude.{◌≡◌, ◌*◌, ◌<◌, ◌≤◌, IfOk};
+ghost use Rattle.std.specs.Prelude.{◌*◌, ◌<◌, ◌≤◌, IfOk};
 ghost use Rattle.grid_core.specs.Raster.{IsImageSize, max_side};
 ghost use Rattle.pgm_codec.specs.Spelling.{width_fault, height_fault, maxval_fault};
 ghost use Rattle.pgm_codec.specs.Reading.{Gives, field_at, good_field_at, magic_at, magic_end};

@@ -1,15 +1,13 @@
 //! The check of rows for open pairs: neighbours of which the first can still raise the second, as far as the mask lets
 //! it. The first pixels of such pairs are put into the queue.
 
-ghost use Rattle.std.specs.Prelude.{◌≡◌, ℕ, ◌+◌, ◌<◌, ◌≤◌, ◌⊎◌, [], length, min, IsTrue};
+ghost use Rattle.std.specs.Prelude.{ℕ, ◌+◌, ◌<◌, min, IsTrue};
 ghost use Rattle.grid_core.specs.declared.conn.Conn.TheVariants as conns;
-ghost use Rattle.grid_core.specs.Neighbours.{apart};
-ghost use Rattle.grid_core.specs.Raster.{IsBelow, IsInside, max_pixels};
-ghost use Rattle.grid_core.specs.Rects.{RectFits};
-ghost use Rattle.raster_sweeps.specs.Growth.{AllWait, AreOpen, cell_of, CanClose, rows_of};
+ghost use Rattle.grid_core.specs.Raster.{IsInside};
+ghost use Rattle.raster_sweeps.specs.Growth.{CanClose, rows_of};
 ghost use Rattle.raster_sweeps.specs.RowPairs.{AreAside, AreBeside, RaisesStraight, RaisesTo, IsOpenCell, HaveJoined};
 ghost use Rattle.raster_sweeps.specs.RowPairs.{AreFullRowsAt, AreJoined, AreRowsAt, CanGrowAcross, CanGrowRow};
-ghost use Rattle.raster_sweeps.specs.RowPairs.{IsFirstOfRow, IsFromTo, IsScannedUp, IsUpper, NoneOpenToLeft};
+ghost use Rattle.raster_sweeps.specs.RowPairs.{IsFromTo, IsScannedUp, IsUpper, NoneOpenToLeft};
 
 use crate::rows::{are_closed_onward, is_closed_straight};
 use crate::size::{Size, first_cell, row_in};

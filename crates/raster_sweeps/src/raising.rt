@@ -1,14 +1,10 @@
 //! Spreading: a cell that waits raises the cells around it, and those that rise wait in turn.
 
-ghost use Rattle.std.specs.Prelude.{◌≡◌, ◌+◌, ◌<◌, ◌≤◌, ◌⊎◌, ◌∷◌, [], length, min, slice_index};
-ghost use Rattle.std.specs.Prelude.{Contains, IsTrue};
+ghost use Rattle.std.specs.Prelude.{◌≡◌, ◌<◌, ◌⊎◌, ◌∷◌, length, min};
+ghost use Rattle.std.specs.Prelude.{IsTrue};
 ghost use Rattle.grid_core.specs.Bounds.{LieIn};
-ghost use Rattle.grid_core.specs.Path.{domain_of};
-ghost use Rattle.grid_core.specs.Raster.{IsBelow, IsFilled, value_at, headroom};
-ghost use Rattle.grid_core.specs.Reconstruction.{IsClosed};
-ghost use Rattle.grid_core.specs.Rects.{RectFits, domain_in, part};
-ghost use Rattle.raster_sweeps.specs.Growth.{AllWait, AreInside, AreOpen, IsCellIn, IsGrown, CanClose};
-ghost use Rattle.raster_sweeps.specs.Spans.{AreQueued, InSpan, IsAround, IsCell, IsOnCross, IsRaised, AreSpread};
+ghost use Rattle.raster_sweeps.specs.Growth.{AllWait, AreInside, CanClose};
+ghost use Rattle.raster_sweeps.specs.Spans.{InSpan, IsAround, IsCell, IsOnCross, AreSpread};
 ghost use Rattle.raster_sweeps.specs.Growth.{CellHasSpread, IsDrained, IsPixelOf, rows_of};
 ghost use Rattle.raster_sweeps.specs.OpenBounds.{IsRaisedFrom};
 

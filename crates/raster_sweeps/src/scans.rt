@@ -2,10 +2,9 @@
 //! Analysis", 1993).
 
 ghost use Rattle.std.specs.Prelude.{◌≡◌, ◌<◌, ◌↔◌, [], length, IsTrue};
-ghost use Rattle.grid_core.specs.Neighbours.{apart};
-ghost use Rattle.grid_core.specs.Raster.{IsBelow, IsSized};
+ghost use Rattle.grid_core.specs.Raster.{IsSized};
 ghost use Rattle.grid_core.specs.Rects.{RectFits};
-ghost use Rattle.raster_sweeps.specs.Growth.{AllWait, AreInside, IsGrown, CanClose, IsScannedInto, rows_of};
+ghost use Rattle.raster_sweeps.specs.Growth.{IsGrown, CanClose, IsScannedInto, rows_of};
 ghost use Rattle.raster_sweeps.specs.RowPairs.{CanGrowAcross, CanGrowRow, IsDark, IsFromTo, IsGreatest};
 ghost use Rattle.raster_sweeps.specs.RowPairs.{NoneOpen, NoneOpenToLeft};
 ghost use Rattle.raster_sweeps.specs.RowRaises.{AreApart, AreCellsRaised, IsRowGrown};

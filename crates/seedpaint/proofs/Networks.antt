@@ -1,5 +1,5 @@
 -- What calls leave of a network, and which of them may give D3.
-use Rattle.std.proofs.Common.{◌≡◌, ◌⊎◌, ℕ, ◌<◌, List, Option, Result, Ok, Err, Some, None, inl, inr, refl, ap, subst}
+use Rattle.std.proofs.Common.{◌≡◌, ◌⊎◌, ℕ, List, Option, Result, Ok, Err, Some, None, inl, inr, ap, subst}
 use Rattle.std.proofs.Common.{arith}
 use Rattle.std.specs.Prelude.{IfErr, true}
 use Rattle.byte_devices.specs.Device.{SinkSeen, SourceSeen}
@@ -9,7 +9,7 @@ use Rattle.paint_session.specs.RunError.{IsReadingFault, IsTransferFault}
 use Rattle.paint_session.specs.Serving.{AnswersOverStore, IsStoreFault, StoredStops}
 use Rattle.paint_session.specs.Store.{Held, StoreSeen}
 use Rattle.paint_session.specs.declared.run_error.RunError.{RunError}
-use Rattle.paint_session.specs.declared.run_error.RunError.TheVariants.{Link, Memory, Usage}
+use Rattle.paint_session.specs.declared.run_error.RunError.TheVariants.{Link, Usage}
 use Rattle.paint_session.proofs.Shared.{is_of_input, kept_stops_of_input}
 use Rattle.node_session.specs.Network.{NetworkSeen, TellsNetwork}
 use Rattle.node_session.specs.Shared.{NodeStops}

@@ -1,7 +1,6 @@
 //! Who looks, and what is seen.
 
 ghost use Rattle.std.specs.Prelude.{◌≡◌, ◌∷◌, []};
-ghost use Rattle.std.specs.Arc.{arc_value};
 ghost use Rattle.std.specs.Coded.{Coded-set, coded_list};
 ghost use Rattle.left_right.specs.Sides.{view};
 ghost use Rattle.shot_chain.specs.contracts.shot.Shot as shot_row;

@@ -1,6 +1,5 @@
 //! The rule of what is published, and what each step tells.
 
-ghost use Rattle.std.specs.Prelude.{◌≡◌};
 ghost use Rattle.shot_chain.specs.Publishing.{IsShown, Looks, Shows, newcomer};
 
 use crate::prefix::Prefix;

@@ -1,6 +1,5 @@
 //! What is published.
 
-ghost use Rattle.std.specs.Prelude.{◌≡◌};
 ghost use Rattle.std.specs.Arc.{arc_value};
 
 use crate::prefix::Prefix;

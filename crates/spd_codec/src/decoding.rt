@@ -1,5 +1,5 @@
 //! Reading a frame, from left to right.
-ghost use Rattle.std.specs.Prelude.{◌≡◌, ◌⊎◌, ◌↔◌, ◌<◌, List, ℕ, Ok, IfOk, IfErr, IsErrOf, length};
+ghost use Rattle.std.specs.Prelude.{◌≡◌, ◌⊎◌, ◌↔◌, ◌<◌, Ok, IfOk, IfErr, IsErrOf, length};
 ghost use Rattle.spd_codec.specs.declared.error.SpdError.TheVariants as errors;
 ghost use Rattle.spd_codec.specs.declared.frame.Frame.{Frame as Read};
 ghost use Rattle.spd_codec.specs.Spelling.{max_bytes, SpellsFrame};

@@ -1,5 +1,4 @@
 //! Fields of a fixed size, read from left to right.
-ghost use Rattle.std.specs.Prelude.{◌≡◌};
 ghost use Rattle.spd_codec.specs.Reading.{Gives, Reads, byte_value, taken_at, short_at, tag_at, conn_at, print_at};
 ghost use Rattle.spd_codec.specs.Reading.{magic_at, kind_at, end_at};
 

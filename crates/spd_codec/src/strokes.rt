@@ -1,7 +1,7 @@
 //! Strokes and tombstones, read from left to right, each behind the tag of the one before it.
 ghost use Rattle.std.specs.Prelude.{◌≡◌, ℕ, ◌≤◌, ◌<◌, IfOk};
 ghost use Rattle.stroke_core.specs.Seed.{max_runs};
-ghost use Rattle.stroke_lattice.specs.State.{HasSomeStroke, HasTombstone, nothing};
+ghost use Rattle.stroke_lattice.specs.State.{HasSomeStroke, HasTombstone};
 ghost use Rattle.spd_codec.specs.Faults.{is_behind, count_field};
 ghost use Rattle.spd_codec.specs.Reading.{GivesOrMemory, Reads, ReadsOrMemory, field_at, short_value, level_at};
 ghost use Rattle.spd_codec.specs.Reading.{run_at, run_list_at};

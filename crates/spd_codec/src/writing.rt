@@ -1,9 +1,9 @@
 //! Writing frames.
 ghost use Rattle.std.specs.Prelude.{◌≡◌, [], ◌∷◌, ◌+◌, ◌<◌, ◌≤◌, ◌++◌, ◌⊎◌, ◌↔◌, length, min};
-ghost use Rattle.std.specs.Prelude.{IfOk, IfErr, OnOk, IsErrOf, IsOk};
+ghost use Rattle.std.specs.Prelude.{IfOk, IfErr, OnOk, IsErrOf};
 ghost use Rattle.std.specs.List.{flat_map, sum_by, AllByRecursion};
 ghost use Rattle.stroke_core.specs.declared.run.Run.{Run};
-ghost use Rattle.stroke_core.specs.Seed.{byte_len_of, max_runs};
+ghost use Rattle.stroke_core.specs.Seed.{byte_len_of};
 ghost use Rattle.stroke_lattice.specs.Pieces.{frame_length, strokes_of, tombstones_of};
 ghost use Rattle.spd_codec.specs.declared.error.SpdError.TheVariants as errors;
 ghost use Rattle.spd_codec.specs.declared.version.Version.TheVariants.{Second};

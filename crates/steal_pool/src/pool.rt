@@ -1,6 +1,6 @@
 //! Pools.
 
-ghost use Rattle.std.specs.Prelude.{◌≡◌, ◌≤◌, [], length, replicate, IfOk};
+ghost use Rattle.std.specs.Prelude.{◌≡◌, ◌≤◌, [], replicate, IfOk};
 ghost use Rattle.steal_pool.specs.Views.{fresh};
 
 use crate::hand::{Hand, Thief};

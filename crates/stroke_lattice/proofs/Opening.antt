@@ -9,7 +9,7 @@ use Rattle.stroke_lattice.specs.declared.split.TheConstants.{HEAD_BYTES}
 use Rattle.stroke_lattice.specs.State.{State, nothing}
 use Rattle.stroke_lattice.specs.Pieces.{Item, items_of, item_length, frame_length, with_item, fits}
 use Rattle.stroke_lattice.specs.Pieces.{if_any, filled, pieces_of}
-use Rattle.stroke_lattice.specs.Filling.{Filling, put_in, turned, added, AllBefore, AreInOrder, IsFilling}
+use Rattle.stroke_lattice.specs.Filling.{Filling, put_in, turned, AllBefore, AreInOrder, IsFilling}
 use Rattle.stroke_lattice.specs.Places.{items_from, pieces_from, place_of}
 use Rattle.stroke_lattice.proofs.Items.{items_in_order, items_of_longer, frame_length_of_longer, items_of_nothing}
 use Rattle.stroke_lattice.proofs.Items.{frame_length_of_nothing, before_next, order_behind, order_joined}

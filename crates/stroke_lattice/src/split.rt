@@ -1,6 +1,6 @@
 //! A state in pieces, each small enough for a frame of its own.
 
-ghost use Rattle.std.specs.Prelude.{◌≡◌, ℕ, ◌+◌, ◌≤◌, [], ◌++◌, IfOk, OnOk};
+ghost use Rattle.std.specs.Prelude.{◌≡◌, ◌+◌, ◌≤◌, [], ◌++◌, IfOk, OnOk};
 ghost use Rattle.stroke_core.specs.Seed.{byte_len_of};
 ghost use Rattle.stroke_lattice.specs.State.{nothing};
 ghost use Rattle.stroke_lattice.specs.Filling.{filling, IsMeasured, with_room, CanTake, HasTaken, AreFilled};

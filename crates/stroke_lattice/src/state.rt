@@ -34,7 +34,6 @@ pub struct State {
 pub type Delta = State;
 
 impl Model for State {
-    ghost use Rattle.std.specs.Ordering.{nat_cmp};
     ghost use Rattle.std.specs.FinMap as map;
     ghost use Rattle.std.specs.FinSet as set;
     ghost use Rattle.stroke_core.specs.contracts.stroke.Stroke as stroke;

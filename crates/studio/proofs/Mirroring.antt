@@ -16,7 +16,6 @@ use Rattle.live_board.specs.declared.rule.Ground.{Ground}
 use Rattle.live_board.specs.declared.rule.View.{View}
 use Rattle.marker_tiles.specs.Kept.{IsMarkerOf}
 use Rattle.studio.specs.Mirroring.{HasMirrored, HasPlanted, IsBrought}
-use Rattle.studio.specs.declared.mirrored.Mirrored.{Mirrored}
 
 -- with the same generation and marker the same fact is planted
 same_plant : (p : Pixel) (u w : View) → w.generation ≡ u.generation → w.marker ≡ u.marker

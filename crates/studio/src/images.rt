@@ -1,6 +1,6 @@
 //! Copies of images that are shared.
 
-ghost use Rattle.std.specs.Prelude.{◌≡◌, IfOk, IfSome};
+ghost use Rattle.std.specs.Prelude.{◌≡◌, IfOk};
 ghost use Rattle.std.specs.Arc.{arc_value};
 
 use grid_core::{Grid, Memory};

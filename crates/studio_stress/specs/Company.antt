@@ -6,7 +6,6 @@ use Rattle.pen_desks.specs.declared.pen.PenEnd.{PenEnd}
 use Rattle.pen_desks.specs.Books.{BooksView}
 use Rattle.pen_desks.specs.Pens.{IsOf, IsEndOf, KeepsPens}
 use Rattle.core_dispatch.specs.Closing.{AreEndsOf}
-use Rattle.shot_chain.specs.declared.eye.Eye.{Eye}
 use Rattle.shot_chain.specs.Words.{eye_studio}
 use Rattle.studio.specs.declared.keeper.Keeper.{Keeper}
 use Rattle.studio.specs.declared.opening.Studio.{Studio}

@@ -1,13 +1,13 @@
 -- A blank shot is sound, and may follow another.
-use Rattle.std.proofs.Common.{◌≡◌, ◌<◌, ◌≤◌, ◌*◌, ◌+◌, ℕ, Bool, List, [], ◌∷◌, min, refl, arith, IsTrue}
+use Rattle.std.proofs.Common.{◌≡◌, ◌<◌, ◌*◌, ◌+◌, ℕ, Bool, [], refl, arith}
 use Rattle.std.proofs.lemmas.List.{get_or-replicate}
 use Rattle.grid_core.specs.declared.pixel.Pixel.{Pixel}
 use Rattle.grid_core.specs.Raster.{value_at}
-use Rattle.grid_core.specs.Path.{Inside, Reaches}
-use Rattle.stroke_lattice.specs.State.{State, nothing, IsBelow}
+use Rattle.grid_core.specs.Path.{Reaches}
+use Rattle.stroke_lattice.specs.State.{nothing}
 use Rattle.marker_tiles.specs.Marker.{IsMarker}
 use Rattle.shot_chain.specs.Shots.{Shot, IsSound, HasLawfulImage, HasReconstruction, domain}
-use Rattle.shot_chain.specs.Chains.{LeadsTo, MayFollow}
+use Rattle.shot_chain.specs.Chains.{MayFollow}
 use Rattle.thread_tests.specs.Blank.{blank, blank_shot}
 
 zero_at : (p : Pixel) → (p.x < 2) × (p.y < 2) → value_at blank p ≡ 0

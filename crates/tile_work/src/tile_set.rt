@@ -1,6 +1,6 @@
 //! Sets of tiles, as words of bits.
 
-ghost use Rattle.std.specs.Prelude.{◌≡◌, ℕ, ◌+◌, ◌*◌, ◌/◌, ◌^◌, ◌<◌, ◌≤◌, length, replicate, true, false, IfOk, IfSome};
+ghost use Rattle.std.specs.Prelude.{◌≡◌, ℕ, ◌+◌, ◌*◌, ◌/◌, ◌^◌, ◌<◌, length, replicate, true, false, IfOk, IfSome};
 ghost use Rattle.std.specs.Prelude.{MatchOption, slice_index_or, slice_set};
 ghost use Rattle.std.specs.Int.{bit_at};
 ghost use Rattle.tile_work.specs.Least.{IsLeastFrom};

@@ -1,9 +1,7 @@
 //! What is taken at the end.
 
-ghost use Rattle.std.specs.Prelude.{◌≡◌, ◌↔◌, ◌<◌, ◌+◌, ℕ, length, IsTrue, IfErr, OnOk, MatchOption};
+ghost use Rattle.std.specs.Prelude.{◌≡◌, ◌↔◌, ◌<◌, ℕ, length, IsTrue, IfErr, OnOk, MatchOption};
 ghost use Rattle.std.specs.Prelude.{OnErr};
-ghost use mathlib.Core.Option.{some};
-ghost use lib.ListN.{get_elem?};
 ghost use Rattle.pen_desks.specs.declared.rest.RestError.TheVariants as rest;
 ghost use Rattle.core_dispatch.specs.declared.error.CloseError.TheVariants as errors;
 ghost use Rattle.core_dispatch.specs.Dispatching.{books_by};

@@ -1,6 +1,6 @@
 //! The words behind `paint`.
 
-ghost use Rattle.std.specs.Prelude.{◌≡◌, codes, option_map, Some, IfOk};
+ghost use Rattle.std.specs.Prelude.{codes, option_map, Some, IfOk};
 ghost use Rattle.clap.specs.Words.{found_of, rows_of};
 ghost use Rattle.seedpaint.specs.Words.{paint_command, IsLocal, IsCall, Reads, KeptFileIs};
 

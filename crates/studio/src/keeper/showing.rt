@@ -1,8 +1,7 @@
 //! Shots of the core, and who looks at them.
 
-ghost use Rattle.std.specs.Prelude.{◌≡◌, ◌≤◌, ◌∷◌, ◌++◌, [], ℕ, All, length, true, IfOk, IfErr, MatchResult};
+ghost use Rattle.std.specs.Prelude.{◌≡◌, ◌≤◌, true, IfOk, IfErr, MatchResult};
 ghost use Rattle.std.specs.Arc.{arc_value};
-ghost use Rattle.core_dispatch.specs.Dispatching.{books_by, owner_by, core_by as core_at};
 ghost use Rattle.shot_chain.specs.Shots.{IsSound};
 ghost use Rattle.shot_chain.specs.Words.{told_by, told_studio};
 ghost use Rattle.studio.specs.Keeping.{core_of, books_of, owner_of, chain_of, studio_of, IsShotOf, ShowsOneMore};

@@ -1,9 +1,8 @@
 //! Hints that are put into the inboxes of their tiles.
 
-ghost use Rattle.std.specs.Prelude.{◌≡◌, ◌+◌, ◌<◌, ◌≤◌, ◌^◌, ℕ, [], ◌∷◌, true, length, slice_index, slice_set};
-ghost use Rattle.std.specs.Prelude.{◌==◌, All, OnOk, IsOk, if◌then◌else◌};
+ghost use Rattle.std.specs.Prelude.{◌≡◌, ◌+◌, ◌<◌, ◌≤◌, ◌^◌, ℕ, length, slice_index};
+ghost use Rattle.std.specs.Prelude.{◌==◌, All, OnOk};
 ghost use Rattle.grid_core.specs.Tiles.{count_of};
-ghost use Rattle.border_queues.specs.TileWork.{received, work_of, hints_at};
 ghost use Rattle.tile_work.specs.WorkTable.{works_of, rooms_of, waiting_bits, IsToInside};
 ghost use Rattle.tile_work.specs.WorkTable.{AreCounts, AreReceived, HaveRoomFor, HaveRooms, IsCounted, IsDelivered};
 

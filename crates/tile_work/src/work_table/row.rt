@@ -1,9 +1,9 @@
 //! The rows of the table of the work that is left at each tile.
 
-ghost use Rattle.std.specs.Prelude.{◌≡◌, ◌+◌, ◌<◌, ◌≤◌, ◌↔◌, ℕ, [], ◌∷◌, ◌++◌, length, remove, replicate, slice_get};
-ghost use Rattle.std.specs.Prelude.{IfOk, OnOk, OnErr, IsTrue, IsOk};
+ghost use Rattle.std.specs.Prelude.{◌≡◌, ◌+◌, ◌<◌, ◌≤◌, ◌↔◌, [], ◌∷◌, ◌++◌, length, remove, replicate, slice_get};
+ghost use Rattle.std.specs.Prelude.{IfOk, IsTrue};
 ghost use Rattle.border_queues.specs.TileWork.{fresh};
-ghost use Rattle.tile_work.specs.WorkTable.{as_work, works_of};
+ghost use Rattle.tile_work.specs.WorkTable.{works_of};
 
 use border_queues::{Hint, Inbox};
 use grid_core::Memory;

@@ -1,5 +1,4 @@
 use Rattle.std.proofs.Common.{◌≡◌, true, false, refl, rules}
-use Rattle.std.proofs.lemmas.Grind.{common_steps}
 use Rattle.link_nodes.proofs.Answering.{for_this, is_for, not_for}
 use Rattle.link_nodes.proofs.hearing.submit.Goals as goal
 

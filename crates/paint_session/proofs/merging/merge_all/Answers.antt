@@ -5,7 +5,6 @@ use Rattle.stroke_lattice.specs.State.{State}
 use Rattle.paint_session.specs.Merging.{AreMerged, IsStop}
 use Rattle.paint_session.proofs.Deltas.{merged_none, stops_before}
 use Rattle.paint_session.proofs.merging.merge_all.Goals as goal
-use Rattle.paint_session.proofs.merging.merge_all.Goals.{In_ok-merge_each}
 
 -- deltas hold themselves
 themselves : (deltas : List State) → map (λ s. s) deltas ≡ deltas

@@ -1,8 +1,7 @@
-use Rattle.std.proofs.Common.{◌≡◌, ℕ, List, Some, None, refl, inl, inr, codes, [], ◌∷◌, ◌∙◌, ap₂, arith, decimal, map}
+use Rattle.std.proofs.Common.{Some, None, refl, inr, codes, [], ◌∷◌, arith}
 use Rattle.std.proofs.lemmas.List.Elements.{All-from_recursion}
-use Rattle.std.specs.Prelude.{All, length, ◌≤◌}
+use Rattle.std.specs.Prelude.{All}
 use Rattle.clap.proofs.OnLiterals.{clap_on_literals}
-use Rattle.clap.specs.Words.{Text}
 use Rattle.seedpaint.specs.Examples.{IsSaidSo, of_a_node}
 use Rattle.seedpaint.specs.Words.{ArePorts, HandsIs, PortIs, Says, SideIs, TicksIs}
 use Rattle.seedpaint.specs.declared.words.Call.TheVariants.{Node}

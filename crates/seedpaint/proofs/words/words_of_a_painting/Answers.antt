@@ -1,4 +1,4 @@
-use Rattle.std.proofs.Common.{Some, refl, inl, inr, codes, [], ◌∷◌, arith}
+use Rattle.std.proofs.Common.{Some, refl, inr, codes, [], ◌∷◌, arith}
 use Rattle.std.proofs.lemmas.List.Elements.{All-from_recursion}
 use Rattle.clap.proofs.OnLiterals.{clap_on_literals}
 use Rattle.grid_core.specs.declared.conn.Conn.TheVariants.{Four, Eight}

@@ -1,7 +1,7 @@
-use Rattle.std.proofs.Common.{rules, ◌≡◌, ℕ, ◌<◌, ◌≤◌, ◌^◌, List, Some, None, refl, sym, subst, codes, [], ◌∷◌}
+use Rattle.std.proofs.Common.{rules, ℕ, List, Some, None, refl, sym, subst, codes, [], ◌∷◌}
 use Rattle.std.proofs.Common.{length, ap}
-use Rattle.std.proofs.Common.{◌∙◌, arith, decimal, get_or}
-use Rattle.std.specs.Str.Parse.{AllDigits, digits_value}
+use Rattle.std.proofs.Common.{◌∙◌, arith}
+use Rattle.std.specs.Str.Parse.{AllDigits}
 use Rattle.std.proofs.lemmas.Fmt.{decimal_digit, decimal_is_IsNumeral}
 use Rattle.std.proofs.lemmas.Str.Parse.{digit_from_value}
 use Rattle.std.proofs.lemmas.List.Elements.{All-from_recursion}
@@ -11,7 +11,7 @@ use Rattle.seedpaint.proofs.Numbers.{names_no_number}
 use Rattle.seedpaint.proofs.Ports.{as_many, no_port_at}
 use Rattle.seedpaint.proofs.Subcommands.{names_no_side, option_row, usage_at_fault, usage_at_node, words_row}
 use Rattle.seedpaint.specs.Examples.{of_no_node}
-use Rattle.seedpaint.specs.Words.{ArePorts, HandsIs, IsUsage, NamesNoSide, PeersAre, PortIs, TicksIs}
+use Rattle.seedpaint.specs.Words.{HandsIs, IsUsage, NamesNoSide, PeersAre, PortIs, TicksIs}
 use Rattle.seedpaint.proofs.words.words_of_no_node.Goals as goal
 
 no_port_0 : (n : ℕ) → PortIs (Some (codes "0")) n → ⊥

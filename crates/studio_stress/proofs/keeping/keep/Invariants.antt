@@ -1,4 +1,3 @@
-use Rattle.std.proofs.Common.{length}
 use Rattle.studio_stress.specs.Company.{KeepsCompany}
 use Rattle.studio_stress.proofs.keeping.keep.Given as goal
 

@@ -1,5 +1,4 @@
-use Rattle.std.proofs.Common.{inl, refl, arith, ◌≡◌, Option, Some, option_map}
-use Rattle.clap.specs.Words.{Text}
+use Rattle.std.proofs.Common.{inl, refl, arith, ◌≡◌, Some, option_map}
 use Rattle.seedpaint.proofs.Calls.{reads_none}
 use Rattle.seedpaint.proofs.Numbers.{names_no_other}
 use Rattle.seedpaint.proofs.words.node.number_within.Goals as goal

@@ -1,4 +1,4 @@
-use Rattle.std.proofs.Common.{subst, sym, ap, ◌∙◌, ◌≡◌, Option, Some, None, codes, option_map, inl, refl}
+use Rattle.std.proofs.Common.{subst, sym, ap, ◌∙◌, ◌≡◌, Option, Some, codes, option_map, inl, refl}
 use Rattle.std.proofs.lemmas.Result.{err_from_is_err_and}
 use Rattle.clap.specs.Words.{Text, first_of, found_of, rows_of}
 use Rattle.clap.proofs.WalkLemmas.{first_value-rows}

@@ -1,5 +1,5 @@
-use Rattle.std.proofs.Common.{◌≡◌, subst}
-use Rattle.stroke_lattice.specs.Pieces.{Item, Placed, Withdrawn, items_of}
+use Rattle.std.proofs.Common.{subst}
+use Rattle.stroke_lattice.specs.Pieces.{items_of}
 use Rattle.stroke_lattice.specs.Places.{item_of}
 use Rattle.stroke_lattice.specs.Filling.{AllBefore}
 use Rattle.stroke_lattice.specs.declared.entries.Entry.{Entry}

@@ -1,4 +1,4 @@
-use Rattle.std.proofs.Common.{true, false, ◌∙◌}
+use Rattle.std.proofs.Common.{true, false}
 use Rattle.thread_tests.proofs.Blank.{follows}
 use Rattle.thread_tests.proofs.shots.looking.learns.Goals as goal
 
