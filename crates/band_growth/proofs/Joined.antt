@@ -51,41 +51,8 @@ both_cells width height cut rest same = let all = ap (λ n. width * n) same in o
 module _ (size : Size) (cut : ℕ) (is_cut : IsCut size cut) (upper_mask lower_mask upper lower : List ℕ)
     (long_mask : length upper_mask ≡ cut * size.w) (long : length upper ≡ cut * size.w)
     (close : CanGrowRows size (upper_mask ++ lower_mask) (upper ++ lower)) where
-  rows_above_within : cut * size.w ≤ size.h * size.w
-  rows_above_within = mul-le-mul_right size.w (omega (arith, is_cut.some_below))
-
   rows_below_within : (size.h - cut) * size.w ≤ size.h * size.w
   rows_below_within = mul-le-mul_right size.w (omega arith)
-
-  pub above_can_grow : CanGrowRows (above size cut) upper_mask upper
-  above_can_grow = record {
-    size = record {
-      some_width = close.size.some_width;
-      some_height = is_cut.some_above;
-      width_within = close.size.width_within;
-      height_within = omega (arith, close.size.height_within, is_cut.some_below);
-      pixels_within = omega (arith, close.size.pixels_within, rows_above_within);
-    };
-    filled = omega arith;
-    mask_filled = omega arith;
-    below = record {
-      width = refl;
-      height = refl;
-      values = λ k less.
-          omega (
-            arith,
-            close.below.values k (omega (arith, length-append upper lower)),
-            get_or_append_left upper lower 0 k less,
-            get_or_append_left upper_mask lower_mask 0 k (omega arith),
-          );
-    };
-    fits = record {
-      some_width = close.size.some_width;
-      some_height = is_cut.some_above;
-      columns = omega arith;
-      rows = omega arith;
-    };
-  }
 
   pub below_can_grow : CanGrowRows (below size cut) lower_mask lower
   below_can_grow = record {

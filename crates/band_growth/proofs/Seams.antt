@@ -1,12 +1,11 @@
 -- Rows that have grown, and where they are then closed.
-use Rattle.std.proofs.Common.{◌≡◌, ℕ, ◌+◌, ◌-◌, ◌<◌, ◌≤◌, List, arith, inl, inr}
+use Rattle.std.proofs.Common.{◌≡◌, ℕ, ◌-◌, ◌<◌, ◌≤◌, List, arith, inl, inr}
 use Rattle.std.proofs.lemmas.Bool.{cases_lt}
 use Rattle.grid_core.specs.declared.conn.Conn.{Conn}
 use Rattle.grid_core.specs.declared.pixel.Pixel.{Pixel}
 use Rattle.grid_core.proofs.Pixels.{near}
 use Rattle.raster_sweeps.specs.declared.size.Size.{Size}
 use Rattle.raster_sweeps.specs.Growth.{AllWait, WaitFrom, rows_of}
-use Rattle.raster_sweeps.specs.RowPairs.{IsFromTo, NoneOpen}
 use Rattle.raster_sweeps.specs.RowRaises.{IsRowGrown}
 use Rattle.raster_sweeps.proofs.Grown.{fits_below, grown_same, grown_twice}
 use Rattle.band_growth.specs.Bands.{AreClosedApart, AreGrownApart, CanGrowRows, IsOpenPair, all_of}
@@ -69,33 +68,6 @@ pub closed_waits : (conn : Conn) (size : Size) (mask image : List ℕ) (top bott
     → WaitFrom conn (all_of size) (rows_of size mask) (rows_of size image) bottom waiting
 closed_waits conn size mask image top bottom waiting closed p q raises from_p from_q =
     absurd (closed.from p q raises from_p from_q)
-
--- where the rows up to one are closed by themselves, and it and the one below it cannot raise one another, all open
--- pairs wait if those below wait
-pub settled_waits : (conn : Conn) (size : Size) (mask image : List ℕ) (waiting : List ℕ) (y : ℕ)
-    → ((p q : Pixel) → IsOpenPair conn size mask image p q → p.y ≤ y → q.y ≤ y → ⊥)
-    → NoneOpen conn (all_of size) (rows_of size mask) (rows_of size image) (IsFromTo (y + 1) y)
-    → NoneOpen conn (all_of size) (rows_of size mask) (rows_of size image) (IsFromTo y (y + 1))
-    → WaitFrom conn (all_of size) (rows_of size mask) (rows_of size image) (y + 1) waiting
-    → AllWait conn (all_of size) (rows_of size mask) (rows_of size image) waiting
-settled_waits conn size mask image waiting y above up down waits p q raises =
-    let near_rows = (near conn p q raises.beside).1 in
-    elim (cases_lt y p.y) [
-      | inl p_below ↦ elim (cases_lt y q.y) [
-        | inl q_below ↦ waits p q raises (omega arith) (omega arith)
-        | inr q_above ↦
-            absurd (up p q raises (
-              omega (arith, near_rows, p_below, q_above),
-              omega (arith, near_rows, p_below, q_above),
-            ))
-      ]
-      | inr p_above ↦ elim (cases_lt y q.y) [
-        | inl q_below ↦
-            absurd
-            (down p q raises (omega (arith, near_rows, p_above, q_below), omega (arith, near_rows, p_above, q_below)))
-        | inr q_above ↦ absurd (above p q raises (omega (arith, p_above)) (omega (arith, q_above)))
-      ]
-    ]
 
 -- where those above a cut are closed by themselves, all open pairs wait if those from the row above it on wait
 pub cut_waits : (conn : Conn) (size : Size) (mask image : List ℕ) (waiting : List ℕ) (cut bottom : ℕ) → 0 < cut

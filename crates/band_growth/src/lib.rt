@@ -11,10 +11,11 @@
 //! let image = grow_on(&rt, alloc, &mask, &marker, Conn::Four, 4)?;   // the cells are 3 5 2 2 2
 //! ```
 //!
-//! The rows are cut in two, and each half again, until there is a band for each thread. A band is grown as an image by
-//! itself, by the two scans and the queue of that paper. What two halves give lies between the marker and the
-//! reconstruction, so both have the same reconstruction, and what can still be raised lies across the cut: from there a
-//! queue spreads into both halves. Where much is open, the two scans run on from the cut first. [`laws`] says so.
+//! The rows are cut in two, and each half again, into 2, 4 or 8 bands and no more than there are threads. A band is
+//! grown as an image by itself, by the two scans and the queue of that paper. What two halves give lies between the
+//! marker and the reconstruction, so both have the same reconstruction, and what can still be raised lies across the
+//! cut ([`laws`]): from there a queue spreads into both halves. Where much is open, the two scans run on from the cut
+//! first.
 //!
 //! [`grow_in_place_on`] does the same to an image that is there already. All memory is taken before a cell rises. A
 //! thread that cannot start is no error: its band is then grown by the thread that wanted to start it. [`ManyThreads`]

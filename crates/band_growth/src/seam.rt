@@ -9,8 +9,8 @@ ghost use Rattle.band_growth.specs.Steps.{HaveGrownUp, MayGrow, MayRaise, NoneOp
 use crate::limits::{Limits, all_of};
 use grid_core::Conn;
 use raster_sweeps::steps::{
-    Waiting, close, drain, is_closed_to, queue_onward, queue_row, raise_row_by,
-    raise_row_from_left, raise_row_from_right, row_in,
+    Waiting, close, drain, is_closed_to, queue_downward, queue_row, raise_row_along, raise_row_by,
+    row_in,
 };
 
 /// Raises whole rows until no pair of neighbours is open, where the rows above a cut and those below it are closed by
@@ -50,7 +50,7 @@ fn fill(limits: &Limits<'_>, image: &mut [u16], cut: u32, waiting: &mut Waiting)
     queue_row(mask, image, size, all_of(size), cut - 1, conn, waiting)
 }
 
-// Whether more than an eighth of the pixels at the cut can raise one across it. This is a matter of speed alone.
+// Whether the open pairs across the cut are more than an eighth of a row's pixels. This is a matter of speed alone.
 fn is_wide_open(limits: &Limits<'_>, image: &[u16], cut: u32) -> bool
     requires close { MayGrow limits.now image.now }
     requires cut { IsCut limits.now.size cut }
@@ -79,8 +79,8 @@ fn run_down(limits: &Limits<'_>, image: &mut [u16], cut: u32) -> u32
 }
 
 // The anti-raster scan, from the row before `bottom` back through the cut, until a row above it and the one below that
-// cannot raise one another. After each row those of its pixels that can still raise the one to their right or one in
-// the row below are put into the queue. It answers whether there was room for all of them.
+// cannot raise one another. After each row those of its pixels that can still raise one in the row below are put into
+// the queue. It answers whether there was room for all of them.
 fn run_up(
     limits: &Limits<'_>,
     image: &mut [u16],
@@ -103,12 +103,12 @@ fn run_up(
             return room;
         }
         raise_upwards(limits, image, y);
-        room = room && queue_onward(mask, image, size, all, y, conn, waiting);
+        room = room && queue_downward(mask, image, size, all, y, conn, waiting);
     }
     room
 }
 
-// Raises the pixels of row `y` by those of the row above it, and then along itself, from the left.
+// Raises the pixels of row `y` by those of the row above it, and then along itself.
 fn raise_downwards(limits: &Limits<'_>, image: &mut [u16], y: u32)
     requires some { 0 < y }
     requires row { y < limits.now.size.h }
@@ -118,10 +118,10 @@ fn raise_downwards(limits: &Limits<'_>, image: &mut [u16], y: u32)
     let Limits { mask, size, conn } = *limits;
     let all = all_of(size);
     raise_row_by(mask, image, size, all, y - 1, y, conn);
-    raise_row_from_left(mask, image, size, all, y);
+    raise_row_along(mask, image, size, all, y);
 }
 
-// Raises the pixels of row `y` by those of the row below it, where there is one, and then along itself, from the right.
+// Raises the pixels of row `y` by those of the row below it, where there is one, and then along itself.
 fn raise_upwards(limits: &Limits<'_>, image: &mut [u16], y: u32)
     requires row { y < limits.now.size.h }
     requires close { MayGrow limits.now image.old }
@@ -130,11 +130,11 @@ fn raise_upwards(limits: &Limits<'_>, image: &mut [u16], y: u32)
     let Limits { mask, size, conn } = *limits;
     let all = all_of(size);
     if y + 1 == size.h {
-        raise_row_from_right(mask, image, size, all, y);
+        raise_row_along(mask, image, size, all, y);
         return;
     }
     raise_row_by(mask, image, size, all, y + 1, y, conn);
-    raise_row_from_right(mask, image, size, all, y);
+    raise_row_along(mask, image, size, all, y);
 }
 
 // Whether no pixel of row `y` can raise one of the row below it, and none of that one of row `y`.

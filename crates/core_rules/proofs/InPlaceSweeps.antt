@@ -113,9 +113,6 @@ module _ (before after : Core) (t : ℕ) (sound : IsSound before) (ready : IsRea
 
   -- ---- the core once the job is taken
 
-  out_work : TileWork
-  out_work = record (work_at before t) { dirty = false; out = Some before.serial }
-
   taken_work : work_at (taken before t) t ≡ record (work_at before t) { dirty = false; out = Some before.serial }
   taken_work =
       work_there before t (record (work_at before t) { dirty = false; out = Some before.serial }) ready.is_tile

@@ -18,7 +18,7 @@ use Rattle.border_queues.specs.declared.hint.Hint.{Hint}
 use Rattle.border_queues.specs.OpenEdges.{Sender, IsOpenEdge, hint_to}
 use Rattle.border_queues.specs.Laws.{EdgesAreOpen}
 use Rattle.core_rules.specs.Image.{IsOpen}
-use Rattle.tile_generations.specs.Jobs.{Job, Swept, IsSwept}
+use Rattle.tile_generations.specs.Jobs.{Swept, IsSwept}
 use Rattle.core_rules.specs.declared.answers.Back.{Back}
 use Rattle.core_rules.specs.declared.answers.Back.TheVariants.{Joined, Again, Stale, Stranger}
 use Rattle.core_rules.specs.Image.{IsSupported}
@@ -35,10 +35,6 @@ use Rattle.core_rules.proofs.Supporting.{part_reaches}
 -- where the images of a swept tile are defined
 abbrev pub local : Swept → Domain
 local swept = domain_of swept.job.mask swept.job.conn
-
--- the tile of a job
-abbrev tile_of_job : Job → ℕ
-tile_of_job job = job.ticket.tile
 
 -- the pixel of the image that a pixel of the swept tile is
 abbrev pub placed : Core → Swept → Pixel → Pixel

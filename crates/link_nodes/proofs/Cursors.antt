@@ -58,10 +58,6 @@ pub number_is : (last : Option ℕ) (i j count : ℕ) → last ≡ Some i → j 
 number_is last i j count is next within =
     next ∙ sym (ap (λ (o : Option ℕ). next_after o count) is ∙ after_some i count (omega arith))
 
-pub number_is_0 : (last : Option ℕ) (i count : ℕ) → last ≡ Some i → count ≤ i + 1 → next_after last count ≡ 0
-number_is_0 last i count is beyond =
-    ap (λ (o : Option ℕ). next_after o count) is ∙ after_last i count beyond
-
 -- ---- the first of the pieces from a number on
 
 nil : {A : Type 0} (xs : List A) → length xs ≤ 0 → xs ≡ []
@@ -85,13 +81,3 @@ pieces_after n xs rest x is =
     let within : n < length xs = some_left n xs (x ∷ rest) is (omega arith) in
     tails x (get_or xs n x) rest (drop (suc n) xs) (is ∙ drop-cons xs n x within)
     ∙ ap (λ (k : ℕ). drop k xs) (sym (add-one n))
-
-pub pieces_left : (s : State) (n : ℕ) (place : Place) → IsPlaceOf s n (Some place)
-    → 0 < length (pieces_from max_bytes s place)
-pieces_left s n place at =
-    let long : length (pieces_from max_bytes s place) ≡ length (drop n (frame_pieces s)) = ap length at.1 in
-    let within = at.0 in
-    omega (arith, long, length-drop n (frame_pieces s))
-
-pub no_pieces : (s : State) → length (frame_pieces s) ≤ 0 → frame_pieces s ≡ []
-no_pieces s none = nil (frame_pieces s) none

@@ -32,16 +32,6 @@ if_same : (b : Bool) → ◌≡◌ {A = ℕ} (if b then 0 else 0) 0
 if_same true = refl
 if_same false = refl
 
--- at first all are left
-pub under_way_start : (s : State) (ws : List Window) (live : List Entry) (mask old : Raster) → IsOfSize mask old
-    → AreLive s live → IsUnderWay s ws mask old old live
-under_way_start s ws live mask old size are_live = record {
-  done = [];
-  size = size;
-  values = λ p inside. omega (arith, if_same (in_some ws p));
-  live = are_live;
-}
-
 -- a level more within the windows
 more_within : (a b : Bool) (limit old top level more : ℕ) → more ≡ max top (if b then level else 0)
     → brushed_if (a && b) (Raise level) limit (max old (min limit (if a then top else 0)))

@@ -144,9 +144,3 @@ cells_are_span y first end from to brush mask old new size columns from_is to_is
   };
   values = λ p inside. cell_of_span y first end from to brush mask old new size columns from_is to_is cells p inside;
 }
-
--- an empty span paints nothing
-pub empty_span : (y first end : ℕ) (brush : Brush) (mask old : Raster) → IsOfSize mask old → end ≤ first
-    → IsPaintedBy (is_between y first end) brush mask old old
-empty_span y first end brush mask old size empty =
-    painted_nothing (is_between y first end) brush mask old size (λ p _. grind (arith, nat_tests))

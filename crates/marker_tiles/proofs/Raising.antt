@@ -27,10 +27,6 @@ pub raised_to_level : (b : Bool) (limit level old : ℕ)
 raised_to_level true limit level old = refl
 raised_to_level false limit level old = omega arith
 
--- all levels raised to are one
-raised_to_both : (limit old a b : ℕ) → max (max old (min limit a)) (min limit b) ≡ max old (min limit (max a b))
-raised_to_both limit old a b = omega arith
-
 level_of_some-push : (s : State) (tags : List ℕ) (tag : ℕ) (p : Pixel)
     → level_of_some s (tags ++ tag ∷ []) p ≡ max (level_of_some s tags p) (level_if (map.get s.strokes tag) p)
 level_of_some-push s [] tag p = omega arith

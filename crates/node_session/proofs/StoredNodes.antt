@@ -1,9 +1,9 @@
 -- What the run of a node says over a store and a network, from what these and the run say.
-use Rattle.std.proofs.Common.{◌≡◌, ◌⊎◌, ℕ, ◌≤◌, List, Option, Result, Ok, Err, Some, None, inl, inr, refl, sym}
+use Rattle.std.proofs.Common.{◌≡◌, ◌⊎◌, ℕ, List, Option, Result, Ok, Err, Some, None, inl, inr, refl}
 use Rattle.std.proofs.Common.{ap, ◌∙◌}
 use Rattle.std.proofs.Common.{subst, arith}
 use Rattle.std.specs.Prelude.{IfSome, IsOk}
-use Rattle.byte_devices.specs.Device.{SourceSeen, SinkSeen, count_after}
+use Rattle.byte_devices.specs.Device.{SourceSeen, SinkSeen}
 use Rattle.byte_devices.specs.Response.{Responds, TellsDevices}
 use Rattle.byte_devices.specs.Transfer.{IsInputOf}
 use Rattle.grid_core.specs.declared.conn.Conn.{Conn}
@@ -309,15 +309,6 @@ network_idle left e old new same no_link = record {
   is_left = tt;
   fault = λ link. absurd (no_link link);
   failure = λ less. absurd (omega (arith, less, same));
-}
-
--- it failed
-pub network_failed : (left : NetworkSeen → Type 0) (e : RunError) (old new : NetworkSeen)
-    → new.failures ≡ count_after old.failures 1 → e ≡ Link → TellsNetwork left (Err e) old new
-network_failed left e old new counted link = record {
-  is_left = tt;
-  fault = λ _. subst (λ (n : ℕ). count_after old.failures 1 ≤ n) (sym counted) (omega arith);
-  failure = λ less. ap Err link;
 }
 
 -- it gave a link, and the file was saved or not

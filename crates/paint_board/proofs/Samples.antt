@@ -45,9 +45,6 @@ samples_push g (first ∷ rects) rect piece bytes (its, others, its_part, rest, 
       (flat_map (sample_bytes g.maxval) piece.cells)),
 )
 
-pub puts_none : (g : Graymap) (before : List ℕ) → PutsSamples g [] before before
-puts_none g before = record { bytes = []; are_samples = refl; behind = sym (append-nil before) }
-
 pub puts_more : (g : Graymap) (rects : List Rect) (rect : Rect) (piece : Raster) (before now after : List ℕ)
     → PutsSamples g rects before now → IsPart rect g.raster piece
     → after ≡ now ++ flat_map (sample_bytes g.maxval) piece.cells

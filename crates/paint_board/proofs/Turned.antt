@@ -20,9 +20,6 @@ use Rattle.paint_board.specs.Board.{HasTurnedIn}
 abbrev pub HasTurnedTags : List News → ℕ → List ℕ → Type 0
 HasTurnedTags all since tags = (tag : ℕ) → Contains tags tag ↔ HasTurnedIn all since tag
 
-pub none_turned : (since : ℕ) → HasTurnedTags [] since []
-none_turned since tag = (λ there. absurd (omega (arith, there.1)), λ turned. absurd (omega (arith, turned.told.1)))
-
 module _ (all : List News) (since : ℕ) (news : News) where
   turned_before : (tag : ℕ) → HasTurnedIn all since tag → HasTurnedIn (all ++ news ∷ []) since tag
   turned_before tag turned = record {

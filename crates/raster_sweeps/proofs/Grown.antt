@@ -8,11 +8,11 @@ use Rattle.grid_core.specs.declared.conn.Conn.{Conn}
 use Rattle.grid_core.specs.declared.pixel.Pixel.{Pixel}
 use Rattle.grid_core.specs.declared.rect.Rect.{Rect}
 use Rattle.grid_core.specs.Path.{Domain, IsPath, end_of, Reaches}
-use Rattle.grid_core.specs.Raster.{Raster, IsInside, IsBelow, IsFilled, index_of, max_level, value_at, headroom}
+use Rattle.grid_core.specs.Raster.{Raster, IsInside, IsBelow, IsFilled, index_of, value_at, headroom}
 use Rattle.grid_core.specs.Reconstruction.{IsClosed, IsLawful}
 use Rattle.grid_core.specs.Rects.{IsInRect, RectFits, domain_in, in_image, part}
 use Rattle.grid_core.proofs.Cells.{pixel_of, pixel_of-inside, index_of-pixel_of, below_at_each_pixel}
-use Rattle.grid_core.proofs.Headroom.{headroom_falls, headroom_less}
+use Rattle.grid_core.proofs.Headroom.{headroom_falls}
 use Rattle.grid_core.proofs.Images.{closed_is_reconstruction}
 use Rattle.grid_core.proofs.Pixels.{same_pixel}
 use Rattle.grid_core.proofs.Reach.{reaches_here, reaches_by_step, reaches_lower}
@@ -131,12 +131,6 @@ module _ (conn : Conn) (rect : Rect) (mask before after : Raster) (filled : IsFi
   pub grown_headroom : headroom after.cells ≤ headroom before.cells
   grown_headroom = headroom_falls before.cells after.cells grown.filled grown_rises
 
-  -- one cell that has risen takes from the room
-  pub grown_headroom_less : (i : ℕ) → i < length before.cells
-      → slice_index before.cells i < slice_index after.cells i → slice_index after.cells i ≤ max_level
-      → headroom after.cells < headroom before.cells
-  grown_headroom_less i = headroom_less before.cells after.cells i grown.filled grown_rises
-
 -- a rectangle that lies in the mask lies in an image of its size
 pub fits_below : (rect : Rect) (mask image : Raster) → IsBelow image mask → RectFits mask.width mask.height rect
     → RectFits image.width image.height rect
@@ -146,12 +140,6 @@ fits_below rect mask image below fits = record {
   columns = omega (arith, fits.columns, below.width);
   rows = omega (arith, fits.rows, below.height);
 }
-
--- an image of the mask's size has a value for each pixel
-pub filled_below : (mask image : Raster) → IsBelow image mask → length image.cells ≡ length mask.cells → IsFilled mask
-    → IsFilled image
-filled_below mask image below same filled =
-    same ∙ filled ∙ ap (λ w. w * mask.height) (sym below.width) ∙ ap (λ h. image.width * h) (sym below.height)
 
 -- cells with open pairs lie inside
 pub open_inside : (conn : Conn) (rect : Rect) (mask image : Raster) (waiting : List ℕ)

@@ -9,11 +9,10 @@ use Rattle.grid_core.specs.Raster.{Raster, IsInside, value_at}
 use Rattle.grid_core.specs.Rects.{part, IsRowOf}
 use Rattle.raster_sweeps.specs.Growth.{cell_of}
 use Rattle.raster_sweeps.specs.RowPairs.{AreAside, AreBeside, AreJoined, RaisesTo, IsOpenCell, HaveJoined, IsFromTo}
-use Rattle.raster_sweeps.specs.RowPairs.{IsOpenFrom, IsUpper, NoneOpen, NoneOpenToLeft}
+use Rattle.raster_sweeps.specs.RowPairs.{IsOpenFrom, IsScannedUp, IsUpper}
 use Rattle.raster_sweeps.proofs.ImageRows.{value_in_row, rows_near, aside_in_row, neighbours_in_row, beside_in_rows}
 use Rattle.raster_sweeps.proofs.ImageRows.{neighbours_in_rows}
 use Rattle.raster_sweeps.proofs.Joining.{none_joined, joined_same, joined_both, joined_stopped}
-use Rattle.raster_sweeps.proofs.RowPairs.{IsLeftOf}
 
 module _ (conn : Conn) (rect : Rect) (mask image : Raster) (y z first : ℕ) (from limits to : List ℕ)
     (of_from : IsRowOf rect.w (part rect (value_at image)) y from)
@@ -78,17 +77,6 @@ module _ (conn : Conn) (rect : Rect) (mask image : Raster) (y z first : ℕ) (fr
   open_aside same o =
       columns_open AreAside o
       (aside_in_row conn o.pixel o.other o.raises.beside (omega (arith, o.rows.0, o.rows.1)))
-
-  -- where no pixel of the row raises the one to its left
-  pub open_to_right : y ≡ z → NoneOpenToLeft conn rect mask image y
-      → IsOpenCell conn rect mask image (IsFromTo y z) cell
-      → RaisesTo IsLeftOf first from limits to cell
-  open_to_right same none_left o =
-      let aside = aside_in_row conn o.pixel o.other o.raises.beside (omega (arith, o.rows.0, o.rows.1)) in
-      columns_open IsLeftOf o (elim (cases_lt o.other.x o.pixel.x) [
-        | inl left ↦ absurd (none_left o.pixel o.other o.raises (o.rows.0, omega (arith, o.rows.1)) left)
-        | inr right ↦ omega (arith, right, aside)
-      ])
 
   pub beside_opens : apart y z ≡ 1 → RaisesTo (AreBeside conn) first from limits to cell
       → IsOpenCell conn rect mask image (IsFromTo y z) cell
@@ -197,22 +185,29 @@ module _ (conn : Conn) (rect : Rect) (mask image : Raster) (y : ℕ) where
       mid new within
       (joined_both (Opens (IsFromTo y (y + 1))) (Opens (IsFromTo (y + 1) y)) room mid low new down up))
 
-  -- where no pixel of the row below raises one of this row
-  pub onward_joined : (room : Bool) (old mid new : List ℕ) → NoneOpen conn rect mask image (IsFromTo (y + 1) y)
-      → HaveJoined (Opens (IsFromTo y y)) true old mid
-      → HaveJoined (Opens (IsFromTo y (y + 1))) room mid new
+  -- where no pixel of the row raises another in it, nor one of the row below one of it
+  open_downward : IsScannedUp conn rect mask image y → (cell : ℕ) → Opens (IsUpper y) cell
+      → Opens (IsFromTo y (y + 1)) cell
+  open_downward scanned cell o = elim (row_cases cell o) [
+    | inl here ↦ absurd (scanned.along here.pixel here.other here.raises here.rows)
+    | inr other ↦ elim other [
+      | inl down ↦ down
+      | inr up ↦ absurd (scanned.up up.pixel up.other up.raises up.rows)
+    ]
+  ]
+
+  pub downward_joined : (room : Bool) (old new : List ℕ) → IsScannedUp conn rect mask image y
+      → HaveJoined (Opens (IsFromTo y (y + 1))) room old new
       → HaveJoined (Opens (IsUpper y)) room old new
-  onward_joined room old mid new none_up within down =
-      joined_same (λ i. Opens (IsFromTo y y) i ⊎ Opens (IsFromTo y (y + 1)) i) (Opens (IsUpper y)) room old new
-      (λ cell o. elim o [ inl here ↦ in_row cell here | inr below ↦ down_row cell below ])
-      (λ cell o. elim (row_cases cell o) [
-        | inl here ↦ inl here
-        | inr other ↦ elim other [
-          | inl down ↦ inr down
-          | inr up ↦ absurd (none_up up.pixel up.other up.raises up.rows)
-        ]
-      ])
-      (joined_both (Opens (IsFromTo y y)) (Opens (IsFromTo y (y + 1))) room old mid new within down)
+  downward_joined room old new scanned down =
+      joined_same (Opens (IsFromTo y (y + 1))) (Opens (IsUpper y)) room old new down_row (open_downward scanned) down
+
+  -- the last row has none below
+  pub last_row_closed : (waiting : List ℕ) → y + 1 ≡ rect.h → IsScannedUp conn rect mask image y
+      → HaveJoined (Opens (IsUpper y)) true waiting waiting
+  last_row_closed waiting last scanned = none_joined (Opens (IsUpper y)) waiting (λ cell o.
+      let down = open_downward scanned cell o in
+      omega (arith, last, down.rows.1, down.raises.to_inside.1))
 
   -- one row more
   pub rows_joined : (room : Bool) (old mid new : List ℕ) → HaveJoined (Opens (IsUpperAbove y)) true old mid
@@ -265,8 +260,3 @@ module _ (conn : Conn) (rect : Rect) (mask image : Raster) (y : ℕ) where
         place = begins.place;
       })
       joined
-
-pub no_rows_joined : (conn : Conn) (rect : Rect) (mask image : Raster) (waiting : List ℕ)
-    → HaveJoined (IsOpenCell conn rect mask image (IsUpperAbove 0)) true waiting waiting
-no_rows_joined conn rect mask image waiting =
-    none_joined (IsOpenCell conn rect mask image (IsUpperAbove 0)) waiting (λ i o. omega (arith, o.rows))

@@ -16,7 +16,7 @@ use Rattle.grid_core.specs.Raster.{Raster, IsInside, IsBelow, IsFilled, value_at
 use Rattle.grid_core.specs.Rects.{RectFits, domain_in, in_image, part, IsRowOf}
 use Rattle.grid_core.proofs.Cells.{below_at_each_pixel}
 use Rattle.grid_core.proofs.Reach.{reaches_here, reaches_by_step, reaches_lower, reaches_within_mask}
-use Rattle.raster_sweeps.specs.RowPairs.{AreBeside, IsClosedTo, IsFromTo, NoneOpen, NoneOpenToLeft}
+use Rattle.raster_sweeps.specs.RowPairs.{AreBeside, IsClosedTo, IsFromTo, NoneOpen, NoneOpenToLeft, NoneOpenToRight}
 use Rattle.raster_sweeps.specs.RowRaises.{IsRaisedBy, IsRaisedFromLeft, IsRaisedFromRight, AreCellsRaised, IsRowGrown}
 use Rattle.raster_sweeps.proofs.ImageRows.{neighbours_in_row, neighbours_in_rows, aside_in_row, beside_in_rows}
 use Rattle.raster_sweeps.proofs.ImageRows.{value_in_row}
@@ -299,18 +299,42 @@ module _ (conn : Conn) (rect : Rect) (mask before : Raster) (y start : ℕ) (fil
         (reached_from_right (domain_in rect conn) (part rect (value_at mask)) (part rect (value_at before)) below_in y
         inside_y limits (between start (start + rect.w) before.cells) row of_mask row_of raised)
 
+    -- the values of a row that is put there
+    value_put : (n : ℕ) (row : List ℕ) → n ≡ rect.w → length row ≡ rect.w
+        → (r : Pixel) → IsInside rect.w rect.h r → r.y ≡ y
+        → part rect (value_at (refilled before (put_mid start n before.cells row))) r ≡ get_or row r.x 0
+    value_put n row same long =
+        value_in conn rect mask before (refilled before (put_mid start n before.cells row)) y start row filled below
+        fits inside_y refl refl begins long
+        (replaced_mid start n row before.cells (omega arith) (omega (arith, row_within)))
+
+    -- no pixel of the row then raises the one to its right
+    pub none_open_to_right : (n : ℕ) (row : List ℕ) → n ≡ rect.w
+        → IsRaisedFromLeft limits (between start (start + rect.w) before.cells) row
+        → NoneOpenToRight conn rect mask (refilled before (put_mid start n before.cells row)) y
+    none_open_to_right n row same raised p q raises rows right =
+        let long : length row ≡ rect.w = omega (arith, raised.long, row_of.long) in
+        let next : p.x + 1 ≡ q.x =
+        omega (arith, aside_in_row conn p q raises.beside (omega (arith, rows.0, rows.1)), right) in
+        let higher : get_or row q.x 0 ≡ get_or row (p.x + 1) 0 = ap (λ x. get_or row x 0) (sym next) in
+        let limit : get_or limits q.x 0 ≡ get_or limits (p.x + 1) 0 = ap (λ x. get_or limits x 0) (sym next) in
+        omega (
+          arith,
+          raises.lower,
+          raised.raised p.x (omega (arith, raises.to_inside.0, row_of.long, next)),
+          higher,
+          limit,
+          value_put n row same long p raises.from_inside rows.0,
+          value_put n row same long q raises.to_inside rows.1,
+          value_in_row rect.w (part rect (value_at mask)) y limits q of_mask raises.to_inside.0 rows.1,
+        )
+
     -- no pixel of the row then raises the one to its left
     pub none_open_to_left : (n : ℕ) (row : List ℕ) → n ≡ rect.w
         → IsRaisedFromRight limits (between start (start + rect.w) before.cells) row
         → NoneOpenToLeft conn rect mask (refilled before (put_mid start n before.cells row)) y
     none_open_to_left n row same raised p q raises rows left =
-        let after : Raster = refilled before (put_mid start n before.cells row) in
         let long : length row ≡ rect.w = omega (arith, raised.long, row_of.long) in
-        let replaced : IsReplaced start row before.cells after.cells =
-        replaced_mid start n row before.cells (omega arith) (omega (arith, row_within)) in
-        let value : (r : Pixel) → IsInside rect.w rect.h r → r.y ≡ y
-        → part rect (value_at after) r ≡ get_or row r.x 0 =
-        value_in conn rect mask before after y start row filled below fits inside_y refl refl begins long replaced in
         let next : q.x + 1 ≡ p.x =
         omega (arith, aside_in_row conn p q raises.beside (omega (arith, rows.0, rows.1)), left) in
         let higher : get_or row p.x 0 ≡ get_or row (q.x + 1) 0 = ap (λ x. get_or row x 0) (sym next) in
@@ -319,10 +343,40 @@ module _ (conn : Conn) (rect : Rect) (mask before : Raster) (y start : ℕ) (fil
           raises.lower,
           raised.raised q.x (omega (arith, raises.from_inside.0, row_of.long, next)),
           higher,
-          value p raises.from_inside rows.0,
-          value q raises.to_inside rows.1,
+          value_put n row same long p raises.from_inside rows.0,
+          value_put n row same long q raises.to_inside rows.1,
           value_in_row rect.w (part rect (value_at mask)) y limits q of_mask raises.to_inside.0 rows.1,
         )
+
+    -- where no pixel of the row raised the one to its right, none does then
+    pub still_none_open_to_right : (n : ℕ) (row : List ℕ) → n ≡ rect.w
+        → IsRaisedFromRight limits (between start (start + rect.w) before.cells) row
+        → NoneOpenToRight conn rect mask before y
+        → NoneOpenToRight conn rect mask (refilled before (put_mid start n before.cells row)) y
+    still_none_open_to_right n row same raised none p q raises rows right =
+        let old = between start (start + rect.w) before.cells in
+        let long : length row ≡ rect.w = omega (arith, raised.long, row_of.long) in
+        let next : p.x + 1 ≡ q.x =
+        omega (arith, aside_in_row conn p q raises.beside (omega (arith, rows.0, rows.1)), right) in
+        let higher : get_or row q.x 0 ≡ get_or row (p.x + 1) 0 = ap (λ x. get_or row x 0) (sym next) in
+        none p q
+        (record {
+          from_inside = raises.from_inside;
+          to_inside = raises.to_inside;
+          beside = raises.beside;
+          lower =
+              omega (
+                arith,
+                raises.lower,
+                raised.raised p.x (omega (arith, raises.to_inside.0, row_of.long, next)),
+                higher,
+                rises_from_right limits old row raised q.x (omega (arith, raises.to_inside.0, row_of.long)),
+                value_put n row same long p raises.from_inside rows.0,
+                value_put n row same long q raises.to_inside rows.1,
+                value_in_row rect.w (part rect (value_at before)) y old p row_of raises.from_inside.0 rows.0,
+                value_in_row rect.w (part rect (value_at before)) y old q row_of raises.to_inside.0 rows.1,
+              );
+        }) rows right
 
     -- a row that is raised by another, as the cells of the image have it
     row_replaced : (source : ℕ) (cells : List ℕ) → AreCellsRaised conn limits source start before.cells cells

@@ -8,9 +8,10 @@ use Rattle.grid_core.specs.declared.rect.Rect.{Rect}
 use Rattle.grid_core.specs.Raster.{Raster}
 use Rattle.raster_sweeps.specs.Growth.{IsOpenIn, WaitFrom, AllWait, AreInside, cell_of}
 use Rattle.raster_sweeps.specs.RowPairs.{IsDark, IsOpenCell, HaveJoined, IsFromTo, IsScannedUp, IsUpper}
-use Rattle.raster_sweeps.specs.RowPairs.{NoneOpen, NoneOpenToLeft}
+use Rattle.raster_sweeps.specs.RowPairs.{NoneOpen, NoneOpenAlong, NoneOpenToLeft, NoneOpenToRight}
 use Rattle.raster_sweeps.specs.RowRaises.{IsRowGrown}
 use Rattle.raster_sweeps.proofs.Grown.{grown_twice}
+use Rattle.raster_sweeps.proofs.ImageRows.{aside_in_row}
 use Rattle.raster_sweeps.proofs.Spans.{near_rows}
 
 -- a row that has grown twice
@@ -22,13 +23,24 @@ row_grown_twice conn rect mask y before between after first second = record {
   others = λ p inside other. second.others p inside other ∙ first.others p inside other;
 }
 
--- a row that was raised by the row below and then along itself from the right
+-- a row of which no pixel raises the one to its left or to its right
+pub none_open_along : (conn : Conn) (rect : Rect) (mask image : Raster) (y : ℕ)
+    → NoneOpenToLeft conn rect mask image y → NoneOpenToRight conn rect mask image y
+    → NoneOpenAlong conn rect mask image y
+none_open_along conn rect mask image y none_left none_right p q raises rows =
+    let aside = aside_in_row conn p q raises.beside (omega (arith, rows.0, rows.1)) in
+    elim (cases_lt p.x q.x) [
+      | inl right ↦ none_right p q raises rows right
+      | inr left ↦ none_left p q raises rows (omega (arith, aside, left))
+    ]
+
+-- a row that was raised by the row below and then along itself
 pub scanned_up : (conn : Conn) (rect : Rect) (mask : Raster) (y : ℕ) (before after : Raster)
     → NoneOpen conn rect mask before (IsFromTo (y + 1) y) → IsRowGrown conn rect mask y before after
-    → NoneOpenToLeft conn rect mask after y
+    → NoneOpenAlong conn rect mask after y
     → IsScannedUp conn rect mask after y
-scanned_up conn rect mask y before after none_up grown none_left = record {
-  left = none_left;
+scanned_up conn rect mask y before after none_up grown none_along = record {
+  along = none_along;
   up = λ p q raises rows.
       none_up p q
       (record {
@@ -47,10 +59,10 @@ scanned_up conn rect mask y before after none_up grown none_left = record {
 
 -- the last row has none below
 pub last_scanned_up : (conn : Conn) (rect : Rect) (mask image : Raster) (y : ℕ) → rect.h ≤ y + 1
-    → NoneOpenToLeft conn rect mask image y
+    → NoneOpenAlong conn rect mask image y
     → IsScannedUp conn rect mask image y
-last_scanned_up conn rect mask image y last none_left = record {
-  left = none_left;
+last_scanned_up conn rect mask image y last none_along = record {
+  along = none_along;
   up = λ p q raises rows. absurd (omega (arith, last, raises.from_inside.1, rows.0));
 }
 
@@ -91,11 +103,14 @@ module _ (conn : Conn) (rect : Rect) (mask before after : Raster) (y : ℕ) (roo
         (subst (λ w. Contains old (cell_of rect w p)) (sym grown.grown.width) there)
   ]
 
--- below the last row nothing can wait
-pub none_below : (conn : Conn) (rect : Rect) (mask image : Raster) (waiting : List ℕ)
-    → (y : ℕ) → rect.h ≤ y → WaitFrom conn rect mask image y waiting
-none_below conn rect mask image waiting y past p q raises from_p from_q =
-    absurd (omega (arith, raises.from_inside.1))
+-- from the last row on no pair is open, so that nothing has to wait
+pub last_row_waits : (conn : Conn) (rect : Rect) (mask image : Raster) (waiting : List ℕ) (y : ℕ) → rect.h ≤ y + 1
+    → NoneOpenAlong conn rect mask image y → WaitFrom conn rect mask image y waiting
+last_row_waits conn rect mask image waiting y last none p q raises from_p from_q =
+    absurd (none p q raises (
+      omega (arith, last, raises.from_inside.1, from_p),
+      omega (arith, last, raises.to_inside.1, from_q),
+    ))
 
 pub none_inside : (rect : Rect) (width : ℕ) (waiting : List ℕ) → waiting ≡ [] → AreInside rect width waiting
 none_inside rect width waiting empty i there = absurd (omega (arith, there.1, ap length empty))

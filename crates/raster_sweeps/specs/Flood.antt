@@ -31,9 +31,8 @@ abbrev pub HasSpread : Domain → (Pixel → ℕ) → ℕ → (Pixel → ℕ) �
 HasSpread d mask level image p =
     (q : Pixel) → Inside d q → AreNeighbours d.conn p q → level ≤ mask q → level ≤ image q
 
--- A level is being flooded. The pixels with its value are marked. Each of them reaches it, and has spread or
--- waits to; of the seeds, the pixels where the marker is at least the level, those in the first `seen` cells
--- are marked
+-- A level is being flooded. The pixels with its value are marked. Each of them reaches it, and has spread or waits to;
+-- of the seeds, the pixels where the marker is at least the level, those in the first `seen` cells are marked
 pub record IsFlooding (d : Domain) (mask marker : Pixel → ℕ) (level seen : ℕ) (image : Pixel → ℕ)
     (waiting : List Pixel) : Type 0 where
   pub within : (p : Pixel) → Inside d p → image p ≤ level

@@ -1,5 +1,5 @@
--- Pairs of pixels in one row or in two rows that touch, by their columns. Only private functions have these words in
--- their contracts; which pixels are neighbours stands in `specs/Neighbours.antt` of `grid_core`.
+-- Pairs of pixels in one row or in two rows that touch, by their columns. Only private functions and those of `steps`
+-- have these words in their contracts; which pixels are neighbours stands in `specs/Neighbours.antt` of `grid_core`.
 use Rattle.std.specs.Prelude.{◌≡◌, ℕ, ◌+◌, ◌<◌, ◌≤◌, ◌⊎◌, Bool, IsTrue, List, length, slice_index, min}
 use Rattle.std.specs.List.{Contains}
 use Rattle.grid_core.specs.declared.conn.Conn.{Conn}
@@ -98,12 +98,6 @@ IsClosedTo IsBeside from mask to =
     (a b : ℕ) → a < length to → b < length to → IsBeside a b
     → min (slice_index from a) (slice_index mask b) ≤ slice_index to b
 
--- no pixel of a row raises the one to its right or the one below it
-pub record AreClosedOnward (row limits below limits_below : List ℕ) : Type 0 where
-  pub right : (k : ℕ) → k + 1 < length row
-      → min (slice_index row k) (slice_index limits (k + 1)) ≤ slice_index row (k + 1)
-  pub down : IsClosedStraight row limits_below below
-
 -- of the pairs of the rectangle whose two rows, counted from its top, are such none is open
 abbrev pub NoneOpen : Conn → Rect → Raster → Raster → (ℕ → ℕ → Type 0) → Type 0
 NoneOpen conn rect mask image AreRows = (p q : Pixel) → IsOpenIn conn rect mask image p q → AreRows p.y q.y → ⊥
@@ -113,9 +107,18 @@ abbrev pub NoneOpenToLeft : Conn → Rect → Raster → Raster → ℕ → Type
 NoneOpenToLeft conn rect mask image y =
     (p q : Pixel) → IsOpenIn conn rect mask image p q → IsFromTo y y p.y q.y → q.x < p.x → ⊥
 
--- as the anti-raster scan leaves a row: no pixel of it raises the one to its left, and none of the row below one of it
+-- no pixel of the row raises the one to its right
+abbrev pub NoneOpenToRight : Conn → Rect → Raster → Raster → ℕ → Type 0
+NoneOpenToRight conn rect mask image y =
+    (p q : Pixel) → IsOpenIn conn rect mask image p q → IsFromTo y y p.y q.y → p.x < q.x → ⊥
+
+-- no pixel of the row raises another in it
+abbrev pub NoneOpenAlong : Conn → Rect → Raster → Raster → ℕ → Type 0
+NoneOpenAlong conn rect mask image y = NoneOpen conn rect mask image (IsFromTo y y)
+
+-- as the anti-raster scan leaves a row: no pixel of it raises another in it, and none of the row below one of it
 pub record IsScannedUp (conn : Conn) (rect : Rect) (mask image : Raster) (y : ℕ) : Type 0 where
-  pub left : NoneOpenToLeft conn rect mask image y
+  pub along : NoneOpenAlong conn rect mask image y
   pub up : NoneOpen conn rect mask image (IsFromTo (y + 1) y)
 
 -- no pixel raises a neighbour, of the pairs whose upper pixel, or both, lie in this row

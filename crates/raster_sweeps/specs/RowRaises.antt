@@ -1,4 +1,4 @@
--- What a scan does to a row. Only private functions have these words in their contracts.
+-- What a scan does to a row. Only private functions and those of `steps` have these words in their contracts.
 use Rattle.std.specs.Prelude.{◌≡◌, ℕ, ◌+◌, ◌<◌, ◌≤◌, ◌⊎◌, List, length, slice_index, slice_range, min, max}
 use Rattle.grid_core.specs.declared.conn.Conn.{Conn}
 use Rattle.grid_core.specs.declared.pixel.Pixel.{Pixel}

@@ -1,4 +1,4 @@
--- The cells that wait. Only private functions have these words in their contracts.
+-- The cells that wait. Only private functions and those of `steps` have these words in their contracts.
 use Rattle.std.specs.Prelude.{◌≡◌, ◌↔◌, ℕ, ◌+◌, ◌<◌, ◌⊎◌, List, [], ◌∷◌, length, Option, None, Some}
 use Rattle.std.specs.List.{All, AllWithin, Contains, HoldsAt, flat_map}
 use Rattle.std.specs.declared.collections.VecDeque.{VecDeque}

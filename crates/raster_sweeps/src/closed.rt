@@ -1,4 +1,4 @@
-//! Whether a pair of neighbours is open: whether the first can raise the second, as far as the mask lets it.
+//! Whether an image can grow no further: whether no pixel can raise a neighbour, as far as the mask lets it.
 
 ghost use Rattle.std.specs.Prelude.{◌≡◌, ◌<◌, ◌↔◌, IsTrue};
 ghost use Rattle.grid_core.specs.Path.{domain_of};

@@ -18,7 +18,8 @@ pub trait Grower {
         ensures grown { OnOk result (IsRegrown conn mask.now image.old image.new) }
         ensures untouched { OnErr result (image.new ≡ image.old) };
 
-    /// Does some work, and meanwhile makes so many zeros, the cells of an image that is to grow.
+    /// Does some work, and makes so many zeros, the cells of an image that is to grow: one behind the other, or both at
+    /// once.
     ///
     /// Errors: out of memory, in place of the zeros.
     fn zeros_beside<T, F: FnOnce() -> T>(

@@ -62,8 +62,8 @@ pub fn grow_within(room: &mut Room, mask: &Grid, image: &mut Grid, rect: Rect, c
 ///
 /// It answers bounds within which these lie and every pixel that rises.
 ///
-/// The pixels within the bounds are checked, and no others, and a queue spreads from these. Where it is full, and where
-/// the bounds are those of the whole rectangle, it goes on with the scans. It takes no memory.
+/// The pixels within the bounds and those around them are checked, and no others, and a queue spreads from these. Where
+/// it is full, and where the bounds are those of the whole rectangle, it goes on with the scans. It takes no memory.
 pub fn grow_from_bounds(
     room: &mut Room,
     mask: &Grid,
@@ -137,11 +137,11 @@ pub fn grow_in_place(alloc: Global, mask: &Grid, image: &mut Grid, conn: Conn) -
     Ok(())
 }
 
-/// Lets the open pairs of a rectangle within the bounds spread until none is left, and answers the bounds within which
-/// pixels rose.
-///
-/// It answers none where the bounds are those of the whole rectangle, and where the queue is full.
-pub fn raise_from_bounds(
+// Lets the open pairs of a rectangle within the bounds spread until none is left, and answers the bounds within which
+// pixels rose.
+//
+// It answers none where the bounds are those of the whole rectangle, and where the queue is full.
+fn raise_from_bounds(
     mask: &[u16],
     image: &mut [u16],
     size: Size,

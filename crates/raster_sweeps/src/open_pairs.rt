@@ -1,15 +1,14 @@
 //! The check of rows for open pairs: neighbours of which the first can still raise the second, as far as the mask lets
 //! it. The first pixels of such pairs are put into the queue.
 
-ghost use Rattle.std.specs.Prelude.{ℕ, ◌+◌, ◌<◌, min, IsTrue};
-ghost use Rattle.grid_core.specs.declared.conn.Conn.TheVariants as conns;
+ghost use Rattle.std.specs.Prelude.{◌+◌, ◌<◌, min};
 ghost use Rattle.grid_core.specs.Raster.{IsInside};
 ghost use Rattle.raster_sweeps.specs.Growth.{CanClose, rows_of};
 ghost use Rattle.raster_sweeps.specs.RowPairs.{AreAside, AreBeside, RaisesStraight, RaisesTo, IsOpenCell, HaveJoined};
 ghost use Rattle.raster_sweeps.specs.RowPairs.{AreFullRowsAt, AreJoined, AreRowsAt, CanGrowAcross, CanGrowRow};
-ghost use Rattle.raster_sweeps.specs.RowPairs.{IsFromTo, IsScannedUp, IsUpper, NoneOpenToLeft};
+ghost use Rattle.raster_sweeps.specs.RowPairs.{IsFromTo, IsScannedUp, IsUpper};
 
-use crate::rows::{are_closed_onward, is_closed_straight};
+use crate::rows::is_closed_straight;
 use crate::size::{Size, first_cell, row_in};
 use crate::waiting::{Waiting, strip_of};
 use grid_core::{Conn, Rect};
@@ -67,10 +66,10 @@ pub fn queue_row(
 }
 
 /// Puts the first pixels of the open pairs whose upper pixel, or both, lie in the rectangle's row `y`, which the
-/// anti-raster scan has just raised, into the queue: these pairs lead to the right or into the row below.
+/// anti-raster scan has just raised, into the queue: these pairs lead into the row below.
 ///
 /// It answers whether there was room for all of them.
-pub fn queue_onward(
+pub fn queue_downward(
     mask: &[u16],
     image: &[u16],
     size: Size,
@@ -84,54 +83,10 @@ pub fn queue_onward(
     ensures { HaveJoined (IsOpenCell conn rect (rows_of size mask.now) (rows_of size image.now) (IsUpper y))
         result waiting.old waiting.new }
 {
-    if is_row_seen_closed(mask, image, size, rect, y, conn) {
-        return true;
-    }
-    if !queue_to_right(mask, image, size, rect, y, waiting) {
-        return false;
-    }
     if y + 1 == rect.h {
         return true;
     }
     queue_between(mask, image, size, rect, y, y + 1, conn, waiting)
-}
-
-// Whether it is seen at once that no pixel of the rectangle's row `y` raises the one to its right or one below it. With
-// eight neighbours, and in the last row, it is not.
-fn is_row_seen_closed(
-    mask: &[u16],
-    image: &[u16],
-    size: Size,
-    rect: Rect,
-    y: u32,
-    conn: Conn,
-) -> bool
-    requires { CanGrowRow rect (rows_of size mask.now) (rows_of size image.now) y }
-    ensures { IsTrue result → IsScannedUp conn rect (rows_of size mask.now) (rows_of size image.now) y
-        → (cell : ℕ) → IsOpenCell conn rect (rows_of size mask.now) (rows_of size image.now) (IsUpper y) cell → ⊥ }
-{
-    match conn {
-        Conn::Four => is_row_seen_closed_onward(mask, image, size, rect, y),
-        Conn::Eight => false,
-    }
-}
-
-// Whether no pixel of the rectangle's row `y` raises the one to its right or the one below it. Of the last row it
-// answers that it is not so.
-fn is_row_seen_closed_onward(mask: &[u16], image: &[u16], size: Size, rect: Rect, y: u32) -> bool
-    requires { CanGrowRow rect (rows_of size mask.now) (rows_of size image.now) y }
-    ensures { IsTrue result → IsScannedUp conns.Four rect (rows_of size mask.now) (rows_of size image.now) y
-        → (cell : ℕ) → IsOpenCell conns.Four rect (rows_of size mask.now) (rows_of size image.now) (IsUpper y)
-        cell → ⊥ }
-{
-    if y + 1 == rect.h {
-        return false;
-    }
-    let row = row_in(image, size, rect, y);
-    let limits = row_in(mask, size, rect, y);
-    let below = row_in(image, size, rect, y + 1);
-    let limits_below = row_in(mask, size, rect, y + 1);
-    are_closed_onward(row, limits, below, limits_below)
 }
 
 // Puts the first pixels of the open pairs within a row into the queue. It answers whether there was room for all of
@@ -152,35 +107,6 @@ fn queue_within(
     let row = row_in(image, size, rect, y);
     let limits = row_in(mask, size, rect, y);
     queue_aslant(row, limits, row, first, strip_of(y), waiting)
-}
-
-// Puts the cells of a row that raise the one to their right into the queue. It answers whether there was room for all
-// of them.
-fn queue_to_right(
-    mask: &[u16],
-    image: &[u16],
-    size: Size,
-    rect: Rect,
-    y: u32,
-    waiting: &mut Waiting,
-) -> bool
-    requires { CanGrowRow rect (rows_of size mask.now) (rows_of size image.now) y }
-    ensures { (conn : _) → NoneOpenToLeft conn rect (rows_of size mask.now) (rows_of size image.now) y
-        → HaveJoined (IsOpenCell conn rect (rows_of size mask.now) (rows_of size image.now) (IsFromTo y y))
-        result waiting.old waiting.new }
-{
-    let first = first_cell(size, rect, y);
-    let row = row_in(image, size, rect, y);
-    let limits = row_in(mask, size, rect, y);
-    let last = row.len() - 1;
-    queue_straight(
-        &row[..last],
-        &limits[1..],
-        &row[1..],
-        first,
-        strip_of(y),
-        waiting,
-    )
 }
 
 // Puts the first pixels of the open pairs from a row to another, which touches it, into the queue. It answers whether

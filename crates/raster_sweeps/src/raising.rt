@@ -39,8 +39,8 @@ pub fn drain(
     true
 }
 
-/// Lets the waiting cells spread as [`drain`] does, where each open pair waits, and answers bounds within which these
-/// lie and every pixel that rises.
+/// Lets the waiting cells spread, where each open pair waits, and answers bounds within which these lie and every pixel
+/// that rises. No corridor is followed.
 ///
 /// Where the queue was full it stops with none.
 pub fn drain_within(

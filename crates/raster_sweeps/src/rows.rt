@@ -1,12 +1,12 @@
 //! What is asked of rows of pixels, as slices of equal length.
 
-ghost use Rattle.std.specs.Prelude.{◌≡◌, ◌<◌, ◌↔◌, length, IsTrue};
-ghost use Rattle.raster_sweeps.specs.RowPairs.{AreBeside, AreAside, AreClosedOnward, IsClosedStraight};
+ghost use Rattle.std.specs.Prelude.{◌<◌, ◌↔◌, IsTrue};
+ghost use Rattle.raster_sweeps.specs.RowPairs.{AreBeside, AreAside, IsClosedStraight};
 ghost use Rattle.raster_sweeps.specs.RowPairs.{AreFullRows, AreRows, IsClosedTo};
 
 use grid_core::Conn;
 
-// Whether no pixel of the row `from` raises the one in the same column of the row `to`.
+/// Whether no pixel of the row `from` raises the one in the same column of the row `to`.
 pub fn is_closed_straight(from: &[u16], mask: &[u16], to: &[u16]) -> bool
     requires { AreRows from.now mask.now to.now }
     ensures { IsTrue result ↔ IsClosedStraight from.now mask.now to.now }
@@ -18,7 +18,7 @@ pub fn is_closed_straight(from: &[u16], mask: &[u16], to: &[u16]) -> bool
     !open
 }
 
-// Whether no pixel of the row `from` raises one in the next column, to the right or the left, of the row `to`.
+/// Whether no pixel of the row `from` raises one in the next column, to the right or the left, of the row `to`.
 pub fn is_closed_aslant(from: &[u16], mask: &[u16], to: &[u16]) -> bool
     requires { AreFullRows from.now mask.now to.now }
     ensures { IsTrue result ↔ IsClosedTo AreAside from.now mask.now to.now }
@@ -28,28 +28,10 @@ pub fn is_closed_aslant(from: &[u16], mask: &[u16], to: &[u16]) -> bool
         && is_closed_straight(&from[1..], &mask[..last], &to[..last])
 }
 
-// Whether no pixel of the row `from` raises a neighbour in the row `to`, which touches it.
+/// Whether no pixel of the row `from` raises a neighbour in the row `to`, which touches it.
 pub fn is_closed_to(from: &[u16], mask: &[u16], to: &[u16], conn: Conn) -> bool
     requires { AreFullRows from.now mask.now to.now }
     ensures { IsTrue result ↔ IsClosedTo (AreBeside conn) from.now mask.now to.now }
 {
     is_closed_straight(from, mask, to) && (conn == Conn::Four || is_closed_aslant(from, mask, to))
-}
-
-// Whether, in a row and the one below it, no pixel of the first raises the one to its right or the one below it.
-//
-// One pass over both rows makes shorter vector code than a pass for each direction.
-#[inline(never)]
-pub fn are_closed_onward(row: &[u16], limits: &[u16], below: &[u16], limits_below: &[u16]) -> bool
-    requires rows { AreFullRows below.now limits.now row.now }
-    requires below { length limits_below.now ≡ length row.now }
-    ensures { IsTrue result ↔ AreClosedOnward row.now limits.now below.now limits_below.now }
-{
-    let last = row.len() - 1;
-    let mut open = below[last] < row[last].min(limits_below[last]);
-    for i in 0..last {
-        open |= row[i + 1] < row[i].min(limits[i + 1]);
-        open |= below[i] < row[i].min(limits_below[i]);
-    }
-    !open
 }

@@ -6,10 +6,10 @@ ghost use Rattle.grid_core.specs.Raster.{IsSized};
 ghost use Rattle.grid_core.specs.Rects.{RectFits};
 ghost use Rattle.raster_sweeps.specs.Growth.{IsGrown, CanClose, IsScannedInto, rows_of};
 ghost use Rattle.raster_sweeps.specs.RowPairs.{CanGrowAcross, CanGrowRow, IsDark, IsFromTo, IsGreatest};
-ghost use Rattle.raster_sweeps.specs.RowPairs.{NoneOpen, NoneOpenToLeft};
+ghost use Rattle.raster_sweeps.specs.RowPairs.{NoneOpen, NoneOpenAlong, NoneOpenToLeft, NoneOpenToRight};
 ghost use Rattle.raster_sweeps.specs.RowRaises.{AreApart, AreCellsRaised, IsRowGrown};
 
-use crate::open_pairs::queue_onward;
+use crate::open_pairs::queue_downward;
 use crate::row_raises::{raise_by, raise_from_left, raise_from_right};
 use crate::size::{Size, row_in};
 use crate::waiting::Waiting;
@@ -37,8 +37,8 @@ pub fn scan_down(mask: &[u16], image: &mut [u16], size: Size, rect: Rect, conn: 
 }
 
 /// The anti-raster scan: row by row from the bottom, as [`scan_down`] from the top. After each row those of its pixels
-/// that can still raise the one to their right or one in the row below are put into the queue. A row that is 0 as is
-/// the one below it is passed over: nothing rises there.
+/// that can still raise one in the row below are put into the queue. A row that is 0 as is the one below it is passed
+/// over: nothing rises there.
 ///
 /// It answers whether there was room for all of them. Where there was not, the rows above are raised and not checked.
 pub fn scan_up(
@@ -56,7 +56,7 @@ pub fn scan_up(
 {
     let last = rect.h - 1;
     raise_row_along(mask, image, size, rect, last);
-    let mut all = queue_onward(mask, image, size, rect, last, conn, waiting);
+    let mut all = true;
     let mut dark = is_dark(image, size, rect, last);
     for y in (0..last).rev() {
         if dark && is_dark(image, size, rect, y) {
@@ -65,7 +65,7 @@ pub fn scan_up(
         raise_row_by(mask, image, size, rect, y + 1, y, conn);
         raise_row_along(mask, image, size, rect, y);
         dark = is_dark(image, size, rect, y);
-        all = all && queue_onward(mask, image, size, rect, y, conn, waiting);
+        all = all && queue_downward(mask, image, size, rect, y, conn, waiting);
     }
     all
 }
@@ -142,22 +142,24 @@ fn raise_cells_by(limits: &[u16], cells: &mut [u16], source: usize, target: usiz
     }
 }
 
-// Raises the pixels of the rectangle's row `y` along the row, from the left and then from the right.
-fn raise_row_along(mask: &[u16], image: &mut [u16], size: Size, rect: Rect, y: u32)
+/// Raises the pixels of the rectangle's row `y` along the row, from the left and then from the right, so that none of
+/// them can raise another.
+pub fn raise_row_along(mask: &[u16], image: &mut [u16], size: Size, rect: Rect, y: u32)
     requires { CanGrowRow rect (rows_of size mask.now) (rows_of size image.old) y }
     ensures grown { (conn : _) → IsRowGrown conn rect (rows_of size mask.now) y (rows_of size image.old)
         (rows_of size image.new) }
-    ensures closed { (conn : _) → NoneOpenToLeft conn rect (rows_of size mask.now) (rows_of size image.new) y }
+    ensures closed { (conn : _) → NoneOpenAlong conn rect (rows_of size mask.now) (rows_of size image.new) y }
 {
     raise_row_from_left(mask, image, size, rect, y);
     raise_row_from_right(mask, image, size, rect, y);
 }
 
-/// Raises the pixels of the rectangle's row `y`, from the left, by those to their left.
-pub fn raise_row_from_left(mask: &[u16], image: &mut [u16], size: Size, rect: Rect, y: u32)
+// Raises the pixels of the rectangle's row `y`, from the left, by those to their left.
+fn raise_row_from_left(mask: &[u16], image: &mut [u16], size: Size, rect: Rect, y: u32)
     requires { CanGrowRow rect (rows_of size mask.now) (rows_of size image.old) y }
-    ensures { (conn : _) → IsRowGrown conn rect (rows_of size mask.now) y (rows_of size image.old)
+    ensures grown { (conn : _) → IsRowGrown conn rect (rows_of size mask.now) y (rows_of size image.old)
         (rows_of size image.new) }
+    ensures closed { (conn : _) → NoneOpenToRight conn rect (rows_of size mask.now) (rows_of size image.new) y }
 {
     let limits = row_in(mask, size, rect, y);
     let width = size.w as usize;
@@ -165,12 +167,15 @@ pub fn raise_row_from_left(mask: &[u16], image: &mut [u16], size: Size, rect: Re
     raise_from_left(limits, &mut image[start..start + rect.w as usize]);
 }
 
-/// Raises the pixels of the rectangle's row `y`, from the right, by those to their right.
-pub fn raise_row_from_right(mask: &[u16], image: &mut [u16], size: Size, rect: Rect, y: u32)
+// Raises the pixels of the rectangle's row `y`, from the right, by those to their right. Where none could raise the one
+// to its right, none can after that.
+fn raise_row_from_right(mask: &[u16], image: &mut [u16], size: Size, rect: Rect, y: u32)
     requires { CanGrowRow rect (rows_of size mask.now) (rows_of size image.old) y }
     ensures grown { (conn : _) → IsRowGrown conn rect (rows_of size mask.now) y (rows_of size image.old)
         (rows_of size image.new) }
     ensures closed { (conn : _) → NoneOpenToLeft conn rect (rows_of size mask.now) (rows_of size image.new) y }
+    ensures kept { (conn : _) → NoneOpenToRight conn rect (rows_of size mask.now) (rows_of size image.old) y
+        → NoneOpenToRight conn rect (rows_of size mask.now) (rows_of size image.new) y }
 {
     let limits = row_in(mask, size, rect, y);
     let width = size.w as usize;

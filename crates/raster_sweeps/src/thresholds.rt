@@ -1,5 +1,5 @@
-//! The reconstruction by dilation, one threshold after another: each level floods the pixels that
-//! reach it (Vincent, "Morphological Grayscale Reconstruction in Image Analysis", 1993).
+//! The reconstruction by dilation, one threshold after another: each level floods the pixels that reach it (Vincent,
+//! "Morphological Grayscale Reconstruction in Image Analysis", 1993).
 
 ghost use Rattle.std.specs.Prelude.{◌≡◌, ◌+◌, ◌-◌, ◌*◌, ◌<◌, ◌≤◌, [], ◌∷◌, ◌++◌};
 ghost use Rattle.std.specs.Prelude.{length, slice_index, EachIndex, OnOk, IfOk};

@@ -31,18 +31,6 @@ Contains-cons_cases y xs x h =
       | inr later ↦ inr later
     ]
 
--- a level begins where the one before it is done
-pub flood_begins : (d : Domain) (mask marker image : Pixel → ℕ) (level : ℕ) → 0 < level
-    → IsFloodedTo d mask marker (level - 1) image → IsFlooding d mask marker level 0 image []
-flood_begins d mask marker image level positive flooded = record {
-  within = λ p inside. omega (arith, flooded.within p inside);
-  reached = flooded.reached;
-  lower = λ p k inside less. flooded.greatest p k inside (omega arith);
-  seeds = λ p inside below. absurd (omega arith);
-  marked = λ p none. absurd (nothing_waits p none);
-  spread = λ p inside high. absurd (omega (arith, flooded.within p inside));
-}
-
 -- one more pixel is marked
 pub flood_marks : (d : Domain) (mask marker old new : Pixel → ℕ) (level seen : ℕ) (waiting : List Pixel) (q : Pixel)
     → Inside d q → Reaches d mask marker q level → new q ≡ level

@@ -12,7 +12,7 @@ returns c =
     let mask = rows_of size limits.mask.now in
     let before = rows_of size c.args.image.now in
     let by = rows_of size c.raise_row_by.new.image in
-    let left = rows_of size c.raise_row_from_left.new.image in
-    subst (λ rect. IsRowGrown conn rect mask c.args.y before left) c.all_of-all.ensures
-    (row_grown_twice conn c.all_of-all.result mask c.args.y before by left c.raise_row_by.ensures.grown
-    (c.raise_row_from_left.ensures conn))
+    let after = rows_of size c.raise_row_along.new.image in
+    subst (λ rect. IsRowGrown conn rect mask c.args.y before after) c.all_of-all.ensures
+    (row_grown_twice conn c.all_of-all.result mask c.args.y before by after c.raise_row_by.ensures.grown
+    (c.raise_row_along.ensures.grown conn))

@@ -13,17 +13,17 @@ returns-then-y-size c =
     let conn = limits.conn in
     let mask = rows_of size limits.mask.now in
     let before = rows_of size c.args.image.now in
-    let after = rows_of size c.raise_row_from_right.new.image in
+    let after = rows_of size c.raise_row_along.new.image in
     let y = c.args.y in
     record {
       grown =
           subst (λ rect. IsRowGrown conn rect mask y before after) c.all_of-all.ensures
-          (c.raise_row_from_right.ensures.grown conn);
+          (c.raise_row_along.ensures.grown conn);
       scanned =
           subst (λ rect. IsScannedUp conn rect mask after y) c.all_of-all.ensures
           (last_scanned_up conn c.all_of-all.result mask after y
           (omega (arith, c.if-y-size.true, ap (λ (r : Rect). r.h) c.all_of-all.ensures))
-          (c.raise_row_from_right.ensures.closed conn));
+          (c.raise_row_along.ensures.closed conn));
     }
 
 pub returns : goal.returns
@@ -35,9 +35,9 @@ returns c =
     let mask = rows_of size limits.mask.now in
     let before = rows_of size c.args.image.now in
     let by = rows_of size c.raise_row_by.new.image in
-    let after = rows_of size c.raise_row_from_right-2.new.image in
+    let after = rows_of size c.raise_row_along-2.new.image in
     let y = c.args.y in
-    let along = c.raise_row_from_right-2.ensures.grown conn in
+    let along = c.raise_row_along-2.ensures.grown conn in
     record {
       grown =
           subst (λ r. IsRowGrown conn r mask y before after) c.all_of-all.ensures
@@ -45,5 +45,5 @@ returns c =
       scanned =
           subst (λ r. IsScannedUp conn r mask after y) c.all_of-all.ensures
           (scanned_up conn rect mask y by after c.raise_row_by.ensures.closed along
-          (c.raise_row_from_right-2.ensures.closed conn));
+          (c.raise_row_along-2.ensures.closed conn));
     }

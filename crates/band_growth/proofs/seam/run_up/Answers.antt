@@ -19,13 +19,13 @@ loop-y-preserved-then-room c =
     let after = rows_of size c.raise_upwards.new.image in
     let y = c.loop-y.y - 1 in
     let grown = c.raise_upwards.ensures.grown in
-    let room = c.queue_onward-room.result in
+    let room = c.queue_downward-room.result in
     let old = c.loop-y.waiting in
-    let new = c.queue_onward-room.new.waiting in
+    let new = c.queue_downward-room.new.waiting in
     let next : c.loop-y.y ≡ y + 1 = omega arith in
     let joined : HaveJoined (IsOpenCell conn rect mask after (IsUpper y)) room old new =
     subst (λ r. HaveJoined (IsOpenCell conn r mask after (IsUpper y)) room old new) c.all_of-all.ensures
-    c.queue_onward-room.ensures in
+    c.queue_downward-room.ensures in
     record {
       grown =
           grown_twice conn rect mask (rows_of size c.args.image.now) before after c.loop-y.invariant.grown grown.grown;

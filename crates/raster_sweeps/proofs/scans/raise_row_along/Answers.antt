@@ -2,12 +2,12 @@
 use Rattle.std.proofs.Common.{◌∙◌}
 use Rattle.grid_core.specs.declared.conn.Conn.TheVariants.{Four}
 use Rattle.raster_sweeps.specs.Growth.{rows_of}
-use Rattle.raster_sweeps.proofs.Scanning.{row_grown_twice}
+use Rattle.raster_sweeps.proofs.Scanning.{none_open_along, row_grown_twice}
 use Rattle.raster_sweeps.proofs.scans.raise_row_along.Goals as goal
 
 pub raise_row_from_right-requires : goal.raise_row_from_right-requires
 raise_row_from_right-requires c =
-    let left = (c.raise_row_from_left.ensures Four).grown in
+    let left = (c.raise_row_from_left.ensures.grown Four).grown in
     record {
       size = c.requires.size;
       filled = left.filled ∙ c.requires.filled;
@@ -22,7 +22,11 @@ returns-clause-grown c conn =
     let size = c.args.size in
     row_grown_twice conn c.args.rect (rows_of size c.args.mask.now) c.args.y (rows_of size c.args.image.now)
     (rows_of size c.raise_row_from_left.new.image) (rows_of size c.raise_row_from_right.new.image)
-    (c.raise_row_from_left.ensures conn) (c.raise_row_from_right.ensures.grown conn)
+    (c.raise_row_from_left.ensures.grown conn) (c.raise_row_from_right.ensures.grown conn)
 
 pub returns-clause-closed : goal.returns-clause-closed
-returns-clause-closed c conn = c.raise_row_from_right.ensures.closed conn
+returns-clause-closed c conn =
+    let size = c.args.size in
+    none_open_along conn c.args.rect (rows_of size c.args.mask.now) (rows_of size c.raise_row_from_right.new.image)
+    c.args.y (c.raise_row_from_right.ensures.closed conn)
+    (c.raise_row_from_right.ensures.kept conn (c.raise_row_from_left.ensures.closed conn))

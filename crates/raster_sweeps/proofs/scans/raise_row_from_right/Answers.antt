@@ -1,7 +1,7 @@
 use Rattle.std.proofs.Common.{◌≡◌, ◌+◌, ◌-◌, ◌*◌, arith, refl}
 use Rattle.raster_sweeps.specs.Growth.{rows_of}
 use Rattle.raster_sweeps.proofs.Grown.{fits_below}
-use Rattle.raster_sweeps.proofs.RowGrowth.{grown_from_right, none_open_to_left}
+use Rattle.raster_sweeps.proofs.RowGrowth.{grown_from_right, none_open_to_left, still_none_open_to_right}
 use Rattle.raster_sweeps.proofs.scans.raise_row_from_right.Goals as goal
 
 pub returns : goal.returns
@@ -23,5 +23,9 @@ returns c =
       closed = λ conn.
           none_open_to_left conn rect mask image y start c.requires.filled c.requires.below fits c.requires.row refl
           c.row_in-limits.result.now c.row_in-limits.ensures n c.raise_from_right.new.row long
+          c.raise_from_right.ensures;
+      kept = λ conn.
+          still_none_open_to_right conn rect mask image y start c.requires.filled c.requires.below fits
+          c.requires.row refl c.row_in-limits.result.now c.row_in-limits.ensures n c.raise_from_right.new.row long
           c.raise_from_right.ensures;
     }

@@ -1,38 +1,15 @@
-use Rattle.std.proofs.Common.{◌≡◌, ◌<◌, ◌+◌, ◌-◌, sym, ◌∙◌, subst, arith, refl}
+use Rattle.std.proofs.Common.{◌≡◌, ◌+◌, ◌-◌, sym, ◌∙◌, subst, arith, refl}
 use Rattle.std.proofs.lemmas.Bool.{false≢true}
 use Rattle.raster_sweeps.specs.Growth.{AreInside, WaitFrom, rows_of}
 use Rattle.raster_sweeps.specs.RowPairs.{IsDark}
 use Rattle.raster_sweeps.specs.RowRaises.{IsRowGrown}
 use Rattle.raster_sweeps.proofs.Grown.{fits_below, grown_twice}
-use Rattle.raster_sweeps.proofs.Scanning.{row_grown_twice, scanned_up, last_scanned_up, joined_inside, row_waits}
-use Rattle.raster_sweeps.proofs.Scanning.{all_wait, dark_waits, none_below, none_inside}
+use Rattle.raster_sweeps.proofs.Scanning.{row_grown_twice, scanned_up, joined_inside, row_waits}
+use Rattle.raster_sweeps.proofs.Scanning.{all_wait, dark_waits, last_row_waits, none_inside}
 use Rattle.raster_sweeps.proofs.scans.scan_up.Goals as goal
 
-pub queue_onward-all-requires : goal.queue_onward-all-requires
-queue_onward-all-requires c =
-    let size = c.args.size in
-    let mask = rows_of size c.args.mask.now in
-    let after = rows_of size c.raise_row_along.new.image in
-    let conn = c.args.conn in
-    let rect = c.args.rect in
-    let row : rect.h - 1 < rect.h = omega (arith, c.requires.close.fits.some_height) in
-    record {
-      grow =
-          record {
-            size = c.requires.close.size;
-            filled = (c.raise_row_along.ensures.grown conn).grown.filled ∙ c.requires.close.filled;
-            mask_filled = c.requires.close.mask_filled;
-            below = (c.raise_row_along.ensures.grown conn).grown.below;
-            fits = c.requires.close.fits;
-            row = row;
-          };
-      scanned =
-          last_scanned_up conn rect mask after (rect.h - 1) (omega (arith, row))
-          (c.raise_row_along.ensures.closed conn);
-    }
-
-pub queue_onward-all-requires-then-all : goal.queue_onward-all-requires-then-all
-queue_onward-all-requires-then-all c =
+pub queue_downward-all-requires : goal.queue_downward-all-requires
+queue_downward-all-requires c =
     let size = c.args.size in
     let mask = rows_of size c.args.mask.now in
     let conn = c.args.conn in
@@ -60,22 +37,14 @@ pub loop-y-init : goal.loop-y-init
 loop-y-init c =
     let size = c.args.size in
     let mask = rows_of size c.args.mask.now in
-    let image = rows_of size c.args.image.now in
     let conn = c.args.conn in
     let rect = c.args.rect in
-    let after = rows_of size c.raise_row_along.new.image in
-    let grown : IsRowGrown conn rect mask (rect.h - 1) image after =
-    c.raise_row_along.ensures.grown conn in
     record {
-      grown = grown.grown;
-      inside =
-          joined_inside conn rect mask after (rect.h - 1) size.w c.queue_onward-all.result c.args.waiting.now
-          c.queue_onward-all.new.waiting refl (none_inside rect size.w c.args.waiting.now c.requires.empty)
-          c.queue_onward-all.ensures;
+      grown = (c.raise_row_along.ensures.grown conn).grown;
+      inside = none_inside rect size.w c.args.waiting.now c.requires.empty;
       waits = λ all.
-          row_waits conn rect mask image after (rect.h - 1) c.queue_onward-all.result c.args.waiting.now
-          c.queue_onward-all.new.waiting grown c.queue_onward-all.ensures all
-          (none_below conn rect mask image c.args.waiting.now (rect.h - 1 + 1) (omega arith));
+          last_row_waits conn rect mask (rows_of size c.raise_row_along.new.image) c.args.waiting.now (rect.h - 1)
+          (omega arith) (c.raise_row_along.ensures.closed conn);
       dark = λ dark. c.is_dark-dark.ensures.0 dark;
     }
 
@@ -97,13 +66,13 @@ loop-y-preserved-then-all c =
       grown =
           grown_twice conn rect mask image before after c.loop-y.invariant.grown grown.grown;
       inside =
-          joined_inside conn rect mask after y after.width c.queue_onward-all-then-all.result c.loop-y.waiting
-          c.queue_onward-all-then-all.new.waiting refl
+          joined_inside conn rect mask after y after.width c.queue_downward-all.result c.loop-y.waiting
+          c.queue_downward-all.new.waiting refl
           (subst (λ w. AreInside rect w c.loop-y.waiting) (sym grown.grown.width) c.loop-y.invariant.inside)
-          c.queue_onward-all-then-all.ensures;
+          c.queue_downward-all.ensures;
       waits = λ all.
-          row_waits conn rect mask before after y c.queue_onward-all-then-all.result c.loop-y.waiting
-          c.queue_onward-all-then-all.new.waiting grown c.queue_onward-all-then-all.ensures all
+          row_waits conn rect mask before after y c.queue_downward-all.result c.loop-y.waiting
+          c.queue_downward-all.new.waiting grown c.queue_downward-all.ensures all
           (subst (λ n. WaitFrom conn rect mask before n c.loop-y.waiting) next
           (c.loop-y.invariant.waits c.if-all.true));
       dark = λ dark. c.is_dark-dark-in-loop-y.ensures.0 dark;
