@@ -130,8 +130,8 @@ def main():
     baseline = run.Filter("baseline", [command, "--conn", "4"])
     program = words.program.resolve()
     sources = [run.Input(family, words.size) for family in words.families]
-    print(f"{run.machine()}; 4 neighbours, tiles of side {SIDE}; the median of {words.runs} runs each. A dash stands for"
-          f" runs of more than {words.limit} seconds.\n", flush=True)
+    print(f"{run.machine()}; 4 neighbours, tiles of side {SIDE}; the median of {words.runs} runs each. A dash stands"
+          f" for runs of more than {words.limit} seconds.\n", flush=True)
     growing(sources, program, baseline, words)
     mirrors(program, baseline, words)
 

@@ -60,7 +60,7 @@ def on(processors, command):
 
 
 def row_of(source, commands, baseline, runs):
-    """The figures of one image: the baseline's milliseconds, the multiples of it, and the processor time of the last."""
+    """The figures of one image: the baseline's milliseconds, the multiples of it, the processor time of the last."""
     run.compare(source, [run.Filter("program", commands[-1]), run.Filter("baseline", baseline)])
     figures = {number: [] for number in range(len(commands) + 1)}
     for _ in range(runs):

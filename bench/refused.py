@@ -8,8 +8,8 @@
 The program has to be built, by `rt run` in its crate, and a C compiler has to be there, for refuse.c. A call is made
 with the growth of number 1 refused, then with that of number 2, and so on, until runs meet none; the program compares
 what is there after a refusal with what has to be. Where threads run, as in the run of a node, two runs may grow in
-another order and not equally often: so it takes ten runs in a row that meet none. A table in Markdown has a row for each
-call, with these columns:
+another order and not equally often: so it takes ten runs in a row that meet none. A table in Markdown has a row for
+each call, with these columns:
 
     growths                  the runs that met a refusal, one for each growth
     begun without memory     of these, those where it fell into what the call is made on, or into reading its name

@@ -188,10 +188,12 @@ def read_words():
     parser.add_argument("--nodes", type=int, default=16, help="2 to 16 (16)")
     parser.add_argument("--edits", type=int, default=1000, help="edits in all, a tenth of them withdrawals (1000)")
     parser.add_argument("--size", type=int, default=1024, help="width and height of the image (1024)")
-    parser.add_argument("--ticks", type=int, default=250, help="ticks of the first try; the next has twice as many (250)")
+    parser.add_argument("--ticks", type=int, default=250,
+                        help="ticks of the first try; the next has twice as many (250)")
     parser.add_argument("--most", type=int, default=64_000, help="ticks at which the script gives up (64000)")
     parser.add_argument("--hands", type=int, default=1, help="hands of each node (1)")
-    parser.add_argument("--trouble", type=float, default=1 / 3, help="the part of all datagrams that meets it (a third)")
+    parser.add_argument("--trouble", type=float, default=1 / 3,
+                        help="the part of all datagrams that meets it (a third)")
     parser.add_argument("--port", type=int, default=42_000, help="the first of two ports a node (42000)")
     parser.add_argument("--seed", type=int, default=1, help="of the relay's chances (1)")
     words = parser.parse_args()

@@ -3,8 +3,8 @@
 
     python3 bench/starts.py crates/seedpaint/out/seedpaint
 
-The image is that of `images.py discs`, with 4,000 discs that a state file keeps. A node makes one tick, so that it begins,
-writes and ends; a page has begun when it tells its address. README.md says what the columns mean.
+The image is that of `images.py discs`, with 4,000 discs that a state file keeps. A node makes one tick, so that it
+begins, writes and ends; a page has begun when it tells its address. README.md says what the columns mean.
 """
 
 import argparse

@@ -4,10 +4,11 @@
     python3 tools/paint_failures.py crates/seedpaint/out/seedpaint paint
 
 The words are the command that serves. `fail_files.c` goes before the program and lets the call of number N on its state
-file fail: to open, read, create, write, sync or rename it. Where the file cannot be loaded, the program has to end with V2
-and leave it. Else two strokes are posted, one after another. A post whose save failed has to be left unanswered, with the
-old file or the new one in place, and the next one has to be answered, with both strokes in the file. N rises until no call
-fails. The first check that fails ends the script with status 1. It needs Python 3, a C compiler and Linux.
+file fail: to open, read, create, write, sync or rename it. Where the file cannot be loaded, the program has to end with
+V2 and leave it. Else two strokes are posted, one after another. A post whose save failed has to be left unanswered,
+with the old file or the new one in place, and the next one has to be answered, with both strokes in the file. N rises
+until no call fails. The first check that fails ends the script with status 1. It needs Python 3, a C compiler and
+Linux.
 """
 
 import argparse

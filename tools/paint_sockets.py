@@ -86,7 +86,8 @@ def answer_in(reader):
         if not line:
             return None
         head += line
-    length = next(int(line.split(b":")[1]) for line in head.split(b"\r\n") if line.lower().startswith(b"content-length"))
+    length = next(int(line.split(b":")[1]) for line in head.split(b"\r\n")
+                  if line.lower().startswith(b"content-length"))
     return int(head.split(b" ")[1]), reader.read(length)
 
 
@@ -199,7 +200,8 @@ def ports(program):
 
 def attacks(program):
     """What is no request of ours is refused, and the others go on."""
-    for name, text in (("another host", b"GET / HTTP/1.1\r\nHost: evil\r\n\r\n"), ("no line", b"\0" * 100 + b"\r\n\r\n"),
+    for name, text in (("another host", b"GET / HTTP/1.1\r\nHost: evil\r\n\r\n"),
+                       ("no line", b"\0" * 100 + b"\r\n\r\n"),
                        ("a long head", b"GET /" + b"a" * 40_000 + b" HTTP/1.1\r\n\r\n")):
         with program.connect() as peer:
             peer.sendall(text)

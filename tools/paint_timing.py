@@ -220,7 +220,8 @@ class Looker(threading.Thread):
     def in_growth(self):
         """The milliseconds of those looks that began and ended while tiles were left."""
         befores = self.tiles_left[:-1]
-        return [time for time, before, after in zip(self.milliseconds[1:], befores, self.tiles_left[1:]) if before and after]
+        return [time for time, before, after in zip(self.milliseconds[1:], befores, self.tiles_left[1:])
+                if before and after]
 
     def end(self):
         """Ends it."""
@@ -229,8 +230,8 @@ class Looker(threading.Thread):
 
 
 def withdraw(page, address, cell, known):
-    """A withdrawal by a click while two other clients look without a pause, one of them for no news: seconds of growth, and
-    the looks of both."""
+    """A withdrawal by a click while two other clients look without a pause, one of them for no news: seconds of growth,
+    and the looks of both."""
     x, y, _ = cell
     page.tab.key("x")
     look_at(page.tab, x, y, 1)
