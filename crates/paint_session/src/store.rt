@@ -111,9 +111,11 @@ fn load_file<R: Files>(alloc: Global, files: &R, name: &str) -> Result<Vec<u8>, 
     }
 }
 
-// A new file of this name with these bytes, on the disk when it returns.
+// A new file of this name with these bytes, on the disk when it returns. What has the name before is taken away first,
+// so that no link is followed.
 fn write_file<R: Files>(files: &R, name: &str, bytes: &[u8]) -> io::Result<()> {
-    let mut file = File::create(files, name)?;
+    let _ = fs::remove_file(files, name);
+    let mut file = File::create_new(files, name)?;
     file.write_all(bytes)?;
     file.sync_all()
 }

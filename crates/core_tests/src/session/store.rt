@@ -25,6 +25,8 @@ enum Step {
     // The others are made without a store.
     Folder,
     File(&'static [u8]),
+    // Another name of this file.
+    LinkTo(&'static str),
     // The rights to the file.
     Rights(u32),
     IsAbsent,
@@ -77,6 +79,18 @@ const CASES: &[(&str, &[(&str, Step)])] = &[
             (STROKES, Step::Saves(b"new")),
             (STROKES, Step::Loads(b"new")),
             (OTHER, Step::Loads(OLD)),
+            (FRESH, Step::IsAbsent),
+        ],
+    ),
+    (
+        "a link beside it is taken away, and what it leads to stays",
+        &[
+            (STROKES, Step::File(OLD)),
+            (OTHER, Step::File(b"another")),
+            (FRESH, Step::LinkTo(OTHER)),
+            (STROKES, Step::Saves(b"new")),
+            (STROKES, Step::Loads(b"new")),
+            (OTHER, Step::Loads(b"another")),
             (FRESH, Step::IsAbsent),
         ],
     ),
@@ -171,6 +185,7 @@ fn is_done(rt: &(impl Files + Alloc), alloc: Global, path: &StatePath, step: &St
         }
         Step::Folder => fs::create_dir(rt, path.name()).is_ok(),
         Step::File(bytes) => fs::write(rt, path.name(), *bytes).is_ok(),
+        Step::LinkTo(file) => fs::hard_link(rt, *file, path.name()).is_ok(),
         Step::Rights(mode) => {
             fs::set_permissions(rt, path.name(), fs::Permissions::from_mode(*mode)).is_ok()
         }
