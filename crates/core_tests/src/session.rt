@@ -10,5 +10,6 @@ mod devices;
 mod faults;
 mod inputs;
 mod kept;
+mod pixels;
 mod store;
 mod views;

@@ -1,7 +1,9 @@
 //! Files of images: read, refused, written, and carried from a source to a sink.
 
 use byte_devices::{MemorySink, MemorySource};
-use pgm_codec::{Image, PgmError, read, read_all_within, read_from, write_plain, write_to};
+use pgm_codec::{
+    Image, PgmError, pixels_in, read, read_all_within, read_from, write_plain, write_to,
+};
 use std::alloc::Global;
 
 // Texts, and the plain files of the images that they spell.
@@ -120,6 +122,37 @@ fn texts_are_refused_by_their_first_fault(rt: HostRuntime) {
             read(rt.alloc(), &FILE[..end]).err() == Some(why),
             "{end} bytes"
         );
+    }
+}
+
+// Texts, and how many pixels their headers say; 0 where there is no header, or too little behind it.
+const PIXELS: &[(usize, &[u8])] = &[
+    (2, FILE),
+    (2, b"P5\n# CREATOR: x\n2 1\n255\n\x0a\x23"),
+    (6, b"P5\n3 2\n9\n\x01\x02\x03\x04\x05\x06"),
+    (4, b"P5\n2 2\n256\n\x01\x00\x01\x00\x01\x00\x01\x00"),
+    (6, b"P2\n3 2\n9\n1 2 3\n4 5 6\n"),
+    (
+        6,
+        b"P2\n# three columns\n3\n# two rows\n2\n# maxval\n9\n1 2 3 4 5 6",
+    ),
+    // The rasters are refused.
+    (2, b"P2 2 1 9 x y"),
+    (1, b"P5\n1 1\n256\n\x01\x01"),
+    (0, b"P5\n2 1\n255\n\x0a"),
+    (0, b"P5\n2 2\n256\n\x01\x00\x01\x00"),
+    (0, b"P2 3 2 9 1 2 3 4 5"),
+    (0, b"P5\n16384 4096\n255\n"),
+    (0, b"P5\n0 1\n255\n"),
+    (0, b"P6\n1 1\n1\n1"),
+    (0, b"place 1 9 0:1-1\n"),
+    (0, b""),
+];
+
+#[test]
+fn headers_say_how_many_pixels_there_are(rt: HostRuntime) {
+    for (count, text) in PIXELS {
+        assert!(rt; pixels_in(text) == *count, "{count} of {text:?}");
     }
 }
 
