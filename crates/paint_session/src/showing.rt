@@ -89,7 +89,7 @@ fn show<G: Grower, D: HasDelta>(
     Ok((image, state))
 }
 
-// The image that a mask shows of a state, in the memory of zeros, if they are as many as the mask has pixels.
+// The image that a mask shows of a state, in the memory of the zeros where these are as many as the mask has pixels.
 fn shown_in<G: Grower>(
     grower: &G,
     alloc: Global,
@@ -102,10 +102,10 @@ fn shown_in<G: Grower>(
     requires fits { StateFits mask.now.raster.width mask.now.raster.height state.now }
     ensures { IfOk result (IsShown conn mask.now state.now) }
 {
-    let cells = zeros?;
-    if cells.len() == mask.samples().len() {
-        return reconstruction_in(grower, alloc, cells, mask, state, conn);
+    if let Ok(cells) = zeros {
+        if cells.len() == mask.samples().len() {
+            return reconstruction_in(grower, alloc, cells, mask, state, conn);
+        }
     }
-    drop(cells);
     reconstruction(grower, alloc, mask, state, conn)
 }
