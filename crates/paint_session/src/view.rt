@@ -155,9 +155,8 @@ impl<'a, G: Grower> Responder for FirstView<'a, G> {
 
     fn answer(&self, alloc: Global, input: &[u8]) -> Result<((), Image), RunError> {
         one_fault();
-        let old = match State::empty(alloc) {
-            Ok(old) => old,
-            Err(_) => return Err(RunError::Memory),
+        let Ok(old) = State::empty(alloc) else {
+            unreachable!();
         };
         let (image, _) = show_over(self.grower, alloc, input, &old, self.conn)?;
         Ok(((), image))
