@@ -55,8 +55,7 @@ pub record IsGathered (conn : Conn) (old input : List ℕ) (mask : Graymap) (sta
   pub merged : AreMerged mask.raster.width mask.raster.height (kept ++ deltas) state
 
 -- the image is the one that the input asks for over the old bytes of a state file, and these are the new bytes: the
--- join
--- of the file's deltas and of the input's is this state; it shows the image, and the new bytes keep its pieces
+-- join of the file's deltas and of the input's is this state; it shows the image, and the new bytes keep its pieces
 pub record IsImageKept (conn : Conn) (old input : List ℕ) (state : State) (image : Graymap) (new : List ℕ) : Type 0
   where
     pub mask : Graymap
@@ -87,8 +86,7 @@ abbrev pub KeptIsRefused : Conn → List ℕ → List ℕ → RunError → Type 
 KeptIsRefused conn old input e = InputIsRefusedBy (OldIsRefused conn old) input e
 
 -- where a run on the input and the old bytes stops: at what refuses them; or for want of memory in reading the old
--- bytes or
--- writing the new; or for want of it in merging or behind it
+-- bytes or writing the new; or for want of it in merging or behind it
 abbrev pub KeptStops : Conn → List ℕ → List ℕ → RunError → Type 0
 KeptStops conn old input e =
     KeptIsRefused conn old input e

@@ -26,6 +26,7 @@ fn line_length(bytes: &[u8]) -> usize
     bytes.len()
 }
 
+// Whether the line is `image`, where one CR at its end does not count.
 fn is_image_line(line: &[u8]) -> bool
     ensures { IsTrue result ↔ IsImageLine line.now }
 {

@@ -42,7 +42,7 @@ pub enum RunError {
     /// V2: the state file can not be read or written.
     #[error("V2: the state file can not be read or written")]
     StateFile,
-    /// Out of memory, outside reading, merging and writing.
+    /// Out of memory elsewhere: in words, in loading a state file, in growing or deriving an image, and for a page.
     #[error("out of memory")]
     Memory,
     /// U1 to U3, B1 to B3: no studio was opened, or it was not closed.

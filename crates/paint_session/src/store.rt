@@ -120,8 +120,7 @@ fn write_file<R: Files>(files: &R, name: &str, bytes: &[u8]) -> io::Result<()> {
     file.sync_all()
 }
 
-// Writes a file beside the one of the name, and puts it into its place. A file that was begun and is not put there is
-// taken away again.
+// Writes a file beside the one of the name, and puts it into its place.
 fn replace_file<R: Files>(files: &R, path: &StatePath, bytes: &[u8]) -> io::Result<()> {
     write_file(files, path.fresh_name(), bytes)?;
     fs::rename(files, path.fresh_name(), path.name())
@@ -138,6 +137,7 @@ impl<R: Files> StateStore for FileStore<'_, R> {
         loaded
     }
 
+    // A file that was begun and is not put in its place is taken away again.
     fn save(&mut self, path: &StatePath, bytes: &[u8]) -> Result<(), RunError> {
         if replace_file(self.files, path, bytes).is_ok() {
             return Ok(());

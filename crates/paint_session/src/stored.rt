@@ -12,11 +12,12 @@ use raster_sweeps::{Grower, OneThread};
 use std::alloc::Global;
 
 /// A view over the strokes of a state file: the file is loaded from the store before the source is read, the view is
-/// written as [`view_kept`](crate::view::view_kept) writes it, and the file is saved after it.
+/// written as [`view_kept`](crate::view::view_kept) writes it, and the file is saved after it. The side has to be 8 to
+/// 256, as [`is_tile_side`](grid_core::is_tile_side) tells.
 ///
-/// Errors: V2 where the file could not be loaded, with source and sink as they were; those of
-/// [`view_kept`](crate::view::view_kept); V2 where it could not be saved, after the image was written. After each the
-/// files are as they were.
+/// Errors: V2 where the file could not be loaded, with source and sink as they were, or plain want of memory there;
+/// those of [`view_kept`](crate::view::view_kept) but C5; V2 where it could not be saved, after the image was written.
+/// After each the files are as they were.
 pub fn view_stored<S: Source, T: StateStore, K: Sink>(
     alloc: Global,
     source: &mut S,
