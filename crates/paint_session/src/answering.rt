@@ -35,7 +35,7 @@ pub trait Responder {
 /// Errors: those of the answer; P10 where memory is refused; P11 where a device failed, or where the source had not
 /// ended after [`MOST_PULLS`](byte_devices::MOST_PULLS) pulls. Nothing is written, unless the sink failed: then a front
 /// of the file.
-pub fn respond<R: Responder, S: Source, K: Sink>(
+pub(crate) fn respond<R: Responder, S: Source, K: Sink>(
     alloc: Global,
     responder: &R,
     source: &mut S,

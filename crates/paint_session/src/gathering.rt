@@ -49,7 +49,7 @@ pub fn gather(alloc: Global, input: &[u8], old: &[u8], conn: Conn) -> Result<Gat
 /// meanwhile by `grower`; want of memory for these is in their place.
 ///
 /// Errors: as [`gather`].
-pub fn gather_beside<G: Grower>(
+pub(crate) fn gather_beside<G: Grower>(
     grower: &G,
     alloc: Global,
     input: &[u8],

@@ -84,7 +84,7 @@ pub fn read_input(alloc: Global, input: &[u8]) -> Result<(Vec<LineDelta>, Image)
 /// mask has pixels, made meanwhile by `grower`; want of memory for these is in their place.
 ///
 /// Errors: as [`read_input`].
-pub fn read_beside<G: Grower>(
+pub(crate) fn read_beside<G: Grower>(
     grower: &G,
     alloc: Global,
     input: &[u8],

@@ -25,7 +25,7 @@ use stroke_lattice::State;
 /// The image that an input asks for over an old state, and the state that it shows.
 ///
 /// Errors: those of [`view_from`](crate::view::view_from) but the devices'.
-pub fn show_over<G: Grower>(
+pub(crate) fn show_over<G: Grower>(
     grower: &G,
     alloc: Global,
     input: &[u8],
@@ -50,7 +50,7 @@ pub fn show_over<G: Grower>(
 /// The image that an input asks for over the old bytes of a state file, and the new bytes.
 ///
 /// Errors: those of [`view_kept`](crate::view::view_kept) but the devices' and C5.
-pub fn show_kept<G: Grower>(
+pub(crate) fn show_kept<G: Grower>(
     grower: &G,
     alloc: Global,
     input: &[u8],
