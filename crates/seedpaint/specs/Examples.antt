@@ -2,7 +2,7 @@
 use Rattle.std.specs.Prelude.{[], ◌∷◌, List, Some, None, codes}
 use Rattle.clap.specs.Words.{Text}
 use Rattle.grid_core.specs.declared.conn.Conn.TheVariants.{Four, Eight}
-use Rattle.paint_session.specs.declared.derive.Derivation.TheVariants.{Fill, HMax}
+use Rattle.paint_session.specs.declared.derive.Derivation.TheVariants.{Fill, HMax, RegMax}
 use Rattle.seedpaint.specs.Words.{Says}
 use Rattle.seedpaint.specs.declared.words.Call.{Call}
 use Rattle.seedpaint.specs.declared.words.Call.TheVariants.{View, Node, Derive, Paint}

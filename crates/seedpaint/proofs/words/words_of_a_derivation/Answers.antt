@@ -5,7 +5,7 @@ use Rattle.seedpaint.specs.Examples.{IsSaidSo, of_a_derivation}
 use Rattle.seedpaint.specs.Words.{HIs, Says}
 use Rattle.seedpaint.specs.declared.words.Call.TheVariants.{Derive}
 use Rattle.grid_core.specs.declared.conn.Conn.TheVariants.{Four, Eight}
-use Rattle.paint_session.specs.declared.derive.Derivation.TheVariants.{Fill, HMax}
+use Rattle.paint_session.specs.declared.derive.Derivation.TheVariants.{Fill, HMax, RegMax}
 use Rattle.seedpaint.proofs.Subcommands.{names_h, option_row}
 use Rattle.seedpaint.proofs.words.words_of_a_derivation.Goals as goal
 

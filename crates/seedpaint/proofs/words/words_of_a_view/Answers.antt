@@ -4,7 +4,7 @@ use Rattle.clap.proofs.OnLiterals.{clap_on_literals}
 use Rattle.seedpaint.specs.Examples.{IsSaidSo, of_a_view}
 use Rattle.seedpaint.specs.Words.{SideIs, Says}
 use Rattle.seedpaint.specs.declared.words.Call.TheVariants.{View}
-use Rattle.grid_core.specs.declared.conn.Conn.TheVariants.{Four}
+use Rattle.grid_core.specs.declared.conn.Conn.TheVariants.{Four, Eight}
 use Rattle.seedpaint.proofs.Subcommands.{names_side, option_row}
 use Rattle.seedpaint.proofs.words.words_of_a_view.Goals as goal
 
