@@ -34,11 +34,12 @@ use std::{env, io};
 /// Makes the call that the words of the process say, as `env::args` gives them, from the source to the sink. The state
 /// file of a view or a node that has one is loaded from the store before the source is read, and saved after the image
 /// is written. A node binds its port on the network, between the load and the reading. A painting is handed back, with
-/// source, store, network and sink as they were. A view and a derivation of a large image use all processors
-/// ([`ManyThreads`]).
+/// source, store, network and sink as they were. A view and a derivation of a large image are grown in at most 8
+/// threads, and no more than there are processors ([`ManyThreads`]).
 ///
-/// Errors: usage, with source, store, network and sink as they were; else those of the call ([`view_run_by`],
-/// [`view_stored_by`], [`node_stored`], [`derive_run_by`]). After each the files are as they were.
+/// Errors: usage or want of memory for the words, with source, store, network and sink as they were; else those of the
+/// call ([`view_run_by`], [`view_stored_by`], [`node_stored`], [`derive_run_by`]). After each the files are as they
+/// were.
 pub fn run<R: Threads + Wait + Clock + Sync, S: Source, T: StateStore, N: Network, K: Sink>(
     rt: &R,
     alloc: Global,
