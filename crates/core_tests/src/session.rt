@@ -13,3 +13,4 @@ mod kept;
 mod pixels;
 mod store;
 mod views;
+mod zeros;
