@@ -16,7 +16,7 @@ use Rattle.paint_session.specs.declared.run_error.RunError.TheVariants.{Link, Me
 use Rattle.paint_session.proofs.Shared.{input_is_no_file, kept_stops_of_input, reading_is_no_file, transfer_is_no_file}
 use Rattle.paint_session.proofs.StoredViews.{load_fault, store_unloaded, store_shown}
 use Rattle.node_session.specs.Network.{NetworkSeen, TellsNetwork}
-use Rattle.node_session.specs.Shared.{IsNodeView, IsSharedView, NodeStops}
+use Rattle.node_session.specs.Shared.{IsNodeView, NodeStops}
 use Rattle.node_session.specs.Stored.{IsHeldFor, IsNodeFault, IsStoredNode, LoadsFor, SavesFor, StoredNodeStops}
 use Rattle.node_session.specs.Stored.{to_keep}
 
@@ -169,28 +169,31 @@ store_saved bytes_of old middle new v result (Some name) bytes loads saves =
 -- ---- what is served
 
 -- what a node's run answers, over bytes that the file held
-stored_of : (conn : Conn) (hands : ℕ) (file : Option (List ℕ)) (link link' : LinkSeen) (held : Held)
-    (old given input text new : List ℕ) → IsHeldFor held file old → given ≡ old
-    → IsNodeView conn hands given link link' input text new
-    → IsStoredNode conn hands file held input text (to_keep file new)
-stored_of conn hands file link link' held old given input text new is_held is (count, (heard, gives, view)) = (
+stored_of : {L : Type 0} (heard : L → LinkSeen) (conn : Conn) (hands ticks : ℕ) (file : Option (List ℕ))
+    (link link' : L) (held : Held) (old given input text new : List ℕ) → IsHeldFor held file old → given ≡ old
+    → IsNodeView conn hands ticks given (heard link) (heard link') input text new
+    → IsStoredNode heard conn hands ticks file held input text (to_keep file new)
+stored_of heard conn hands ticks file link link' held old given input text new is_held is view = (
   old,
   new,
   is_held,
-  count,
-  (heard, subst (λ (bytes : List ℕ). IsSharedView conn bytes heard input text new) is view),
+  (
+    link,
+    link',
+    subst (λ (bytes : List ℕ). IsNodeView conn hands ticks bytes (heard link) (heard link') input text new) is view,
+  ),
   refl,
 )
 
-module _ {S K : Type 0} (known : Option (List ℕ)) (seen : K → SinkSeen) (conn : Conn) (hands : ℕ)
-    (file : Option (List ℕ)) (link link' : LinkSeen) where
+module _ {S K L : Type 0} (known : Option (List ℕ)) (seen : K → SinkSeen) (heard : L → LinkSeen) (conn : Conn)
+    (hands ticks : ℕ) (file : Option (List ℕ)) (link link' : L) where
   -- the run was refused
   pub serves_refused : {V : Type 0} (items : V → List ℕ) (held held' : Held) (old given : List ℕ) (e : RunError)
       (source source' : S) (sink sink' : K) → IsHeldFor held file old → given ≡ old
-      → Responds (λ input new text. IsNodeView conn hands given link link' input text (items new))
+      → Responds (λ input new text. IsNodeView conn hands ticks given (heard link) (heard link') input text (items new))
       (NodeStops conn hands given) IsReadingFault IsTransferFault (Err e) known seen sink sink'
-      → Serves (IsStoredNode conn hands file held) (StoredNodeStops conn hands file held) (IsNodeFault file) (Err e)
-      known source source' seen sink sink' held held'
+      → Serves (IsStoredNode heard conn hands ticks file held) (StoredNodeStops conn hands file held) (IsNodeFault file)
+      (Err e) known source source' seen sink sink' held held'
   serves_refused items held held' old given e source source' sink sink' is_held is r = record {
     shown = tt;
     refused = elim r.refused [
@@ -212,7 +215,8 @@ module _ {S K : Type 0} (known : Option (List ℕ)) (seen : K → SinkSeen) (con
           front.1,
           to_keep file (items front.2),
           front.3,
-          stored_of conn hands file link link' held old given front.0 front.1 (items front.2) is_held is front.4,
+          stored_of heard conn hands ticks file link link' held old given front.0 front.1 (items front.2) is_held is
+              front.4,
           front.5,
         ),
       )
@@ -224,11 +228,11 @@ module _ {S K : Type 0} (known : Option (List ℕ)) (seen : K → SinkSeen) (con
   pub serves_shown : {V : Type 0} (items : V → List ℕ) (held : Held) (middle after : StoreSeen) (old given : List ℕ)
       (new : V) (saved : List ℕ) (result : Result (Unit {0}) RunError) (source source' : S) (sink sink' : K)
       → IsHeldFor held file old → given ≡ old → AreSame held middle.held → saved ≡ items new
-      → Responds (λ input new text. IsNodeView conn hands given link link' input text (items new))
+      → Responds (λ input new text. IsNodeView conn hands ticks given (heard link) (heard link') input text (items new))
       (NodeStops conn hands given) IsReadingFault IsTransferFault (Ok new) known seen sink sink'
       → SavesFor middle after result file saved
-      → Serves (IsStoredNode conn hands file held) (StoredNodeStops conn hands file held) (IsNodeFault file) result
-      known source source' seen sink sink' held after.held
+      → Serves (IsStoredNode heard conn hands ticks file held) (StoredNodeStops conn hands file held) (IsNodeFault file)
+      result known source source' seen sink sink' held after.held
   serves_shown items held middle after old given new saved (Ok value) source source' sink sink' is_held is same is_saved
       r s = record {
         shown = (
@@ -236,7 +240,8 @@ module _ {S K : Type 0} (known : Option (List ℕ)) (seen : K → SinkSeen) (con
           r.shown.1,
           to_keep file (items new),
           r.shown.2,
-          stored_of conn hands file link link' held old given r.shown.0 r.shown.1 (items new) is_held is r.shown.3,
+          stored_of heard conn hands ticks file link link' held old given r.shown.0 r.shown.1 (items new) is_held is
+              r.shown.3,
           r.shown.4,
           kept held middle after file (items new) saved same is_saved s,
         );
@@ -257,7 +262,8 @@ module _ {S K : Type 0} (known : Option (List ℕ)) (seen : K → SinkSeen) (con
           r.shown.1,
           to_keep file (items new),
           r.shown.2,
-          stored_of conn hands file link link' held old given r.shown.0 r.shown.1 (items new) is_held is r.shown.3,
+          stored_of heard conn hands ticks file link link' held old given r.shown.0 r.shown.1 (items new) is_held is
+              r.shown.3,
           r.shown.4,
         );
       }

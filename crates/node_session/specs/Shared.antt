@@ -1,5 +1,6 @@
 -- A view that is shared by a node: what it shows, and what it keeps.
 use Rattle.std.specs.Prelude.{◌≡◌, ◌⊎◌, ◌↔◌, ℕ, List}
+use Rattle.byte_devices.specs.Device.{HasRisenBy}
 use Rattle.grid_core.specs.declared.conn.Conn.{Conn}
 use Rattle.pgm_codec.specs.Graymap.{Graymap}
 use Rattle.pgm_codec.specs.Writing.{raw_text}
@@ -43,9 +44,10 @@ abbrev pub IsSharedView : Conn → List ℕ → List (List ℕ) → List ℕ →
 IsSharedView conn old given input text new =
     (state : State) × (image : Graymap) × IsImageShared conn old input given state image new × (text ≡ raw_text image)
 
--- the same with so many hands, of what the link gave from the first of these moments to the second
-abbrev pub IsNodeView : Conn → ℕ → List ℕ → LinkSeen → LinkSeen → List ℕ → List ℕ → List ℕ → Type 0
-IsNodeView conn hands old link link' input text new = IsCount hands
+-- the same with so many hands, of what the link gave from the first of these moments to the second, between which it
+-- was polled at each of so many ticks
+abbrev pub IsNodeView : Conn → ℕ → ℕ → List ℕ → LinkSeen → LinkSeen → List ℕ → List ℕ → List ℕ → Type 0
+IsNodeView conn hands ticks old link link' input text new = IsCount hands × HasRisenBy ticks link.polls link'.polls
     × ((given : List (List ℕ)) × HasGiven link link' given × IsSharedView conn old given input text new)
 
 -- what a studio that was not opened is to a run: U1 to U3

@@ -6,8 +6,8 @@ use Rattle.paint_session.specs.Serving.{IsStoreFault, ToKeep}
 use Rattle.paint_session.specs.Store.{Held, IsHeldIn, Loads, Saves, StoreSeen}
 use Rattle.paint_session.specs.declared.run_error.RunError.{RunError}
 use Rattle.paint_session.specs.declared.run_error.RunError.TheVariants.{Link}
-use Rattle.studio.specs.Opening.{IsCount}
-use Rattle.node_session.specs.Shared.{IsSharedView, NodeStops}
+use Rattle.link_nodes.specs.Links.{LinkSeen}
+use Rattle.node_session.specs.Shared.{IsNodeView, NodeStops}
 
 -- the bytes are those of the file of this name; without a name there are none
 abbrev pub IsHeldFor : Held → Option (List ℕ) → List ℕ → Type 0
@@ -19,12 +19,15 @@ abbrev pub to_keep : Option (List ℕ) → List ℕ → ToKeep
 to_keep None bytes = None
 to_keep (Some name) bytes = Some (name, bytes)
 
--- the text is a view of the input that was shared in a studio with so many hands, over the bytes of that file, which is
--- to keep the new bytes: beside the strokes of the file and of the input it shows only some that stood in datagrams
-abbrev pub IsStoredNode : Conn → ℕ → Option (List ℕ) → Held → List ℕ → List ℕ → ToKeep → Type 0
-IsStoredNode conn hands file held input text kept =
-    (old new : List ℕ) × IsHeldFor held file old × IsCount hands
-    × ((given : List (List ℕ)) × IsSharedView conn old given input text new) × (kept ≡ to_keep file new)
+-- the text is a view of the input that was shared in a studio with so many hands for so many ticks, over the bytes of
+-- that file, which is to keep the new bytes: beside the strokes of the file and of the input it shows only some that
+-- stood in datagrams that a link gave, which was polled at each tick; what is seen of a link is given first
+abbrev pub IsStoredNode : {L : Type 0} → (L → LinkSeen) → Conn → ℕ → ℕ → Option (List ℕ) → Held → List ℕ → List ℕ
+    → ToKeep → Type 0
+IsStoredNode {L} seen conn hands ticks file held input text kept =
+    (old new : List ℕ) × IsHeldFor held file old
+    × ((link link' : L) × IsNodeView conn hands ticks old (seen link) (seen link') input text new)
+    × (kept ≡ to_keep file new)
 
 -- the run stops on the input over the bytes of that file
 abbrev pub StoredNodeStops : Conn → ℕ → Option (List ℕ) → Held → List ℕ → RunError → Type 0

@@ -48,7 +48,7 @@ pub fn node_run<R: Threads + Wait + Clock + Sync, S: Source, L: Link, K: Sink>(
 ) -> Result<Vec<u8>, RunError>
     ensures answers { AnswersForSide side
         (λ input new text.
-        IsNodeView conn hands old.now (L.seen link.old) (L.seen link.new) input text new.items)
+        IsNodeView conn hands ticks old.now (L.seen link.old) (L.seen link.new) input text new.items)
         (NodeStops conn hands old.now) result S.seen source.old source.new K.seen sink.old sink.new }
     ensures polled { IfOk result (λ _. HasRisenBy ticks (L.seen link.old).polls (L.seen link.new).polls) }
     ensures link { (IsTileSide side → ⊥) → link.new ≡ link.old }

@@ -55,7 +55,8 @@ pub fn node_stored<R: Threads + Wait + Clock + Sync, S: Source, T: StateStore, N
 ) -> Result<(), RunError>
     requires { IsTileSide call.side }
     ensures runs { AnswersOverStore
-        (IsStoredNode call.entry.conn call.entry.hands (option_map (λ path. path.now) call.entry.file))
+        (IsStoredNode N.Link.seen call.entry.conn call.entry.hands call.entry.ticks
+        (option_map (λ path. path.now) call.entry.file))
         (StoredNodeStops call.entry.conn call.entry.hands (option_map (λ path. path.now) call.entry.file))
         (IsNodeFault (option_map (λ path. path.now) call.entry.file)) result
         S.seen source.old source.new T.seen store.old store.new K.seen sink.old sink.new }

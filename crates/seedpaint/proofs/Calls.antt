@@ -8,6 +8,7 @@ use Rattle.byte_devices.specs.Transfer.{PutsAll}
 use Rattle.grid_core.specs.Tiles.{IsTileSide}
 use Rattle.grid_core.specs.declared.conn.Conn.{Conn}
 use Rattle.stroke_lattice.specs.State.{State, nothing}
+use Rattle.link_nodes.specs.Links.{LinkSeen}
 use Rattle.paint_session.proofs.Shared.{derivation_stops_of_input, input_is_no_file, input_stops_of_input}
 use Rattle.paint_session.proofs.Shared.{serves_alone, store_alone}
 use Rattle.paint_session.specs.Answering.{Answers}
@@ -102,12 +103,13 @@ tells_line (Err e) old new line puts = inr (puts.fault, puts.front)
 
 -- what is said of the run of a call, by what is said of what it calls
 module _ {S T K : Type 0} {source_seen : S → SourceSeen} {source source' : S} {store_seen : T → StoreSeen}
-    {store : T} {sink_seen : K → SinkSeen} {sink sink' : K} {result : Result (Unit {0}) RunError} where
+    {store : T} {sink_seen : K → SinkSeen} {sink sink' : K} {result : Result (Unit {0}) RunError} {L : Type 0}
+    (heard : L → LinkSeen) where
   pub view_runs : (call : Call) (conn : Conn) (side : ℕ) → call ≡ View conn side None
       → Answers (λ input _ text. (state : State) × IsView conn nothing input state text)
       (λ input e. InputStops nothing input e) result source_seen source source' sink_seen sink sink'
-      → AnswersOverStore (IsAnswer call) (StopsOn call) (EndsEarly call) result source_seen source source' store_seen
-      store store sink_seen sink sink'
+      → AnswersOverStore (IsAnswer heard call) (StopsOn call) (EndsEarly call) result source_seen source source'
+      store_seen store store sink_seen sink sink'
   view_runs call conn side is answers =
       rw is (record {
         serves = serves_alone _ _ _ _ _ _ _ _ _ _ _ result _ (λ input value text view. (view, refl))
@@ -122,16 +124,16 @@ module _ {S T K : Type 0} {source_seen : S → SourceSeen} {source source' : S} 
       → call ≡ View conn side (Some name)
       → AnswersOverStore (λ held. IsStoredView conn held name) (λ held. StoredStops conn held name) IsStoreFault result
       source_seen source source' store_seen store store' sink_seen sink sink'
-      → AnswersOverStore (IsAnswer call) (StopsOn call) (EndsEarly call) result source_seen source source' store_seen
-      store store' sink_seen sink sink'
+      → AnswersOverStore (IsAnswer heard call) (StopsOn call) (EndsEarly call) result source_seen source source'
+      store_seen store store' sink_seen sink sink'
   stored_view_runs call conn side name is answers =
       rw is (record { serves = answers.serves; devices = answers.devices; stored = answers.stored })
 
   pub derivation_runs : (call : Call) (kind : Derivation) (h : ℕ) (conn : Conn) → call ≡ Derive kind h conn
       → Answers (λ input _ text. IsDerivation kind h conn input text) DerivationStops result source_seen source source'
       sink_seen sink sink'
-      → AnswersOverStore (IsAnswer call) (StopsOn call) (EndsEarly call) result source_seen source source' store_seen
-      store store sink_seen sink sink'
+      → AnswersOverStore (IsAnswer heard call) (StopsOn call) (EndsEarly call) result source_seen source source'
+      store_seen store store sink_seen sink sink'
   derivation_runs call kind h conn is answers =
       rw is (record {
         serves = serves_alone _ _ _ _ _ _ _ _ _ _ _ result _ (λ input value text derived. (derived, refl))

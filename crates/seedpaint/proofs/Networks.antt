@@ -5,6 +5,7 @@ use Rattle.std.specs.Prelude.{IfErr, true}
 use Rattle.byte_devices.specs.Device.{SinkSeen, SourceSeen}
 use Rattle.byte_devices.specs.Transfer.{IsInputOf}
 use Rattle.grid_core.specs.declared.conn.Conn.{Conn}
+use Rattle.link_nodes.specs.Links.{LinkSeen}
 use Rattle.paint_session.specs.RunError.{IsReadingFault, IsTransferFault}
 use Rattle.paint_session.specs.Serving.{AnswersOverStore, IsStoreFault, StoredStops}
 use Rattle.paint_session.specs.Store.{Held, StoreSeen}
@@ -129,12 +130,12 @@ TellsNetwork-wider left wider (Err e) old new widen t =
 
 -- what is said of the run of a node
 pub node_runs : {S T K : Type 0} {source_seen : S → SourceSeen} {source source' : S} {store_seen : T → StoreSeen}
-    {store store' : T} {sink_seen : K → SinkSeen} {sink sink' : K} {result : Result (Unit {0}) RunError} (call : Call)
-    (conn : Conn) (side port ticks hands : ℕ) (peers : List ℕ) (file given : Option (List ℕ))
-    → call ≡ Node conn side port ticks hands peers file → given ≡ file
-    → AnswersOverStore (IsStoredNode conn hands given) (StoredNodeStops conn hands given) (IsNodeFault given) result
-    source_seen source source' store_seen store store' sink_seen sink sink'
-    → AnswersOverStore (IsAnswer call) (StopsOn call) (EndsEarly call) result source_seen source source' store_seen
-    store store' sink_seen sink sink'
-node_runs call conn side port ticks hands peers file given is same answers =
+    {store store' : T} {sink_seen : K → SinkSeen} {sink sink' : K} {result : Result (Unit {0}) RunError} {L : Type 0}
+    (heard : L → LinkSeen) (call : Call) (conn : Conn) (side port ticks hands : ℕ) (peers : List ℕ)
+    (file given : Option (List ℕ)) → call ≡ Node conn side port ticks hands peers file → given ≡ file
+    → AnswersOverStore (IsStoredNode heard conn hands ticks given) (StoredNodeStops conn hands given)
+    (IsNodeFault given) result source_seen source source' store_seen store store' sink_seen sink sink'
+    → AnswersOverStore (IsAnswer heard call) (StopsOn call) (EndsEarly call) result source_seen source source'
+    store_seen store store' sink_seen sink sink'
+node_runs heard call conn side port ticks hands peers file given is same answers =
     rw (is, ← same) (record { serves = answers.serves; devices = answers.devices; stored = answers.stored })

@@ -14,6 +14,7 @@ use Rattle.paint_session.specs.Store.{Held}
 use Rattle.paint_session.specs.View.{IsView, InputStops}
 use Rattle.paint_session.specs.declared.run_error.RunError.{RunError}
 use Rattle.paint_session.specs.declared.run_error.RunError.TheVariants.{Memory, Usage}
+use Rattle.link_nodes.specs.Links.{LinkSeen}
 use Rattle.node_session.specs.Network.{IsBound, NetworkSeen}
 use Rattle.node_session.specs.Stored.{IsNodeFault, IsStoredNode, StoredNodeStops}
 use Rattle.seedpaint.specs.Words.{ProcessSays}
@@ -29,15 +30,15 @@ CanBeMade (Derive kind h conn) = ⊤
 CanBeMade (Paint painting) = ⊥
 
 -- the text is what the call writes for an input, and this is to be kept: for a view or a node with a state file the new
--- bytes of that, over what files hold, else nothing
-abbrev pub IsAnswer : Call → Held → List ℕ → List ℕ → ToKeep → Type 0
-IsAnswer (View conn side None) held input text kept =
+-- bytes of that, over what files hold, else nothing; what is seen of a link that a node may have is given first
+abbrev pub IsAnswer : {L : Type 0} → (L → LinkSeen) → Call → Held → List ℕ → List ℕ → ToKeep → Type 0
+IsAnswer heard (View conn side None) held input text kept =
     ((state : State) × IsView conn nothing input state text) × (kept ≡ None)
-IsAnswer (View conn side (Some name)) held input text kept = IsStoredView conn held name input text kept
-IsAnswer (Node conn side port ticks hands peers file) held input text kept =
-    IsStoredNode conn hands file held input text kept
-IsAnswer (Derive kind h conn) held input text kept = IsDerivation kind h conn input text × (kept ≡ None)
-IsAnswer (Paint painting) held input text kept = ⊥
+IsAnswer heard (View conn side (Some name)) held input text kept = IsStoredView conn held name input text kept
+IsAnswer heard (Node conn side port ticks hands peers file) held input text kept =
+    IsStoredNode heard conn hands ticks file held input text kept
+IsAnswer heard (Derive kind h conn) held input text kept = IsDerivation kind h conn input text × (kept ≡ None)
+IsAnswer heard (Paint painting) held input text kept = ⊥
 
 -- where the call stops on an input
 abbrev pub StopsOn : Call → Held → List ℕ → RunError → Type 0
@@ -68,8 +69,9 @@ abbrev pub IsSaid : {Z E : Type 0} → Result (IntoIter (String Z) Z) E → (Cal
 IsSaid args P = (call : Call) × ProcessSays args call × P call
 
 -- the same four of the call that the words say; words that say none are usage, and reading them may find no memory
-abbrev pub RunAnswers : {Z E : Type 0} → Result (IntoIter (String Z) Z) E → Held → List ℕ → List ℕ → ToKeep → Type 0
-RunAnswers args held input text kept = IsSaid args (λ call. IsAnswer call held input text kept)
+abbrev pub RunAnswers : {L Z E : Type 0} → (L → LinkSeen) → Result (IntoIter (String Z) Z) E → Held → List ℕ → List ℕ
+    → ToKeep → Type 0
+RunAnswers heard args held input text kept = IsSaid args (λ call. IsAnswer heard call held input text kept)
 
 abbrev pub RunStops : {Z E : Type 0} → Result (IntoIter (String Z) Z) E → Held → List ℕ → RunError → Type 0
 RunStops args held input e = IsSaid args (λ call. StopsOn call held input e)

@@ -49,8 +49,8 @@ pub fn run<R: Threads + Wait + Clock + Sync, S: Source, T: StateStore, N: Networ
     network: &mut N,
     sink: &mut K,
 ) -> Result<Option<PaintCall>, RunError>
-    ensures runs { IfEnded result (λ ended. AnswersOverStore (RunAnswers args) (RunStops args) (RunEndsEarly args) ended
-        S.seen source.old source.new T.seen store.old store.new K.seen sink.old sink.new) }
+    ensures runs { IfEnded result (λ ended. AnswersOverStore (RunAnswers N.Link.seen args) (RunStops args)
+        (RunEndsEarly args) ended S.seen source.old source.new T.seen store.old store.new K.seen sink.old sink.new) }
     ensures network { IfEnded result (λ ended. TellsNetwork (RunLeaves args (N.seen network.old)) ended
         (N.seen network.old) (N.seen network.new)) }
 
@@ -86,7 +86,7 @@ fn make<R: Threads + Wait + Clock + Sync, S: Source, T: StateStore, N: Network, 
     sink: &mut K,
 ) -> Result<(), RunError>
     requires can_be { CanBeMade call }
-    ensures runs { AnswersOverStore (IsAnswer call) (StopsOn call) (EndsEarly call) result
+    ensures runs { AnswersOverStore (IsAnswer N.Link.seen call) (StopsOn call) (EndsEarly call) result
         S.seen source.old source.new T.seen store.old store.new K.seen sink.old sink.new }
     ensures network { TellsNetwork (Leaves call (N.seen network.old)) result
         (N.seen network.old) (N.seen network.new) }

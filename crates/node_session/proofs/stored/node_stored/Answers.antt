@@ -11,13 +11,14 @@ returns-in_err-new-clause-runs g c =
     let e = c.in_err-new.field-0.0 in
     let call = c.args.call in
     let file : Option (List ℕ) = option_map (λ path. path.now) call.file in
-    let link = g.N.Link.Link.seen c.in_ok-link.link in
-    let link' = g.N.Link.Link.seen c.node_run.new.link in
+    let heard = g.N.Link.Link.seen in
+    let link = c.in_ok-link.link in
+    let link' = c.node_run.new.link in
     let held = loaded (λ v. v.items) _ _ c.in_ok-old.old file c.in_ok-old.ensures in
     let view = c.in_err-new.ensures.answers.answered c.requires in
     rw (p.1, p.2) record {
-      serves = serves_refused _ _ call.conn call.hands file link link' _ _ _ c.in_ok-old.old.items c.deref.result.now e
-          _ _ _ _ held.held c.deref.ensures.value view.responds;
+      serves = serves_refused _ _ heard call.conn call.hands call.ticks file link link' _ _ _ c.in_ok-old.old.items
+          c.deref.result.now e _ _ _ _ held.held c.deref.ensures.value view.responds;
       devices = devices_refused _ _ _ _ file e view.devices;
       stored = store_refused _ _ e file _ held
           (refused_at_no_file call.conn call.hands c.deref.result.now _ e view.responds.refused);
@@ -35,14 +36,15 @@ pub returns-clause-runs : goal.returns-clause-runs
 returns-clause-runs g c =
     let call = c.args.call in
     let file : Option (List ℕ) = option_map (λ path. path.now) call.file in
-    let link = g.N.Link.Link.seen c.in_ok-link.link in
-    let link' = g.N.Link.Link.seen c.node_run.new.link in
+    let heard = g.N.Link.Link.seen in
+    let link = c.in_ok-link.link in
+    let link' = c.node_run.new.link in
     let held = loaded (λ v. v.items) _ _ c.in_ok-old.old file c.in_ok-old.ensures in
     let view = c.in_ok-new.ensures.answers.answered c.requires in
     record {
-      serves = serves_shown _ _ call.conn call.hands file link link' (λ v. v.items) _ _ _ c.in_ok-old.old.items
-          c.deref.result.now c.in_ok-new.new c.deref-2.result.now c.save_for.result _ _ _ _ held.held
-          c.deref.ensures.value held.same c.deref-2.ensures.value view.responds c.save_for.ensures;
+      serves = serves_shown _ _ heard call.conn call.hands call.ticks file link link' (λ v. v.items) _ _ _
+          c.in_ok-old.old.items c.deref.result.now c.in_ok-new.new c.deref-2.result.now c.save_for.result _ _ _ _
+          held.held c.deref.ensures.value held.same c.deref-2.ensures.value view.responds c.save_for.ensures;
       devices = devices_shown _ _ _ _ file c.in_ok-new.new _ _ c.save_for.result _ view.devices c.save_for.ensures;
       stored = store_saved (λ v. v.items) _ _ _ c.in_ok-old.old c.save_for.result file _ c.in_ok-old.ensures
           c.save_for.ensures;

@@ -23,7 +23,7 @@ view_leaves call conn side file seen is = rw is refl
 
 pub returns-in-None-clause-runs : goal.returns-in-None-clause-runs
 returns-in-None-clause-runs g c =
-    view_runs c.args.call c.in-View.conn c.in-View.side
+    view_runs g.N.Link.Link.seen c.args.call c.in-View.conn c.in-View.side
     (with_file c.args.call c.in-View.conn c.in-View.side c.in-View.file None c.in-View.is c.in-None.is)
     c.view_run_by.ensures
 
@@ -45,7 +45,7 @@ returns-in-None-clause-unbound g c =
 pub returns-in-Some-clause-runs : goal.returns-in-Some-clause-runs
 returns-in-Some-clause-runs g c =
     let path = c.in-Some.path in
-    stored_view_runs c.args.call c.in-View.conn c.in-View.side path
+    stored_view_runs g.N.Link.Link.seen c.args.call c.in-View.conn c.in-View.side path
     (with_file c.args.call c.in-View.conn c.in-View.side c.in-View.file (Some path) c.in-View.is c.in-Some.is)
     c.view_stored_by.ensures
 
@@ -71,12 +71,13 @@ returns-in-Some-clause-unbound g c =
 
 pub returns-in-Node-clause-runs : goal.returns-in-Node-clause-runs
 returns-in-Node-clause-runs g c =
-    node_runs c.args.call c.in-Node.conn c.in-Node.side c.in-Node.port c.in-Node.ticks c.in-Node.hands c.in-Node.peers
-    c.in-Node.file _ c.in-Node.is c.as_ref.ensures.value c.node_stored.ensures.runs
+    node_runs g.N.Link.Link.seen c.args.call c.in-Node.conn c.in-Node.side c.in-Node.port c.in-Node.ticks
+    c.in-Node.hands c.in-Node.peers c.in-Node.file _ c.in-Node.is c.as_ref.ensures.value c.node_stored.ensures.runs
 
 pub returns-in-Derive-clause-runs : goal.returns-in-Derive-clause-runs
 returns-in-Derive-clause-runs g c =
-    derivation_runs c.args.call c.in-Derive.kind c.in-Derive.h c.in-Derive.conn c.in-Derive.is c.derive_run_by.ensures
+    derivation_runs g.N.Link.Link.seen c.args.call c.in-Derive.kind c.in-Derive.h c.in-Derive.conn c.in-Derive.is
+    c.derive_run_by.ensures
 
 pub returns-in-Derive-clause-network : goal.returns-in-Derive-clause-network
 returns-in-Derive-clause-network g c =

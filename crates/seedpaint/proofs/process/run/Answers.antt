@@ -11,6 +11,7 @@ use Rattle.paint_session.specs.declared.run_error.RunError.{RunError}
 use Rattle.paint_session.specs.declared.run_error.RunError.TheVariants.{Link, Usage}
 use Rattle.seedpaint.proofs.Calls.{process_can_be_made, process_painting_side, words_are_early, words_are_no_device}
 use Rattle.seedpaint.proofs.Calls.{words_are_no_file}
+use Rattle.link_nodes.specs.Links.{LinkSeen}
 use Rattle.node_session.proofs.StoredNodes.{network_idle}
 use Rattle.node_session.specs.Network.{NetworkSeen, TellsNetwork}
 use Rattle.seedpaint.proofs.Networks.{TellsNetwork-wider, words_are_no_link}
@@ -28,11 +29,12 @@ module _ {Z E : Type 0} (args : Result (IntoIter (String Z) Z) E) (call : Call) 
     (result : Result (Unit {0}) RunError) where
   answers_of_said : {S T K : Type 0} {source_seen : S → SourceSeen} {source source' : S} {store_seen : T → StoreSeen}
       {store store' : T} {sink_seen : K → SinkSeen} {sink sink' : K}
-      → AnswersOverStore (IsAnswer call) (StopsOn call) (EndsEarly call) result source_seen source source' store_seen
-      store store' sink_seen sink sink'
-      → AnswersOverStore (RunAnswers args) (RunStops args) (RunEndsEarly args) result source_seen source source'
+      {L : Type 0} (heard : L → LinkSeen)
+      → AnswersOverStore (IsAnswer heard call) (StopsOn call) (EndsEarly call) result source_seen source source'
       store_seen store store' sink_seen sink sink'
-  answers_of_said made = record {
+      → AnswersOverStore (RunAnswers heard args) (RunStops args) (RunEndsEarly args) result source_seen source source'
+      store_seen store store' sink_seen sink sink'
+  answers_of_said heard made = record {
     serves = Serves-wider _ _ _ _ _ _ _ _ _ _ _ _ result _ _
         (λ input text kept answer. (call, says, answer)) (λ input e stops. (call, says, stops))
         (λ e early. inr (inr (call, says, early))) made.serves;
@@ -71,7 +73,7 @@ pub returns-in_err-make-in_default-clause-runs : goal.returns-in_err-make-in_def
 returns-in_err-make-in_default-clause-runs g c =
     let p = err_from_is_err_and c.from_residual-in_err-make-in_default.result
     c.from_residual-in_err-make-in_default.ensures.1 in
-    rw (p.1, p.2) (answers_of_said c.args.args c.in_ok-said.said c.in_ok-said.ensures.says _
+    rw (p.1, p.2) (answers_of_said c.args.args c.in_ok-said.said c.in_ok-said.ensures.says _ g.N.Link.Link.seen
     c.in_err-make-in_default.ensures.runs)
 
 pub returns-in_err-make-in_default-clause-network : goal.returns-in_err-make-in_default-clause-network
@@ -104,7 +106,7 @@ returns-in_ok-make-in_default g c =
     let says = c.in_ok-said.ensures.says in
     let made = c.in_ok-make-in_default.ensures in
     record {
-      runs = answers_of_said c.args.args c.in_ok-said.said says _ made.runs;
+      runs = answers_of_said c.args.args c.in_ok-said.said says _ g.N.Link.Link.seen made.runs;
       network = network_of_said c.args.args c.in_ok-said.said says _ _ _ made.network;
       painting = tt;
       side = tt;
