@@ -14,8 +14,9 @@ use raster_sweeps::Grower;
 use reset_core::Blanks;
 use std::alloc::{AllocError, Global};
 
-/// What a node begins with, and memory for as many grids as it takes. All of it has been written to once: that takes
-/// as long as to grow an image, and is done in other threads while the input is read.
+/// What a node begins with, and memory for the four grids that it takes, as far as there was some. It has been written
+/// to once: that takes as long as to grow an image, and is done in other threads, where there are some, while the input
+/// is read.
 #[derive(Drop)]
 pub(crate) struct Start {
     /// The mask, its fingerprint and the strokes.
@@ -40,40 +41,37 @@ pub(crate) fn gather_in_memory<G: Grower>(
     ensures blank { IfOk result (λ start. AreBlanks start.blanks) }
     ensures refused { IfErr result (λ e. IsReadingFault e ⊎ KeptStops conn old.now input.now e) }
 {
-    let pixels = mask_pixels_in(input);
-    let gather_in_blanks = || -> Result<(Gathered, Option<Blanks>), RunError>
-        ensures { IfOk result (λ parts. IsGatheredFrom conn old.entry.now input.entry.now parts.0)
-            × IfOk result (λ parts. AreBlanks parts.1)
+    let gather_all = || -> Result<Gathered, RunError>
+        ensures { IfOk result (IsGatheredFrom conn old.entry.now input.entry.now)
             × IfErr result (λ e. IsReadingFault e ⊎ KeptStops conn old.entry.now input.entry.now e) }
-    { gather_with_blanks(grower, alloc, pixels, input, old, conn) };
-    let (found, spares) = spares_beside(grower, alloc, pixels, gather_in_blanks);
-    let (gathered, blanks) = found?;
+    { gather(alloc, input, old, conn) };
+    let (gathered, blanks, spares) = all_beside(grower, alloc, mask_pixels_in(input), gather_all);
     Ok(Start {
-        gathered,
+        gathered: gathered?,
         blanks,
         spares,
     })
 }
 
-// Gathers, and makes blanks of so many zeros meanwhile.
-fn gather_with_blanks<G: Grower>(
+// Does some work, and meanwhile makes memory for four grids of so many cells, as far as there is some: blanks, and two
+// to spare.
+fn all_beside<G: Grower, T, F: FnOnce() -> T>(
     grower: &G,
     alloc: Global,
     pixels: usize,
-    input: &[u8],
-    old: &[u8],
-    conn: Conn,
-) -> Result<(Gathered, Option<Blanks>), RunError>
-    ensures gathered { IfOk result (λ parts. IsGatheredFrom conn old.now input.now parts.0) }
-    ensures blank { IfOk result (λ parts. AreBlanks parts.1) }
-    ensures refused { IfErr result (λ e. IsReadingFault e ⊎ KeptStops conn old.now input.now e) }
+    work: F,
+) -> (T, Option<Blanks>, Vec<Vec<u16>>)
+    requires { F.pre work }
+    ensures done { F.post work result.0 }
+    ensures blank { AreBlanks result.1 }
 {
-    let gather_all = || -> Result<Gathered, RunError>
-        ensures { IfOk result (IsGatheredFrom conn old.entry.now input.entry.now)
-            × IfErr result (λ e. IsReadingFault e ⊎ KeptStops conn old.entry.now input.entry.now e) }
-    { gather(alloc, input, old, conn) };
-    let (gathered, blanks) = Blanks::beside(grower, alloc, pixels, gather_all);
-    Ok((gathered?, blanks))
+    let work_and_blanks = move || -> (T, Option<Blanks>)
+        requires { F.pre work }
+        ensures done { F.post work result.0 }
+        ensures blank { AreBlanks result.1 }
+    { Blanks::beside(grower, alloc, pixels, work) };
+    let ((done, blanks), spares) = spares_beside(grower, alloc, pixels, work_and_blanks);
+    (done, blanks, spares)
 }
 
 // Does some work, and meanwhile makes memory for two grids of so many cells, as far as there is some.

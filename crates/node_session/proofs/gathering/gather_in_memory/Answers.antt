@@ -10,4 +10,4 @@ returns-in_err-gathered-clause-refused g c =
     let p = err_from_is_err_and c.from_residual.result c.from_residual.ensures.1 in
     rw (p.1, p.2)
     (subst (λ r. IfErr r (λ e. IsReadingFault e ⊎ KeptStops c.args.conn c.args.old.now c.args.input.now e))
-    c.in_err-gathered.was c.spares_beside-found.ensures.2)
+    c.in_err-gathered.was c.all_beside-gathered.ensures.done.1)

@@ -33,9 +33,11 @@ returns-in_err-write_to-clause-answers g c =
     let shown = c.in_ok-image.ensures.shown in
     rw (p.1, p.2) (answered_for_side _ _ _ _ _ _ _ _ _ _ (c.is_tile_side.ensures.0 c.if-not-is_tile_side.false)
     (unwritten _ _ _ _ _ _ _ c.deref.result.now c.in_ok-input.input known c.in_ok-input.ensures.to_end
-    c.in_ok-image.new c.in_ok-image.image
-    (c.in_ok-image.ensures.hands, c.in_ok-image.ensures.polled,
-    (shown.0, shown.2, (shown.1, c.in_ok-image.image, shown.3, refl))) _
+    c.in_ok-image.new c.in_ok-image.image (
+      c.in_ok-image.ensures.hands,
+      c.in_ok-image.ensures.polled,
+      (shown.0, shown.2, (shown.1, c.in_ok-image.image, shown.3, refl)),
+    ) _
     c.in_err-write_to.field-0.0 c.in_err-write_to.ensures))
 
 pub returns-clause-answers : goal.returns-clause-answers
@@ -44,7 +46,9 @@ returns-clause-answers g c =
     let shown = c.in_ok-image.ensures.shown in
     answered_for_side _ _ _ _ _ _ _ _ _ _ (c.is_tile_side.ensures.0 c.if-not-is_tile_side.false)
     (written _ _ _ _ _ _ _ c.deref.result.now c.in_ok-input.input known c.in_ok-input.ensures.to_end
-    c.in_ok-image.new c.in_ok-image.image
-    (c.in_ok-image.ensures.hands, c.in_ok-image.ensures.polled,
-    (shown.0, shown.2, (shown.1, c.in_ok-image.image, shown.3, refl))) _ _
+    c.in_ok-image.new c.in_ok-image.image (
+      c.in_ok-image.ensures.hands,
+      c.in_ok-image.ensures.polled,
+      (shown.0, shown.2, (shown.1, c.in_ok-image.image, shown.3, refl)),
+    ) _ _
     c.in_ok-write_to.ensures)
