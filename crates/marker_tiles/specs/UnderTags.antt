@@ -1,5 +1,5 @@
--- The strokes that stand under some tags of a state, live or not, and what painting or clearing them leaves. Private
--- functions have it in their contracts.
+-- The strokes that stand under some tags of a state, live or not, and what painting or clearing them leaves. All but
+-- `IsBlankOn` stands in contracts of private functions.
 use Rattle.std.specs.Prelude.{◌≡◌, ℕ, Bool, false, min, max, if◌then◌else◌, List, [], ◌∷◌, Option, Some, None}
 use Rattle.std.specs.FinMap as map
 use Rattle.std.specs.List.{list_any}

@@ -95,8 +95,8 @@ impl Markers {
     /// stands. Both hold of a state that is merged into, and of the change that
     /// [`merge`](stroke_lattice::State::merge) answers.
     ///
-    /// It looks at the pixels of the strokes that were born or died, and, where a stroke died, once at each live
-    /// stroke and at its pixels in the rectangle round the dead ones.
+    /// It looks at the pixels of the strokes that were born or died, and, where a stroke died, at those of each live
+    /// stroke within windows round the dead ones: one round each, or one round all where more than 16 died.
     pub fn apply(&mut self, state: &State, change: &Change)
         requires fits { StateFits self.old.mask.width self.old.mask.height state.now }
         requires known { HasGrown self.old.mask self.old.marker state.now change.now }

@@ -11,19 +11,20 @@ pub(crate) const MOST_WINDOWS: usize = 16;
 /// Up to [`MOST_WINDOWS`] windows.
 #[derive(Drop)]
 pub(crate) struct Windows {
-    windows: [Window; 16],
+    windows: [Window; MOST_WINDOWS],
     len: usize,
 }
 
 impl Model for Windows {
     ghost use Rattle.std.specs.Prelude.{◌≤◌, List, take};
     ghost use Rattle.marker_tiles.specs.declared.window.Window.{Window};
+    ghost use Rattle.marker_tiles.specs.declared.windows.TheConstants.{MOST_WINDOWS};
 
     ghost Value = { List Window };
 
     ghost view = { λ w. take w.len w.windows };
 
-    ghost invariant = { λ w. w.len ≤ 16 };
+    ghost invariant = { λ w. w.len ≤ MOST_WINDOWS };
 }
 
 impl Windows {
@@ -32,7 +33,7 @@ impl Windows {
         ensures { result ≡ [] }
     {
         Windows {
-            windows: [Window::empty(); 16],
+            windows: [Window::empty(); MOST_WINDOWS],
             len: 0,
         }
     }
