@@ -12,3 +12,4 @@ pub mod MergeSteps
 pub mod Bounding
 pub mod Scheduling
 pub mod Starting
+pub mod StartingTiles

@@ -45,6 +45,7 @@ use Rattle.reset_core.specs.declared.replica.Core.TheInside.{Inside as Parts}
 use Rattle.reset_core.specs.Replica.{IsStored, begun, core_of, with_image}
 use Rattle.reset_core.specs.declared.replica.Beginning.{Beginning}
 use Rattle.reset_core.proofs.Bounding.{closed_bounded}
+use Rattle.reset_core.proofs.StartingTiles.{settled_tiles}
 use Rattle.reset_core.proofs.Storing.{none_cut, same_tiling}
 
 -- ---- the reconstruction is supported
@@ -324,4 +325,7 @@ begun_is_as_settled edges mask conn side first state turnover log merged settled
           one_image mask conn state sound_begun.marker settled.image begun.image sound_begun.is_marker
           sound_settled.shape.image shape.image (recon_settled sound_begun.marker sound_begun.is_marker)
           (recon_begun sound_begun.marker sound_begun.is_marker);
+      tiles =
+          settled_tiles mask conn side first state turnover log merged settled merges settles
+          ∙ sym (ap (λ (core : Core). core.tiles) begins.core_is);
     }

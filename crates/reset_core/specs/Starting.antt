@@ -25,13 +25,15 @@ pub record IsBegunWith (mask : Raster) (conn : Conn) (side first : ℕ) (state :
   pub quiet : IsQuiet core
   pub reconstruction : HasReconstruction core
 
--- the cores show the same: the image of the same strokes on the same mask, cut into the same tiles
+-- the cores show the same: the image of the same strokes on the same mask, cut into the same tiles, each of which is in
+-- the same generation and has the same work left; only the serials of their next jobs may differ
 pub record ShowAlike (a b : Core) : Type 0 where
   pub mask : a.mask ≡ b.mask
   pub conn : a.conn ≡ b.conn
   pub side : a.side ≡ b.side
   pub state : a.state ≡ b.state
   pub image : a.image ≡ b.image
+  pub tiles : a.tiles ≡ b.tiles
 
 -- a core that was opened, took these strokes and was settled shows what one that begins with them shows
 abbrev pub BegunIsAsSettled : Type 0
