@@ -93,6 +93,7 @@ fn tell(
     each_pixel_in_one_tile();
     told.clear();
     let generation = work.generation(tile);
+    // There is room for all of them, so it does not fail.
     let _ = open_edges_in(image, mask, tiling, tile, generation, conn, area, told);
     if told.is_empty() {
         return;

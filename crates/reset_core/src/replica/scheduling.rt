@@ -193,6 +193,7 @@ impl Core {
         let Some(swept) = tally.results.get(place) else {
             return Ok(());
         };
+        // For its clause alone: the result is a swept tile.
         let _ = swept.pixels();
         let copy = swept.copy(alloc)?;
         match self.give_back(alloc, copy) {

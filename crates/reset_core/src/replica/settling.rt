@@ -121,6 +121,7 @@ impl Core {
         ensures none_out { NoneOut self.new }
         ensures count { result ≡ length (tickets_out 0 self.old.tiles) }
     {
+        // For its clause alone: there are no more tiles than a `usize` counts.
         let _ = self.tiles();
         let mut abandons = 0;
         while self.abandon_first() {
@@ -227,6 +228,7 @@ impl Core {
         ensures works { AreWorkedOffWithin limit self.old swept.old self.new swept.new result }
         ensures few { result + 1 < 2 ^ 64 }
     {
+        // For their clauses alone: tiles and image are as large as the mask says, so that the jobs can be counted.
         let _ = self.tiling();
         let _ = self.image();
         for jobs in 0..limit {
