@@ -37,6 +37,7 @@ fn add_rect(tiling: &Tiling, rects: &mut Vec<Rect>, tile: Rect) -> Result<(), Me
     requires tile { RectFits tiling.now.width tiling.now.height tile }
     ensures { OnOk result (IsAdded tiling.now rects.old.items tile rects.new.items) }
 {
+    // For its clause alone: the tiling is one, so its sides are small.
     let _ = tiling.width();
     match rects.pop() {
         None => rects.push(tile)?,
