@@ -2,7 +2,6 @@
 
 ghost use Rattle.std.specs.Prelude.{◌≡◌, ◌↔◌, IsTrue};
 ghost use Rattle.core_rules.specs.Work.{IsQuiet};
-ghost use Rattle.paint_board.specs.Board.{IsWhole};
 
 use crate::news::News;
 use reset_core::Core;
@@ -82,13 +81,5 @@ impl Board {
         ensures { result.now ≡ self.now.core.state }
     {
         self.core.state()
-    }
-
-    // Each board is whole. It does nothing.
-    fn wholeness(&self)
-        ensures { IsWhole self.now }
-    {
-        // A look at a field opens the board, so that what each board keeps is known.
-        let _run = self.run;
     }
 }
