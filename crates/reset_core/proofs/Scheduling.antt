@@ -32,7 +32,7 @@ use Rattle.core_rules.specs.Invariant.{IsSound}
 use Rattle.core_rules.specs.Schedule.{Progress, Ran, started, passed, after_event, IsStep, AreSteps, ran_of}
 use Rattle.core_rules.specs.Schedule.{IsStopped, IsCutOff, edits_of}
 use Rattle.reset_core.specs.declared.replica.scheduling.Tally.{Tally}
-use Rattle.reset_core.specs.Scheduling.{Kept, Agrees, LeadsOn, HaveRun, HasRoom}
+use Rattle.reset_core.specs.Scheduling.{Kept, Agrees, LeadsOn, HaveRunSoFar, HasRoom}
 use Rattle.core_rules.proofs.Cores.{work_there}
 use Rattle.reset_core.proofs.Settling.{jobs_append}
 
@@ -397,9 +397,9 @@ steps_push (first ∷ front) step a b c (next, is_first, rest) is_step =
     (next, is_first, steps_push front step next b c rest is_step)
 
 pub none_run : (start : Core) (all : List Step) (kept : Kept)
-    → kept ≡ record { results = []; abandons = 0; accepted = []; refused = [] } → HaveRun start all 0 start kept
+    → kept ≡ record { results = []; abandons = 0; accepted = []; refused = [] } → HaveRunSoFar start all 0 start kept
 none_run start all kept same =
-    subst (λ (k : Kept). HaveRun start all 0 start k) (sym same) (record {
+    subst (λ (k : Kept). HaveRunSoFar start all 0 start k) (sym same) (record {
       reached = started start;
       are_steps = refl;
       agrees = record {
@@ -415,8 +415,8 @@ none_run start all kept same =
     })
 
 pub one_more_run : (start : Core) (all : List Step) (n : ℕ) (now after : Core) (kept more : Kept) (step : Step)
-    → HaveRun start all n now kept → n < length all → step ≡ get_or all n step → LeadsOn step n now kept after more
-    → more.abandons ≤ kept.abandons + 1 → HaveRun start all (n + 1) after more
+    → HaveRunSoFar start all n now kept → n < length all → step ≡ get_or all n step → LeadsOn step n now kept after more
+    → more.abandons ≤ kept.abandons + 1 → HaveRunSoFar start all (n + 1) after more
 one_more_run start all n now after kept more step so_far within there leads few =
     let next = leads.next so_far.reached so_far.agrees in
     let front : take (n + 1) all ≡ take n all ++ step ∷ [] =
@@ -446,7 +446,7 @@ account now kept n a agrees =
     ∙ ap (ran (length kept.results) kept.abandons kept.accepted) agrees.refused_are
 
 pub all_run : (start : Core) (all : List Step) (n : ℕ) (now : Core) (kept : Kept) (ran : Ran)
-    → HaveRun start all n now kept → take n all ≡ all
+    → HaveRunSoFar start all n now kept → take n all ≡ all
     → ran ≡ record {
       jobs = length kept.results;
       abandons = kept.abandons;
@@ -473,7 +473,8 @@ next_is all n step within there =
 
 -- memory ran out within the next step
 pub run_stops : (start : Core) (all : List Step) (n : ℕ) (now after : Core) (kept : Kept) (step : Step)
-    → HaveRun start all n now kept → n < length all → step ≡ get_or all n step → IsCutOff now kept.results step after
+    → HaveRunSoFar start all n now kept → n < length all → step ≡ get_or all n step
+    → IsCutOff now kept.results step after
     → IsStopped start all after
 run_stops start all n now after kept step so_far within there cut =
     let reached = so_far.reached in

@@ -79,7 +79,7 @@ abbrev pub StepLeads : Step → ℕ → Core → Tally → Core → Tally → Ty
 StepLeads step n before tally after more = LeadsOn step n before (kept_of tally) after (kept_of more)
 
 -- so many steps of a schedule were made, and led to this core
-pub record HaveRun (start : Core) (all : List Step) (n : ℕ) (now : Core) (kept : Kept) : Type 0 where
+pub record HaveRunSoFar (start : Core) (all : List Step) (n : ℕ) (now : Core) (kept : Kept) : Type 0 where
   pub reached : Progress
   pub are_steps : AreSteps (take n all) (started start) reached
   pub agrees : Agrees now kept n reached
