@@ -11,7 +11,7 @@ use Rattle.stroke_lattice.specs.State.{State, placed, withdrawn}
 use Rattle.edit_lang.specs.declared.error.EditError.{EditError}
 use Rattle.edit_lang.specs.declared.error.EditError.TheVariants.{BadLine, BadTag, BadStroke, Memory}
 use Rattle.edit_lang.specs.Lines.{lines_of, words_of}
-use Rattle.edit_lang.specs.Numbers.{number_of}
+use Rattle.edit_lang.specs.Numbers.{◌>>=◌, number_of}
 use Rattle.edit_lang.specs.Shapes.{runs_of, disc_of}
 
 -- what a line asks for: nothing, a seed to be placed under a tag, or a tag to be withdrawn; the tag is a word,

@@ -4,7 +4,7 @@ use Rattle.std.specs.List.{slice_split}
 use Rattle.stroke_core.specs.declared.run.Run.{Run}
 use Rattle.stroke_core.specs.Seed.{Shape, Disc}
 use Rattle.edit_lang.specs.Lines.{cut_at}
-use Rattle.edit_lang.specs.Numbers.{coordinate_of}
+use Rattle.edit_lang.specs.Numbers.{◌>>=◌, coordinate_of}
 
 -- the byte of a plus sign
 abbrev pub plus : ℕ
