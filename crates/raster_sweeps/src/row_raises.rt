@@ -9,6 +9,9 @@ use crate::rows::is_closed_straight;
 use grid_core::Conn;
 
 // How many pixels of a row are looked at together for one that is to be raised along the row.
+const SECTION: usize = 256;
+
+// How many pixels of such a section are then looked at together.
 const BLOCK: usize = 64;
 
 // How many pixels of such a block are raised together.
@@ -62,8 +65,31 @@ pub fn raise_from_left(mask: &[u16], row: &mut [u16])
     let mut end = 1;
     while end < row.len() {
         let start = end - 1;
-        end = row.len().min(end + BLOCK);
-        raise_block_from_left(&mask[start..end], &mut row[start..end]);
+        end = row.len().min(end + SECTION);
+        raise_section_from_left(&mask[start..end], &mut row[start..end]);
+    }
+}
+
+// Raises each pixel of a section but the first, from the left, where there is one to be raised.
+fn raise_section_from_left(mask: &[u16], section: &mut [u16])
+    requires { (0 < length section.old) × (length mask.now ≡ length section.old) }
+    ensures { IsRaisedFromLeft mask.now section.old section.new }
+{
+    if !is_raised_from_left(mask, section) {
+        raise_blocks_from_left(mask, section);
+    }
+}
+
+// Raises each pixel of a section, from the left, block by block.
+fn raise_blocks_from_left(mask: &[u16], section: &mut [u16])
+    requires { length mask.now ≡ length section.old }
+    ensures { IsRaisedFromLeft mask.now section.old section.new }
+{
+    let mut end = 1;
+    while end < section.len() {
+        let start = end - 1;
+        end = section.len().min(end + BLOCK);
+        raise_block_from_left(&mask[start..end], &mut section[start..end]);
     }
 }
 
@@ -133,8 +159,31 @@ pub fn raise_from_right(mask: &[u16], row: &mut [u16])
 {
     let mut end = row.len();
     while end > 1 {
+        let start = (end - 1).saturating_sub(SECTION);
+        raise_section_from_right(&mask[start..end], &mut row[start..end]);
+        end = start + 1;
+    }
+}
+
+// Raises each pixel of a section but the last, from the right, where there is one to be raised.
+fn raise_section_from_right(mask: &[u16], section: &mut [u16])
+    requires { (0 < length section.old) × (length mask.now ≡ length section.old) }
+    ensures { IsRaisedFromRight mask.now section.old section.new }
+{
+    if !is_raised_from_right(mask, section) {
+        raise_blocks_from_right(mask, section);
+    }
+}
+
+// Raises each pixel of a section, from the right, block by block.
+fn raise_blocks_from_right(mask: &[u16], section: &mut [u16])
+    requires { length mask.now ≡ length section.old }
+    ensures { IsRaisedFromRight mask.now section.old section.new }
+{
+    let mut end = section.len();
+    while end > 1 {
         let start = (end - 1).saturating_sub(BLOCK);
-        raise_block_from_right(&mask[start..end], &mut row[start..end]);
+        raise_block_from_right(&mask[start..end], &mut section[start..end]);
         end = start + 1;
     }
 }

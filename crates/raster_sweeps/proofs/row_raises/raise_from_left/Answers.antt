@@ -13,7 +13,7 @@ loop-end-preserved c =
     let grows : end < next = omega (arith, c.min-end.ensures, c.loop-end-test.true, sofar.long) in
     let within : next ≤ length before = omega (arith, c.min-end.ensures, sofar.long) in
     record {
-      sofar = next_from_left mask before row c.raise_block_from_left.new.block end next c.requires
-          c.loop-end.invariant.some grows within sofar c.raise_block_from_left.ensures;
+      sofar = next_from_left mask before row c.raise_section_from_left.new.section end next c.requires
+          c.loop-end.invariant.some grows within sofar c.raise_section_from_left.ensures;
       some = omega (arith, grows);
     }

@@ -12,8 +12,8 @@ loop-end-preserved c =
     let sofar = c.loop-end.invariant.sofar in
     let grows : start < end = omega (arith, c.saturating_sub-start.ensures, c.loop-end-test.true) in
     let within : end ≤ length before = omega (arith, c.loop-end.invariant.within, sofar.long) in
-    let next = next_from_right mask before row c.raise_block_from_right.new.block start end c.requires
-    grows within sofar c.raise_block_from_right.ensures in
+    let next = next_from_right mask before row c.raise_section_from_right.new.section start end c.requires
+    grows within sofar c.raise_section_from_right.ensures in
     record {
       sofar = next;
       within = omega (arith, next.long, sofar.long, c.loop-end.invariant.within, grows);

@@ -1,0 +1,20 @@
+use Rattle.std.proofs.Common.{◌<◌, ◌≤◌, length, arith}
+use Rattle.raster_sweeps.proofs.Strips.{next_from_right}
+use Rattle.raster_sweeps.proofs.row_raises.raise_blocks_from_right.Goals as goal
+
+pub loop-end-preserved : goal.loop-end-preserved
+loop-end-preserved c =
+    let mask = c.args.mask.now in
+    let before = c.args.section.now in
+    let row = c.loop-end.section in
+    let start = c.saturating_sub-start.result in
+    let end = c.loop-end.end in
+    let sofar = c.loop-end.invariant.sofar in
+    let grows : start < end = omega (arith, c.saturating_sub-start.ensures, c.loop-end-test.true) in
+    let within : end ≤ length before = omega (arith, c.loop-end.invariant.within, sofar.long) in
+    let next = next_from_right mask before row c.raise_block_from_right.new.block start end c.requires
+    grows within sofar c.raise_block_from_right.ensures in
+    record {
+      sofar = next;
+      within = omega (arith, next.long, sofar.long, c.loop-end.invariant.within, grows);
+    }
