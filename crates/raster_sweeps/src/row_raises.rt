@@ -70,12 +70,13 @@ pub fn raise_from_left(mask: &[u16], row: &mut [u16])
     }
 }
 
-// Raises each pixel of a section but the first, from the left, where there is one to be raised.
+// Raises each pixel of a section but the first, from the left, where there is one to be raised. A section that is no
+// longer than a block is looked at as a block alone.
 fn raise_section_from_left(mask: &[u16], section: &mut [u16])
     requires { (0 < length section.old) × (length mask.now ≡ length section.old) }
     ensures { IsRaisedFromLeft mask.now section.old section.new }
 {
-    if !is_raised_from_left(mask, section) {
+    if section.len() <= BLOCK || !is_raised_from_left(mask, section) {
         raise_blocks_from_left(mask, section);
     }
 }
@@ -165,12 +166,13 @@ pub fn raise_from_right(mask: &[u16], row: &mut [u16])
     }
 }
 
-// Raises each pixel of a section but the last, from the right, where there is one to be raised.
+// Raises each pixel of a section but the last, from the right, where there is one to be raised. A section that is no
+// longer than a block is looked at as a block alone.
 fn raise_section_from_right(mask: &[u16], section: &mut [u16])
     requires { (0 < length section.old) × (length mask.now ≡ length section.old) }
     ensures { IsRaisedFromRight mask.now section.old section.new }
 {
-    if !is_raised_from_right(mask, section) {
+    if section.len() <= BLOCK || !is_raised_from_right(mask, section) {
         raise_blocks_from_right(mask, section);
     }
 }
