@@ -40,3 +40,8 @@ holds_on_ok (Err e) P holds = tt
 pub none_on_err : {T E : Type 0} (result : Result T E) (P : Type 0) (e : E) → result ≡ Err e → OnOk result P
 none_on_err (Ok value) P e is = absurd (cc)
 none_on_err (Err other) P e is = tt
+
+-- what follows from it holds there, too
+pub on_ok_then : {T E : Type 0} (result : Result T E) (P Q : Type 0) → (P → Q) → OnOk result P → OnOk result Q
+on_ok_then (Ok value) P Q leads holds = leads holds
+on_ok_then (Err e) P Q leads holds = tt

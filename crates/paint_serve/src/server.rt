@@ -4,13 +4,14 @@ ghost use Rattle.std.specs.Prelude.{◌≡◌, ◌⊎◌, ◌/◌, ◌-◌, ◌^
 ghost use Rattle.std.specs.Duration.{as_nanos};
 ghost use Rattle.std.specs.Io.KnownBytes.{Appends};
 ghost use Rattle.grid_core.specs.Tiles.{IsTileSide};
-ghost use Rattle.paint_session.specs.Store.{IsHeldIn};
+ghost use Rattle.paint_session.specs.Store.{AreSame, IsHeldIn};
 ghost use Rattle.paint_session.specs.declared.run_error.RunError.TheVariants as errors;
 ghost use Rattle.paint_serve.specs.Opening.{IsOpenedFrom};
 ghost use Rattle.paint_board.specs.Board.{Board as BoardSeen};
 ghost use Rattle.paint_rounds.specs.Peers.{most_of};
 ghost use Rattle.paint_serve.specs.Serving.{IsServed, IsNotServed, address_line};
-ghost use Rattle.paint_serve.specs.Turning.{IsNewServer, AreRounds, LetsIn, TakesTurn, scene};
+ghost use Rattle.paint_serve.specs.Turning.{IsNewServer, AreRounds, LetsIn, TakesTurn, TakesAllTurns, WasServed, scene};
+ghost use Rattle.paint_serve.specs.declared.site.Site.{Site as SiteSeen};
 
 use crate::call::PaintCall;
 use crate::chance::run_number;
@@ -53,7 +54,8 @@ const MOST_ROUNDS: u32 = 16;
 const PATIENCE: u64 = 30_000;
 
 /// Serves the page of a mask and of the state file that keeps its strokes, on 127.0.0.1, until the process is ended.
-/// Puts one line into the sink, the address of the page. The image grows by `grower` before that.
+/// Puts one line into the sink, the address of the page. The image grows by `grower` before that. It ends without an
+/// error only behind as many turns as can be counted.
 ///
 /// Errors, the first that is met: V2 where the state file could not be loaded; P1 to P9 of the mask's file; M1 to M7 of
 /// the state file; D1 where it is for another mask or connectivity; C1 or C2 at the first frame that those before it do
@@ -73,6 +75,11 @@ pub fn paint<R: Net + Files + Clock + RandomSource, G: Grower, T: StateStore + D
         × Appends (K.seen sink.old).written (K.seen sink.new).written (address_line port key)) }
     ensures opened { OnOk result ((board : BoardSeen)
         × IsServed call.conn call.side (T.seen store).held call.file board) }
+    ensures served { OnOk result ((site : SiteSeen) × (board : BoardSeen) × (stored : T)
+        × AreSame (T.seen store).held (T.seen stored).held
+        × Appends (K.seen sink.old).written (K.seen sink.new).written (address_line site.hosts site.key)
+        × IsServed call.conn call.side (T.seen store).held call.file board
+        × WasServed T.seen site board call.side stored call.file) }
     ensures refused { IfErr result (IsNotServed call.conn (T.seen store).held call.file) }
 {
     let mut store = store;
@@ -92,6 +99,7 @@ fn board_of<R: Files + RandomSource, G: Grower, T: StateStore>(
     requires { IsTileSide call.now.side }
     ensures opened { IfOk result (IsServed call.now.conn call.now.side (T.seen store.old).held call.now.file) }
     ensures refused { IfErr result (IsNotServed call.now.conn (T.seen store.old).held call.now.file) }
+    ensures files { AreSame (T.seen store.old).held (T.seen store.new).held }
 {
     match run_number(rt) {
         Ok(run) => open(rt, grower, alloc, call, run, store),
@@ -112,6 +120,7 @@ fn open<R: Files, G: Grower, T: StateStore>(
     ensures opened { IfOk result (λ board. (old input : List ℕ) × IsHeldIn (T.seen store.old).held call.now.file old
         × IsOpenedFrom call.now.conn call.now.side run old input board) }
     ensures refused { IfErr result (IsNotServed call.now.conn (T.seen store.old).held call.now.file) }
+    ensures files { AreSame (T.seen store.old).held (T.seen store.new).held }
 {
     let mut source = StdSource::new(MaskFile::<R>::open(rt, call.mask.as_str()));
     open_board(
@@ -137,7 +146,8 @@ fn serve<R: Clock + RandomSource, T: StateStore + Drop>(
     file: StatePath,
 ) -> Result<(), RunError>
     requires { IsTileSide side }
-    ensures { IfErr result (λ e. (e ≡ errors.Link) ⊎ (e ≡ errors.Memory)) }
+    ensures served { OnOk result (WasServed T.seen site board side store file) }
+    ensures ended { IfErr result (λ e. (e ≡ errors.Link) ⊎ (e ≡ errors.Memory)) }
 {
     let mut server = Server::new(alloc, site, board, side, store, file)?;
     match server.serve(rt) {
@@ -186,7 +196,9 @@ impl<T: StateStore + Drop> Server<T> {
     }
 
     // Takes turns, for as long as anybody counts.
-    pub(crate) fn serve<R: Clock + RandomSource>(&mut self, rt: &R) -> io::Result<()> {
+    pub(crate) fn serve<R: Clock + RandomSource>(&mut self, rt: &R) -> io::Result<()>
+        ensures { OnOk result (TakesAllTurns T.seen self.old self.new) }
+    {
         let start = Instant::now(rt)?;
         for _ in 0..u64::MAX {
             let most = self.patience();

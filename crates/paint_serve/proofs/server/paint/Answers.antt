@@ -1,5 +1,5 @@
 use Rattle.std.proofs.lemmas.Result.{IfErr-weaker, err_from_is_err_and}
-use Rattle.paint_serve.proofs.Servings.{ended_not_served, holds_on_ok, none_on_err, not_told_not_served}
+use Rattle.paint_serve.proofs.Servings.{ended_not_served, holds_on_ok, none_on_err, not_told_not_served, on_ok_then}
 use Rattle.paint_serve.proofs.server.paint.Goals as goal
 
 pub returns-in_err-board-clause-opened : goal.returns-in_err-board-clause-opened
@@ -9,6 +9,11 @@ returns-in_err-board-clause-opened g c =
 
 pub returns-in_err-board-clause-told : goal.returns-in_err-board-clause-told
 returns-in_err-board-clause-told g c =
+    let p = err_from_is_err_and c.from_residual.result c.from_residual.ensures.1 in
+    none_on_err c.from_residual.result _ _ p.1
+
+pub returns-in_err-board-clause-served : goal.returns-in_err-board-clause-served
+returns-in_err-board-clause-served g c =
     let p = err_from_is_err_and c.from_residual.result c.from_residual.ensures.1 in
     none_on_err c.from_residual.result _ _ p.1
 
@@ -24,6 +29,11 @@ returns-in_err-site-clause-opened g c =
 
 pub returns-in_err-site-clause-told : goal.returns-in_err-site-clause-told
 returns-in_err-site-clause-told g c =
+    let p = err_from_is_err_and c.from_residual-in_err-site.result c.from_residual-in_err-site.ensures.1 in
+    none_on_err c.from_residual-in_err-site.result _ _ p.1
+
+pub returns-in_err-site-clause-served : goal.returns-in_err-site-clause-served
+returns-in_err-site-clause-served g c =
     let p = err_from_is_err_and c.from_residual-in_err-site.result c.from_residual-in_err-site.ensures.1 in
     none_on_err c.from_residual-in_err-site.result _ _ p.1
 
@@ -43,7 +53,22 @@ pub returns-clause-opened : goal.returns-clause-opened
 returns-clause-opened g c =
     holds_on_ok c.serve.result _ (c.in_ok-board.board, c.in_ok-board.ensures.opened)
 
+pub returns-clause-served : goal.returns-clause-served
+returns-clause-served g c =
+    let site = c.in_ok-site.site in
+    on_ok_then c.serve.result _ _
+    (λ was. (
+      site,
+      c.in_ok-board.board,
+      _,
+      c.board_of.ensures.files,
+      c.in_ok-site.ensures.told,
+      c.in_ok-board.ensures.opened,
+      was,
+    ))
+    c.serve.ensures.served
+
 pub returns-clause-refused : goal.returns-clause-refused
 returns-clause-refused g c =
     let held = (g.T.StateStore.seen c.args.store).held in
-    IfErr-weaker c.serve.result _ _ (ended_not_served c.args.call.conn held c.args.call.file) c.serve.ensures
+    IfErr-weaker c.serve.result _ _ (ended_not_served c.args.call.conn held c.args.call.file) c.serve.ensures.ended

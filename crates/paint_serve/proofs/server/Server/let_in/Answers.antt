@@ -1,5 +1,5 @@
 use Rattle.std.proofs.Common.{sym, subst}
-use Rattle.paint_serve.specs.Turning.{LetsIn}
+use Rattle.paint_serve.specs.Turning.{IsPageConfig, LetsIn}
 use Rattle.paint_serve.proofs.Turnings.{lets_none_in, lets_one_in}
 use Rattle.paint_serve.proofs.server.Server.let_in.Goals.{in-Ok-new, in_default-new}
 use Rattle.paint_serve.proofs.server.Server.let_in.Goals as goal
@@ -13,7 +13,9 @@ loop-preserved g c =
     elim c.match-new.branch [
       | in-Ok-new w ↦
           lets_one_in c.args.now c.args.self.now c.loop.self c.match-new.self w.new-connection.result w.admit.new.self
-          w.admit.result w.self-is so_far w.new-connection.ensures.history w.admit.ensures.most w.admit.ensures.admitted
-          w.admit.ensures.refused
+          w.admit.result w.self-is so_far
+          (subst IsPageConfig (sym w.new-connection.ensures.config)
+          (record { body = w.config.ensures.body; head = w.config.ensures.head }))
+          w.new-connection.ensures.history w.admit.ensures.most w.admit.ensures.admitted w.admit.ensures.refused
       | in_default-new w ↦ subst (LetsIn c.args.now c.args.self.now) (sym w.self-is) so_far
     ]

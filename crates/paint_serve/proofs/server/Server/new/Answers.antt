@@ -9,6 +9,8 @@ returns g c = record {
     shows = ap (λ (p : Painting). p.board) c.new-2.ensures;
     port = ap (λ (p : Painting). p.port) c.new-2.ensures;
     key = ap (λ (p : Painting). p.key) c.new-2.ensures;
+    html = ap (λ (p : Painting). p.page) c.new-2.ensures;
+    policy = ap (λ (p : Painting). p.policy) c.new-2.ensures;
     jobs = c.jobs_of.ensures;
   };
   kept = c.new-3.ensures;
