@@ -22,24 +22,23 @@ flag_more P i false test before here = (
   λ all. here.1 (all i (omega arith)),
 )
 
--- the same where two tests were made there, and another one before all of them
-pub flag_more_by_two : (Before : Type 0) (P Q : ℕ → Type 0) (i : ℕ) (flag first second : Bool)
-    → (flag ≡ false) ↔ (Before × ((k : ℕ) → k < i → P k × Q k))
+-- the same where two tests were made there
+pub flag_more_by_two : (P Q : ℕ → Type 0) (i : ℕ) (flag first second : Bool)
+    → (flag ≡ false) ↔ ((k : ℕ) → k < i → P k × Q k)
     → (first ≡ false) ↔ P i
     → (second ≡ false) ↔ Q i
-    → ((flag || first) || second ≡ false) ↔ (Before × ((k : ℕ) → k < i + 1 → P k × Q k))
-flag_more_by_two Before P Q i true first second before of_first of_second = (
+    → ((flag || first) || second ≡ false) ↔ ((k : ℕ) → k < i + 1 → P k × Q k)
+flag_more_by_two P Q i true first second before of_first of_second = (
   λ e. absurd cc,
-  λ all. absurd (let no : true ≡ false = before.1 (all.0, λ k h. all.1 k (omega arith)) in cc),
+  λ all. absurd (let no : true ≡ false = before.1 (λ k h. all k (omega arith)) in cc),
 )
-flag_more_by_two Before P Q i false true second before of_first of_second = (
+flag_more_by_two P Q i false true second before of_first of_second = (
   λ e. absurd cc,
-  λ all. absurd (let no : true ≡ false = of_first.1 (all.1 i (omega arith)).0 in cc),
+  λ all. absurd (let no : true ≡ false = of_first.1 (all i (omega arith)).0 in cc),
 )
-flag_more_by_two Before P Q i false false second before of_first of_second = (
-  λ e.
-      ((before.0 refl).0, below_more (λ k. P k × Q k) i (before.0 refl).1 (of_first.0 refl, of_second.0 e)),
-  λ all. of_second.1 (all.1 i (omega arith)).1,
+flag_more_by_two P Q i false false second before of_first of_second = (
+  λ e. below_more (λ k. P k × Q k) i (before.0 refl) (of_first.0 refl, of_second.0 e),
+  λ all. of_second.1 (all i (omega arith)).1,
 )
 
 pub not_down : (flag : Bool) → (not flag ≡ true) ↔ (flag ≡ false)
@@ -137,3 +136,45 @@ module _ (from mask to : List ℕ) (some : 0 < length to) (same_from : length fr
   pub aslant_left : IsClosedTo AreAside from mask to → IsClosedLeft
   aslant_left closed =
       lefts.1 (λ k less. closed (1 + k) (0 + k) (omega arith) (omega arith) (omega arith))
+
+-- ---- a row with itself, section by section, each beginning at the last pixel of the one before
+
+-- no pixel of a row before `end` raises another of them
+abbrev pub IsClosedUpTo : List ℕ → List ℕ → ℕ → Type 0
+IsClosedUpTo row mask end =
+    (a b : ℕ) → a < end → b < end → AreAside a b → min (get_or row a 0) (get_or mask b 0) ≤ get_or row b 0
+
+module _ (row mask : List ℕ) (end next : ℕ) (some : 0 < end) (grows : end < next) (within : next ≤ length row)
+    (same : length mask ≡ length row) where
+  abbrev section : List ℕ
+  section = between (end - 1) next row
+
+  abbrev limits : List ℕ
+  limits = between (end - 1) next mask
+
+  of_row : IsPart section row (end - 1) (next - (end - 1))
+  of_row = part_between row (end - 1) next (next - (end - 1)) (omega (arith, grows)) within
+
+  of_mask : IsPart limits mask (end - 1) (next - (end - 1))
+  of_mask = part_between mask (end - 1) next (next - (end - 1)) (omega (arith, grows)) (omega (arith, within, same))
+
+  pub closed_further : IsClosedUpTo row mask end → IsClosedTo AreAside section limits section
+      → IsClosedUpTo row mask next
+  closed_further before closed a b less_a less_b aside = elim (cases_lt (min a b) (end - 1)) [
+    | inl early ↦ before a b (omega (arith, aside)) (omega (arith, aside)) aside
+    | inr late ↦
+        let start = end - 1 in
+        let from : start + (a - start) ≡ a = omega (arith, late) in
+        let to : start + (b - start) ≡ b = omega (arith, late) in
+        omega (
+          arith,
+          closed (a - start) (b - start) (omega (arith, late, of_row.long)) (omega (arith, late, of_row.long))
+              (omega (arith, late, aside)),
+          of_row.reads (a - start) (omega (arith, late)),
+          of_mask.reads (b - start) (omega (arith, late)),
+          of_row.reads (b - start) (omega (arith, late)),
+          ap (λ i. get_or row i 0) from,
+          ap (λ i. get_or mask i 0) to,
+          ap (λ i. get_or row i 0) to,
+        )
+  ]

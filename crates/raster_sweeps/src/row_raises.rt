@@ -5,13 +5,10 @@ ghost use Rattle.raster_sweeps.specs.RowPairs.{AreAside, AreBeside, AreFullRows,
 ghost use Rattle.raster_sweeps.specs.RowRaises.{IsRaisedStraight, IsRaisedBy, IsRaisedFromLeft, IsRaisedFromRight};
 ghost use Rattle.raster_sweeps.specs.RowRaises.{IsStepFromLeft, IsStepFromRight};
 
-use crate::rows::is_closed_straight;
+use crate::rows::{SECTION, is_closed_straight};
 use grid_core::Conn;
 
-// How many pixels of a row are looked at together for one that is to be raised along the row.
-const SECTION: usize = 256;
-
-// How many pixels of such a section are then looked at together.
+// How many pixels of a section are then looked at together.
 const BLOCK: usize = 64;
 
 // How many pixels of such a block are raised together.

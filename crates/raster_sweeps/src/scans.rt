@@ -11,6 +11,7 @@ ghost use Rattle.raster_sweeps.specs.RowRaises.{AreApart, AreCellsRaised, IsRowG
 
 use crate::open_pairs::queue_downward;
 use crate::row_raises::{raise_by, raise_from_left, raise_from_right};
+use crate::rows::is_closed_along;
 use crate::size::{Size, row_in};
 use crate::waiting::Waiting;
 use grid_core::{Conn, Rect};
@@ -143,15 +144,26 @@ fn raise_cells_by(limits: &[u16], cells: &mut [u16], source: usize, target: usiz
 }
 
 /// Raises the pixels of the rectangle's row `y` along the row, from the left and then from the right, so that none of
-/// them can raise another.
+/// them can raise another. A row where none can is looked at once, for both directions.
 pub fn raise_row_along(mask: &[u16], image: &mut [u16], size: Size, rect: Rect, y: u32)
     requires { CanGrowRow rect (rows_of size mask.now) (rows_of size image.old) y }
     ensures grown { (conn : _) → IsRowGrown conn rect (rows_of size mask.now) y (rows_of size image.old)
         (rows_of size image.new) }
     ensures closed { (conn : _) → NoneOpenAlong conn rect (rows_of size mask.now) (rows_of size image.new) y }
 {
+    if is_row_closed_along(mask, image, size, rect, y) {
+        return;
+    }
     raise_row_from_left(mask, image, size, rect, y);
     raise_row_from_right(mask, image, size, rect, y);
+}
+
+// Whether no pixel of the rectangle's row `y` raises another in it.
+fn is_row_closed_along(mask: &[u16], image: &[u16], size: Size, rect: Rect, y: u32) -> bool
+    requires { CanGrowRow rect (rows_of size mask.now) (rows_of size image.now) y }
+    ensures { (conn : _) → IsTrue result → NoneOpenAlong conn rect (rows_of size mask.now) (rows_of size image.now) y }
+{
+    is_closed_along(row_in(image, size, rect, y), row_in(mask, size, rect, y))
 }
 
 // Raises the pixels of the rectangle's row `y`, from the left, by those to their left.

@@ -1,9 +1,21 @@
 -- What the tactics leave open of `raise_row_along`.
-use Rattle.std.proofs.Common.{◌∙◌}
+use Rattle.std.proofs.Common.{◌∙◌, refl}
 use Rattle.grid_core.specs.declared.conn.Conn.TheVariants.{Four}
 use Rattle.raster_sweeps.specs.Growth.{rows_of}
+use Rattle.raster_sweeps.proofs.Grown.{fits_below, grown_same}
 use Rattle.raster_sweeps.proofs.Scanning.{none_open_along, row_grown_twice}
 use Rattle.raster_sweeps.proofs.scans.raise_row_along.Goals as goal
+
+pub returns-then-is_row_closed_along-clause-grown : goal.returns-then-is_row_closed_along-clause-grown
+returns-then-is_row_closed_along-clause-grown c conn =
+    let rect = c.args.rect in
+    let mask = rows_of c.args.size c.args.mask.now in
+    let image = rows_of c.args.size c.args.image.now in
+    record {
+      grown = grown_same conn rect mask image c.requires.filled c.requires.below
+          (fits_below rect mask image c.requires.below c.requires.fits);
+      others = λ p inside other. refl;
+    }
 
 pub raise_row_from_right-requires : goal.raise_row_from_right-requires
 raise_row_from_right-requires c =
