@@ -10,7 +10,7 @@ use Rattle.grid_core.specs.Raster.{IsBelow, value_at}
 use Rattle.grid_core.specs.Rects.{part}
 use Rattle.raster_sweeps.specs.declared.size.Size.{Size}
 use Rattle.raster_sweeps.specs.Growth.{rows_of}
-use Rattle.band_growth.specs.Bands.{AreClosedApart, AreGrown, AreGrownApart, AreGrownUp, CanGrowRows, IsAcross}
+use Rattle.band_growth.specs.Bands.{AreClosed, AreClosedApart, AreGrown, CanGrowRows, IsAcross}
 use Rattle.band_growth.specs.Bands.{IsCut, IsOpenPair, above, all_of, below, rows_above, rows_from}
 use Rattle.band_growth.proofs.Halves.{IsPartOf, halves_closed, halves_lawful}
 
@@ -103,10 +103,10 @@ module _ (size : Size) (cut : ℕ) (is_cut : IsCut size cut) (upper_mask lower_m
 module _ (conn : Conn) (size : Size) (cut : ℕ) (is_cut : IsCut size cut)
     (upper_mask lower_mask upper lower upper_new lower_new : List ℕ)
     (long_mask : length upper_mask ≡ cut * size.w) (long : length upper ≡ cut * size.w)
-    (up : AreGrownUp conn (above size cut) upper_mask upper upper_new)
-    (down : AreGrownUp conn (below size cut) lower_mask lower lower_new) where
+    (up : AreGrown conn (above size cut) upper_mask upper upper_new)
+    (down : AreGrown conn (below size cut) lower_mask lower lower_new) where
   long_new : length upper_new ≡ cut * size.w
-  long_new = up.grown.filled ∙ long
+  long_new = up.filled ∙ long
 
   below_joined : IsBelow (rows_of size (upper_new ++ lower_new)) (rows_of size (upper_mask ++ lower_mask))
   below_joined = record {
@@ -116,7 +116,7 @@ module _ (conn : Conn) (size : Size) (cut : ℕ) (is_cut : IsCut size cut)
       | inl early ↦
           omega (
             arith,
-            up.grown.below.values k early,
+            up.below.values k early,
             get_or_append_left upper_new lower_new 0 k early,
             get_or_append_left upper_mask lower_mask 0 k (omega (arith, long_new)),
           )
@@ -126,7 +126,7 @@ module _ (conn : Conn) (size : Size) (cut : ℕ) (is_cut : IsCut size cut)
           let there : length upper_mask + i ≡ k = omega (arith, long_new) in
           omega (
             arith,
-            down.grown.below.values i (omega (arith, length-append upper_new lower_new)),
+            down.below.values i (omega (arith, length-append upper_new lower_new)),
             get_or-append-add upper_new lower_new i 0,
             get_or-append-add upper_mask lower_mask i 0,
             ap (λ n. get_or (upper_new ++ lower_new) n 0) here,
@@ -135,7 +135,8 @@ module _ (conn : Conn) (size : Size) (cut : ℕ) (is_cut : IsCut size cut)
     ];
   }
 
-  rows_grown : AreGrown conn size (upper_mask ++ lower_mask) (upper ++ lower) (upper_new ++ lower_new)
+  -- both halves have grown, and so the rows have
+  pub rows_grown : AreGrown conn size (upper_mask ++ lower_mask) (upper ++ lower) (upper_new ++ lower_new)
   rows_grown = record {
     width = refl;
     height = refl;
@@ -144,8 +145,8 @@ module _ (conn : Conn) (size : Size) (cut : ℕ) (is_cut : IsCut size cut)
           arith,
           length-append upper lower,
           length-append upper_new lower_new,
-          up.grown.filled,
-          down.grown.filled,
+          up.filled,
+          down.filled,
         );
     below = below_joined;
     outside = λ p inside out.
@@ -159,36 +160,36 @@ module _ (conn : Conn) (size : Size) (cut : ℕ) (is_cut : IsCut size cut)
         (back_values size cut upper_mask lower_mask long_mask) (back_values size cut upper_new lower_new long_new)
         (values_of size (upper ++ lower)) (values_of (above size cut) upper) (values_of (below size cut) lower)
         (front_values size cut upper lower long) (back_values size cut upper lower long)
-        up.grown.lawful down.grown.lawful;
+        up.lawful down.lawful;
   }
 
-  open_across : (p q : Pixel) → IsOpenPair conn size (upper_mask ++ lower_mask) (upper_new ++ lower_new) p q
+  open_across : AreClosed conn (above size cut) upper_mask upper_new
+      → AreClosed conn (below size cut) lower_mask lower_new
+      → (p q : Pixel) → IsOpenPair conn size (upper_mask ++ lower_mask) (upper_new ++ lower_new) p q
       → IsAcross cut p q
-  open_across p q raises =
+  open_across closed_above closed_below p q raises =
       halves_closed conn size.w size.h cut (omega (arith, is_cut.some_below))
       (values_of size (upper_mask ++ lower_mask)) (values_of size (upper_new ++ lower_new))
       (values_of (above size cut) upper_mask) (values_of (above size cut) upper_new)
       (values_of (below size cut) lower_mask) (values_of (below size cut) lower_new)
       (front_values size cut upper_mask lower_mask long_mask) (front_values size cut upper_new lower_new long_new)
       (back_values size cut upper_mask lower_mask long_mask) (back_values size cut upper_new lower_new long_new)
-      up.closed down.closed p q raises
+      closed_above closed_below p q raises
 
-  halves_closed_apart : AreClosedApart conn size (upper_mask ++ lower_mask) (upper_new ++ lower_new) cut cut
-  halves_closed_apart = record {
-    before = λ p q raises p_above q_above. elim (open_across p q raises) [
+  -- where both halves are closed, they are closed apart
+  pub rows_apart : AreClosed conn (above size cut) upper_mask upper_new
+      → AreClosed conn (below size cut) lower_mask lower_new
+      → AreClosedApart conn size (upper_mask ++ lower_mask) (upper_new ++ lower_new) cut cut
+  rows_apart closed_above closed_below = record {
+    before = λ p q raises p_above q_above. elim (open_across closed_above closed_below p q raises) [
       | inl from_above ↦ omega (arith, from_above.1, q_above)
       | inr from_below ↦ omega (arith, from_below.0, p_above)
     ];
-    from = λ p q raises p_below q_below. elim (open_across p q raises) [
+    from = λ p q raises p_below q_below. elim (open_across closed_above closed_below p q raises) [
       | inl from_above ↦ omega (arith, from_above.0, p_below)
       | inr from_below ↦ omega (arith, from_below.1, q_below)
     ];
   }
-
-  -- the rows have grown, and both halves are closed
-  pub rows_joined : AreGrownApart conn size (upper_mask ++ lower_mask) (upper ++ lower) (upper_new ++ lower_new)
-      cut cut
-  rows_joined = record { grown = rows_grown; closed = halves_closed_apart }
 
 -- ---- a mask and an image, and their parts
 
@@ -204,13 +205,19 @@ module _ (size : Size) (cut : ℕ) (is_cut : IsCut size cut) (mask image upper_m
   pub lower_can_grow : CanGrowRows (below size cut) lower_mask lower
   lower_can_grow = below_can_grow size cut is_cut upper_mask lower_mask upper lower long_mask long parts_can_grow
 
-  pub halves_grown : (conn : Conn) (upper_new lower_new : List ℕ)
-      → AreGrownUp conn (above size cut) upper_mask upper upper_new
-      → AreGrownUp conn (below size cut) lower_mask lower lower_new
-      → AreGrownApart conn size mask image (upper_new ++ lower_new) cut cut
-  halves_grown conn upper_new lower_new up down =
-      subst (λ m. AreGrownApart conn size m image (upper_new ++ lower_new) cut cut) mask_joined
-      (subst (λ b. AreGrownApart conn size (upper_mask ++ lower_mask) b (upper_new ++ lower_new) cut cut)
-      (sym image_joined)
-      (rows_joined conn size cut is_cut upper_mask lower_mask upper lower upper_new lower_new
-      long_mask long up down))
+  module _ (conn : Conn) (upper_new lower_new : List ℕ)
+      (up : AreGrown conn (above size cut) upper_mask upper upper_new)
+      (down : AreGrown conn (below size cut) lower_mask lower lower_new) where
+    pub halves_grown : AreGrown conn size mask image (upper_new ++ lower_new)
+    halves_grown =
+        subst (λ m. AreGrown conn size m image (upper_new ++ lower_new)) mask_joined
+        (subst (λ b. AreGrown conn size (upper_mask ++ lower_mask) b (upper_new ++ lower_new)) (sym image_joined)
+        (rows_grown conn size cut is_cut upper_mask lower_mask upper lower upper_new lower_new long_mask long up down))
+
+    pub halves_apart : AreClosed conn (above size cut) upper_mask upper_new
+        → AreClosed conn (below size cut) lower_mask lower_new
+        → AreClosedApart conn size mask (upper_new ++ lower_new) cut cut
+    halves_apart closed_above closed_below =
+        subst (λ m. AreClosedApart conn size m (upper_new ++ lower_new) cut cut) mask_joined
+        (rows_apart conn size cut is_cut upper_mask lower_mask upper lower upper_new lower_new long_mask long up down
+        closed_above closed_below)

@@ -8,17 +8,30 @@ use Rattle.raster_sweeps.specs.declared.size.Size.{Size}
 use Rattle.raster_sweeps.specs.Growth.{AllWait, WaitFrom, rows_of}
 use Rattle.raster_sweeps.specs.RowRaises.{IsRowGrown}
 use Rattle.raster_sweeps.proofs.Grown.{fits_below, grown_same, grown_twice}
-use Rattle.band_growth.specs.Bands.{AreClosedApart, AreGrownApart, CanGrowRows, IsOpenPair, all_of}
+use Rattle.band_growth.specs.Bands.{AreClosedApart, AreGrown, AreGrownUp, CanGrowRows, IsOpenPair, all_of}
 
--- rows that are closed apart have grown from themselves
-pub apart_same : (conn : Conn) (size : Size) (mask image : List ℕ) (top bottom : ℕ) → CanGrowRows size mask image
-    → AreClosedApart conn size mask image top bottom
-    → AreGrownApart conn size mask image image top bottom
-apart_same conn size mask image top bottom close closed = record {
-  grown =
-      grown_same conn (all_of size) (rows_of size mask) (rows_of size image) close.filled close.below
-      (fits_below (all_of size) (rows_of size mask) (rows_of size image) close.below close.fits);
-  closed = closed;
+-- rows have grown from themselves
+pub rows_same : (conn : Conn) (size : Size) (mask image : List ℕ) → CanGrowRows size mask image
+    → AreGrown conn size mask image image
+rows_same conn size mask image close =
+    grown_same conn (all_of size) (rows_of size mask) (rows_of size image) close.filled close.below
+    (fits_below (all_of size) (rows_of size mask) (rows_of size image) close.below close.fits)
+
+-- rows that have grown, and then again
+pub rows_twice : (conn : Conn) (size : Size) (mask before between after : List ℕ)
+    → AreGrown conn size mask before between → AreGrown conn size mask between after
+    → AreGrown conn size mask before after
+rows_twice conn size mask before between after =
+    grown_twice conn (all_of size) (rows_of size mask) (rows_of size before) (rows_of size between)
+    (rows_of size after)
+
+-- rows that have grown, and then until no pixel can raise a neighbour
+pub rows_up : (conn : Conn) (size : Size) (mask before between after : List ℕ)
+    → AreGrown conn size mask before between → AreGrownUp conn size mask between after
+    → AreGrownUp conn size mask before after
+rows_up conn size mask before between after first second = record {
+  grown = rows_twice conn size mask before between after first second.grown;
+  closed = second.closed;
 }
 
 -- a pair that is open after a row has risen was open before, where neither pixel lies in that row
@@ -40,27 +53,21 @@ open_before conn size mask y before after p q grown raises other_p other_q = rec
 }
 
 -- where one row has risen, the rows before it and those from the next one on stay closed
-pub apart_more : (conn : Conn) (size : Size) (mask before between after : List ℕ) (y top bottom new_top new_bottom : ℕ)
-    → AreGrownApart conn size mask before between top bottom
-    → IsRowGrown conn (all_of size) (rows_of size mask) y (rows_of size between) (rows_of size after)
+pub apart_more : (conn : Conn) (size : Size) (mask before after : List ℕ) (y top bottom new_top new_bottom : ℕ)
+    → AreClosedApart conn size mask before top bottom
+    → IsRowGrown conn (all_of size) (rows_of size mask) y (rows_of size before) (rows_of size after)
     → new_top ≤ top → new_top ≤ y → bottom ≤ new_bottom → y < new_bottom
-    → AreGrownApart conn size mask before after new_top new_bottom
-apart_more conn size mask before between after y top bottom new_top new_bottom first second up up_row down down_row =
-    record {
-      grown =
-          grown_twice conn (all_of size) (rows_of size mask) (rows_of size before) (rows_of size between)
-          (rows_of size after) first.grown second.grown;
-      closed = record {
-        before = λ p q raises p_above q_above.
-            first.closed.before p q
-            (open_before conn size mask y between after p q second raises (λ e. omega arith) (λ e. omega arith))
-            (omega arith) (omega arith);
-        from = λ p q raises p_below q_below.
-            first.closed.from p q
-            (open_before conn size mask y between after p q second raises (λ e. omega arith) (λ e. omega arith))
-            (omega arith) (omega arith);
-      };
-    }
+    → AreClosedApart conn size mask after new_top new_bottom
+apart_more conn size mask before after y top bottom new_top new_bottom apart grown up up_row down down_row = record {
+  before = λ p q raises p_above q_above.
+      apart.before p q
+      (open_before conn size mask y before after p q grown raises (λ e. omega arith) (λ e. omega arith))
+      (omega arith) (omega arith);
+  from = λ p q raises p_below q_below.
+      apart.from p q
+      (open_before conn size mask y before after p q grown raises (λ e. omega arith) (λ e. omega arith))
+      (omega arith) (omega arith);
+}
 
 -- rows that are closed by themselves have no open pair that would have to wait
 pub closed_waits : (conn : Conn) (size : Size) (mask image : List ℕ) (top bottom : ℕ) (waiting : List ℕ)

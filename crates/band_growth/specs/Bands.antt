@@ -5,7 +5,7 @@ use Rattle.grid_core.specs.declared.conn.Conn.{Conn}
 use Rattle.grid_core.specs.declared.pixel.Pixel.{Pixel}
 use Rattle.grid_core.specs.declared.rect.Rect.{Rect}
 use Rattle.raster_sweeps.specs.declared.size.Size.{Size}
-use Rattle.raster_sweeps.specs.Growth.{CanClose, IsGrown, IsGrownUp, IsOpenIn, rows_of}
+use Rattle.raster_sweeps.specs.Growth.{CanClose, IsClosedIn, IsGrown, IsGrownUp, IsOpenIn, rows_of}
 
 -- the rectangle of all pixels of whole rows
 abbrev pub all_of : Size → Rect
@@ -19,6 +19,10 @@ CanGrowRows size mask image = CanClose (all_of size) (rows_of size mask) (rows_o
 abbrev pub AreGrown : Conn → Size → List ℕ → List ℕ → List ℕ → Type 0
 AreGrown conn size mask before after =
     IsGrown conn (all_of size) (rows_of size mask) (rows_of size before) (rows_of size after)
+
+-- no pixel of the rows can raise a neighbour
+abbrev pub AreClosed : Conn → Size → List ℕ → List ℕ → Type 0
+AreClosed conn size mask image = IsClosedIn conn (all_of size) (rows_of size mask) (rows_of size image)
 
 -- the rows have grown until no pixel can raise a neighbour
 abbrev pub AreGrownUp : Conn → Size → List ℕ → List ℕ → List ℕ → Type 0
@@ -57,8 +61,3 @@ IsOpenPair conn size mask image p q = IsOpenIn conn (all_of size) (rows_of size 
 pub record AreClosedApart (conn : Conn) (size : Size) (mask image : List ℕ) (top bottom : ℕ) : Type 0 where
   pub before : (p q : Pixel) → IsOpenPair conn size mask image p q → p.y < top → q.y < top → ⊥
   pub from : (p q : Pixel) → IsOpenPair conn size mask image p q → bottom ≤ p.y → bottom ≤ q.y → ⊥
-
--- the rows have grown, and both those before the row `top` and those from the row `bottom` on are closed by themselves
-pub record AreGrownApart (conn : Conn) (size : Size) (mask before after : List ℕ) (top bottom : ℕ) : Type 0 where
-  pub grown : AreGrown conn size mask before after
-  pub closed : AreClosedApart conn size mask after top bottom

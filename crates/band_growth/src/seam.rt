@@ -3,7 +3,7 @@
 ghost use Rattle.std.specs.Prelude.{◌≡◌, ◌+◌, ◌<◌, ◌≤◌, [], length, IsTrue};
 ghost use Rattle.raster_sweeps.specs.RowPairs.{AreRows};
 ghost use Rattle.band_growth.specs.Bands.{IsCut};
-ghost use Rattle.band_growth.specs.Steps.{ClosedApart, HasRowGrown, HasRowGrownUp, HaveGrownApart, HaveGrownInto};
+ghost use Rattle.band_growth.specs.Steps.{ClosedApart, HasRowGrown, HasRowGrownUp, HaveGrown, HaveGrownInto};
 ghost use Rattle.band_growth.specs.Steps.{HaveGrownUp, MayGrow, MayRaise, NoneOpenBetween};
 
 use crate::limits::{Limits, all_of};
@@ -24,10 +24,20 @@ pub fn close_seam(limits: &Limits<'_>, image: &mut [u16], cut: u32, waiting: &mu
     requires closed { ClosedApart limits.now image.old cut cut }
     ensures { HaveGrownUp limits.now image.old image.new }
 {
-    let Limits { mask, size, conn } = *limits;
-    let all = all_of(size);
     waiting.clear();
     let room = fill(limits, image, cut, waiting);
+    spread_waiting(limits, image, room, waiting);
+}
+
+/// Raises whole rows until no pair of neighbours is open, where each open pair waits in the queue if there was room for
+/// all of them. Where there was not, and where the queue gets full, it goes on with scans of all rows (Vincent 1993).
+pub fn spread_waiting(limits: &Limits<'_>, image: &mut [u16], room: bool, waiting: &mut Waiting)
+    requires close { MayGrow limits.now image.old }
+    requires waits { HaveGrownInto limits.now image.old image.old room waiting.old }
+    ensures { HaveGrownUp limits.now image.old image.new }
+{
+    let Limits { mask, size, conn } = *limits;
+    let all = all_of(size);
     if room && drain(mask, image, size, all, conn, waiting) {
         return;
     }
@@ -60,13 +70,13 @@ fn is_wide_open(limits: &Limits<'_>, image: &[u16], cut: u32) -> bool
     down + up > limits.size.w as usize / 8
 }
 
-// The raster scan, from the cut on, until a row is not raised by the one above it. It answers that row, or the number
-// of rows.
-fn run_down(limits: &Limits<'_>, image: &mut [u16], cut: u32) -> u32
+/// The raster scan (Vincent 1993), from the cut on, until a row is not raised by the one above it. It answers that row,
+/// or the number of rows.
+pub fn run_down(limits: &Limits<'_>, image: &mut [u16], cut: u32) -> u32
     requires close { MayGrow limits.now image.old }
     requires cut { IsCut limits.now.size cut }
-    requires closed { ClosedApart limits.now image.old cut cut }
-    ensures grown { HaveGrownApart limits.now image.old image.new cut result }
+    ensures grown { HaveGrown limits.now image.old image.new }
+    ensures closed { ClosedApart limits.now image.old cut cut → ClosedApart limits.now image.new cut result }
     ensures row { result ≤ limits.now.size.h }
 {
     for y in cut..limits.size.h {
@@ -188,8 +198,8 @@ fn count_aslant(from: &[u16], mask: &[u16], to: &[u16]) -> usize
         + count_straight(&from[1..], &mask[..last], &to[..last])
 }
 
-// How many pixels of a row can be raised by the one of the other row in the same column.
-fn count_straight(from: &[u16], mask: &[u16], to: &[u16]) -> usize
+/// How many pixels of a row can be raised by the one of the other row in the same column.
+pub fn count_straight(from: &[u16], mask: &[u16], to: &[u16]) -> usize
     requires { AreRows from.now mask.now to.now }
     ensures { result ≤ length to.now }
 {

@@ -1,8 +1,8 @@
 use Rattle.std.proofs.Common.{◌+◌, ◌-◌, ◌*◌, max, length}
 use Rattle.band_growth.proofs.bands.+bands.Given as goal
 
-abbrev pub decreases-grow_rows : goal.decreases-grow_rows
-decreases-grow_rows g l = 4 * length l.queues.now
+abbrev pub decreases-grow_bands : goal.decreases-grow_bands
+decreases-grow_bands g l = 4 * length l.queues.now
 
 abbrev pub decreases-grow_halves : goal.decreases-grow_halves
 decreases-grow_halves g l = 4 * length l.queues.now - 1

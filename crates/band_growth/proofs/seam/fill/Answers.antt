@@ -4,7 +4,7 @@ use Rattle.raster_sweeps.specs.RowPairs.{HaveJoined, IsOpenCell, IsUpper}
 use Rattle.raster_sweeps.proofs.Grown.{grown_twice}
 use Rattle.raster_sweeps.proofs.Scanning.{joined_inside, none_inside, row_waits}
 use Rattle.band_growth.specs.Bands.{all_of}
-use Rattle.band_growth.proofs.Seams.{apart_same, closed_waits, cut_waits}
+use Rattle.band_growth.proofs.Seams.{closed_waits, cut_waits, rows_same}
 use Rattle.band_growth.proofs.seam.fill.Goals as goal
 
 pub returns-then-is_wide_open : goal.returns-then-is_wide_open
@@ -15,7 +15,7 @@ returns-then-is_wide_open c =
       grown =
           grown_twice limits.conn (all_of size) (rows_of size limits.mask.now) (rows_of size c.args.image.now)
           (rows_of size c.run_down-bottom.new.image) (rows_of size c.run_up.new.image)
-          c.run_down-bottom.ensures.grown.grown c.run_up.ensures.grown;
+          c.run_down-bottom.ensures.grown c.run_up.ensures.grown;
       inside = c.run_up.ensures.inside;
       waits = c.run_up.ensures.waits;
     }
@@ -32,20 +32,20 @@ returns c =
     let room = c.queue_row.result in
     let old = c.args.waiting.now in
     let new = c.queue_row.new.waiting in
-    let same = apart_same conn size limits.mask.now c.args.image.now cut cut c.requires.close c.requires.closed in
+    let same = rows_same conn size limits.mask.now c.args.image.now c.requires.close in
     let joined : HaveJoined (IsOpenCell conn rect mask image (IsUpper (cut - 1))) room old new =
     subst (λ r. HaveJoined (IsOpenCell conn r mask image (IsUpper (cut - 1))) room old new) c.all_of.ensures
     c.queue_row.ensures in
     let next : cut ≡ cut - 1 + 1 = omega (arith, c.requires.cut.some_above) in
     record {
-      grown = same.grown;
+      grown = same;
       inside =
           joined_inside conn rect mask image (cut - 1) size.w room old new refl
           (none_inside rect size.w old c.requires.empty) joined;
       waits = λ all.
           cut_waits conn size limits.mask.now c.args.image.now new cut cut c.requires.cut.some_above c.requires.closed
           (row_waits conn rect mask image image (cut - 1) room old new
-          (record { grown = same.grown; others = λ p inside other. refl }) joined all
+          (record { grown = same; others = λ p inside other. refl }) joined all
           (subst (λ n. WaitFrom conn rect mask image n old) next
           (closed_waits conn size limits.mask.now c.args.image.now cut cut old c.requires.closed)));
     }
