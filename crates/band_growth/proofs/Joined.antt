@@ -136,7 +136,7 @@ module _ (conn : Conn) (size : Size) (cut : ℕ) (is_cut : IsCut size cut)
   }
 
   -- both halves have grown, and so the rows have
-  pub rows_grown : AreGrown conn size (upper_mask ++ lower_mask) (upper ++ lower) (upper_new ++ lower_new)
+  rows_grown : AreGrown conn size (upper_mask ++ lower_mask) (upper ++ lower) (upper_new ++ lower_new)
   rows_grown = record {
     width = refl;
     height = refl;
@@ -177,7 +177,7 @@ module _ (conn : Conn) (size : Size) (cut : ℕ) (is_cut : IsCut size cut)
       closed_above closed_below p q raises
 
   -- where both halves are closed, they are closed apart
-  pub rows_apart : AreClosed conn (above size cut) upper_mask upper_new
+  rows_apart : AreClosed conn (above size cut) upper_mask upper_new
       → AreClosed conn (below size cut) lower_mask lower_new
       → AreClosedApart conn size (upper_mask ++ lower_mask) (upper_new ++ lower_new) cut cut
   rows_apart closed_above closed_below = record {

@@ -10,8 +10,8 @@ use raster_sweeps::steps::{Waiting, row_in, scan_down, scan_up};
 /// Raises the rows of a band until no pair of neighbours is open, or, where the band gets brighter from row to row, by
 /// the raster scan alone (Vincent 1993). It answers whether no pair is open.
 ///
-/// What lights the last rows of such a band runs up through all of it, and so may what lights the bands below. An
-/// anti-raster scan of this band alone would then be done again.
+/// What lights the last rows of such a band runs up through all of it, and what lights the bands below may do so again.
+/// So an anti-raster scan of this band alone would be done twice.
 pub fn grow_band(limits: &Limits<'_>, image: &mut [u16], waiting: &mut Waiting) -> bool
     requires { MayGrow limits.now image.old }
     ensures { HaveGrownSoFar limits.now image.old image.new result }
@@ -37,8 +37,8 @@ pub fn close_upwards(limits: &Limits<'_>, image: &mut [u16], waiting: &mut Waiti
     spread_waiting(limits, image, room, waiting);
 }
 
-// Whether the band gets brighter from row to row: whether its last row is brighter than the one in the middle, and that
-// one than the row half way above it. This is a matter of speed alone.
+// Whether the band gets brighter from row to row: whether its last row is brighter than its middle row, and that one
+// than the row a quarter of the way down. This is a matter of speed alone.
 fn is_rising(limits: &Limits<'_>, image: &[u16]) -> bool
     requires { MayGrow limits.now image.now }
 {
@@ -46,7 +46,7 @@ fn is_rising(limits: &Limits<'_>, image: &[u16]) -> bool
     is_brighter(limits, image, rows / 2, rows / 4) && is_brighter(limits, image, rows - 1, rows / 2)
 }
 
-// Whether in more than seven of eight columns a row has a brighter pixel than another row, which the mask lets rise.
+// Whether in nearly all columns, some seven of eight, a row has a brighter pixel than another row, which the mask lets rise.
 fn is_brighter(limits: &Limits<'_>, image: &[u16], row: u32, other: u32) -> bool
     requires grow { MayGrow limits.now image.now }
     requires row { row < limits.now.size.h }

@@ -41,8 +41,9 @@ pub fn grow_rows<R: Threads + Sync>(
 // Raises whole rows by so many bands until no pair of neighbours is open, or, where each band gets brighter from row to
 // row, by the raster scan of each alone. It answers whether no pair is open.
 //
-// The rows are cut in two. Each half is grown so by itself, with half of the queues, and then what is open between
-// them spreads into both.
+// The rows are cut in two, and each half is grown so by itself, with half of the queues. Where both are closed then,
+// what is open between them spreads into both. Where one is, the anti-raster scan runs over all these rows. Where
+// neither is, that is left to the caller.
 #[cycle(bands)]
 fn grow_bands<R: Threads + Sync>(
     rt: &R,
@@ -72,8 +73,8 @@ fn grow_bands<R: Threads + Sync>(
     false
 }
 
-// Raises whole rows until no pair of neighbours is open, where not all of so many bands are closed by themselves: by
-// the raster scan from each cut on, and then the anti-raster scan and a queue of all rows.
+// Raises whole rows until no pair of neighbours is open, where some of so many bands have had no anti-raster scan: by
+// the raster scan from each cut on, and then the anti-raster scan and a queue over all these rows.
 fn close_bands(limits: &Limits<'_>, image: &mut [u16], bands: usize, waiting: &mut Waiting)
     requires close { MayGrow limits.now image.old }
     ensures { HaveGrownUp limits.now image.old image.new }
@@ -82,7 +83,7 @@ fn close_bands(limits: &Limits<'_>, image: &mut [u16], bands: usize, waiting: &m
     close_upwards(limits, image, waiting);
 }
 
-// The raster scan from each cut between so many bands on, until a row is not raised by the one above it. The bands
+// Runs the raster scan on from each cut between so many bands, until a row is not raised by the one above it. The bands
 // have so many rows together, from the row `first` on.
 fn run_down_cuts(limits: &Limits<'_>, image: &mut [u16], first: u32, rows: u32, bands: usize)
     requires close { MayGrow limits.now image.old }

@@ -21,9 +21,9 @@ const BAND_ROWS: u32 = 256;
 /// The reconstruction by dilation of `mask` from `marker`, `w * h` cells row by row, by at most so many threads.
 ///
 /// It is the image that `grow` of `raster_sweeps` gives. The rows are cut into 2, 4 or 8 bands of at least 256 rows,
-/// or into none. Each is grown by a raster scan, an anti-raster scan and a queue (Vincent 1993) in a thread of its own;
-/// where two have met, what is still open between them spreads into both. A thread that cannot start is no error: its
-/// band is then grown here.
+/// or into none. A thread grows each by a raster scan, an anti-raster scan and a queue (Vincent 1993), and where two
+/// have met, what is still open between them spreads into both. Bands that get brighter from row to row have their
+/// anti-raster scan together. A thread that cannot start is no error: its band is then grown here.
 ///
 /// Errors: out of memory.
 pub fn grow_on<R: Threads + Sync>(
@@ -66,7 +66,7 @@ pub fn grow_in_place_on<R: Threads + Sync>(
 
 /// Raises an image as [`grow_in_place_on`] does, by at most so many bands, and at least one. A band has at least a row.
 ///
-/// Each band is grown by the two scans and the queue of Vincent 1993. All memory is taken before a cell rises.
+/// The bands are grown by the two scans and the queue of Vincent 1993. All memory is taken before a cell rises.
 ///
 /// Errors: out of memory; the image is then as it was.
 pub fn grow_in_bands<R: Threads + Sync>(
@@ -104,8 +104,7 @@ fn bands_for(threads: usize, rows: u32) -> usize
     }
 }
 
-// A queue for each band. The first serves seams of all rows as well, and each other one those of no more than about
-// half of them. No two lie on one line of a cache, as each is written to by another thread.
+// A queue for each band. The first serves all rows as well, and each other one no more than about half of them. No two lie on one line of a cache, as each is written to by another thread.
 fn queues_for(
     alloc: Global,
     size: Size,

@@ -15,7 +15,7 @@
 //! grown as an image by itself, by the two scans and the queue of that paper. What two halves give lies between the
 //! marker and the reconstruction, so both have the same reconstruction, and what can still be raised lies across the
 //! cut ([`laws`]): from there a queue spreads into both halves. Where much is open, the two scans run on from the cut
-//! first. Bands that all get brighter from row to row wait for one another: they have one anti-raster scan together.
+//! first. Bands that get brighter from row to row have the first scan by themselves, and the second one together.
 //!
 //! [`grow_in_place_on`] does the same to an image that is there already. All memory is taken before a cell rises. A
 //! thread that cannot start is no error: its band is then grown by the thread that wanted to start it. [`ManyThreads`]

@@ -95,7 +95,7 @@ fn is_seed(family: Family, x: u32, y: u32, rows: u32) -> bool {
         }
         Family::Snake => x == 0 && y >= rows.saturating_sub(1),
         Family::Maze => x == 0 && y == 0,
-        Family::Rising => x == WIDTH / 2 && y % 8 == 0,
+        Family::Rising => x == WIDTH / 2 && y % 8 == 4,
         Family::Corner => x == WIDTH - 1 && y >= rows.saturating_sub(1),
     }
 }
@@ -106,7 +106,7 @@ fn level(family: Family, x: u32, y: u32, rows: u32, limit: u32) -> u32 {
         return 0;
     }
     match family {
-        Family::Rising => (y.min(600) * 100 + 1).min(limit),
+        Family::Rising => (y.min(2_100) * 30 + 1).min(limit),
         _ => limit,
     }
 }

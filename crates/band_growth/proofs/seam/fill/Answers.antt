@@ -1,10 +1,9 @@
 use Rattle.std.proofs.Common.{◌≡◌, ◌+◌, ◌-◌, arith, refl, subst}
 use Rattle.raster_sweeps.specs.Growth.{WaitFrom, rows_of}
 use Rattle.raster_sweeps.specs.RowPairs.{HaveJoined, IsOpenCell, IsUpper}
-use Rattle.raster_sweeps.proofs.Grown.{grown_twice}
 use Rattle.raster_sweeps.proofs.Scanning.{joined_inside, none_inside, row_waits}
 use Rattle.band_growth.specs.Bands.{all_of}
-use Rattle.band_growth.proofs.Seams.{closed_waits, cut_waits, rows_same}
+use Rattle.band_growth.proofs.Seams.{closed_waits, cut_waits, rows_same, rows_twice}
 use Rattle.band_growth.proofs.seam.fill.Goals as goal
 
 pub returns-then-is_wide_open : goal.returns-then-is_wide_open
@@ -13,8 +12,7 @@ returns-then-is_wide_open c =
     let size = limits.size in
     record {
       grown =
-          grown_twice limits.conn (all_of size) (rows_of size limits.mask.now) (rows_of size c.args.image.now)
-          (rows_of size c.run_down-bottom.new.image) (rows_of size c.run_up.new.image)
+          rows_twice limits.conn size limits.mask.now c.args.image.now c.run_down-bottom.new.image c.run_up.new.image
           c.run_down-bottom.ensures.grown c.run_up.ensures.grown;
       inside = c.run_up.ensures.inside;
       waits = c.run_up.ensures.waits;

@@ -1,8 +1,5 @@
 use Rattle.std.proofs.Common.{◌+◌, arith}
-use Rattle.raster_sweeps.specs.Growth.{rows_of}
-use Rattle.raster_sweeps.proofs.Grown.{grown_twice}
-use Rattle.band_growth.specs.Bands.{all_of}
-use Rattle.band_growth.proofs.Seams.{apart_more}
+use Rattle.band_growth.proofs.Seams.{apart_more, rows_twice}
 use Rattle.band_growth.proofs.seam.run_down.Goals as goal
 
 pub loop-y-preserved : goal.loop-y-preserved
@@ -13,9 +10,8 @@ loop-y-preserved c =
     let y = c.loop-y.y in
     record {
       grown =
-          grown_twice limits.conn (all_of size) (rows_of size limits.mask.now) (rows_of size c.args.image.now)
-          (rows_of size c.loop-y.image) (rows_of size c.raise_downwards.new.image) c.loop-y.invariant.grown
-          c.raise_downwards.ensures.grown;
+          rows_twice limits.conn size limits.mask.now c.args.image.now c.loop-y.image c.raise_downwards.new.image
+          c.loop-y.invariant.grown c.raise_downwards.ensures.grown;
       closed = λ apart.
           apart_more limits.conn size limits.mask.now c.loop-y.image c.raise_downwards.new.image y
           cut y cut (y + 1) (c.loop-y.invariant.closed apart) c.raise_downwards.ensures

@@ -2,10 +2,9 @@ use Rattle.std.proofs.Common.{◌≡◌, ◌+◌, ◌-◌, arith, refl, sym, ◌
 use Rattle.std.proofs.lemmas.Bool.{false≢true}
 use Rattle.raster_sweeps.specs.Growth.{WaitFrom, rows_of}
 use Rattle.raster_sweeps.specs.RowPairs.{HaveJoined, IsOpenCell, IsUpper}
-use Rattle.raster_sweeps.proofs.Grown.{grown_twice}
 use Rattle.raster_sweeps.proofs.Scanning.{joined_inside, row_waits}
 use Rattle.band_growth.specs.Bands.{all_of}
-use Rattle.band_growth.proofs.Seams.{open_before}
+use Rattle.band_growth.proofs.Seams.{open_before, rows_twice}
 use Rattle.band_growth.proofs.seam.run_up.Goals as goal
 
 pub loop-y-preserved-then-room : goal.loop-y-preserved-then-room
@@ -28,7 +27,8 @@ loop-y-preserved-then-room c =
     c.queue_downward-room.ensures in
     record {
       grown =
-          grown_twice conn rect mask (rows_of size c.args.image.now) before after c.loop-y.invariant.grown grown.grown;
+          rows_twice conn size limits.mask.now c.args.image.now c.loop-y.image c.raise_upwards.new.image
+          c.loop-y.invariant.grown grown.grown;
       inside = joined_inside conn rect mask after y size.w room old new refl c.loop-y.invariant.inside joined;
       waits = λ all.
           row_waits conn rect mask before after y room old new grown joined all
@@ -47,8 +47,8 @@ loop-y-preserved c =
     let grown = c.raise_upwards.ensures.grown in
     record {
       grown =
-          grown_twice limits.conn (all_of size) (rows_of size limits.mask.now) (rows_of size c.args.image.now)
-          (rows_of size c.loop-y.image) (rows_of size c.raise_upwards.new.image) c.loop-y.invariant.grown grown.grown;
+          rows_twice limits.conn size limits.mask.now c.args.image.now c.loop-y.image c.raise_upwards.new.image
+          c.loop-y.invariant.grown grown.grown;
       inside = c.loop-y.invariant.inside;
       waits = λ all. absurd (false≢true (sym c.if-room.false ∙ all));
       before = λ p q raises p_cut q_cut p_above q_above.

@@ -1,8 +1,7 @@
 use Rattle.std.proofs.Common.{sym, subst}
-use Rattle.raster_sweeps.specs.Growth.{AllWait, AreInside, IsClosedIn, IsGrown, rows_of}
-use Rattle.raster_sweeps.proofs.Grown.{grown_twice}
-use Rattle.band_growth.specs.Bands.{AreGrown, all_of}
-use Rattle.band_growth.proofs.Seams.{rows_same}
+use Rattle.raster_sweeps.specs.Growth.{AllWait, AreInside, IsClosedIn, IsGrown, IsGrownUp, rows_of}
+use Rattle.band_growth.specs.Bands.{AreGrown}
+use Rattle.band_growth.proofs.Seams.{rows_same, rows_up}
 use Rattle.band_growth.proofs.seam.spread_waiting.Goals as goal
 use Rattle.band_growth.proofs.seam.spread_waiting.Goals.{else-room-via-then-room+else-drain, else-room-via-else-room}
 
@@ -35,7 +34,6 @@ returns c =
     let conn = limits.conn in
     let mask = rows_of size limits.mask.now in
     let image = rows_of size c.args.image.now in
-    let after = rows_of size c.close.new.image in
     let IsFrom = AreGrown conn size limits.mask.now c.args.image.now in
     let between : IsFrom c.else-room.image = elim c.else-room.branch [
       | else-room-via-then-room+else-drain w ↦
@@ -45,10 +43,6 @@ returns c =
       | else-room-via-else-room w ↦
           subst IsFrom (sym w.image-is) (rows_same conn size limits.mask.now c.args.image.now c.requires.close)
     ] in
-    record {
-      grown =
-          grown_twice conn (all_of size) mask image (rows_of size c.else-room.image) after between
-          (subst (λ rect. IsGrown conn rect mask (rows_of size c.else-room.image) after) c.all_of-all.ensures
-          c.close.ensures.grown);
-      closed = subst (λ rect. IsClosedIn conn rect mask after) c.all_of-all.ensures c.close.ensures.closed;
-    }
+    rows_up conn size limits.mask.now c.args.image.now c.else-room.image c.close.new.image between
+    (subst (λ rect. IsGrownUp conn rect mask (rows_of size c.else-room.image) (rows_of size c.close.new.image))
+    c.all_of-all.ensures c.close.ensures)
