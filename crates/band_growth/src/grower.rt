@@ -62,6 +62,9 @@ impl<'a, R: Threads + Sync> Grower for ManyThreads<'a, R> {
 }
 
 // Does some work, and makes so many zeros in a thread of their own.
+//
+// Linux may put the first thread that a program starts on the processor of the one that starts it, where both share the
+// time, and those behind it on idle ones. So the first does nothing.
 fn zeros_in_thread<R: Threads, T, F: FnOnce() -> T>(
     rt: &R,
     alloc: Global,
@@ -72,10 +75,17 @@ fn zeros_in_thread<R: Threads, T, F: FnOnce() -> T>(
     ensures done { F.post work result.0 }
     ensures zeros { IfOk result.1 (λ cells. cells.items ≡ replicate count 0) }
 {
-    let make = move || -> Result<Vec<u16>, AllocError>
-        ensures { IfOk result (λ cells. cells.items ≡ replicate count 0) }
-    { vec![in alloc; 0; count] };
-    let (zeros, done) = join(rt, make, work);
+    let both = move || -> (Result<Vec<u16>, AllocError>, T)
+        requires { F.pre work }
+        ensures zeros { IfOk result.0 (λ cells. cells.items ≡ replicate count 0) }
+        ensures done { F.post work result.1 }
+    {
+        let make = move || -> Result<Vec<u16>, AllocError>
+            ensures { IfOk result (λ cells. cells.items ≡ replicate count 0) }
+        { vec![in alloc; 0; count] };
+        join(rt, make, work)
+    };
+    let ((), (zeros, done)) = join(rt, || {}, both);
     (done, zeros)
 }
 
