@@ -21,7 +21,7 @@ file_replaced old new bs name v bytes is_name is_bytes sets = record {
       ap (λ o. Some (option_map_or (λ v. v.items) o []))
       (sets name ∙ update_same bytes_eq (get_by_text old) bs (Some v) name ((bytes_eq-Decides bs name).1 is_name))
       ∙ ap Some is_bytes;
-  others = λ other differs not_fresh. ap (λ o. Some (option_map_or (λ v. v.items) o []))
+  others = λ other differs. ap (λ o. Some (option_map_or (λ v. v.items) o []))
       (sets other ∙ update_other bytes_eq (get_by_text old) bs (Some v) other
       (false_from_ne_true _ (λ same. differs (sym ((bytes_eq-Decides bs other).0 same) ∙ is_name))));
 }

@@ -12,7 +12,9 @@ use Rattle.paint_session.specs.Derive.{DerivationStops}
 use Rattle.paint_session.specs.Kept.{KeptStops, OldIsRefused}
 use Rattle.paint_session.specs.View.{DeltasAreRefused, DeltasHalt, InputIsRefusedBy, InputStops, Refusal}
 use Rattle.paint_session.specs.RunError.{IsReadingFault, IsTransferFault}
-use Rattle.paint_session.specs.Serving.{IsStoreFault, Serves, StoredStops, TellsStore, ToKeep}
+use Rattle.paint_session.specs.Joining.{IsNotJoinedOver}
+use Rattle.paint_session.specs.Serving.{IsSavingFault, IsStoreFault, Serves, StoredStops, TellsStore, ToKeep}
+use Rattle.paint_session.specs.declared.joining.Strokes.{Strokes}
 use Rattle.paint_session.specs.Store.{Held, StoreSeen}
 use Rattle.paint_session.specs.declared.run_error.RunError.{RunError}
 use Rattle.paint_session.specs.declared.run_error.RunError.TheVariants.{Usage, NoImage, Edit, Pgm, Core, Spd, OtherMask}
@@ -25,6 +27,14 @@ reading_is_no_file e (inr image) file = cc
 
 pub transfer_is_no_file : (e : RunError) → IsTransferFault e → e ≡ StateFile → ⊥
 transfer_is_no_file e device file = cc
+
+-- a fault in saving is none of a source or a sink
+pub saving_is_no_transfer : (e : RunError) → IsSavingFault e → IsTransferFault e → ⊥
+saving_is_no_transfer e (inl file) device = cc
+saving_is_no_transfer e (inr (inl memory)) device = cc
+saving_is_no_transfer e (inr (inr (inl other))) device = cc
+saving_is_no_transfer e (inr (inr (inr (inl (why, is))))) device = cc
+saving_is_no_transfer e (inr (inr (inr (inr (why, is))))) device = cc
 
 -- an error that an input or a state file gives, and neither the words nor a store
 abbrev pub is_of_input : RunError → Bool
@@ -91,30 +101,32 @@ derivation_stops_of_input input e (inr (is, image, spelled)) = ap is_of_input is
 module _ {S K : Type 0} (known : Option (List ℕ)) (source source' : S) (seen : K → SinkSeen) (sink sink' : K) where
   -- a run without a store serves what it answers, and keeps nothing
   pub serves_alone : (answers : List ℕ → Unit {0} → List ℕ → Type 0) (served : List ℕ → List ℕ → ToKeep → Type 0)
-      (stops wider_stops : List ℕ → RunError → Type 0) (early : RunError → Type 0) (result : Result (Unit {0}) RunError)
+      (shows : List ℕ → List ℕ → Type 0) (stops wider_stops : List ℕ → RunError → Type 0) (early : RunError → Type 0) (result : Result (Unit {0}) RunError)
       (held : Held)
-      → ((input : List ℕ) (value : Unit {0}) (text : List ℕ) → answers input value text → served input text None)
+      → ((input : List ℕ) (value : Unit {0}) (text : List ℕ) → answers input value text
+      → served input text None × shows input text)
       → ((input : List ℕ) (e : RunError) → stops input e → wider_stops input e)
       → ((input : List ℕ) (e : RunError) → stops input e → e ≡ StateFile → ⊥)
       → ((e : RunError) → IsReadingFault e → early e)
       → Responds answers stops IsReadingFault IsTransferFault result known seen sink sink'
-      → Serves served wider_stops early result known source source' seen sink sink' held held
-  serves_alone answers served stops wider_stops early (Ok value) held serve widen no_file widen_early r = record {
+      → Serves served shows wider_stops early result known source source' seen sink sink' held held
+  serves_alone answers served shows stops wider_stops early (Ok value) held serve widen no_file widen_early r = record {
     shown = (
       r.shown.0,
       r.shown.1,
       None,
       r.shown.2,
-      serve r.shown.0 value r.shown.1 r.shown.3,
+      (serve r.shown.0 value r.shown.1 r.shown.3).0,
       r.shown.4,
       λ name. refl,
     );
     refused = tt;
     untouched = tt;
     written = tt;
+    unsaved = tt;
     not_saved = tt;
   }
-  serves_alone answers served stops wider_stops early (Err e) held serve widen no_file widen_early r = record {
+  serves_alone answers served shows stops wider_stops early (Err e) held serve widen no_file widen_early r = record {
     shown = tt;
     refused = elim r.refused [
       | inl reading ↦ inl (widen_early e reading)
@@ -126,9 +138,10 @@ module _ {S K : Type 0} (known : Option (List ℕ)) (source source' : S) (seen :
       | inl same ↦ inl same
       | inr (risen, front) ↦ inr (
         risen,
-        (front.0, front.1, None, front.3, serve front.0 front.2 front.1 front.4, front.5),
+        (front.0, front.1, front.3, (serve front.0 front.2 front.1 front.4).1, front.5),
       )
     ];
+    unsaved = λ saving. inl (r.untouched (saving_is_no_transfer e saving));
     not_saved = λ file. elim r.refused [
       | inl reading ↦ absurd (reading_is_no_file e reading file)
       | inr (inl device) ↦ absurd (transfer_is_no_file e device file)
@@ -137,15 +150,16 @@ module _ {S K : Type 0} (known : Option (List ℕ)) (source source' : S) (seen :
   }
 
   -- a run that serves, where answers, errors and what comes early are told by other words
-  pub Serves-wider : (answers wider : List ℕ → List ℕ → ToKeep → Type 0)
+  pub Serves-wider : (answers wider : List ℕ → List ℕ → ToKeep → Type 0) (shows wider_shows : List ℕ → List ℕ → Type 0)
       (stops wider_stops : List ℕ → RunError → Type 0)
       (early wider_early : RunError → Type 0) (result : Result (Unit {0}) RunError) (before after : Held)
       → ((input text : List ℕ) (kept : ToKeep) → answers input text kept → wider input text kept)
+      → ((input text : List ℕ) → shows input text → wider_shows input text)
       → ((input : List ℕ) (e : RunError) → stops input e → wider_stops input e)
       → ((e : RunError) → early e → wider_early e)
-      → Serves answers stops early result known source source' seen sink sink' before after
-      → Serves wider wider_stops wider_early result known source source' seen sink sink' before after
-  Serves-wider answers wider stops wider_stops early wide (Ok value) before after serve widen widen_early s = record {
+      → Serves answers shows stops early result known source source' seen sink sink' before after
+      → Serves wider wider_shows wider_stops wider_early result known source source' seen sink sink' before after
+  Serves-wider answers wider shows wider_shows stops wider_stops early wide (Ok value) before after serve show widen widen_early s = record {
     shown = (
       s.shown.0,
       s.shown.1,
@@ -158,9 +172,10 @@ module _ {S K : Type 0} (known : Option (List ℕ)) (source source' : S) (seen :
     refused = tt;
     untouched = tt;
     written = tt;
+    unsaved = tt;
     not_saved = tt;
   }
-  Serves-wider answers wider stops wider_stops early wide (Err e) before after serve widen widen_early s = record {
+  Serves-wider answers wider shows wider_shows stops wider_stops early wide (Err e) before after serve show widen widen_early s = record {
     shown = tt;
     refused = elim s.refused [
       | inl is_early ↦ inl (widen_early e is_early)
@@ -172,25 +187,30 @@ module _ {S K : Type 0} (known : Option (List ℕ)) (source source' : S) (seen :
       | inl same ↦ inl same
       | inr (risen, front) ↦ inr (
         risen,
-        (front.0, front.1, front.2, front.3, serve front.0 front.1 front.2 front.4, front.5),
+        (front.0, front.1, front.2, show front.0 front.1 front.3, front.4),
       )
+    ];
+    unsaved = λ saving. elim (s.unsaved saving) [
+      | inl same ↦ inl same
+      | inr text ↦ inr (text.0, text.1, text.2, show text.0 text.1 text.3, text.4)
     ];
     not_saved = λ file. elim (s.not_saved file) [
       | inl same ↦ inl same
-      | inr text ↦ inr (text.0, text.1, text.2, text.3, serve text.0 text.1 text.2 text.4, text.5)
+      | inr text ↦ inr (text.0, text.1, text.2, show text.0 text.1 text.3, text.4)
     ];
   }
 
 -- a run that ended before anything was read
 pub serves_unread : {S K : Type 0} (known : Option (List ℕ)) (source : S) (seen : K → SinkSeen) (sink : K)
-    (answers : List ℕ → List ℕ → ToKeep → Type 0) (stops : List ℕ → RunError → Type 0) (early : RunError → Type 0)
-    (e : RunError) (before after : Held) → early e
-    → Serves answers stops early (Err e) known source source seen sink sink before after
-serves_unread known source seen sink answers stops early e before after is_early = record {
+    (answers : List ℕ → List ℕ → ToKeep → Type 0) (shows : List ℕ → List ℕ → Type 0)
+    (stops : List ℕ → RunError → Type 0) (early : RunError → Type 0) (e : RunError) (before after : Held) → early e
+    → Serves answers shows stops early (Err e) known source source seen sink sink before after
+serves_unread known source seen sink answers shows stops early e before after is_early = record {
   shown = tt;
   refused = inl is_early;
-  untouched = λ no_device no_file. refl;
+  untouched = λ no_device no_saving. refl;
   written = λ device. inl refl;
+  unsaved = λ saving. inl refl;
   not_saved = λ file. inl (refl, refl);
 }
 
@@ -260,6 +280,12 @@ alone_is_no_usage known stops result of_input refused is =
       | inr (inr (input, is_input, stop)) ↦ input_is_no_usage Usage (of_input input Usage stop) refl
     ]
 
+not_joined_is_no_usage : (strokes : Strokes) (found : List ℕ) → IsNotJoinedOver strokes found Usage → ⊥
+not_joined_is_no_usage strokes found (inl memory) = cc
+not_joined_is_no_usage strokes found (inr (inl (fault, is, first))) = cc
+not_joined_is_no_usage strokes found (inr (inr (inl (is, other)))) = cc
+not_joined_is_no_usage strokes found (inr (inr (inr (kept, why, spells, is, stop)))) = cc
+
 pub stored_is_no_usage : (known : Option (List ℕ)) (conn : Conn) (held : Held) (name : List ℕ)
     (result : Result (Unit {0}) RunError)
     → IfErr result (λ e. IsStoreFault e ⊎ IsTransferFault e
@@ -270,6 +296,8 @@ stored_is_no_usage known conn held name result refused is =
     ⊎ ((input : List ℕ) × IsInputOf known input × StoredStops conn held name input e))) is refused) [
       | inl early ↦ store_is_no_usage early
       | inr (inl device) ↦ transfer_is_no_usage device
-      | inr (inr (input, is_input, (old, is_held, stop))) ↦
+      | inr (inr (input, is_input, inl (old, is_held, stop))) ↦
           input_is_no_usage Usage (kept_stops_of_input conn old input Usage stop) refl
+      | inr (inr (input, is_input, inr (old, text, strokes, found, is_held, view, was_held, why))) ↦
+          not_joined_is_no_usage strokes found why
     ]

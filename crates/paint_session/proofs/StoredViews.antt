@@ -6,13 +6,18 @@ use Rattle.byte_devices.specs.Device.{SourceSeen, SinkSeen, HasRisen, count_afte
 use Rattle.byte_devices.specs.Response.{Responds, TellsDevices}
 use Rattle.byte_devices.specs.Transfer.{IsInputOf}
 use Rattle.grid_core.specs.declared.conn.Conn.{Conn}
-use Rattle.paint_session.specs.Kept.{IsKeptView, KeptStops}
+use Rattle.spd_codec.specs.declared.error.SpdError.TheVariants.{Memory as SpdMemory}
+use Rattle.paint_session.specs.Joining.{IsJoinedOver, IsNotJoinedOver, IsStrokesView, Makes, Refuses}
+use Rattle.paint_session.specs.Kept.{KeptStops}
+use Rattle.paint_session.specs.declared.joining.Strokes.{Strokes}
 use Rattle.paint_session.specs.RunError.{IsReadingFault, IsTransferFault}
-use Rattle.paint_session.specs.Serving.{Serves, TellsStore, IsStoreFault, IsStoredView, StoredStops}
-use Rattle.paint_session.specs.Store.{AreSame, Held, IsHeldIn, Loads, Saves, StoreSeen}
+use Rattle.paint_session.specs.Serving.{Serves, TellsStore, IsSavingFault, IsShownOver, IsStoreFault, IsStoredView, IsWritten}
+use Rattle.paint_session.specs.Serving.{StoredStops}
+use Rattle.paint_session.specs.Store.{AreSame, Held, IsHeldIn, IsNotSaved, Loads, Saves, StoreSeen}
 use Rattle.paint_session.specs.declared.run_error.RunError.{RunError}
 use Rattle.paint_session.specs.declared.run_error.RunError.TheVariants.{Memory, StateFile}
 use Rattle.paint_session.proofs.Shared.{input_is_no_file, kept_stops_of_input, reading_is_no_file, transfer_is_no_file}
+use Rattle.paint_session.proofs.Shared.{saving_is_no_transfer}
 
 -- no view gives V2
 kept_stops_at_no_file : (conn : Conn) (old input : List ℕ) (e : RunError) → KeptStops conn old input e → e ≡ StateFile
@@ -39,15 +44,31 @@ load_fault bytes_of old new e name loads = elim loads.failures [
   | inr (memory, same) ↦ inr memory
 ]
 
+-- what a save of strokes gives, where it is not saved, is a fault in saving, and none of a source or a sink
+not_joined_in_saving : (strokes : Strokes) (found : List ℕ) (e : RunError) → IsNotJoinedOver strokes found e
+    → IsSavingFault e
+not_joined_in_saving strokes found e (inl memory) = inr (inr (inr (inl (SpdMemory, memory))))
+not_joined_in_saving strokes found e (inr (inl (fault, is, first))) = inr (inr (inr (inl (fault, is))))
+not_joined_in_saving strokes found e (inr (inr (inl (is, other)))) = inr (inr (inl is))
+not_joined_in_saving strokes found e (inr (inr (inr (kept, why, spells, is, stop)))) = inr (inr (inr (inr (why, is))))
+
+not_saved_in_saving : (held : Held) (strokes strokes' : Strokes) (name : List ℕ) (e : RunError)
+    → IsNotSaved Makes Refuses held strokes strokes' name e → IsSavingFault e
+not_saved_in_saving held strokes strokes' name e (inl (inl file, same)) = inl file
+not_saved_in_saving held strokes strokes' name e (inl (inr memory, same)) = inr (inl memory)
+not_saved_in_saving held strokes strokes' name e (inr (inl (file, found, made, is_held, makes))) = inl file
+not_saved_in_saving held strokes strokes' name e (inr (inr (found, is_held, refuses))) =
+    not_joined_in_saving strokes found e refuses.1
+
 module _ {S K : Type 0} (known : Option (List ℕ)) (seen : K → SinkSeen) (conn : Conn) (name : List ℕ) where
   -- the view was refused
-  pub serves_refused : {V : Type 0} (items : V → List ℕ) (held held' : Held) (old given : List ℕ) (e : RunError)
+  pub serves_refused : (held held' : Held) (old given : List ℕ) (e : RunError)
       (source source' : S) (sink sink' : K) → IsHeldIn held name old → given ≡ old
-      → Responds (λ input new text. IsKeptView conn given input text (items new)) (KeptStops conn given) IsReadingFault
-      IsTransferFault (Err e) known seen sink sink'
-      → Serves (IsStoredView conn held name) (StoredStops conn held name) IsStoreFault (Err e) known source source' seen
-      sink sink' held held'
-  serves_refused items held held' old given e source source' sink sink' is_held is_given r = record {
+      → Responds (λ input strokes text. IsStrokesView conn given input text strokes) (KeptStops conn given)
+      IsReadingFault IsTransferFault (Err e) known seen sink sink'
+      → Serves (IsStoredView conn held name) (IsShownOver conn held name) (StoredStops conn held name) IsStoreFault
+      (Err e) known source source' seen sink sink' held held'
+  serves_refused held held' old given e source source' sink sink' is_held is_given r = record {
     shown = tt;
     refused = elim r.refused [
       | inl reading ↦ inl (inr (inr reading))
@@ -55,10 +76,10 @@ module _ {S K : Type 0} (known : Option (List ℕ)) (seen : K → SinkSeen) (con
       | inr (inr (input, is_input, stop)) ↦ inr (inr (
         input,
         is_input,
-        (old, is_held, subst (λ (bytes : List ℕ). KeptStops conn bytes input e) is_given stop),
+        inl (old, is_held, subst (λ (bytes : List ℕ). KeptStops conn bytes input e) is_given stop),
       ))
     ];
-    untouched = λ no_device no_file. r.untouched no_device;
+    untouched = λ no_device no_saving. r.untouched no_device;
     written = λ device. elim (r.written device) [
       | inl same ↦ inl same
       | inr (risen, front) ↦ inr (
@@ -66,19 +87,18 @@ module _ {S K : Type 0} (known : Option (List ℕ)) (seen : K → SinkSeen) (con
         (
           front.0,
           front.1,
-          Some (name, items front.2),
           front.3,
           (
             old,
-            items front.2,
+            front.2,
             is_held,
-            subst (λ (bytes : List ℕ). IsKeptView conn bytes front.0 front.1 (items front.2)) is_given front.4,
-            refl,
+            subst (λ (bytes : List ℕ). IsStrokesView conn bytes front.0 front.1 front.2) is_given front.4,
           ),
           front.5,
         ),
       )
     ];
+    unsaved = λ saving. inl (r.untouched (saving_is_no_transfer e saving));
     not_saved = λ file. elim r.refused [
       | inl reading ↦ absurd (reading_is_no_file e reading file)
       | inr (inl device) ↦ absurd (transfer_is_no_file e device file)
@@ -86,56 +106,87 @@ module _ {S K : Type 0} (known : Option (List ℕ)) (seen : K → SinkSeen) (con
     ];
   }
 
-  -- the view was shown, and the file was saved or not
-  pub serves_shown : {V : Type 0} (items : V → List ℕ) (held : Held) (middle after : StoreSeen)
-      (old given : List ℕ) (new : V) (saved : List ℕ) (result : Result (Unit {0}) RunError) (source source' : S)
-      (sink sink' : K)
-      → IsHeldIn held name old → given ≡ old → AreSame held middle.held → saved ≡ items new
-      → Responds (λ input new text. IsKeptView conn given input text (items new)) (KeptStops conn given) IsReadingFault
-      IsTransferFault (Ok new) known seen sink sink'
-      → Saves middle after result name saved
-      → Serves (IsStoredView conn held name) (StoredStops conn held name) IsStoreFault result known source
-      source' seen sink sink' held after.held
-  serves_shown items held middle after old given new saved (Ok value) source source' sink sink' is_held is_given same
-      is_saved r s =
-      let view = subst (λ (bytes : List ℕ). IsKeptView conn bytes r.shown.0 r.shown.1 (items new)) is_given r.shown.3 in
-      let there = subst (λ (bytes : List ℕ). IfSome (middle.held name) (λ known. after.held name ≡ Some bytes)) is_saved
-      s.replaced.replaced in
+  -- the view was shown, and its strokes were saved over what was found
+  pub serves_saved : {V : Type 0} (bytes_of : V → List ℕ) (held : Held) (middle after : StoreSeen)
+      (old given : List ℕ) (strokes strokes' : Strokes) (made : V) (source source' : S) (sink sink' : K)
+      → IsHeldIn held name old → given ≡ old → AreSame held middle.held
+      → Responds (λ input strokes text. IsStrokesView conn given input text strokes) (KeptStops conn given)
+      IsReadingFault IsTransferFault (Ok strokes) known seen sink sink'
+      → Saves Makes Refuses bytes_of middle after strokes strokes' (Ok made) name
+      → Serves (IsStoredView conn held name) (IsShownOver conn held name) (StoredStops conn held name) IsStoreFault
+      (Ok tt) known source source' seen sink sink' held after.held
+  serves_saved bytes_of held middle after old given strokes strokes' made source source' sink sink' is_held is_given
+      same r s =
+      let view = subst (λ (bytes : List ℕ). IsStrokesView conn bytes r.shown.0 r.shown.1 strokes) is_given r.shown.3 in
+      let found = s.saved.found in
+      let there = subst (λ (known : Option (List ℕ)). IfSome known (λ bytes. found ≡ bytes)) (same name)
+      s.saved.was_held in
       record {
         shown = (
           r.shown.0,
           r.shown.1,
-          Some (name, items new),
+          Some (name, bytes_of made),
           r.shown.2,
-          (old, items new, is_held, view, refl),
+          (old, strokes, found, bytes_of made, is_held, view, there, s.saved.made_over.1, refl),
           r.shown.4,
           record {
-            replaced = subst (λ (b : Option (List ℕ)). IfSome b (λ known. after.held name ≡ Some (items new)))
-                (same name) there;
-            others = λ other differs not_fresh. s.replaced.others other differs not_fresh ∙ same other;
+            replaced = subst (λ (b : Option (List ℕ)). IfSome b (λ known. after.held name ≡ Some (bytes_of made)))
+                (same name) s.saved.replaced.replaced;
+            others = λ other differs. s.saved.replaced.others other differs ∙ same other;
           },
         );
         refused = tt;
         untouched = tt;
         written = tt;
+        unsaved = tt;
         not_saved = tt;
       }
-  serves_shown items held middle after old given new saved (Err e) source source' sink sink' is_held is_given same
-      is_saved r s =
-      let view = subst (λ (bytes : List ℕ). IsKeptView conn bytes r.shown.0 r.shown.1 (items new)) is_given r.shown.3 in
+
+  -- the view was shown, and its strokes were not saved
+  pub serves_unsaved : {V : Type 0} (bytes_of : V → List ℕ) (held : Held) (middle after : StoreSeen)
+      (old given : List ℕ) (strokes strokes' : Strokes) (e : RunError) (source source' : S) (sink sink' : K)
+      → IsHeldIn held name old → given ≡ old → AreSame held middle.held
+      → Responds (λ input strokes text. IsStrokesView conn given input text strokes) (KeptStops conn given)
+      IsReadingFault IsTransferFault (Ok strokes) known seen sink sink'
+      → Saves {V = V} Makes Refuses bytes_of middle after strokes strokes' (Err e) name
+      → Serves (IsStoredView conn held name) (IsShownOver conn held name) (StoredStops conn held name) IsStoreFault
+      (Err e) known source source' seen sink sink' held after.held
+  serves_unsaved bytes_of held middle after old given strokes strokes' e source source' sink sink' is_held is_given
+      same r s =
+      let view = subst (λ (bytes : List ℕ). IsStrokesView conn bytes r.shown.0 r.shown.1 strokes) is_given r.shown.3 in
+      let saving = not_saved_in_saving middle.held strokes strokes' name e s.not_saved in
+      let written : IsWritten (IsShownOver conn held name) known seen sink sink' = (
+        r.shown.0,
+        r.shown.1,
+        r.shown.2,
+        (old, strokes, is_held, view),
+        r.shown.4,
+      ) in
       record {
         shown = tt;
-        refused = inl (inl s.failures.0);
-        untouched = λ no_device no_file. absurd (no_file s.failures.0);
-        written = λ device. absurd (transfer_is_no_file e device s.failures.0);
-        not_saved = λ file. inr (
-          r.shown.0,
-          r.shown.1,
-          Some (name, items new),
-          r.shown.2,
-          (old, items new, is_held, view, refl),
-          r.shown.4,
-        );
+        refused = elim s.not_saved [
+          | inl (inl file, unasked) ↦ inl (inl file)
+          | inl (inr memory, unasked) ↦ inl (inr (inl memory))
+          | inr (inl (file, found, made, was_held, makes)) ↦ inl (inl file)
+          | inr (inr (found, was_held, refuses)) ↦ inr (inr (
+            r.shown.0,
+            r.shown.2,
+            inr (
+              old,
+              r.shown.1,
+              strokes,
+              found,
+              is_held,
+              view,
+              subst (λ (known : Option (List ℕ)). IfSome known (λ bytes. found ≡ bytes)) (same name) was_held,
+              refuses.1,
+            ),
+          ))
+        ];
+        untouched = λ no_device no_saving. absurd (no_saving saving);
+        written = λ device. absurd (saving_is_no_transfer e saving device);
+        unsaved = λ again. inr written;
+        not_saved = λ file. inr written;
       }
 
 -- ---- what the devices tell
@@ -153,12 +204,10 @@ module _ (source source' : SourceSeen) (sink sink' : SinkSeen) where
     sink_failure = t.sink_failure;
   }
 
-  pub devices_shown : {V : Type 0} (new : V) (middle after : StoreSeen) (result : Result (Unit {0}) RunError)
-      (name bytes : List ℕ)
+  pub devices_saved : {V : Type 0} (new : V)
       → TellsDevices IsReadingFault IsTransferFault (Ok new) source source' sink sink'
-      → Saves middle after result name bytes
-      → TellsDevices IsStoreFault IsTransferFault result source source' sink sink'
-  devices_shown new middle after (Ok value) name bytes t s = record {
+      → TellsDevices {T = Unit {0}} IsStoreFault IsTransferFault (Ok tt) source source' sink sink'
+  devices_saved new t = record {
     in_time = t.in_time;
     ended = t.ended;
     at_end = t.at_end;
@@ -166,11 +215,15 @@ module _ (source source' : SourceSeen) (sink sink' : SinkSeen) where
     source_failure = t.source_failure;
     sink_failure = t.sink_failure;
   }
-  devices_shown new middle after (Err e) name bytes t s = record {
+
+  pub devices_unsaved : {V : Type 0} (new : V) (e : RunError) → IsSavingFault e
+      → TellsDevices IsReadingFault IsTransferFault (Ok new) source source' sink sink'
+      → TellsDevices {T = Unit {0}} IsStoreFault IsTransferFault (Err e) source source' sink sink'
+  devices_unsaved new e saving t = record {
     in_time = t.in_time;
-    ended = inl (inl s.failures.0);
-    at_end = inl (inl s.failures.0);
-    device = λ device. absurd (transfer_is_no_file e device s.failures.0);
+    ended = inr (inr t.ended);
+    at_end = inr (inr t.at_end);
+    device = λ device. absurd (saving_is_no_transfer e saving device);
     source_failure = λ less. absurd (t.source_failure less);
     sink_failure = λ less. absurd (t.sink_failure less);
   }
@@ -211,16 +264,36 @@ store_refused bytes_of old new v e name given conn known loads why = record {
   failure = λ less. absurd (omega (arith, less, loads.failures));
 }
 
-pub store_shown : {V : Type 0} (bytes_of : V → List ℕ) (old middle new : StoreSeen) (v : V)
-    (result : Result (Unit {0}) RunError) (name bytes : List ℕ)
-    → Loads bytes_of old middle (Ok v) name → Saves middle new result name bytes → TellsStore result old new
-store_shown bytes_of old middle new v (Ok value) name bytes loads saves = record {
+pub store_saved : {V W J : Type 0} (bytes_of : V → List ℕ) (made_of : W → List ℕ)
+    (makes : J → List ℕ → List ℕ → J → Type 0) (refuses : J → List ℕ → RunError → J → Type 0)
+    (old middle new : StoreSeen) (v : V) (keeper keeper' : J) (w : W) (name : List ℕ)
+    → Loads bytes_of old middle (Ok v) name → Saves makes refuses made_of middle new keeper keeper' (Ok w) name
+    → TellsStore (Ok tt) old new
+store_saved bytes_of made_of makes refuses old middle new v keeper keeper' w name loads saves = record {
   files = tt;
   fault = tt;
   failure = λ less. absurd (omega (arith, less, loads.failures, saves.failures));
 }
-store_shown bytes_of old middle new v (Err e) name bytes loads saves = record {
+
+pub store_unsaved : {V W J : Type 0} (bytes_of : V → List ℕ) (made_of : W → List ℕ)
+    (makes : J → List ℕ → List ℕ → J → Type 0) (refuses : J → List ℕ → RunError → J → Type 0)
+    (old middle new : StoreSeen) (v : V) (keeper keeper' : J) (e : RunError) (name : List ℕ)
+    → Loads bytes_of old middle (Ok v) name
+    → Saves {V = W} makes refuses made_of middle new keeper keeper' (Err e) name → TellsStore (Err e) old new
+store_unsaved bytes_of made_of makes refuses old middle new v keeper keeper' e name loads saves = record {
   files = λ other. saves.files other ∙ loads.files other;
-  fault = λ file. risen old.failures middle.failures new.failures loads.failures saves.failures.1;
-  failure = λ less. ap Err saves.failures.0;
+  fault = λ file. elim saves.failures [
+    | inl (is, counted) ↦ risen old.failures middle.failures new.failures loads.failures counted
+    | inr (other, same) ↦ absurd (other file)
+  ];
+  failure = λ less. elim saves.failures [
+    | inl (is, counted) ↦ ap Err is
+    | inr (other, same) ↦ absurd (omega (arith, less, loads.failures, same))
+  ];
 }
+
+pub saving_fault : {V : Type 0} (bytes_of : V → List ℕ) (middle new : StoreSeen) (strokes strokes' : Strokes)
+    (e : RunError) (name : List ℕ) → Saves {V = V} Makes Refuses bytes_of middle new strokes strokes' (Err e) name
+    → IsSavingFault e
+saving_fault bytes_of middle new strokes strokes' e name saves =
+    not_saved_in_saving middle.held strokes strokes' name e saves.not_saved

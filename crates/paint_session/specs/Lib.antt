@@ -19,5 +19,6 @@ pub mod MemoryFiles
 pub mod Serving
 pub mod View
 pub mod Kept
+pub mod Joining
 pub mod Derive
 pub mod LowerLaws

@@ -55,8 +55,9 @@ pub record LoadsMemory {V : Type 0} (bytes_of : V → List ℕ) (old new : Memor
   pub call : CallsMemory old new result
   pub others : IsErrOf result StateFile → IsChosen old new
 
--- a save in memory: one that finds no memory fails so, too
-pub record SavesMemory {V : Type 0} (old new : MemoryFiles) (result : Result V RunError) (name bytes : List ℕ) : Type 0
-  where
-    pub saves : Saves (files_seen old) (files_seen new) result name bytes
-    pub call : CallsMemory old new result
+-- a save in memory: one that finds no memory for the file fails so, too
+pub record SavesMemory {J V : Type 0} (makes : J → List ℕ → List ℕ → J → Type 0)
+    (refuses : J → List ℕ → RunError → J → Type 0) (bytes_of : V → List ℕ) (old new : MemoryFiles) (keeper keeper' : J)
+    (result : Result V RunError) (name : List ℕ) : Type 0 where
+  pub saves : Saves makes refuses bytes_of (files_seen old) (files_seen new) keeper keeper' result name
+  pub call : CallsMemory old new result

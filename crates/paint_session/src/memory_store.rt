@@ -5,7 +5,7 @@ ghost use Rattle.paint_session.specs.MemoryFiles.{MemoryFiles, IsCalled, IsChose
 ghost use Rattle.paint_session.specs.MemoryFiles.{SavesMemory, files_seen, held_by, no_files};
 
 use crate::run_error::RunError;
-use crate::store::{StatePath, StateStore};
+use crate::store::{Keeps, StatePath, StateStore};
 use byte_devices::count_one;
 use grid_core::Memory;
 use std::alloc::Global;
@@ -127,16 +127,22 @@ impl StateStore for MemoryStore {
         }
     }
 
-    fn save(&mut self, path: &StatePath, bytes: &[u8]) -> Result<(), RunError>
-        ensures { SavesMemory (⟦<MemoryStore as InMemory>⟧.files self.old) (⟦<MemoryStore as InMemory>⟧.files self.new)
-            result path.now bytes.now }
+    fn save<J: Keeps>(
+        &mut self,
+        alloc: Global,
+        path: &StatePath,
+        keeper: &mut J,
+    ) -> Result<Vec<u8>, RunError>
+        ensures { SavesMemory J.makes J.refuses (λ v. v.items) (⟦<MemoryStore as InMemory>⟧.files self.old)
+            (⟦<MemoryStore as InMemory>⟧.files self.new) keeper.old keeper.new result path.now }
     {
         if self.fails_now() {
             count_one(&mut self.failures);
             return Err(RunError::StateFile);
         }
-        match self.put(path, bytes) {
-            Ok(()) => Ok(()),
+        let made = keeper.keep_over(alloc, self.file(path))?;
+        match self.put(path, &made) {
+            Ok(()) => Ok(made),
             Err(_) => {
                 count_one(&mut self.failures);
                 Err(RunError::StateFile)

@@ -1,6 +1,6 @@
 //! Merging deltas, one after another, into the state of an image.
 
-ghost use Rattle.std.specs.Prelude.{◌++◌, IfOk, IfErr, OnOk, map};
+ghost use Rattle.std.specs.Prelude.{◌++◌, ◌∷◌, [], IfOk, IfErr, OnOk, map};
 ghost use Rattle.stroke_lattice.specs.State.{State, StateFits, IsJoin};
 ghost use Rattle.paint_session.specs.Merging.{AreMerged, IsStop, IsKeptOut, LeadsOn, StopsBehind};
 
@@ -8,6 +8,7 @@ use core_rules::CoreError;
 use edit_lang::LineDelta;
 use spd_codec::Frame;
 use std::alloc::Global;
+use std::slice;
 use stroke_lattice::{Delta, State, join_of_a_longer_list, join_of_an_empty_list};
 
 /// What has a delta: a delta itself, the delta of a line, or a frame of a state file.
@@ -93,6 +94,26 @@ pub fn merge_all<D: HasDelta>(
     let mut state = State::empty(alloc)?;
     merge_each(alloc, &mut state, old, w, h)?;
     merge_each(alloc, &mut state, deltas, w, h)?;
+    Ok(state)
+}
+
+/// The state of old deltas, and of another state behind them, for an image of `w` columns and `h` rows.
+///
+/// Errors: as [`merge_all`].
+pub fn merge_behind<D: HasDelta>(
+    alloc: Global,
+    old: &[D],
+    last: &State,
+    w: u32,
+    h: u32,
+) -> Result<State, CoreError>
+    ensures merged { IfOk result (AreMerged w h (map D.delta_of old.now ++ last.now ∷ [])) }
+    ensures stopped { IfErr result (IsStop w h (map D.delta_of old.now ++ last.now ∷ [])) }
+{
+    join_of_an_empty_list();
+    let mut state = State::empty(alloc)?;
+    merge_each(alloc, &mut state, old, w, h)?;
+    merge_each(alloc, &mut state, slice::from_ref(last), w, h)?;
     Ok(state)
 }
 

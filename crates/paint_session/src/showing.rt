@@ -2,6 +2,7 @@
 
 ghost use Rattle.std.specs.Prelude.{◌++◌, ◌⊎◌, IfOk, IfErr, map};
 ghost use Rattle.stroke_lattice.specs.State.{StateFits};
+ghost use Rattle.paint_session.specs.Joining.{IsStrokesImage};
 ghost use Rattle.paint_session.specs.Kept.{IsImageKept, KeptStops};
 ghost use Rattle.paint_session.specs.Merging.{AreMerged};
 ghost use Rattle.paint_session.specs.RunError.{IsReadingFault};
@@ -10,6 +11,7 @@ ghost use Rattle.paint_session.specs.View.{AreZeros, DeltasAreRefused, DeltasHal
 
 use crate::gathering::gather_beside;
 use crate::input::read_beside;
+use crate::joining::Strokes;
 use crate::merging::{HasDelta, merge_all};
 use crate::run_error::RunError;
 use derived_views::{reconstruction, reconstruction_in};
@@ -61,10 +63,34 @@ pub(crate) fn show_kept<G: Grower>(
         × IsImageKept conn old.now input.now state parts.0 parts.1.items) }
     ensures refused { IfErr result (λ e. IsReadingFault e ⊎ KeptStops conn old.now input.now e) }
 {
+    let (image, strokes) = show_strokes(grower, alloc, input, old, conn)?;
+    let new = write_frames(alloc, conn, &strokes.print, &strokes.state)?;
+    Ok((image, new))
+}
+
+/// The image that an input asks for over the old bytes of a state file, and the strokes that it shows.
+///
+/// Errors: as [`show_kept`].
+pub(crate) fn show_strokes<G: Grower>(
+    grower: &G,
+    alloc: Global,
+    input: &[u8],
+    old: &[u8],
+    conn: Conn,
+) -> Result<(Image, Strokes), RunError>
+    ensures shown { IfOk result (λ parts. IsStrokesImage conn old.now input.now parts.0 parts.1) }
+    ensures refused { IfErr result (λ e. IsReadingFault e ⊎ KeptStops conn old.now input.now e) }
+{
     let (gathered, zeros) = gather_beside(grower, alloc, input, old, conn)?;
     let image = shown_in(grower, alloc, zeros, &gathered.mask, &gathered.state, conn)?;
-    let new = write_frames(alloc, conn, &gathered.print, &gathered.state)?;
-    Ok((image, new))
+    let strokes = Strokes {
+        conn,
+        width: gathered.mask.width(),
+        height: gathered.mask.height(),
+        print: gathered.print,
+        state: gathered.state,
+    };
+    Ok((image, strokes))
 }
 
 // The image that a mask shows of old deltas and of those of lines, merged in order, and the state that they join to.

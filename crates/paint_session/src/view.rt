@@ -1,13 +1,15 @@
 //! The view of an input: from bytes in to bytes out.
 
 ghost use Rattle.stroke_lattice.specs.State.{State, nothing};
+ghost use Rattle.paint_session.specs.Joining.{IsStrokesView};
 ghost use Rattle.paint_session.specs.Kept.{IsKeptView, KeptStops};
 ghost use Rattle.paint_session.specs.Answering.{Answers, AnswersForSide};
 ghost use Rattle.paint_session.specs.View.{IsView, InputStops};
 
 use crate::answering::{Responder, respond};
+use crate::joining::Strokes;
 use crate::run_error::RunError;
-use crate::showing::{show_kept, show_over};
+use crate::showing::{show_kept, show_over, show_strokes};
 use byte_devices::{Sink, Source};
 use core_rules::CoreError;
 use grid_core::{Conn, is_tile_side};
@@ -136,6 +138,27 @@ pub fn view_kept_by<G: Grower, S: Source, K: Sink>(
     respond(alloc, &KeptView { grower, old, conn }, source, sink)
 }
 
+/// As [`view_kept_by`], and answers the strokes that a state file is to keep.
+///
+/// Errors: as [`view_kept`].
+pub fn view_strokes_by<G: Grower, S: Source, K: Sink>(
+    grower: &G,
+    alloc: Global,
+    source: &mut S,
+    old: &[u8],
+    conn: Conn,
+    side: u32,
+    sink: &mut K,
+) -> Result<Strokes, RunError>
+    ensures { AnswersForSide side (λ input strokes text. IsStrokesView conn old.now input text strokes)
+        (KeptStops conn old.now) result S.seen source.old source.new K.seen sink.old sink.new }
+{
+    if !is_tile_side(side) {
+        return Err(RunError::Core(CoreError::BadSide));
+    }
+    respond(alloc, &StrokesView { grower, old, conn }, source, sink)
+}
+
 // Views over no state.
 #[derive(Drop)]
 struct FirstView<'a, G: Grower> {
@@ -208,5 +231,30 @@ impl<'a, G: Grower> Responder for KeptView<'a, G> {
         one_fault();
         let (image, new) = show_kept(self.grower, alloc, input, self.old, self.conn)?;
         Ok((new, image))
+    }
+}
+
+// Views over the old bytes of a state file, with the strokes that it is to keep.
+#[derive(Drop)]
+struct StrokesView<'a, G: Grower> {
+    grower: &'a G,
+    old: &'a [u8],
+    conn: Conn,
+}
+
+impl<'a, G: Grower> Responder for StrokesView<'a, G> {
+    ghost use Rattle.paint_session.specs.Joining.{IsStrokesView};
+    ghost use Rattle.paint_session.specs.Kept.{KeptStops};
+
+    type Value = Strokes;
+
+    ghost answers = { λ v input strokes text. IsStrokesView v.conn v.old.now input text strokes };
+
+    ghost stops = { λ v input e. KeptStops v.conn v.old.now input e };
+
+    fn answer(&self, alloc: Global, input: &[u8]) -> Result<(Strokes, Image), RunError> {
+        one_fault();
+        let (image, strokes) = show_strokes(self.grower, alloc, input, self.old, self.conn)?;
+        Ok((strokes, image))
     }
 }
