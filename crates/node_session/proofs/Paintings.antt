@@ -13,11 +13,12 @@ use Rattle.core_rules.specs.Work.{Core}
 use Rattle.reset_core.specs.Starting.{IsBegunWith}
 use Rattle.paint_session.specs.Kept.{print_of, IsGathered, FileSpells}
 use Rattle.paint_session.specs.RunError.{IsReadingFault, IsTransferFault}
+use Rattle.paint_session.specs.declared.joining.Strokes.{Strokes}
 use Rattle.paint_session.specs.declared.run_error.RunError.{RunError}
 use Rattle.paint_session.proofs.KeptViews.{spells_pieces, no_kept_device}
 use Rattle.link_nodes.specs.Links.{LinkSeen}
 use Rattle.node_session.specs.Given.{HasGiven, ComesFrom}
-use Rattle.node_session.specs.Shared.{IsImageShared, NodeStops, StudioFails}
+use Rattle.node_session.specs.Shared.{IsImageShared, IsStrokesShared, NodeStops, StudioFails}
 use Rattle.node_session.specs.Working.{IsCoreOf, IsShared}
 
 -- ---- a core begins
@@ -37,18 +38,32 @@ pub same_mask : (raster : Raster) (maxval : ℕ) (mask : Graymap) → raster ≡
     → record { raster = raster; maxval = maxval } ≡ mask
 same_mask raster maxval mask same_raster same_maxval = rw (same_raster, same_maxval)
 
+-- the strokes of a core, for the mask of this fingerprint
+abbrev strokes_of : Core → List ℕ → Strokes
+strokes_of core print = record {
+  conn = core.conn;
+  print = print;
+  width = core.mask.width;
+  height = core.mask.height;
+  state = core.state;
+}
+
 -- a core on the mask, whose strokes come from those that were gathered, and at which no work was left
 shared_image : (conn : Conn) (old input : List ℕ) (mask : Graymap) (first : State) (print : List ℕ) (maxval : ℕ)
-    (given : List (List ℕ)) (core : Core) (image : Graymap) (new : List ℕ) → print ≡ print_of mask
+    (given : List (List ℕ)) (core : Core) (image : Graymap) → print ≡ print_of mask
     → maxval ≡ mask.maxval → IsGathered conn old input mask first → core.mask ≡ mask.raster → core.conn ≡ conn
     → ComesFrom conn print given first core.state
     → IsShown core.conn (record { raster = core.mask; maxval = maxval }) core.state image
-    → new ≡ file_text core.conn print (pieces_of 1400 core.state)
-    → SpellsFile new (frames_of core.conn print (pieces_of 1400 core.state))
-    → IsImageShared conn old input given core.state image new
-shared_image conn old input mask first print maxval given core image new is_print is_maxval gathered mask_is conn_is
-    comes shown text spells = record {
+    → IsStrokesShared conn old input given image (strokes_of core print)
+shared_image conn old input mask first print maxval given core image is_print is_maxval gathered mask_is conn_is
+    comes shown = record {
       mask = mask;
+      are_for = record {
+        conn_is = conn_is;
+        print_is = is_print;
+        width_is = ap (λ (r : Raster). r.width) mask_is;
+        height_is = ap (λ (r : Raster). r.height) mask_is;
+      };
       first = first;
       gathered = gathered;
       comes = subst (λ (p : List ℕ). ComesFrom conn p given first core.state) is_print comes;
@@ -56,37 +71,50 @@ shared_image conn old input mask first print maxval given core image new is_prin
           subst (λ (m : Graymap). IsShown conn m core.state image) (same_mask core.mask maxval mask mask_is is_maxval)
           (subst (λ (c : Conn). IsShown c (record { raster = core.mask; maxval = maxval }) core.state image) conn_is
           shown);
-      new_is =
-          subst (λ (p : List ℕ). new ≡ file_text conn p (pieces_of 1400 core.state)) is_print
-          (subst (λ (c : Conn). new ≡ file_text c print (pieces_of 1400 core.state)) conn_is text);
-      new_spelled =
-          subst (λ (p : List ℕ). FileSpells conn p new (pieces_of 1400 core.state)) is_print
-          (spells_pieces conn print new (pieces_of 1400 core.state)
-          (subst (λ (c : Conn). SpellsFile new (frames_of c print (pieces_of 1400 core.state))) conn_is spells));
     }
 
 -- a core that begins with what was gathered, is shared and settles
 pub shown_behind : (conn : Conn) (old input : List ℕ) (mask : Graymap) (first : State) (print : List ℕ)
-    (maxval ticks : ℕ) (link link' : LinkSeen) (begun shared quiet : Core) (image : Graymap) (new : List ℕ)
+    (maxval ticks : ℕ) (link link' : LinkSeen) (begun shared quiet : Core) (image : Graymap) (strokes : Strokes)
     → print ≡ print_of mask → maxval ≡ mask.maxval → IsGathered conn old input mask first
     → IsCoreOf mask.raster conn first begun → IsShared conn print ticks link link' begun shared
     → IsCoreOf shared.mask shared.conn shared.state quiet
     → IsShown quiet.conn (record { raster = quiet.mask; maxval = maxval }) quiet.state image
-    → new ≡ file_text quiet.conn print (pieces_of 1400 quiet.state)
-    → SpellsFile new (frames_of quiet.conn print (pieces_of 1400 quiet.state))
-    → (given : List (List ℕ)) × (state : State) × HasGiven link link' given
-    × IsImageShared conn old input given state image new
-shown_behind conn old input mask first print maxval ticks link link' begun shared quiet image new is_print is_maxval
-    gathered begins goes ends is_shown text spells = (
+    → strokes ≡ strokes_of quiet print
+    → (given : List (List ℕ)) × HasGiven link link' given × IsStrokesShared conn old input given image strokes
+shown_behind conn old input mask first print maxval ticks link link' begun shared quiet image strokes is_print is_maxval
+    gathered begins goes ends is_shown is_strokes = (
       goes.given,
-      quiet.state,
       goes.gives,
-      shared_image conn old input mask first print maxval goes.given quiet image new is_print is_maxval gathered
+      subst (λ (s : Strokes). IsStrokesShared conn old input goes.given image s) (sym is_strokes)
+          (shared_image conn old input mask first print maxval goes.given quiet image is_print is_maxval gathered
           (ends.mask_is ∙ goes.mask ∙ begins.mask_is) (ends.conn_is ∙ goes.conn_is ∙ begins.conn_is)
           (subst (λ (s : State). ComesFrom conn print goes.given s quiet.state) begins.state_is
           (subst (λ (s : State). ComesFrom conn print goes.given begun.state s) (sym ends.state_is) goes.comes))
-          is_shown text spells,
+          is_shown),
     )
+
+-- the new bytes of a state file are those of the strokes
+pub spelled_image : (conn : Conn) (old input : List ℕ) (given : List (List ℕ)) (image : Graymap) (strokes : Strokes)
+    (new : List ℕ) → IsStrokesShared conn old input given image strokes
+    → new ≡ file_text strokes.conn strokes.print (pieces_of 1400 strokes.state)
+    → SpellsFile new (frames_of strokes.conn strokes.print (pieces_of 1400 strokes.state))
+    → IsImageShared conn old input given strokes.state image new
+spelled_image conn old input given image strokes new shared text spells =
+    let pieces = pieces_of 1400 strokes.state in record {
+      mask = shared.mask;
+      first = shared.first;
+      gathered = shared.gathered;
+      comes = shared.comes;
+      shown = shared.shown;
+      new_is =
+          subst (λ (p : List ℕ). new ≡ file_text conn p pieces) shared.are_for.print_is
+          (subst (λ (c : Conn). new ≡ file_text c strokes.print pieces) shared.are_for.conn_is text);
+      new_spelled =
+          subst (λ (p : List ℕ). FileSpells conn p new pieces) shared.are_for.print_is
+          (spells_pieces conn strokes.print new pieces
+          (subst (λ (c : Conn). SpellsFile new (frames_of c strokes.print pieces)) shared.are_for.conn_is spells));
+    }
 
 -- ---- where a run stops
 

@@ -9,16 +9,19 @@ use Rattle.byte_devices.specs.Transfer.{IsInputOf}
 use Rattle.grid_core.specs.declared.conn.Conn.{Conn}
 use Rattle.link_nodes.specs.Links.{LinkSeen}
 use Rattle.paint_session.specs.RunError.{IsReadingFault, IsTransferFault}
-use Rattle.paint_session.specs.Serving.{IsKeptIn, Serves, TellsStore}
+use Rattle.paint_session.specs.Joining.{Makes, Refuses}
+use Rattle.paint_session.specs.Serving.{IsKeptIn, IsSavingFault, IsWritten, Serves, TellsStore, ToKeep}
 use Rattle.paint_session.specs.Store.{AreSame, Held, StoreSeen}
+use Rattle.paint_session.specs.declared.joining.Strokes.{Strokes}
 use Rattle.paint_session.specs.declared.run_error.RunError.{RunError}
 use Rattle.paint_session.specs.declared.run_error.RunError.TheVariants.{Link, Memory, StateFile}
 use Rattle.paint_session.proofs.Shared.{input_is_no_file, kept_stops_of_input, reading_is_no_file, transfer_is_no_file}
-use Rattle.paint_session.proofs.StoredViews.{load_fault, store_unloaded, store_shown}
+use Rattle.paint_session.proofs.Shared.{saving_is_no_transfer}
+use Rattle.paint_session.proofs.StoredViews.{load_fault, saving_fault, store_unloaded, store_saved, store_unsaved}
 use Rattle.node_session.specs.Network.{NetworkSeen, TellsNetwork}
-use Rattle.node_session.specs.Shared.{IsNodeView, NodeStops}
-use Rattle.node_session.specs.Stored.{IsHeldFor, IsNodeFault, IsStoredNode, LoadsFor, SavesFor, StoredNodeStops}
-use Rattle.node_session.specs.Stored.{to_keep}
+use Rattle.node_session.specs.Shared.{IsStrokesNode, NodeStops}
+use Rattle.node_session.specs.Stored.{IsHeldFor, IsNodeFault, IsNotToKeep, IsShownNode, IsStoredNode, IsStrokesOver}
+use Rattle.node_session.specs.Stored.{IsToKeep, LoadsFor, SavesFor, StoredNodeStops}
 
 -- ---- which errors are which
 
@@ -123,78 +126,125 @@ store_refused old new e file bytes is no_file = record {
   failure = λ less. absurd (omega (arith, less, is.failures));
 }
 
-no_fault_is_well : (e : RunError) → IsOk {T = Unit {0}} {E = RunError} (Err e) → ⊥
-no_fault_is_well e well = cc
+no_fault_is_well : (V : Type 0) (e : RunError) → IsOk {T = V} {E = RunError} (Err e) → ⊥
+no_fault_is_well V e well = cc
 
--- a save that failed was one of a file
-save_failed : (old new : StoreSeen) (e : RunError) (file : Option (List ℕ)) (bytes : List ℕ)
-    → SavesFor old new (Err e) file bytes → IsNodeFault file e × (e ≡ StateFile)
-save_failed old new e None bytes (same, well) = absurd (no_fault_is_well e well)
-save_failed old new e (Some name) bytes saves = (inl (inl saves.failures.0), saves.failures.0)
+-- a save that failed was one of a file, and a fault in saving
+pub save_failed : {V : Type 0} (bytes_of : V → List ℕ) (old new : StoreSeen) (strokes strokes' : Strokes)
+    (e : RunError) (file : Option (List ℕ)) → SavesFor bytes_of old new strokes strokes' (Err e) file
+    → IsSavingFault e × (IsNodeFault file e ⊎ IsNotToKeep file old.held strokes e)
+save_failed {V} bytes_of old new strokes strokes' e None (same, well) = absurd (no_fault_is_well V e well)
+save_failed {V} bytes_of old new strokes strokes' e (Some name) saves = (
+  saving_fault bytes_of old new strokes strokes' e name saves,
+  elim saves.not_saved [
+    | inl (inl at_file, unasked) ↦ inl (inl (inl at_file))
+    | inl (inr memory, unasked) ↦ inl (inl (inr (inl memory)))
+    | inr (inl (at_file, found, made, was_held, makes)) ↦ inl (inl (inl at_file))
+    | inr (inr (found, was_held, refuses)) ↦ inr (found, was_held, refuses.1)
+  ],
+)
+
+saving_is_no_link_fault : (e : RunError) → IsSavingFault e → e ≡ Link → ⊥
+saving_is_no_link_fault e (inl file) link = cc
+saving_is_no_link_fault e (inr (inl memory)) link = cc
+saving_is_no_link_fault e (inr (inr (inl other))) link = cc
+saving_is_no_link_fault e (inr (inr (inr (inl (why, is))))) link = cc
+saving_is_no_link_fault e (inr (inr (inr (inr (why, is))))) link = cc
 
 -- and it is none of a link
-pub saving_is_no_link : (old new : StoreSeen) (result : Result (Unit {0}) RunError) (file : Option (List ℕ))
-    (bytes : List ℕ) → SavesFor old new result file bytes → result ≡ Err Link → ⊥
-saving_is_no_link old new (Ok value) file bytes saves is = cc
-saving_is_no_link old new (Err e) file bytes saves is =
-    let link : e ≡ Link = cc in
-    link_is_no_file e link (save_failed old new e file bytes saves).1
+pub saving_is_no_link : {V : Type 0} (bytes_of : V → List ℕ) (old new : StoreSeen) (strokes strokes' : Strokes)
+    (e : RunError) (file : Option (List ℕ)) → SavesFor bytes_of old new strokes strokes' (Err e) file → e ≡ Link → ⊥
+saving_is_no_link bytes_of old new strokes strokes' e file saves link =
+    saving_is_no_link_fault e (save_failed bytes_of old new strokes strokes' e file saves).0 link
+
+-- what is not to be kept over what the files held behind the load is not over what they held before
+not_to_keep : (file : Option (List ℕ)) (before middle : Held) (strokes : Strokes) (e : RunError)
+    → AreSame before middle → IsNotToKeep file middle strokes e → IsNotToKeep file before strokes e
+not_to_keep None before middle strokes e same none = none
+not_to_keep (Some name) before middle strokes e same (found, was_held, why) =
+    (found, subst (λ (known : Option (List ℕ)). IfSome known (λ bytes. found ≡ bytes)) (same name) was_held, why)
 
 -- what is to be kept is kept
-kept : (before : Held) (old new : StoreSeen) (file : Option (List ℕ)) (bytes saved : List ℕ) → AreSame before old.held
-    → saved ≡ bytes → SavesFor old new (Ok tt) file saved → IsKeptIn before new.held (to_keep file bytes)
-kept before old new None bytes saved same is (unasked, well) =
-    λ name. ap (λ (s : StoreSeen). s.held name) unasked ∙ same name
-kept before old new (Some name) bytes saved same is saves =
-    let there = subst (λ (b : List ℕ). IfSome (old.held name) (λ known. new.held name ≡ Some b)) is
-    saves.replaced.replaced in
+pub record IsKeptThen (file : Option (List ℕ)) (before after : Held) (strokes : Strokes) : Type 0 where
+  pub kept : ToKeep
+  pub to_keep : IsToKeep file before strokes kept
+  pub is_kept : IsKeptIn before after kept
+
+saved_then : {V : Type 0} (bytes_of : V → List ℕ) (before : Held) (old new : StoreSeen) (strokes strokes' : Strokes)
+    (v : V) (file : Option (List ℕ)) → AreSame before old.held
+    → SavesFor bytes_of old new strokes strokes' (Ok v) file → IsKeptThen file before new.held strokes
+saved_then bytes_of before old new strokes strokes' v None same (unasked, well) = record {
+  kept = None;
+  to_keep = refl;
+  is_kept = λ name. ap (λ (s : StoreSeen). s.held name) unasked ∙ same name;
+}
+saved_then bytes_of before old new strokes strokes' v (Some name) same saves =
+    let found = saves.saved.found in
     record {
-      replaced = subst (λ (b : Option (List ℕ)). IfSome b (λ known. new.held name ≡ Some bytes)) (same name) there;
-      others = λ other differs not_fresh. saves.replaced.others other differs not_fresh ∙ same other;
+      kept = Some (name, bytes_of v);
+      to_keep = (
+        found,
+        bytes_of v,
+        subst (λ (known : Option (List ℕ)). IfSome known (λ bytes. found ≡ bytes)) (same name) saves.saved.was_held,
+        saves.saved.made_over.1,
+        refl,
+      );
+      is_kept = record {
+        replaced = subst (λ (b : Option (List ℕ)). IfSome b (λ known. new.held name ≡ Some (bytes_of v))) (same name)
+            saves.saved.replaced.replaced;
+        others = λ other differs. saves.saved.replaced.others other differs ∙ same other;
+      };
     }
 
 -- the store tells so of a load and a save
-pub store_saved : {V : Type 0} (bytes_of : V → List ℕ) (old middle new : StoreSeen) (v : V)
-    (result : Result (Unit {0}) RunError) (file : Option (List ℕ)) (bytes : List ℕ)
-    → LoadsFor bytes_of old middle (Ok v) file → SavesFor middle new result file bytes → TellsStore result old new
-store_saved bytes_of old middle new v (Ok value) None bytes (same, none) (unasked, well) = record {
+pub store_kept : {V W : Type 0} (bytes_of : V → List ℕ) (made_of : W → List ℕ) (old middle new : StoreSeen) (v : V)
+    (strokes strokes' : Strokes) (w : W) (file : Option (List ℕ)) → LoadsFor bytes_of old middle (Ok v) file
+    → SavesFor made_of middle new strokes strokes' (Ok w) file → TellsStore (Ok tt) old new
+store_kept bytes_of made_of old middle new v strokes strokes' w None (same, none) (unasked, well) = record {
   files = tt;
   fault = tt;
   failure = λ less. absurd (omega (arith, less, ap (λ (s : StoreSeen). s.failures) (unasked ∙ same)));
 }
-store_saved bytes_of old middle new v (Err e) None bytes loads (unasked, well) = absurd (no_fault_is_well e well)
-store_saved bytes_of old middle new v result (Some name) bytes loads saves =
-    store_shown bytes_of old middle new v result name bytes loads saves
+store_kept bytes_of made_of old middle new v strokes strokes' w (Some name) loads saves =
+    store_saved bytes_of made_of Makes Refuses old middle new v strokes strokes' w name loads saves
+
+pub store_unkept : {V W : Type 0} (bytes_of : V → List ℕ) (made_of : W → List ℕ) (old middle new : StoreSeen) (v : V)
+    (strokes strokes' : Strokes) (e : RunError) (file : Option (List ℕ)) → LoadsFor bytes_of old middle (Ok v) file
+    → SavesFor {V = W} made_of middle new strokes strokes' (Err e) file → TellsStore (Err e) old new
+store_unkept {V} {W} bytes_of made_of old middle new v strokes strokes' e None loads (unasked, well) =
+    absurd (no_fault_is_well W e well)
+store_unkept {V} {W} bytes_of made_of old middle new v strokes strokes' e (Some name) loads saves =
+    store_unsaved bytes_of made_of Makes Refuses old middle new v strokes strokes' e name loads saves
 
 -- ---- what is served
 
 -- what a node's run answers, over bytes that the file held
-stored_of : {L : Type 0} (heard : L → LinkSeen) (conn : Conn) (hands ticks : ℕ) (file : Option (List ℕ))
-    (link link' : L) (held : Held) (old given input text new : List ℕ) → IsHeldFor held file old → given ≡ old
-    → IsNodeView conn hands ticks given (heard link) (heard link') input text new
-    → IsStoredNode heard conn hands ticks file held input text (to_keep file new)
-stored_of heard conn hands ticks file link link' held old given input text new is_held is view = (
+over_file : {L : Type 0} (heard : L → LinkSeen) (conn : Conn) (hands ticks : ℕ) (file : Option (List ℕ))
+    (link link' : L) (held : Held) (old given input text : List ℕ) (strokes : Strokes) → IsHeldFor held file old
+    → given ≡ old → IsStrokesNode conn hands ticks given (heard link) (heard link') input text strokes
+    → IsStrokesOver heard conn hands ticks file held input text strokes
+over_file heard conn hands ticks file link link' held old given input text strokes is_held is view = (
   old,
-  new,
   is_held,
   (
     link,
     link',
-    subst (λ (bytes : List ℕ). IsNodeView conn hands ticks bytes (heard link) (heard link') input text new) is view,
+    subst (λ (bytes : List ℕ). IsStrokesNode conn hands ticks bytes (heard link) (heard link') input text strokes) is
+        view,
   ),
-  refl,
 )
 
 module _ {S K L : Type 0} (known : Option (List ℕ)) (seen : K → SinkSeen) (heard : L → LinkSeen) (conn : Conn)
     (hands ticks : ℕ) (file : Option (List ℕ)) (link link' : L) where
   -- the run was refused
-  pub serves_refused : {V : Type 0} (items : V → List ℕ) (held held' : Held) (old given : List ℕ) (e : RunError)
+  pub serves_refused : (held held' : Held) (old given : List ℕ) (e : RunError)
       (source source' : S) (sink sink' : K) → IsHeldFor held file old → given ≡ old
-      → Responds (λ input new text. IsNodeView conn hands ticks given (heard link) (heard link') input text (items new))
-      (NodeStops conn hands given) IsReadingFault IsTransferFault (Err e) known seen sink sink'
-      → Serves (IsStoredNode heard conn hands ticks file held) (StoredNodeStops conn hands file held) (IsNodeFault file)
-      (Err e) known source source' seen sink sink' held held'
-  serves_refused items held held' old given e source source' sink sink' is_held is r = record {
+      → Responds (λ input strokes text. IsStrokesNode conn hands ticks given (heard link) (heard link') input text
+      strokes) (NodeStops conn hands given) IsReadingFault IsTransferFault (Err e) known seen sink sink'
+      → Serves (IsStoredNode heard conn hands ticks file held) (IsShownNode heard conn hands ticks file held)
+      (StoredNodeStops heard conn hands ticks file held) (IsNodeFault file) (Err e) known source source' seen sink sink'
+      held held'
+  serves_refused held held' old given e source source' sink sink' is_held is r = record {
     shown = tt;
     refused = elim r.refused [
       | inl reading ↦ inl (reading_is_early file e reading)
@@ -202,10 +252,10 @@ module _ {S K L : Type 0} (known : Option (List ℕ)) (seen : K → SinkSeen) (h
       | inr (inr (input, is_input, stop)) ↦ inr (inr (
         input,
         is_input,
-        (old, is_held, subst (λ (bytes : List ℕ). NodeStops conn hands bytes input e) is stop),
+        inl (old, is_held, subst (λ (bytes : List ℕ). NodeStops conn hands bytes input e) is stop),
       ))
     ];
-    untouched = λ no_device no_file. r.untouched no_device;
+    untouched = λ no_device no_saving. r.untouched no_device;
     written = λ device. elim (r.written device) [
       | inl same ↦ inl same
       | inr (risen, front) ↦ inr (
@@ -213,59 +263,87 @@ module _ {S K L : Type 0} (known : Option (List ℕ)) (seen : K → SinkSeen) (h
         (
           front.0,
           front.1,
-          to_keep file (items front.2),
           front.3,
-          stored_of heard conn hands ticks file link link' held old given front.0 front.1 (items front.2) is_held is
-              front.4,
+          (
+            front.2,
+            over_file heard conn hands ticks file link link' held old given front.0 front.1 front.2 is_held is front.4,
+          ),
           front.5,
         ),
       )
     ];
+    unsaved = λ saving. inl (r.untouched (saving_is_no_transfer e saving));
     not_saved = λ at_file. absurd (refused_at_no_file conn hands given known e r.refused at_file);
   }
 
-  -- the image was written, and the file was saved or not
-  pub serves_shown : {V : Type 0} (items : V → List ℕ) (held : Held) (middle after : StoreSeen) (old given : List ℕ)
-      (new : V) (saved : List ℕ) (result : Result (Unit {0}) RunError) (source source' : S) (sink sink' : K)
-      → IsHeldFor held file old → given ≡ old → AreSame held middle.held → saved ≡ items new
-      → Responds (λ input new text. IsNodeView conn hands ticks given (heard link) (heard link') input text (items new))
-      (NodeStops conn hands given) IsReadingFault IsTransferFault (Ok new) known seen sink sink'
-      → SavesFor middle after result file saved
-      → Serves (IsStoredNode heard conn hands ticks file held) (StoredNodeStops conn hands file held) (IsNodeFault file)
-      result known source source' seen sink sink' held after.held
-  serves_shown items held middle after old given new saved (Ok value) source source' sink sink' is_held is same is_saved
-      r s = record {
+  -- the image was written, and its strokes were saved, if there is a file
+  pub serves_kept : {W : Type 0} (made_of : W → List ℕ) (held : Held) (middle after : StoreSeen)
+      (old given : List ℕ) (strokes strokes' : Strokes) (w : W) (source source' : S) (sink sink' : K)
+      → IsHeldFor held file old → given ≡ old → AreSame held middle.held
+      → Responds (λ input strokes text. IsStrokesNode conn hands ticks given (heard link) (heard link') input text
+      strokes) (NodeStops conn hands given) IsReadingFault IsTransferFault (Ok strokes) known seen sink sink'
+      → SavesFor made_of middle after strokes strokes' (Ok w) file
+      → Serves (IsStoredNode heard conn hands ticks file held) (IsShownNode heard conn hands ticks file held)
+      (StoredNodeStops heard conn hands ticks file held) (IsNodeFault file) (Ok tt) known source source' seen sink sink'
+      held after.held
+  serves_kept made_of held middle after old given strokes strokes' w source source' sink sink' is_held is same r s =
+      let then = saved_then made_of held middle after strokes strokes' w file same s in record {
         shown = (
           r.shown.0,
           r.shown.1,
-          to_keep file (items new),
+          then.kept,
           r.shown.2,
-          stored_of heard conn hands ticks file link link' held old given r.shown.0 r.shown.1 (items new) is_held is
-              r.shown.3,
+          (
+            strokes,
+            over_file heard conn hands ticks file link link' held old given r.shown.0 r.shown.1 strokes is_held is
+                r.shown.3,
+            then.to_keep,
+          ),
           r.shown.4,
-          kept held middle after file (items new) saved same is_saved s,
+          then.is_kept,
         );
         refused = tt;
         untouched = tt;
         written = tt;
+        unsaved = tt;
         not_saved = tt;
       }
-  serves_shown items held middle after old given new saved (Err e) source source' sink sink' is_held is same is_saved
-      r s =
-      let failed = save_failed middle after e file saved s in record {
+
+  -- the image was written, and its strokes were not saved
+  pub serves_unkept : {W : Type 0} (made_of : W → List ℕ) (held : Held) (middle after : StoreSeen)
+      (old given : List ℕ) (strokes strokes' : Strokes) (e : RunError) (source source' : S) (sink sink' : K)
+      → IsHeldFor held file old → given ≡ old → AreSame held middle.held
+      → Responds (λ input strokes text. IsStrokesNode conn hands ticks given (heard link) (heard link') input text
+      strokes) (NodeStops conn hands given) IsReadingFault IsTransferFault (Ok strokes) known seen sink sink'
+      → SavesFor {V = W} made_of middle after strokes strokes' (Err e) file
+      → Serves (IsStoredNode heard conn hands ticks file held) (IsShownNode heard conn hands ticks file held)
+      (StoredNodeStops heard conn hands ticks file held) (IsNodeFault file) (Err e) known source source' seen sink sink'
+      held after.held
+  serves_unkept made_of held middle after old given strokes strokes' e source source' sink sink' is_held is same r s =
+      let failed = save_failed made_of middle after strokes strokes' e file s in
+      let over = over_file heard conn hands ticks file link link' held old given r.shown.0 r.shown.1 strokes is_held is
+      r.shown.3 in
+      let written : IsWritten (IsShownNode heard conn hands ticks file held) known seen sink sink' = (
+        r.shown.0,
+        r.shown.1,
+        r.shown.2,
+        (strokes, over),
+        r.shown.4,
+      ) in
+      record {
         shown = tt;
-        refused = inl failed.0;
-        untouched = λ no_device no_file. absurd (no_file failed.1);
-        written = λ device. absurd (transfer_is_no_file e device failed.1);
-        not_saved = λ at_file. inr (
-          r.shown.0,
-          r.shown.1,
-          to_keep file (items new),
-          r.shown.2,
-          stored_of heard conn hands ticks file link link' held old given r.shown.0 r.shown.1 (items new) is_held is
-              r.shown.3,
-          r.shown.4,
-        );
+        refused = elim failed.1 [
+          | inl early ↦ inl early
+          | inr why ↦ inr (inr (
+            r.shown.0,
+            r.shown.2,
+            inr (r.shown.1, strokes, over, not_to_keep file held middle.held strokes e same why),
+          ))
+        ];
+        untouched = λ no_device no_saving. absurd (no_saving failed.0);
+        written = λ device. absurd (saving_is_no_transfer e failed.0 device);
+        unsaved = λ saving. inr written;
+        not_saved = λ at_file. inr written;
       }
 
 -- ---- what the devices tell
@@ -283,12 +361,10 @@ module _ (source source' : SourceSeen) (sink sink' : SinkSeen) (file : Option (L
     sink_failure = t.sink_failure;
   }
 
-  pub devices_shown : {V : Type 0} (new : V) (middle after : StoreSeen) (result : Result (Unit {0}) RunError)
-      (bytes : List ℕ)
+  pub devices_kept : {V : Type 0} (new : V)
       → TellsDevices IsReadingFault IsTransferFault (Ok new) source source' sink sink'
-      → SavesFor middle after result file bytes
-      → TellsDevices (IsNodeFault file) IsTransferFault result source source' sink sink'
-  devices_shown new middle after (Ok value) bytes t s = record {
+      → TellsDevices {T = Unit {0}} (IsNodeFault file) IsTransferFault (Ok tt) source source' sink sink'
+  devices_kept new t = record {
     in_time = t.in_time;
     ended = t.ended;
     at_end = t.at_end;
@@ -296,15 +372,18 @@ module _ (source source' : SourceSeen) (sink sink' : SinkSeen) (file : Option (L
     source_failure = t.source_failure;
     sink_failure = t.sink_failure;
   }
-  devices_shown new middle after (Err e) bytes t s =
-      let failed = save_failed middle after e file bytes s in record {
-        in_time = t.in_time;
-        ended = inl failed.0;
-        at_end = inl failed.0;
-        device = λ device. absurd (transfer_is_no_file e device failed.1);
-        source_failure = λ less. absurd (t.source_failure less);
-        sink_failure = λ less. absurd (t.sink_failure less);
-      }
+
+  pub devices_unkept : {V : Type 0} (new : V) (e : RunError) → IsSavingFault e
+      → TellsDevices IsReadingFault IsTransferFault (Ok new) source source' sink sink'
+      → TellsDevices {T = Unit {0}} (IsNodeFault file) IsTransferFault (Err e) source source' sink sink'
+  devices_unkept new e saving t = record {
+    in_time = t.in_time;
+    ended = inr (inr t.ended);
+    at_end = inr (inr t.at_end);
+    device = λ device. absurd (saving_is_no_transfer e saving device);
+    source_failure = λ less. absurd (t.source_failure less);
+    sink_failure = λ less. absurd (t.sink_failure less);
+  }
 
 -- ---- what the network tells
 
@@ -317,11 +396,8 @@ network_idle left e old new same no_link = record {
   failure = λ less. absurd (omega (arith, less, same));
 }
 
--- it gave a link, and the file was saved or not
-pub network_bound : (left : NetworkSeen → Type 0) (result : Result (Unit {0}) RunError) (old new : NetworkSeen)
-    (file : Option (List ℕ)) (middle after : StoreSeen) (bytes : List ℕ) → left new → new.failures ≡ old.failures
-    → SavesFor middle after result file bytes → TellsNetwork left result old new
-network_bound left (Ok value) old new file middle after bytes is same saves =
+-- it gave a link, and the run ended well
+pub network_bound : (left : NetworkSeen → Type 0) (old new : NetworkSeen) → left new → new.failures ≡ old.failures
+    → TellsNetwork left (Ok tt) old new
+network_bound left old new is same =
     record { is_left = is; fault = tt; failure = λ less. absurd (omega (arith, less, same)) }
-network_bound left (Err e) old new file middle after bytes is same saves =
-    network_idle left e old new same (λ link. link_is_no_file e link (save_failed middle after e file bytes saves).1)

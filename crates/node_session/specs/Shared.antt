@@ -7,6 +7,8 @@ use Rattle.pgm_codec.specs.Writing.{raw_text}
 use Rattle.stroke_lattice.specs.State.{State, StateFits}
 use Rattle.stroke_lattice.specs.Pieces.{pieces_of}
 use Rattle.derived_views.specs.Shown.{IsShown}
+use Rattle.paint_session.specs.Joining.{AreFor}
+use Rattle.paint_session.specs.declared.joining.Strokes.{Strokes}
 use Rattle.paint_session.specs.Kept.{print_of, kept_text, FileSpells, IsGathered, KeptStops}
 use Rattle.paint_session.specs.declared.gathering.Gathered.{Gathered}
 use Rattle.paint_session.specs.declared.run_error.RunError.{RunError}
@@ -39,6 +41,17 @@ pub record IsImageShared (conn : Conn) (old input : List ℕ) (given : List (Lis
   pub new_is : new ≡ kept_text conn mask state
   pub new_spelled : FileSpells conn (print_of mask) new (pieces_of 1400 state)
 
+-- the image shows strokes on the input's mask, which come from the join of the deltas of the old bytes and of the input,
+-- and from frames for this mask among the datagrams
+pub record IsStrokesShared (conn : Conn) (old input : List ℕ) (given : List (List ℕ)) (image : Graymap)
+    (strokes : Strokes) : Type 0 where
+  pub mask : Graymap
+  pub are_for : AreFor strokes conn mask
+  pub first : State
+  pub gathered : IsGathered conn old input mask first
+  pub comes : ComesFrom conn (print_of mask) given first strokes.state
+  pub shown : IsShown conn mask strokes.state image
+
 -- the text is the raw spelling of such an image
 abbrev pub IsSharedView : Conn → List ℕ → List (List ℕ) → List ℕ → List ℕ → List ℕ → Type 0
 IsSharedView conn old given input text new =
@@ -49,6 +62,13 @@ IsSharedView conn old given input text new =
 abbrev pub IsNodeView : Conn → ℕ → ℕ → List ℕ → LinkSeen → LinkSeen → List ℕ → List ℕ → List ℕ → Type 0
 IsNodeView conn hands ticks old link link' input text new = IsCount hands × HasRisenBy ticks link.polls link'.polls
     × ((given : List (List ℕ)) × HasGiven link link' given × IsSharedView conn old given input text new)
+
+-- the same where the strokes are answered, and not the new bytes
+abbrev pub IsStrokesNode : Conn → ℕ → ℕ → List ℕ → LinkSeen → LinkSeen → List ℕ → List ℕ → Strokes → Type 0
+IsStrokesNode conn hands ticks old link link' input text strokes =
+    IsCount hands × HasRisenBy ticks link.polls link'.polls
+    × ((given : List (List ℕ)) × HasGiven link link' given
+    × ((image : Graymap) × IsStrokesShared conn old input given image strokes × (text ≡ raw_text image)))
 
 -- what a studio that was not opened is to a run: U1 to U3
 abbrev pub opening_fault : OpenError → StudioFault

@@ -25,4 +25,4 @@ mod running;
 mod sharing;
 pub mod stored;
 
-pub use running::node_run;
+pub use running::{node_run, node_strokes};

@@ -4,18 +4,13 @@ ghost use Rattle.std.specs.Prelude.{◌≡◌, ◌⊎◌, IfOk, IfErr};
 ghost use Rattle.byte_devices.specs.Device.{HasRisenBy};
 ghost use Rattle.grid_core.specs.Tiles.{IsTileSide};
 ghost use Rattle.pgm_codec.specs.Graymap.{IsGraymap};
-ghost use Rattle.stroke_lattice.specs.Pieces.{pieces_of};
 ghost use Rattle.stroke_lattice.specs.State.{StateFits};
-ghost use Rattle.spd_codec.specs.StateFile.{SpellsFile, file_text, frames_of};
-ghost use Rattle.spd_codec.specs.Spelling.{max_bytes};
 ghost use Rattle.derived_views.specs.Shown.{IsShown};
 ghost use Rattle.core_rules.specs.Work.{IsQuiet};
 ghost use Rattle.reset_core.specs.Blanks.{AreBlanks};
 ghost use Rattle.reset_core.specs.Starting.{IsBegunWith};
 ghost use Rattle.paint_session.specs.RunError.{IsReadingFault};
-ghost use Rattle.paint_session.specs.declared.run_error.RunError.TheVariants as errors;
-ghost use Rattle.spd_codec.specs.declared.error.SpdError.TheVariants as spd;
-ghost use Rattle.node_session.specs.Shared.{IsImageShared, NodeStops};
+ghost use Rattle.node_session.specs.Shared.{IsStrokesShared, NodeStops};
 ghost use Rattle.studio.specs.Opening.{IsCount};
 ghost use Rattle.node_session.specs.Given.{HasGiven};
 ghost use Rattle.node_session.specs.Working.{IsCoreOf};
@@ -26,11 +21,12 @@ use band_growth::ManyThreads;
 use grid_core::{Conn, Memory};
 use link_nodes::Link;
 use paint_session::gathering::Gathered;
+use paint_session::joining::Strokes;
 use paint_session::run_error::RunError;
 use pgm_codec::{Image, below_keeps_maxval};
 use raster_sweeps::Grower;
 use reset_core::{Blanks, Core};
-use spd_codec::{Print, write_frames};
+use spd_codec::Print;
 use std::alloc::Global;
 use std::sync::Wait;
 use std::thread::Threads;
@@ -45,9 +41,10 @@ pub(crate) struct Plan {
     pub(crate) room: Room,
 }
 
-/// The image that an input asks for over the old bytes of a state file and what a node brings, and the new bytes.
+/// The image that an input asks for over the old bytes of a state file and what a node brings, and the strokes that it
+/// shows.
 ///
-/// Errors: those of [`node_run`](crate::node_run) but the devices' and C5.
+/// Errors: those of [`node_run`](crate::node_run) but the devices', C5 and M8 for the new bytes.
 pub(crate) fn paint<R: Threads + Wait + Clock + Sync, L: Link>(
     rt: &R,
     alloc: Global,
@@ -55,13 +52,13 @@ pub(crate) fn paint<R: Threads + Wait + Clock + Sync, L: Link>(
     old: &[u8],
     plan: Plan,
     link: &mut L,
-) -> Result<(Image, Vec<u8>), RunError>
+) -> Result<(Image, Strokes), RunError>
     requires { IsTileSide plan.side }
     ensures hands { IfOk result (λ _. IsCount plan.room.hands) }
     ensures polled { IfOk result (λ _.
         HasRisenBy plan.room.ticks (L.seen link.old).polls (L.seen link.new).polls) }
-    ensures shown { IfOk result (λ parts. (given : _) × (state : _) × HasGiven (L.seen link.old) (L.seen link.new) given
-        × IsImageShared plan.conn old.now input.now given state parts.0 parts.1.items) }
+    ensures shown { IfOk result (λ parts. (given : _) × HasGiven (L.seen link.old) (L.seen link.new) given
+        × IsStrokesShared plan.conn old.now input.now given parts.0 parts.1) }
     ensures refused { IfErr result (λ e. IsReadingFault e
         ⊎ NodeStops plan.conn plan.room.hands old.now input.now e) }
 {
@@ -82,7 +79,7 @@ pub(crate) fn paint<R: Threads + Wait + Clock + Sync, L: Link>(
     };
     let shared = share(rt, alloc, core, spares, sharing, link)?;
     let quiet = settled(alloc, shared)?;
-    spelled(alloc, quiet, maxval, &print)
+    Ok(shown(quiet, maxval, print))
 }
 
 // A core of the mask that begins with these strokes, which fit it, so that memory alone can be wanting. Its image is
@@ -133,42 +130,31 @@ fn settled(alloc: Global, core: Core) -> Result<Core, Memory>
     }
 }
 
-// The image of a core, and the bytes that keep its strokes.
-fn spelled(
-    alloc: Global,
-    core: Core,
-    maxval: u16,
-    print: &Print,
-) -> Result<(Image, Vec<u8>), RunError>
+// The image of a core at which no work is left, with the mask's maxval, and its strokes for the mask of this fingerprint.
+fn shown(core: Core, maxval: u16, print: Print) -> (Image, Strokes)
     requires quiet { IsQuiet core }
     requires graymap { IsGraymap (record { raster = core.mask; maxval = maxval }) }
-    ensures shown { IfOk result (λ parts.
-        IsShown core.conn (record { raster = core.mask; maxval = maxval }) core.state parts.0) }
-    ensures text { IfOk result (λ parts.
-        parts.1.items ≡ file_text core.conn print.now (pieces_of max_bytes core.state)) }
-    ensures spells { IfOk result (λ parts.
-        SpellsFile parts.1.items (frames_of core.conn print.now (pieces_of max_bytes core.state))) }
-    ensures memory { IfErr result (λ e. e ≡ errors.Spd spd.Memory) }
-{
-    match write_frames(alloc, core.conn(), print, core.state()) {
-        Ok(new) => Ok((image_of(core, maxval), new)),
-        Err(e) => {
-            drop(core);
-            Err(RunError::Spd(e))
-        }
-    }
-}
-
-// The image of a core at which no work is left, with the mask's maxval.
-fn image_of(core: Core, maxval: u16) -> Image
-    requires quiet { IsQuiet core }
-    requires graymap { IsGraymap (record { raster = core.mask; maxval = maxval }) }
-    ensures { IsShown core.conn (record { raster = core.mask; maxval = maxval }) core.state result }
+    ensures shown { IsShown core.conn (record { raster = core.mask; maxval = maxval }) core.state result.0 }
+    ensures strokes { result.1 ≡ record {
+      conn = core.conn;
+      print = print;
+      width = core.mask.width;
+      height = core.mask.height;
+      state = core.state;
+    } }
 {
     below_keeps_maxval();
     // For their clauses alone: the image is the reconstruction from the marker, and the marker is that of the strokes.
     let _image = core.image();
     let _marker = core.marker();
-    let (_mask, image, _state) = core.into_parts();
-    Image::over(image, maxval)
+    let conn = core.conn();
+    let (mask, image, state) = core.into_parts();
+    let strokes = Strokes {
+        conn,
+        print,
+        width: mask.width(),
+        height: mask.height(),
+        state,
+    };
+    (Image::over(image, maxval), strokes)
 }

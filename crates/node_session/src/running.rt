@@ -1,10 +1,13 @@
 //! The run of a node: from bytes in to bytes out.
 
-ghost use Rattle.std.specs.Prelude.{◌≡◌, IfOk};
+ghost use Rattle.std.specs.Prelude.{◌≡◌, ◌⊎◌, IfOk, IfErr};
 ghost use Rattle.byte_devices.specs.Device.{HasRisenBy};
 ghost use Rattle.grid_core.specs.Tiles.{IsTileSide};
 ghost use Rattle.paint_session.specs.Answering.{AnswersForSide};
-ghost use Rattle.node_session.specs.Shared.{IsNodeView, NodeStops};
+ghost use Rattle.paint_session.specs.RunError.{IsReadingFault};
+ghost use Rattle.studio.specs.Opening.{IsCount};
+ghost use Rattle.node_session.specs.Given.{HasGiven};
+ghost use Rattle.node_session.specs.Shared.{IsImageShared, IsNodeView, IsStrokesNode, NodeStops};
 
 use crate::painting::{Plan, paint};
 use crate::sharing::Room;
@@ -12,8 +15,10 @@ use byte_devices::{Sink, Source};
 use core_rules::CoreError;
 use grid_core::{Conn, is_tile_side};
 use link_nodes::Link;
+use paint_session::joining::Strokes;
 use paint_session::run_error::RunError;
-use pgm_codec::{one_fault, read_all, write_to};
+use pgm_codec::{Image, one_fault, read_all, write_to};
+use spd_codec::write_frames;
 use std::alloc::Global;
 use std::sync::Wait;
 use std::thread::Threads;
@@ -60,7 +65,63 @@ pub fn node_run<R: Threads + Wait + Clock + Sync, S: Source, L: Link, K: Sink>(
     let input = read_all(alloc, source)?;
     let room = Room { hands, ticks };
     let plan = Plan { conn, side, room };
-    let (image, new) = paint(rt, alloc, &input, old, plan, link)?;
+    let (image, new) = spelled(rt, alloc, &input, old, plan, link)?;
     write_to(alloc, &image, sink)?;
     Ok(new)
+}
+
+/// As [`node_run`], and answers the strokes that the state file is to keep.
+///
+/// Errors: as [`node_run`], but M8 for the new bytes.
+pub fn node_strokes<R: Threads + Wait + Clock + Sync, S: Source, L: Link, K: Sink>(
+    rt: &R,
+    alloc: Global,
+    source: &mut S,
+    old: &[u8],
+    conn: Conn,
+    side: u32,
+    hands: usize,
+    ticks: u32,
+    link: &mut L,
+    sink: &mut K,
+) -> Result<Strokes, RunError>
+    ensures answers { AnswersForSide side
+        (λ input strokes text.
+        IsStrokesNode conn hands ticks old.now (L.seen link.old) (L.seen link.new) input text strokes)
+        (NodeStops conn hands old.now) result S.seen source.old source.new K.seen sink.old sink.new }
+    ensures link { (IsTileSide side → ⊥) → link.new ≡ link.old }
+{
+    if !is_tile_side(side) {
+        return Err(RunError::Core(CoreError::BadSide));
+    }
+    one_fault();
+    let input = read_all(alloc, source)?;
+    let room = Room { hands, ticks };
+    let plan = Plan { conn, side, room };
+    let (image, strokes) = paint(rt, alloc, &input, old, plan, link)?;
+    write_to(alloc, &image, sink)?;
+    Ok(strokes)
+}
+
+// The image that an input asks for, and the new bytes of the state file.
+fn spelled<R: Threads + Wait + Clock + Sync, L: Link>(
+    rt: &R,
+    alloc: Global,
+    input: &[u8],
+    old: &[u8],
+    plan: Plan,
+    link: &mut L,
+) -> Result<(Image, Vec<u8>), RunError>
+    requires { IsTileSide plan.side }
+    ensures hands { IfOk result (λ _. IsCount plan.room.hands) }
+    ensures polled { IfOk result (λ _.
+        HasRisenBy plan.room.ticks (L.seen link.old).polls (L.seen link.new).polls) }
+    ensures shown { IfOk result (λ parts. (given : _) × (state : _) × HasGiven (L.seen link.old) (L.seen link.new) given
+        × IsImageShared plan.conn old.now input.now given state parts.0 parts.1.items) }
+    ensures refused { IfErr result (λ e. IsReadingFault e
+        ⊎ NodeStops plan.conn plan.room.hands old.now input.now e) }
+{
+    let (image, strokes) = paint(rt, alloc, input, old, plan, link)?;
+    let new = write_frames(alloc, strokes.conn, &strokes.print, &strokes.state)?;
+    Ok((image, new))
 }

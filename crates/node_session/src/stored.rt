@@ -5,12 +5,14 @@ ghost use Rattle.grid_core.specs.Tiles.{IsTileSide};
 ghost use Rattle.paint_session.specs.Serving.{AnswersOverStore};
 ghost use Rattle.paint_session.specs.declared.run_error.RunError.TheVariants as errors;
 ghost use Rattle.node_session.specs.Network.{Binds, IsBound, TellsNetwork};
-ghost use Rattle.node_session.specs.Stored.{IsNodeFault, IsStoredNode, LoadsFor, SavesFor, StoredNodeStops};
+ghost use Rattle.node_session.specs.Stored.{IsNodeFault, IsShownNode, IsStoredNode, LoadsFor, SavesFor};
+ghost use Rattle.node_session.specs.Stored.{StoredNodeStops};
 
 use crate::network::Network;
-use crate::running::node_run;
+use crate::running::node_strokes;
 use byte_devices::{Fault, Sink, Source};
 use grid_core::Conn;
+use paint_session::joining::Strokes;
 use paint_session::run_error::RunError;
 use paint_session::store::{StatePath, StateStore};
 use std::alloc::Global;
@@ -38,12 +40,13 @@ pub struct NodeCall<'a> {
 }
 
 /// The run of a node over the strokes of a state file: the file is loaded from the store, and the port bound, before
-/// the source is read; the image is written as [`node_run`] writes it, and the file is saved after it. Without a file
-/// nothing is loaded and nothing kept.
+/// the source is read; the image is written as [`node_run`](crate::node_run) writes it, and then its strokes are saved,
+/// joined with what the file has by then. Without a file nothing is loaded and nothing kept.
 ///
 /// Errors: V2 where the file could not be loaded, and D3 where the port could not be bound, with source and sink as
-/// they were; those of [`node_run`]; V2 where the file could not be saved, after the image was written. After each the
-/// files are as they were.
+/// they were; those of [`node_run`](crate::node_run). After the image was written: V2 where the file could not be
+/// saved; M1 to M8, D1, C1, C2 or C4 of what it has by then; plain want of memory. After each the files are as they
+/// were.
 pub fn node_stored<R: Threads + Wait + Clock + Sync, S: Source, T: StateStore, N: Network, K: Sink>(
     rt: &R,
     alloc: Global,
@@ -57,7 +60,10 @@ pub fn node_stored<R: Threads + Wait + Clock + Sync, S: Source, T: StateStore, N
     ensures runs { AnswersOverStore
         (IsStoredNode N.Link.seen call.entry.conn call.entry.hands call.entry.ticks
         (option_map (λ path. path.now) call.entry.file))
-        (StoredNodeStops call.entry.conn call.entry.hands (option_map (λ path. path.now) call.entry.file))
+        (IsShownNode N.Link.seen call.entry.conn call.entry.hands call.entry.ticks
+        (option_map (λ path. path.now) call.entry.file))
+        (StoredNodeStops N.Link.seen call.entry.conn call.entry.hands call.entry.ticks
+        (option_map (λ path. path.now) call.entry.file))
         (IsNodeFault (option_map (λ path. path.now) call.entry.file)) result
         S.seen source.old source.new T.seen store.old store.new K.seen sink.old sink.new }
     ensures network { TellsNetwork (IsBound call.entry.port call.entry.peers.items) result
@@ -75,10 +81,11 @@ pub fn node_stored<R: Threads + Wait + Clock + Sync, S: Source, T: StateStore, N
     } = call;
     let old = load_for(alloc, file, store)?;
     let mut link = open(network, port, peers)?;
-    let new = node_run(
+    let mut strokes = node_strokes(
         rt, alloc, source, &old, conn, side, hands, ticks, &mut link, sink,
     )?;
-    save_for(file, store, &new)
+    save_for(alloc, file, store, &mut strokes)?;
+    Ok(())
 }
 
 // The bytes of the file, if there is one.
@@ -96,18 +103,19 @@ fn load_for<T: StateStore>(
     }
 }
 
-// Keeps the bytes in the file, if there is one.
+// Saves the strokes in the file, if there is one, and answers what it has then.
 fn save_for<T: StateStore>(
+    alloc: Global,
     file: Option<&StatePath>,
     store: &mut T,
-    new: &[u8],
-) -> Result<(), RunError>
-    ensures { SavesFor (T.seen store.old) (T.seen store.new) result (option_map (λ path. path.now) file.entry)
-        new.now }
+    strokes: &mut Strokes,
+) -> Result<Vec<u8>, RunError>
+    ensures { SavesFor (λ v. v.items) (T.seen store.old) (T.seen store.new) strokes.old strokes.new result
+        (option_map (λ path. path.now) file.entry) }
 {
     match file {
-        Some(path) => store.save(path, new),
-        None => Ok(()),
+        Some(path) => store.save(alloc, path, strokes),
+        None => Ok(Vec::new(alloc)),
     }
 }
 

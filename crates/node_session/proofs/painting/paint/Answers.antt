@@ -1,9 +1,8 @@
 use Rattle.std.proofs.Common.{◌∙◌, sym, inl, inr, subst}
-use Rattle.std.proofs.lemmas.Result.{err_from_is_err_and, IfOk-weaker, IfErr-weaker}
+use Rattle.std.proofs.lemmas.Result.{err_from_is_err_and}
 use Rattle.pgm_codec.specs.Graymap.{IsGraymap}
 use Rattle.paint_session.proofs.KeptViews.{memory_behind}
 use Rattle.node_session.proofs.Paintings.{begins, same_mask, shown_behind}
-use Rattle.node_session.proofs.Results.{ok_three}
 use Rattle.node_session.proofs.painting.paint.Goals as goal
 
 pub returns-in_err-start-clause-refused : goal.returns-in_err-start-clause-refused
@@ -36,38 +35,28 @@ returns-in_err-quiet-clause-refused g c =
     let found = c.in_ok-start.start.gathered in
     rw (p.1, p.2) (inr (inl (memory_behind _ _ _ found.mask found.state c.in_ok-start.ensures.gathered.gathered)))
 
-pub spelled-requires-clause-quiet : goal.spelled-requires-clause-quiet
-spelled-requires-clause-quiet g c = c.in_ok-quiet.ensures.quiet
+pub shown-requires-clause-quiet : goal.shown-requires-clause-quiet
+shown-requires-clause-quiet g c = c.in_ok-quiet.ensures.quiet
 
-pub spelled-requires-clause-graymap : goal.spelled-requires-clause-graymap
-spelled-requires-clause-graymap g c =
+pub shown-requires-clause-graymap : goal.shown-requires-clause-graymap
+shown-requires-clause-graymap g c =
     let begun = begins _ _ _ _ _ _ c.in_ok-core.ensures in
     let is = c.in_ok-quiet.ensures.same.mask_is ∙ c.in_ok-shared.ensures.shared.mask ∙ begun.mask_is in
     subst IsGraymap (sym (same_mask _ _ c.in_ok-start.start.gathered.mask is c.maxval-maxval.ensures.value))
     c.maxval-maxval.ensures.is_graymap
 
 pub returns-clause-hands : goal.returns-clause-hands
-returns-clause-hands g c =
-    IfOk-weaker c.spelled.result _ _ (λ parts text. c.in_ok-shared.ensures.hands) c.spelled.ensures.text
+returns-clause-hands g c = c.in_ok-shared.ensures.hands
 
 pub returns-clause-polled : goal.returns-clause-polled
-returns-clause-polled g c =
-    IfOk-weaker c.spelled.result _ _ (λ parts text. c.in_ok-shared.ensures.shared.polls) c.spelled.ensures.text
+returns-clause-polled g c = c.in_ok-shared.ensures.shared.polls
 
 pub returns-clause-shown : goal.returns-clause-shown
 returns-clause-shown g c =
     let found = c.in_ok-start.start.gathered in
     let gathered = c.in_ok-start.ensures.gathered in
     let begun = begins _ _ _ _ _ _ c.in_ok-core.ensures in
-    ok_three c.spelled.result _ _ _ _
-    (λ parts shown text spells. shown_behind _ _ _ found.mask found.state found.print _ _ _ _ c.in_ok-core.core
-    c.in_ok-shared.shared c.in_ok-quiet.quiet parts.0 parts.1.items gathered.print c.maxval-maxval.ensures.value
-    gathered.gathered begun c.in_ok-shared.ensures.shared c.in_ok-quiet.ensures.same shown text spells)
-    c.spelled.ensures.shown c.spelled.ensures.text c.spelled.ensures.spells
-
-pub returns-clause-refused : goal.returns-clause-refused
-returns-clause-refused g c =
-    let gathered = c.in_ok-start.ensures.gathered.gathered in
-    IfErr-weaker c.spelled.result _ _
-    (λ e is. inr (inl (inr (inl (is, c.in_ok-start.start.gathered.mask, gathered.deltas, gathered.spelled)))))
-    c.spelled.ensures.memory
+    shown_behind _ _ _ found.mask found.state found.print _ _ _ _ c.in_ok-core.core c.in_ok-shared.shared
+    c.in_ok-quiet.quiet c.shown.result.0 c.shown.result.1 gathered.print c.maxval-maxval.ensures.value
+    gathered.gathered begun c.in_ok-shared.ensures.shared c.in_ok-quiet.ensures.same c.shown.ensures.shown
+    c.shown.ensures.strokes

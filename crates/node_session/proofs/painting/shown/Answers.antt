@@ -2,7 +2,7 @@ use Rattle.std.proofs.Common.{refl, sym, subst}
 use Rattle.grid_core.specs.Raster.{Raster}
 use Rattle.pgm_codec.specs.Graymap.{Graymap, IsGraymap}
 use Rattle.derived_views.specs.Shown.{IsShown}
-use Rattle.node_session.proofs.painting.image_of.Goals as goal
+use Rattle.node_session.proofs.painting.shown.Goals as goal
 
 -- the image is nowhere above the mask
 pub over-requires : goal.over-requires
@@ -13,8 +13,8 @@ over-requires c =
     (c.below_keeps_maxval.ensures (record { raster = c.args.core.mask; maxval = c.args.maxval }) c.args.core.image
     c.requires.graymap is.sized.filled is.below)
 
-pub returns : goal.returns
-returns c =
+pub returns-clause-shown : goal.returns-clause-shown
+returns-clause-shown c =
     let is = c.image-image.ensures in
     let core = c.args.core in
     let mask : Graymap = record { raster = core.mask; maxval = c.args.maxval } in
