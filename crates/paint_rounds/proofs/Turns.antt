@@ -5,33 +5,96 @@ use Rattle.std.proofs.lemmas.List.{append_assoc, append-nil, length-drop, length
 use Rattle.std.proofs.lemmas.List.{take_more_set, take_all}
 use Rattle.std.proofs.lemmas.List.{drop-set-lt}
 use Rattle.std.proofs.lemmas.List.Elements.{AllZip-push}
-use Rattle.std.specs.Prelude.{if◌then◌else◌, IsFalse}
+use Rattle.std.specs.Prelude.{if◌then◌else◌, ◌||◌, not, IsTrue, IsFalse}
 use Rattle.std.specs.List.{AllZip}
-use Rattle.http_server.specs.Exchange.{Call}
+use Rattle.http.specs.declared.request.Request.{Request}
+use Rattle.http_server.specs.declared.response.Response.{Response}
+use Rattle.http_server.specs.Exchange.{Call, Chain}
 use Rattle.http_server.specs.History.{History, Rests}
 use Rattle.http_server.specs.Rounds.{IsCleared}
 use Rattle.http_server.proofs.RoundLemmas.{IsCleared-itself}
+use Rattle.http_server.proofs.StreamLemmas.{Chain-append}
 use Rattle.paint_rounds.proofs.Flags.{never_quiet}
 use Rattle.paint_rounds.proofs.Transfers.{grown_at_last}
 use Rattle.paint_rounds.specs.declared.peer.Peer.{Peer}
 use Rattle.paint_rounds.specs.Pairs.{InTurn, InSomePair}
 use Rattle.paint_rounds.specs.Peer.{past, HasGrown, HasReceived, HasSent, HasMoved, IsStill, IsAtRest, NotesMoment}
-use Rattle.paint_rounds.specs.Peer.{TakesIn, Finishes, TakesPart}
+use Rattle.paint_rounds.specs.Peer.{NotesRequest, NotesEnd, Lingers, TakesIn, Finishes, TakesPart}
 
--- one more pair
-pub InTurn-push : {X : Type 0} (R : X → X → List Call → Type 0) (olds news : List X) (calls mine : List Call) (p q : X)
-    → InTurn R olds news calls → R p q mine → InTurn R (olds ++ p ∷ []) (news ++ q ∷ []) (calls ++ mine)
-InTurn-push R [] [] calls mine p q along here =
-    (mine, [], ap (λ (t : List Call). t ++ mine) along ∙ sym (append-nil mine), here, refl)
-InTurn-push R [] (y ∷ news) calls mine p q along here = absurd along
-InTurn-push R (x ∷ olds) [] calls mine p q along here = absurd along
-InTurn-push R (x ∷ olds) (y ∷ news) calls mine p q along here = (
-  along.0,
-  along.1 ++ mine,
-  ap (λ (t : List Call). t ++ mine) along.2 ∙ append_assoc along.0 along.1 mine,
-  along.3,
-  InTurn-push R olds news along.1 mine p q along.4 here,
-)
+module _ {K X : Type 0} (answers : K → Request (List ℕ) → Response → K → Type 0)
+    (R : K → K → X → X → List Call → Type 0) where
+  -- one more pair
+  pub InTurn-push : (first mid last : K) (olds news : List X) (calls mine : List Call) (p q : X)
+      → InTurn answers R first olds news calls mid → Chain answers mid mine last → R mid last p q mine
+      → InTurn answers R first (olds ++ p ∷ []) (news ++ q ∷ []) (calls ++ mine) last
+  InTurn-push first mid last [] [] calls mine p q along chain here = (
+    mine,
+    [],
+    last,
+    ap (λ (t : List Call). t ++ mine) along.0 ∙ sym (append-nil mine),
+    subst (λ k. Chain answers k mine last) along.1 chain,
+    subst (λ k. R k last p q mine) along.1 here,
+    (refl, refl),
+  )
+  InTurn-push first mid last [] (y ∷ news) calls mine p q along chain here = absurd along
+  InTurn-push first mid last (x ∷ olds) [] calls mine p q along chain here = absurd along
+  InTurn-push first mid last (x ∷ olds) (y ∷ news) calls mine p q along chain here = (
+    along.0,
+    along.1 ++ mine,
+    along.2,
+    ap (λ (t : List Call). t ++ mine) along.3 ∙ append_assoc along.0 along.1 mine,
+    along.4,
+    along.5,
+    InTurn-push along.2 mid last olds news along.1 mine p q along.6 chain here,
+  )
+
+  -- all calls together
+  pub chain_of : (first last : K) (olds news : List X) (calls : List Call)
+      → InTurn answers R first olds news calls last → Chain answers first calls last
+  chain_of first last [] [] calls along = subst (λ cs. Chain answers first cs last) (sym along.0) along.1
+  chain_of first last [] (y ∷ news) calls along = absurd along
+  chain_of first last (x ∷ olds) [] calls along = absurd along
+  chain_of first last (x ∷ olds) (y ∷ news) calls along =
+      subst (λ cs. Chain answers first cs last) (sym along.3)
+      (Chain-append answers along.0 along.1 _ _ _ along.4 (chain_of along.2 last olds news along.1 along.6))
+
+  module _ (Q : K → K → X → X → List Call → Type 0) where
+    -- what follows for each pair
+    pub InTurn-map : ((a b : K) (x y : X) (mine : List Call) → R a b x y mine → Q a b x y mine) → (first last : K)
+        (olds news : List X) (calls : List Call) → InTurn answers R first olds news calls last
+        → InTurn answers Q first olds news calls last
+    InTurn-map leads first last [] [] calls along = along
+    InTurn-map leads first last [] (y ∷ news) calls along = absurd along
+    InTurn-map leads first last (x ∷ olds) [] calls along = absurd along
+    InTurn-map leads first last (x ∷ olds) (y ∷ news) calls along = (
+      along.0,
+      along.1,
+      along.2,
+      along.3,
+      along.4,
+      leads first along.2 x y along.0 along.5,
+      InTurn-map leads along.2 last olds news along.1 along.6,
+    )
+
+    -- and what follows with a step of each behind it
+    pub InTurn-then : (F : X → X → Type 0)
+        → ((a b : K) (x y z : X) (mine : List Call) → R a b x y mine → F y z → Q a b x z mine) → (first last : K)
+        (olds mids news : List X) (calls : List Call) → InTurn answers R first olds mids calls last
+        → AllZip F mids news → InTurn answers Q first olds news calls last
+    InTurn-then F leads first last [] [] [] calls along done = along
+    InTurn-then F leads first last [] [] (z ∷ news) calls along done = absurd done
+    InTurn-then F leads first last [] (y ∷ mids) news calls along done = absurd along
+    InTurn-then F leads first last (x ∷ olds) [] news calls along done = absurd along
+    InTurn-then F leads first last (x ∷ olds) (y ∷ mids) [] calls along done = absurd done
+    InTurn-then F leads first last (x ∷ olds) (y ∷ mids) (z ∷ news) calls along done = (
+      along.0,
+      along.1,
+      along.2,
+      along.3,
+      along.4,
+      leads first along.2 x y z along.0 along.5 done.0,
+      InTurn-then F leads along.2 last olds mids news along.1 along.6 done.1,
+    )
 
 module _ {X : Type 0} (R : X → X → Type 0) where
   -- some pair, and one more
@@ -72,12 +135,14 @@ module _ {X : Type 0} (olds items : List X) (i : ℕ) (x q : X) (within : i < le
       let same : drop (i + 1) items ≡ drop (i + 1) olds = let e = next_old in cc in
       drop-set-lt (i + 1) items i q (omega arith) ∙ same
 
-  pub InTurn-next : (R : X → X → List Call → Type 0) (calls mine : List Call)
-      → InTurn R (take i olds) (take i items) calls → R x q mine
-      → InTurn R (take (i + 1) olds) (take (i + 1) (set items i q)) (calls ++ mine)
-  InTurn-next R calls mine along step =
+  pub InTurn-next : {K : Type 0} (answers : K → Request (List ℕ) → Response → K → Type 0)
+      (R : K → K → X → X → List Call → Type 0) (first mid last : K) (calls mine : List Call)
+      → InTurn answers R first (take i olds) (take i items) calls mid → Chain answers mid mine last
+      → R mid last x q mine
+      → InTurn answers R first (take (i + 1) olds) (take (i + 1) (set items i q)) (calls ++ mine) last
+  InTurn-next answers R first mid last calls mine along chain step =
       rw (take_next_old, take_more_set items i q within)
-      (InTurn-push R (take i olds) (take i items) calls mine x q along step)
+      (InTurn-push answers R first mid last (take i olds) (take i items) calls mine x q along chain step)
 
   pub AllZip-next : (R : X → X → Type 0) → AllZip R (take i olds) (take i items) → R x q
       → AllZip R (take (i + 1) olds) (take (i + 1) (set items i q))
@@ -111,39 +176,71 @@ module _ {X : Type 0} (olds items : List X) (i : ℕ) (past_end : length items �
   all_items = take_all i items past_end
 
 module _ {C : Type 0} where
-  -- where the answers do not stand, a peer that made no call has none that is lost
-  cleared_lost : (came went called : Bool) (now : ℕ) (old mid new : Peer C) (mine : List Call) → mid.has_called ≡ called
-      → TakesIn came now old mid mine → Finishes false went now mid new
-      → IsCleared ((past old).calls ++ []) new.connection
-  cleared_lost came went true now old mid new mine said taken done = record {
+  -- one that is closed stays as it is but for what is dropped
+  lingered : (came changed kept went : Bool) (now : ℕ) (old mid new : Peer C) (mine : List Call)
+      → TakesIn changed came now old mid mine → Finishes kept went now mid new → IsFalse old.is_open
+      → Lingers old new × (mine ≡ [])
+  lingered came changed kept went now old mid new mine taken done closed =
+      let still = taken.closed closed in
+      let mid_closed : IsFalse mid.is_open = ap (λ (p : Peer C). p.is_open) still.0.0 ∙ closed in
+      (subst (λ (p : Peer C). Lingers old p) (sym (done.closed mid_closed)) still.0, still.1)
+
+  lost_if : (is_open came went : Bool) (now : ℕ) (old mid new : Peer C) (mine : List Call) → old.is_open ≡ is_open
+      → TakesIn true came now old mid mine → Finishes false went now mid new
+      → IsFalse new.is_open × ((past new).sent ≡ (past old).sent)
+  lost_if true came went now old mid new mine is taken done =
+      let lost = done.lost refl (taken.noted is) in (lost.0, lost.1 ∙ taken.unsent)
+  lost_if false came went now old mid new mine is taken done =
+      let still = lingered came true false went now old mid new mine taken done is in
+      (ap (λ (p : Peer C). p.is_open) still.0.0 ∙ is, ap (λ (p : Peer C). (past p).sent) still.0.0)
+
+  -- where the answers do not stand it is closed, and nothing was sent
+  lost_by : (came changed kept went : Bool) (now : ℕ) (old mid new : Peer C) (mine : List Call)
+      → TakesIn changed came now old mid mine → Finishes kept went now mid new → IsFalse (kept || not changed)
+      → IsFalse new.is_open × ((past new).sent ≡ (past old).sent)
+  lost_by came changed true went now old mid new mine taken done lost = absurd (cc)
+  lost_by came false false went now old mid new mine taken done lost = absurd (cc)
+  lost_by came true false went now old mid new mine taken done lost =
+      lost_if old.is_open came went now old mid new mine refl taken done
+
+  cleared_by : (came changed kept went : Bool) (now : ℕ) (old mid new : Peer C) (mine : List Call)
+      → TakesIn changed came now old mid mine → Finishes kept went now mid new
+      → IsCleared ((past old).calls ++ (if (kept || not changed) then mine else [])) new.connection
+  cleared_by came changed true went now old mid new mine taken done =
+      IsCleared-itself _ new.connection (done.calls ∙ taken.calls)
+  cleared_by came false false went now old mid new mine taken done =
+      IsCleared-itself _ new.connection (done.calls ∙ taken.calls)
+  cleared_by came true false went now old mid new mine taken done = record {
     earlier = old.connection;
     config = sym (done.config ∙ taken.config);
     calls = sym (append-nil _);
     received = (taken.received.0, done.received ∙ taken.received.1);
-    sent = (done.lost refl said).1 ∙ taken.unsent;
+    sent = (lost_by came true false went now old mid new mine taken done refl).1;
   }
-  cleared_lost came went false now old mid new mine said taken done =
-      IsCleared-itself _ new.connection
-      (done.calls ∙ taken.calls ∙ ap (λ (t : List Call). (past old).calls ++ t) (taken.noted said))
 
-  cleared_by : (came kept went : Bool) (now : ℕ) (old mid new : Peer C) (mine : List Call)
-      → TakesIn came now old mid mine
-      → Finishes kept went now mid new
-      → IsCleared ((past old).calls ++ (if kept then mine else [])) new.connection
-  cleared_by came true went now old mid new mine taken done =
-      IsCleared-itself _ new.connection (done.calls ∙ taken.calls)
-  cleared_by came false went now old mid new mine taken done =
-      cleared_lost came went mid.has_called now old mid new mine refl taken done
+  ends_if : (is_open came changed kept went : Bool) (now : ℕ) (old mid new : Peer C) (mine : List Call)
+      → mid.is_open ≡ is_open → TakesIn changed came now old mid mine → Finishes kept went now mid new
+      → IsTrue old.is_open → NotesEnd now old new
+  ends_if true came changed kept went now old mid new mine is taken done was_open =
+      elim (done.ends is) [ inl same ↦ inl (same ∙ taken.ended was_open) | inr ended ↦ inr ended ]
+  ends_if false came changed kept went now old mid new mine is taken done was_open =
+      inl (ap (λ (p : Peer C). p.ended) (done.closed is) ∙ taken.ended was_open)
 
-  closed_by : (came kept went called : Bool) (now : ℕ) (old mid new : Peer C) (mine : List Call)
-      → mid.has_called ≡ called → TakesIn came now old mid mine → Finishes kept went now mid new
-      → IsFalse kept → mine ≢ [] → IsFalse new.is_open
-  closed_by came kept went true now old mid new mine said taken done lost some = (done.lost lost said).0
-  closed_by came kept went false now old mid new mine said taken done lost some = absurd (some (taken.noted said))
+  request_by : (came changed kept went : Bool) (now : ℕ) (old mid new : Peer C) (mine : List Call)
+      → TakesIn changed came now old mid mine → Finishes kept went now mid new → IsTrue new.is_open
+      → NotesRequest now old new mine
+  request_by came changed kept went now old mid new mine taken done is_open =
+      let was = taken.request (done.was_open is_open) in
+      record {
+        called = λ some. done.request ∙ was.called some;
+        received = λ none grown.
+            done.request ∙ was.received none (subst (HasGrown (past old).received) done.received grown);
+        still = λ none same. done.request ∙ was.still none (sym done.received ∙ same);
+      }
 
-  rests_by : (came kept went : Bool) (now : ℕ) (old mid new : Peer C) (mine : List Call) → TakesIn came now old mid mine
-      → Finishes kept went now mid new → IsFalse went → IsAtRest new
-  rests_by came kept went now old mid new mine taken done nothing is_open =
+  rests_by : (came changed kept went : Bool) (now : ℕ) (old mid new : Peer C) (mine : List Call)
+      → TakesIn changed came now old mid mine → Finishes kept went now mid new → IsFalse went → IsAtRest new
+  rests_by came changed kept went now old mid new mine taken done nothing is_open =
       subst₂ Rests (sym done.config) (sym (done.still nothing is_open)) (taken.rests (done.was_open is_open))
 
   moved_before : (old mid new : Peer C) → IsStill mid new → HasMoved old mid → HasMoved old new
@@ -156,10 +253,9 @@ module _ {C : Type 0} where
   moved_after old mid new received unsent (inr went) =
       inr (subst (λ (sent : List ℕ). HasGrown sent (past new).sent) unsent went)
 
-  moment_by : (came kept went : Bool) (now : ℕ) (old mid new : Peer C) (mine : List Call)
-      → TakesIn came now old mid mine
-      → Finishes kept went now mid new → NotesMoment now old new
-  moment_by came kept went now old mid new mine taken done is_open =
+  moment_by : (came changed kept went : Bool) (now : ℕ) (old mid new : Peer C) (mine : List Call)
+      → TakesIn changed came now old mid mine → Finishes kept went now mid new → NotesMoment now old new
+  moment_by came changed kept went now old mid new mine taken done is_open =
       elim (done.moment is_open) [
         | inl at_once ↦ inl (moved_after old mid new taken.received taken.unsent at_once.0, at_once.1)
         | inr later ↦
@@ -170,44 +266,28 @@ module _ {C : Type 0} where
       ]
 
   -- what was taken in, and then what was sent
-  pub TakesPart-from : (came kept went moved : Bool) (now : ℕ) → (IsFalse moved → IsFalse came × IsFalse went)
-      → (old mid new : Peer C) (mine : List Call) → TakesIn came now old mid mine → Finishes kept went now mid new
-      → TakesPart kept moved now old new mine
-  TakesPart-from came kept went moved now quiet old mid new mine taken done = record {
+  pub TakesPart-from : (came changed kept went moved : Bool) (now : ℕ) → (IsFalse moved → IsFalse came × IsFalse went)
+      → (old mid new : Peer C) (mine : List Call) → TakesIn changed came now old mid mine
+      → Finishes kept went now mid new → TakesPart (kept || not changed) moved now old new mine
+  TakesPart-from came changed kept went moved now quiet old mid new mine taken done = record {
     config = done.config ∙ taken.config;
     received = (taken.received.0, done.received ∙ taken.received.1);
     calls = done.calls ∙ taken.calls;
     sent = (done.sent.0, done.sent.1 ∙ ap (λ (t : List ℕ). t ++ done.sent.0) taken.unsent);
-    cleared = cleared_by came kept went now old mid new mine taken done;
-    lost = closed_by came kept went mid.has_called now old mid new mine refl taken done;
+    cleared = cleared_by came changed kept went now old mid new mine taken done;
+    lost = lost_by came changed kept went now old mid new mine taken done;
     done = done.done;
     still = λ none is_open. (
       done.received ∙ taken.still (quiet none).0 (done.was_open is_open),
       ap (λ (h : History). h.sent) (done.still (quiet none).1 is_open) ∙ taken.unsent,
     );
-    rests = λ none. rests_by came kept went now old mid new mine taken done (quiet none).1;
-    moment = moment_by came kept went now old mid new mine taken done;
+    rests = λ none. rests_by came changed kept went now old mid new mine taken done (quiet none).1;
+    moment = moment_by came changed kept went now old mid new mine taken done;
+    request = request_by came changed kept went now old mid new mine taken done;
     was_open = λ is_open. taken.was_open (done.was_open is_open);
-    closed = λ closed.
-        let still = taken.closed closed in
-        (done.closed (ap (λ (p : Peer C). p.is_open) still.0 ∙ closed) ∙ still.0, still.1);
+    ends = ends_if mid.is_open came changed kept went now old mid new mine refl taken done;
+    closed = lingered came changed kept went now old mid new mine taken done;
   }
-
-  pub InTurn-finished : (came kept went moved : Bool) (now : ℕ) → (IsFalse moved → IsFalse came × IsFalse went)
-      → (olds mids news : List (Peer C)) (calls : List Call) → InTurn (TakesIn came now) olds mids calls
-      → AllZip (Finishes kept went now) mids news → InTurn (TakesPart kept moved now) olds news calls
-  InTurn-finished came kept went moved now quiet [] [] [] calls taken done = taken
-  InTurn-finished came kept went moved now quiet [] [] (z ∷ news) calls taken done = absurd done
-  InTurn-finished came kept went moved now quiet [] (y ∷ mids) news calls taken done = absurd taken
-  InTurn-finished came kept went moved now quiet (x ∷ olds) [] news calls taken done = absurd taken
-  InTurn-finished came kept went moved now quiet (x ∷ olds) (y ∷ mids) [] calls taken done = absurd done
-  InTurn-finished came kept went moved now quiet (x ∷ olds) (y ∷ mids) (z ∷ news) calls taken done = (
-    taken.0,
-    taken.1,
-    taken.2,
-    TakesPart-from came kept went moved now quiet x y z taken.0 taken.3 done.0,
-    InTurn-finished came kept went moved now quiet olds mids news taken.1 taken.4 done.1,
-  )
 
   -- bytes came, and then what waited was sent
   pub some_received : (kept went : Bool) (now : ℕ) (olds mids news : List (Peer C))
@@ -221,16 +301,19 @@ module _ {C : Type 0} where
       inr (some_received kept went now olds mids news later done.1)
 
   -- bytes went, behind what was taken in
-  pub some_sent : (came : Bool) (now : ℕ) (olds mids news : List (Peer C)) (calls : List Call)
-      → InTurn (TakesIn came now) olds mids calls → InSomePair HasSent mids news → InSomePair HasMoved olds news
-  some_sent came now [] [] news calls taken some = absurd some
-  some_sent came now [] (y ∷ mids) news calls taken some = absurd taken
-  some_sent came now (x ∷ olds) [] news calls taken some = absurd some
-  some_sent came now (x ∷ olds) (y ∷ mids) [] calls taken some = absurd some
-  some_sent came now (x ∷ olds) (y ∷ mids) (z ∷ news) calls taken (inl went) =
-      inl (inr (subst (λ (sent : List ℕ). HasGrown sent (past z).sent) taken.3.unsent went))
-  some_sent came now (x ∷ olds) (y ∷ mids) (z ∷ news) calls taken (inr later) =
-      inr (some_sent came now olds mids news taken.1 taken.4 later)
+  pub some_sent : {K : Type 0} (answers : K → Request (List ℕ) → Response → K → Type 0)
+      (R : K → K → Peer C → Peer C → List Call → Type 0)
+      → ((a b : K) (x y : Peer C) (mine : List Call) → R a b x y mine → (past y).sent ≡ (past x).sent)
+      → (first last : K) (olds mids news : List (Peer C)) (calls : List Call)
+      → InTurn answers R first olds mids calls last → InSomePair HasSent mids news → InSomePair HasMoved olds news
+  some_sent answers R unsent first last [] [] news calls taken some = absurd some
+  some_sent answers R unsent first last [] (y ∷ mids) news calls taken some = absurd taken
+  some_sent answers R unsent first last (x ∷ olds) [] news calls taken some = absurd some
+  some_sent answers R unsent first last (x ∷ olds) (y ∷ mids) [] calls taken some = absurd some
+  some_sent answers R unsent first last (x ∷ olds) (y ∷ mids) (z ∷ news) calls taken (inl went) =
+      inl (inr (subst (λ (sent : List ℕ). HasGrown sent (past z).sent) (unsent first taken.2 x y taken.0 taken.5) went))
+  some_sent answers R unsent first last (x ∷ olds) (y ∷ mids) (z ∷ news) calls taken (inr later) =
+      inr (some_sent answers R unsent taken.2 last olds mids news taken.1 taken.6 later)
 
   -- something went, or nothing to this peer
   Finishes-more : (kept some went : Bool) (now : ℕ) (old new : Peer C) → (IsFalse went → IsFalse some)
@@ -244,7 +327,9 @@ module _ {C : Type 0} where
     done = done.done;
     still = λ nothing. done.still (quiet nothing);
     moment = done.moment;
+    request = done.request;
     was_open = done.was_open;
+    ends = done.ends;
     closed = done.closed;
   }
 
@@ -265,9 +350,10 @@ module _ {C : Type 0} where
   )
 
   -- bytes came, or none from this peer
-  TakesIn-more : (some came : Bool) (now : ℕ) (old new : Peer C) (mine : List Call) → (IsFalse came → IsFalse some)
-      → TakesIn some now old new mine → TakesIn came now old new mine
-  TakesIn-more some came now old new mine quiet taken = record {
+  pub TakesIn-more : (changed some came : Bool) (now : ℕ) → (IsFalse came → IsFalse some)
+      → (old new : Peer C) (mine : List Call) → TakesIn changed some now old new mine
+      → TakesIn changed came now old new mine
+  TakesIn-more changed some came now quiet old new mine taken = record {
     config = taken.config;
     received = taken.received;
     calls = taken.calls;
@@ -276,25 +362,8 @@ module _ {C : Type 0} where
     rests = taken.rests;
     still = λ nothing. taken.still (quiet nothing);
     moment = taken.moment;
+    request = taken.request;
     was_open = taken.was_open;
+    ended = taken.ended;
     closed = taken.closed;
   }
-
-  -- none came from this peer, whatever came from others
-  pub TakesIn-still : (came : Bool) (now : ℕ) (old new : Peer C) (mine : List Call) → TakesIn false now old new mine
-      → TakesIn came now old new mine
-  TakesIn-still came now old new mine taken = TakesIn-more false came now old new mine (λ nothing. refl) taken
-
-  -- bytes came from another peer
-  pub all_came : (came : Bool) (now : ℕ) (olds news : List (Peer C)) (calls : List Call)
-      → InTurn (TakesIn came now) olds news calls → InTurn (TakesIn true now) olds news calls
-  all_came came now [] [] calls taken = taken
-  all_came came now [] (y ∷ news) calls taken = absurd taken
-  all_came came now (x ∷ olds) [] calls taken = absurd taken
-  all_came came now (x ∷ olds) (y ∷ news) calls taken = (
-    taken.0,
-    taken.1,
-    taken.2,
-    TakesIn-more came true now x y taken.0 (never_quiet true came refl) taken.3,
-    all_came came now olds news taken.1 taken.4,
-  )

@@ -1,13 +1,18 @@
 -- Items of two lists, in pairs.
-use Rattle.std.specs.Prelude.{◌≡◌, ◌⊎◌, List, [], ◌∷◌, ◌++◌}
-use Rattle.http_server.specs.Exchange.{Call}
+use Rattle.std.specs.Prelude.{◌≡◌, ◌⊎◌, ℕ, List, [], ◌∷◌, ◌++◌}
+use Rattle.http.specs.declared.request.Request.{Request}
+use Rattle.http_server.specs.declared.response.Response.{Response}
+use Rattle.http_server.specs.Exchange.{Call, Chain}
 
--- the items of two lists are related in pairs, each by calls of its own, one after another
-abbrev pub InTurn : {X : Type 0} → (X → X → List Call → Type 0) → List X → List X → List Call → Type 0
-InTurn R [] [] calls = calls ≡ []
-InTurn R (p ∷ olds) (q ∷ news) calls =
-    (mine : List Call) × (later : List Call) × (calls ≡ mine ++ later) × R p q mine × InTurn R olds news later
-InTurn R _ _ calls = ⊥
+-- the items of two lists are related in pairs, one after another: each by calls of its own, which lead from the state
+-- that the pair before left to one that it leaves
+abbrev pub InTurn : {K X : Type 0} → (K → Request (List ℕ) → Response → K → Type 0)
+    → (K → K → X → X → List Call → Type 0) → K → List X → List X → List Call → K → Type 0
+InTurn answers R first [] [] calls last = (calls ≡ []) × (last ≡ first)
+InTurn {K} answers R first (p ∷ olds) (q ∷ news) calls last =
+    (mine : List Call) × (later : List Call) × (next : K) × (calls ≡ mine ++ later)
+    × Chain answers first mine next × R first next p q mine × InTurn answers R next olds news later last
+InTurn answers R first _ _ calls last = ⊥
 
 -- the items of some pair are related
 abbrev pub InSomePair : {X : Type 0} → (X → X → Type 0) → List X → List X → Type 0

@@ -1,7 +1,21 @@
 -- What is seen of the peers that are open.
-use Rattle.std.specs.Prelude.{ℕ, ◌+◌, Bool, ◌&&◌, not, nat_le, List}
+use Rattle.std.specs.Prelude.{ℕ, ◌+◌, Bool, false, ◌&&◌, not, nat_le, if◌then◌else◌, List, Option, Some, None}
 use Rattle.paint_rounds.specs.declared.peer.Peer.{Peer}
 use Rattle.paint_rounds.specs.declared.peers.Peers.{Peers}
+
+-- for so many milliseconds what a peer still sends is dropped
+abbrev pub linger_time : ℕ
+linger_time = 2000
+
+-- so many milliseconds have gone by since the moment, if there is one
+abbrev pub is_over : ℕ → ℕ → Option ℕ → Bool
+is_over now limit None = false
+is_over now limit (Some since) = nat_le (since + limit) now
+
+-- so many have not gone by yet
+abbrev pub is_before : ℕ → ℕ → Option ℕ → Bool
+is_before now limit None = false
+is_before now limit (Some since) = not (nat_le (since + limit) now)
 
 module _ {C : Type 0} where
   abbrev pub peers_of : Peers C → List (Peer C)
@@ -11,6 +25,9 @@ module _ {C : Type 0} where
   abbrev pub most_of : Peers C → ℕ
   most_of p = p.most
 
-  -- a peer is open, and bytes have moved over it within so many milliseconds
-  abbrev pub stays : ℕ → ℕ → Peer C → Bool
-  stays now limit p = p.is_open && not (nat_le (p.moved + limit) now)
+  -- a peer is open, bytes have moved over it within so many milliseconds, and no request is unfinished for as many as a
+  -- request may take; or it is done, and not for long
+  abbrev pub stays : ℕ → ℕ → ℕ → Peer C → Bool
+  stays now patience total p =
+      if p.is_open then not (nat_le (p.moved + patience) now) && not (is_over now total p.begun)
+      else is_before now linger_time p.ended

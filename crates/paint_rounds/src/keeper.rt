@@ -1,20 +1,23 @@
 //! A service with the file that keeps its state.
 
 ghost use Rattle.std.specs.Prelude.{◌≡◌, ◌↔◌, false, IsTrue};
-ghost use Rattle.paint_rounds.specs.Keeping.{IsBehind, IsTracked, Settles};
+ghost use Rattle.paint_rounds.specs.Keeping.{IsBehind, IsJoined, IsTracked, Settles};
 ghost use Rattle.paint_rounds.specs.Keeper.{keeping, KeeperAnswers};
 
+use crate::joiner::Joiner;
 use crate::kept::Kept;
 use bytes::Bytes;
 use http::Request;
 use http_server::{Response, Service};
 use paint_session::store::{StatePath, StateStore};
-use std::alloc::AllocError;
+use std::alloc::{AllocError, Global};
 
-/// A service, the store that has its file, and the version of the service that the file has.
+/// A service, the store that has its file, the bytes that the store answered last, and the version of the service that
+/// the file has.
 #[derive(Drop)]
 pub struct Keeper<S, T> {
-    service: S,
+    alloc: Global,
+    joiner: Joiner<S>,
     store: T,
     path: StatePath,
     saved: u64,
@@ -23,19 +26,23 @@ pub struct Keeper<S, T> {
 }
 
 impl<S: Kept, T: StateStore> Keeper<S, T> {
-    /// A keeper of a service whose state the file of this name keeps already. Nothing is saved until the version
-    /// rises.
-    pub fn new(service: S, store: T, path: StatePath) -> Keeper<S, T>
-        ensures { keeping T.seen result ≡ record {
+    /// A keeper of a service whose state the file of this name keeps already, which has these bytes. Nothing is saved
+    /// until the version rises.
+    pub fn new(alloc: Global, service: S, last: Vec<u8>, store: T, path: StatePath) -> Keeper<S, T>
+        ensures seen { keeping T.seen result ≡ record {
           service = service;
           files = (T.seen store).held;
           name = path;
+          last = last.items;
           saved = S.version service;
         } }
+        ensures tracked { S.spells service last.items → S.has service last.items
+            → IsTracked S.version S.spells S.has (keeping T.seen result) }
     {
         let saved = service.version();
         Keeper {
-            service,
+            alloc,
+            joiner: Joiner { service, last },
             store,
             path,
             saved,
@@ -47,7 +54,7 @@ impl<S: Kept, T: StateStore> Keeper<S, T> {
     pub fn service(&self) -> &S
         ensures { result.now ≡ (keeping T.seen self.now).service }
     {
-        &self.service
+        &self.joiner.service
     }
 
     /// The store.
@@ -61,7 +68,7 @@ impl<S: Kept, T: StateStore> Keeper<S, T> {
     pub fn is_behind(&self) -> bool
         ensures { IsTrue result ↔ IsBehind S.version (keeping T.seen self.now) }
     {
-        let version = self.service.version();
+        let version = self.joiner.service.version();
         self.saved < version || version == u64::MAX
     }
 
@@ -72,29 +79,46 @@ impl<S: Kept, T: StateStore> Keeper<S, T> {
         ensures left { IsTrue result ↔ S.has_work (keeping T.seen self.new).service }
         ensures rest { keeping T.seen self.new
             ≡ record (keeping T.seen self.old) { service = (keeping T.seen self.new).service } }
-        ensures tracked { IsTracked S.version S.spells (keeping T.seen self.old)
-            → IsTracked S.version S.spells (keeping T.seen self.new) }
+        ensures tracked { IsTracked S.version S.spells S.has (keeping T.seen self.old)
+            → IsTracked S.version S.spells S.has (keeping T.seen self.new) }
     {
-        self.service.work()
+        self.joiner.service.work()
     }
 
-    /// Saves the file where what is kept may have changed. Says whether it is kept now: not where the store failed or
-    /// memory was wanting.
+    /// Saves the file where what is kept may have changed: what others wrote there meanwhile is taken in, and the file
+    /// that keeps both takes its place. Says whether the state is kept now: not where the store failed, memory was
+    /// wanting, or the service did not take what was found. The service is told which.
     pub fn keep(&mut self) -> bool
-        ensures settles { Settles S.version S.spells (keeping T.seen self.old) result (keeping T.seen self.new) }
+        ensures settles { Settles S.version S.spells S.has S.takes S.notes (keeping T.seen self.old) result
+            (keeping T.seen self.new) }
+        ensures joins { IsTracked S.version S.spells S.has (keeping T.seen self.old)
+            → IsBehind S.version (keeping T.seen self.old) → IsTrue result
+            → IsJoined S.spells S.has (keeping T.seen self.old) (keeping T.seen self.new) }
         ensures noted { self.new.has_answered ≡ self.old.has_answered }
     {
         if !self.is_behind() {
             return true;
         }
-        let Ok(file) = self.service.file() else {
-            return false;
-        };
-        if self.store.save(&self.path, &file).is_err() {
-            return false;
+        let saved = self.store.save(self.alloc, &self.path, &mut self.joiner);
+        match saved {
+            Ok(file) => {
+                self.joiner.last = file;
+                self.saved = self.joiner.service.version();
+                self.joiner.service.note(None);
+                true
+            }
+            Err(why) => {
+                self.joiner.service.note(Some(why));
+                false
+            }
         }
-        self.saved = self.service.version();
-        true
+    }
+
+    // The version of the service.
+    pub(crate) fn version(&self) -> u64
+        ensures { result ≡ S.version (keeping T.seen self.now).service }
+    {
+        self.joiner.service.version()
     }
 
     // Forgets that calls were answered.
@@ -120,7 +144,7 @@ impl<S: Kept, T: StateStore> Service for Keeper<S, T> {
         request: &Request<Bytes>,
         response: &mut Response,
     ) -> Result<(), AllocError> {
-        self.service.call(request, response)?;
+        self.joiner.service.call(request, response)?;
         self.has_answered = true;
         Ok(())
     }

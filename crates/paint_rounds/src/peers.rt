@@ -3,12 +3,14 @@
 ghost use Rattle.std.specs.Prelude.{◌≡◌, ◌∷◌, [], ◌++◌, ◌≤◌, ◌↔◌};
 ghost use Rattle.std.specs.Prelude.{List, IfOk, length, filter, IsTrue, IsFalse, vec_capacity};
 ghost use Rattle.std.specs.List.{AllZip};
-ghost use Rattle.http_server.specs.Exchange.{Call, Chain};
+ghost use Rattle.http_server.specs.Exchange.{Call};
+ghost use Rattle.paint_rounds.specs.Kept.{may_differ};
 ghost use Rattle.paint_rounds.specs.Keeping.{Answers};
 ghost use Rattle.paint_rounds.specs.Keeper.{keeping};
 ghost use Rattle.paint_rounds.specs.Pairs.{InTurn, InSomePair};
 ghost use Rattle.paint_rounds.specs.Peer.{TakesIn, Finishes, IsFresh, HasReceived, HasSent};
 
+use crate::ends_writing::EndsWriting;
 use crate::keeper::Keeper;
 use crate::kept::Kept;
 use crate::peer::Peer;
@@ -16,7 +18,7 @@ use grid_core::Memory;
 use http_server::Connection;
 use paint_session::store::StateStore;
 use std::alloc::Global;
-use std::io::{Read, Write};
+use std::io::Read;
 
 /// The peers that are open, at most so many.
 #[derive(Drop)]
@@ -58,7 +60,7 @@ impl<C: Drop> Peers<C> {
     /// Takes a peer in, whose connection is new. Says whether it did: not where there are as many as there may be. Then
     /// the stream is dropped.
     pub fn admit(&mut self, stream: C, connection: Connection, now: u64) -> bool
-        ensures admitted { IsTrue result → (peer : _) × IsFresh now connection peer
+        ensures admitted { IsTrue result → (peer : _) × IsFresh now stream connection peer
             × (peers_of self.new ≡ peers_of self.old ++ peer ∷ []) }
         ensures refused { IsFalse result → peers_of self.new ≡ peers_of self.old }
         ensures full { IsFalse result ↔ (most_of self.old ≤ length (peers_of self.old)) }
@@ -71,17 +73,18 @@ impl<C: Drop> Peers<C> {
         true
     }
 
-    /// Drops the peers that were closed, and those over which no byte has moved for so many milliseconds.
-    pub fn sweep(&mut self, now: u64, limit: u64)
-        ensures swept { peers_of self.new ≡ filter (stays now limit) (peers_of self.old) }
+    /// Drops the peers over which no byte has moved for `patience` milliseconds, those over which a request is
+    /// unfinished for `total` milliseconds since its first byte, and those that were closed. One that is done, so that
+    /// its last answer was sent, is dropped once it sends no more, or two seconds later.
+    pub fn sweep(&mut self, now: u64, patience: u64, total: u64)
+        ensures swept { peers_of self.new ≡ filter (stays now patience total) (peers_of self.old) }
         ensures most { most_of self.new ≡ most_of self.old }
     {
-        self.list
-            .retain(|peer| peer.is_open() && !peer.is_idle(now, limit));
+        self.list.retain(|peer| peer.stays(now, patience, total));
     }
 }
 
-impl<C: Read + Write + Drop> Peers<C> {
+impl<C: Read + EndsWriting + Drop> Peers<C> {
     ghost use Rattle.paint_rounds.specs.Peers.{peers_of, most_of};
 
     // Takes in what has come, from one peer after another. Says whether bytes came.
@@ -90,8 +93,9 @@ impl<C: Read + Write + Drop> Peers<C> {
         keeper: &mut Keeper<S, T>,
         now: u64,
     ) -> bool
-        ensures parts { (calls : List Call) × InTurn (TakesIn result now) (peers_of self.old) (peers_of self.new) calls
-            × Chain (Answers S.answers) (keeping T.seen keeper.old) calls (keeping T.seen keeper.new) }
+        ensures parts { (calls : List Call) × InTurn (Answers S.answers)
+            (λ before after. TakesIn (may_differ (S.version before.service) (S.version after.service)) result now)
+            (keeping T.seen keeper.old) (peers_of self.old) (peers_of self.new) calls (keeping T.seen keeper.new) }
         ensures came { IsTrue result → InSomePair HasReceived (peers_of self.old) (peers_of self.new) }
         ensures most { most_of self.new ≡ most_of self.old }
     {

@@ -14,6 +14,9 @@ use std::io::{self, ErrorKind, Read, Write};
 /// A round reads so often from a peer, and writes so often to it, and then goes on to the next.
 const MOST_TURNS: usize = 64;
 
+// A round reads so often what it drops.
+const MOST_DROPS: usize = 256;
+
 // What came of an attempt to move bytes.
 #[derive(Clone, Copy, Debug, PartialEq, Eq)]
 enum Attempt {
@@ -159,4 +162,25 @@ pub fn send_out<W: Write>(connection: &mut Connection, writer: &mut W) -> io::Re
         }
     }
     Ok(went)
+}
+
+// At most so many bytes are dropped at once.
+const DROP_ROOM: usize = 16 * 1024;
+
+// Reads and drops what has come, at most 4 MiB. Says whether there is no more to come: the end was found, or the reader
+// failed.
+pub fn finds_end<R: Read>(reader: &mut R) -> bool {
+    let mut room = [0; DROP_ROOM];
+    for _ in 0..MOST_DROPS {
+        match reader.read(&mut room) {
+            Ok(0) => return true,
+            Ok(_) => {}
+            Err(error) => match unless_failed(error) {
+                Ok(Attempt::Over) => return false,
+                Ok(_) => {}
+                Err(_) => return true,
+            },
+        }
+    }
+    false
 }

@@ -1,12 +1,14 @@
-use Rattle.std.proofs.Common.{Bool, true, ◌+◌, ◌<◌, ◌++◌, length, set, take, sym, subst, arith, ◌∙◌}
-use Rattle.http_server.specs.Exchange.{Chain}
-use Rattle.http_server.proofs.StreamLemmas.{Chain-append}
+use Rattle.std.proofs.Common.{Bool, true, false, List, ◌+◌, ◌<◌, ◌++◌, length, set, take, sym, subst, arith, refl, ◌∙◌}
+use Rattle.http_server.specs.Exchange.{Call}
 use Rattle.paint_rounds.specs.declared.peer.Peer.{Peer}
-use Rattle.paint_rounds.specs.Keeping.{Answers}
+use Rattle.paint_rounds.specs.Kept.{may_differ}
+use Rattle.paint_rounds.specs.Keeping.{Keeping, Answers}
 use Rattle.paint_rounds.specs.Keeper.{keeping}
 use Rattle.paint_rounds.specs.Pairs.{InTurn}
 use Rattle.paint_rounds.specs.Peer.{TakesIn, HasReceived}
-use Rattle.paint_rounds.proofs.Turns.{InTurn-next, InSomePair-next, InSomePair-here, drop_next, TakesIn-still, all_came}
+use Rattle.paint_rounds.proofs.Flags.{never_quiet}
+use Rattle.paint_rounds.proofs.Turns.{InTurn-map, InTurn-next, InSomePair-next, InSomePair-here, drop_next}
+use Rattle.paint_rounds.proofs.Turns.{TakesIn-more}
 use Rattle.paint_rounds.proofs.peers.Peers.take_in.Goals.{then-take_in, else-take_in}
 use Rattle.paint_rounds.proofs.peers.Peers.take_in.Goals as goal
 
@@ -17,7 +19,10 @@ loop-peer-preserved g c =
     let i = c.loop-peer.peer-index in
     let now = c.args.now in
     let was = c.loop-peer.came in
-    let answers = g.S.Service.answers in
+    let P = Peer g.row.C.Denot in
+    let K = Keeping g.row.S.Denot in
+    let answers = Answers g.S.Service.answers in
+    let version = g.S.Kept.version in
     let seen = g.T.StateStore.seen in
     let x = c.peer-item.result in
     let q = c.take_in.new.self in
@@ -25,35 +30,42 @@ loop-peer-preserved g c =
     let did = c.take_in.ensures.part in
     let within : i < length items = omega arith in
     let here = c.peer-item.is in
-    let P : Peer g.row.C.Denot → Type 0 = λ y. TakesIn c.take_in.result now y q did.0 in
-    let part : TakesIn c.take_in.result now x q did.0 = subst P (sym here) did.1 in
+    let R : Bool → K → K → P → P → List Call → Type 0 = λ b before after.
+    TakesIn (may_differ (version before.service) (version after.service)) b now in
+    let first = keeping seen c.args.keeper.now in
+    let mid = keeping seen c.loop-peer.keeper in
+    let last = keeping seen c.take_in.new.keeper in
+    let W : P → Type 0 = λ y. R c.take_in.result mid last y q did.0 in
+    let part : R c.take_in.result mid last x q did.0 = subst W (sym here) did.1 in
     let calls = so_far.taken.0 ++ did.0 in
-    let chain : Chain (Answers answers) (keeping seen c.args.keeper.now) calls (keeping seen c.take_in.new.keeper)
-    = Chain-append (Answers answers) so_far.taken.0 did.0 _ _ _ so_far.taken.2 did.2 in
-    let S : Bool → Type 0 = λ b. TakesIn b now x q did.0 in
-    let Q : Bool → Type 0 = λ b. InTurn (TakesIn b now) (take (i + 1) olds) (take (i + 1) (set items i q)) calls in
+    let V : Bool → Type 0 = λ b. R b mid last x q did.0 in
+    let Q : Bool → Type 0 = λ b.
+    InTurn answers (R b) first (take (i + 1) olds) (take (i + 1) (set items i q)) calls last in
     let rest = drop_next olds items i x q within here so_far.rest in
     elim c.if-take_in.branch [
       | then-take_in w ↦ record {
         taken = (
           calls,
           subst Q (sym w.came-is)
-              (InTurn-next olds items i x q within here so_far.rest (TakesIn true now) so_far.taken.0 did.0
-              (all_came was now _ _ so_far.taken.0 so_far.taken.1) (subst S w.if-take_in.true part)),
-          chain,
+              (InTurn-next olds items i x q within here so_far.rest answers (R true) first mid last so_far.taken.0
+              did.0
+              (InTurn-map answers (R was) (R true)
+              (λ a b y z mine. TakesIn-more _ was true now (never_quiet true was refl) y z mine)
+              first mid _ _ so_far.taken.0 so_far.taken.1)
+              did.2 (subst V w.if-take_in.true part)),
         );
         came = λ is.
             InSomePair-here olds items i x q within here so_far.rest HasReceived
-            (subst (λ (y : Peer g.row.C.Denot). HasReceived y q) (sym here) (c.take_in.ensures.came w.if-take_in.true));
+            (subst (λ (y : P). HasReceived y q) (sym here) (c.take_in.ensures.came w.if-take_in.true));
         rest = rest;
       }
       | else-take_in w ↦ record {
         taken = (
           calls,
           subst Q (sym w.came-is)
-              (InTurn-next olds items i x q within here so_far.rest (TakesIn was now) so_far.taken.0 did.0
-              so_far.taken.1 (TakesIn-still was now x q did.0 (subst S w.if-take_in.false part))),
-          chain,
+              (InTurn-next olds items i x q within here so_far.rest answers (R was) first mid last so_far.taken.0
+              did.0 so_far.taken.1 did.2
+              (TakesIn-more _ false was now (λ none. refl) x q did.0 (subst V w.if-take_in.false part))),
         );
         came = λ is.
             InSomePair-next olds items i x q within here so_far.rest HasReceived (so_far.came (sym w.came-is ∙ is));
