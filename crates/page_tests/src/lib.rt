@@ -3,8 +3,8 @@
 //!
 //! They stand in a crate of their own because tests are proved safe as well. No function here promises anything: what
 //! is sent is compared when the tests run. `exchange` has the connection, `senders` who may ask, `paths` what is asked,
-//! `sizes` what is too large, `edits` and `files` what is posted, `telling` what a page is told, `beginnings` what one
-//! begins with. `strokes` has what these four share.
+//! `sizes` what is too large, `edits` and `files` what is posted, `keeping` what is posted while saves fail, `telling`
+//! what a page is told, `beginnings` what one begins with. `strokes` has what these five share.
 
 #[cfg(test)]
 mod beginnings;
@@ -14,6 +14,8 @@ mod edits;
 mod exchange;
 #[cfg(test)]
 mod files;
+#[cfg(test)]
+mod keeping;
 #[cfg(test)]
 mod paths;
 #[cfg(test)]

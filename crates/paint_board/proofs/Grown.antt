@@ -5,7 +5,8 @@ use Rattle.std.specs.Prelude.{Contains, ◌↔◌, replicate, slice_index_or, fa
 use Rattle.std.proofs.lemmas.List.{length-replicate, get_or-replicate}
 use Rattle.byte_devices.specs.Device.{count_after}
 use Rattle.grid_core.specs.Tiles.{count_of}
-use Rattle.stroke_lattice.specs.State.{State, IsLiveTag}
+use Rattle.stroke_lattice.specs.State.{State, IsBelow, IsLiveTag}
+use Rattle.stroke_lattice.proofs.Joins.{below_itself}
 use Rattle.tile_work.specs.TileSet.{Has, HasGained}
 use Rattle.core_rules.specs.Shown.{ShowsTheSame}
 use Rattle.core_rules.specs.Runs.{IsDirty, IsTakenIn}
@@ -87,6 +88,7 @@ module _ (old : Board) (jobs : ℕ) (tiles : List Bool) (new : Board) (whole : I
     ground = ground;
     version = omega (arith, ap (λ (b : Board). b.version) done.grown.rest);
     step = done.risen;
+    state = subst (λ (s : State). IsBelow old.core.state s) (sym keeps_parts.state) (below_itself old.core.state);
     tiles = tiles_later;
     strokes = strokes_later;
     rises = rises;

@@ -1,6 +1,7 @@
 -- Boards that are later than others.
 use Rattle.std.proofs.Common.{◌≡◌, ℕ, ◌<◌, ◌⊎◌, inl, inr, refl, ◌∙◌, sym, subst, arith}
 use Rattle.grid_core.specs.Tiles.{Tiles}
+use Rattle.stroke_lattice.proofs.Joins.{below_itself, below_through}
 use Rattle.core_rules.specs.Shown.{ShowsTheSame}
 use Rattle.core_rules.specs.Work.{Core, tiling, IsTile}
 use Rattle.core_rules.specs.Hits.{IsInTile}
@@ -19,6 +20,7 @@ each_is_later b = record {
   ground = record { mask = refl; conn = refl; side = refl; count = refl };
   version = omega arith;
   step = omega arith;
+  state = below_itself b.core.state;
   tiles = λ t is_tile. inl (λ p within. refl);
   strokes = λ tag. inl (λ seed. (λ live. live, λ live. live));
   rises = λ t. omega arith;
@@ -86,6 +88,7 @@ module _ (a b c : Board) (ab : IsLater a b) (bc : IsLater b c) where
     ground = ground;
     version = omega (arith, ab.version, bc.version);
     step = omega (arith, ab.step, bc.step);
+    state = below_through a.core.state b.core.state c.core.state ab.state bc.state;
     tiles = tiles;
     strokes = strokes;
     rises = λ t. omega (arith, ab.rises t, bc.rises t);

@@ -17,3 +17,4 @@ pub mod Together
 pub mod OpenedKept
 pub mod Answer
 pub mod Opened
+pub mod Keeping

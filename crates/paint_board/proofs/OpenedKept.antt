@@ -42,7 +42,7 @@ each_is_told board state (turnover, change, only) tag live = record {
 
 module _ (mask : Graymap) (conn : Conn) (side run : ℕ) (state : State) where
   -- the board that is one as it is opened but for strokes, image and news
-  abbrev begun_board : Raster → List News → Board
+  abbrev pub begun_board : Raster → List News → Board
   begun_board image news =
       record (opened_board mask conn side run) {
         core = record (opened mask.raster conn side 0) { state = state; image = image };
@@ -66,7 +66,7 @@ module _ (mask : Graymap) (conn : Conn) (side run : ℕ) (state : State) where
         told = each_is_told (begun_board image news) state first;
       }
 
-  same_board : (board : Board) → IsBegunBoard mask conn side run state board
+  pub same_board : (board : Board) → IsBegunBoard mask conn side run state board
       → board ≡ begun_board board.core.image board.news
   same_board board begun =
       begun.rest

@@ -83,6 +83,7 @@ module _ (changes : MergeChangesDirtyTiles) (old : Board) (delta : State) (tiles
     ground = ground;
     version = omega (arith, done.taken.version, whole.version);
     step = risen;
+    state = done.taken.merged.join.first;
     tiles = tiles_later;
     strokes = strokes_later;
     rises = rises;

@@ -1,7 +1,7 @@
 -- What a board shows later than another: which of its tiles and strokes can differ from those that it had.
 use Rattle.std.specs.Prelude.{◌≡◌, ℕ, ◌<◌, ◌≤◌, ◌⊎◌, ◌↔◌, length, Contains}
 use Rattle.stroke_core.specs.Seed.{Seed}
-use Rattle.stroke_lattice.specs.State.{State, IsLive}
+use Rattle.stroke_lattice.specs.State.{State, IsLive, IsBelow}
 use Rattle.core_rules.specs.Shown.{ShowsTheSame}
 use Rattle.core_rules.specs.Work.{Core, IsTile}
 use Rattle.paint_board.specs.Board.{Board, shown_at, since_in, HasTurned}
@@ -22,14 +22,16 @@ HasSameStroke before after tag = (seed : Seed) → IsLive before tag seed ↔ Is
 abbrev pub IsNewsSince : Board → ℕ → ℕ → Type 0
 IsNewsSince b since t = since_in b since < shown_at b t
 
--- the second board is the first one, later: a tile shows what it showed, or it has changed after the first one's step;
--- and a stroke came or went after that step, or it is live where it was
+-- the second board is the first one, later: it has each stroke and tombstone that the first one had; a tile shows what
+-- it showed, or it has changed after the first one's step; and a stroke came or went after that step, or it is live
+-- where it was
 pub record IsLater (old new : Board) : Type 0 where
   pub run : new.run ≡ old.run
   pub maxval : new.maxval ≡ old.maxval
   pub ground : HasSameGround old.core new.core
   pub version : old.version ≤ new.version
   pub step : old.step ≤ new.step
+  pub state : IsBelow old.core.state new.core.state
   pub tiles : (t : ℕ) → IsTile old.core t → ShowsTheSame old.core new.core t ⊎ IsNewsSince new old.step t
   pub strokes : (tag : ℕ) → HasSameStroke old.core.state new.core.state tag ⊎ HasTurned new (since_in new old.step) tag
   pub rises : (t : ℕ) → shown_at old t ≤ shown_at new t

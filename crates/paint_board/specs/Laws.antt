@@ -4,7 +4,8 @@ use Rattle.grid_core.specs.declared.pixel.Pixel.{Pixel}
 use Rattle.grid_core.specs.Raster.{IsInside}
 use Rattle.stroke_lattice.specs.State.{IsLiveTag}
 use Rattle.core_rules.specs.Work.{image_at}
-use Rattle.paint_board.specs.Board.{Board, IsWhole}
+use Rattle.paint_board.specs.Board.{Board, mask_of, IsWhole}
+use Rattle.paint_board.specs.Keeping.{KeepsBoard, HasAllIn, KeepsAllOf}
 use Rattle.paint_board.specs.Later.{IsLater, HasSameStroke}
 use Rattle.paint_board.specs.Changes.{AreChanges, IsCovered}
 
@@ -15,6 +16,22 @@ EachIsLater = (b : Board) → IsLater b b
 -- what is later than a later board is later
 abbrev pub LaterGoesOn : Type 0
 LaterGoesOn = (a b c : Board) → IsLater a b → IsLater b c → IsLater a c
+
+-- what is later than a board has all that the board had of the bytes of a state file
+abbrev pub LaterHasAll : Type 0
+LaterHasAll = (old new : Board) (file : List ℕ) → IsLater old new → HasAllIn old file → HasAllIn new file
+
+-- bytes that keep a board keep a later one with the same strokes and tombstones
+abbrev pub SameStateIsKept : Type 0
+SameStateIsKept =
+    (old new : Board) (file : List ℕ) → IsLater old new → new.core.state ≡ old.core.state → KeepsBoard old file
+    → KeepsBoard new file
+
+-- bytes that keep a board keep all that the board has of others
+abbrev pub AllIsKept : Type 0
+AllIsKept =
+    (b : Board) (found made : List ℕ) → HasAllIn b found → KeepsBoard b made
+    → KeepsAllOf b.core.conn (mask_of b) found made
 
 -- each pixel has the value that it had when the page was told a step, or lies in a rectangle of what it is told now;
 -- and each tag has the live stroke that it had then, or has a line

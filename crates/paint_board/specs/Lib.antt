@@ -18,6 +18,7 @@ pub mod Growing
 pub mod Later
 pub mod Changes
 pub mod Marking
+pub mod Keeping
 pub mod Strips
 pub mod Putting
 pub mod Laws

@@ -10,6 +10,9 @@ use Rattle.page_requests.specs.declared.answer.Media.TheVariants.{Text}
 use Rattle.page_requests.specs.declared.refusal.Refusal.{Refusal}
 use Rattle.paint_session.specs.RunError.{IsMemory, fault_text}
 use Rattle.paint_session.specs.declared.run_error.RunError.{RunError}
+use Rattle.paint_session.specs.declared.run_error.RunError.TheVariants.{StateFile}
+use Rattle.paint_board.specs.Board.{Board}
+use Rattle.paint_board.specs.Taking.{FileIsRefused}
 use Rattle.paint_page.specs.Painting.{Painting}
 use Rattle.paint_page.specs.Answering.{Says, IsTurnedDown, Answers}
 
@@ -42,3 +45,16 @@ is_turned_down (Ok x) taken refuses old new e response same fault not_memory tol
       told = subst (λ (p : Painting). Says p 409 Text (fault_text e) response) same told;
     })
 is_turned_down (Err x) taken refuses old new e response same fault not_memory told = told
+
+-- no fault of a state file that is taken is one of the store
+pub fault_of_no_store : (b : Board) (file : List ℕ) (e : RunError) → IsMemory e ⊎ FileIsRefused b file e
+    → e ≡ StateFile → ⊥
+fault_of_no_store b file e (inl (inl is)) store = cc
+fault_of_no_store b file e (inl (inr (inl is))) store = cc
+fault_of_no_store b file e (inl (inr (inr (inl is)))) store = cc
+fault_of_no_store b file e (inl (inr (inr (inr (inl is))))) store = cc
+fault_of_no_store b file e (inl (inr (inr (inr (inr is))))) store = cc
+fault_of_no_store b file e (inr (inl (fault, is, first))) store = cc
+fault_of_no_store b file e (inr (inr (inl (is, another)))) store = cc
+fault_of_no_store b file e (inr (inr (inr (deltas, spelled, inl (why, is, first))))) store = cc
+fault_of_no_store b file e (inr (inr (inr (deltas, spelled, inr (delta, why, merged, refused, is))))) store = cc

@@ -1,5 +1,5 @@
 -- What each request is answered, and what it leaves behind.
-use Rattle.std.specs.Prelude.{◌≡◌, ℕ, List, ◌⊎◌, codes}
+use Rattle.std.specs.Prelude.{◌≡◌, ℕ, List, Some, None, ◌⊎◌, codes}
 use Rattle.http.specs.declared.request.Request.{Request}
 use Rattle.http.specs.Request.{body_of}
 use Rattle.http_server.specs.declared.response.Response.{Response}
@@ -77,6 +77,17 @@ AnswersJoin old file response new =
     IsTakenAndTold (FileIsTaken old.board file new.board) new.board.run new.board.step old response new
     ⊎ IsTurnedDown (FileIsRefused old.board file) old response new
 
+-- what there is is not kept: nothing that is posted is taken, nothing changed, and the answer is the line of the reason
+pub record IsHeldOff (old : Painting) (response : Response) (new : Painting) : Type 0 where
+  pub why : RunError
+  pub unkept : old.unkept ≡ Some why
+  pub same : new ≡ old
+  pub told : Says old 503 Text (fault_text why) response
+
+-- what is posted is answered so only where what there is is kept
+abbrev pub WhereKept : Type 0 → Painting → Response → Painting → Type 0
+WhereKept answered old response new = IsHeldOff old response new ⊎ ((old.unkept ≡ None) × answered)
+
 -- ---- each request
 
 -- the answer to what is asked
@@ -88,8 +99,9 @@ AnswersAsked State old body response new = Shows Binary (state_text old.board) o
 AnswersAsked Strokes old body response new = Shows Text (live_text old.board.core.state) old response new
 AnswersAsked (Changes moment) old body response new =
     (new ≡ old) × TellsChanges old moment.run moment.step response
-AnswersAsked (Edits moment) old body response new = AnswersEdits old body moment.run moment.step response new
-AnswersAsked Join old body response new = AnswersJoin old body response new
+AnswersAsked (Edits moment) old body response new =
+    WhereKept (AnswersEdits old body moment.run moment.step response new) old response new
+AnswersAsked Join old body response new = WhereKept (AnswersJoin old body response new) old response new
 
 -- the request is refused for a reason, which the answer tells, and nothing changed
 pub record IsRefusal (old : Painting) (r : Request (List ℕ)) (response : Response) (new : Painting) : Type 0 where

@@ -1,12 +1,13 @@
--- What stands behind a page: a board, the port and the key by which it is asked, the page, and its content security
--- policy.
-use Rattle.std.specs.Prelude.{◌≡◌, ℕ, List, refl}
-use Rattle.std.specs.Coded.{Coded, code_by, coded×, coded_ℕ, coded_list}
+-- What stands behind a page: a board, the port and the key by which it is asked, the page, its content security policy,
+-- and why what it has is not kept, where it is not.
+use Rattle.std.specs.Prelude.{◌≡◌, ℕ, List, Option, refl}
+use Rattle.std.specs.Coded.{Coded, code_by, coded×, coded_ℕ, coded_list, coded_option}
 use Rattle.stroke_core.specs.Seed.{Seed}
 use Rattle.pgm_codec.specs.Writing.{raw_text}
 use Rattle.core_rules.specs.Work.{IsQuiet}
 use Rattle.core_rules.specs.Invariant.{HasLawfulImage, HasReconstruction}
 use Rattle.paint_session.specs.Kept.{kept_text}
+use Rattle.paint_session.specs.declared.run_error.RunError.{RunError}
 use Rattle.paint_board.specs.Board.{Board, board_code, mask_of, image_of}
 
 pub record Painting : Type 0 where
@@ -15,6 +16,7 @@ pub record Painting : Type 0 where
   pub key : List ℕ
   pub page : List ℕ
   pub policy : List ℕ
+  pub unkept : Option RunError
 
 -- the bytes are the raw file of the image as it is, which lies between the marker of the strokes and the reconstruction
 -- of the mask from it, and where no work is left is that reconstruction
@@ -28,10 +30,17 @@ abbrev pub state_text : Board → List ℕ
 state_text b = kept_text b.core.conn (mask_of b) b.core.state
 
 -- a painting is stored as the parts of its record
-abbrev pub painting_code : Coded Seed → Coded Painting
-painting_code seed_code =
-    code_by (Board × (ℕ × (List ℕ × (List ℕ × List ℕ))))
+abbrev pub painting_code : Coded Seed → Coded RunError → Coded Painting
+painting_code seed_code fault_code =
+    code_by (Board × (ℕ × (List ℕ × (List ℕ × (List ℕ × Option RunError)))))
     (coded× (board_code seed_code) (coded× coded_ℕ (coded× (coded_list coded_ℕ)
-    (coded× (coded_list coded_ℕ) (coded_list coded_ℕ)))))
-    (λ p. (p.board, (p.port, (p.key, (p.page, p.policy)))))
-    (λ q. record { board = q.0; port = q.1.0; key = q.1.1.0; page = q.1.1.1.0; policy = q.1.1.1.1 }) (λ _. refl)
+    (coded× (coded_list coded_ℕ) (coded× (coded_list coded_ℕ) (coded_option fault_code))))))
+    (λ p. (p.board, (p.port, (p.key, (p.page, (p.policy, p.unkept))))))
+    (λ q. record {
+      board = q.0;
+      port = q.1.0;
+      key = q.1.1.0;
+      page = q.1.1.1.0;
+      policy = q.1.1.1.1.0;
+      unkept = q.1.1.1.1.1;
+    }) (λ _. refl)

@@ -13,6 +13,7 @@ painting_of parts = record {
   key = parts.key;
   page = parts.page.now;
   policy = parts.policy.now;
+  unkept = parts.unkept;
 }
 
 -- the policy may stand in a field, and files that were made are those of the board as it is

@@ -1,6 +1,6 @@
-//! A law of answers.
+//! Laws of answers. Each is the contract of a function that does nothing.
 
-ghost use Rattle.paint_page.specs.Laws.{AnswersLeaveLater};
+ghost use Rattle.paint_page.specs.Laws.{AnswersLeaveLater, NothingIsTakenUnkept};
 
 use paint_board::laws::each_is_later;
 
@@ -10,3 +10,8 @@ pub fn answers_leave_later()
 {
     each_is_later();
 }
+
+/// While what there is is not kept, no answer changes anything.
+pub fn nothing_is_taken_unkept()
+    ensures { NothingIsTakenUnkept }
+{}

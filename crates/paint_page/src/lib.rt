@@ -12,6 +12,10 @@
 //! strokes and pixels of an answer are those of one board. What is posted is taken whole or not at all, and once it is
 //! taken, nothing that the answer needs can be wanting.
 //!
+//! Whoever keeps the board's state tells the painting whether it is kept ([`Painting::note_kept`]): while it is not,
+//! what is posted is answered 503 with the reason and nothing is taken ([`nothing_is_taken_unkept`]); all else is
+//! answered as ever. What another program has put into the state file is taken by [`Painting::take_found`].
+//!
 //! The files of the mask and of the image are made once for a moment and shared among those who ask for them.
 //!
 //! What `GET strokes` tells is read by `edit_lang` as exactly the live strokes: `edit_lang::what_is_written_is_read`.
@@ -23,5 +27,5 @@ mod fault;
 mod laws;
 mod painting;
 
-pub use laws::answers_leave_later;
+pub use laws::{answers_leave_later, nothing_is_taken_unkept};
 pub use painting::Painting;

@@ -1,6 +1,6 @@
 //! The painting: what requests look at and change.
 
-ghost use Rattle.std.specs.Prelude.{◌≡◌, ◌<◌, ◌↔◌, IsTrue, IfOk, OnOk, OnErr};
+ghost use Rattle.std.specs.Prelude.{◌≡◌, ◌<◌, ◌↔◌, IsTrue, IfOk, OnOk, OnErr, None};
 ghost use Rattle.core_rules.specs.Work.{IsQuiet};
 ghost use Rattle.http_header.specs.FieldValue.{is_visible_text};
 ghost use Rattle.http_server.specs.Response.{IsBlank};
@@ -14,6 +14,7 @@ use http::StatusCode;
 use http_server::Response;
 use page_requests::{Hosts, Key, Media, put_answer};
 use paint_board::Board;
+use paint_session::run_error::RunError;
 use std::alloc::{AllocError, Global};
 use std::marker::Model;
 
@@ -31,6 +32,8 @@ pub struct Painting {
     key: Key,
     page: &'static str,
     policy: &'static str,
+    // Why what the board has is not kept, where it is not.
+    unkept: Option<RunError>,
     // The files of the mask and of the image, where they were asked for and nothing has changed since.
     mask: Option<Bytes>,
     image: Option<Bytes>,
@@ -38,11 +41,12 @@ pub struct Painting {
 
 impl Model for Painting {
     ghost use Rattle.stroke_core.specs.contracts.stroke.Stroke as stroke;
+    ghost use Rattle.paint_session.specs.contracts.run_error.RunError as fault;
     ghost use Rattle.paint_page.specs.Painting.{Painting as Data, painting_code};
 
     ghost Value = { Data };
 
-    ghost coded = { painting_code stroke.the_row.coded };
+    ghost coded = { painting_code stroke.the_row.coded fault.the_row.coded };
 
     ghost use Rattle.paint_page.specs.Stored.{painting_of, IsStored};
 
@@ -53,7 +57,7 @@ impl Model for Painting {
 
 impl Painting {
     /// The service of a board, asked at these hosts under this key; `page` is the page, `policy` its content security
-    /// policy.
+    /// policy. What the board has counts as kept.
     pub fn new(
         alloc: Global,
         board: Board,
@@ -69,6 +73,7 @@ impl Painting {
           key = key;
           page = page.now;
           policy = policy.now;
+          unkept = None;
         } }
     {
         Painting {
@@ -78,6 +83,7 @@ impl Painting {
             key,
             page,
             policy,
+            unkept: None,
             mask: None,
             image: None,
         }
@@ -88,6 +94,14 @@ impl Painting {
         ensures { result.now ≡ self.now.board }
     {
         &self.board
+    }
+
+    /// Notes whether what the board has is kept: nothing, or why it is not. While it is not, no edit text and no state
+    /// file is taken that is posted.
+    pub fn note_kept(&mut self, why: Option<RunError>)
+        ensures { self.new ≡ record self.old { unkept = why } }
+    {
+        self.unkept = why;
     }
 
     /// One slice of settling: at most so many jobs. Says whether no work is left.

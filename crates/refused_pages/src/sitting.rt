@@ -7,7 +7,8 @@ use page_requests::{Hosts, Key, config};
 use paint_board::Board;
 use paint_page::Painting;
 use paint_session::memory_store::MemoryStore;
-use paint_session::store::{StatePath, StateStore};
+use paint_session::run_error::RunError;
+use paint_session::store::{Keeps, StatePath, StateStore};
 use std::alloc::Global;
 use std::hash::RandomState;
 use std::random::RandomSource;
@@ -117,14 +118,15 @@ impl Sitting {
             return true;
         }
         match self.painting.board().state_file(self.alloc) {
-            Ok(file) => self.save(&file, version),
+            Ok(file) => self.save(file, version),
             Err(_) => false,
         }
     }
 
     // Saves these bytes, which keep the state of this version.
-    fn save(&mut self, file: &[u8], version: u64) -> bool {
-        let is_saved = self.store.save(&self.path, file).is_ok();
+    fn save(&mut self, file: Vec<u8>, version: u64) -> bool {
+        let mut whole = Whole { file };
+        let is_saved = self.store.save(self.alloc, &self.path, &mut whole).is_ok();
         if is_saved {
             self.saved = version;
         }
@@ -134,6 +136,25 @@ impl Sitting {
     /// Whether the file is these bytes.
     pub fn has_file(&self, bytes: &[u8]) -> bool {
         self.store.file(&self.path) == bytes
+    }
+}
+
+// Bytes that take the place of those of the file, whatever they are: nobody else writes it.
+#[derive(Drop)]
+struct Whole {
+    file: Vec<u8>,
+}
+
+impl Keeps for Whole {
+    ghost makes = { λ _ _ _ _. Unit {0} };
+
+    ghost refuses = { λ _ _ _ _. Unit {0} };
+
+    fn keep_over(&mut self, alloc: Global, _found: &[u8]) -> Result<Vec<u8>, RunError> {
+        match self.file.to_vec(alloc) {
+            Ok(file) => Ok(file),
+            Err(_) => Err(RunError::Memory),
+        }
     }
 }
 

@@ -7,6 +7,7 @@ ghost use Rattle.core_rules.specs.Invariant.{HasLawfulImage, HasReconstruction};
 ghost use Rattle.pgm_codec.specs.Writing.{raw_text};
 ghost use Rattle.paint_session.specs.Kept.{kept_text};
 ghost use Rattle.paint_board.specs.Board.{mask_of, image_of};
+ghost use Rattle.paint_board.specs.Keeping.{KeepsBoard, HasAllIn};
 
 use super::Board;
 use crate::raw::raw_of;
@@ -15,6 +16,7 @@ use grid_core::Memory;
 use pgm_codec::below_keeps_maxval;
 use spd_codec::write_frames;
 use std::alloc::Global;
+use stroke_lattice::pieces_join;
 
 impl Board {
     /// The raw file of the mask. Memory of its exact length is taken.
@@ -39,13 +41,20 @@ impl Board {
         raw_of(alloc, self.core.image(), self.maxval)
     }
 
-    /// The bytes of a state file that keeps the strokes and tombstones.
+    /// The bytes of a state file that keeps the strokes and tombstones: all of them, and no others.
     ///
     /// Errors: out of memory.
     pub fn state_file(&self, alloc: Global) -> Result<Vec<u8>, Memory>
-        ensures { IfOk result (λ v. v.items ≡ kept_text self.now.core.conn (mask_of self.now) self.now.core.state) }
+        ensures text { IfOk result
+            (λ v. v.items ≡ kept_text self.now.core.conn (mask_of self.now) self.now.core.state) }
+        ensures keeps { IfOk result (λ v. KeepsBoard self.now v.items) }
+        ensures no_more { IfOk result (λ v. HasAllIn self.now v.items) }
     {
-        write_frames(alloc, self.core.conn(), &self.print, self.core.state()).map_err(|_| Memory)
+        pieces_join();
+        match write_frames(alloc, self.core.conn(), &self.print, self.core.state()) {
+            Ok(file) => Ok(file),
+            Err(_) => Err(Memory),
+        }
     }
 
     /// A line of the edit language for each live stroke, rising by tag.

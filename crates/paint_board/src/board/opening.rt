@@ -6,6 +6,7 @@ ghost use Rattle.stroke_lattice.specs.State.{StateFits};
 ghost use Rattle.reset_core.specs.Blanks.{AreBlanks};
 ghost use Rattle.paint_session.specs.Kept.{print_of, OldIsRefused};
 ghost use Rattle.paint_session.specs.RunError.{IsMemory};
+ghost use Rattle.paint_board.specs.Keeping.{KeepsBoard, HasAllIn};
 ghost use Rattle.paint_board.specs.Opening.{IsOpenedBoard, IsOpenedOver, IsNotOpened, IsNotOpenedOver};
 ghost use Rattle.paint_board.specs.Opening.{AreFirstNews, IsBegunBoard, IsKeptFor};
 
@@ -81,6 +82,8 @@ impl Board {
         old: &[u8],
     ) -> Result<Board, RunError>
         ensures opened { IfOk result (IsOpenedOver mask conn side run old.now) }
+        ensures kept { IfOk result (λ board. KeepsBoard board old.now) }
+        ensures has_all { IfOk result (λ board. HasAllIn board old.now) }
         ensures refused { IfErr result (IsNotOpenedOver mask conn side old.now) }
     {
         if !is_tile_side(side) {

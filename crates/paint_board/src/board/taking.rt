@@ -4,6 +4,7 @@ ghost use Rattle.std.specs.Prelude.{◌≡◌, ◌⊎◌, OnOk, OnErr, IfErr};
 ghost use Rattle.core_rules.specs.declared.error.CoreError.TheVariants as core;
 ghost use Rattle.core_rules.specs.Merge.{IsRefused};
 ghost use Rattle.paint_session.specs.RunError.{IsMemory};
+ghost use Rattle.paint_board.specs.Keeping.{HasAllIn};
 ghost use Rattle.paint_board.specs.Later.{IsLater};
 ghost use Rattle.paint_board.specs.Taking.{IsTaken, TextIsTaken, TextIsRefused, FileIsTaken, FileIsRefused};
 
@@ -46,6 +47,7 @@ impl Board {
     /// of its tags, else C3. M8, C4 or plain want of memory. The board is then as it was.
     pub fn take_file(&mut self, alloc: Global, bytes: &[u8]) -> Result<(), RunError>
         ensures taken { OnOk result (FileIsTaken self.old bytes.now self.new) }
+        ensures has_all { OnOk result (HasAllIn self.new bytes.now) }
         ensures refused { IfErr result (λ e. IsMemory e ⊎ FileIsRefused self.old bytes.now e) }
         ensures err { OnErr result (self.new ≡ self.old) }
         ensures later { IsLater self.old self.new }

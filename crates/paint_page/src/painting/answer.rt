@@ -15,7 +15,8 @@ use page_requests::{Asked, Media};
 use std::alloc::AllocError;
 
 impl Painting {
-    /// Fills a blank response with the answer to what is asked; `body` is the body of the request.
+    /// Fills a blank response with the answer to what is asked; `body` is the body of the request. What is posted is
+    /// taken only while what the board has is kept.
     ///
     /// Errors: out of memory. Nothing has changed.
     pub(crate) fn answer(
@@ -28,24 +29,27 @@ impl Painting {
         ensures ok { OnOk result (AnswersAsked asked self.old body.now response.new self.new) }
         ensures err { OnErr result (self.new ≡ self.old) }
     {
-        match asked {
-            Asked::Page => {
+        match (asked, self.unkept) {
+            (Asked::Page, _) => {
                 let page = Bytes::from_static(self.page.as_bytes());
                 self.put(response, StatusCode::OK, Media::Html, page)
             }
-            Asked::Mask => {
+            (Asked::Mask, _) => {
                 let file = self.mask_file()?;
                 self.put(response, StatusCode::OK, Media::Graymap, file)
             }
-            Asked::Image => {
+            (Asked::Image, _) => {
                 let file = self.image_file()?;
                 self.put(response, StatusCode::OK, Media::Graymap, file)
             }
-            Asked::State => self.put_state(response),
-            Asked::Strokes => self.put_strokes(response),
-            Asked::Changes(moment) => self.put_changes(moment.run, moment.step, response),
-            Asked::Edits(moment) => self.edit(moment, body, response),
-            Asked::Join => self.join(body, response),
+            (Asked::State, _) => self.put_state(response),
+            (Asked::Strokes, _) => self.put_strokes(response),
+            (Asked::Changes(moment), _) => self.put_changes(moment.run, moment.step, response),
+            (Asked::Edits(_) | Asked::Join, Some(why)) => {
+                self.put_fault(response, StatusCode::SERVICE_UNAVAILABLE, &why)
+            }
+            (Asked::Edits(moment), _) => self.edit(moment, body, response),
+            (Asked::Join, _) => self.join(body, response),
         }
     }
 

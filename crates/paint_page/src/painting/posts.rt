@@ -1,10 +1,12 @@
-//! Edit texts and state files that are posted.
+//! Edit texts and state files that are taken.
 
 ghost use Rattle.std.specs.Prelude.{◌≡◌, ◌⊎◌, OnOk, OnErr, IfOk, IfErr};
 ghost use Rattle.http_server.specs.Response.{IsBlank};
+ghost use Rattle.paint_board.specs.Keeping.{HasAllIn};
 ghost use Rattle.paint_board.specs.Later.{IsLater};
 ghost use Rattle.paint_board.specs.Taking.{TextIsTaken, TextIsRefused, FileIsTaken, FileIsRefused};
 ghost use Rattle.paint_session.specs.RunError.{IsMemory, fault_text};
+ghost use Rattle.paint_session.specs.declared.run_error.RunError.TheVariants as errors;
 ghost use Rattle.page_requests.specs.declared.answer.Media.TheVariants as media;
 ghost use Rattle.paint_page.specs.Answering.{Says, TellsChanges, SaysTaken, AnswersEdits, AnswersJoin};
 
@@ -52,7 +54,7 @@ impl Painting {
         ensures err { OnErr result (self.new ≡ self.old) }
     {
         self.put_taken(response)?;
-        match self.take_file(file) {
+        match self.take_found(file) {
             Ok(()) => {
                 self.tell(self.board.run(), self.board.step(), response);
                 Ok(())
@@ -78,10 +80,15 @@ impl Painting {
         }
     }
 
-    // Takes a state file. The file of the image is no more the one of the board.
-    fn take_file(&mut self, file: &[u8]) -> Result<(), RunError>
+    /// Takes the bytes of a state file, one that was found or that is posted. The file of the image is no more the one
+    /// of the board.
+    ///
+    /// Errors: as [`Board::take_file`](paint_board::Board::take_file), and never V2. Nothing has changed.
+    pub fn take_found(&mut self, file: &[u8]) -> Result<(), RunError>
         ensures taken { OnOk result (FileIsTaken self.old.board file.now self.new.board) }
+        ensures has_all { OnOk result (HasAllIn self.new.board file.now) }
         ensures refused { IfErr result (λ e. IsMemory e ⊎ FileIsRefused self.old.board file.now e) }
+        ensures no_store { IfErr result (λ e. e ≡ errors.StateFile → ⊥) }
         ensures err { OnErr result (self.new ≡ self.old) }
         ensures later { IsLater self.old.board self.new.board }
         ensures rest { self.new ≡ record self.old { board = self.new.board } }
@@ -159,12 +166,20 @@ impl Painting {
             return Err(AllocError);
         }
         response.clear();
+        self.put_fault(response, StatusCode::CONFLICT, fault)
+    }
+
+    // Fills a blank response with the line of a fault.
+    pub(super) fn put_fault(
+        &self,
+        response: &mut Response,
+        status: StatusCode,
+        fault: &RunError,
+    ) -> Result<(), AllocError>
+        requires { IsBlank response.old }
+        ensures { OnOk result (Says self.now status media.Text (fault_text fault.now) response.new) }
+    {
         let line = fault_line(self.alloc, fault).map_err(|_| AllocError)?;
-        self.put(
-            response,
-            StatusCode::CONFLICT,
-            Media::Text,
-            Bytes::from_string(line)?,
-        )
+        self.put(response, status, Media::Text, Bytes::from_string(line)?)
     }
 }

@@ -3,6 +3,7 @@ use Rattle.std.proofs.Common.{subst}
 use Rattle.std.proofs.lemmas.Result.{IfOk-weaker}
 use Rattle.pgm_codec.specs.Graymap.{Graymap}
 use Rattle.paint_board.specs.Opening.{IsBegunBoard}
+use Rattle.paint_board.proofs.Keeping.{opened_is_kept, opened_has_all}
 use Rattle.paint_board.proofs.board.Board.open_kept.Goals as goal
 
 pub returns-clause-opened : goal.returns-clause-opened
@@ -14,3 +15,13 @@ returns-clause-opened g c =
       subst (λ (m : Graymap). IsBegunBoard m c.args.conn c.args.side c.args.run state board)
           c.in_ok-gathered.ensures.mask begun,
     )) c.begun.ensures.begun
+
+pub returns-clause-kept : goal.returns-clause-kept
+returns-clause-kept g c =
+    IfOk-weaker c.begun.result _ _
+    (opened_is_kept c.args.mask c.args.conn c.args.side c.args.run c.args.old.now) (returns-clause-opened g c)
+
+pub returns-clause-has_all : goal.returns-clause-has_all
+returns-clause-has_all g c =
+    IfOk-weaker c.begun.result _ _
+    (opened_has_all c.args.mask c.args.conn c.args.side c.args.run c.args.old.now) (returns-clause-opened g c)

@@ -3,6 +3,7 @@ use Rattle.std.proofs.Common.{[], ◌++◌, ap, ◌∙◌, append-nil}
 use Rattle.std.proofs.lemmas.Result.{err_from_is_err_and}
 use Rattle.paint_session.specs.Kept.{deltas_of, print_of}
 use Rattle.paint_board.specs.Board.{Board, mask_of}
+use Rattle.paint_board.proofs.Keeping.{taken_has_all}
 use Rattle.paint_board.proofs.Together.{file_is_refused, file_is_taken}
 use Rattle.paint_board.proofs.board.Board.take_file.Goals as goal
 
@@ -33,3 +34,8 @@ returns-clause-taken c =
     (c.conn.ensures ∙ ap (λ (b : Board). b.core.conn) c.self.view_is)
     (c.self.invariant.print ∙ ap (λ (b : Board). print_of (mask_of b)) c.self.view_is)
     c.in_ok-frames.ensures.spelled c.take_delta.new.self c.in_ok-take_delta.ensures.taken
+
+pub returns-clause-has_all : goal.returns-clause-has_all
+returns-clause-has_all c =
+    taken_has_all c.args.self.now c.take_delta.new.self c.args.bytes.now (returns-clause-taken c)
+    c.in_ok-take_delta.ensures.later

@@ -2,7 +2,8 @@ use Rattle.std.proofs.Common.{◌⊎◌, subst}
 use Rattle.paint_session.specs.RunError.{IsMemory}
 use Rattle.paint_board.specs.Taking.{FileIsTaken, FileIsRefused}
 use Rattle.paint_page.specs.Painting.{Painting}
-use Rattle.paint_page.proofs.painting.Painting.take_file.Goals as goal
+use Rattle.paint_page.proofs.Refused.{fault_of_no_store}
+use Rattle.paint_page.proofs.painting.Painting.take_found.Goals as goal
 
 pub returns-in-Ok-clause-taken : goal.returns-in-Ok-clause-taken
 returns-in-Ok-clause-taken c =
@@ -13,3 +14,7 @@ pub returns-in-Err-clause-refused : goal.returns-in-Err-clause-refused
 returns-in-Err-clause-refused c =
     subst (λ (p : Painting). IsMemory c.in-Err.fault ⊎ FileIsRefused p.board c.args.file.now c.in-Err.fault)
     c.self.view_is c.in-Err.ensures.refused
+
+pub returns-in-Err-clause-no_store : goal.returns-in-Err-clause-no_store
+returns-in-Err-clause-no_store c =
+    fault_of_no_store c.self.inside.board c.args.file.now c.in-Err.fault c.in-Err.ensures.refused
