@@ -6,9 +6,15 @@ use Rattle.http_header.specs.FieldValue.{FieldValue}
 use Rattle.http_header.specs.HeaderMap.{get_all}
 use Rattle.http_uri.specs.Uri.{uri_authority}
 
--- the value names the loopback and this port
+-- the value names the loopback
+abbrev pub IsLoopback : List ℕ → Type 0
+IsLoopback value = (value ≡ codes "127.0.0.1") ⊎ (value ≡ codes "localhost")
+
+-- the value names the loopback and this port; port 80 is the one that is meant where none is named
 abbrev pub IsOwnHost : ℕ → List ℕ → Type 0
-IsOwnHost port value = (value ≡ codes "127.0.0.1:" ++ decimal port) ⊎ (value ≡ codes "localhost:" ++ decimal port)
+IsOwnHost port value =
+    (value ≡ codes "127.0.0.1:" ++ decimal port) ⊎ (value ≡ codes "localhost:" ++ decimal port)
+    ⊎ ((port ≡ 80) × IsLoopback value)
 
 -- the value is the origin of a page that this server served
 abbrev pub IsOwnOrigin : ℕ → List ℕ → Type 0

@@ -1,13 +1,14 @@
 //! The names under which a server on the loopback is asked.
 
 ghost use Rattle.std.specs.Prelude.{◌≡◌, ◌↔◌, ◌++◌, codes, decimal, string_bytes, IsTrue, IfOk};
-ghost use Rattle.page_requests.specs.Sender.{IsOwnHost, IsOwnOrigin};
+ghost use Rattle.page_requests.specs.Sender.{IsLoopback, IsOwnHost, IsOwnOrigin};
 
 use crate::key::Key;
 use std::alloc::{AllocError, Global};
 use std::marker::Model;
 
-/// The two names of a server on the loopback, `127.0.0.1:PORT` and `localhost:PORT`. They are seen as the port.
+/// The two names of a server on the loopback, `127.0.0.1:PORT` and `localhost:PORT`. At port 80, which browsers leave
+/// out, it has these names without a port, too. They are seen as the port.
 #[derive(Debug, Drop)]
 pub struct Hosts {
     port: u16,
@@ -42,7 +43,9 @@ impl Hosts {
     pub fn is_host(&self, value: &[u8]) -> bool
         ensures { IsTrue result ↔ IsOwnHost self.now value.now }
     {
-        value == self.number.as_bytes() || value == self.name.as_bytes()
+        value == self.number.as_bytes()
+            || value == self.name.as_bytes()
+            || (self.port == 80 && is_loopback(value))
     }
 
     /// Whether the value of an `Origin` field is `http://` and one of them.
@@ -54,6 +57,13 @@ impl Hosts {
             None => false,
         }
     }
+}
+
+/// Whether the value names the loopback, and no port.
+fn is_loopback(value: &[u8]) -> bool
+    ensures { IsTrue result ↔ IsLoopback value.now }
+{
+    value == b"127.0.0.1".as_slice() || value == b"localhost".as_slice()
 }
 
 /// The address at which a browser finds the page, `http://127.0.0.1:PORT/KEY/`.

@@ -33,6 +33,16 @@ impl Key {
         Ok(Key { digits })
     }
 
+    /// The same key once more.
+    ///
+    /// Errors: out of memory.
+    pub fn copy(&self, alloc: Global) -> Result<Key, AllocError>
+        ensures { IfOk result (λ key. key ≡ self.now) }
+    {
+        let digits = String::from_str(alloc, self.digits.as_str())?;
+        Ok(Key { digits })
+    }
+
     /// The digits.
     pub fn as_str(&self) -> &str
         ensures { result.now ≡ self.now }

@@ -1,5 +1,5 @@
--- What calls and slices of settling do to the version and to the state file.
-use Rattle.std.proofs.Common.{◌≡◌, ℕ, ◌<◌, ◌≤◌, List, Result, Ok, Err, inl, inr, refl, sym, ap, subst, arith}
+-- What calls and slices of settling do to the version and to what is kept.
+use Rattle.std.proofs.Common.{◌≡◌, ℕ, ◌<◌, List, Option, Result, Ok, Err, inl, inr, refl, sym, ap, subst, arith}
 use Rattle.std.specs.Prelude.{OnOk}
 use Rattle.http.specs.declared.request.Request.{Request}
 use Rattle.http.specs.Request.{body_of}
@@ -8,42 +8,45 @@ use Rattle.page_requests.specs.declared.table.Asked.{Asked}
 use Rattle.page_requests.specs.declared.table.Asked.TheVariants.{Page as Whole, Mask, Image, State, Strokes}
 use Rattle.page_requests.specs.declared.table.Asked.TheVariants.{Changes, Edits, Join}
 use Rattle.stroke_lattice.specs.State.{State as Delta}
+use Rattle.paint_session.specs.declared.run_error.RunError.{RunError}
 use Rattle.paint_board.specs.Board.{Board}
 use Rattle.paint_board.specs.Growing.{IsGrown}
+use Rattle.paint_board.specs.Keeping.{HasAllIn}
+use Rattle.paint_board.specs.Later.{IsLater}
 use Rattle.paint_board.specs.Taking.{AreTakenTogether, TextIsTaken, FileIsTaken}
 use Rattle.paint_board.proofs.Grounds.{Keeps, worked_on_keeps}
+use Rattle.paint_board.proofs.Keeping.{later_has_all, same_state_is_kept}
+use Rattle.paint_board.proofs.Later.{each_is_later}
 use Rattle.paint_page.specs.Answering.{Answers, AnswersAsked}
-use Rattle.paint_page.specs.Painting.{Painting, state_text}
+use Rattle.paint_page.specs.Painting.{Painting}
 use Rattle.paint_rounds.specs.Kept.{last_version}
-use Rattle.paint_serve.specs.Page.{IsCounted, PageAnswers, PageGrows}
+use Rattle.paint_serve.specs.Page.{IsCounted, PageAnswers, PageGrows, PageNotes, PageTakes}
 use Rattle.paint_serve.specs.declared.page.Page.{Page}
 
--- the version does not fall, and where it stays, below the last one, so does the state file
+-- the new board is the old one, later; and where the version stays, below the last one, so do strokes and tombstones
 pub record BoardCounts (old new : Board) : Type 0 where
-  pub rises : old.version ≤ new.version
-  pub stays : new.version ≡ old.version → new.version < last_version → state_text old ≡ state_text new
+  pub later : IsLater old new
+  pub stays : new.version ≡ old.version → new.version < last_version → new.core.state ≡ old.core.state
 
 counts_itself : (old new : Painting) → new ≡ old → BoardCounts old.board new.board
 counts_itself old new same = subst (λ (p : Painting). BoardCounts old.board p.board) (sym same) (record {
-  rises = omega arith;
+  later = each_is_later old.board;
   stays = λ stays small. refl;
 })
 
 -- what is taken is counted, below the last version
-taken_rises : (old new : Board) (deltas : List Delta) → AreTakenTogether old deltas new → old.version ≤ new.version
+taken_rises : (old new : Board) (deltas : List Delta) → AreTakenTogether old deltas new → IsLater old new
     → BoardCounts old new
-taken_rises old new deltas (delta, merged, taken) rises = record {
-  rises = rises;
+taken_rises old new deltas (delta, merged, taken) later = record {
+  later = later;
   stays = λ stays small. absurd (omega (arith, taken.version, stays, small));
 }
 
-text_counts : (old new : Board) (text : List ℕ) → TextIsTaken old text new → old.version ≤ new.version
-    → BoardCounts old new
-text_counts old new text (deltas, spells, taken) rises = taken_rises old new deltas taken rises
+text_counts : (old new : Board) (text : List ℕ) → TextIsTaken old text new → IsLater old new → BoardCounts old new
+text_counts old new text (deltas, spells, taken) later = taken_rises old new deltas taken later
 
-file_counts : (old new : Board) (file : List ℕ) → FileIsTaken old file new → old.version ≤ new.version
-    → BoardCounts old new
-file_counts old new file (deltas, spells, taken) rises = taken_rises old new deltas taken rises
+file_counts : (old new : Board) (file : List ℕ) → FileIsTaken old file new → IsLater old new → BoardCounts old new
+file_counts old new file (deltas, spells, taken) later = taken_rises old new deltas taken later
 
 asked_counts : (asked : Asked) (old new : Painting) (body : List ℕ) (response : Response)
     → AnswersAsked asked old body response new → BoardCounts old.board new.board
@@ -53,12 +56,14 @@ asked_counts Image old new body response (bytes, is, (same, says)) = counts_itse
 asked_counts State old new body response (same, says) = counts_itself old new same
 asked_counts Strokes old new body response (same, says) = counts_itself old new same
 asked_counts (Changes moment) old new body response (same, says) = counts_itself old new same
-asked_counts (Edits moment) old new body response (inl taken) =
-    text_counts old.board new.board body taken.is_taken taken.later.version
-asked_counts (Edits moment) old new body response (inr refused) = counts_itself old new refused.same
-asked_counts Join old new body response (inl taken) =
-    file_counts old.board new.board body taken.is_taken taken.later.version
-asked_counts Join old new body response (inr refused) = counts_itself old new refused.same
+asked_counts (Edits moment) old new body response (inl held) = counts_itself old new held.same
+asked_counts (Edits moment) old new body response (inr (kept, inl taken)) =
+    text_counts old.board new.board body taken.is_taken taken.later
+asked_counts (Edits moment) old new body response (inr (kept, inr refused)) = counts_itself old new refused.same
+asked_counts Join old new body response (inl held) = counts_itself old new held.same
+asked_counts Join old new body response (inr (kept, inl taken)) =
+    file_counts old.board new.board body taken.is_taken taken.later
+asked_counts Join old new body response (inr (kept, inr refused)) = counts_itself old new refused.same
 
 -- each call is counted
 pub answers_count : (old new : Painting) (request : Request (List ℕ)) (response : Response)
@@ -67,26 +72,21 @@ answers_count old new request response (inl refusal) = counts_itself old new ref
 answers_count old new request response (inr answer) =
     asked_counts answer.asked old new (body_of request) response answer.answers
 
--- the state file is one of connectivity, mask and strokes
-kept_same : (old new : Board) → new.core.conn ≡ old.core.conn → new.core.mask ≡ old.core.mask
-    → new.core.state ≡ old.core.state → new.maxval ≡ old.maxval → state_text old ≡ state_text new
-kept_same old new conn mask state maxval = cc
-
--- a slice of settling leaves version and state file
-pub grown_counts : (old new : Board) (jobs : ℕ) → IsGrown old jobs new → BoardCounts old new
-grown_counts old new jobs grown =
+-- a slice of settling leaves version, strokes and tombstones
+pub grown_counts : (old new : Board) (jobs : ℕ) → IsGrown old jobs new → IsLater old new → BoardCounts old new
+grown_counts old new jobs grown later =
     let keeps : Keeps old.core new.core = worked_on_keeps old.core new.core jobs grown.worked in
-    let same_version : new.version ≡ old.version = ap (λ (b : Board). b.version) grown.rest in
-    let same_maxval : new.maxval ≡ old.maxval = ap (λ (b : Board). b.maxval) grown.rest in
-    record {
-      rises = omega (arith, same_version);
-      stays = λ stays small. kept_same old new keeps.conn keeps.mask keeps.state same_maxval;
-    }
+    record { later = later; stays = λ stays small. keeps.state }
 
 -- ---- the service of a page
 
 page_counts : (old new : Page) → BoardCounts old.painting.board new.painting.board → IsCounted old new
-page_counts old new counts = record { rises = counts.rises; stays = counts.stays }
+page_counts old new counts = record {
+  rises = counts.later.version;
+  stays = λ stays small file spelled.
+      same_state_is_kept old.painting.board new.painting.board file counts.later (counts.stays stays small) spelled;
+  had = λ file has. later_has_all old.painting.board new.painting.board file counts.later has;
+}
 
 -- what its painting answers, it answers
 pub page_answers : {E : Type 0} (result : Result (Unit {0}) E) (old new : Page) (request : Request (List ℕ))
@@ -100,13 +100,45 @@ page_answers (Ok value) old new request response rest answers = record {
 }
 page_answers (Err e) old new request response rest answers = tt
 
+-- what its board takes, it takes
+pub page_takes : {E : Type 0} (result : Result (Unit {0}) E) (old : Page) (painting : Painting) (found : List ℕ)
+    → painting ≡ record old.painting { board = painting.board }
+    → IsLater old.painting.board painting.board
+    → OnOk result (FileIsTaken old.painting.board found painting.board)
+    → OnOk result (HasAllIn painting.board found)
+    → OnOk result (PageTakes old found (record old { painting = painting }))
+page_takes (Ok value) old painting found rest later taken has = record {
+  taken = taken;
+  rest = ap (λ (p : Painting). record old { painting = p }) rest;
+  counted = record {
+    rises = later.version;
+    taken = has;
+    had = λ file had. later_has_all old.painting.board painting.board file later had;
+  };
+}
+page_takes (Err e) old painting found rest later taken has = tt
+
+-- what it is told changes nothing that is kept
+pub page_notes : (old : Page) (painting : Painting) (why : Option RunError)
+    → painting ≡ record old.painting { unkept = why } → PageNotes old why (record old { painting = painting })
+page_notes old painting why rest =
+    subst (λ (p : Painting). PageNotes old why (record old { painting = p })) (sym rest) (record {
+      noted = refl;
+      alike = record {
+        counted = refl;
+        spelled = λ file spelled. spelled;
+        had = λ file had. had;
+      };
+    })
+
 -- as its painting grows, it grows
 pub page_grows : (old : Page) (painting : Painting) → painting ≡ record old.painting { board = painting.board }
-    → IsGrown old.painting.board old.jobs painting.board → PageGrows old (record old { painting = painting })
-page_grows old painting rest grown = record {
+    → IsGrown old.painting.board old.jobs painting.board → IsLater old.painting.board painting.board
+    → PageGrows old (record old { painting = painting })
+page_grows old painting rest grown later = record {
   grown = inl (record { grown = grown; rest = ap (λ (p : Painting). record old { painting = p }) rest });
   counted = page_counts old (record old { painting = painting })
-      (grown_counts old.painting.board painting.board old.jobs grown);
+      (grown_counts old.painting.board painting.board old.jobs grown later);
 }
 
 -- and where no work is left, it stays

@@ -16,9 +16,8 @@ use Rattle.paint_session.specs.RunError.{IsMemory, IsTransferFault}
 use Rattle.paint_session.specs.Store.{Held, IsHeldIn, Loads, StoreSeen}
 use Rattle.paint_session.specs.declared.run_error.RunError.{RunError}
 use Rattle.paint_session.specs.declared.run_error.RunError.TheVariants.{Pgm, StateFile, Memory}
-use Rattle.paint_board.specs.Board.{Board}
-use Rattle.paint_board.specs.Opening.{IsOpenedOver, IsNotOpenedOver}
-use Rattle.paint_serve.specs.Opening.{IsNotOpenedFrom, IsOpeningFault, IsOpenedFrom}
+use Rattle.paint_board.specs.Opening.{IsNotOpenedOver}
+use Rattle.paint_serve.specs.Opening.{IsNotOpenedFrom, IsOpeningFault}
 
 -- ---- which errors are which
 
@@ -116,11 +115,6 @@ mask_unread fault seen seen' read = record {
 module _ (mask : Graymap) (conn : Conn) (side run : ℕ) (held : Held) (name old : List ℕ) (known : Option (List ℕ))
     (input : List ℕ) (is_held : IsHeldIn held name old) (is_input : IsInputOf known input)
     (spelled : PgmSpells input mask) (may : IsTileSide side) where
-  pub opened : (board : Board) → IsOpenedOver mask conn side run old board
-      → (old input : List ℕ) × IsHeldIn held name old × IsInputOf known input
-      × IsOpenedFrom conn side run old input board
-  opened board taken = (old, input, is_held, is_input, (mask, spelled, taken))
-
   pub refused : (e : RunError) → IsNotOpenedOver mask conn side old e
       → IsOpeningFault e ⊎ IsTransferFault e
       ⊎ ((old input : List ℕ) × IsHeldIn held name old × IsInputOf known input × IsNotOpenedFrom conn old input e)

@@ -1,13 +1,14 @@
 -- Why a page is not served, by where that is found.
-use Rattle.std.proofs.Common.{◌≡◌, ◌⊎◌, ℕ, List, Result, Ok, Err, inl, inr}
-use Rattle.std.specs.Prelude.{OnOk}
+use Rattle.std.proofs.Common.{◌≡◌, ◌⊎◌, ℕ, List, Option, Result, Ok, Err, inl, inr, subst, sym}
+use Rattle.std.specs.Prelude.{IfSome, OnOk}
 use Rattle.grid_core.specs.declared.conn.Conn.{Conn}
 use Rattle.paint_session.specs.RunError.{IsTransferFault}
-use Rattle.paint_session.specs.Store.{Held, IsHeldIn}
+use Rattle.paint_session.specs.Store.{AreSame, Held, IsHeldIn}
 use Rattle.paint_session.specs.declared.run_error.RunError.{RunError}
 use Rattle.paint_session.specs.declared.run_error.RunError.TheVariants.{Link, Memory}
+use Rattle.paint_board.specs.Board.{Board}
 use Rattle.paint_serve.specs.Opening.{IsNotOpenedFrom, IsOpeningFault}
-use Rattle.paint_serve.specs.Serving.{IsNotServed}
+use Rattle.paint_serve.specs.Serving.{IsKeptIn, IsNotServed}
 
 module _ (conn : Conn) (held : Held) (name : List ℕ) where
   -- in opening the board, whatever is known of the input
@@ -31,12 +32,16 @@ module _ (conn : Conn) (held : Held) (name : List ℕ) where
   ended_not_served e (inl link) = inl link
   ended_not_served e (inr memory) = inr (inl (inr (inl memory)))
 
--- what holds, holds where a result is good
-pub holds_on_ok : {T E : Type 0} (result : Result T E) (P : Type 0) → P → OnOk result P
-holds_on_ok (Ok value) P holds = holds
-holds_on_ok (Err e) P holds = tt
+-- what is kept in a file is kept there where no file changed
+pub kept_on : (before after : Held) (name kept : List ℕ) (board : Board) → AreSame before after
+    → IsKeptIn before name kept board → IsKeptIn after name kept board
+kept_on before after name kept board same is = record {
+  is_held = subst (λ (known : Option (List ℕ)). IfSome known (λ bytes. kept ≡ bytes)) (sym (same name)) is.is_held;
+  keeps = is.keeps;
+  had = is.had;
+}
 
--- and nothing is said where it is none
+-- nothing is said where it is none
 pub none_on_err : {T E : Type 0} (result : Result T E) (P : Type 0) (e : E) → result ≡ Err e → OnOk result P
 none_on_err (Ok value) P e is = absurd (cc)
 none_on_err (Err other) P e is = tt

@@ -1,93 +1,139 @@
 -- Turns of a server, by their parts.
-use Rattle.std.proofs.Common.{◌≡◌, ◌⊎◌, ℕ, ◌+◌, Bool, true, false, [], ◌∷◌, ◌++◌, refl, sym, ap, ◌∙◌, subst, inl, inr}
+use Rattle.std.proofs.Common.{◌≡◌, ◌⊎◌, ℕ, zero, suc, List, ◌+◌, Bool, true, false, [], ◌∷◌, ◌++◌, refl, sym, ap}
+use Rattle.std.proofs.Common.{◌∙◌, subst, inl, inr}
 use Rattle.std.proofs.Common.{append-nil, append_assoc, add-one}
-use Rattle.std.proofs.lemmas.List.Elements.{All-nil, All-push}
-use Rattle.std.specs.Prelude.{◌↔◌, not, IsTrue, IsFalse}
+use Rattle.std.proofs.lemmas.List.Elements.{All-nil, All-push, All-append}
+use Rattle.std.specs.Prelude.{All, ◌↔◌, not, IsTrue, IsFalse}
 use Rattle.http_server.specs.Connection.{config_of, history}
 use Rattle.http_server.specs.History.{new_history}
 use Rattle.http_server.specs.declared.connection.Connection.{Connection}
 use Rattle.mio.specs.declared.net.stream.TcpStream.{TcpStream}
+use Rattle.paint_hall.specs.Showing.{ShowsKey}
+use Rattle.paint_hall.specs.declared.hall.Hall.{Hall}
+use Rattle.paint_rounds.specs.Keeping.{IsInFile}
 use Rattle.paint_rounds.specs.Peer.{IsFresh}
 use Rattle.paint_rounds.specs.Peers.{peers_of, most_of}
 use Rattle.paint_rounds.specs.Round.{IsRound}
 use Rattle.paint_rounds.specs.declared.peer.Peer.{Peer}
 use Rattle.paint_rounds.specs.declared.peers.Peers.{Peers}
 use Rattle.paint_session.specs.Store.{StoreSeen}
-use Rattle.paint_serve.specs.Page.{PageAnswers, PageSpells, page_version}
-use Rattle.paint_serve.specs.Turning.{Scene, IsRoundOf, AreMoving, IsPageConfig, IsNewcomer, LetsIn}
+use Rattle.paint_serve.specs.Caller.{front_of}
+use Rattle.paint_serve.specs.Page.{PageAnswers, PageHas, PageNotes, PageSpells, PageTakes, page_version}
+use Rattle.paint_serve.specs.Turning.{Scene, IsKeptTrack, IsRoundOf, AreMoving, AreRounds, IsPageConfig, IsNewcomer}
+use Rattle.paint_serve.specs.Turning.{LetsIn}
 use Rattle.paint_serve.specs.Turning.{TakesTurn, AreTurns}
+use Rattle.paint_serve.specs.declared.caller.Caller.{Caller}
 use Rattle.paint_serve.specs.declared.door.Door.{Door}
 use Rattle.paint_serve.specs.declared.server.Server.{Server}
 
-pub round_moved : (now : ℕ) (told kept : Bool) (a b : Scene) → not told ≡ false
-    → IsRound PageAnswers page_version PageSpells now kept told a.keeping b.keeping a.peers b.peers
-    → IsRoundOf now true a b
-round_moved now true kept a b is round = (kept, round)
-round_moved now false kept a b is round = absurd (cc)
+was_true : (b : Bool) → not b ≡ false → b ≡ true
+was_true true is = refl
+was_true false is = absurd (cc)
 
-pub round_still : (now : ℕ) (told kept : Bool) (a b : Scene) → not told ≡ true
-    → IsRound PageAnswers page_version PageSpells now kept told a.keeping b.keeping a.peers b.peers
-    → IsRoundOf now false a b
-round_still now true kept a b is round = absurd (cc)
-round_still now false kept a b is round = (kept, round)
+was_false : (b : Bool) → not b ≡ true → b ≡ false
+was_false true is = absurd (cc)
+was_false false is = refl
+
+module _ (now : ℕ) (told kept : Bool) (a b : Scene) where
+  abbrev Round : Type 0
+  Round = IsRound PageAnswers page_version PageSpells PageHas PageTakes PageNotes now kept told a.keeping b.keeping
+      a.peers b.peers
+
+  round_of : Round → (IsKeptTrack a.keeping → IsKeptTrack b.keeping)
+      → (IsKeptTrack a.keeping → IsTrue kept → IsInFile PageSpells b.keeping) → IsRoundOf now told a b
+  round_of round tracked in_file = record { is_kept = kept; round = round; tracked = tracked; in_file = in_file }
+
+  pub round_moved : not told ≡ false → Round → (IsKeptTrack a.keeping → IsKeptTrack b.keeping)
+      → (IsKeptTrack a.keeping → IsTrue kept → IsInFile PageSpells b.keeping) → IsRoundOf now true a b
+  round_moved is round tracked in_file =
+      subst (λ (m : Bool). IsRoundOf now m a b) (was_true told is) (round_of round tracked in_file)
+
+  pub round_still : not told ≡ true → Round → (IsKeptTrack a.keeping → IsKeptTrack b.keeping)
+      → (IsKeptTrack a.keeping → IsTrue kept → IsInFile PageSpells b.keeping) → IsRoundOf now false a b
+  round_still is round tracked in_file =
+      subst (λ (m : Bool). IsRoundOf now m a b) (was_false told is) (round_of round tracked in_file)
 
 pub one_more : (now n : ℕ) (a b d : Scene) → AreMoving now n a b → IsRoundOf now true b d → AreMoving now (n + 1) a d
 one_more now n a b d so_far round = subst (λ m. AreMoving now m a d) (sym (add-one n)) (b, so_far, round)
 
-newcomer : (now : ℕ) (connection : Connection) (peer : Peer TcpStream) → IsFresh now connection peer
-    → IsPageConfig (config_of connection) → history connection ≡ new_history → IsNewcomer now peer
-newcomer now connection peer fresh limits new = record {
-  is_open = fresh.1;
-  moved = fresh.2;
-  config = subst (λ (c : Connection). IsPageConfig (config_of c)) (sym fresh.0) limits;
-  history = ap history fresh.0 ∙ new;
+-- rounds keep track of the file
+moving_tracked : (now n : ℕ) (a b : Scene) → AreMoving now n a b → IsKeptTrack a.keeping → IsKeptTrack b.keeping
+moving_tracked now zero a b same tracked = subst (λ (s : Scene). IsKeptTrack s.keeping) (sym same) tracked
+moving_tracked now (suc n) a b (mid, so_far, round) tracked =
+    round.tracked (moving_tracked now n a mid so_far tracked)
+
+pub rounds_tracked : (now most : ℕ) (moved : Bool) (a b : Scene) → AreRounds now most moved a b
+    → IsKeptTrack a.keeping → IsKeptTrack b.keeping
+rounds_tracked now most true a b (n, all, moving) tracked = moving_tracked now n a b moving tracked
+rounds_tracked now most false a b (n, mid, few, moving, round) tracked =
+    round.tracked (moving_tracked now n a mid moving tracked)
+
+-- ---- who is let in
+
+newcomer : (key : List ℕ) (now : ℕ) (caller : Caller TcpStream) (connection : Connection)
+    (peer : Peer (Caller TcpStream)) → IsFresh now caller connection peer → ShowsKey key (front_of caller)
+    → IsPageConfig (config_of connection) → history connection ≡ new_history → IsNewcomer key now peer
+newcomer key now caller connection peer fresh shown limits new = record {
+  shown = subst (λ (c : Caller TcpStream). ShowsKey key (front_of c)) (sym fresh.with) shown;
+  is_open = fresh.is_open;
+  moved = fresh.moved;
+  config = subst (λ (c : Connection). IsPageConfig (config_of c)) (sym fresh.over) limits;
+  history = ap history fresh.over ∙ new;
 }
 
 module _ {T : Type 0} (now : ℕ) where
-  pub lets_none_in : (s : Server T) → LetsIn now s s
-  lets_none_in s = record {
+  -- nobody, where only the hall changes
+  pub lets_none_in : (old : Server T) (hall : Hall TcpStream) → hall.key ≡ old.hall.key
+      → LetsIn now old (record old { hall = hall })
+  lets_none_in old hall key = record {
     fresh = [];
-    newcomers = All-nil (IsNewcomer now);
+    newcomers = All-nil (IsNewcomer old.hall.key now);
     peers = sym (append-nil _);
     most = refl;
+    key = key;
     rest = refl;
   }
 
-  one_in : (old mid : Server T) (connection : Connection) (peers : Peers TcpStream) (admitted : Bool)
-      → LetsIn now old mid → IsPageConfig (config_of connection) → history connection ≡ new_history
-      → most_of peers ≡ most_of mid.peers
-      → (IsTrue admitted → (peer : Peer TcpStream) × IsFresh now connection peer
-      × (peers_of peers ≡ peers_of mid.peers ++ peer ∷ []))
-      → (IsFalse admitted → peers_of peers ≡ peers_of mid.peers)
-      → LetsIn now old (record mid { peers = peers })
-  one_in old mid connection peers true lets limits new most admits refused =
+  -- one more, or nobody
+  pub lets_one_in : (old : Server T) (caller : Caller TcpStream) (connection : Connection)
+      (peers : Peers (Caller TcpStream)) (admitted : Bool)
+      → ShowsKey old.hall.key (front_of caller) → IsPageConfig (config_of connection)
+      → history connection ≡ new_history → most_of peers ≡ most_of old.peers
+      → (IsTrue admitted → (peer : Peer (Caller TcpStream)) × IsFresh now caller connection peer
+      × (peers_of peers ≡ peers_of old.peers ++ peer ∷ []))
+      → (IsFalse admitted → peers_of peers ≡ peers_of old.peers)
+      → LetsIn now old (record old { peers = peers })
+  lets_one_in old caller connection peers true shown limits new most admits refused =
       let x = admits refl in
       record {
-        fresh = lets.fresh ++ x.0 ∷ [];
-        newcomers = All-push (IsNewcomer now) lets.fresh x.0 lets.newcomers
-            (newcomer now connection x.0 x.1 limits new);
-        peers = x.2 ∙ ap (λ ps. ps ++ x.0 ∷ []) lets.peers ∙ append_assoc _ lets.fresh (x.0 ∷ []);
-        most = most ∙ lets.most;
-        rest = ap (λ (s : Server T). record s { peers = peers }) lets.rest;
+        fresh = x.0 ∷ [];
+        newcomers = All-push (IsNewcomer old.hall.key now) [] x.0 (All-nil (IsNewcomer old.hall.key now))
+            (newcomer old.hall.key now caller connection x.0 x.1 shown limits new);
+        peers = x.2;
+        most = most;
+        key = refl;
+        rest = refl;
       }
-  one_in old mid connection peers false lets limits new most admits refused = record {
-    fresh = lets.fresh;
-    newcomers = lets.newcomers;
-    peers = refused refl ∙ lets.peers;
-    most = most ∙ lets.most;
-    rest = ap (λ (s : Server T). record s { peers = peers }) lets.rest;
+  lets_one_in old caller connection peers false shown limits new most admits refused = record {
+    fresh = [];
+    newcomers = All-nil (IsNewcomer old.hall.key now);
+    peers = refused refl ∙ sym (append-nil _);
+    most = most;
+    key = refl;
+    rest = refl;
   }
 
-  pub lets_one_in : (old mid new : Server T) (connection : Connection) (peers : Peers TcpStream) (admitted : Bool)
-      → new ≡ record mid { peers = peers }
-      → LetsIn now old mid → IsPageConfig (config_of connection) → history connection ≡ new_history
-      → most_of peers ≡ most_of mid.peers
-      → (IsTrue admitted → (peer : Peer TcpStream) × IsFresh now connection peer
-      × (peers_of peers ≡ peers_of mid.peers ++ peer ∷ []))
-      → (IsFalse admitted → peers_of peers ≡ peers_of mid.peers)
-      → LetsIn now old new
-  lets_one_in old mid new connection peers admitted is lets limits first most admits refused =
-      subst (LetsIn now old) (sym is) (one_in old mid connection peers admitted lets limits first most admits refused)
+  -- one after another
+  pub lets_then : (a b d : Server T) → LetsIn now a b → LetsIn now b d → LetsIn now a d
+  lets_then a b d first next = record {
+    fresh = first.fresh ++ next.fresh;
+    newcomers = All-append (IsNewcomer a.hall.key now) first.fresh next.fresh first.newcomers
+        (subst (λ (key : List ℕ). All (IsNewcomer key now) next.fresh) first.key next.newcomers);
+    peers = next.peers ∙ ap (λ ps. ps ++ next.fresh) first.peers ∙ append_assoc _ first.fresh next.fresh;
+    most = next.most ∙ first.most;
+    key = next.key ∙ first.key;
+    rest = next.rest ∙ ap (λ (s : Server T). record s { peers = d.peers; hall = d.hall }) first.rest;
+  }
 
 -- there is more to do where bytes moved, and else where work is left
 pub busy_moving : (Left : Type 0) (busy moved : Bool) → moved ≡ true → busy ≡ moved

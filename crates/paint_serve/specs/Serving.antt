@@ -7,12 +7,27 @@ use Rattle.paint_session.specs.Store.{Held, IsHeldIn}
 use Rattle.paint_session.specs.declared.run_error.RunError.{RunError}
 use Rattle.paint_session.specs.declared.run_error.RunError.TheVariants.{Link}
 use Rattle.paint_board.specs.Board.{Board}
+use Rattle.paint_board.specs.Keeping.{KeepsBoard, HasAllIn}
 use Rattle.paint_serve.specs.Opening.{IsOpenedFrom, IsNotOpenedFrom, IsOpeningFault}
 
--- the line of the address of a page that is asked at this port under this key, with its LF
+-- the address of a page that is asked at this port under this key
+abbrev pub address_of : ℕ → List ℕ → List ℕ
+address_of port key = codes "http://127.0.0.1:" ++ (decimal port ++ (codes "/" ++ (key ++ codes "/")))
+
+-- its line, with its LF
 abbrev pub address_line : ℕ → List ℕ → List ℕ
-address_line port key =
-    (codes "http://127.0.0.1:" ++ (decimal port ++ (codes "/" ++ (key ++ codes "/")))) ++ line_feed ∷ []
+address_line port key = address_of port key ++ line_feed ∷ []
+
+-- an HTML page that leads to an address at once, or by a link where a browser does not forward; no sign of an address
+-- means anything of its own in HTML
+abbrev pub forwarding : List ℕ → List ℕ
+forwarding to =
+    codes "<!DOCTYPE html>\n<meta charset='utf-8'>\n<title>Seedpaint</title><meta http-equiv='refresh' content='0; url="
+    ++ (to ++ (codes "'>\n<p><a href='" ++ (to ++ codes "'>Paint</a></p>\n")))
+
+-- the one that leads to the page
+abbrev pub forward_page : ℕ → List ℕ → List ℕ
+forward_page port key = forwarding (address_of port key)
 
 -- why a page is not served, or no longer: D3; a fault in opening its board that may come whatever the mask is, or one
 -- of a device; or the mask's file is refused, over what the state file held
@@ -21,12 +36,16 @@ IsNotServed conn held name e =
     (e ≡ Link) ⊎ IsOpeningFault e ⊎ IsTransferFault e
     ⊎ ((old input : List ℕ) × IsHeldIn held name old × IsNotOpenedFrom conn old input e)
 
--- the board is that of some mask and of what the state file held, in a run of some number that a page has exactly
-pub record IsServed (conn : Conn) (side : ℕ) (held : Held) (name : List ℕ) (board : Board) : Type 0 where
+-- the board is that of some mask and of these bytes of a state file, in a run of some number that a page has exactly
+pub record IsServed (conn : Conn) (side : ℕ) (kept : List ℕ) (board : Board) : Type 0 where
   pub run : ℕ
   pub some : 1 ≤ run
   pub small : run < 2 ^ 53
-  pub old : List ℕ
-  pub is_held : IsHeldIn held name old
   pub input : List ℕ
-  pub opened : IsOpenedFrom conn side run old input board
+  pub opened : IsOpenedFrom conn side run kept input board
+
+-- these bytes are those of the state file, where it is known; they keep the board, and the board has what they keep
+pub record IsKeptIn (held : Held) (name kept : List ℕ) (board : Board) : Type 0 where
+  pub is_held : IsHeldIn held name kept
+  pub keeps : KeepsBoard board kept
+  pub had : HasAllIn board kept

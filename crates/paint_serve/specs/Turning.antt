@@ -1,32 +1,35 @@
 -- A server as it begins, and what a turn does to it.
-use Rattle.std.specs.Prelude.{◌≡◌, ◌⊎◌, ◌↔◌, ℕ, zero, suc, ◌<◌, ◌-◌, ◌^◌, Bool, true, false, List, []}
+use Rattle.std.specs.Prelude.{◌≡◌, ◌⊎◌, ◌↔◌, ℕ, zero, suc, ◌<◌, ◌-◌, ◌*◌, ◌^◌, Bool, true, false, List, []}
 use Rattle.std.specs.Prelude.{◌++◌, filter, All, IsTrue}
 use Rattle.http_server.specs.Connection.{config_of}
 use Rattle.http_server.specs.History.{new_history}
 use Rattle.http_server.specs.declared.state.Config.{Config}
 use Rattle.mio.specs.declared.net.stream.TcpStream.{TcpStream}
-use Rattle.page_requests.specs.declared.limits.TheConstants.{MAX_BODY_LEN, MAX_HEAD_LEN}
 use Rattle.paint_board.specs.Board.{Board}
 use Rattle.paint_html.specs.declared.page.TheConstants.{PAGE, POLICY}
-use Rattle.paint_rounds.specs.Keeping.{Keeping}
+use Rattle.paint_hall.specs.Hall.{guests_of, IsWaiting}
+use Rattle.paint_hall.specs.Showing.{ShowsKey}
+use Rattle.paint_rounds.specs.Keeping.{Keeping, IsInFile, IsTracked}
 use Rattle.paint_rounds.specs.Keeper.{keeping}
 use Rattle.paint_rounds.specs.Peer.{past}
 use Rattle.paint_rounds.specs.Peers.{peers_of, most_of, stays}
 use Rattle.paint_rounds.specs.Round.{IsRound}
 use Rattle.paint_rounds.specs.declared.peer.Peer.{Peer}
 use Rattle.paint_session.specs.Store.{StoreSeen}
-use Rattle.paint_serve.specs.Page.{PageAnswers, PageGrows, PageSpells, HasPageWork, page_version}
+use Rattle.paint_serve.specs.Caller.{front_of}
+use Rattle.paint_serve.specs.Page.{PageAnswers, PageGrows, PageHas, PageNotes, PageSpells, PageTakes, HasPageWork}
+use Rattle.paint_serve.specs.Page.{page_version}
 use Rattle.paint_serve.specs.Slices.{IsSliceOf}
+use Rattle.paint_serve.specs.declared.caller.Caller.{Caller}
 use Rattle.paint_serve.specs.declared.door.Door.{Door}
 use Rattle.paint_serve.specs.declared.page.Page.{Page}
 use Rattle.paint_serve.specs.declared.server.Server.{Server}
-use Rattle.paint_serve.specs.declared.server.TheConstants.{MOST_PEERS, MOST_ROUNDS, PATIENCE}
 use Rattle.paint_serve.specs.declared.site.Site.{Site}
 
 -- the page with its file, and who is served
 pub record Scene : Type 0 where
   pub keeping : Keeping Page
-  pub peers : List (Peer TcpStream)
+  pub peers : List (Peer (Caller TcpStream))
 
 abbrev pub scene : {T : Type 0} → (T → StoreSeen) → Server T → Scene
 scene seen server = record { keeping = keeping seen server.keeper; peers = peers_of server.peers }
@@ -40,23 +43,34 @@ pub record IsPageAt (site : Site) (board : Board) (side : ℕ) (page : Page) : T
   pub policy : page.painting.policy ≡ POLICY.now
   pub jobs : IsSliceOf side page.jobs
 
--- a server as it begins: it has the page, the store and the name of the file, which is as the store has it; nobody came
--- yet, and so many may come; and there is something to do at once
-pub record IsNewServer {T : Type 0} (seen : T → StoreSeen) (site : Site) (board : Board) (side : ℕ) (store : T)
-    (name : List ℕ) (server : Server T) : Type 0 where
+-- what the file has is what the page has, unless the version tells that the page may have more
+abbrev pub IsKeptTrack : Keeping Page → Type 0
+IsKeptTrack k = IsTracked page_version PageSpells PageHas k
+
+-- a server as it begins: it has the page, the store and the name of the file, whose bytes these are and keep what the
+-- page has; nobody came yet, and 64 may have places at a time; the hall is empty, where the key of the site is to be
+-- shown; and there is something to do at once
+pub record IsNewServer {T : Type 0} (seen : T → StoreSeen) (site : Site) (board : Board) (kept : List ℕ) (side : ℕ)
+    (store : T) (name : List ℕ) (server : Server T) : Type 0 where
   pub page : Page
   pub is_page : IsPageAt site board side page
-  pub kept : keeping seen server.keeper
-      ≡ record { service = page; files = (seen store).held; name = name; saved = page_version page }
+  pub keeps : keeping seen server.keeper
+      ≡ record { service = page; files = (seen store).held; name = name; last = kept; saved = page_version page }
+  pub tracked : IsKeptTrack (keeping seen server.keeper)
   pub nobody : peers_of server.peers ≡ []
-  pub most : most_of server.peers ≡ MOST_PEERS
+  pub most : most_of server.peers ≡ 64
+  pub key : server.hall.key ≡ site.key
+  pub empty : guests_of server.hall ≡ []
   pub busy : IsTrue server.is_busy
 
--- a round at this moment, in which bytes moved or not
-abbrev pub IsRoundOf : ℕ → Bool → Scene → Scene → Type 0
-IsRoundOf now moved old new =
-    (kept : Bool)
-    × IsRound PageAnswers page_version PageSpells now kept moved old.keeping new.keeping old.peers new.peers
+-- A round at this moment, in which bytes moved or not. It keeps track of the file; and where it was kept, the bytes
+-- that the store answered last keep what the page has, which are those of the file where it is known.
+pub record IsRoundOf (now : ℕ) (moved : Bool) (old new : Scene) : Type 0 where
+  pub is_kept : Bool
+  pub round : IsRound PageAnswers page_version PageSpells PageHas PageTakes PageNotes now is_kept moved old.keeping
+      new.keeping old.peers new.peers
+  pub tracked : IsKeptTrack old.keeping → IsKeptTrack new.keeping
+  pub in_file : IsKeptTrack old.keeping → IsTrue is_kept → IsInFile PageSpells new.keeping
 
 -- so many rounds, in each of which bytes moved
 abbrev pub AreMoving : ℕ → ℕ → Scene → Scene → Type 0
@@ -71,36 +85,43 @@ AreRounds now most false old new =
 
 -- the limits are those of each connection to a page
 pub record IsPageConfig (config : Config) : Type 0 where
-  pub body : config.max_body_len ≡ MAX_BODY_LEN
-  pub head : config.limits.max_head_len ≡ MAX_HEAD_LEN
+  pub body : config.max_body_len ≡ 4 * 1024 * 1024
+  pub head : config.limits.max_head_len ≡ 16 * 1024
 
--- it came at this moment, under the limits of a page, and nothing has moved over it
-pub record IsNewcomer (now : ℕ) (peer : Peer TcpStream) : Type 0 where
+-- its first bytes show the key, it got its place at this moment, under the limits of a page, and nothing has moved over
+-- it
+pub record IsNewcomer (key : List ℕ) (now : ℕ) (peer : Peer (Caller TcpStream)) : Type 0 where
+  pub shown : ShowsKey key (front_of peer.stream)
   pub is_open : IsTrue peer.is_open
   pub moved : peer.moved ≡ now
   pub config : IsPageConfig (config_of peer.connection)
   pub history : past peer ≡ new_history
 
--- newcomers stand behind those who were there, and nothing else changes
+-- newcomers stand behind those who were there, and nothing else changes but who waits in the hall
 pub record LetsIn {T : Type 0} (now : ℕ) (old new : Server T) : Type 0 where
-  pub fresh : List (Peer TcpStream)
-  pub newcomers : All (IsNewcomer now) fresh
+  pub fresh : List (Peer (Caller TcpStream))
+  pub newcomers : All (IsNewcomer old.hall.key now) fresh
   pub peers : peers_of new.peers ≡ peers_of old.peers ++ fresh
   pub most : most_of new.peers ≡ most_of old.peers
-  pub rest : new ≡ record old { peers = new.peers }
+  pub key : new.hall.key ≡ old.hall.key
+  pub rest : new ≡ record old { peers = new.peers; hall = new.hall }
 
--- A turn: rounds; those are dropped who are closed or have been still for too long; newcomers are let in; and the page
--- settles. There is more to do at once where bytes moved to the last, or work is left.
+-- A turn: newcomers are let in; at most 16 rounds; those are dropped who are closed, have been still for half a minute
+-- or take longer than a minute for a request, and in the hall those who came ten seconds ago; and the page settles.
+-- There is more to do at once where bytes moved to the last, or work is left.
 pub record TakesTurn {T : Type 0} (seen : T → StoreSeen) (now : ℕ) (old new : Server T) : Type 0 where
+  pub fresh : List (Peer (Caller TcpStream))
+  pub newcomers : All (IsNewcomer old.hall.key now) fresh
   pub moved : Bool
   pub between : Scene
-  pub rounds : AreRounds now MOST_ROUNDS moved (scene seen old) between
-  pub fresh : List (Peer TcpStream)
-  pub newcomers : All (IsNewcomer now) fresh
-  pub peers : peers_of new.peers ≡ filter (stays now PATIENCE) between.peers ++ fresh
+  pub rounds : AreRounds now 16 moved (record (scene seen old) { peers = peers_of old.peers ++ fresh }) between
+  pub peers : peers_of new.peers ≡ filter (stays now 30_000 60_000) between.peers
   pub most : most_of new.peers ≡ most_of old.peers
+  pub key : new.hall.key ≡ old.hall.key
+  pub waiting : All (IsWaiting now) (guests_of new.hall)
   pub settles : PageGrows between.keeping.service (keeping seen new.keeper).service
   pub kept : keeping seen new.keeper ≡ record between.keeping { service = (keeping seen new.keeper).service }
+  pub tracked : IsKeptTrack (keeping seen old.keeper) → IsKeptTrack (keeping seen new.keeper)
   pub busy : IsTrue new.is_busy ↔ (IsTrue moved ⊎ HasPageWork (keeping seen new.keeper).service)
 
 -- so many turns, before each of which it waited at the door
@@ -115,9 +136,9 @@ abbrev pub TakesAllTurns : {T : Type 0} → (T → StoreSeen) → Server T → S
 TakesAllTurns seen old new = (n : ℕ) × (n ≡ 2 ^ 64 - 1) × AreTurns seen n old new
 
 -- a board was served at a site, from a server as it begins to one that has taken as many turns as can be counted
-pub record WasServed {T : Type 0} (seen : T → StoreSeen) (site : Site) (board : Board) (side : ℕ) (store : T)
-    (name : List ℕ) : Type 0 where
+pub record WasServed {T : Type 0} (seen : T → StoreSeen) (site : Site) (board : Board) (kept : List ℕ) (side : ℕ)
+    (store : T) (name : List ℕ) : Type 0 where
   pub first : Server T
   pub last : Server T
-  pub begins : IsNewServer seen site board side store name first
+  pub begins : IsNewServer seen site board kept side store name first
   pub turns : TakesAllTurns seen first last

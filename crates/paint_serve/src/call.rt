@@ -7,13 +7,13 @@ use paint_session::store::StatePath;
 use std::alloc::Global;
 use std::marker::Model;
 
-/// The name of a mask's file. It is seen as the bytes of the name.
+/// The name of a file. It is seen as the bytes of the name.
 #[derive(Debug, Drop)]
-pub struct MaskName {
+pub struct FileName {
     name: String,
 }
 
-impl Model for MaskName {
+impl Model for FileName {
     ghost use Rattle.std.specs.Prelude.{ℕ, List, string_bytes};
 
     ghost Value = { List ℕ };
@@ -21,15 +21,15 @@ impl Model for MaskName {
     ghost view = { λ m. string_bytes m.name };
 }
 
-impl MaskName {
+impl FileName {
     /// This name.
     ///
     /// Errors: out of memory.
-    pub fn new(alloc: Global, name: &str) -> Result<MaskName, Memory>
-        ensures { IfOk result (λ mask. mask ≡ name.now) }
+    pub fn new(alloc: Global, name: &str) -> Result<FileName, Memory>
+        ensures { IfOk result (λ file. file ≡ name.now) }
     {
         let name = String::from_str(alloc, name)?;
-        Ok(MaskName { name })
+        Ok(FileName { name })
     }
 
     /// The name.
@@ -44,13 +44,15 @@ impl MaskName {
 #[derive(Debug, Drop)]
 pub struct PaintCall {
     /// The file of the mask.
-    pub mask: MaskName,
+    pub mask: FileName,
     /// The file that keeps its strokes.
     pub file: StatePath,
     /// Which pixels are neighbours.
     pub conn: Conn,
     /// The side of the tiles, 8 to 256.
     pub side: u32,
-    /// The port, or 0 for a free one.
-    pub port: u16,
+    /// The port: any free one where it is 0, and where none is said the one of the state file, or one near it.
+    pub port: Option<u16>,
+    /// The file that forwards to the page's address, where there is to be one.
+    pub forward: Option<FileName>,
 }

@@ -1,5 +1,6 @@
 //! The door of the loopback: the listener, and what tells that there is something to do.
 
+use crate::ports::{TRIES, port_near};
 use mio::net::{TcpListener, TcpStream};
 use mio::{Events, Interest, Poll, Token};
 use std::alloc::Global;
@@ -22,12 +23,20 @@ pub(crate) struct Door {
 }
 
 impl Door {
-    /// Binds a port, or a free one where it is 0.
+    /// Binds the port that is said, any free one where it is 0. Where none is said it is the first that is free of
+    /// those near the home, or else any free one.
     ///
     /// Errors: the port could not be bound; out of memory.
-    pub(crate) fn bind<R: Net>(rt: &R, alloc: Global, port: u16) -> io::Result<Door> {
-        let address = SocketAddr::from((Ipv4Addr::LOCALHOST, port));
-        let mut listener = TcpListener::bind(rt, address)?;
+    pub(crate) fn bind<R: Net>(
+        rt: &R,
+        alloc: Global,
+        port: Option<u16>,
+        home: u16,
+    ) -> io::Result<Door> {
+        let mut listener = match port {
+            Some(port) => listen(rt, port)?,
+            None => listen_near(rt, home)?,
+        };
         let poll = Poll::new(rt)?;
         poll.registry()
             .register(&mut listener, ANYBODY, Interest::READABLE)?;
@@ -66,4 +75,19 @@ impl Door {
         )?;
         Ok(stream)
     }
+}
+
+// Listens on a port of 127.0.0.1.
+fn listen<R: Net>(rt: &R, port: u16) -> io::Result<TcpListener> {
+    TcpListener::bind(rt, SocketAddr::from((Ipv4Addr::LOCALHOST, port)))
+}
+
+// Listens on the first port that is free of those near the home, or on any free one.
+fn listen_near<R: Net>(rt: &R, home: u16) -> io::Result<TcpListener> {
+    for turn in 0..TRIES {
+        if let Ok(listener) = listen(rt, port_near(home, turn)) {
+            return Ok(listener);
+        }
+    }
+    listen(rt, 0)
 }

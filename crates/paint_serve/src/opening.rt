@@ -4,6 +4,7 @@ ghost use Rattle.std.specs.Prelude.{◌≡◌, ◌⊎◌, ◌<◌, List, ℕ, If
 ghost use Rattle.byte_devices.specs.Transfer.{IsInputOf, ReadsToEnd, most_pulls};
 ghost use Rattle.byte_devices.specs.Device.{HasRisen};
 ghost use Rattle.grid_core.specs.Tiles.{IsTileSide};
+ghost use Rattle.paint_board.specs.Keeping.{KeepsBoard, HasAllIn};
 ghost use Rattle.paint_session.specs.RunError.{IsTransferFault};
 ghost use Rattle.paint_session.specs.Store.{AreSame, IsHeldIn};
 ghost use Rattle.paint_session.specs.declared.run_error.RunError.TheVariants as errors;
@@ -22,6 +23,15 @@ use pgm_codec::{Image, PgmError, read, read_all};
 use raster_sweeps::Grower;
 use std::alloc::Global;
 
+/// A board, and the bytes that its state file had.
+#[derive(Drop)]
+pub struct Opened {
+    /// The board: it has what the file keeps, and no more.
+    pub board: Board,
+    /// The bytes of the file.
+    pub kept: Vec<u8>,
+}
+
 /// The board of the mask that a source gives, with the strokes and tombstones that the state file of this name keeps
 /// for it. The file is loaded before the source is read. The image grows by `grower`, so that no work is left.
 ///
@@ -38,10 +48,12 @@ pub fn open_board<G: Grower, S: Source, T: StateStore>(
     conn: Conn,
     side: u32,
     run: u64,
-) -> Result<Board, RunError>
+) -> Result<Opened, RunError>
     requires { IsTileSide side }
-    ensures opened { IfOk result (λ board. (old input : List ℕ) × IsHeldIn (T.seen store.old).held path.now old
-        × IsInputOf (S.seen source.old).remaining input × IsOpenedFrom conn side run old input board) }
+    ensures opened { IfOk result (λ opened. (input : List ℕ) × IsInputOf (S.seen source.old).remaining input
+        × IsOpenedFrom conn side run opened.kept.items input opened.board) }
+    ensures kept { IfOk result (λ opened. IsHeldIn (T.seen store.old).held path.now opened.kept.items
+        × KeepsBoard opened.board opened.kept.items × HasAllIn opened.board opened.kept.items) }
     ensures refused { IfErr result (λ e. IsOpeningFault e ⊎ IsTransferFault e
         ⊎ ((old input : List ℕ) × IsHeldIn (T.seen store.old).held path.now old
         × IsInputOf (S.seen source.old).remaining input × IsNotOpenedFrom conn old input e)) }
@@ -54,9 +66,12 @@ pub fn open_board<G: Grower, S: Source, T: StateStore>(
     ensures store { IsErrOf result errors.StateFile → HasRisen (T.seen store.old).failures (T.seen store.new).failures }
     ensures failure { (T.seen store.old).failures < (T.seen store.new).failures → IsErrOf result errors.StateFile }
 {
-    let old = store.load(alloc, path)?;
+    let kept = store.load(alloc, path)?;
     let mask = mask_from(alloc, source)?;
-    Board::open_kept(grower, alloc, mask, conn, side, run, &old)
+    match Board::open_kept(grower, alloc, mask, conn, side, run, &kept) {
+        Ok(board) => Ok(Opened { board, kept }),
+        Err(why) => Err(why),
+    }
 }
 
 /// A mask's file is refused over the bytes of a state file where a view of it without strokes is, and for the same

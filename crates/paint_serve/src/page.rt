@@ -1,7 +1,8 @@
 //! The service of a page, with its share of settling.
 
-ghost use Rattle.paint_serve.specs.Page.{PageAnswers, PageGrows, PageSpells, HasPageWork, page_version};
-ghost use Rattle.paint_serve.specs.Page.{calls_count, works_count};
+ghost use Rattle.paint_serve.specs.Page.{PageAnswers, PageGrows, PageHas, PageNotes, PageSpells, PageTakes};
+ghost use Rattle.paint_serve.specs.Page.{HasPageWork, page_version};
+ghost use Rattle.paint_serve.specs.Page.{calls_count, works_count, takes_count, notes_count};
 
 use bytes::Bytes;
 use grid_core::Memory;
@@ -9,6 +10,7 @@ use http::Request;
 use http_server::{Response, Service};
 use paint_page::Painting;
 use paint_rounds::Kept;
+use paint_session::run_error::RunError;
 use std::alloc::{AllocError, Global};
 
 /// A painting, and how many jobs a share of its settling has.
@@ -36,6 +38,12 @@ impl Kept for Page {
 
     ghost spells = { PageSpells };
 
+    ghost has = { PageHas };
+
+    ghost takes = { PageTakes };
+
+    ghost notes = { PageNotes };
+
     ghost works = { PageGrows };
 
     ghost has_work = { HasPageWork };
@@ -44,12 +52,24 @@ impl Kept for Page {
 
     ghost works_count = { works_count };
 
+    ghost takes_count = { takes_count };
+
+    ghost notes_count = { notes_count };
+
     fn version(&self) -> u64 {
         self.painting.board().version()
     }
 
     fn file(&self) -> Result<Vec<u8>, Memory> {
         self.painting.board().state_file(self.alloc)
+    }
+
+    fn take(&mut self, found: &[u8]) -> Result<(), RunError> {
+        self.painting.take_found(found)
+    }
+
+    fn note(&mut self, why: Option<RunError>) {
+        self.painting.note_kept(why);
     }
 
     // Where no work is left, nothing is touched, so that the files that the painting has made stay. Where memory is

@@ -4,20 +4,24 @@ ghost use Rattle.std.specs.Prelude.{◌≡◌, ◌⊎◌, ◌/◌, ◌-◌, ◌^
 ghost use Rattle.std.specs.Duration.{as_nanos};
 ghost use Rattle.std.specs.Io.KnownBytes.{Appends};
 ghost use Rattle.grid_core.specs.Tiles.{IsTileSide};
-ghost use Rattle.paint_session.specs.Store.{AreSame, IsHeldIn};
+ghost use Rattle.paint_session.specs.Store.{AreSame};
 ghost use Rattle.paint_session.specs.declared.run_error.RunError.TheVariants as errors;
 ghost use Rattle.paint_serve.specs.Opening.{IsOpenedFrom};
 ghost use Rattle.paint_board.specs.Board.{Board as BoardSeen};
 ghost use Rattle.paint_rounds.specs.Peers.{most_of};
-ghost use Rattle.paint_serve.specs.Serving.{IsServed, IsNotServed, address_line};
+ghost use Rattle.paint_serve.specs.Caller.{front_of};
+ghost use Rattle.paint_serve.specs.Serving.{IsKeptIn, IsServed, IsNotServed, address_line};
+ghost use Rattle.paint_hall.specs.Showing.{ShowsKey};
 ghost use Rattle.paint_serve.specs.Turning.{IsNewServer, AreRounds, LetsIn, TakesTurn, TakesAllTurns, WasServed, scene};
 ghost use Rattle.paint_serve.specs.declared.site.Site.{Site as SiteSeen};
 
 use crate::call::PaintCall;
+use crate::caller::Caller;
 use crate::chance::run_number;
 use crate::door::Door;
+use crate::forward::remove_forward;
 use crate::mask_file::MaskFile;
-use crate::opening::open_board;
+use crate::opening::{Opened, open_board};
 use crate::page::Page;
 use crate::site::Site;
 use crate::slices::jobs_of;
@@ -26,7 +30,7 @@ use grid_core::Memory;
 use http_server::Connection;
 use mio::net::TcpStream;
 use page_requests::config;
-use paint_board::Board;
+use paint_hall::Hall;
 use paint_html::{PAGE, POLICY};
 use paint_page::Painting;
 use paint_rounds::{Keeper, Peers, round};
@@ -44,8 +48,8 @@ use std::time::{Clock, Duration, Instant};
 // How many connections may be open.
 const MOST_PEERS: usize = 64;
 
-// How many of those who wait are let in or turned away in a turn.
-const MOST_COMERS: u32 = 1024;
+// How many are let in or turned away in a turn.
+const MOST_COMERS: u32 = 64;
 
 // How many rounds are made before the board settles again.
 const MOST_ROUNDS: u32 = 16;
@@ -53,15 +57,20 @@ const MOST_ROUNDS: u32 = 16;
 // For how many milliseconds a peer may move no byte.
 const PATIENCE: u64 = 30_000;
 
+// For how many milliseconds a request may be unfinished.
+const MOST_TIME: u64 = 60_000;
+
 /// Serves the page of a mask and of the state file that keeps its strokes, on 127.0.0.1, until the process is ended.
-/// Puts one line into the sink, the address of the page. The image grows by `grower` before that. It ends without an
-/// error only behind as many turns as can be counted.
+/// Puts one line into the sink, the address of the page; before that it writes the file that forwards there, where one
+/// is asked for, which is gone while the start lasts. The image grows by `grower` before both. It ends without an error
+/// only behind as many turns as can be counted.
 ///
-/// Errors, the first that is met: V2 where the state file could not be loaded; P1 to P9 of the mask's file; M1 to M7 of
-/// the state file; D1 where it is for another mask or connectivity; C1 or C2 at the first frame that those before it do
-/// not take; D3 where there are no random bytes, where the port could not be bound, or where the system refused to
-/// tell the time or who is ready. P11 where the mask's file could not be read, or the line not be written; P10, M8, C4
-/// or plain want of memory.
+/// Errors, the first that is met: P11 where an earlier file that forwards could not be removed; D3 where there are no
+/// random bytes; V2 where the state file could not be loaded; P1 to P9 of the mask's file; M1 to M7 of the state file;
+/// D1 where it is for another mask or connectivity; C1 or C2 at the first frame that those before it do not take; D3
+/// where the port could not be bound, or where the system refused to tell the time or who is ready. P11 where the
+/// mask's file could not be read, or where the line or the file that forwards could not be written; P10, M8, C4 or
+/// plain want of memory.
 pub fn paint<R: Net + Files + Clock + RandomSource, G: Grower, T: StateStore + Drop, K: Sink>(
     rt: &R,
     grower: &G,
@@ -71,21 +80,37 @@ pub fn paint<R: Net + Files + Clock + RandomSource, G: Grower, T: StateStore + D
     sink: &mut K,
 ) -> Result<(), RunError>
     requires { IsTileSide call.side }
-    ensures told { OnOk result ((port : ℕ) × (key : List ℕ)
-        × Appends (K.seen sink.old).written (K.seen sink.new).written (address_line port key)) }
-    ensures opened { OnOk result ((board : BoardSeen)
-        × IsServed call.conn call.side (T.seen store).held call.file board) }
-    ensures served { OnOk result ((site : SiteSeen) × (board : BoardSeen) × (stored : T)
+    ensures served { OnOk result ((site : SiteSeen) × (board : BoardSeen) × (kept : List ℕ) × (stored : T)
         × AreSame (T.seen store).held (T.seen stored).held
         × Appends (K.seen sink.old).written (K.seen sink.new).written (address_line site.hosts site.key)
-        × IsServed call.conn call.side (T.seen store).held call.file board
-        × WasServed T.seen site board call.side stored call.file) }
+        × IsServed call.conn call.side kept board × IsKeptIn (T.seen store).held call.file kept board
+        × WasServed T.seen site board kept call.side stored call.file) }
     ensures refused { IfErr result (IsNotServed call.conn (T.seen store).held call.file) }
 {
     let mut store = store;
-    let board = board_of(rt, grower, alloc, &call, &mut store)?;
-    let site = Site::told(rt, alloc, call.port, sink)?;
-    serve(rt, alloc, site, board, call.side, store, call.file)
+    let opened = opened_for(rt, grower, alloc, &call, &mut store)?;
+    let site = Site::told(rt, alloc, &call, sink)?;
+    serve(rt, alloc, site, opened, call.side, store, call.file)
+}
+
+// The board of a call. A file that forwards to an earlier start is gone before.
+fn opened_for<R: Files + RandomSource, G: Grower, T: StateStore>(
+    rt: &R,
+    grower: &G,
+    alloc: Global,
+    call: &PaintCall,
+    store: &mut T,
+) -> Result<Opened, RunError>
+    requires { IsTileSide call.now.side }
+    ensures opened { IfOk result (λ o. IsServed call.now.conn call.now.side o.kept.items o.board) }
+    ensures kept { IfOk result (λ o. IsKeptIn (T.seen store.old).held call.now.file o.kept.items o.board) }
+    ensures refused { IfErr result (IsNotServed call.now.conn (T.seen store.old).held call.now.file) }
+    ensures files { AreSame (T.seen store.old).held (T.seen store.new).held }
+{
+    match remove_forward(rt, &call.forward) {
+        Ok(()) => board_of(rt, grower, alloc, call, store),
+        Err(why) => Err(why),
+    }
 }
 
 // The board of a call, under a new number.
@@ -95,9 +120,10 @@ fn board_of<R: Files + RandomSource, G: Grower, T: StateStore>(
     alloc: Global,
     call: &PaintCall,
     store: &mut T,
-) -> Result<Board, RunError>
+) -> Result<Opened, RunError>
     requires { IsTileSide call.now.side }
-    ensures opened { IfOk result (IsServed call.now.conn call.now.side (T.seen store.old).held call.now.file) }
+    ensures opened { IfOk result (λ o. IsServed call.now.conn call.now.side o.kept.items o.board) }
+    ensures kept { IfOk result (λ o. IsKeptIn (T.seen store.old).held call.now.file o.kept.items o.board) }
     ensures refused { IfErr result (IsNotServed call.now.conn (T.seen store.old).held call.now.file) }
     ensures files { AreSame (T.seen store.old).held (T.seen store.new).held }
 {
@@ -115,10 +141,11 @@ fn open<R: Files, G: Grower, T: StateStore>(
     call: &PaintCall,
     run: u64,
     store: &mut T,
-) -> Result<Board, RunError>
+) -> Result<Opened, RunError>
     requires { IsTileSide call.now.side }
-    ensures opened { IfOk result (λ board. (old input : List ℕ) × IsHeldIn (T.seen store.old).held call.now.file old
-        × IsOpenedFrom call.now.conn call.now.side run old input board) }
+    ensures opened { IfOk result (λ o. (input : List ℕ)
+        × IsOpenedFrom call.now.conn call.now.side run o.kept.items input o.board) }
+    ensures kept { IfOk result (λ o. IsKeptIn (T.seen store.old).held call.now.file o.kept.items o.board) }
     ensures refused { IfErr result (IsNotServed call.now.conn (T.seen store.old).held call.now.file) }
     ensures files { AreSame (T.seen store.old).held (T.seen store.new).held }
 {
@@ -140,29 +167,31 @@ fn serve<R: Clock + RandomSource, T: StateStore + Drop>(
     rt: &R,
     alloc: Global,
     site: Site,
-    board: Board,
+    opened: Opened,
     side: u32,
     store: T,
     file: StatePath,
 ) -> Result<(), RunError>
-    requires { IsTileSide side }
-    ensures served { OnOk result (WasServed T.seen site board side store file) }
+    requires side { IsTileSide side }
+    requires kept { IsKeptIn (T.seen store).held file opened.kept.items opened.board }
+    ensures served { OnOk result (WasServed T.seen site opened.board opened.kept.items side store file) }
     ensures ended { IfErr result (λ e. (e ≡ errors.Link) ⊎ (e ≡ errors.Memory)) }
 {
-    let mut server = Server::new(alloc, site, board, side, store, file)?;
+    let mut server = Server::new(alloc, site, opened, side, store, file)?;
     match server.serve(rt) {
         Ok(()) => Ok(()),
         Err(_) => Err(RunError::Link),
     }
 }
 
-// A server: the door, those who came in, and what answers them.
+// A server: the door, the hall behind it, those who have a place, and what answers them.
 #[derive(Drop)]
 pub(crate) struct Server<T> {
     alloc: Global,
     door: Door,
+    hall: Hall<TcpStream>,
     keeper: Keeper<Page, T>,
-    peers: Peers<TcpStream>,
+    peers: Peers<Caller<TcpStream>>,
     is_busy: bool,
 }
 
@@ -171,16 +200,20 @@ impl<T: StateStore + Drop> Server<T> {
     pub(crate) fn new(
         alloc: Global,
         site: Site,
-        board: Board,
+        opened: Opened,
         side: u32,
         store: T,
         file: StatePath,
     ) -> Result<Server<T>, Memory>
-        requires { IsTileSide side }
-        ensures { IfOk result (IsNewServer T.seen site board side store file) }
+        requires side { IsTileSide side }
+        requires kept { IsKeptIn (T.seen store).held file opened.kept.items opened.board }
+        ensures { IfOk result (IsNewServer T.seen site opened.board opened.kept.items side store file) }
     {
         let Site { door, hosts, key } = site;
+        let Opened { board, kept } = opened;
         let peers = Peers::new(alloc, MOST_PEERS)?;
+        let shown = key.copy(alloc)?;
+        let hall = Hall::new(alloc, shown);
         let page = Page {
             alloc,
             painting: Painting::new(alloc, board, hosts, key, PAGE, POLICY),
@@ -189,7 +222,8 @@ impl<T: StateStore + Drop> Server<T> {
         Ok(Server {
             alloc,
             door,
-            keeper: Keeper::new(page, store, file),
+            hall,
+            keeper: Keeper::new(alloc, page, kept, store, file),
             peers,
             is_busy: true,
         })
@@ -222,36 +256,79 @@ impl<T: StateStore + Drop> Server<T> {
         }
     }
 
-    // A turn: bytes come and go, places become free, whoever came is let in, and the board settles a little.
+    // A turn: who has shown the key is let in, bytes come and go, who is still or slow goes, and the board settles a
+    // little.
     fn turn<R: RandomSource>(&mut self, rt: &R, now: u64)
         ensures { TakesTurn T.seen now self.old self.new }
     {
-        let is_moving = self.make_rounds(now);
-        self.peers.sweep(now, PATIENCE);
         self.let_in(rt, now);
+        let is_moving = self.make_rounds(now);
+        self.peers.sweep(now, PATIENCE, MOST_TIME);
+        self.hall.sweep(now);
         let is_working = self.keeper.work();
         self.is_busy = is_moving || is_working;
     }
 
-    // Lets in who came. Those for whom there is no place are turned away.
+    // Lets in who came: into the hall, and from there to a place as soon as the key is shown.
     fn let_in<R: RandomSource>(&mut self, rt: &R, now: u64)
         ensures { LetsIn now self.old self.new }
     {
         for _ in 0..MOST_COMERS {
-            let Ok(stream) = self.door.accept() else {
+            let has_come = self.receive(now);
+            let is_seated = self.seat(rt, now);
+            if !has_come && !is_seated {
                 return;
-            };
-            if let Ok(keys) = RandomState::new(rt) {
-                let connection = Connection::new(self.alloc, keys, config());
-                let _ = self.peers.admit(stream, connection, now);
             }
+        }
+    }
+
+    // Lets one who came into the hall. Says whether somebody did.
+    fn receive(&mut self, now: u64) -> bool
+        ensures { LetsIn now self.old self.new }
+    {
+        match self.door.accept() {
+            Ok(stream) => {
+                self.hall.admit(stream, now);
+                true
+            }
+            Err(_) => false,
+        }
+    }
+
+    // Gives a place to one in the hall who has shown the key, where there is one and a place is free. Says whether it
+    // did.
+    fn seat<R: RandomSource>(&mut self, rt: &R, now: u64) -> bool
+        ensures { LetsIn now self.old self.new }
+    {
+        self.hall.listen();
+        if self.peers.len() >= MOST_PEERS {
+            return false;
+        }
+        match self.hall.next() {
+            Some((heard, stream)) => self.admit(rt, Caller::new(heard, stream), now),
+            None => false,
+        }
+    }
+
+    // Gives a place to one who has shown the key. Says whether it did.
+    fn admit<R: RandomSource>(&mut self, rt: &R, caller: Caller<TcpStream>, now: u64) -> bool
+        requires { ShowsKey self.old.hall.key (front_of caller) }
+        ensures { LetsIn now self.old self.new }
+    {
+        match RandomState::new(rt) {
+            Ok(keys) => {
+                let connection = Connection::new(self.alloc, keys, config());
+                self.peers.admit(caller, connection, now)
+            }
+            Err(_) => false,
         }
     }
 
     // Makes rounds while bytes move. Says whether more may be there to do.
     fn make_rounds(&mut self, now: u64) -> bool
-        ensures rounds { AreRounds now MOST_ROUNDS result (scene T.seen self.old) (scene T.seen self.new) }
+        ensures rounds { AreRounds now 16 result (scene T.seen self.old) (scene T.seen self.new) }
         ensures most { most_of self.new.peers ≡ most_of self.old.peers }
+        ensures hall { self.new.hall ≡ self.old.hall }
     {
         for _ in 0..MOST_ROUNDS {
             if !round(&mut self.keeper, &mut self.peers, now).moved {

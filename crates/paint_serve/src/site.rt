@@ -6,8 +6,11 @@ ghost use Rattle.paint_session.specs.RunError.{IsTransferFault};
 ghost use Rattle.paint_session.specs.declared.run_error.RunError.TheVariants as errors;
 ghost use Rattle.paint_serve.specs.Serving.{address_line};
 
+use crate::call::PaintCall;
 use crate::chance::key_bits;
 use crate::door::Door;
+use crate::forward::write_forward;
+use crate::ports::home;
 use byte_devices::{Sink, put_all};
 use grid_core::Memory;
 use page_requests::{Hosts, Key, address};
@@ -16,6 +19,7 @@ use pgm_codec::PgmError;
 use std::alloc::Global;
 use std::net::Net;
 use std::random::RandomSource;
+use std::rt::Files;
 
 /// The door of a page, the names under which it is asked, and its key.
 #[derive(Drop)]
@@ -26,36 +30,40 @@ pub(crate) struct Site {
 }
 
 impl Site {
-    /// A site that was opened, of which the sink has the line.
+    /// A site for a call, of which the file that forwards and the sink have the address.
     ///
-    /// Errors: D3 where the port could not be bound, or where there are no random bytes; P11 where the sink failed; out
-    /// of memory.
-    pub(crate) fn told<R: Net + RandomSource, K: Sink>(
+    /// Errors: D3 where the port could not be bound, or where there are no random bytes; P11 where the file that
+    /// forwards could not be written, or where the sink failed; out of memory.
+    pub(crate) fn told<R: Net + Files + RandomSource, K: Sink>(
         rt: &R,
         alloc: Global,
-        port: u16,
+        call: &PaintCall,
         sink: &mut K,
     ) -> Result<Site, RunError>
         ensures told { IfOk result (λ site. Appends (K.seen sink.old).written (K.seen sink.new).written
             (address_line site.hosts site.key)) }
         ensures refused { IfErr result (λ e. (e ≡ errors.Link) ⊎ (e ≡ errors.Memory) ⊎ IsTransferFault e) }
     {
-        let site = Site::open(rt, alloc, port)?;
+        let site = Site::open(rt, alloc, call)?;
+        if let Some(name) = &call.forward {
+            write_forward(rt, alloc, name.as_str(), &site.hosts, &site.key)?;
+        }
         site.tell(alloc, sink)?;
         Ok(site)
     }
 
-    /// Binds a port of 127.0.0.1, or a free one where it is 0, and draws a key.
-    ///
-    /// Errors: D3 where the port could not be bound, or where there are no random bytes; out of memory.
-    pub(crate) fn open<R: Net + RandomSource>(
+    // Binds a port of 127.0.0.1 for a call, and draws a key.
+    //
+    // Errors: D3 where the port could not be bound, or where there are no random bytes; out of memory.
+    fn open<R: Net + Files + RandomSource>(
         rt: &R,
         alloc: Global,
-        port: u16,
+        call: &PaintCall,
     ) -> Result<Site, RunError>
         ensures { IfErr result (λ e. (e ≡ errors.Link) ⊎ (e ≡ errors.Memory)) }
     {
-        let (Ok(bits), Ok(door)) = (key_bits(rt), Door::bind(rt, alloc, port)) else {
+        let home = home(rt, alloc, &call.file);
+        let (Ok(bits), Ok(door)) = (key_bits(rt), Door::bind(rt, alloc, call.port, home)) else {
             return Err(RunError::Link);
         };
         let Ok(port) = door.port() else {
@@ -66,10 +74,10 @@ impl Site {
         Ok(Site { door, hosts, key })
     }
 
-    /// Puts the address of the page, and an LF behind it.
-    ///
-    /// Errors: P11 where the sink failed; out of memory, and then nothing is put.
-    pub(crate) fn tell<K: Sink>(&self, alloc: Global, sink: &mut K) -> Result<(), RunError>
+    // Puts the address of the page, and an LF behind it.
+    //
+    // Errors: P11 where the sink failed; out of memory, and then nothing is put.
+    fn tell<K: Sink>(&self, alloc: Global, sink: &mut K) -> Result<(), RunError>
         ensures told { OnOk result (Appends (K.seen sink.old).written (K.seen sink.new).written
             (address_line self.now.hosts self.now.key)) }
         ensures refused { IfErr result (λ e. (e ≡ errors.Memory) ⊎ IsTransferFault e) }

@@ -1,5 +1,6 @@
 //! A client in memory.
 
+use paint_rounds::EndsWriting;
 use std::cell::RefCell;
 use std::io::{self, ErrorKind, Read, Write};
 use std::rc::Rc;
@@ -42,4 +43,8 @@ impl Write for Client {
     fn flush(&mut self) -> io::Result<()> {
         Ok(())
     }
+}
+
+impl EndsWriting for Client {
+    fn end_writing(&mut self) {}
 }

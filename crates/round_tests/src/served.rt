@@ -1,6 +1,7 @@
 //! The service of a page, with its file.
 
-ghost use Rattle.std.specs.Prelude.{◌≤◌, ⊤};
+ghost use Rattle.std.specs.Prelude.{◌≡◌, ◌≤◌, ⊤};
+ghost use Rattle.std.proofs.Common.{ap};
 ghost use Rattle.core_rules.specs.Work.{IsQuiet};
 
 use bytes::Bytes;
@@ -9,6 +10,7 @@ use http::Request;
 use http_server::{Response, Service};
 use paint_page::{Painting, answers_leave_later};
 use paint_rounds::Kept;
+use paint_session::run_error::RunError;
 use std::alloc::{AllocError, Global};
 use std::marker::Model;
 
@@ -56,6 +58,12 @@ impl Kept for Served {
 
     ghost spells = { λ board file. ⊤ };
 
+    ghost has = { λ board file. ⊤ };
+
+    ghost takes = { λ old found new. old.version ≤ new.version };
+
+    ghost notes = { λ old why new. new ≡ old };
+
     ghost works = { λ old new. old.version ≤ new.version };
 
     ghost has_work = { λ board. ¬ (IsQuiet board.core) };
@@ -68,6 +76,14 @@ impl Kept for Served {
         self.painting.board().state_file(self.alloc)
     }
 
+    fn take(&mut self, found: &[u8]) -> Result<(), RunError> {
+        self.painting.take_found(found)
+    }
+
+    fn note(&mut self, why: Option<RunError>) {
+        self.painting.note_kept(why)
+    }
+
     fn work(&mut self) -> bool {
         let _ = self.painting.grow(64);
         !self.painting.board().is_quiet()
@@ -76,10 +92,24 @@ impl Kept for Served {
     ghost calls_count = { λ old request response new later. record {
       rises = later;
       stays = λ same small file spelled. spelled;
+      had = λ file had. had;
     } };
 
     ghost works_count = { λ old new later. record {
       rises = later;
       stays = λ same small file spelled. spelled;
+      had = λ file had. had;
+    } };
+
+    ghost takes_count = { λ old found new later. record {
+      rises = later;
+      taken = tt;
+      had = λ file had. had;
+    } };
+
+    ghost notes_count = { λ old why new same. record {
+      counted = ap (λ board. board.version) same;
+      spelled = λ file spelled. spelled;
+      had = λ file had. had;
     } };
 }

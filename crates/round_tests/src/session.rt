@@ -10,7 +10,7 @@ use page_requests::{Hosts, Key, config};
 use paint_board::Board;
 use paint_page::Painting;
 use paint_rounds::{Keeper, Peers, round};
-use paint_serve::opening::open_board;
+use paint_serve::opening::{Opened, open_board};
 use paint_session::memory_store::MemoryStore;
 use paint_session::run_error::RunError;
 use paint_session::store::StatePath;
@@ -28,7 +28,7 @@ const KEY: u128 = 0x0123_4567_89ab_cdef_0011_2233_4455_6677;
 enum End {
     // The file keeps all, and each client was answered rightly.
     Kept,
-    // The store failed once. The file is as before, and nobody was answered in that round.
+    // The store failed once. The file was as before, nobody was answered in that round, and the next one saved.
     Failed,
     Wrong,
 }
@@ -55,7 +55,7 @@ fn store(alloc: Global, path: &StatePath, number: u64) -> Option<MemoryStore> {
 }
 
 // The board of the mask and of the file that the store has.
-fn board(alloc: Global, path: &StatePath, store: &mut MemoryStore) -> Result<Board, Unopened> {
+fn board(alloc: Global, path: &StatePath, store: &mut MemoryStore) -> Result<Opened, Unopened> {
     let Ok(mask) = Vec::from_slice(alloc, MASK) else {
         return Err(Unopened::Other);
     };
@@ -70,7 +70,7 @@ fn board(alloc: Global, path: &StatePath, store: &mut MemoryStore) -> Result<Boa
         8,
         5,
     ) {
-        Ok(board) => Ok(board),
+        Ok(opened) => Ok(opened),
         Err(RunError::StateFile) => Err(Unopened::Store),
         Err(_) => Err(Unopened::Other),
     }
@@ -132,9 +132,17 @@ fn end_of(kept: bool, stays: bool, told: &[u8], step: &Step, old: &[u8], new: &[
 // A round of these peers, and then a share of settling. Says whether the answers stand, and whether the client stays.
 fn turn(keeper: &mut Keeper<Served, MemoryStore>, peers: &mut Peers<Client>) -> (bool, bool) {
     let kept = round(keeper, peers, 0).kept;
-    peers.sweep(0, 1);
+    peers.sweep(0, 1, 1);
     keeper.work();
     (kept, !peers.is_empty())
+}
+
+// A round in which nobody asks. It saves what was not kept.
+fn save_again(rt: &HostRuntime, keeper: &mut Keeper<Served, MemoryStore>) -> bool {
+    match Peers::<Client>::new(rt.alloc(), 0) {
+        Ok(mut peers) => round(keeper, &mut peers, 0).kept,
+        Err(_) => false,
+    }
 }
 
 // A round in which a client asks; before it the file is this.
@@ -159,14 +167,17 @@ fn ask(
     }
 }
 
-// The rounds, one after another. At most one of them fails.
+// The rounds, one after another. At most one of them fails, and the next one saves what it took.
 fn ask_all(rt: &HostRuntime, keeper: &mut Keeper<Served, MemoryStore>, path: &StatePath) -> End {
     let mut end = End::Kept;
     let mut file = OLD;
     for step in STEPS {
         match ask(rt, keeper, path, step, file) {
             End::Kept => file = step.file,
-            End::Failed if end == End::Kept => end = End::Failed,
+            End::Failed if end == End::Kept && save_again(rt, keeper) => {
+                end = End::Failed;
+                file = step.file;
+            }
             _ => return End::Wrong,
         }
     }
@@ -177,12 +188,14 @@ fn ask_all(rt: &HostRuntime, keeper: &mut Keeper<Served, MemoryStore>, path: &St
 fn serve(
     rt: &HostRuntime,
     setting: Setting,
-    board: Board,
+    opened: Opened,
     path: StatePath,
     store: MemoryStore,
 ) -> End {
     let Setting { name, hosts, key } = setting;
-    let mut keeper = Keeper::new(served(rt.alloc(), hosts, key, board), store, path);
+    let Opened { board, kept } = opened;
+    let service = served(rt.alloc(), hosts, key, board);
+    let mut keeper = Keeper::new(rt.alloc(), service, kept, store, path);
     let end = ask_all(rt, &mut keeper, &name);
     drop(keeper);
     end
@@ -192,7 +205,7 @@ fn serve(
 fn play_over(rt: &HostRuntime, setting: Setting, path: StatePath, store: MemoryStore) -> End {
     let mut store = store;
     match board(rt.alloc(), &path, &mut store) {
-        Ok(board) => serve(rt, setting, board, path, store),
+        Ok(opened) => serve(rt, setting, opened, path, store),
         Err(Unopened::Store) if store.file(&path) == OLD => End::Failed,
         Err(_) => End::Wrong,
     }

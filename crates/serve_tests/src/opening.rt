@@ -3,7 +3,7 @@
 use crate::scene::{KEPT, MASK};
 use byte_devices::MemorySource;
 use grid_core::Conn;
-use paint_serve::opening::open_board;
+use paint_serve::opening::{Opened, open_board};
 use paint_session::memory_store::MemoryStore;
 use paint_session::run_error::{RunError, fault_line};
 use paint_session::store::StatePath;
@@ -106,10 +106,12 @@ fn opens(
     store: &mut MemoryStore,
 ) -> bool {
     match open_board(&OneThread, alloc, source, path, store, case.conn, 16, 7) {
-        Ok(board) => {
+        Ok(Opened { board, kept }) => {
             let is_new = board.run() == 7 && board.version() == 1 && board.step() == 1;
             let is_new = is_new && board.is_quiet();
+            let is_new = is_new && kept.as_slice() == case.kept;
             drop(board);
+            drop(kept);
             case.line.is_empty() && is_new
         }
         Err(error) => is_line_of(alloc, error, case.line),

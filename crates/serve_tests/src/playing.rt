@@ -7,7 +7,7 @@ use crate::caller::{Caller, Line, Question, is_answered};
 use crate::world::{LastWord, MaskFile, World};
 use byte_devices::StdSink;
 use grid_core::Conn;
-use paint_serve::{MaskName, PaintCall, paint};
+use paint_serve::{FileName, PaintCall, paint};
 use paint_session::memory_store::MemoryStore;
 use paint_session::run_error::RunError;
 use paint_session::store::StatePath;
@@ -17,7 +17,7 @@ use std::cell::RefCell;
 use std::io::Read;
 use std::net::Net;
 
-/// A page that is served for three turns, and asked when the first of them begins.
+/// A page that is served for two turns, and asked when the first of them begins.
 #[derive(Clone, Copy, Drop)]
 pub struct Play {
     /// The mask's file.
@@ -49,13 +49,14 @@ fn call_of(alloc: Global, side: u32) -> Option<PaintCall>
     if side < 8 || 256 < side {
         return None;
     }
-    match (MaskName::new(alloc, "mask"), StatePath::new(alloc, "kept")) {
+    match (FileName::new(alloc, "mask"), StatePath::new(alloc, "kept")) {
         (Ok(mask), Ok(file)) => Some(PaintCall {
             mask,
             file,
             conn: Conn::Eight,
             side,
-            port: 0,
+            port: Some(0),
+            forward: None,
         }),
         _ => None,
     }

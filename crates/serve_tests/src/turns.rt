@@ -37,6 +37,18 @@ const TURNS: &[Play] = &[
         end: "",
         ..STROKES
     },
+    // The path of this line is another one, without the key.
+    Play {
+        question: Question {
+            method: "GET /none",
+            path: "strokes",
+            body: "",
+        },
+        status: "HTTP/1.1 404",
+        front: "no such path",
+        end: "",
+        ..STROKES
+    },
     Play {
         question: Question {
             method: "GET",

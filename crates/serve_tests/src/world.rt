@@ -10,8 +10,8 @@ use std::random::RandomSource;
 use std::rt::Files;
 use std::time::{Clock, Duration};
 
-// How often a server may look at the clock: when it starts, and once in each of three turns.
-const LOOKS: u64 = 4;
+// How often a server may look at the clock: when it starts, and once in each of two turns.
+const LOOKS: u64 = 3;
 
 /// A file that can only be read: some bytes, and samples of 1 behind them.
 #[derive(Clone, Copy, Drop)]

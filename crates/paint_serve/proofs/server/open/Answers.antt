@@ -4,7 +4,12 @@ use Rattle.paint_serve.proofs.server.open.Goals as goal
 
 pub returns-clause-opened : goal.returns-clause-opened
 returns-clause-opened g c =
-    IfOk-weaker c.open_board.result _ _ (λ board from. (from.0, from.1, from.2, from.4)) c.open_board.ensures.opened
+    IfOk-weaker c.open_board.result _ _ (λ opened from. (from.0, from.2)) c.open_board.ensures.opened
+
+pub returns-clause-kept : goal.returns-clause-kept
+returns-clause-kept g c =
+    IfOk-weaker c.open_board.result _ _
+    (λ opened kept. record { is_held = kept.0; keeps = kept.1; had = kept.2 }) c.open_board.ensures.kept
 
 pub returns-clause-refused : goal.returns-clause-refused
 returns-clause-refused g c =

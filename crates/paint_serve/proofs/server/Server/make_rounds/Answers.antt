@@ -4,7 +4,7 @@ use Rattle.paint_serve.proofs.Turnings.{round_moved, round_still, one_more}
 use Rattle.paint_serve.proofs.server.Server.make_rounds.Goals as goal
 
 pub loop-init : goal.loop-init
-loop-init g c = record { moving = refl; most = refl }
+loop-init g c = record { moving = refl; most = refl; hall = refl }
 
 pub loop-preserved : goal.loop-preserved
 loop-preserved g c =
@@ -13,8 +13,9 @@ loop-preserved g c =
       moving = one_more c.args.now c.loop.counter (scene seen c.args.self.now) (scene seen c.loop.self) _
           c.loop.invariant.moving
           (round_moved c.args.now c.round.result.moved c.round.result.kept (scene seen c.loop.self) _
-          c.if-not-round.false c.round.ensures.round);
+          c.if-not-round.false c.round.ensures.round c.round.ensures.tracked c.round.ensures.in_file);
       most = c.round.ensures.most ∙ c.loop.invariant.most;
+      hall = c.loop.invariant.hall;
     }
 
 pub returns-then-not-round-clause-rounds : goal.returns-then-not-round-clause-rounds
@@ -25,7 +26,7 @@ returns-then-not-round-clause-rounds g c =
       c.loop-test.true,
       c.loop.invariant.moving,
       round_still c.args.now c.round.result.moved c.round.result.kept (scene seen c.loop.self) _
-          c.if-not-round.true c.round.ensures.round,
+          c.if-not-round.true c.round.ensures.round c.round.ensures.tracked c.round.ensures.in_file,
     )
 
 pub returns-clause-rounds : goal.returns-clause-rounds

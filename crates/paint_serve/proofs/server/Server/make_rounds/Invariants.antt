@@ -9,4 +9,5 @@ invariant-loop g l =
     record {
       moving : AreMoving l.now l.counter (scene seen l.fn.self) (scene seen l.self);
       most : most_of l.self.peers ≡ most_of l.fn.self.peers;
+      hall : l.self.hall ≡ l.fn.self.hall;
     }

@@ -1,0 +1,3 @@
+pub use Rattle.page_requests.specs.Table
+pub mod Hall
+pub mod Showing

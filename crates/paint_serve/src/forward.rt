@@ -1,0 +1,101 @@
+//! A file that forwards to the page's address, so that a browser is told the address, and nobody else.
+
+ghost use Rattle.std.specs.Prelude.{◌≡◌, ◌⊎◌, IfOk, IfErr, OnOk, string_bytes};
+ghost use Rattle.std.specs.Io.KnownBytes.{Appends};
+ghost use Rattle.paint_session.specs.RunError.{IsTransferFault};
+ghost use Rattle.paint_session.specs.declared.run_error.RunError.TheVariants as errors;
+ghost use Rattle.paint_serve.specs.Serving.{forward_page};
+
+use crate::call::FileName;
+use byte_devices::{Sink, StdSink, put_all};
+use grid_core::Memory;
+use page_requests::{Hosts, Key, address};
+use paint_session::run_error::RunError;
+use pgm_codec::PgmError;
+use std::alloc::Global;
+use std::fs::{self, OpenOptions};
+use std::io::{self, ErrorKind};
+use std::os::unix::fs::OpenOptionsExt;
+use std::rt::Files;
+
+/// Removes the file of an earlier start, where one is to be written, so that nobody opens it.
+///
+/// Errors: P11 where it is there and could not be removed.
+pub(crate) fn remove_forward<R: Files>(
+    files: &R,
+    forward: &Option<FileName>,
+) -> Result<(), RunError>
+    ensures { IfErr result IsTransferFault }
+{
+    let Some(name) = forward else {
+        return Ok(());
+    };
+    match fs::remove_file(files, name.as_str()) {
+        Err(e) if e.kind() != ErrorKind::NotFound => Err(RunError::Pgm(PgmError::Device)),
+        _ => Ok(()),
+    }
+}
+
+/// Writes the file of this name, which is not there yet, for the address of a page. From the start nobody else may read
+/// it, and no link is followed.
+///
+/// Errors: P11 where it could not be written; out of memory. The file is gone then.
+pub(crate) fn write_forward<R: Files>(
+    files: &R,
+    alloc: Global,
+    name: &str,
+    hosts: &Hosts,
+    key: &Key,
+) -> Result<(), RunError>
+    ensures { IfErr result (λ e. (e ≡ errors.Memory) ⊎ IsTransferFault e) }
+{
+    let Ok(file) = create_private(files, name) else {
+        return Err(RunError::Pgm(PgmError::Device));
+    };
+    let put = put_forward(alloc, hosts, key, &mut StdSink::new(file));
+    if put.is_err() {
+        let _ = fs::remove_file(files, name);
+    }
+    put
+}
+
+// A new file that only its owner may read or write.
+fn create_private<R: Files>(files: &R, name: &str) -> io::Result<R::File> {
+    OpenOptions::new()
+        .write(true)
+        .create_new(true)
+        .mode(0o600)
+        .open(files, name)
+}
+
+// Puts the page that forwards to an address.
+//
+// Errors: P11 where the sink failed; out of memory, and then nothing is put.
+fn put_forward<K: Sink>(
+    alloc: Global,
+    hosts: &Hosts,
+    key: &Key,
+    sink: &mut K,
+) -> Result<(), RunError>
+    ensures told { OnOk result (Appends (K.seen sink.old).written (K.seen sink.new).written
+        (forward_page hosts.now key.now)) }
+    ensures refused { IfErr result (λ e. (e ≡ errors.Memory) ⊎ IsTransferFault e) }
+{
+    let page = forward_text(alloc, hosts, key)?;
+    match put_all(sink, page.as_bytes()) {
+        Ok(()) => Ok(()),
+        Err(_) => Err(RunError::Pgm(PgmError::Device)),
+    }
+}
+
+// The page that forwards to an address.
+fn forward_text(alloc: Global, hosts: &Hosts, key: &Key) -> Result<String, Memory>
+    ensures { IfOk result (λ page. string_bytes page ≡ forward_page hosts.now key.now) }
+{
+    let to = address(alloc, hosts, key)?;
+    let page = format!(in alloc;
+        "<!DOCTYPE html>\n<meta charset='utf-8'>\n<title>Seedpaint</title>\
+         <meta http-equiv='refresh' content='0; url={to}'>\n<p><a href='{to}'>Paint</a></p>\n"
+    )?;
+    Ok(page)
+}
