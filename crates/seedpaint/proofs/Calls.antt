@@ -14,13 +14,14 @@ use Rattle.paint_session.proofs.Shared.{serves_alone, store_alone}
 use Rattle.paint_session.specs.Answering.{Answers}
 use Rattle.paint_session.specs.Derive.{DerivationStops, IsDerivation}
 use Rattle.paint_session.specs.RunError.{IsTransferFault}
-use Rattle.paint_session.specs.Serving.{AnswersOverStore, IsStoredView, IsStoreFault, StoredStops}
+use Rattle.paint_session.specs.Serving.{AnswersOverStore, IsShownOver, IsStoredView, IsStoreFault}
+use Rattle.paint_session.specs.Serving.{StoredStops}
 use Rattle.paint_session.specs.Store.{StoreSeen}
 use Rattle.paint_session.specs.View.{InputStops, IsView}
 use Rattle.paint_session.specs.declared.derive.Derivation.{Derivation}
 use Rattle.paint_session.specs.declared.run_error.RunError.{RunError}
 use Rattle.paint_session.specs.declared.run_error.RunError.TheVariants.{StateFile, Usage}
-use Rattle.seedpaint.specs.Run.{CanBeMade, EndsEarly, IsAnswer, RunEndsEarly, StopsOn, TellsLine}
+use Rattle.seedpaint.specs.Run.{CanBeMade, EndsEarly, IsAnswer, IsShownBy, RunEndsEarly, StopsOn, TellsLine}
 use Rattle.seedpaint.specs.Words.{IsRefusalOfWords, ProcessSays, Reads, Says, SideIs}
 use Rattle.seedpaint.specs.declared.words.Call.{Call}
 use Rattle.seedpaint.specs.declared.words.Call.TheVariants.{View, Node, Derive, Paint}
@@ -108,11 +109,11 @@ module _ {S T K : Type 0} {source_seen : S → SourceSeen} {source source' : S} 
   pub view_runs : (call : Call) (conn : Conn) (side : ℕ) → call ≡ View conn side None
       → Answers (λ input _ text. (state : State) × IsView conn nothing input state text)
       (λ input e. InputStops nothing input e) result source_seen source source' sink_seen sink sink'
-      → AnswersOverStore (IsAnswer heard call) (StopsOn call) (EndsEarly call) result source_seen source source'
-      store_seen store store sink_seen sink sink'
+      → AnswersOverStore (IsAnswer heard call) (IsShownBy heard call) (StopsOn heard call) (EndsEarly call) result
+      source_seen source source' store_seen store store sink_seen sink sink'
   view_runs call conn side is answers =
       rw is (record {
-        serves = serves_alone _ _ _ _ _ _ _ _ _ _ _ result _ (λ input value text view. (view, refl))
+        serves = serves_alone _ _ _ _ _ _ _ _ _ _ _ _ result _ (λ input value text view. ((view, refl), view))
             (λ input e stops. stops) (λ input e stops. input_is_no_file e (input_stops_of_input _ input e stops))
             (λ e early. early) answers.responds;
         devices = answers.devices;
@@ -122,21 +123,23 @@ module _ {S T K : Type 0} {source_seen : S → SourceSeen} {source source' : S} 
 
   pub stored_view_runs : {store' : T} (call : Call) (conn : Conn) (side : ℕ) (name : List ℕ)
       → call ≡ View conn side (Some name)
-      → AnswersOverStore (λ held. IsStoredView conn held name) (λ held. StoredStops conn held name) IsStoreFault result
+      → AnswersOverStore (λ held. IsStoredView conn held name) (λ held. IsShownOver conn held name)
+      (λ held. StoredStops conn held name) IsStoreFault result source_seen source source' store_seen store store'
+      sink_seen sink sink'
+      → AnswersOverStore (IsAnswer heard call) (IsShownBy heard call) (StopsOn heard call) (EndsEarly call) result
       source_seen source source' store_seen store store' sink_seen sink sink'
-      → AnswersOverStore (IsAnswer heard call) (StopsOn call) (EndsEarly call) result source_seen source source'
-      store_seen store store' sink_seen sink sink'
   stored_view_runs call conn side name is answers =
       rw is (record { serves = answers.serves; devices = answers.devices; stored = answers.stored })
 
   pub derivation_runs : (call : Call) (kind : Derivation) (h : ℕ) (conn : Conn) → call ≡ Derive kind h conn
       → Answers (λ input _ text. IsDerivation kind h conn input text) DerivationStops result source_seen source source'
       sink_seen sink sink'
-      → AnswersOverStore (IsAnswer heard call) (StopsOn call) (EndsEarly call) result source_seen source source'
-      store_seen store store sink_seen sink sink'
+      → AnswersOverStore (IsAnswer heard call) (IsShownBy heard call) (StopsOn heard call) (EndsEarly call) result
+      source_seen source source' store_seen store store sink_seen sink sink'
   derivation_runs call kind h conn is answers =
       rw is (record {
-        serves = serves_alone _ _ _ _ _ _ _ _ _ _ _ result _ (λ input value text derived. (derived, refl))
+        serves = serves_alone _ _ _ _ _ _ _ _ _ _ _ _ result _
+            (λ input value text derived. ((derived, refl), derived))
             (λ input e stops. stops) (λ input e stops. input_is_no_file e (derivation_stops_of_input input e stops))
             (λ e early. early) answers.responds;
         devices = answers.devices;

@@ -6,16 +6,18 @@ use Rattle.byte_devices.specs.Device.{SinkSeen, SourceSeen}
 use Rattle.byte_devices.specs.Transfer.{IsInputOf}
 use Rattle.grid_core.specs.declared.conn.Conn.{Conn}
 use Rattle.link_nodes.specs.Links.{LinkSeen}
+use Rattle.paint_session.specs.Joining.{IsNotJoinedOver}
 use Rattle.paint_session.specs.RunError.{IsReadingFault, IsTransferFault}
 use Rattle.paint_session.specs.Serving.{AnswersOverStore, IsStoreFault, StoredStops}
 use Rattle.paint_session.specs.Store.{Held, StoreSeen}
+use Rattle.paint_session.specs.declared.joining.Strokes.{Strokes}
 use Rattle.paint_session.specs.declared.run_error.RunError.{RunError}
 use Rattle.paint_session.specs.declared.run_error.RunError.TheVariants.{Link, Usage}
 use Rattle.paint_session.proofs.Shared.{is_of_input, kept_stops_of_input}
 use Rattle.node_session.specs.Network.{NetworkSeen, TellsNetwork}
 use Rattle.node_session.specs.Shared.{NodeStops}
-use Rattle.node_session.specs.Stored.{IsNodeFault, IsStoredNode, StoredNodeStops}
-use Rattle.seedpaint.specs.Run.{EndsEarly, IsAnswer, StopsOn}
+use Rattle.node_session.specs.Stored.{IsNodeFault, IsNotToKeep, IsShownNode, IsStoredNode, StoredNodeStops}
+use Rattle.seedpaint.specs.Run.{EndsEarly, IsAnswer, IsShownBy, StopsOn}
 use Rattle.seedpaint.specs.Words.{IsRefusalOfWords}
 use Rattle.seedpaint.specs.declared.words.Call.{Call}
 use Rattle.seedpaint.specs.declared.words.Call.TheVariants.{Node}
@@ -59,6 +61,20 @@ no_usage_in_stops : (conn : Conn) (hands : ℕ) (old input : List ℕ) → NodeS
 no_usage_in_stops conn hands old input (inl kept) = let is = kept_stops_of_input conn old input Usage kept in cc
 no_usage_in_stops conn hands old input (inr (mask, first, gathered, (why, is, counts))) = cc
 
+-- strokes that are not joined over bytes give an error of an input
+not_joined_of_input : (strokes : Strokes) (found : List ℕ) (e : RunError) → IsNotJoinedOver strokes found e
+    → is_of_input e ≡ true
+not_joined_of_input strokes found e (inl memory) = ap is_of_input memory
+not_joined_of_input strokes found e (inr (inl (fault, is, first))) = ap is_of_input is
+not_joined_of_input strokes found e (inr (inr (inl (is, other)))) = ap is_of_input is
+not_joined_of_input strokes found e (inr (inr (inr (kept, why, spells, is, stop)))) = ap is_of_input is
+
+no_usage_in_keeping : (file : Option (List ℕ)) (held : Held) (strokes : Strokes) → IsNotToKeep file held strokes Usage
+    → ⊥
+no_usage_in_keeping None held strokes none = absurd none
+no_usage_in_keeping (Some name) held strokes (found, was_held, why) =
+    let is = not_joined_of_input strokes found Usage why in cc
+
 pub words_are_no_link : (e : RunError) → IsRefusalOfWords e → e ≡ Link → ⊥
 words_are_no_link e (inl usage) link = cc
 words_are_no_link e (inr memory) link = cc
@@ -88,22 +104,26 @@ stored_is_no_link known conn held name result refused is =
     ⊎ ((input : List ℕ) × IsInputOf known input × StoredStops conn held name input e))) is refused) [
       | inl early ↦ no_link_in_store early
       | inr (inl device) ↦ no_link_in_transfer device
-      | inr (inr (input, is_input, (old, is_held, stop))) ↦ no_link_in_input
+      | inr (inr (input, is_input, inl (old, is_held, stop))) ↦ no_link_in_input
           (kept_stops_of_input conn old input Link stop)
+      | inr (inr (input, is_input, inr (old, text, strokes, found, is_held, view, was_held, why))) ↦ no_link_in_input
+          (not_joined_of_input strokes found Link why)
     ]
 
 -- and a node gives no usage
-pub node_is_no_usage : (known : Option (List ℕ)) (conn : Conn) (hands : ℕ) (file : Option (List ℕ)) (held : Held)
-    (result : Result (Unit {0}) RunError)
+pub node_is_no_usage : {L : Type 0} (heard : L → LinkSeen) (known : Option (List ℕ)) (conn : Conn) (hands ticks : ℕ)
+    (file : Option (List ℕ)) (held : Held) (result : Result (Unit {0}) RunError)
     → IfErr result (λ e. IsNodeFault file e ⊎ IsTransferFault e
-    ⊎ ((input : List ℕ) × IsInputOf known input × StoredNodeStops conn hands file held input e))
+    ⊎ ((input : List ℕ) × IsInputOf known input × StoredNodeStops heard conn hands ticks file held input e))
     → result ≡ Err Usage → ⊥
-node_is_no_usage known conn hands file held result refused is =
+node_is_no_usage heard known conn hands ticks file held result refused is =
     elim (subst (λ (r : Result (Unit {0}) RunError). IfErr r (λ e. IsNodeFault file e ⊎ IsTransferFault e
-    ⊎ ((input : List ℕ) × IsInputOf known input × StoredNodeStops conn hands file held input e))) is refused) [
+    ⊎ ((input : List ℕ) × IsInputOf known input × StoredNodeStops heard conn hands ticks file held input e))) is
+    refused) [
       | inl early ↦ no_usage_in_node file early
       | inr (inl device) ↦ no_usage_in_transfer device
-      | inr (inr (input, is_input, (old, is_held, stop))) ↦ no_usage_in_stops conn hands old input stop
+      | inr (inr (input, is_input, inl (old, is_held, stop))) ↦ no_usage_in_stops conn hands old input stop
+      | inr (inr (input, is_input, inr (text, strokes, over, why))) ↦ no_usage_in_keeping file held strokes why
     ]
 
 -- ---- what calls leave
@@ -133,9 +153,10 @@ pub node_runs : {S T K : Type 0} {source_seen : S → SourceSeen} {source source
     {store store' : T} {sink_seen : K → SinkSeen} {sink sink' : K} {result : Result (Unit {0}) RunError} {L : Type 0}
     (heard : L → LinkSeen) (call : Call) (conn : Conn) (side port ticks hands : ℕ) (peers : List ℕ)
     (file given : Option (List ℕ)) → call ≡ Node conn side port ticks hands peers file → given ≡ file
-    → AnswersOverStore (IsStoredNode heard conn hands ticks given) (StoredNodeStops conn hands given)
-    (IsNodeFault given) result source_seen source source' store_seen store store' sink_seen sink sink'
-    → AnswersOverStore (IsAnswer heard call) (StopsOn call) (EndsEarly call) result source_seen source source'
-    store_seen store store' sink_seen sink sink'
+    → AnswersOverStore (IsStoredNode heard conn hands ticks given) (IsShownNode heard conn hands ticks given)
+    (StoredNodeStops heard conn hands ticks given) (IsNodeFault given) result source_seen source source' store_seen
+    store store' sink_seen sink sink'
+    → AnswersOverStore (IsAnswer heard call) (IsShownBy heard call) (StopsOn heard call) (EndsEarly call) result
+    source_seen source source' store_seen store store' sink_seen sink sink'
 node_runs heard call conn side port ticks hands peers file given is same answers =
     rw (is, ← same) (record { serves = answers.serves; devices = answers.devices; stored = answers.stored })

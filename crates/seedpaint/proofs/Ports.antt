@@ -1,7 +1,7 @@
 -- The ports of peers.
 use Rattle.std.proofs.Common.{◌≡◌, ℕ, ◌+◌, ◌<◌, ◌≤◌, List, Option, Some, None, [], ◌∷◌, ◌++◌, map, length, take}
 use Rattle.std.proofs.Common.{get_or, refl, sym, ap, ap₂, ◌∙◌, subst, arith, decimal}
-use Rattle.std.specs.Prelude.{All, Err}
+use Rattle.std.specs.Prelude.{Err}
 use Rattle.std.specs.Borrow.{Bor}
 use Rattle.std.specs.List.{AllByRecursion as ByRecursion, AllZip}
 use Rattle.std.proofs.lemmas.Fmt.{decimal_injective}

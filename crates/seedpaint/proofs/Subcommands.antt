@@ -19,7 +19,7 @@ use Rattle.grid_core.specs.Tiles.{IsTileSide}
 use Rattle.seedpaint.proofs.Numbers.{is_decimal, number_value, one_number, one_within}
 use Rattle.seedpaint.proofs.Ports.{one_peers}
 use Rattle.seedpaint.specs.Words.{program, ConnIs, SideIs, KindIs, HIs, IsCall, IsNode, IsPaint, IsUsage, Says}
-use Rattle.seedpaint.specs.Words.{KeptFileIs}
+use Rattle.seedpaint.specs.Words.{KeptFileIs, PagePortIs}
 use Rattle.seedpaint.specs.Words.{NamesNoConn, NamesNoSide, NamesNoKind, NamesNoH}
 use Rattle.paint_session.specs.declared.derive.Derivation.{Derivation as Kind}
 use Rattle.paint_session.specs.declared.derive.Derivation.TheVariants.{Fill, HMax, RegMax}
@@ -232,11 +232,19 @@ one_file mask (Some v) a b first second = first ∙ sym second
 one_mask : (value : Option Text) (a b : Text) → value ≡ Some a → value ≡ Some b → a ≡ b
 one_mask value a b first second = ap (λ (v : Option Text). option_map_or (λ t. t) v []) (sym first ∙ second)
 
+-- the value of a painting's port names at most one, or none
+one_page_port : (value : Option Text) (a b : Option ℕ) → PagePortIs value a → PagePortIs value b → a ≡ b
+one_page_port None a b first second = first ∙ sym second
+one_page_port (Some v) a b (n, is, first) (m, is_too, second) =
+    let same : n ≡ m = one_within None 0 65535 (omega arith) (Some v) n m first second in
+    cc
+
 -- a painting is the parts of it
-same_parts : (a b f g : Text) (c d : Conn) (s t k l : ℕ) → a ≡ b → f ≡ g → c ≡ d → s ≡ t → k ≡ l
-    → ◌≡◌ {A = PaintCall} (record { mask = a; file = f; conn = c; side = s; port = k })
-    (record { mask = b; file = g; conn = d; side = t; port = l })
-same_parts a b f g c d s t k l mask file conn side port = cc
+same_parts : (a b f g : Text) (c d : Conn) (s t : ℕ) (k l : Option ℕ) (w x : Option Text) → a ≡ b → f ≡ g → c ≡ d
+    → s ≡ t → k ≡ l → w ≡ x
+    → ◌≡◌ {A = PaintCall} (record { mask = a; file = f; conn = c; side = s; port = k; forward = w })
+    (record { mask = b; file = g; conn = d; side = t; port = l; forward = x })
+same_parts a b f g c d s t k l w x mask file conn side port forward = cc
 
 -- rows say at most one painting
 one_painting : (rows : List Row) (p q : PaintCall) → IsPaint rows p → IsPaint rows q → p ≡ q
@@ -244,12 +252,12 @@ one_painting rows p q first second =
     let mask : p.mask ≡ q.mask = one_mask (first_of (codes "mask") rows) p.mask q.mask first.mask_is second.mask_is in
     let named : KeptFileIs p.mask (first_of (codes "state") rows) q.file =
     subst (λ (m : Text). KeptFileIs m (first_of (codes "state") rows) q.file) (sym mask) second.file_is in
-    same_parts p.mask q.mask p.file q.file p.conn q.conn p.side q.side p.port q.port mask
+    same_parts p.mask q.mask p.file q.file p.conn q.conn p.side q.side p.port q.port p.forward q.forward mask
     (one_file p.mask (first_of (codes "state") rows) p.file q.file first.file_is named)
     (one_conn (first_of (codes "conn") rows) p.conn q.conn first.conn_is second.conn_is)
     (one_side (first_of (codes "tile") rows) p.side q.side first.side_is second.side_is)
-    (one_within (Some 0) 0 65535 (omega arith) (first_of (codes "port") rows) p.port q.port first.port_is
-    second.port_is)
+    (one_page_port (first_of (codes "port") rows) p.port q.port first.port_is second.port_is)
+    (first.forward_is ∙ sym second.forward_is)
 
 -- words say at most one call
 pub one_call : (words : List Text) (a b : Call) → Says words a → Says words b → a ≡ b

@@ -51,18 +51,32 @@ of_a_derivation =
     ) ∷
     []
 
--- a painting: as short as it can be; with every option, and the greatest port; with its word behind an option
+-- a painting: as short as it can be; with every option, and the greatest port; with its word behind options
 abbrev pub of_a_painting : List Example
 of_a_painting = (
   codes "paint" ∷ codes "m" ∷ [],
-  Paint (record { mask = codes "m"; file = codes "m.spd"; conn = Four; side = 64; port = 0 }),
+  Paint (record { mask = codes "m"; file = codes "m.spd"; conn = Four; side = 64; port = None; forward = None }),
 ) ∷ (
   codes "paint" ∷ codes "m" ∷ codes "--port" ∷ codes "65535" ∷ codes "--state" ∷ codes "a" ∷ codes "--conn"
-      ∷ codes "8" ∷ codes "--tile" ∷ codes "8" ∷ [],
-  Paint (record { mask = codes "m"; file = codes "a"; conn = Eight; side = 8; port = 65535 }),
+      ∷ codes "8" ∷ codes "--forward" ∷ codes "f" ∷ codes "--tile" ∷ codes "8" ∷ [],
+  Paint (record {
+    mask = codes "m";
+    file = codes "a";
+    conn = Eight;
+    side = 8;
+    port = Some 65535;
+    forward = Some (codes "f");
+  }),
 ) ∷ (
-  codes "paint" ∷ codes "--port" ∷ codes "0" ∷ codes "m" ∷ [],
-  Paint (record { mask = codes "m"; file = codes "m.spd"; conn = Four; side = 64; port = 0 }),
+  codes "paint" ∷ codes "--port" ∷ codes "0" ∷ codes "--forward" ∷ codes "" ∷ codes "m" ∷ [],
+  Paint (record {
+    mask = codes "m";
+    file = codes "m.spd";
+    conn = Four;
+    side = 64;
+    port = Some 0;
+    forward = Some (codes "");
+  }),
 ) ∷ []
 
 -- no call: another value, no value or a second one, a word too many, an option of no or of another subcommand, help,
@@ -125,7 +139,7 @@ of_no_node =
     []
 
 -- no painting: no mask or two of them, a port that is too great or not in decimal, a side that tiles may not have, an
--- option that is there twice, and options of other subcommands
+-- option that is there twice or without a value, and options of other subcommands
 abbrev pub of_no_painting : List (List Text)
 of_no_painting =
     (codes "paint" ∷ []) ∷
@@ -134,6 +148,9 @@ of_no_painting =
     (codes "paint" ∷ codes "m" ∷ codes "--port" ∷ codes "08" ∷ []) ∷
     (codes "paint" ∷ codes "m" ∷ codes "--tile" ∷ codes "7" ∷ []) ∷
     (codes "paint" ∷ codes "m" ∷ codes "--port" ∷ codes "9" ∷ codes "--port" ∷ codes "9" ∷ []) ∷
+    (codes "paint" ∷ codes "m" ∷ codes "--forward" ∷ codes "f" ∷ codes "--forward" ∷ codes "f" ∷ []) ∷
+    (codes "paint" ∷ codes "m" ∷ codes "--forward" ∷ []) ∷
     (codes "paint" ∷ codes "m" ∷ codes "--ticks" ∷ codes "3" ∷ []) ∷
     (codes "view" ∷ codes "--port" ∷ codes "9" ∷ []) ∷
+    (codes "view" ∷ codes "--forward" ∷ codes "f" ∷ []) ∷
     []

@@ -9,14 +9,14 @@ use Rattle.grid_core.specs.Tiles.{IsTileSide}
 use Rattle.stroke_lattice.specs.State.{State, nothing}
 use Rattle.paint_session.specs.Derive.{IsDerivation, DerivationStops}
 use Rattle.paint_session.specs.RunError.{fault_text, IsReadingFault}
-use Rattle.paint_session.specs.Serving.{IsStoredView, IsStoreFault, StoredStops, ToKeep}
+use Rattle.paint_session.specs.Serving.{IsShownOver, IsStoredView, IsStoreFault, StoredStops, ToKeep}
 use Rattle.paint_session.specs.Store.{Held}
 use Rattle.paint_session.specs.View.{IsView, InputStops}
 use Rattle.paint_session.specs.declared.run_error.RunError.{RunError}
 use Rattle.paint_session.specs.declared.run_error.RunError.TheVariants.{Memory, Usage}
 use Rattle.link_nodes.specs.Links.{LinkSeen}
 use Rattle.node_session.specs.Network.{IsBound, NetworkSeen}
-use Rattle.node_session.specs.Stored.{IsNodeFault, IsStoredNode, StoredNodeStops}
+use Rattle.node_session.specs.Stored.{IsNodeFault, IsShownNode, IsStoredNode, StoredNodeStops}
 use Rattle.seedpaint.specs.Words.{ProcessSays}
 use Rattle.seedpaint.specs.declared.words.Call.{Call}
 use Rattle.seedpaint.specs.declared.words.Call.TheVariants.{View, Node, Derive, Paint}
@@ -29,8 +29,9 @@ CanBeMade (Node conn side port ticks hands peers file) = IsTileSide side
 CanBeMade (Derive kind h conn) = ⊤
 CanBeMade (Paint painting) = ⊥
 
--- the text is what the call writes for an input, and this is to be kept: for a view or a node with a state file the new
--- bytes of that, over what files hold, else nothing; what is seen of a link that a node may have is given first
+-- the text is what the call writes for an input, and this is to be kept: for a view or a node with a state file the
+-- strokes that the text shows, joined with what is found there, else nothing; what is seen of a link that a node may
+-- have is given first
 abbrev pub IsAnswer : {L : Type 0} → (L → LinkSeen) → Call → Held → List ℕ → List ℕ → ToKeep → Type 0
 IsAnswer heard (View conn side None) held input text kept =
     ((state : State) × IsView conn nothing input state text) × (kept ≡ None)
@@ -40,13 +41,23 @@ IsAnswer heard (Node conn side port ticks hands peers file) held input text kept
 IsAnswer heard (Derive kind h conn) held input text kept = IsDerivation kind h conn input text × (kept ≡ None)
 IsAnswer heard (Paint painting) held input text kept = ⊥
 
+-- the text shows an input so, whatever is kept of it
+abbrev pub IsShownBy : {L : Type 0} → (L → LinkSeen) → Call → Held → List ℕ → List ℕ → Type 0
+IsShownBy heard (View conn side None) held input text = (state : State) × IsView conn nothing input state text
+IsShownBy heard (View conn side (Some name)) held input text = IsShownOver conn held name input text
+IsShownBy heard (Node conn side port ticks hands peers file) held input text =
+    IsShownNode heard conn hands ticks file held input text
+IsShownBy heard (Derive kind h conn) held input text = IsDerivation kind h conn input text
+IsShownBy heard (Paint painting) held input text = ⊥
+
 -- where the call stops on an input
-abbrev pub StopsOn : Call → Held → List ℕ → RunError → Type 0
-StopsOn (View conn side None) held input e = InputStops nothing input e
-StopsOn (View conn side (Some name)) held input e = StoredStops conn held name input e
-StopsOn (Node conn side port ticks hands peers file) held input e = StoredNodeStops conn hands file held input e
-StopsOn (Derive kind h conn) held input e = DerivationStops input e
-StopsOn (Paint painting) held input e = ⊥
+abbrev pub StopsOn : {L : Type 0} → (L → LinkSeen) → Call → Held → List ℕ → RunError → Type 0
+StopsOn heard (View conn side None) held input e = InputStops nothing input e
+StopsOn heard (View conn side (Some name)) held input e = StoredStops conn held name input e
+StopsOn heard (Node conn side port ticks hands peers file) held input e =
+    StoredNodeStops heard conn hands ticks file held input e
+StopsOn heard (Derive kind h conn) held input e = DerivationStops input e
+StopsOn heard (Paint painting) held input e = ⊥
 
 -- the errors of the call that may come whatever the input is; V2 is among them where it has a state file, and D3 where
 -- it is a node
@@ -68,13 +79,18 @@ Leaves (Paint painting) old new = ⊥
 abbrev pub IsSaid : {Z E : Type 0} → Result (IntoIter (String Z) Z) E → (Call → Type 0) → Type 0
 IsSaid args P = (call : Call) × ProcessSays args call × P call
 
--- the same four of the call that the words say; words that say none are usage, and reading them may find no memory
+-- the same five of the call that the words say; words that say none are usage, and reading them may find no memory
 abbrev pub RunAnswers : {L Z E : Type 0} → (L → LinkSeen) → Result (IntoIter (String Z) Z) E → Held → List ℕ → List ℕ
     → ToKeep → Type 0
 RunAnswers heard args held input text kept = IsSaid args (λ call. IsAnswer heard call held input text kept)
 
-abbrev pub RunStops : {Z E : Type 0} → Result (IntoIter (String Z) Z) E → Held → List ℕ → RunError → Type 0
-RunStops args held input e = IsSaid args (λ call. StopsOn call held input e)
+abbrev pub RunShows : {L Z E : Type 0} → (L → LinkSeen) → Result (IntoIter (String Z) Z) E → Held → List ℕ → List ℕ
+    → Type 0
+RunShows heard args held input text = IsSaid args (λ call. IsShownBy heard call held input text)
+
+abbrev pub RunStops : {L Z E : Type 0} → (L → LinkSeen) → Result (IntoIter (String Z) Z) E → Held → List ℕ → RunError
+    → Type 0
+RunStops heard args held input e = IsSaid args (λ call. StopsOn heard call held input e)
 
 abbrev pub RunEndsEarly : {Z E : Type 0} → Result (IntoIter (String Z) Z) E → RunError → Type 0
 RunEndsEarly args e = (e ≡ Usage) ⊎ (e ≡ Memory) ⊎ IsSaid args (λ call. EndsEarly call e)

@@ -51,10 +51,10 @@ abbrev pub derive_command : App
 derive_command = with_rule (with_rule (with_rule (new_app (codes "derive")) (new_rule (codes "kind")))
     (option_of (codes "h"))) (option_of (codes "conn"))
 
--- the subcommand `paint`, with the options of a view and `--port`, and with the word behind it
+-- the subcommand `paint`, with the options of a view and its own, and with the word behind it
 abbrev pub paint_command : App
-paint_command =
-    with_rule (with_rule (viewing_command (codes "paint")) (option_of (codes "port"))) (new_rule (codes "mask"))
+paint_command = with_rule (with_rule (with_rule (viewing_command (codes "paint")) (option_of (codes "port")))
+    (option_of (codes "forward"))) (new_rule (codes "mask"))
 
 -- the program: its words begin behind its name, they have to name a subcommand, and they can ask for no help
 abbrev pub program : App
@@ -147,9 +147,10 @@ pub record IsNode (rows : List Row) (conn : Conn) (side port ticks hands : ℕ) 
   pub hands_is : HandsIs (first_of (codes "hands") rows) hands
   pub peers_are : PeersAre (all_of (codes "peer") rows) peers
 
--- the value of `--port` behind `paint` is this port, 0 to 65535; where there is none, it is 0
-abbrev pub PagePortIs : Option Text → ℕ → Type 0
-PagePortIs = NumberIs (Some 0) 0 65535
+-- the value of `--port` behind `paint` is this port, 0 to 65535; where there is no value, there is no port
+abbrev pub PagePortIs : Option Text → Option ℕ → Type 0
+PagePortIs None port = port ≡ None
+PagePortIs (Some value) port = (n : ℕ) × (port ≡ Some n) × NumberIs None 0 65535 (Some value) n
 
 -- the state file of a painting has the name that is the value of `--state`; where there is none, it is the mask's with
 -- `.spd` behind it
@@ -164,6 +165,7 @@ pub record IsPaint (rows : List Row) (painting : PaintCall) : Type 0 where
   pub conn_is : ConnIs (first_of (codes "conn") rows) painting.conn
   pub side_is : SideIs (first_of (codes "tile") rows) painting.side
   pub port_is : PagePortIs (first_of (codes "port") rows) painting.port
+  pub forward_is : painting.forward ≡ first_of (codes "forward") rows
 
 -- the subcommand that the words name, with what they give its options, is this call; the value of `--state` is the name
 -- of the state file

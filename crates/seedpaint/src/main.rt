@@ -14,10 +14,13 @@ use band_growth::ManyThreads;
 use byte_devices::{StdSink, StdSource};
 use node_session::network::Loopback;
 use paint_serve::paint;
-use paint_session::store::FileStore;
+use paint_session::file_store::FileStore;
 use process::{conclude, run};
 use std::env;
 use std::process::ExitCode;
+
+// For how many milliseconds a save of a page waits for other programs. Then the page says so, and tries again.
+const PAGE_PATIENCE: u32 = 600;
 
 fn main(rt: HostRuntime) -> ExitCode {
     let mut source = StdSource::new(rt.stdin());
@@ -38,7 +41,7 @@ fn main(rt: HostRuntime) -> ExitCode {
             &ManyThreads::new(&rt),
             rt.alloc(),
             call,
-            store,
+            FileStore::waiting(&rt, PAGE_PATIENCE),
             &mut sink,
         ),
         Ok(None) => Ok(()),

@@ -5,9 +5,9 @@ ghost use Rattle.std.specs.Process.{exit_status};
 ghost use Rattle.paint_session.specs.RunError.{HasStatus};
 ghost use Rattle.paint_session.specs.Serving.{AnswersOverStore};
 ghost use Rattle.node_session.specs.Network.{TellsNetwork};
-ghost use Rattle.seedpaint.specs.Run.{CanBeMade, EndsEarly, IsAnswer, Leaves, StopsOn, error_line};
-ghost use Rattle.seedpaint.specs.Run.{IfEnded, IfHandedBack, IsSaid};
-ghost use Rattle.seedpaint.specs.Run.{RunAnswers, RunEndsEarly, RunLeaves, RunStops, Tells, TellsFault, TellsLine};
+ghost use Rattle.seedpaint.specs.Run.{CanBeMade, EndsEarly, IsAnswer, IsShownBy, Leaves, StopsOn, error_line};
+ghost use Rattle.seedpaint.specs.Run.{IfEnded, IfHandedBack, IsSaid, Tells, TellsFault, TellsLine};
+ghost use Rattle.seedpaint.specs.Run.{RunAnswers, RunEndsEarly, RunLeaves, RunShows, RunStops};
 ghost use Rattle.seedpaint.specs.Words.{ProcessSaysNone};
 ghost use Rattle.seedpaint.specs.declared.words.Call.TheVariants as call;
 ghost use Rattle.grid_core.specs.Tiles.{IsTileSide};
@@ -32,10 +32,10 @@ use std::time::Clock;
 use std::{env, io};
 
 /// Makes the call that the words of the process say, as `env::args` gives them, from the source to the sink. The state
-/// file of a view or a node that has one is loaded from the store before the source is read, and saved after the image
-/// is written. A node binds its port on the network, between the load and the reading. A painting is handed back, with
-/// source, store, network and sink as they were. A view and a derivation of a large image are grown in at most 8
-/// threads, and no more than there are processors ([`ManyThreads`]).
+/// file of a view or a node that has one is loaded from the store before the source is read; after the image is written
+/// its strokes are saved, joined with what the file has by then. A node binds its port on the network, between the load
+/// and the reading. A painting is handed back, with source, store, network and sink as they were. A view and a
+/// derivation of a large image are grown in at most 8 threads, and no more than there are processors ([`ManyThreads`]).
 ///
 /// Errors: usage or want of memory for the words, with source, store, network and sink as they were; else those of the
 /// call ([`view_run_by`], [`view_stored_by`], [`node_stored`], [`derive_run_by`]). After each the files are as they
@@ -49,8 +49,9 @@ pub fn run<R: Threads + Wait + Clock + Sync, S: Source, T: StateStore, N: Networ
     network: &mut N,
     sink: &mut K,
 ) -> Result<Option<PaintCall>, RunError>
-    ensures runs { IfEnded result (λ ended. AnswersOverStore (RunAnswers N.Link.seen args) (RunStops args)
-        (RunEndsEarly args) ended S.seen source.old source.new T.seen store.old store.new K.seen sink.old sink.new) }
+    ensures runs { IfEnded result (λ ended. AnswersOverStore (RunAnswers N.Link.seen args) (RunShows N.Link.seen args)
+        (RunStops N.Link.seen args) (RunEndsEarly args) ended S.seen source.old source.new T.seen store.old store.new
+        K.seen sink.old sink.new) }
     ensures network { IfEnded result (λ ended. TellsNetwork (RunLeaves args (N.seen network.old)) ended
         (N.seen network.old) (N.seen network.new)) }
 
@@ -86,7 +87,8 @@ fn make<R: Threads + Wait + Clock + Sync, S: Source, T: StateStore, N: Network, 
     sink: &mut K,
 ) -> Result<(), RunError>
     requires can_be { CanBeMade call }
-    ensures runs { AnswersOverStore (IsAnswer N.Link.seen call) (StopsOn call) (EndsEarly call) result
+    ensures runs { AnswersOverStore (IsAnswer N.Link.seen call) (IsShownBy N.Link.seen call)
+        (StopsOn N.Link.seen call) (EndsEarly call) result
         S.seen source.old source.new T.seen store.old store.new K.seen sink.old sink.new }
     ensures network { TellsNetwork (Leaves call (N.seen network.old)) result
         (N.seen network.old) (N.seen network.new) }

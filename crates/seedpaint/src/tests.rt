@@ -199,6 +199,10 @@ const RUNS: &[Run] = &[
         words: "seedpaint|paint|m.pgm|--port|65536",
         ..USAGE
     },
+    Run {
+        words: "seedpaint|paint|m.pgm|--forward|-f",
+        ..USAGE
+    },
 ];
 
 // The words between the bars of a text.
@@ -308,16 +312,54 @@ fn runs(rt: HostRuntime) {
     }
 }
 
-// Whether a run hands back a painting of these names at this port, and leaves its input.
+// What a painting is handed back with: its words with a bar between them, the names of its mask and its state file, the
+// port that they say, and the file that forwards.
+struct Handed {
+    words: &'static str,
+    mask: &'static str,
+    file: &'static str,
+    port: Option<u16>,
+    forward: Option<&'static str>,
+}
+
+const HANDED: &[Handed] = &[
+    Handed {
+        words: "seedpaint|paint|m.pgm",
+        mask: "m.pgm",
+        file: "m.pgm.spd",
+        port: None,
+        forward: None,
+    },
+    Handed {
+        words: "seedpaint|paint|--state|kept|--port|65535|--forward|f.html|--conn|8|--tile|16|m",
+        mask: "m",
+        file: "kept",
+        port: Some(65_535),
+        forward: Some("f.html"),
+    },
+    Handed {
+        words: "seedpaint|paint|--forward=-f|--port=0|m",
+        mask: "m",
+        file: "m.spd",
+        port: Some(0),
+        forward: Some("-f"),
+    },
+];
+
+// Whether these are a painting's names and its port.
+fn is_called(painting: &PaintCall, case: &Handed) -> bool {
+    let forward = painting.forward.as_ref().map(|file| file.as_str());
+    let is_named = painting.mask.as_str() == case.mask && painting.file.name() == case.file;
+    is_named && painting.port == case.port && forward == case.forward
+}
+
+// Whether a run hands back such a painting, and leaves its input.
 fn is_handed_back<R: Threads + Wait + Clock + Sync>(
     rt: &R,
     alloc: Global,
-    words: &str,
-    mask: &str,
-    file: &str,
-    port: u16,
+    case: &Handed,
 ) -> Result<bool, Memory> {
-    let words = words_of(alloc, words)?;
+    let words = words_of(alloc, case.words)?;
     let mut source = MemorySource::new(Vec::from_slice(alloc, PLACED.as_bytes())?);
     let mut store = MemoryStore::new(alloc).failing_at(1);
     let mut network = MemoryNetwork::new(None);
@@ -334,18 +376,18 @@ fn is_handed_back<R: Threads + Wait + Clock + Sync>(
     let Ok(Some(painting)) = outcome else {
         return Ok(false);
     };
-    let is_named = painting.mask.as_str() == mask && painting.file.name() == file;
-    Ok(is_named && painting.port == port && source.pulls() == 0 && sink.written().is_empty())
+    Ok(is_called(&painting, case) && source.pulls() == 0 && sink.written().is_empty())
 }
 
 #[test]
 fn paintings(rt: HostRuntime) {
-    let alloc = rt.alloc();
-    let plain = is_handed_back(&rt, alloc, "seedpaint|paint|m.pgm", "m.pgm", "m.pgm.spd", 0);
-    assert!(rt; matches!(plain, Ok(true)));
-    let words = "seedpaint|paint|--state|kept|--port|65535|--conn|8|--tile|16|m";
-    let full = is_handed_back(&rt, alloc, words, "m", "kept", 65_535);
-    assert!(rt; matches!(full, Ok(true)));
+    for case in HANDED {
+        assert!(rt;
+            matches!(is_handed_back(&rt, rt.alloc(), case), Ok(true)),
+            "{}",
+            case.words
+        );
+    }
 }
 
 // Why there is no studio, or none that closes, the line and the status.

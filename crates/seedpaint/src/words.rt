@@ -88,12 +88,15 @@ fn refusal_of(error: &clap::Error) -> RunError
 
 /// Reads the words behind the program's name: no word at all, `view [--conn 4|8] [--tile N] [--state FILE]`,
 /// `node --port PORT --ticks N [--hands N] [--conn 4|8] [--tile N] [--state FILE] PEER..`,
-/// `derive KIND [--h N] [--conn 4|8]`, or `paint MASK [--state FILE] [--port N] [--conn 4|8] [--tile N]`. Without
-/// `--conn` the connectivity is that of four neighbours. The N of `--tile` is 8 to 256, and 64 where it is not given.
-/// FILE is any text. PORT and each PEER, of which there are 1 to 8, are 1 to 65535. The N of `--ticks` is 1 to 100000,
-/// that of `--hands` 1 to 16, and 2 where it is not given. KIND is `fill`, `hmax` or `regmax`. The N of `--h` is 0 to
-/// 65535 with each KIND, and 1 where it is not given. MASK is any text; where behind `paint` no FILE is given, it is
-/// MASK with `.spd` behind it. The N of `--port` there is 0 to 65535, and 0 where it is not given.
+/// `derive KIND [--h N] [--conn 4|8]`, or
+/// `paint MASK [--state FILE] [--port N] [--forward FILE] [--conn 4|8] [--tile N]`.
+///
+/// Without `--conn` the connectivity is that of four neighbours. The N of `--tile` is 8 to 256, and 64 where it is not
+/// given. FILE is any text. PORT and each PEER, of which there are 1 to 8, are 1 to 65535. The N of `--ticks` is 1 to
+/// 100000, that of `--hands` 1 to 16, and 2 where it is not given. KIND is `fill`, `hmax` or `regmax`. The N of `--h`
+/// is 0 to 65535 with each KIND, and 1 where it is not given. MASK is any text; where behind `paint` no `--state` is
+/// given, its FILE is MASK with `.spd` behind it. The N of `--port` there is 0 to 65535; where it is not given, the
+/// call says no port.
 ///
 /// `--conn=8`, the options in another order and a `--` at the end are taken too, as `clap` does. A value is its very
 /// text: `08` is no value. There is no help and no version.
@@ -177,7 +180,7 @@ pub fn words_of_no_node()
 {}
 
 /// Words that say no painting, and no other call: no mask or two of them, a port that is too great or not in decimal, a
-/// side that tiles may not have, an option that is there twice, or is one of another subcommand.
+/// side that tiles may not have, an option that is there twice or without a value, or is one of another subcommand.
 pub fn words_of_no_painting()
     ensures { All IsUsage of_no_painting }
 {}

@@ -6,7 +6,7 @@ use Rattle.paint_session.proofs.Shared.{stored_is_no_usage}
 use Rattle.node_session.specs.Network.{NetworkSeen}
 use Rattle.seedpaint.specs.Run.{Leaves}
 use Rattle.seedpaint.specs.declared.words.Call.{Call}
-use Rattle.seedpaint.specs.declared.words.Call.TheVariants.{View, Derive}
+use Rattle.seedpaint.specs.declared.words.Call.TheVariants.{View}
 use Rattle.seedpaint.proofs.Calls.{derivation_runs, stored_view_runs, view_runs}
 use Rattle.seedpaint.proofs.Networks.{alone_is_no_link, network_unasked, node_runs, stored_is_no_link}
 use Rattle.seedpaint.proofs.process.make.Goals as goal

@@ -15,7 +15,8 @@ use Rattle.link_nodes.specs.Links.{LinkSeen}
 use Rattle.node_session.proofs.StoredNodes.{network_idle}
 use Rattle.node_session.specs.Network.{NetworkSeen, TellsNetwork}
 use Rattle.seedpaint.proofs.Networks.{TellsNetwork-wider, words_are_no_link}
-use Rattle.seedpaint.specs.Run.{EndsEarly, IsAnswer, Leaves, RunAnswers, RunEndsEarly, RunLeaves, RunStops, StopsOn}
+use Rattle.seedpaint.specs.Run.{EndsEarly, IsAnswer, IsShownBy, Leaves, StopsOn}
+use Rattle.seedpaint.specs.Run.{RunAnswers, RunEndsEarly, RunLeaves, RunShows, RunStops}
 use Rattle.seedpaint.specs.Words.{ProcessSays}
 use Rattle.seedpaint.specs.declared.words.Call.{Call}
 use Rattle.seedpaint.proofs.process.run.Goals as goal
@@ -30,14 +31,14 @@ module _ {Z E : Type 0} (args : Result (IntoIter (String Z) Z) E) (call : Call) 
   answers_of_said : {S T K : Type 0} {source_seen : S → SourceSeen} {source source' : S} {store_seen : T → StoreSeen}
       {store store' : T} {sink_seen : K → SinkSeen} {sink sink' : K}
       {L : Type 0} (heard : L → LinkSeen)
-      → AnswersOverStore (IsAnswer heard call) (StopsOn call) (EndsEarly call) result source_seen source source'
-      store_seen store store' sink_seen sink sink'
-      → AnswersOverStore (RunAnswers heard args) (RunStops args) (RunEndsEarly args) result source_seen source source'
-      store_seen store store' sink_seen sink sink'
+      → AnswersOverStore (IsAnswer heard call) (IsShownBy heard call) (StopsOn heard call) (EndsEarly call) result
+      source_seen source source' store_seen store store' sink_seen sink sink'
+      → AnswersOverStore (RunAnswers heard args) (RunShows heard args) (RunStops heard args) (RunEndsEarly args) result
+      source_seen source source' store_seen store store' sink_seen sink sink'
   answers_of_said heard made = record {
-    serves = Serves-wider _ _ _ _ _ _ _ _ _ _ _ _ result _ _
-        (λ input text kept answer. (call, says, answer)) (λ input e stops. (call, says, stops))
-        (λ e early. inr (inr (call, says, early))) made.serves;
+    serves = Serves-wider _ _ _ _ _ _ _ _ _ _ _ _ _ _ result _ _
+        (λ input text kept answer. (call, says, answer)) (λ input text shows. (call, says, shows))
+        (λ input e stops. (call, says, stops)) (λ e early. inr (inr (call, says, early))) made.serves;
     devices = TellsDevices-wider _ _ _ result _ _ _ _ (λ e early. inr (inr (call, says, early))) made.devices;
     stored = made.stored;
   }
@@ -53,7 +54,7 @@ returns-in_err-said-clause-runs g c =
     let refused = c.in_err-said.ensures.refused in
     let early = words_are_early c.args.args c.in_err-said.field-0.0 refused in
     rw (p.1, p.2) (record {
-      serves = serves_unread _ _ _ _ _ _ _ c.in_err-said.field-0.0 _ _ early;
+      serves = serves_unread _ _ _ _ _ _ _ _ c.in_err-said.field-0.0 _ _ early;
       devices = devices_unread _ c.in_err-said.field-0.0 _ _ early
           (words_are_no_device c.in_err-said.field-0.0 refused);
       stored = store_unasked c.in_err-said.field-0.0 _ (words_are_no_file c.in_err-said.field-0.0 refused);

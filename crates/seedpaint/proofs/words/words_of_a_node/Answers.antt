@@ -1,6 +1,5 @@
 use Rattle.std.proofs.Common.{Some, None, refl, inr, codes, [], ◌∷◌, arith}
 use Rattle.std.proofs.lemmas.List.Elements.{All-from_recursion}
-use Rattle.std.specs.Prelude.{All}
 use Rattle.clap.proofs.OnLiterals.{clap_on_literals}
 use Rattle.seedpaint.specs.Examples.{IsSaidSo, of_a_node}
 use Rattle.seedpaint.specs.Words.{ArePorts, HandsIs, PortIs, Says, SideIs, TicksIs}

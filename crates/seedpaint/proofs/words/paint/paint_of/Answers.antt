@@ -59,6 +59,8 @@ returns c =
     c.get_str-4.ensures ∙ first_value-rows found (codes "port") in
     let file : option_map (λ text. text.now) c.get_str-5.result ≡ first_of (codes "state") rows =
     c.get_str-5.ensures ∙ first_value-rows found (codes "state") in
+    let forward : option_map (λ text. text.now) c.get_str-6.result ≡ first_of (codes "forward") rows =
+    c.get_str-6.ensures ∙ first_value-rows found (codes "forward") in
     let named : option_map (λ text. text.now) c.get_str.result ≡ Some c.in-Some.name.now = rw c.in-Some.is refl in
     let same : c.in_ok-mask.mask ≡ c.in-Some.name.now = c.in_ok-mask.ensures in
     reads_value _ _ (
@@ -71,5 +73,6 @@ returns c =
         conn_is = subst (λ (v : Option Text). ConnIs v c.in_ok-conn.conn) conn c.in_ok-conn.ensures.ok;
         side_is = subst (λ (v : Option Text). SideIs v c.in_ok-side.side) side c.in_ok-side.ensures.said;
         port_is = subst (λ (v : Option Text). PagePortIs v c.in_ok-port.port) port c.in_ok-port.ensures.said;
+        forward_is = c.in_ok-forward.ensures ∙ forward;
       },
     )
