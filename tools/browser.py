@@ -1,4 +1,5 @@
-"""Chromium by its debugging protocol, with Python's standard library: tabs, real mouse and key events, screenshots.
+"""Chromium by its debugging protocol, with Python's standard library: tabs, real events of mouse, pen, fingers and
+keys, screenshots.
 
     with Browser() as browser:
         tab = browser.open("http://127.0.0.1:8000/")
@@ -47,11 +48,13 @@ class Browser:
         lines = path.read_text().splitlines() if path.is_file() else []
         return int(lines[0]) if len(lines) >= 2 else None
 
-    def open(self, address):
-        """A tab with this address."""
+    def open(self, address, before=""):
+        """A tab with this address. The script `before` runs before those of each page."""
         put = urllib.request.Request(f"http://127.0.0.1:{self.port}/json/new?about:blank", method="PUT")
         with urllib.request.urlopen(put) as answer:
-            tab = Tab(self.port, json.load(answer)["webSocketDebuggerUrl"], *self.size)
+            tab = Tab(self.port, json.load(answer)["webSocketDebuggerUrl"], self.size)
+        if before:
+            tab.call("Page.addScriptToEvaluateOnNewDocument", source=before)
         tab.go(address)
         return tab
 
@@ -67,12 +70,12 @@ class Browser:
 class Tab:
     """A tab of a browser, and the events that it reported."""
 
-    def __init__(self, port, address, width, height):
+    def __init__(self, port, address, size):
         self.wire = Wire(port, address.split(f":{port}", 1)[1])
-        self.events, self.count = [], 0
+        self.events, self.count, self.size, self.fingers = [], 0, size, 0
         for domain in ("Page", "Runtime", "Log"):
             self.call(f"{domain}.enable")
-        self.call("Emulation.setDeviceMetricsOverride", width=width, height=height, deviceScaleFactor=1, mobile=False)
+        self.have_ratio(1)
         self.call("Page.addScriptToEvaluateOnNewDocument", source=LISTEN_FOR_REPORTS)
 
     def call(self, method, **parameters):
@@ -87,6 +90,18 @@ class Tab:
                 return message["result"]
             self.events.append(message)
 
+    def have_ratio(self, ratio):
+        """Gives the window so many pixels of the screen for each of its own, across and down."""
+        width, height = self.size
+        self.call("Emulation.setDeviceMetricsOverride", width=width, height=height, deviceScaleFactor=ratio,
+                  mobile=False)
+
+    def slow_down(self, bytes_a_second):
+        """Lets no more bytes come."""
+        self.call("Network.enable")
+        self.call("Network.emulateNetworkConditions", offline=False, latency=0, downloadThroughput=bytes_a_second,
+                  uploadThroughput=-1)
+
     def go(self, address):
         """Goes to an address."""
         self.call("Page.navigate", url=address)
@@ -99,9 +114,15 @@ class Tab:
         return result["result"].get("value")
 
     def wait(self, script, seconds=20):
-        """Waits until an expression of the page is true."""
-        return wait_for(lambda: self.run(f"(() => {{ try {{ return {script}; }} catch (_) {{ return false; }} }})()"),
-                        script, seconds)
+        """Waits until an expression of the page is true, also of a page that is still to come."""
+        return wait_for(lambda: self.holds(script), script, seconds)
+
+    def holds(self, script):
+        """Whether an expression of the page is true. It is not where it throws, or the page goes meanwhile."""
+        try:
+            return self.run(f"(() => {{ try {{ return {script}; }} catch (_) {{ return false; }} }})()")
+        except Fault:
+            return False
 
     def text(self, name):
         """What stands in an element."""
@@ -121,6 +142,13 @@ class Tab:
             self.mouse("mouseMoved", *point, button, modifiers)
         self.mouse("mouseReleased", *points[-1], button, modifiers)
 
+    def touch(self, *points):
+        """Fingers that are at these points of the window from now on: those before them moved, or were lifted."""
+        kind = ("touchMove" if points else "touchEnd") if self.fingers >= len(points) else "touchStart"
+        self.call("Input.dispatchTouchEvent", type=kind,
+                  touchPoints=[{"x": x, "y": y, "id": number} for number, (x, y) in enumerate(points)])
+        self.fingers = len(points)
+
     def click(self, x, y, modifiers=0):
         """Presses and lets go the left button."""
         self.drag([(x, y)], modifiers=modifiers)
@@ -138,6 +166,10 @@ class Tab:
         """Presses a key and lets it go."""
         self.key_down(key, modifiers)
         self.key_up(key, modifiers)
+
+    def type(self, text):
+        """Puts text where the caret is."""
+        self.call("Input.insertText", text=text)
 
     def key_down(self, key, modifiers=0):
         """Presses a key."""

@@ -1,22 +1,22 @@
 #!/usr/bin/env python3
-"""Test the page of `seedpaint paint` in Chromium, with real mouse and key events.
+"""Test the page of `seedpaint paint` in Chromium, with real events of mouse, pen, fingers and keys.
 
     python3 tools/paint_test.py crates/seedpaint/out/seedpaint paint
 
-The words are the command that serves. It is started with a mask, `--state FILE` and `--port N` behind them, and its
-first line is the address. What the page shows is compared with the plain reconstruction of bench/fuzz, or with the
-program's own view where `--view` names it. The first check that fails ends the script with status 1. With
-`--pictures FOLDER` it writes the pictures of the README.
+The words are the command that serves. It is started with a mask, `--state FILE` and `--port N` behind them, where N is
+0, or the port that it had before, and its first line is the address. What the page shows is compared with the plain
+reconstruction of bench/fuzz, or with the program's own view where `--view` names it. The first check that fails ends
+the script with status 1. With `--pictures FOLDER` it writes the pictures of the README.
 
 It needs Python 3 and Debian's package chromium.
 """
 
 import argparse
 import base64
+import contextlib
 import pathlib
 import shutil
 import signal
-import socket
 import subprocess
 import sys
 import tempfile
@@ -34,6 +34,17 @@ MOST_SECONDS_TO_THE_OTHER = 0.5
 MINE = [[(51, 54), (60, 44)], [(84, 68), (98, 74)], [(120, 140), (127, 136)], [(200, 30)], [(206, 188)],
         [(40, 162), (58, 168), (66, 170)]]  # the strokes of the pictures, each by its pixels
 THEIRS = [[(285, 138), (287, 148)], [(297, 42)], [(264, 222), (276, 234)]]
+NO_STORAGE = """for (const name of ["localStorage", "sessionStorage"]) {
+    Object.defineProperty(window, name, { get() { throw new DOMException("denied", "SecurityError"); } }); }"""
+FILL_STORAGE = """(() => { for (let k = 0, text = "x".repeat(1 << 22); text; k++) {
+    try { localStorage.setItem(`filler ${k}`, text); } catch (_) { text = text.slice(0, text.length >> 1); } } })()"""
+EMPTY_STORAGE = """Object.keys(localStorage).filter(name => name.startsWith("filler"))
+    .forEach(name => localStorage.removeItem(name))"""
+TEN_TIMES_THE_HASTE = """{ const wait = setTimeout, limit = AbortSignal.timeout.bind(AbortSignal);
+    const hasty = milliseconds => milliseconds < 30000 ? milliseconds : milliseconds / 10;
+    window.setTimeout = (act, milliseconds) => wait(act, hasty(milliseconds));
+    AbortSignal.timeout = milliseconds => limit(hasty(milliseconds)); }"""
+SLOW_LINK = 40_000  # bytes a second
 COLLEAGUE = [b"disc 7e57ab1e-0000-4000-8000-00000000000%d %d %d:%d+2\n" % (k, level, y, x)
              for k, (level, y, x) in enumerate([(200, 30, 40), (255, 188, 206), (255, 142, 285)])]
 
@@ -48,19 +59,28 @@ def check(holds, name):
 # ---- The program ----
 
 class Program:
-    """The program that serves, with its mask and its state file."""
+    """The program that serves, with its mask, its state file and its port."""
 
     def __init__(self, words, folder):
-        self.words, self.state, self.port = words, folder / "strokes.spd", free_port()
+        self.words, self.state, self.port = words, folder / "strokes.spd", 0
         self.process, self.address = None, None
 
     def start(self, mask):
-        """Starts it; the address is its first line."""
+        """Starts it, at the port that it had, or else at a free one; the address is its first line."""
         command = [*self.words, str(mask), "--state", str(self.state), "--port", str(self.port)]
         self.process = subprocess.Popen(command, stdout=subprocess.PIPE, text=True)
         self.address = self.process.stdout.readline().strip()
         if not self.address:
             raise Fault(f"{' '.join(command)} printed no address")
+        self.port = int(self.address.split(":")[2].split("/")[0])
+
+    def start_elsewhere(self, mask):
+        """Starts it at another port than it had."""
+        before = self.port
+        while self.port == before:
+            self.stop()
+            self.port = 0
+            self.start(mask)
 
     def stop(self):
         """Ends it as a terminal does."""
@@ -72,17 +92,19 @@ class Program:
                 self.process.kill()
                 self.process.wait()
 
+    @contextlib.contextmanager
+    def paused(self):
+        """Meanwhile it does nothing, and its connections stay."""
+        self.process.send_signal(signal.SIGSTOP)
+        try:
+            yield
+        finally:
+            self.process.send_signal(signal.SIGCONT)
+
     def get(self, path):
         """What it answers to GET."""
         with urllib.request.urlopen(self.address + path) as answer:
             return answer.read()
-
-
-def free_port():
-    """A port that nobody uses now."""
-    with socket.socket() as probe:
-        probe.bind(("127.0.0.1", 0))
-        return probe.getsockname()[1]
 
 
 # ---- The page ----
@@ -100,18 +122,37 @@ class Page:
 
     def at(self, x, y):
         """Where a pixel of the mask lies in the window."""
-        return self.tab.run(f"""(() => {{ const box = overlay.getBoundingClientRect();
-            return [Math.round(box.left + sight.left + ({x} + .5) * sight.zoom - .5),
-                    Math.round(box.top + sight.top + ({y} + .5) * sight.zoom - .5)]; }})()""")
+        return self.tab.run(f"""(() => {{
+            const box = overlay.getBoundingClientRect(), ratio = overlay.width / box.width;
+            return [Math.round(box.left + (sight.left + ({x} + .5) * sight.zoom) / ratio - .5),
+                    Math.round(box.top + (sight.top + ({y} + .5) * sight.zoom) / ratio - .5)]; }})()""")
 
     def drag(self, *pixels, **more):
         """Presses the button at the first pixel and lets it go at the last."""
         self.tab.drag([self.at(*pixel) for pixel in pixels], **more)
 
+    def go(self, address):
+        """Goes to an address, and waits until the picture is there."""
+        self.tab.run("document.title = ''")
+        self.tab.go(address)
+        self.await_open()
+
+    def move_to(self, address):
+        """Enters an address where the page asks for a new one, and waits until its picture is there."""
+        self.tab.run("element('newAddress').value = '', document.title = ''")
+        self.tab.click_element("newAddress")
+        self.tab.type(address)
+        self.tab.click_element("goThere")
+        self.await_open()
+
     def strokes(self):
         """The live strokes that the page knows, as lines."""
         return self.tab.run("[...board.strokes.values()].map(({ kind, tag, level, shape }) =>"
                             " `${kind} ${tag} ${level} ${shape}`)")
+
+    def author(self):
+        """What the tags of its own strokes begin with, as its cookie says."""
+        return self.tab.run("/seedpaint-author=([0-9a-f]{16})/.exec(document.cookie)?.[1]")
 
     def painted(self, number):
         """A stroke that the page knows, and its pixels."""
@@ -154,6 +195,11 @@ class Page:
 
 
 # ---- What is expected ----
+
+def author_of(line):
+    """The author in the tag of a stroke's line."""
+    return line.split(" ")[1].replace("-", "")[:16]
+
 
 def brushed(path, radius, width):
     """The pixels of discs at all pixels of the lines between the pixels of a path, away from the picture's border."""
@@ -233,10 +279,12 @@ class Sitting:
         self.program.stop()
         self.program.state = self.folder / state
         self.program.start(self.masks[mask])
+        self.go_on()
+
+    def go_on(self):
+        """Opens the page under the program's address in both tabs."""
         for page in (self.first, self.second):
-            page.tab.run("document.title = ''")
-            page.tab.go(self.program.address)
-            page.await_open()
+            page.go(self.program.address)
 
     def both(self, count):
         """Both pages have so many strokes, all of them grown."""
@@ -260,9 +308,9 @@ def paint_run_and_disc(sitting):
     check(stroke.level == max(image.samples[pixel] for pixel in pixels), "its level is the mask's highest under them")
     first.drag((206, 188))
     sitting.both(2)
-    kind, tag, _, shape = next(line for line in first.strokes() if "disc" in line).split(" ")
-    check((kind, shape) == ("disc", "188:206+6"), "a click is a disc")
-    check(tag.replace("-", "")[:16] == first.tab.run("localStorage.author"), "its tag begins with the author")
+    line = next(line for line in first.strokes() if "disc" in line)
+    check(line.endswith(" 188:206+6"), "a click is a disc")
+    check(author_of(line) == first.author() != second.author(), "its tag begins with the author")
     sitting.shown("after a stroke and a disc")
 
 
@@ -284,6 +332,7 @@ def withdraw_the_others(sitting):
     second.tab.key("]")
     second.drag((116, 136), (124, 140))
     sitting.both(3)
+    before = first.strokes()
     first.tab.key("x")
     first.tab.mouse("mouseMoved", *first.at(120, 138))
     check(first.tab.run("hand.hovered !== null && hand.hovered.colour > 1"), "hovering finds the other's stroke")
@@ -294,7 +343,8 @@ def withdraw_the_others(sitting):
     check(first.tab.run("hand.hovered === null && done.length === 3"), "a second click there takes nothing more")
     first.tab.key("z", CONTROL)
     sitting.both(3)
-    check(True, "undo of a withdrawal places it anew")
+    line = next(line for line in first.strokes() if line not in before)
+    check(author_of(line) == second.author(), "undo of a withdrawal places it anew, as the other's")
     first.tab.key("b")
     sitting.shown("after a withdrawal")
 
@@ -371,6 +421,11 @@ def join_files(sitting):
     page.tab.drop(*page.at(160, 128), folder / "stranger.spd")
     page.tab.wait("element('message').textContent.includes('D1')")
     check("another picture" in page.tab.text("message"), "a file for another mask is refused in words")
+    (folder / "photo.jpg").write_bytes(b"\xff\xd8\xff\xe0 a photograph" * 300_000)
+    page.tab.drop(*page.at(160, 128), folder / "photo.jpg")
+    page.tab.wait("element('message').textContent.includes('photo.jpg')")
+    check("no state file" in page.tab.text("message") and page.tab.run("outbox.length") == 0,
+          "so is a large file that is no state file, as a whole")
     sitting.shown("after a join")
 
 
@@ -430,6 +485,127 @@ def check_zoom_limits(page, point):
     check(page.tab.run("sight.zoom") == 0.02, "and at 2 %")
 
 
+def another_ratio(sitting):
+    """Another pixel ratio while the page is open: what is seen stays, and strokes land under the pointer."""
+    page, place, count = sitting.first, sitting.first.at(160, 128), len(sitting.first.strokes())
+    for ratio in (2, 1):
+        page.tab.have_ratio(ratio)
+        page.tab.mouse("mouseMoved", *place)
+        page.tab.wait(f"picture.width === {ratio} * overlay.getBoundingClientRect().width")
+        across, down = page.at(160, 128)
+        check(abs(across - place[0]) <= 1 and abs(down - place[1]) <= 1, f"at ratio {ratio} the picture stays in place")
+        page.drag((150, 30))
+        page.settle(count + 1)
+        check(any(line.endswith(" 30:150+6") for line in page.strokes()), "and a disc is where the pointer was")
+        page.tab.key("z", CONTROL)
+        sitting.both(count)
+
+
+def one_finger(sitting):
+    """A finger paints, and withdraws."""
+    page, count = sitting.first, len(sitting.first.strokes())
+    path = [(240, 70), (246, 74), (252, 75)]
+    for pixel in path:
+        page.tab.touch(page.at(*pixel))
+    page.tab.touch()
+    page.settle(count + 1)
+    _, pixels = page.painted(count)
+    check(pixels == brushed(path, 6, page.tab.run("board.width")), "a finger paints along its path")
+    page.tab.key("x")
+    page.tab.touch(page.at(246, 74))
+    page.tab.touch()
+    sitting.both(count)
+    check(True, "and withdraws a stroke")
+    page.tab.key("b")
+
+
+def two_fingers(sitting):
+    """A second finger drops the stroke in hand; the two zoom and move the picture."""
+    page, strokes = sitting.first, sitting.first.strokes()
+    middle, zoom = page.at(160, 128), page.tab.run("sight.zoom")
+
+    def at(across, down, half):
+        return [(middle[0] + across + side * half, middle[1] + down) for side in (-1, 1)]
+
+    page.tab.touch(at(0, 0, 60)[0])
+    page.tab.touch(at(0, 5, 60)[0])
+    page.tab.wait("hand.gesture !== null")
+    page.tab.touch(*at(0, 0, 60))
+    page.tab.wait("hand.gesture === null")
+    check(True, "a second finger drops the stroke in hand")
+    page.tab.touch(*at(20, 10, 90))
+    page.tab.touch(*at(70, -30, 120))
+    page.tab.wait(f"Math.abs(sight.zoom / {zoom} - 2) < .1")
+    check(True, "at twice the distance the zoom is twice as much")
+    across, down = page.at(160, 128)
+    check(abs(across - middle[0] - 70) < 4 and abs(down - middle[1] + 30) < 4, "and the picture goes with the fingers")
+    page.tab.touch(at(70, -30, 120)[0])
+    page.tab.touch(at(20, -20, 120)[0])
+    page.tab.touch()
+    time.sleep(0.3)
+    check(page.strokes() == strokes and page.tab.run("outbox.length") == 0, "nothing of it is painted")
+    page.tab.key("0")
+
+
+def pen(sitting):
+    """A pen paints, and fingers do nothing meanwhile."""
+    page, count = sitting.first, len(sitting.first.strokes())
+    path = [(240, 70), (246, 74), (252, 75)]
+    start, middle, end = (page.at(*pixel) for pixel in path)
+    page.tab.mouse("mouseMoved", *start, pointerType="pen")
+    page.tab.mouse("mousePressed", *start, "left", pointerType="pen")
+    page.tab.touch(page.at(40, 40), page.at(80, 40))
+    page.tab.mouse("mouseMoved", *middle, "left", pointerType="pen")
+    page.tab.touch(page.at(60, 40), page.at(80, 60))
+    page.tab.touch()
+    page.tab.mouse("mouseMoved", *end, "left", pointerType="pen")
+    page.tab.mouse("mouseReleased", *end, "left", pointerType="pen")
+    page.settle(count + 1)
+    _, pixels = page.painted(count)
+    check(pixels == brushed(path, 6, page.tab.run("board.width")), "a pen paints, and fingers meanwhile do nothing")
+    page.tab.touch(page.at(40, 40))
+    page.tab.touch()
+    time.sleep(0.3)
+    check(page.tab.run("board.strokes.size + outbox.length") == count + 1, "nor do they while it is near")
+    page.tab.mouse("mouseMoved", 5, 5, pointerType="pen")
+    page.tab.touch(page.at(40, 40))
+    page.tab.touch()
+    page.settle(count + 2)
+    check(True, "once it is away a finger paints")
+    page.tab.key("z", CONTROL)
+    page.tab.key("z", CONTROL)
+    sitting.both(count)
+
+
+def no_storage(sitting):
+    """A browser that refuses storage: the page says so, and goes on."""
+    count = len(sitting.first.strokes())
+    with Browser() as browser:
+        page = Page(browser.open(sitting.program.address, NO_STORAGE))
+        check("nothing outlives a reload" in page.tab.text("storage"), "without storage the page says what is lost")
+        page.drag((240, 70))
+        page.settle(count + 1)
+        page.tab.key("z", CONTROL)
+        page.settle(count)
+        check(page.tab.text("kept") == "all kept" and page.tab.faults() == [], "and it paints all the same")
+    sitting.both(count)
+
+
+def full_storage(sitting):
+    """A storage that is full: an edit that waits is told, and sent all the same."""
+    page, count = sitting.first, len(sitting.first.strokes())
+    page.tab.run(FILL_STORAGE)
+    with sitting.program.paused():
+        page.drag((240, 70))
+        page.tab.wait("element('storage').textContent.includes('nothing outlives a reload')")
+        check(page.tab.text("kept") == "1 not kept yet", "where storage is full the page says what is lost")
+    page.settle(count + 1)
+    check(page.tab.text("storage") == "", "and no more once all is kept")
+    page.tab.run(EMPTY_STORAGE)
+    page.tab.key("z", CONTROL)
+    sitting.both(count)
+
+
 def reload_page(sitting):
     """A reload loses nothing, and undo goes on."""
     page, before = sitting.first, sorted(sitting.first.strokes())
@@ -445,25 +621,96 @@ def reload_page(sitting):
     check(sorted(page.strokes()) == before, "undo goes on behind it")
 
 
+def own_host(sitting):
+    """The page at `localhost` goes to 127.0.0.1, and stores nothing before."""
+    page, address = sitting.first, sitting.program.address
+    elsewhere, author = address.replace("127.0.0.1", "localhost"), page.author()
+    page.tab.run("document.title = ''")
+    page.tab.go(elsewhere)
+    page.await_open()
+    check(page.tab.run("location.href") == address, "the page at localhost goes to 127.0.0.1")
+    check(page.tab.call("Network.getCookies", urls=[elsewhere])["cookies"] == [], "and leaves nothing at localhost")
+    check(page.author() == author, "so the author is the same")
+
+
 def restart(sitting):
-    """What is painted while the program is away is sent once it is there again."""
+    """What is painted while the program is away is sent once it is there again, at the same port."""
     page, program = sitting.first, sitting.program
     address = program.address
     program.stop()
     page.drag((60, 200), (66, 203))
     page.tab.wait("silence.failures > 0")
     check(page.tab.text("kept") == "1 not kept yet", "an unanswered edit is told")
+    page.tab.wait("!element('banner').hidden")
+    check("does not answer" in page.tab.text("banner"), "a program that is away is told")
     program.start(sitting.masks["cells"])
     if program.address != address:
-        page.tab.wait("!element('banner').hidden")
-        check("another address" in page.tab.text("banner"), "a restart under another address is told")
-        for each in (page, sitting.second):
-            each.tab.run("document.title = ''")
-            each.tab.go(program.address)
-            each.await_open()
+        page.tab.wait("element('banner').textContent.includes('another address')")
+        check(True, "a restart under another address is told")
+        check_wrong_addresses(page, program)
+        sitting.go_on()
     sitting.both(7)
     check(page.tab.text("kept") == "all kept", "a restart loses nothing, and the edit is sent again")
     sitting.shown("after a restart")
+
+
+def check_wrong_addresses(page, program):
+    """No other address is gone to than one that the program may have printed."""
+    right = program.address
+    for wrong in (right[:-1], right + "#", right.replace("http", "https"), right.replace("127.0.0.1", "localhost"),
+                  right.replace("127.0.0.1", "127.0.0.1.example")):
+        page.tab.run(f"element('newAddress').value = '{wrong}'")
+        page.tab.click_element("goThere")
+        if "no address" not in page.tab.text("moveFault"):
+            raise Fault(f"{wrong} is taken for an address of the program")
+    check(True, "other addresses are refused")
+
+
+def restart_elsewhere(sitting):
+    """A restart at another port: what waits comes along, and the author is the same."""
+    page, program, author = sitting.first, sitting.program, sitting.first.author()
+    program.stop()
+    page.drag((285, 100), (288, 104))
+    page.tab.wait("!element('banner').hidden")
+    program.start_elsewhere(sitting.masks["cells"])
+    page.move_to(program.address)
+    page.settle(8)
+    check(page.tab.text("kept") == "all kept", "at another port the edit comes along")
+    check(page.tab.run("location.href") == program.address, "and the address has nothing of it any more")
+    page.drag((285, 120))
+    page.settle(9)
+    line = next(line for line in page.strokes() if line.endswith(" 120:285+6"))
+    check(author_of(line) == author, "and the author is the same")
+    page.tab.key("z", CONTROL)
+    sitting.second.go(program.address)
+    sitting.both(8)
+
+
+def along_to_another_mask(sitting):
+    """What comes along to another mask is told, and not sent; it is saved, and dropped on its own mask's page."""
+    page, program = sitting.first, sitting.program
+    program.stop()
+    page.drag((60, 230), (66, 231))
+    page.tab.wait("!element('banner').hidden")
+    before, program.state = program.state, sitting.folder / "along.spd"
+    program.start_elsewhere(sitting.masks["grains"])
+    page.move_to(program.address)
+    check("for another picture" in page.tab.text("banner"), "what came along for another mask is told")
+    page.settle(0)
+    check(program.get("strokes") == b"", "and not sent")
+    page.tab.download_to(sitting.folder / "downloads")
+    page.tab.click_element("saveStray")
+    saved = sitting.folder / "downloads" / "waiting.txt"
+    wait_for(saved.is_file, "the download")
+    check(page.tab.run("location.hash") == "", "once it is saved the address has nothing of it any more")
+    page.tab.drop(*page.at(100, 100), saved)
+    page.tab.wait("element('message').textContent.includes('another picture')")
+    check(program.get("strokes") == b"", "the file is refused there")
+    sitting.open_anew("cells", before.name)
+    page.tab.drop(*page.at(100, 100), saved)
+    sitting.both(9)
+    check(True, "and is taken by a page for its mask")
+    page.tab.key("z", CONTROL)
 
 
 def restart_with_another_mask(sitting):
@@ -474,12 +721,10 @@ def restart_with_another_mask(sitting):
     page.drag((60, 220), (66, 221))
     program.state = sitting.folder / "other.spd"
     program.start(sitting.masks["grains"])
-    page.tab.wait("!element('banner').hidden")
     told = "another mask" if program.address == address else "another address"
-    check(told in page.tab.text("banner"), "a restart with another mask is told")
-    page.tab.run("document.title = ''")
-    page.tab.go(program.address)
-    page.await_open()
+    page.tab.wait(f"element('banner').textContent.includes('{told}')")
+    check(True, "a restart with another mask is told")
+    page.go(program.address)
     page.settle(0)
     check(program.get("strokes") == b"", "no stroke for the one mask goes to the other")
 
@@ -489,14 +734,56 @@ def back_to_the_mask(sitting):
     sitting.open_anew("cells", "strokes.spd")
     sitting.first.tab.wheel(*sitting.first.at(100, 100), -120)
     check(sitting.first.tab.run("sight.zoom") > 3, "the wheel zooms before the pointer has moved, too")
-    sitting.both(8)
+    sitting.both(10)
     sitting.shown("an edit that waited for its mask")
+
+
+def saves_that_fail(sitting):
+    """While the state file cannot be written, edits wait and the page says why; then they are kept."""
+    page, program, folder = sitting.first, sitting.program, sitting.folder / "gone"
+    folder.mkdir()
+    sitting.open_anew("cells", "gone/strokes.spd")
+    page.drag((206, 188))
+    sitting.both(1)
+    shutil.rmtree(folder)
+    page.drag((60, 200), (66, 203))
+    page.drag((285, 100), (288, 104))
+    page.tab.wait("element('kept').textContent.includes('(V2)')")
+    check(page.tab.text("kept").startswith("2 not kept: the state file cannot be written"), "what is not kept is told")
+    page.tab.wait("saves.failures >= 3 && silence.failures === 0")
+    check(page.tab.text("kept").startswith("2 not kept:"), "it is sent again and again, and the page is answered")
+    check(len(program.get("state")) > 0, "a copy can be saved")
+    page.tab.download_to(sitting.folder / "unkept")
+    page.tab.click_element("saveWaiting")
+    saved = sitting.folder / "unkept" / "waiting.txt"
+    wait_for(saved.is_file, "the download")
+    check(len(readers.read_edits(saved.read_bytes())) == 2, "and what waits, too")
+    folder.mkdir()
+    sitting.both(3)
+    check(page.tab.text("kept") == "all kept" and program.state.read_bytes() == program.get("state"),
+          "once the file can be written all is kept")
+
+
+def slow_link(sitting):
+    """Over a slow link the page opens all the same, and says how far it is; a program that stands still is told."""
+    sitting.open_anew("deep", "deep.spd")
+    with Browser() as browser:
+        tab = browser.open("about:blank", TEN_TIMES_THE_HASTE)
+        tab.slow_down(SLOW_LINK)
+        begun = time.monotonic()
+        tab.go(sitting.program.address)
+        tab.wait("element('message').textContent.startsWith('Loading: ')")
+        page = Page(tab)
+        check(time.monotonic() - begun > 5, "where an answer takes long and comes on, the page waits for it")
+        with sitting.program.paused():
+            tab.wait("silence.failures > 0")
+        tab.wait("silence.failures === 0")
+        check(page.tab.text("message") == "The program answers again.", "where nothing comes any more it is told")
 
 
 def deep_mask(sitting):
     """A mask of 16 bits."""
     page, program = sitting.first, sitting.program
-    sitting.open_anew("deep", "deep.spd")
     page.drag((83, 66), (101, 77))
     page.drag((206, 188))
     page.settle(2)
@@ -508,7 +795,7 @@ def take_pictures(sitting):
     """The pictures of the README: the work of two people, what it grew into, and a stroke about to be withdrawn."""
     first, second, folder = sitting.first, sitting.second, sitting.words.pictures
     for page, author in ((first, 16 * "1"), (second, 16 * "2")):
-        page.tab.run(f"localStorage.author = '{author}'")
+        page.tab.run(f"document.cookie = 'seedpaint-author={author}; Max-Age=3600; Path=/; SameSite=Strict'")
     sitting.open_anew("cells", "pictures.spd")
     for count, line in enumerate(MINE, 1):
         first.drag(*line)
@@ -530,8 +817,9 @@ def take_pictures(sitting):
 
 
 CHECKS = [paint_run_and_disc, undo_and_redo, withdraw_the_others, levels, long_gesture, at_the_border, strokes_shown,
-          join_files, save_copy, zoom_and_pan, reload_page, restart, restart_with_another_mask, back_to_the_mask,
-          deep_mask]
+          join_files, save_copy, zoom_and_pan, another_ratio, one_finger, two_fingers, pen, no_storage, full_storage,
+          reload_page, own_host, restart, restart_elsewhere, along_to_another_mask, restart_with_another_mask,
+          back_to_the_mask, saves_that_fail, slow_link, deep_mask]
 
 
 def sit(words, folder):
@@ -572,7 +860,7 @@ def main():
     folder = pathlib.Path(tempfile.mkdtemp(prefix="paint-test-"))
     try:
         sit(words, folder)
-    except Fault as fault:
+    except (Fault, OSError) as fault:
         sys.exit(f"paint_test.py: {fault}")
     finally:
         shutil.rmtree(folder, ignore_errors=True)

@@ -32,6 +32,8 @@ input { accent-color: var(--mine); }
 input[type=number] { width: 62px; padding: 2px 4px; font: inherit; color: inherit; background: var(--ground);
   border: 1px solid #454d57; border-radius: 5px; }
 input[type=range] { width: 84px; }
+input[type=text] { width: 100%; padding: 3px 6px; font: 12px ui-monospace, monospace; color: inherit;
+  background: var(--ground); border: 1px solid #c9803d; border-radius: 5px; }
 kbd { font: 11px/1 ui-monospace, monospace; opacity: .6; padding-left: 5px; }
 output { min-width: 22px; }
 #zoom { min-width: 40px; }
@@ -44,6 +46,8 @@ output { min-width: 22px; }
 #banner { position: absolute; top: 20px; left: 50%; transform: translateX(-50%); max-width: 560px; padding: 14px 18px;
   background: #4a2f1c; border: 1px solid #c9803d; border-radius: 8px; box-shadow: 0 6px 24px #000a; }
 #banner button { margin-top: 8px; }
+#move { display: flex; align-items: baseline; gap: 8px; white-space: nowrap; }
+#moveFault { color: #ff9c7d; }
 #help { position: absolute; right: 14px; top: 14px; padding: 12px 18px; background: var(--panel);
   border: 1px solid var(--line); border-radius: 8px; box-shadow: 0 6px 24px #000a; }
 #help h2 { margin: 0 0 6px; font-size: 13px; }
@@ -54,7 +58,7 @@ output { min-width: 22px; }
 #message { flex: 1; text-align: right; color: var(--quiet); }
 #message.isFault { color: #ff9c7d; }
 .dot { display: inline-block; width: 9px; height: 9px; margin-right: 5px; border-radius: 2px; }
-#kept.isWaiting { color: #ffc46b; }
+#kept.isWaiting, #storage { color: #ffc46b; }
 </style>
 </head>
 <body>
@@ -91,7 +95,7 @@ output { min-width: 22px; }
   <button id="fit" title="The whole picture (0)">Fit</button>
   <div class="spring"></div>
   <div class="group">
-    <label class="button" title="Join the strokes of a state file; it can be dropped on the picture, too"
+    <label class="button" title="Join a state file, or saved edits; they can be dropped on the picture, too"
       >Join…<input id="file" type="file" multiple hidden></label>
     <a id="save" class="button" href="state" download="strokes.spd" title="A copy of the state file">Save</a>
     <button id="helpButton" title="Keys">?</button>
@@ -105,6 +109,8 @@ output { min-width: 22px; }
     <table>
       <tr><td>B · X</td><td>brush · withdraw</td></tr>
       <tr><td>click · drag</td><td>a disc · a stroke</td></tr>
+      <tr><td>pen · finger</td><td>the same; no finger counts while a pen is near</td></tr>
+      <tr><td>two fingers</td><td>zoom and move the picture</td></tr>
       <tr><td>Shift+click</td><td>withdraw all strokes of a gesture</td></tr>
       <tr><td>[ · ] · Alt+wheel</td><td>smaller · larger · size of the brush</td></tr>
       <tr><td>A · M · Alt+click</td><td>level: auto · greatest · that of a pixel</td></tr>
@@ -116,11 +122,24 @@ output { min-width: 22px; }
       <tr><td>0 · 1</td><td>the whole picture · pixel for pixel</td></tr>
     </table>
   </aside>
-  <div id="banner" role="alert" hidden><div id="bannerText"></div><button id="reload">Reload</button></div>
+  <div id="banner" role="alert" hidden>
+    <div id="bannerText"></div>
+    <div id="move">
+      <label for="newAddress">New address</label>
+      <input id="newAddress" type="text" placeholder="http://127.0.0.1:PORT/KEY/" spellcheck="false" autocomplete="off">
+      <button id="goThere">Open</button>
+    </div>
+    <div id="moveFault"></div>
+    <button id="reload">Reload</button>
+    <button id="saveStray">Save them</button>
+  </div>
 </main>
 <footer>
   <span id="zoom"></span><span id="pixel"></span><span id="counts"></span><span id="growth"></span>
   <span id="kept"></span>
+  <button id="saveWaiting" title="The edits that are not kept yet as a text, which can be dropped on the picture"
+    hidden>Save what waits</button>
+  <span id="storage"></span>
   <span id="message" role="status"></span>
 </footer>
 <script>
@@ -131,6 +150,47 @@ const MOST_RUNS = 160, MOST_RADIUS = 255, MOST_LEVEL = 65535, MOST_BODY = 4 << 2
 
 const element = id => document.getElementById(id);
 const limited = (value, least, most) => Math.min(Math.max(value, least), most);
+
+// ---- Storage: texts that outlive the page, or stay in it where the browser stores nothing or no more ----
+
+class Shelf {
+  constructor(kind) {
+    this.kind = kind;
+    this.inPage = new Map();  // what the browser did not store
+  }
+
+  get(name) {
+    return this.inPage.get(name) ?? this.ask(storage => storage.getItem(name));
+  }
+
+  set(name, text) {
+    this.drop(name);
+    const isStored = this.ask(storage => { storage.setItem(name, text); return true; });
+    if (!isStored) this.inPage.set(name, text);
+    sayStorage();
+  }
+
+  drop(name) {
+    this.inPage.delete(name);
+    this.ask(storage => storage.removeItem(name));
+    sayStorage();
+  }
+
+  names() {
+    return [...this.inPage.keys(), ...this.ask(storage => Object.keys(storage)) ?? []];
+  }
+
+  /** What the browser's storage answers, or null where there is none or it refuses. */
+  ask(question) {
+    try {
+      return question(window[this.kind]);
+    } catch (_) {
+      return null;
+    }
+  }
+}
+
+const local = new Shelf("localStorage"), session = new Shelf("sessionStorage");
 
 // ---- The board: the picture and its strokes, as the program told them last ----
 
@@ -216,24 +276,27 @@ function isSameMask(mask) {
 
 // ---- Tags: 64 bits of the author, 48 random bits of the gesture, 16 that count its strokes ----
 
-const author = keptAuthor();
+let author = "";
+const YEAR = 365 * 24 * 3600;
 
+/** This browser's number, from a cookie, which all ports of a host share; or else from this port's storage. */
 function keptAuthor() {
-  const kept = localStorage.getItem("author") ?? "";
-  if (/^[0-9a-f]{16}$/.test(kept)) return kept;
-  const made = randomDigits(8);
-  localStorage.setItem("author", made);
-  return made;
+  const [, inCookie] = /(?:^|; )seedpaint-author=([0-9a-f]{16})(?:;|$)/.exec(document.cookie) ?? [];
+  const stored = /^[0-9a-f]{16}$/.exec(local.get("author")) ?? [];
+  const kept = inCookie ?? stored[0] ?? randomDigits(8);
+  document.cookie = `seedpaint-author=${kept}; Max-Age=${YEAR}; Path=/; SameSite=Strict`;
+  local.set("author", kept);
+  return kept;
 }
 
 function randomDigits(bytes) {
   return Array.from(crypto.getRandomValues(new Uint8Array(bytes)), byte => byte.toString(16).padStart(2, "0")).join("");
 }
 
-/** Tags for so many strokes of a new gesture. */
-function newTags(count) {
-  const gesture = author + randomDigits(6);
-  return Array.from({ length: count }, (_, k) => hyphenated(gesture + k.toString(16).padStart(4, "0")));
+/** Tags for the strokes of a new gesture: each begins with its author, which is somebody else where it comes back. */
+function newTags(strokes) {
+  const gesture = randomDigits(6);
+  return strokes.map((stroke, k) => hyphenated((stroke.author ?? author) + gesture + k.toString(16).padStart(4, "0")));
 }
 
 const hyphenated = digits => digits.replace(/^(.{8})(.{4})(.{4})(.{4})/, "$1-$2-$3-$4-");
@@ -266,15 +329,17 @@ function readRun(text) {
 function discRuns(shape) {
   const [y, x, radius] = shape.split(/[:+]/).map(Number);
   const rows = new Map();
-  addDisc(rows, { x, y }, radius);
+  addDisc(rows, { x, y }, limited(radius, 0, MOST_RADIUS));
   return runsOf(rows);
 }
 
 function boxOf(runs) {
-  const box = { left: Infinity, top: runs[0].y, right: 0, bottom: runs[runs.length - 1].y + 1 };
-  for (const { first, last } of runs) {
+  const box = { left: Infinity, top: Infinity, right: 0, bottom: 0 };
+  for (const { y, first, last } of runs) {
     box.left = Math.min(box.left, first);
     box.right = Math.max(box.right, last + 1);
+    box.top = Math.min(box.top, y);
+    box.bottom = Math.max(box.bottom, y + 1);
   }
   return box;
 }
@@ -491,14 +556,15 @@ function compose(colours, { left, top, right, bottom }) {
 // ---- Sight: where the picture lies on the screen, in pixels of the screen ----
 
 const LEAST_ZOOM = .02, MOST_ZOOM = 64;
-const sight = { zoom: 1, left: 0, top: 0 };
+const sight = { zoom: 1, left: 0, top: 0, ratio: devicePixelRatio };
 const screenX = x => Math.round(sight.left + x * sight.zoom);
 const screenY = y => Math.round(sight.top + y * sight.zoom);
 
-/** The middle of the screen's pixel under the pointer. */
+/** The middle of the canvas's pixel under the pointer. */
 function screenPoint(event) {
-  const ratio = devicePixelRatio;
-  return { x: Math.floor(event.offsetX * ratio) + .5, y: Math.floor(event.offsetY * ratio) + .5 };
+  const box = overlay.getBoundingClientRect();
+  return { x: Math.floor((event.clientX - box.left) * overlay.width / box.width) + .5,
+    y: Math.floor((event.clientY - box.top) * overlay.height / box.height) + .5 };
 }
 
 /** The picture's pixel at a point of the screen, in the picture or not. */
@@ -554,6 +620,7 @@ function redrawOverlay() {
 
 function drawFrame() {
   asked.frame = false;
+  if (devicePixelRatio !== sight.ratio) resize();
   if (asked.picture) drawPicture();
   asked.picture = false;
   drawOverlay();
@@ -561,13 +628,28 @@ function drawFrame() {
   noteDrawn();
 }
 
+/** Fits the canvases to the stage. What is seen stays where it is, also where the screen's pixels got another size. */
 function resize() {
-  const ratio = devicePixelRatio, stage = element("stage");
+  const ratio = devicePixelRatio, box = element("stage").getBoundingClientRect();
   for (const canvas of [picture, overlay]) {
-    canvas.width = Math.round(stage.clientWidth * ratio);
-    canvas.height = Math.round(stage.clientHeight * ratio);
+    canvas.width = Math.round(box.width * ratio);
+    canvas.height = Math.round(box.height * ratio);
   }
   redraw();
+  if (ratio !== sight.ratio) scaleSight(ratio);
+}
+
+function scaleSight(ratio) {
+  const growth = ratio / sight.ratio;
+  sight.ratio = ratio;
+  if (hand.point) hand.point = { x: hand.point.x * growth, y: hand.point.y * growth };
+  zoomTo(sight.zoom * growth, { x: 0, y: 0 });
+}
+
+/** Resizes at once when the screen's pixels get another size: on another screen, or by the browser's zoom. */
+function followRatio() {
+  resize();
+  matchMedia(`(resolution: ${devicePixelRatio}dppx)`).addEventListener("change", followRatio, { once: true });
 }
 
 function drawPicture() {
@@ -602,7 +684,7 @@ function drawRuns(runs, colour) {
 }
 
 function drawWaiting(stroke) {
-  drawRuns(stroke.runs, cssColour(1, .5));
+  drawRuns(stroke.runs, cssColour(stroke.colour, .5));
   drawOutline(stroke, "#ffc46b", 1.5);
 }
 
@@ -655,7 +737,7 @@ function shapesOf({ isDisc, last, radius }, runs) {
 }
 
 function takeBack(strokes) {
-  const kept = strokes.map(({ kind, level, shape }) => ({ kind, level, shape }));
+  const kept = strokes.map(({ tag, kind, level, shape }) => ({ author: authorOf(tag), kind, level, shape }));
   perform({ areThere: true, tags: strokes.map(stroke => stroke.tag), strokes: kept });
 }
 
@@ -668,7 +750,7 @@ function perform(act, begun) {
 
 /** Withdraws the strokes of an act, or places them: under new tags, since a withdrawn tag never comes back. */
 function turn(act, begun = performance.now()) {
-  if (!act.areThere) act.tags = newTags(act.strokes.length);
+  if (!act.areThere) act.tags = newTags(act.strokes);
   const lines = act.areThere ? act.tags.map(tag => `withdraw ${tag}`)
     : act.strokes.map(({ kind, level, shape }, k) => `${kind} ${act.tags[k]} ${level} ${shape}`);
   act.areThere = !act.areThere;
@@ -694,22 +776,13 @@ const isThere = tag => board.strokes.has(tag) || outbox.some(edit => edit.stroke
 /** Keeps the last acts over a reload of the page. */
 function keepActs() {
   const last = [done, undone].map(acts => acts.slice(-MOST_KEPT_ACTS));
-  keep(sessionStorage, `acts ${board.fingerprint}`, JSON.stringify(last));
+  session.set(`acts ${board.fingerprint}`, JSON.stringify(last));
   sayActs();
 }
 
 function recallActs() {
-  [done, undone] = JSON.parse(sessionStorage.getItem(`acts ${board.fingerprint}`) ?? "[[],[]]");
+  [done, undone] = JSON.parse(session.get(`acts ${board.fingerprint}`) ?? "[[],[]]");
   sayActs();
-}
-
-/** Where storage is full nothing is kept over a reload. */
-function keep(storage, name, text) {
-  try {
-    storage.setItem(name, text);
-  } catch (_) {
-    storage.removeItem(name);
-  }
 }
 
 // ---- The outbox: what was not answered yet. It is sent again until it is: the same text twice is one ----
@@ -717,15 +790,18 @@ function keep(storage, name, text) {
 const outbox = [];
 const timings = [];  // of each edit: when it began, was answered, was drawn, and was grown, in milliseconds
 
-function sendEdit(body, begun) {
+function sendEdit(body, begun, subject = "") {
   const name = `waiting ${board.fingerprint} ${Date.now()} ${randomDigits(4)}`;
-  keep(localStorage, name, body);
-  addEdit({ path: "edits", name, body, begun, subject: "" });
+  local.set(name, body);
+  addEdit({ path: "edits", name, body, begun, subject });
 }
+
+// The line of a stroke as pages write it. Others, of a file that was dropped, are sent as they are, and not drawn.
+const STROKE_LINE = /^(place|disc) [0-9a-f-]{36} \d{1,5} [\d:,+-]+$/;
 
 function addEdit(edit) {
   const lines = edit.path === "edits" ? edit.body.split("\n") : [];
-  edit.strokes = lines.filter(line => /^(place|disc) /.test(line)).map(readStroke);
+  edit.strokes = lines.filter(line => STROKE_LINE.test(line)).map(readStroke);
   edit.withdrawn = lines.filter(line => line.startsWith("withdraw ")).map(line => line.split(" ")[1]);
   outbox.push(edit);
   wake();
@@ -735,23 +811,37 @@ function addEdit(edit) {
 
 /** Takes up edits for this mask that a page left behind unanswered. */
 function recallEdits() {
-  const names = Object.keys(localStorage).filter(name => name.startsWith(`waiting ${board.fingerprint} `)).sort();
+  const names = local.names().filter(name => name.startsWith(`waiting ${board.fingerprint} `)).sort();
   for (const name of names) {
-    addEdit({ path: "edits", name, body: localStorage.getItem(name), begun: performance.now(), subject: "" });
+    const body = local.get(name);
+    if (body) addEdit({ path: "edits", name, body, begun: performance.now(), subject: "" });
   }
 }
 
 function dropEdit(edit) {
   outbox.splice(outbox.indexOf(edit), 1);
-  if (edit.name) localStorage.removeItem(edit.name);
+  if (edit.name) local.drop(edit.name);
   redrawOverlay();
 }
 
 async function joinFile(file) {
-  const bytes = new Uint8Array(await file.arrayBuffer());
+  const bytes = new Uint8Array(await file.arrayBuffer()), text = editTextOf(bytes);
+  if (text !== null) return joinText(text, file.name);
   for (const body of partsOf(bytes)) {
-    addEdit({ path: "state", name: "", body, begun: performance.now(), subject: file.name });
+    addEdit({ path: "state", name: "", body, begun: performance.now(), subject: file.name, file });
   }
+}
+
+/** The text of a file of edits, as they are saved here, or null where it is another file. */
+function editTextOf(bytes) {
+  const start = new TextDecoder().decode(bytes.subarray(0, 9));
+  return /^(;|place |disc |withdraw )/.test(start) ? new TextDecoder().decode(bytes) : null;
+}
+
+function joinText(text, subject) {
+  const [, mask] = MASK_LINE.exec(text) ?? [];
+  if (mask && mask !== board.fingerprint) return sayFault(`Refused ${subject}: ${FAULTS.D1}.`);
+  sendEdit(text, performance.now(), subject);
 }
 
 /** A state file in parts that one request may carry, cut between its frames, each of which stands behind its length. */
@@ -769,11 +859,153 @@ function partsOf(bytes) {
   return [...parts, bytes.subarray(start)];
 }
 
+// ---- Edits that leave the page: as a file, or along to another address in its fragment, which no server sees ----
+
+const ADDRESS = /^http:\/\/127\.0\.0\.1:\d{1,5}\/[0-9a-f]{32}\/$/, FRAGMENT = /^#waiting=([\w-]+)$/;
+const MASK_LINE = /^; edits for the mask ([0-9a-f]{32})\r?\n/;
+const MOST_FRAGMENT = 1000000;  // browsers take addresses of 1 MiB
+const stray = { mask: "", bodies: [] };  // edits for another mask that came along
+
+const waitingBodies = () => outbox.filter(edit => edit.path === "edits").map(edit => edit.body);
+
+/** Gives edits as a file of their lines. Dropped on a page for their mask it is sent. */
+function saveEdits(mask, bodies) {
+  const file = new Blob([`; edits for the mask ${mask}\n`, ...bodies], { type: "text/plain" });
+  const link = Object.assign(document.createElement("a"), { href: URL.createObjectURL(file), download: "waiting.txt" });
+  link.click();
+  setTimeout(() => URL.revokeObjectURL(link.href), 60000);
+}
+
+/** Goes to the address that the program printed, with the edits that wait. */
+function goTo(address) {
+  const waiting = { mask: board.fingerprint, bodies: waitingBodies() };
+  const fragment = waiting.bodies.length === 0 ? "" : `#waiting=${toBase64url(JSON.stringify(waiting))}`;
+  if (!ADDRESS.test(address)) sayIn("moveFault", "That is no address that the program prints.");
+  else if (address === location.origin + location.pathname) sayIn("moveFault", "That is the address of this page.");
+  else if (fragment.length > MOST_FRAGMENT) sayIn("moveFault", "Too much waits for that: save it, and drop it there.");
+  else location.assign(address + fragment);
+}
+
+/** Takes in what came along from another address. What is for another mask stays in the fragment until it is saved. */
+function takeAlong() {
+  const { mask, bodies } = readFragment();
+  if (bodies.length === 0) return;
+  if (mask !== board.fingerprint) {
+    Object.assign(stray, { mask, bodies });
+    return showStray();
+  }
+  const known = new Set(waitingBodies());
+  for (const body of bodies) if (!known.has(body)) sendEdit(body, performance.now());
+  dropFragment();
+}
+
+function readFragment() {
+  try {
+    const [, text] = FRAGMENT.exec(location.hash);
+    const { mask, bodies } = JSON.parse(fromBase64url(text));
+    return { mask, bodies: bodies.filter(body => typeof body === "string") };
+  } catch (_) {
+    return { mask: "", bodies: [] };
+  }
+}
+
+function showStray() {
+  showBanner(`${stray.bodies.length} edits came along from another address. They are for another picture, and are not `
+    + "sent. Save them as a file: it can be dropped on a page for their picture.", ["saveStray"]);
+}
+
+function saveStray() {
+  saveEdits(stray.mask, stray.bodies);
+  stray.bodies = [];
+  dropFragment();
+  hideBanner();
+  sayBoard();
+}
+
+const dropFragment = () => history.replaceState(null, "", location.pathname);
+
+function toBase64url(text) {
+  let characters = "";
+  for (const byte of new TextEncoder().encode(text)) characters += String.fromCharCode(byte);
+  return btoa(characters).replaceAll("+", "-").replaceAll("/", "_").replaceAll("=", "");
+}
+
+function fromBase64url(text) {
+  const characters = atob(text.replaceAll("-", "+").replaceAll("_", "/"));
+  return new TextDecoder().decode(Uint8Array.from(characters, character => character.charCodeAt(0)));
+}
+
+// ---- Requests ----
+
+// For how many milliseconds a request may move no byte, and what is added for each byte that is sent.
+const PATIENCE = 30000, PATIENCE_A_BYTE = .1;
+
+/** That a request has no answer that can be used. A program that does not know the address was started anew. */
+class Unanswered extends Error {
+  constructor(status) {
+    super(`status ${status}`);
+    this.isMoved = status === 404;
+  }
+}
+
+/** The status and the bytes of an answer. With each piece of it the time begins anew, and `told` has its size. */
+async function request(path, options = {}, told = () => {}) {
+  const controller = new AbortController(), sent = options.body?.length ?? 0;
+  const giveUpIn = milliseconds => setTimeout(() => controller.abort(), milliseconds);
+  let limit = giveUpIn(PATIENCE + sent * PATIENCE_A_BYTE);
+  try {
+    const response = await fetch(path, { cache: "no-store", signal: controller.signal, ...options });
+    const total = Number(response.headers.get("Content-Length"));
+    return { status: response.status, bytes: await readPieces(response, read => {
+      clearTimeout(limit);
+      limit = giveUpIn(PATIENCE);
+      told(read, total);
+    }) };
+  } catch (_) {
+    throw new Unanswered(0);
+  } finally {
+    clearTimeout(limit);
+  }
+}
+
+/** All bytes of an answer; behind each piece it is told how many were read. */
+async function readPieces(response, told) {
+  const reader = response.body.getReader(), pieces = [];
+  let count = 0;
+  for (let next = await reader.read(); !next.done; next = await reader.read()) {
+    pieces.push(next.value);
+    count += next.value.length;
+    told(count);
+  }
+  return pieces.length === 1 ? pieces[0] : inOne(pieces, count);
+}
+
+function inOne(pieces, count) {
+  const bytes = new Uint8Array(count);
+  let place = 0;
+  for (const piece of pieces) {
+    bytes.set(piece, place);
+    place += piece.length;
+  }
+  return bytes;
+}
+
+function bytesOf({ status, bytes }) {
+  if (status !== 200) throw new Unanswered(status);
+  return bytes;
+}
+
+const fetchBytes = async (path, told) => bytesOf(await request(path, {}, told));
+
 // ---- The conversation: one request at a time, so that answers come in their order ----
 
-// Milliseconds between two requests.
-const REST = 150, REST_WHILE_GROWING = 4, MOST_REST = 4000;
+// Milliseconds between two requests, behind failures at most.
+const REST = 150, REST_WHILE_GROWING = 4, MOST_REST = 5000;
+const restBehind = failures => Math.min(250 * 2 ** failures, MOST_REST);
+const TELLING_FAILURES = 3;  // so many, and the page asks for a new address
 const silence = { failures: 0 };
+const ALL_SAVED = { failures: 0, code: "", next: 0 };
+const saves = { ...ALL_SAVED };  // how often in turn and why edits were not kept, and when they are sent again
 let wake = () => {};
 
 function rest(milliseconds) {
@@ -786,18 +1018,21 @@ function rest(milliseconds) {
 async function converse() {
   while (board.isOpen) {
     await exchange().then(endSilence, noteSilence);
-    if (silence.failures > 0) await rest(Math.min(250 * 2 ** silence.failures, MOST_REST));
-    else if (outbox.length === 0) await rest(board.isQuiet ? REST : REST_WHILE_GROWING);
+    if (silence.failures > 0) await rest(restBehind(silence.failures));
+    else if (!nextEdit()) await rest(board.isQuiet ? REST : REST_WHILE_GROWING);
   }
 }
 
-/** Sends an edit, or looks for news. After a silence it looks first: the program may have been started anew. */
+/** The edit that is to be sent now. After a silence none is: the program may have been started anew. */
+function nextEdit() {
+  return silence.failures === 0 && performance.now() >= saves.next ? outbox[0] : undefined;
+}
+
+/** Sends an edit, or looks for news. */
 async function exchange() {
-  const edit = silence.failures === 0 ? outbox[0] : undefined;
-  const response = await (edit ? post(edit) : look());
-  if (edit && (response.status === 409 || response.status === 413)) return refuse(edit, response);
-  const bytes = await bytesOf(response);
-  const answer = readAnswer(edit?.path === "state" ? await bytesOf(await look()) : bytes);
+  const edit = nextEdit(), response = await (edit ? post(edit) : look());
+  if (edit && response.status !== 200) return turnDown(edit, response);
+  const answer = readAnswer(bytesOf(edit?.path === "state" ? await look() : response));
   if (answer.run !== board.run && !isSameMask(readImage(await fetchBytes("mask")))) return closeBoard();
   takeAnswer(answer);
   if (edit) finish(edit, answer);
@@ -811,26 +1046,6 @@ const look = () => request(`changes?${moment()}`);
 function post({ path, body }) {
   return request(path === "edits" ? `edits?${moment()}` : path, { method: "POST", body });
 }
-
-/** That a request has no answer that can be used. A program that does not know the address was started anew. */
-class Unanswered extends Error {
-  constructor(status) {
-    super(`status ${status}`);
-    this.isMoved = status === 404;
-  }
-}
-
-function request(path, options = {}) {
-  const all = { cache: "no-store", signal: AbortSignal.timeout(30000), ...options };
-  return fetch(path, all).catch(() => { throw new Unanswered(0); });
-}
-
-async function bytesOf(response) {
-  if (!response.ok) throw new Unanswered(response.status);
-  return new Uint8Array(await response.arrayBuffer().catch(() => { throw new Unanswered(0); }));
-}
-
-const fetchBytes = async path => bytesOf(await request(path));
 
 /** The lines up to the first empty one, and the samples behind it. */
 function readAnswer(bytes) {
@@ -894,6 +1109,7 @@ function takeLine(line) {
 
 function finish(edit, answer) {
   dropEdit(edit);
+  Object.assign(saves, ALL_SAVED);
   timings.push({ begun: edit.begun, answered: performance.now(), drawn: 0, grown: 0 });
   const came = answer.edits.filter(line => !line.startsWith("withdraw ")).length;
   say(edit.subject ? `Joined ${edit.subject}: ${came} strokes came.` : "");
@@ -908,53 +1124,87 @@ function noteDrawn() {
   }
 }
 
-async function refuse(edit, response) {
-  const code = response.status === 413 ? "413" : (await response.text()).trim().replace(/^seedpaint: /, "");
-  dropEdit(edit);
-  sayFault(`Refused${edit.subject && ` ${edit.subject}`}: ${wordsFor(code)} (${code}).`);
+/** An edit that was not taken is refused for good, or waits until the program can keep it. */
+function turnDown(edit, { status, bytes }) {
+  const [, code] = /^seedpaint: (.+)/.exec(new TextDecoder().decode(bytes)) ?? [];
+  if (status === 413) refuse(edit, "413");
+  else if (status === 409) refuse(edit, code ?? "");
+  else if (status === 503 && code) holdBack(code);
+  else throw new Unanswered(status);
   sayBoard();
+}
+
+/** Drops an edit, or all parts of a file. */
+function refuse(edit, code) {
+  outbox.filter(other => other === edit || edit.file && other.file === edit.file).forEach(dropEdit);
+  sayFault(`Refused${edit.subject && ` ${edit.subject}`}: ${wordsFor(code)} (${code}).`);
+}
+
+/** The program keeps nothing now. Edits are sent again behind a pause that grows; meanwhile the page asks for news. */
+function holdBack(code) {
+  saves.code = code;
+  saves.failures++;
+  saves.next = performance.now() + restBehind(saves.failures);
 }
 
 function endSilence() {
   if (silence.failures === 0 || !board.isOpen) return;
   silence.failures = 0;
-  element("banner").hidden = true;
+  hideBanner();
   say("The program answers again.");
+  sayBoard();
 }
 
 function noteSilence(fault) {
   silence.failures++;
   if (!(fault instanceof Unanswered)) reportError(fault);
-  if (fault.isMoved) {
-    showBanner("The program was started anew, under another address: open the one that it printed. What is not kept "
-      + "yet stays in this browser, and is sent from there if picture and port are the same.", false);
-  }
+  Object.assign(saves, ALL_SAVED);
+  if (fault.isMoved) showMove("The program was started anew, under another address:");
+  else if (silence.failures >= TELLING_FAILURES) showMove("The program does not answer. If it was started anew,");
   sayFault("The program does not answer, or could not save. What is not kept yet is sent again.");
   sayBoard();
+}
+
+function showMove(text) {
+  showBanner(`${text} open the address that it printed, or the file of its --forward. What is not kept yet stays in `
+    + "this browser, and comes along if you enter that address here.", ["move", "moveFault"]);
 }
 
 /** Ends the conversation: what was painted here is for another mask. */
 function closeBoard() {
   board.isOpen = false;
   showBanner("The program was started anew, with another mask. Nothing more is sent from this page. "
-    + "Reload it to paint on the new mask.", true);
+    + "Reload it to paint on the new mask.", ["reload"]);
   sayBoard();
 }
 
 // ---- What the page says ----
 
 // What is refused, by the first word of its code.
+const DAMAGED = "it is damaged, or no state file";
 const FAULTS = {
   E1: "a line of the edit cannot be read", E2: "a tag of the edit is none", E3: "a stroke of the edit is none",
   C1: "a stroke does not lie in the picture", C2: "one of its tags names another stroke already",
   D1: "it is for another picture, or for other neighbours",
-  M1: "it is no state file", M2: "it is no state file", M3: "the file is cut off", M4: "the file is damaged",
-  M5: "the file is damaged", M6: "the file is damaged", M7: "the file is damaged",
+  M1: "it is no state file", M2: "it is no state file", M3: "it is cut off, or no state file",
+  M4: DAMAGED, M5: DAMAGED, M6: DAMAGED, M7: DAMAGED,
   V2: "the state file could not be written", 413: "it is too large for one request",
+};
+
+// Why nothing is kept, by the first word of the code, or by its letter.
+const SAVING_FAULTS = {
+  V2: "the state file cannot be written (disk full, read-only, locked)",
+  D1: "a state file for another picture, or for other neighbours, stands there now",
+  M: "the state file is damaged", M8: "the program has no memory", C4: "the program has no memory",
+  C: "the state file has a stroke that does not go with those here",
 };
 
 function wordsFor(code) {
   return FAULTS[code.split(" ")[0]] ?? "the program has no memory or no place for it";
+}
+
+function savingWordsFor(code) {
+  return SAVING_FAULTS[code.split(" ")[0]] ?? SAVING_FAULTS[code[0]] ?? "the program has no memory";
 }
 
 function say(text) {
@@ -967,16 +1217,36 @@ function sayFault(text) {
   element("message").classList.add("isFault");
 }
 
-function showBanner(text, canReload) {
-  element("bannerText").textContent = text;
-  element("reload").hidden = !canReload;
+/** Shows a text over the picture, and those of its elements that go with it. */
+function showBanner(text, names) {
+  sayIn("bannerText", text);
+  for (const name of ["move", "moveFault", "reload", "saveStray"]) element(name).hidden = !names.includes(name);
   element("banner").hidden = false;
 }
 
+function hideBanner() {
+  element("banner").hidden = true;
+  if (stray.bodies.length > 0) showStray();
+}
+
 function sayBoard() {
+  const waiting = outbox.length + stray.bodies.length;
+  const isInTrouble = saves.failures > 0 || silence.failures > 0 || !board.isOpen;
   sayIn("growth", board.isQuiet ? "" : `growing: ${board.tilesLeft} tiles left`);
-  sayIn("kept", outbox.length === 0 ? "all kept" : `${outbox.length} not kept yet`);
-  element("kept").classList.toggle("isWaiting", outbox.length > 0);
+  sayIn("kept", waiting > 0 ? `${waiting} not kept${whyNotKept()}` : "all kept");
+  element("kept").classList.toggle("isWaiting", waiting > 0);
+  element("saveWaiting").hidden = !isInTrouble || waitingBodies().length === 0;
+}
+
+function whyNotKept() {
+  if (saves.failures === 0) return " yet";
+  return `: ${savingWordsFor(saves.code)} (${saves.code}). Sent again and again; Save gives a copy of what is there.`;
+}
+
+function sayStorage() {
+  const isLosing = local.inPage.size > 0 || session.inPage.size > 0;
+  const lost = local.inPage.size > 0 ? "nothing outlives" : "undo does not outlive";
+  sayIn("storage", isLosing ? `The browser's storage is full or off: ${lost} a reload.` : "");
 }
 
 /** Changes a text where it is another one. */
@@ -1070,16 +1340,23 @@ function showStrokes(areShown) {
   soil(wholeBoard());
 }
 
-// ---- The hand: what the pointer does ----
+// ---- The hand: what the one pointer does that paints, withdraws or moves the picture ----
 
-const hand = { tool: "brush", point: null, pixel: null, gesture: null, pan: null, hovered: null, isSpaceHeld: false };
+const hand = {
+  tool: "brush", pointer: null,  // the pointer that is down
+  point: null, pixel: null, gesture: null, pan: null, aim: null, hovered: null, isSpaceHeld: false,
+};
+
+const isOther = event => hand.pointer !== null && hand.pointer !== event.pointerId;
 
 function pointerDown(event) {
-  if (!board.isOpen) return;
+  if (!board.isOpen || !letsIn(event) || isOther(event)) return;
   overlay.setPointerCapture(event.pointerId);
+  hand.pointer = event.pointerId;
   movePointer(event);
+  hover();
   if (event.button === 1 || (event.button === 0 && hand.isSpaceHeld)) startPan();
-  else if (event.button === 0 && hand.tool === "withdraw") withdrawHovered(event.shiftKey);
+  else if (event.button === 0 && hand.tool === "withdraw") hand.aim = hand.hovered;
   else if (event.button === 0 && event.altKey) takeLevel();
   else if (event.button === 0) startGesture();
   showCursor();
@@ -1099,13 +1376,8 @@ function startGesture() {
   redrawOverlay();
 }
 
-function withdrawHovered(isWholeGesture) {
-  const stroke = hand.hovered;
-  if (stroke) takeBack(isWholeGesture ? strokesOfGesture(stroke.gesture) : [stroke]);
-}
-
 function pointerMove(event) {
-  if (!board.isOpen) return;
+  if (!board.isOpen || !letsMove(event) || isOther(event)) return;
   const events = event.getCoalescedEvents?.() ?? [];
   for (const each of events.length > 0 ? events : [event]) movePointer(each);
   hover();
@@ -1133,16 +1405,31 @@ function extendGesture(gesture) {
   gesture.isDisc = false;
 }
 
-function pointerUp() {
-  const { gesture } = hand, begun = performance.now();
-  dropHand();
+function pointerUp(event) {
+  liftFinger(event.pointerId);
+  if (hand.pointer !== event.pointerId) return;
+  const { gesture, aim, hovered } = hand, begun = performance.now();
+  releaseHand();
   if (gesture) paint(gesture, begun);
+  else if (aim && aim === hovered) takeBack(event.shiftKey ? strokesOfGesture(aim.gesture) : [aim]);
+}
+
+/** A pointer that is lost, or was let go, holds nothing any more. */
+function pointerLost(event) {
+  liftFinger(event.pointerId);
+  if (hand.pointer === event.pointerId) releaseHand();
+}
+
+function releaseHand() {
+  hand.pointer = null;
+  dropHand();
 }
 
 /** Ends what the pointer was about, without a stroke. */
 function dropHand() {
   hand.gesture = null;
   hand.pan = null;
+  hand.aim = null;
   showCursor();
   redrawOverlay();
 }
@@ -1159,7 +1446,9 @@ function showCursor() {
   overlay.style.cursor = hand.pan ? "grabbing" : hand.isSpaceHeld ? "grab" : tool;
 }
 
-function pointerLeave() {
+function pointerLeave(event) {
+  if (event.pointerType === "pen") touch.isPenNear = false;
+  if (isOther(event)) return;
   hand.pixel = null;
   hover();
   sayPixel();
@@ -1177,6 +1466,72 @@ function turnWheel(event) {
   else if (Math.abs(turned) >= NOTCH) zoomStep(-Math.sign(turned), hand.point);
   else zoomTo(sight.zoom * 2 ** (-turned / 150), hand.point);
   hover();
+}
+
+// ---- Fingers: one is a hand, two or more zoom and move the picture, and none counts while a pen is near ----
+
+const fingers = new Map();  // where on the canvas each finger is
+const touch = { isPenNear: false, isPinch: false };
+
+/** Whether a pointer that came down may be the hand. */
+function letsIn(event) {
+  if (event.pointerType !== "touch") {
+    if (event.pointerType === "pen") meetPen();
+    return true;
+  }
+  if (touch.isPenNear) return false;
+  if (event.isPrimary) forgetFingers();
+  fingers.set(event.pointerId, screenPoint(event));
+  if (fingers.size > 1) startPinch();
+  return !touch.isPinch;
+}
+
+/** Whether a pointer that moves may be the hand. */
+function letsMove(event) {
+  if (event.pointerType === "pen") meetPen();
+  if (event.pointerType !== "touch") return true;
+  if (touch.isPinch && fingers.has(event.pointerId)) pinch(event);
+  return !touch.isPinch && fingers.has(event.pointerId);
+}
+
+/** A pen is near: the finger or the palm that lies on the picture does nothing any more. */
+function meetPen() {
+  if (fingers.has(hand.pointer)) releaseHand();
+  forgetFingers();
+  touch.isPenNear = true;
+}
+
+function forgetFingers() {
+  fingers.clear();
+  touch.isPinch = false;
+}
+
+function liftFinger(pointer) {
+  fingers.delete(pointer);
+  if (fingers.size === 0) touch.isPinch = false;
+}
+
+/** Drops what the first finger was about. The fingers that stay on the picture paint nothing any more. */
+function startPinch() {
+  touch.isPinch = true;
+  hand.pixel = null;
+  releaseHand();
+}
+
+function pinch(event) {
+  const before = spread();
+  fingers.set(event.pointerId, screenPoint(event));
+  const after = spread();
+  sight.left += after.x - before.x;
+  sight.top += after.y - before.y;
+  zoomTo(sight.zoom * after.width / before.width, after);
+}
+
+/** The middle of the fingers, and how far from it they are. */
+function spread() {
+  const points = [...fingers.values()], mean = values => values.reduce((sum, value) => sum + value) / values.length;
+  const x = mean(points.map(point => point.x)), y = mean(points.map(point => point.y));
+  return { x, y, width: mean(points.map(point => Math.hypot(point.x - x, point.y - y))) || 1 };
 }
 
 // ---- Keys and buttons ----
@@ -1197,7 +1552,7 @@ const KEYS = {
 };
 
 function keyDown(event) {
-  if (event.target.type === "number" || !board.isOpen) return;
+  if (["number", "text"].includes(event.target.type) || !board.isOpen) return;
   const action = actionOf(event);
   if (!action) return;
   event.preventDefault();
@@ -1226,7 +1581,8 @@ function toggleHelp() {
 const BUTTONS = {
   brush: KEYS.b, withdraw: KEYS.x, autoLevel: KEYS.a, mostLevel: KEYS.m, strokesShown: KEYS.h, fit, undo, redo,
   showKept: () => setView("kept"), showResult: () => setView("result"), showMask: () => setView("mask"),
-  helpButton: toggleHelp, reload: () => location.reload(),
+  helpButton: toggleHelp, reload: () => location.reload(), goThere: () => goTo(element("newAddress").value.trim()),
+  saveStray, saveWaiting: () => saveEdits(board.fingerprint, waitingBodies()),
 };
 
 /** A button acts and gives the keys back to the picture. */
@@ -1240,6 +1596,7 @@ function listenToButtons() {
     setLevel(event.target.valueAsNumber || null);
     event.target.blur();
   });
+  element("newAddress").addEventListener("keydown", event => { if (event.key === "Enter") BUTTONS.goThere(); });
   element("file").addEventListener("change", event => {
     joinFiles([...event.target.files]);
     event.target.value = "";
@@ -1250,7 +1607,8 @@ function listenToPointer() {
   overlay.addEventListener("pointerdown", pointerDown);
   overlay.addEventListener("pointermove", pointerMove);
   overlay.addEventListener("pointerup", pointerUp);
-  overlay.addEventListener("pointercancel", dropHand);
+  overlay.addEventListener("pointercancel", pointerLost);
+  overlay.addEventListener("lostpointercapture", pointerLost);
   overlay.addEventListener("pointerleave", pointerLeave);
   overlay.addEventListener("mousedown", event => event.preventDefault());
   overlay.addEventListener("contextmenu", event => event.preventDefault());
@@ -1285,8 +1643,24 @@ function joinFiles(files) {
 
 // ---- Start ----
 
+function start() {
+  author = keptAuthor();
+  listenToButtons();
+  listenToPointer();
+  listenToKeys();
+  listenToFiles();
+  new ResizeObserver(resize).observe(element("stage"));
+  followRatio();
+  setTool("brush");
+  setRadius(brush.radius);
+  press("strokesShown", true);
+  open().catch(() => {
+    showBanner("The picture could not be fetched: the program does not answer at this address.", ["reload"]);
+  });
+}
+
 async function open() {
-  const [file, news] = await Promise.all([fetchBytes("mask"), fetchBytes("changes?run=0&since=0")]);
+  const [file, news] = await Promise.all([loadPart("mask"), loadPart("changes?run=0&since=0")]);
   openBoard(readImage(file), await fingerprintOf(file));
   board.isOpen = true;
   resize();
@@ -1295,12 +1669,24 @@ async function open() {
   recallActs();
   takeAnswer(readAnswer(news));
   recallEdits();
+  takeAlong();
   sayBoard();
   sayCounts();
   sayPixel();
-  if (board.strokes.size === 0) say("Paint over what is to be kept.");
+  say(board.strokes.size === 0 ? "Paint over what is to be kept." : "");
   document.title = `Seedpaint ${board.width} × ${board.height}`;
   await converse();
+}
+
+const loads = new Map();  // of each part that is needed to begin, how many bytes came, and of how many
+
+/** Fetches a part of what is needed to begin, and says how much is there. */
+function loadPart(path) {
+  return fetchBytes(path, (read, total) => {
+    loads.set(path, [read, total]);
+    const [come, all] = [0, 1].map(k => [...loads.values()].reduce((sum, sizes) => sum + sizes[k], 0) / 1e6);
+    sayIn("message", `Loading: ${come.toFixed(1)} of ${all.toFixed(1)} MB`);
+  });
 }
 
 /** The start of the SHA-256 of a file, in hexadecimal. */
@@ -1309,15 +1695,9 @@ async function fingerprintOf(file) {
   return Array.from(digest.subarray(0, 16), byte => byte.toString(16).padStart(2, "0")).join("");
 }
 
-listenToButtons();
-listenToPointer();
-listenToKeys();
-listenToFiles();
-new ResizeObserver(resize).observe(element("stage"));
-setTool("brush");
-setRadius(brush.radius);
-press("strokesShown", true);
-open().catch(() => showBanner("The picture could not be fetched: the program does not answer at this address.", true));
+// What a browser stores it stores for one host: the page is always at 127.0.0.1.
+if (location.hostname === "localhost") location.replace(location.href.replace("//localhost", "//127.0.0.1"));
+else start();
 </script>
 </body>
 </html>
@@ -1326,8 +1706,8 @@ open().catch(() => showBanner("The picture could not be fetched: the program doe
 /// The value of its `Content-Security-Policy` (W3C CSP Level 3): its one style and its one script by their SHA-256, and
 /// requests to its own origin alone.
 pub const POLICY: &str = "default-src 'none'; \
-     script-src 'sha256-YcHl0znL9xZVQMvuiaN0pA9e7O8ZFjKEhpwZFUP2f0o='; \
-     style-src 'sha256-Tyckw2A+0rVWOOHu9jEA5l6n6g7y9hMDd2Ro9aqA66E='; \
+     script-src 'sha256-o6p+irT4KzQ/uvYM0qS8Mqw6D/nDhBH3/d7ddn4+25c='; \
+     style-src 'sha256-xfZQBPFP+IG78Zo2Xfn8GwNCIF7CEFZDJ0r/i7nyHqY='; \
      connect-src 'self'; \
      img-src data:; \
      frame-ancestors 'none'; \
