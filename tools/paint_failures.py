@@ -50,6 +50,8 @@ READS = ["", "mask", "image", "state", "strokes", "changes?run=0&since=0"]
 CALLS = {"open", "read", "lock", "create", "write", "sync", "rename", "open the folder", "sync the folder"}
 # Calls whose failure may harm nothing, so that the program may go on.
 HARMLESS = {"close", "remove", "give the owner", "follow links"}
+# A lock that may not be made or written is opened for reading, where it is there.
+ONLY_READ = ("make the lock", errno.EACCES)
 # Calls that come behind the rename, too: then what is not called kept may stand in the file.
 BEHIND = {"open the folder", "sync the folder", "close"}
 SECONDS = 15          # within which a program sees that a failure is over, or gives up at a lock
@@ -174,6 +176,11 @@ def post_in_time(setting, program, text, where):
     return refused
 
 
+def is_harmless(failed, error):
+    """Whether a save may go on behind this call, which failed so, or behind none."""
+    return failed is None or failed in HARMLESS or (failed, error) == ONLY_READ
+
+
 # ---- Once ----
 
 def play_once(setting, number, error, counts):
@@ -196,7 +203,7 @@ def play_once(setting, number, error, counts):
     refused = 3 - len(kept) + sum(post_in_time(setting, program, text, where) for text in STROKES[1:])
     _, failed = told_and_failed(program.stop())
     check(setting.state.read_bytes() == setting.files[2], f"{where}: the file at the end")
-    check(failed is None or failed in HARMLESS or refused, f"{where}: nobody was told that {failed} failed")
+    check(is_harmless(failed, error) or refused, f"{where}: nobody was told that {failed} failed")
     check(failed is not None or not refused, f"{where}: nothing failed, and a post was refused")
     setting.check_nothing_beside(where)
     return failed
@@ -256,7 +263,7 @@ def play_view(setting, number, error):
     status, told, failed = setting.view(STROKES[1:], number, error)
     file = setting.state.read_bytes()
     if status == 0:
-        check(failed is None or failed in HARMLESS, f"{where}: it says nothing of it that {failed} failed")
+        check(is_harmless(failed, error), f"{where}: it says nothing of it that {failed} failed")
         check(file == setting.files[2], f"{where}: the file has all strokes")
     else:
         check((status, told) == (3, "seedpaint: V2\n"), f"{where}: it ends with {status}: {told}")
