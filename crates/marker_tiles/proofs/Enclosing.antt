@@ -14,7 +14,7 @@ use Rattle.stroke_core.specs.Seed.{disc_covers}
 use Rattle.marker_tiles.specs.declared.window.Window.{Window}
 use Rattle.marker_tiles.specs.Painting.{in_window}
 
-square_le : (a b : ℕ) → a ≤ b → a * a ≤ b * b
+pub square_le : (a b : ℕ) → a ≤ b → a * a ≤ b * b
 square_le a b h = mul-le-mul h h
 
 -- a disc has no pixel on a row farther from its centre than the radius

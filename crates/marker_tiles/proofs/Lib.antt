@@ -1,8 +1,10 @@
 -- The lemmas of this crate.
+pub mod BlockLevels
 pub mod Enclosing
 pub mod Existence
 pub mod Keeping
 pub mod Levels
+pub mod ManyStrokes
 pub mod Marking
 pub mod Painted
 pub mod Raising

@@ -38,7 +38,7 @@ level_of_some-push s (first ∷ tags) tag p =
     ap (λ n. max a n) rest ∙ (let e : max a (max b c) ≡ max (max a b) c = omega arith in e)
 
 -- one tag more
-level_of_more : (s : State) (tags : List ℕ) (i tag : ℕ) (p : Pixel) → i < length tags → tag ≡ get_or tags i tag
+pub level_of_more : (s : State) (tags : List ℕ) (i tag : ℕ) (p : Pixel) → i < length tags → tag ≡ get_or tags i tag
     → level_of_some s (take (i + 1) tags) p
     ≡ max (level_of_some s (take i tags) p) (level_if (map.get s.strokes tag) p)
 level_of_more s tags i tag p within read =

@@ -13,3 +13,4 @@ pub mod Code
 pub mod InOrder
 pub mod Painting
 pub mod UnderTags
+pub mod Blocks

@@ -17,17 +17,20 @@
 //! ```
 //!
 //! An [`apply`](Markers::apply) takes no memory, and looks at the pixels of the strokes that were born or died,
-//! and, where one died, at each live stroke, once for each of at most 16 windows round the dead ones. [`marker`]
+//! and, where one died, at each live stroke, once for each of at most 16 windows round the dead ones. Where 256 or
+//! more were born at once, it cuts the image into blocks: what single discs cover whole it paints once. [`marker`]
 //! makes the marker of a state anew. Want of memory is told as a [`MarkersError`], whose code is K1.
 //!
 //! Read on in `specs/Marker.antt`, which says what the marker is; in [`laws`]: there is exactly one, and it is at
 //! most the mask; in `specs/Kept.antt` for what a kept marker is and what it may be told of; and then at
 //! [`Markers`].
 
+mod blocks;
 mod brush;
 mod error;
 mod from_state;
 pub mod laws;
+mod many;
 mod mask_and_marker;
 mod paint;
 mod renew;

@@ -96,7 +96,8 @@ impl Markers {
     /// [`merge`](stroke_lattice::State::merge) answers.
     ///
     /// It looks at the pixels of the strokes that were born or died, and, where a stroke died, at those of each live
-    /// stroke within windows round the dead ones: one round each, or one round all where more than 16 died.
+    /// stroke within windows round the dead ones: one round each, or one round all where more than 16 died. Where 256
+    /// or more were born, blocks of the image that single discs cover whole are painted once, and not for each disc.
     pub fn apply(&mut self, state: &State, change: &Change)
         requires fits { StateFits self.old.mask.width self.old.mask.height state.now }
         requires known { HasGrown self.old.mask self.old.marker state.now change.now }

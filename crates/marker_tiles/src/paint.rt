@@ -57,8 +57,15 @@ fn paint_span(marker: &mut Grid, mask: &Grid, span: Span, window: Window, brush:
     paint_between(marker, mask, span.y, first, end, brush);
 }
 
-// Leads the brush over the pixels of row `y` from column `first` up to column `end`, which is left out.
-fn paint_between(marker: &mut Grid, mask: &Grid, y: u32, first: u32, end: u32, brush: Brush)
+/// Leads the brush over the pixels of row `y` from column `first` up to column `end`, which is left out.
+pub(crate) fn paint_between(
+    marker: &mut Grid,
+    mask: &Grid,
+    y: u32,
+    first: u32,
+    end: u32,
+    brush: Brush,
+)
     requires size { IsOfSize mask.now marker.old }
     requires inside { (y < mask.now.height) × (end ≤ mask.now.width) }
     ensures { IsPaintedBy (is_between y first end) brush mask.now marker.old marker.new }

@@ -8,6 +8,7 @@ ghost use Rattle.marker_tiles.specs.Painting.{WindowsFit, IncludesOn, in_window,
 ghost use Rattle.marker_tiles.specs.UnderTags.{IsRaisedBy, IsClearedOf, IsRaisedByLive, covers_if, some_covers};
 
 use crate::brush::{Brush, level_brush};
+use crate::many::raise_by_many;
 use crate::paint::{paint, paint_within};
 use crate::window::Window;
 use crate::windows::{MOST_WINDOWS, Windows};
@@ -15,8 +16,23 @@ use grid_core::Grid;
 use stroke_core::Tag;
 use stroke_lattice::State;
 
+// From so many tags on it pays to look first which blocks of the image single strokes cover whole.
+const MANY: usize = 256;
+
 /// Raises the image by the strokes under these tags, as far as the mask lets it.
 pub(crate) fn raise_by(image: &mut Grid, mask: &Grid, state: &State, tags: &[Tag])
+    requires size { IsOfSize mask.now image.old }
+    ensures { IsRaisedBy state.now tags.now mask.now image.old image.new }
+{
+    if tags.len() < MANY {
+        raise_by_each(image, mask, state, tags);
+    } else {
+        raise_by_many(image, mask, state, tags);
+    }
+}
+
+// Raises it by one stroke after the other.
+fn raise_by_each(image: &mut Grid, mask: &Grid, state: &State, tags: &[Tag])
     requires size { IsOfSize mask.now image.old }
     ensures { IsRaisedBy state.now tags.now mask.now image.old image.new }
 {

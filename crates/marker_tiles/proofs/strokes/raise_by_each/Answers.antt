@@ -2,8 +2,8 @@ use Rattle.std.proofs.Common.{◌≡◌, ◌+◌, ◌<◌, length, take, arith, 
 use Rattle.grid_core.specs.Raster.{Raster}
 use Rattle.marker_tiles.specs.UnderTags.{IsRaisedBy}
 use Rattle.marker_tiles.proofs.Raising.{raised_next, raised_past, nothing_there}
-use Rattle.marker_tiles.proofs.strokes.raise_by.Goals as goal
-use Rattle.marker_tiles.proofs.strokes.raise_by.Goals.{in-Some, in_default}
+use Rattle.marker_tiles.proofs.strokes.raise_by_each.Goals as goal
+use Rattle.marker_tiles.proofs.strokes.raise_by_each.Goals.{in-Some, in_default}
 
 pub loop-tag-preserved : goal.loop-tag-preserved
 loop-tag-preserved c =
