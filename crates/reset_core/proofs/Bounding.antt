@@ -18,7 +18,8 @@ use Rattle.grid_core.proofs.Pixels.{same_pixel_or_not}
 use Rattle.grid_core.proofs.Tilings.{each_pixel_in_one_tile, tile_pixels, tiles_lie_inside}
 use Rattle.grid_core.specs.Path.{Inside}
 use Rattle.tile_work.proofs.OpenBoundsWidened.{widened_by_none, widened_twice}
-use Rattle.tile_resets.specs.Renewing.{AreMarkedReset, AreResetsWithin, AreRisesWithin, IsRaisedByTags}
+use Rattle.tile_resets.specs.Renewing.{AreMarkedReset, AreResetsWithin, AreRisesWithin, IsLowBeyond}
+use Rattle.tile_resets.specs.Renewing.{IsRaisedByTags}
 use Rattle.tile_work.specs.TileSet.{Has}
 use Rattle.tile_work.specs.OpenBounds.{AreWidened, IsWithinItsBounds, LieInTiles, bounds_for}
 use Rattle.reset_core.specs.Bounding.{FollowChange}
@@ -260,6 +261,24 @@ follow_resets tiles conn marks marker old new work after before table tiled coun
         | inr same ↦ absurd (omega (arith, fell, same))
       ];
     }
+
+-- where the marker was low beside some strokes it is so behind the resets, which make the image the marker
+pub low_after_resets : (tiles : Tiles) (marks : List Bool) (s : State) (tags : List ℕ) (marker old new : Raster)
+    (work after : List TileWork) → IsTiled tiles → old.width ≡ tiles.width → old.height ≡ tiles.height
+    → length work ≡ count_of tiles → AreMarkedReset tiles marks marker old new work after
+    → IsLowBeyond s tags marker old → IsLowBeyond s tags marker new
+low_after_resets tiles marks s tags marker old new work after tiled width height count reset low p inside out =
+    let columns = reset.size.width in
+    let rows = reset.size.height in
+    let was : IsInside old.width old.height p = (omega (arith, inside.0, columns), omega (arith, inside.1, rows)) in
+    let within : IsInside tiles.width tiles.height p = (omega (arith, was.0, width), omega (arith, was.1, height)) in
+    elim (reset.each (tile_of tiles p)
+    (omega (arith, (each_pixel_in_one_tile tiles p tiled within).0, count))) [
+      | inl marked ↦ omega (arith, marked.1.image p (record { inside = within; tile = refl }))
+      | inr kept ↦
+          let same = kept.1.values p (record { inside = within; tile = refl }) in
+          omega (arith, same, low p was out)
+    ]
 
 -- where strokes are born the image falls nowhere
 pub births_rise : (tiles : Tiles) (tags : List ℕ) (state : State) (marker old new : Raster) (work after : List TileWork)

@@ -103,27 +103,9 @@ module _ (core : Core) (delta : State) (marks : List Bool) (sound : IsSound core
 
 -- ---- what is merged
 
--- the core with other strokes, another image and other work
-abbrev pub renewed_core : Core → State → Raster → List TileWork → Core
-renewed_core before state image work = record before { state = state; image = image; tiles = work }
-
-module _ (before : Core) (delta : State) (turnover : Turnover) (marks : List Bool) (state : State)
-    (marker middle new : Raster) (between after : List TileWork) (sound : IsSound before)
-    (marked : IsMarked before delta marks) (none_spent : HasSpentMark before marks → ⊥)
-    (grown : IsGrown before delta turnover state marker)
-    (reset : AreMarkedReset (tiling before) marks marker before.image middle before.tiles between)
-    (raised : IsRaisedByTags (tiling before) turnover.born state marker middle new between after) where
-  is_new_marker : IsMarker (domain before) (mask_at before) state (value_at marker)
-  is_new_marker = grown.marker_is before.conn
-
-  in_middle : (p : Pixel) → Inside (domain before) p → IsInside middle.width middle.height p
-  in_middle p inside =
-      let width = reset.size.width ∙ sound.shape.image.width in
-      let height = reset.size.height ∙ sound.shape.image.height in
-      (omega (arith, width, inside.0), omega (arith, height, inside.1))
-
-  -- ---- the image
-
+-- a merge that has renewed the strokes and the marker
+module _ (before : Core) (delta : State) (turnover : Turnover) (state : State) (marker : Raster)
+    (sound : IsSound before) (grown : IsGrown before delta turnover state marker) where
   -- a stroke that makes the marker at a pixel and was not born was there before
   was_marked : (p : Pixel) (level : ℕ) → IsMarkedAt state p level → (IsUnder state turnover.born p → ⊥)
       → (IsMarkedAt before.state p level → ⊥) → ⊥
@@ -148,11 +130,11 @@ module _ (before : Core) (delta : State) (turnover : Turnover) (marks : List Boo
       })
 
   -- where no stroke was born the new marker is nowhere above the image
-  marker_below_image : (p : Pixel) → Inside (domain before) p → (IsUnder state turnover.born p → ⊥)
+  pub marker_below_image : (p : Pixel) → Inside (domain before) p → (IsUnder state turnover.born p → ⊥)
       → value_at marker p ≤ image_at before p
   marker_below_image p inside out =
       let (top, is_top, value) = sound.is_marker p inside in
-      let (new_top, is_new_top, new_value) = is_new_marker p inside in
+      let (new_top, is_new_top, new_value) = grown.marker_is before.conn p inside in
       let low : new_top ≤ top = elim is_new_top.attained [
         | inl none ↦ omega (arith, none)
         | inr is_marked ↦ elim (cases_lt top new_top) [
@@ -164,6 +146,27 @@ module _ (before : Core) (delta : State) (turnover : Turnover) (marks : List Boo
       let supported = (sound.supported p inside).0 in
       omega (arith, low, value, new_value, supported)
 
+-- the core with other strokes, another image and other work
+abbrev pub renewed_core : Core → State → Raster → List TileWork → Core
+renewed_core before state image work = record before { state = state; image = image; tiles = work }
+
+module _ (before : Core) (delta : State) (turnover : Turnover) (marks : List Bool) (state : State)
+    (marker middle new : Raster) (between after : List TileWork) (sound : IsSound before)
+    (marked : IsMarked before delta marks) (none_spent : HasSpentMark before marks → ⊥)
+    (grown : IsGrown before delta turnover state marker)
+    (reset : AreMarkedReset (tiling before) marks marker before.image middle before.tiles between)
+    (raised : IsRaisedByTags (tiling before) turnover.born state marker middle new between after) where
+  is_new_marker : IsMarker (domain before) (mask_at before) state (value_at marker)
+  is_new_marker = grown.marker_is before.conn
+
+  in_middle : (p : Pixel) → Inside (domain before) p → IsInside middle.width middle.height p
+  in_middle p inside =
+      let width = reset.size.width ∙ sound.shape.image.width in
+      let height = reset.size.height ∙ sound.shape.image.height in
+      (omega (arith, width, inside.0), omega (arith, height, inside.1))
+
+  -- ---- the image
+
   -- a pixel of a tile that is not reset
   raised_value : (p : Pixel) → Inside (domain before) p → value_at middle p ≡ image_at before p
       → value_at new p ≡ max (image_at before p) (value_at marker p)
@@ -173,7 +176,7 @@ module _ (before : Core) (delta : State) (turnover : Turnover) (marks : List Boo
         let out : IsUnder state turnover.born p → ⊥ =
         λ under. differ (raised.values.under p (in_middle p inside) under ∙ ap (λ v. max v (value_at marker p)) same) in
         let stays = raised.values.beyond p (in_middle p inside) out in
-        let low = marker_below_image p inside out in
+        let low = marker_below_image before delta turnover state marker sound grown p inside out in
         omega (arith, stays, same, low)
   ]
 

@@ -14,7 +14,7 @@ use Rattle.reset_core.specs.Bounding.{FollowChange}
 use Rattle.tile_work.specs.TileSet.{Has}
 use Rattle.reset_core.specs.declared.replica.Core.TheInside.{Inside as Parts}
 use Rattle.reset_core.specs.Replica.{core_of}
-use Rattle.tile_resets.specs.Renewing.{AreMarkedReset, IsRaisedByTags}
+use Rattle.tile_resets.specs.Renewing.{AreMarkedReset, IsRaisedByTags, IsLowBeyond}
 
 -- the delta fits the core, and its hits are marked
 pub record IsMarked (core : Core) (delta : State) (marks : List Bool) : Type 0 where
@@ -54,14 +54,20 @@ pub record IsImageRenewed (tiles : Tiles) (marks : List Bool) (turnover : Turnov
   pub reset : AreMarkedReset tiles marks marker old middle work between
   pub raised : IsRaisedByTags tiles turnover.born state marker middle new between after
 
--- the strokes fit the image and are those after the change, the marker is that of the strokes before, and image, marks
--- and work are of its tiles
+-- where no stroke was born, the marker of the strokes is nowhere above the image
+abbrev pub IsLowBeyondBirths : Raster → State → Turnover → Raster → Type 0
+IsLowBeyondBirths mask state change image =
+    (marker : Raster) → IsMarkerOf mask state marker → IsLowBeyond state change.born marker image
+
+-- the strokes fit the image and are those after the change, the marker is that of the strokes before, image, marks and
+-- work are of its tiles, and the image is high enough beside the strokes that were born
 pub record CanRenew (markers : Kept) (marks : List Bool) (image : Raster) (work : List TileWork) (state : State)
     (change : Turnover) : Type 0 where
   pub fits : StateFits markers.mask.width markers.mask.height state
   pub known : HasGrown markers.mask markers.marker state change
   pub on_tiling : IsOnTiling markers.tiling image
   pub unspent : AreUnspent markers.tiling marks work
+  pub low : IsLowBeyondBirths markers.mask state change image
 
 -- marker, image and work are those of the strokes, and no mark is left
 pub record AreRenewed (old : Kept) (marks : List Bool) (image : Raster) (work : List TileWork) (state : State)

@@ -1,7 +1,7 @@
 -- Strokes to which the image is raised, one span and one tag after the other.
 use Rattle.std.proofs.Common.{◌≡◌, ℕ, ◌+◌, ◌<◌, ◌≤◌, Bool, true, false, List, [], ◌∷◌, length, get_or, take, refl, sym}
 use Rattle.std.proofs.Common.{ap, ◌∙◌, arith, inl, inr, ◌⊎◌, Option, Some, None}
-use Rattle.std.specs.Prelude.{◌||◌, slice_get}
+use Rattle.std.specs.Prelude.{◌||◌, slice_get, nat_lt}
 use Rattle.std.specs.FinMap as map
 use Rattle.std.specs.List.{list_any, Contains}
 use Rattle.std.proofs.lemmas.Bool.Decides.{nat_tests}
@@ -15,7 +15,7 @@ use Rattle.marker_tiles.specs.UnderTags.{covers_if, some_covers}
 use Rattle.grid_core.proofs.Common.{first_or_later, later, first, not_in_empty}
 use Rattle.stroke_core.specs.declared.span.Span.{Span}
 use Rattle.stroke_core.specs.Spans.{span_has}
-use Rattle.tile_resets.specs.Renewing.{greater_value, made_if, IsMadeWhere, IsUnder, IsRaisedUnder}
+use Rattle.tile_resets.specs.Renewing.{greater_value, made_if, IsMadeWhere, IsUnder, IsRaisedUnder, IsLowBeyond}
 
 -- whether one of the spans has the pixel
 abbrev pub some_has : List Span → Pixel → Bool
@@ -134,3 +134,23 @@ raised_under s tags marker old new made = record {
       ∙ ap (λ t. made_if t greater_value (value_at old p) (value_at marker p))
       (not_under s tags p (some_covers s tags p) out refl);
 }
+
+-- raised everywhere, where the marker is low where none of the strokes covers the pixel
+pub raised_beyond_low : (s : State) (tags : List ℕ) (marker old new : Raster) → IsLowBeyond s tags marker old
+    → IsMadeWhere (λ p. true) greater_value marker old new → IsRaisedUnder s tags marker old new
+raised_beyond_low s tags marker old new low made = record {
+  under = λ p inside under. made.values p inside;
+  beyond = λ p inside out. omega (arith, made.values p inside, low p inside out);
+}
+
+-- ---- row by row
+
+pub no_row : (p : Pixel) → nat_lt p.y 0 ≡ false
+no_row p = grind (arith, nat_tests)
+
+pub row_more : (y end : ℕ) (p : Pixel) → p.x < end
+    → nat_lt p.y (y + 1) ≡ (nat_lt p.y y || span_has (record { y = y; first = 0; end = end }) p)
+row_more y end p within = grind (arith, nat_tests)
+
+pub row_before : (y : ℕ) (p : Pixel) → p.y < y → true ≡ nat_lt p.y y
+row_before y p before = grind (arith, nat_tests)

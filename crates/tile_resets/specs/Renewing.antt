@@ -165,6 +165,11 @@ pub record IsRaisedUnder (s : State) (tags : List ℕ) (marker old new : Raster)
       → value_at new p ≡ max (value_at old p) (value_at marker p)
   pub beyond : (p : Pixel) → IsInside old.width old.height p → (IsUnder s tags p → ⊥) → value_at new p ≡ value_at old p
 
+-- where none of the strokes under the tags covers the pixel the marker is nowhere above the image
+abbrev pub IsLowBeyond : State → List ℕ → Raster → Raster → Type 0
+IsLowBeyond s tags marker image =
+    (p : Pixel) → IsInside image.width image.height p → (IsUnder s tags p → ⊥) → value_at marker p ≤ value_at image p
+
 -- ---- bounds outside which nothing open begins
 
 -- the bounds of the pixels of a span

@@ -1,12 +1,12 @@
 //! The image raised to the marker where strokes lie.
 
-ghost use Rattle.std.specs.Prelude.{◌≡◌, ◌+◌, ◌<◌, ◌≤◌, length};
+ghost use Rattle.std.specs.Prelude.{◌≡◌, ◌+◌, ◌<◌, ◌≤◌, true, length};
 ghost use Rattle.grid_core.specs.Tiles.{IsTiled, count_of};
 ghost use Rattle.stroke_core.specs.Seed.{covers};
 ghost use Rattle.stroke_core.specs.Spans.{span_has};
 ghost use Rattle.stroke_lattice.specs.State.{StateFits};
 ghost use Rattle.tile_resets.specs.Renewing.{AreAtHand, AreCutAlike, IsPiece, IsRaisedWhere, IsRaisedByTags};
-ghost use Rattle.tile_resets.specs.Renewing.{AreRisesWithin, span_bounds};
+ghost use Rattle.tile_resets.specs.Renewing.{AreRisesWithin, IsLowBeyond, span_bounds};
 
 use crate::renewing::cells::raise_span;
 use grid_core::laws::each_pixel_in_one_tile;
@@ -15,11 +15,39 @@ use stroke_core::{Span, Stroke, Tag, spans_cover};
 use stroke_lattice::State;
 use tile_work::{OpenBounds, WorkTable};
 
+// From so many tags on it costs less to look at each pixel of the image than at those of one stroke after another.
+const MANY: usize = 256;
+
 /// Raises the image to the marker where one of the strokes of these tags lies, and makes each tile dirty in which a
-/// pixel rises. Each pixel that rises lies within the bounds of its tile.
+/// pixel rises. Each pixel that rises lies within the bounds of its tile. Elsewhere the marker has to be at most the
+/// image.
 ///
-/// It costs about the pixels that these strokes cover.
+/// It costs about the pixels that these strokes cover, or those of the image where there are many strokes.
 pub fn raise_to_marker(
+    image: &mut Grid,
+    marker: &Grid,
+    tiling: &Tiling,
+    work: &mut WorkTable,
+    bounds: &mut OpenBounds,
+    state: &State,
+    tags: &[Tag],
+)
+    requires parts { AreCutAlike tiling.now marker.now image.old work.old }
+    requires fits { StateFits tiling.now.width tiling.now.height state.now }
+    requires bounds { length bounds.old ≡ count_of tiling.now }
+    requires low { IsLowBeyond state.now tags.now marker.now image.old }
+    ensures raised { IsRaisedByTags tiling.now tags.now state.now marker.now image.old image.new work.old work.new }
+    ensures bounds { AreRisesWithin tiling.now image.old image.new bounds.old bounds.new }
+{
+    if tags.len() < MANY {
+        raise_under_each(image, marker, tiling, work, bounds, state, tags);
+    } else {
+        raise_everywhere(image, marker, tiling, work, bounds);
+    }
+}
+
+// Raises the image where one stroke after another lies.
+fn raise_under_each(
     image: &mut Grid,
     marker: &Grid,
     tiling: &Tiling,
@@ -39,6 +67,27 @@ pub fn raise_to_marker(
         if let Some(stroke) = state.stroke(*tag) {
             raise_stroke(image, marker, tiling, work, bounds, stroke);
         }
+    }
+}
+
+// Raises the image at each of its pixels.
+fn raise_everywhere(
+    image: &mut Grid,
+    marker: &Grid,
+    tiling: &Tiling,
+    work: &mut WorkTable,
+    bounds: &mut OpenBounds,
+)
+    requires parts { AreCutAlike tiling.now marker.now image.old work.old }
+    requires bounds { length bounds.old ≡ count_of tiling.now }
+    ensures raised { IsRaisedWhere tiling.now (λ p. true) marker.now image.old image.new work.old work.new }
+    ensures bounds { AreRisesWithin tiling.now image.old image.new bounds.old bounds.new }
+{
+    prove!(image.width() == marker.width());
+    let end = tiling.width();
+    for y in 0..tiling.height() {
+        let row = Span { y, first: 0, end };
+        raise_across(image, marker, tiling, work, bounds, row);
     }
 }
 

@@ -1,5 +1,5 @@
 -- What the tactics leave open of `merge`.
-use Rattle.std.proofs.Common.{◌≡◌, true, false, refl, sym, ap, ◌∙◌, subst, inl, inr, replicate}
+use Rattle.std.proofs.Common.{◌≡◌, true, false, refl, sym, ap, ◌∙◌, subst, inl, inr, replicate, arith}
 use Rattle.std.proofs.lemmas.Result.{err_from_is_err_and}
 use Rattle.grid_core.specs.Tiles.{count_of}
 use Rattle.marker_tiles.specs.Kept.{IsMarkerOf}
@@ -11,10 +11,10 @@ use Rattle.reset_core.specs.declared.replica.Core.TheInside.{Inside as Parts}
 use Rattle.stroke_lattice.specs.State.{State}
 use Rattle.reset_core.specs.Replica.{core_of, IsStored}
 use Rattle.reset_core.proofs.Storing.{unmarked_is_stored}
-use Rattle.reset_core.specs.MergeSteps.{IsMarked, IsImageRenewed, IsRenewed}
+use Rattle.reset_core.specs.MergeSteps.{IsMarked, IsGrown, IsImageRenewed, IsRenewed}
 use Rattle.reset_core.proofs.MergeSteps.{hits_are_marked, join_fits, exactly_this}
 use Rattle.reset_core.proofs.MergeSteps.{spent_is_refused, unspent_is_acceptable, marked_are_unspent}
-use Rattle.reset_core.proofs.MergeSteps.{renewed_is_merged, renewed_is_stored}
+use Rattle.reset_core.proofs.MergeSteps.{marker_below_image, renewed_is_merged, renewed_is_stored}
 use Rattle.core_rules.proofs.Resets.{refused_is_not_acceptable}
 use Rattle.reset_core.proofs.Sweeping.{tiling_is}
 use Rattle.reset_core.proofs.replica.Core.merge.Goals as goal
@@ -121,6 +121,13 @@ renew-requires-clause-renew c =
             c.self.invariant.sound (is_marked at)
             (λ spent. let no : true ≡ false = sym (c.is_one_spent.ensures.1 spent) ∙ c.if-is_one_spent.false in cc);
       };
+      low = λ marker is_marker p inside out.
+          let image = c.self.invariant.sound.shape.image in
+          let grown : IsGrown (core_of (parts_before at)) c.args.delta.now c.in-Ok.change c.join.new.self marker =
+          record { join = c.in-Ok.ensures.join; change = c.in-Ok.ensures.change; marker_is = is_marker } in
+          marker_below_image (core_of (parts_before at)) c.args.delta.now c.in-Ok.change c.join.new.self marker
+          c.self.invariant.sound grown p
+          (omega (arith, inside.0, image.width), omega (arith, inside.1, image.height)) out;
     }
 
 -- ---- what is merged

@@ -1,8 +1,8 @@
--- What the loop of `raise_to_marker` keeps.
+-- What the loop of `raise_under_each` keeps.
 use Rattle.std.proofs.Common.{take}
 use Rattle.marker_tiles.specs.UnderTags.{some_covers}
 use Rattle.tile_resets.specs.Renewing.{AreRisesWithin, IsRaisedWhere}
-use Rattle.tile_resets.proofs.renewing.raise.raise_to_marker.Given as goal
+use Rattle.tile_resets.proofs.renewing.raise.raise_under_each.Given as goal
 
 -- the strokes under the tags so far are raised
 abbrev pub invariant-loop-tag : goal.invariant-loop-tag
