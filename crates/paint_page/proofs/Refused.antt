@@ -1,5 +1,5 @@
--- What becomes of requests that are refused, and of what is posted and refused.
-use Rattle.std.proofs.Common.{◌≡◌, ℕ, List, ◌⊎◌, inl, inr, OnOk, refl, subst}
+-- What becomes of requests that are refused, and of what is posted: taken or refused.
+use Rattle.std.proofs.Common.{◌≡◌, ℕ, List, ◌⊎◌, inl, inr, OnOk, refl, subst, sym}
 use Rattle.std.specs.Prelude.{Result, Ok, Err}
 use Rattle.http.specs.declared.request.Request.{Request}
 use Rattle.http_server.specs.declared.response.Response.{Response}
@@ -12,9 +12,10 @@ use Rattle.paint_session.specs.RunError.{IsMemory, fault_text}
 use Rattle.paint_session.specs.declared.run_error.RunError.{RunError}
 use Rattle.paint_session.specs.declared.run_error.RunError.TheVariants.{StateFile}
 use Rattle.paint_board.specs.Board.{Board}
+use Rattle.paint_board.specs.Later.{IsLater}
 use Rattle.paint_board.specs.Taking.{FileIsRefused}
 use Rattle.paint_page.specs.Painting.{Painting}
-use Rattle.paint_page.specs.Answering.{Says, IsTurnedDown, Answers}
+use Rattle.paint_page.specs.Answering.{Says, SaysTaken, TellsChanges, IsTakenAndTold, IsTurnedDown, Answers}
 
 -- a request that is refused, and is told so, has its answer
 pub is_refused : {X F : Type 0} (result : Result X F) (old : Painting) (r : Request (List ℕ)) (why : Refusal)
@@ -25,6 +26,22 @@ pub is_refused : {X F : Type 0} (result : Result X F) (old : Painting) (r : Requ
 is_refused (Ok x) old r why response refused told =
     inl (record { why = why; refused = refused; same = refl; told = told })
 is_refused (Err e) old r why response refused told = told
+
+-- what was taken is told, where the painting is the same behind the telling; `run` and `since` are those of the moment
+-- that the page is told from
+pub is_taken_and_told : (taken : Painting → Type 0) (run since : Painting → ℕ) (old mid new : Painting)
+    (response : Response) (r s : ℕ)
+    → r ≡ run mid → s ≡ since mid → taken mid → IsLater old.board mid.board → mid ≡ record old { board = mid.board }
+    → TellsChanges mid r s response ⊎ SaysTaken mid response → new ≡ mid
+    → IsTakenAndTold (taken new) (run new) (since new) old response new
+is_taken_and_told taken run since old mid new response r s run_is since_is is_taken later rest told same =
+    subst (λ (p : Painting). IsTakenAndTold (taken p) (run p) (since p) old response p) (sym same) (record {
+      is_taken = is_taken;
+      later = later;
+      rest = rest;
+      told = subst (λ (a : ℕ). TellsChanges mid a (since mid) response ⊎ SaysTaken mid response) run_is
+          (subst (λ (b : ℕ). TellsChanges mid r b response ⊎ SaysTaken mid response) since_is told);
+    })
 
 -- a fault that is not want of memory is the other one
 other_fault : (e : RunError) (P : Type 0) → (IsMemory e → ⊥) → IsMemory e ⊎ P → P

@@ -16,7 +16,9 @@
 //! what is posted is answered 503 with the reason and nothing is taken ([`nothing_is_taken_unkept`]); all else is
 //! answered as ever. What another program has put into the state file is taken by [`Painting::take_found`].
 //!
-//! The files of the mask and of the image are made once for a moment and shared among those who ask for them.
+//! The files of the mask and of the image are made once for a moment and shared among those who ask for them. Large
+//! answers that nobody has read yet have a bound, `unread` says which: past it a large answer finds no memory, and
+//! small ones are given as ever.
 //!
 //! What `GET strokes` tells is read by `edit_lang` as exactly the live strokes: `edit_lang::what_is_written_is_read`.
 //!
@@ -26,6 +28,7 @@
 mod fault;
 mod laws;
 mod painting;
+mod unread;
 
 pub use laws::{answers_leave_later, nothing_is_taken_unkept};
 pub use painting::Painting;

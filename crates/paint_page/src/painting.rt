@@ -8,6 +8,7 @@ ghost use Rattle.paint_board.specs.Growing.{IsGrown, IsSettledFor};
 ghost use Rattle.paint_board.specs.Later.{IsLater};
 ghost use Rattle.paint_page.specs.Answering.{Says};
 
+use crate::unread::Unread;
 use bytes::Bytes;
 use grid_core::Memory;
 use http::StatusCode;
@@ -37,6 +38,8 @@ pub struct Painting {
     // The files of the mask and of the image, where they were asked for and nothing has changed since.
     mask: Option<Bytes>,
     image: Option<Bytes>,
+    // The large answers that somebody has not read yet, and old files of the image among them.
+    unread: Unread,
 }
 
 impl Model for Painting {
@@ -86,6 +89,7 @@ impl Painting {
             unkept: None,
             mask: None,
             image: None,
+            unread: Unread::new(alloc),
         }
     }
 
@@ -115,8 +119,27 @@ impl Painting {
         ensures later { IsLater self.old.board self.new.board }
         ensures rest { self.new ≡ record self.old { board = self.new.board } }
     {
-        self.image = None;
+        self.unread.keep(self.image.take());
         self.board.grow(self.alloc, jobs)
+    }
+
+    /// Gives back the memory of large answers that were read.
+    pub fn forget_read(&mut self)
+        ensures { self.new ≡ self.old }
+    {
+        self.unread.forget_read();
+    }
+
+    // Fills a blank response with 200, the fields that every answer has, and a body that is this response's own.
+    //
+    // Errors: out of memory, or the body is large and too much is unread.
+    fn give(&mut self, response: &mut Response, media: Media, body: Bytes) -> Result<(), AllocError>
+        requires { IsBlank response.old }
+        ensures told { OnOk result (Says self.old 200 media body response.new) }
+        ensures same { self.new ≡ self.old }
+    {
+        self.unread.note(&body)?;
+        self.put(response, StatusCode::OK, media, body)
     }
 
     // Fills a blank response with a status, the fields that every answer has, and a body.

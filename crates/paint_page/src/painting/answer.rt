@@ -54,31 +54,23 @@ impl Painting {
     }
 
     // Fills a blank response with the state file.
-    fn put_state(&self, response: &mut Response) -> Result<(), AllocError>
+    fn put_state(&mut self, response: &mut Response) -> Result<(), AllocError>
         requires { IsBlank response.old }
-        ensures { OnOk result (Says self.now 200 media.Binary (state_text self.now.board) response.new) }
+        ensures told { OnOk result (Says self.old 200 media.Binary (state_text self.old.board) response.new) }
+        ensures same { self.new ≡ self.old }
     {
         let file = self.board.state_file(self.alloc).map_err(|_| AllocError)?;
-        self.put(
-            response,
-            StatusCode::OK,
-            Media::Binary,
-            Bytes::from_vec(file)?,
-        )
+        self.give(response, Media::Binary, Bytes::from_vec(file)?)
     }
 
     // Fills a blank response with the live strokes.
-    fn put_strokes(&self, response: &mut Response) -> Result<(), AllocError>
+    fn put_strokes(&mut self, response: &mut Response) -> Result<(), AllocError>
         requires { IsBlank response.old }
-        ensures { OnOk result
-            (Says self.now 200 media.Text (live_text self.now.board.core.state) response.new) }
+        ensures told { OnOk result
+            (Says self.old 200 media.Text (live_text self.old.board.core.state) response.new) }
+        ensures same { self.new ≡ self.old }
     {
         let lines = self.board.strokes(self.alloc).map_err(|_| AllocError)?;
-        self.put(
-            response,
-            StatusCode::OK,
-            Media::Text,
-            Bytes::from_vec(lines)?,
-        )
+        self.give(response, Media::Text, Bytes::from_vec(lines)?)
     }
 }

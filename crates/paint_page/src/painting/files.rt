@@ -35,6 +35,7 @@ impl Painting {
         }
         let file = self.board.image_file(self.alloc).map_err(|_| AllocError)?;
         let made = Bytes::from_vec(file)?;
+        self.unread.make_room(&made)?;
         let shared = made.clone()?;
         self.image = Some(made);
         Ok(shared)

@@ -56,7 +56,8 @@ impl Painting {
         self.put_taken(response)?;
         match self.take_found(file) {
             Ok(()) => {
-                self.tell(self.board.run(), self.board.step(), response);
+                let (run, step) = (self.board.run(), self.board.step());
+                self.tell(run, step, response);
                 Ok(())
             }
             Err(fault) => self.turn_down(&fault, response),
@@ -73,7 +74,7 @@ impl Painting {
     {
         match self.board.take_edits(self.alloc, text) {
             Ok(()) => {
-                self.image = None;
+                self.unread.keep(self.image.take());
                 Ok(())
             }
             Err(fault) => Err(fault),
@@ -95,7 +96,7 @@ impl Painting {
     {
         match self.board.take_file(self.alloc, file) {
             Ok(()) => {
-                self.image = None;
+                self.unread.keep(self.image.take());
                 Ok(())
             }
             Err(fault) => Err(fault),
@@ -117,9 +118,10 @@ impl Painting {
     }
 
     // Tells what changed in place of what the response says, where there is memory for it.
-    fn tell(&self, run: u64, since: u64, response: &mut Response)
-        requires { SaysTaken self.now response.old }
-        ensures { TellsChanges self.now run since response.new ⊎ SaysTaken self.now response.new }
+    fn tell(&mut self, run: u64, since: u64, response: &mut Response)
+        requires { SaysTaken self.old response.old }
+        ensures told { TellsChanges self.old run since response.new ⊎ SaysTaken self.old response.new }
+        ensures same { self.new ≡ self.old }
     {
         if let Ok(told) = self.told(run, since) {
             *response = told;
@@ -127,8 +129,9 @@ impl Painting {
     }
 
     // A response that tells what changed.
-    fn told(&self, run: u64, since: u64) -> Result<Response, AllocError>
-        ensures { IfOk result (TellsChanges self.now run since) }
+    fn told(&mut self, run: u64, since: u64) -> Result<Response, AllocError>
+        ensures told { IfOk result (TellsChanges self.old run since) }
+        ensures same { self.new ≡ self.old }
     {
         let mut told = Response::new(self.alloc);
         self.put_changes(run, since, &mut told)?;
@@ -137,24 +140,20 @@ impl Painting {
 
     // Fills a blank response with what changed.
     pub(super) fn put_changes(
-        &self,
+        &mut self,
         run: u64,
         since: u64,
         response: &mut Response,
     ) -> Result<(), AllocError>
         requires { IsBlank response.old }
-        ensures { OnOk result (TellsChanges self.now run since response.new) }
+        ensures told { OnOk result (TellsChanges self.old run since response.new) }
+        ensures same { self.new ≡ self.old }
     {
         let changes = self
             .board
             .changes(self.alloc, run, since)
             .map_err(|_| AllocError)?;
-        self.put(
-            response,
-            StatusCode::OK,
-            Media::Binary,
-            Bytes::from_vec(changes)?,
-        )
+        self.give(response, Media::Binary, Bytes::from_vec(changes)?)
     }
 
     // Answers what was refused with the line of its fault, whatever the response says. Want of memory is no answer.

@@ -1,6 +1,16 @@
-use Rattle.paint_board.specs.Taking.{TextIsRefused}
-use Rattle.paint_page.proofs.Refused.{is_turned_down}
+use Rattle.std.proofs.Common.{inl, refl}
+use Rattle.paint_board.specs.Taking.{TextIsTaken, TextIsRefused}
+use Rattle.paint_page.specs.Painting.{Painting}
+use Rattle.paint_page.proofs.Refused.{is_taken_and_told, is_turned_down}
 use Rattle.paint_page.proofs.painting.Painting.edit.Goals as goal
+
+pub returns-in-Ok-clause-ok : goal.returns-in-Ok-clause-ok
+returns-in-Ok-clause-ok c =
+    let moment = c.args.moment in
+    inl (is_taken_and_told (λ (p : Painting). TextIsTaken c.args.self.now.board c.args.text.now p.board)
+    (λ _. moment.run) (λ _. moment.step) c.args.self.now c.take_edits.new.self c.tell.new.self c.tell.new.response
+    moment.run moment.step refl refl c.in-Ok.ensures.taken c.in-Ok.ensures.later c.in-Ok.ensures.rest
+    c.tell.ensures.told c.tell.ensures.same)
 
 pub returns-in-Err-clause-ok : goal.returns-in-Err-clause-ok
 returns-in-Err-clause-ok c =

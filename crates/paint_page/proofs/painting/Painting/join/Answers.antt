@@ -1,6 +1,17 @@
-use Rattle.paint_board.specs.Taking.{FileIsRefused}
-use Rattle.paint_page.proofs.Refused.{is_turned_down}
+use Rattle.std.proofs.Common.{inl, ap, ◌∙◌}
+use Rattle.paint_board.specs.Taking.{FileIsTaken, FileIsRefused}
+use Rattle.paint_page.specs.Painting.{Painting}
+use Rattle.paint_page.proofs.Refused.{is_taken_and_told, is_turned_down}
 use Rattle.paint_page.proofs.painting.Painting.join.Goals as goal
+
+pub returns-in-Ok-clause-ok : goal.returns-in-Ok-clause-ok
+returns-in-Ok-clause-ok c =
+    inl (is_taken_and_told (λ (p : Painting). FileIsTaken c.args.self.now.board c.args.file.now p.board)
+    (λ (p : Painting). p.board.run) (λ (p : Painting). p.board.step) c.args.self.now c.take_found.new.self
+    c.tell.new.self c.tell.new.response c.run-run.result c.step-step.result
+    (c.run-run.ensures ∙ ap (λ (p : Painting). p.board.run) c.self.view_is)
+    (c.step-step.ensures ∙ ap (λ (p : Painting). p.board.step) c.self.view_is)
+    c.in-Ok.ensures.taken c.in-Ok.ensures.later c.in-Ok.ensures.rest c.tell.ensures.told c.tell.ensures.same)
 
 pub returns-in-Err-clause-ok : goal.returns-in-Err-clause-ok
 returns-in-Err-clause-ok c =
