@@ -135,16 +135,18 @@ module _ {T : Type 0} (now : ℕ) where
     rest = next.rest ∙ ap (λ (s : Server T). record s { peers = d.peers; hall = d.hall }) first.rest;
   }
 
--- there is more to do where bytes moved, and else where work is left
-pub busy_moving : (Left : Type 0) (busy moved : Bool) → moved ≡ true → busy ≡ moved
-    → (IsTrue busy ↔ (IsTrue moved ⊎ Left))
-busy_moving Left busy moved is busy_is = (λ b. inl is, λ any. busy_is ∙ is)
-
-pub busy_working : (Left : Type 0) (busy moved working : Bool) → moved ≡ false → busy ≡ working
-    → (IsTrue working ↔ Left) → (IsTrue busy ↔ (IsTrue moved ⊎ Left))
-busy_working Left busy moved working is busy_is left = (
-  λ b. inr (left.0 (sym busy_is ∙ b)),
-  λ any. elim any [ inl moves ↦ absurd (cc) | inr later ↦ busy_is ∙ left.1 later ],
+-- the same things are there to do, where work is told by what is left
+pub busy_with : (Busy Moved Working Crowded Left : Type 0)
+    → (Busy ↔ (Moved ⊎ Working ⊎ Crowded)) → (Working ↔ Left) → (Busy ↔ (Moved ⊎ Left ⊎ Crowded))
+busy_with Busy Moved Working Crowded Left any left = (
+  λ busy. elim (any.0 busy) [
+    | inl moves ↦ inl moves
+    | inr later ↦ inr (elim later [ inl works ↦ inl (left.0 works) | inr crowd ↦ inr crowd ])
+  ],
+  λ one. any.1 (elim one [
+    | inl moves ↦ inl moves
+    | inr later ↦ inr (elim later [ inl rest ↦ inl (left.1 rest) | inr crowd ↦ inr crowd ])
+  ]),
 )
 
 -- one turn more, behind a wait at the door

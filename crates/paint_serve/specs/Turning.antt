@@ -108,7 +108,8 @@ pub record LetsIn {T : Type 0} (now : ℕ) (old new : Server T) : Type 0 where
 
 -- A turn: newcomers are let in; at most 16 rounds; those are dropped who are closed, have been still for half a minute
 -- or take longer than a minute for a request, and in the hall those who came ten seconds ago; and the page settles.
--- There is more to do at once where bytes moved to the last, or work is left.
+-- There is more to do at once where bytes moved to the last, work is left, or there is a crowd at the door: each try
+-- let somebody in, so that more may stand there. (Who comes to a door, no contract sees.)
 pub record TakesTurn {T : Type 0} (seen : T → StoreSeen) (now : ℕ) (old new : Server T) : Type 0 where
   pub fresh : List (Peer (Caller TcpStream))
   pub newcomers : All (IsNewcomer old.hall.key now) fresh
@@ -122,7 +123,8 @@ pub record TakesTurn {T : Type 0} (seen : T → StoreSeen) (now : ℕ) (old new 
   pub settles : PageGrows between.keeping.service (keeping seen new.keeper).service
   pub kept : keeping seen new.keeper ≡ record between.keeping { service = (keeping seen new.keeper).service }
   pub tracked : IsKeptTrack (keeping seen old.keeper) → IsKeptTrack (keeping seen new.keeper)
-  pub busy : IsTrue new.is_busy ↔ (IsTrue moved ⊎ HasPageWork (keeping seen new.keeper).service)
+  pub crowded : Bool
+  pub busy : IsTrue new.is_busy ↔ (IsTrue moved ⊎ HasPageWork (keeping seen new.keeper).service ⊎ IsTrue crowded)
 
 -- so many turns, before each of which it waited at the door
 abbrev pub AreTurns : {T : Type 0} → (T → StoreSeen) → ℕ → Server T → Server T → Type 0

@@ -7,20 +7,24 @@ ghost use Rattle.paint_session.specs.declared.run_error.RunError.TheVariants as 
 ghost use Rattle.paint_serve.specs.Serving.{forward_page};
 
 use crate::call::FileName;
-use byte_devices::{Sink, StdSink, put_all};
+use byte_devices::{Sink, Source, StdSink, StdSource, put_all};
 use grid_core::Memory;
 use page_requests::{Hosts, Key, address};
 use paint_session::run_error::RunError;
 use pgm_codec::PgmError;
 use std::alloc::Global;
-use std::fs::{self, OpenOptions};
+use std::fs::{self, File, OpenOptions};
 use std::io::{self, ErrorKind};
 use std::os::unix::fs::OpenOptionsExt;
 use std::rt::Files;
 
+// How the page that forwards begins, up to the address.
+const BEGINNING: &str = "<!DOCTYPE html>\n<meta charset='utf-8'>\n<title>Seedpaint</title>\
+                         <meta http-equiv='refresh' content='0; url=";
+
 /// Removes the file of an earlier start, where one is to be written, so that nobody opens it.
 ///
-/// Errors: P11 where it is there and could not be removed.
+/// Errors: P11 where something else has its name, or where it could not be removed.
 pub(crate) fn remove_forward<R: Files>(
     files: &R,
     forward: &Option<FileName>,
@@ -30,10 +34,42 @@ pub(crate) fn remove_forward<R: Files>(
     let Some(name) = forward else {
         return Ok(());
     };
-    match fs::remove_file(files, name.as_str()) {
+    match remove_earlier(files, name.as_str()) {
         Err(e) if e.kind() != ErrorKind::NotFound => Err(RunError::Pgm(PgmError::Device)),
         _ => Ok(()),
     }
+}
+
+// Removes the file of this name, which an earlier start wrote. No link is followed.
+//
+// Errors: it is not there; it is anything else, and stays; it could not be read or removed.
+fn remove_earlier<R: Files>(files: &R, name: &str) -> io::Result<()> {
+    if !fs::symlink_metadata(files, name)?.is_file() {
+        return Err(ErrorKind::AlreadyExists.into());
+    }
+    let mut source = StdSource::new(File::open(files, name)?);
+    if !begins_as_page(&mut source) {
+        return Err(ErrorKind::AlreadyExists.into());
+    }
+    fs::remove_file(files, name)
+}
+
+// Whether what a source has begins as the page that forwards, or ends within that beginning: a start that was cut off
+// leaves so much. Not where the source failed.
+fn begins_as_page<S: Source>(source: &mut S) -> bool {
+    let mut piece = [0u8; 1];
+    for byte in BEGINNING.as_bytes() {
+        match source.pull(&mut piece) {
+            Ok(0) => return true,
+            Ok(_) => {
+                if piece[0] != *byte {
+                    return false;
+                }
+            }
+            Err(_) => return false,
+        }
+    }
+    true
 }
 
 /// Writes the file of this name, which is not there yet, for the address of a page. From the start nobody else may read
@@ -93,9 +129,6 @@ fn forward_text(alloc: Global, hosts: &Hosts, key: &Key) -> Result<String, Memor
     ensures { IfOk result (λ page. string_bytes page ≡ forward_page hosts.now key.now) }
 {
     let to = address(alloc, hosts, key)?;
-    let page = format!(in alloc;
-        "<!DOCTYPE html>\n<meta charset='utf-8'>\n<title>Seedpaint</title>\
-         <meta http-equiv='refresh' content='0; url={to}'>\n<p><a href='{to}'>Paint</a></p>\n"
-    )?;
+    let page = format!(in alloc; "{BEGINNING}{to}'>\n<p><a href='{to}'>Paint</a></p>\n")?;
     Ok(page)
 }

@@ -72,9 +72,10 @@ impl Kept for Page {
         self.painting.note_kept(why);
     }
 
-    // Where no work is left, nothing is touched, so that the files that the painting has made stay. Where memory is
-    // wanting, the rest is left.
+    // Where no work is left, the board is not touched, so that the files that the painting has made stay. Where memory
+    // is wanting, the rest is left.
     fn work(&mut self) -> bool {
+        self.painting.forget_read();
         if self.painting.board().is_quiet() {
             return false;
         }

@@ -1,6 +1,6 @@
 //! The server of a page.
 
-ghost use Rattle.std.specs.Prelude.{◌≡◌, ◌⊎◌, ◌/◌, ◌-◌, ◌^◌, min, ℕ, List, IfOk, IfErr, OnOk, IsTrue, IsFalse};
+ghost use Rattle.std.specs.Prelude.{◌≡◌, ◌⊎◌, ◌↔◌, ◌/◌, ◌-◌, ◌^◌, min, ℕ, List, IfOk, IfErr, OnOk, IsTrue, IsFalse};
 ghost use Rattle.std.specs.Duration.{as_nanos};
 ghost use Rattle.std.specs.Io.KnownBytes.{Appends};
 ghost use Rattle.grid_core.specs.Tiles.{IsTileSide};
@@ -261,25 +261,27 @@ impl<T: StateStore + Drop> Server<T> {
     fn turn<R: RandomSource>(&mut self, rt: &R, now: u64)
         ensures { TakesTurn T.seen now self.old self.new }
     {
-        self.let_in(rt, now);
+        let is_crowded = self.let_in(rt, now);
         let is_moving = self.make_rounds(now);
         self.peers.sweep(now, PATIENCE, MOST_TIME);
         self.hall.sweep(now);
         let is_working = self.keeper.work();
-        self.is_busy = is_moving || is_working;
+        self.is_busy = is_any(is_moving, is_working, is_crowded);
     }
 
-    // Lets in who came: into the hall, and from there to a place as soon as the key is shown.
-    fn let_in<R: RandomSource>(&mut self, rt: &R, now: u64)
+    // Lets in who came: into the hall, and from there to a place as soon as the key is shown. Says whether more may
+    // stand at the door, of whom nothing is told anew: so it is where each try let somebody in.
+    fn let_in<R: RandomSource>(&mut self, rt: &R, now: u64) -> bool
         ensures { LetsIn now self.old self.new }
     {
         for _ in 0..MOST_COMERS {
             let has_come = self.receive(now);
             let is_seated = self.seat(rt, now);
             if !has_come && !is_seated {
-                return;
+                return false;
             }
         }
+        true
     }
 
     // Lets one who came into the hall. Says whether somebody did.
@@ -337,6 +339,13 @@ impl<T: StateStore + Drop> Server<T> {
         }
         true
     }
+}
+
+// Whether bytes moved, work is left, or more may stand at the door.
+fn is_any(is_moving: bool, is_working: bool, is_crowded: bool) -> bool
+    ensures { IsTrue result ↔ (IsTrue is_moving ⊎ IsTrue is_working ⊎ IsTrue is_crowded) }
+{
+    is_moving || is_working || is_crowded
 }
 
 // The time in milliseconds, or `u64::MAX` where there are more.

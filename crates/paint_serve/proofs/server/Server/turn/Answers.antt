@@ -1,23 +1,24 @@
 use Rattle.std.proofs.Common.{◌≡◌, ap, ◌∙◌, subst}
+use Rattle.std.specs.Prelude.{IsTrue}
 use Rattle.mio.specs.declared.net.stream.TcpStream.{TcpStream}
 use Rattle.paint_hall.specs.declared.hall.Hall.{Hall}
 use Rattle.paint_rounds.specs.Keeper.{keeping}
 use Rattle.paint_serve.specs.Page.{HasPageWork}
 use Rattle.paint_serve.specs.Turning.{scene, Scene, AreRounds}
 use Rattle.paint_serve.specs.declared.server.Server.{Server}
-use Rattle.paint_serve.proofs.Turnings.{busy_moving, busy_working, rounds_tracked}
-use Rattle.paint_serve.proofs.server.Server.turn.Goals.{then-is_moving, else-is_moving}
+use Rattle.paint_serve.proofs.Turnings.{busy_with, rounds_tracked}
 use Rattle.paint_serve.proofs.server.Server.turn.Goals as goal
 
 pub returns : goal.returns
 returns g c =
     let seen = g.T.StateStore.seen in
-    let came = c.let_in.ensures in
+    let let_in = c.let_in-is_crowded in
+    let came = let_in.ensures in
     let made = c.make_rounds-is_moving in
     let worked = c.work-is_working in
     let new = keeping seen worked.new.self in
-    let first : Scene = record (scene seen c.args.self.now) { peers = (scene seen c.let_in.new.self).peers } in
-    let begun : scene seen c.let_in.new.self ≡ first
+    let first : Scene = record (scene seen c.args.self.now) { peers = (scene seen let_in.new.self).peers } in
+    let begun : scene seen let_in.new.self ≡ first
     = ap (λ (s : Server g.row.T.Denot). record first { keeping = keeping seen s.keeper }) came.rest in
     let rounds : AreRounds c.args.now 16 made.result first (scene seen made.new.self)
     = subst (λ (s : Scene). AreRounds c.args.now 16 made.result s (scene seen made.new.self)) begun
@@ -38,11 +39,7 @@ returns g c =
       kept = worked.ensures.rest;
       tracked = λ old.
           worked.ensures.tracked (rounds_tracked c.args.now 16 made.result first (scene seen made.new.self) rounds old);
-      busy = elim c.if-is_moving.branch [
-        | then-is_moving w ↦
-            busy_moving (HasPageWork new.service) c.if-is_moving.self made.result w.if-is_moving.true w.self-is
-        | else-is_moving w ↦
-            busy_working (HasPageWork new.service) c.if-is_moving.self made.result worked.result w.if-is_moving.false
-            w.self-is worked.ensures.left
-      ];
+      crowded = let_in.result;
+      busy = busy_with _ (IsTrue made.result) (IsTrue worked.result) (IsTrue let_in.result)
+          (HasPageWork new.service) c.is_any-self.ensures worked.ensures.left;
     }
