@@ -426,7 +426,28 @@ def join_files(sitting):
     page.tab.wait("element('message').textContent.includes('photo.jpg')")
     check("no state file" in page.tab.text("message") and page.tab.run("outbox.length") == 0,
           "so is a large file that is no state file, as a whole")
+    join_long_text(sitting)
     sitting.shown("after a join")
+
+
+def join_long_text(sitting):
+    """A long text goes in parts, each of which is taken or refused by itself."""
+    page, folder = sitting.first, sitting.folder
+    tags = [f"67e55044-10b1-426f-9247-{number:012x}" for number in range(5_000)]
+    lines = [f"disc {tag} 9 {number % 100}:{number % 90}+2" for number, tag in enumerate(tags)]
+    lines += [f"withdraw {tag}" for tag in tags]
+    edits = "performance.getEntriesByType('resource').filter(({ name }) => name.includes('/edits?')).length"
+    page.tab.run("performance.clearResourceTimings()")
+    (folder / "long.txt").write_text("\n".join(lines) + "\n")
+    page.tab.drop(*page.at(160, 128), folder / "long.txt")
+    page.tab.wait(f"{edits} > 1")
+    sitting.both(6)
+    check(page.tab.text("message").find("Refused") < 0, "a long text goes in parts, and all of it is taken")
+    (folder / "wrong.txt").write_text("\n".join([*lines, "nonsense"]) + "\n")
+    page.tab.drop(*page.at(160, 128), folder / "wrong.txt")
+    page.tab.wait("element('message').textContent.includes('wrong.txt from line')")
+    check("E1" in page.tab.text("message"), "a part that is refused tells at which line it begins")
+    sitting.both(6)
 
 
 def save_copy(sitting):

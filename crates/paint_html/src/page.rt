@@ -146,7 +146,7 @@ output { min-width: 22px; }
 "use strict";
 
 // What the edit language and the program take at most.
-const MOST_RUNS = 160, MOST_RADIUS = 255, MOST_LEVEL = 65535, MOST_BODY = 4 << 20;
+const MOST_RUNS = 160, MOST_RADIUS = 255, MOST_LEVEL = 65535;
 
 const element = id => document.getElementById(id);
 const limited = (value, least, most) => Math.min(Math.max(value, least), most);
@@ -838,19 +838,39 @@ function editTextOf(bytes) {
   return /^(;|place |disc |withdraw )/.test(start) ? new TextDecoder().decode(bytes) : null;
 }
 
+// A larger file goes in parts of at most so many bytes, one request each, so that others need not wait for all of it.
+const MOST_PART = 256 << 10;
+
 function joinText(text, subject) {
   const [, mask] = MASK_LINE.exec(text) ?? [];
   if (mask && mask !== board.fingerprint) return sayFault(`Refused ${subject}: ${FAULTS.D1}.`);
-  sendEdit(text, performance.now(), subject);
+  for (const { first, part } of textParts(text)) {
+    sendEdit(part, performance.now(), first > 1 ? `${subject} from line ${first} on` : subject);
+  }
 }
 
-/** A state file in parts that one request may carry, cut between its frames, each of which stands behind its length. */
+/** A text in parts, cut between its lines, each with the number of its first line. */
+function textParts(text) {
+  const parts = [];
+  let first = 1;
+  for (let start = 0; start < text.length || parts.length === 0;) {
+    const last = text.length - start > MOST_PART ? text.lastIndexOf("\n", start + MOST_PART - 1) : text.length - 1;
+    const end = last < start ? text.length : last + 1;
+    const part = text.slice(start, end);
+    parts.push({ first, part });
+    first += part.split("\n").length - 1;
+    start = end;
+  }
+  return parts;
+}
+
+/** A state file in parts, cut between its frames, each of which stands behind its length. */
 function partsOf(bytes) {
   const parts = [];
   let start = 0, end = 0;
   while (end + 2 <= bytes.length) {
     const next = end + 2 + (bytes[end] << 8 | bytes[end + 1]);
-    if (next - start > MOST_BODY) {
+    if (next - start > MOST_PART) {
       parts.push(bytes.subarray(start, end));
       start = end;
     }
@@ -1706,7 +1726,7 @@ else start();
 /// The value of its `Content-Security-Policy` (W3C CSP Level 3): its one style and its one script by their SHA-256, and
 /// requests to its own origin alone.
 pub const POLICY: &str = "default-src 'none'; \
-     script-src 'sha256-o6p+irT4KzQ/uvYM0qS8Mqw6D/nDhBH3/d7ddn4+25c='; \
+     script-src 'sha256-H2pl/wpirbnhCYTO5JRkJVBrElixUnTf5xHHRES+GcI='; \
      style-src 'sha256-xfZQBPFP+IG78Zo2Xfn8GwNCIF7CEFZDJ0r/i7nyHqY='; \
      connect-src 'self'; \
      img-src data:; \
