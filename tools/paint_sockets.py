@@ -12,6 +12,7 @@ needs Python 3 alone, and Linux for what a process has bound and holds.
 import argparse
 import multiprocessing
 import pathlib
+import random
 import select
 import socket
 import subprocess
@@ -31,16 +32,17 @@ MOST_PEERS, PATIENCE, HALL_SECONDS, REQUEST_SECONDS = 64, 30, 10, 60
 SLACK = 5                    # seconds by which somebody may be dropped later
 STRANGERS = 64               # how many come without the key
 ANSWER_SECONDS = 1           # within which others are answered meanwhile
-DOOR_SECONDS = 2             # within which one is who comes behind 64 strangers: a turn lets in 64, the next comes in 1 s
+FLOOD_DISCS = 64_000         # how many discs fill a text that is taken
 CROWD_SECONDS = 5            # within which they are where many ask for much, or come and go without a pause
 MOST_BODY = 4 << 20          # bytes of a body that is taken
 MOST_OF_BODIES = 64 << 20    # bytes that strangers may take by what they send
-MOST_OF_ANSWERS = 600 << 20  # bytes that answers may take which nobody reads
+# Bytes that answers may take which nobody reads: 256 MiB, one more, and one that is made and finds no room.
+MOST_OF_ANSWERS = (256 + 64) << 20
 GOOD_RATE = 80 << 10         # bytes a second of a link that is slow and all right
 OPENING_SECONDS = 300        # that a large picture may take to be opened
 WIDTH = HEIGHT = 2048
 LARGE = 4096
-STROKE = b"place 67e55044-10b1-426f-9247-bb680e5fe0c%d 9 %d:0-4\n"
+STROKE = b"place 67e55044-10b1-426f-9247-bb680e5fe0%02d 9 %d:0-4\n"
 
 
 def check(holds, name):
@@ -236,7 +238,7 @@ def strangers(program):
                 except ConnectionError:
                     pass  # (it was turned away)
             most = max(program.seconds_of_answer() for _ in range(20))
-            check(most < DOOR_SECONDS, f"{STRANGERS} who {name} keep nobody out ({1000 * most:.0f} ms)")
+            check(most < ANSWER_SECONDS, f"{STRANGERS} who {name} keep nobody out ({1000 * most:.0f} ms)")
     comers = [multiprocessing.Process(target=come_and_go, args=(program.port,), daemon=True) for _ in range(2)]
     for comer in comers:
         comer.start()
@@ -397,22 +399,81 @@ def unread_changes(words, folder):
     """Peers that ask for all that changed in a large picture and do not read: memory has an end, and others go on."""
     program = Program(words, folder, side=LARGE)
     try:
-        with crowd(program, MOST_PEERS - 4) as peers, measured(program) as most:
-            for peer in peers:
-                peer.sendall(program.request("changes?run=0&since=0"))
-            slowest, end = 0, time.monotonic() + 20
-            while time.monotonic() < end:
-                slowest = max(slowest, program.seconds_of_answer())
-                time.sleep(0.1)
-        check(most[0] < MOST_OF_ANSWERS, f"{len(peers)} who asked for {LARGE} by {LARGE} and do not read take "
-              f"{most[0] >> 20} MB")
-        check(slowest < CROWD_SECONDS, f"and others are answered within {1000 * slowest:.0f} ms")
+        moment = Moment(program)
+        with ExitStack() as stack, measured(program) as most:
+            for k in range(MOST_PEERS - 4):
+                ask_and_not_read(program, stack.enter_context(program.connect()))
+                moment.edit(k)
+            seconds = program.seconds_of_answer()
+        check(most[0] < MOST_OF_ANSWERS, f"{MOST_PEERS - 4} who asked for {LARGE} by {LARGE}, each after an edit, and "
+              f"do not read take {most[0] >> 20} MB")
+        check(moment.slowest < CROWD_SECONDS, f"and edits are answered within {1000 * moment.slowest:.0f} ms")
+        check(seconds < CROWD_SECONDS, f"and who asks for little within {1000 * seconds:.0f} ms")
         time.sleep(0.5)
-        with program.connect() as peer:
-            peer.sendall(program.request("changes?run=0&since=0"))
-            answer = answer_of(peer)
+        answer = program.ask("GET", "changes?run=0&since=0")
         check(answer is not None and answer[0] == 200 and len(answer[1]) > LARGE * LARGE,
               "once they are gone, all is told to who asks for it")
+    finally:
+        program.stop()
+
+
+def ask_and_not_read(program, peer):
+    """Asks for all that changed, and waits until the answer is made, or the connection ended."""
+    peer.sendall(program.request("changes?run=0&since=0"))
+    check_quietly(select.select([peer], [], [], 20)[0], "each who asks is answered or dropped")
+
+
+class Moment:
+    """The moment up to which one knows what changed, and who edits the picture from there."""
+
+    def __init__(self, program):
+        self.program, self.slowest = program, 0
+        self.know(program.ask("GET", "changes?run=0&since=0"))
+
+    def know(self, answer):
+        """Takes the moment of an answer that tells what changed."""
+        check_quietly(answer is not None and answer[0] == 200, f"an edit is answered with {answer and answer[0]}")
+        self.run, _, self.step = answer[1].split(b"\n")[0].split()[:3]
+
+    def edit(self, number):
+        """Changes the picture. The answer has what changed since, which is little."""
+        begun = time.monotonic()
+        self.know(self.program.ask("POST", self.path("edits"), STROKE % (number, number)))
+        self.slowest = max(self.slowest, time.monotonic() - begun)
+
+    def look(self):
+        """Asks what changed since this moment. Within how many seconds that is answered."""
+        begun = time.monotonic()
+        answer = self.program.ask("GET", self.path("changes"))
+        check_quietly(answer is not None and answer[0] == 200, f"who looks is answered with {answer and answer[0]}")
+        return time.monotonic() - begun
+
+    def path(self, name):
+        """The path of a request that knows what was so far."""
+        return f"{name}?run={self.run.decode()}&since={self.step.decode()}"
+
+
+def discs(count):
+    """An edit text of so many of the largest discs, all over a large picture and at many levels."""
+    chance = random.Random(count)
+    return "".join(f"disc 67e55044-10b1-426f-9247-{k:012x} {chance.randrange(1, 256)} "
+                   f"{chance.randrange(LARGE)}:{chance.randrange(LARGE)}+255\n" for k in range(count)).encode()
+
+
+def flood(words, folder):
+    """One text with as many of the largest discs as it may have: the others wait for a moment, and no more."""
+    program = Program(words, folder, side=LARGE)
+    try:
+        moment = Moment(program)
+        with program.connect() as peer:
+            begun = time.monotonic()
+            peer.sendall(program.request(moment.path("edits"), discs(FLOOD_DISCS)))
+            slowest = 0
+            while not select.select([peer], [], [], 0)[0]:
+                slowest = max(slowest, moment.look())
+            answered = time.monotonic() - begun
+            check(answer_of(peer)[0] == 200, f"{FLOOD_DISCS} discs of radius 255 are taken ({1000 * answered:.0f} ms)")
+        check(slowest < ANSWER_SECONDS, f"and others are answered meanwhile ({1000 * slowest:.0f} ms)")
     finally:
         program.stop()
 
@@ -540,7 +601,7 @@ def take_long(program):
 # The parts with one program, and those that start their own.
 PARTS = {part.__name__: part for part in (bound_to_the_loopback, most_peers, strangers, strangers_bodies, attacks,
                                           large_bodies, pipelined, ports, readers_that_do_not_read, take_long)}
-OWN_PARTS = {part.__name__: part for part in (port_80, unread_changes)}
+OWN_PARTS = {part.__name__: part for part in (port_80, unread_changes, flood)}
 
 
 def play(chosen, folder):

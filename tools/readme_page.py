@@ -7,8 +7,9 @@ The commands are taken from README.md word for word, but for `/tmp`, which becom
 `~`. A stub takes the place of `xdg-open`. They are run twice in a row, and a third time while the second page is still
 open. Each time the file that is opened has to forward to a page that answers; nobody else may read a file that has the
 page's key, and no process may have it among its words. With a mask that is no PGM file, and without one, the commands
-have to end with the line of the fault and open nothing. All of it is done in sh and in bash. The first check that fails
-ends the script with status 1. It needs Python 3, Linux, and the package netpbm.
+have to end with the line of the fault and open nothing. All of it is done in sh and in bash. Then a file that no start
+wrote has the name of the one that forwards: it has to stay, and the program to end with the line of the fault. The
+first check that fails ends the script with status 1. It needs Python 3, Linux, and the package netpbm.
 """
 
 import argparse
@@ -194,6 +195,26 @@ def play(program, shell):
     print(f"ok: {shell}: pages open, their keys stay secret, and with a mask that is none the commands end", flush=True)
 
 
+def others_stay(program):
+    """What no start wrote stays where a file that forwards is to be, and the program ends and says why."""
+    with tempfile.TemporaryDirectory(prefix="readme-page-") as name:
+        folder = pathlib.Path(name)
+        mask = folder / "cells.pgm"
+        mask.write_bytes(b"P5\n8 8\n255\n" + bytes(64))
+        page, link = folder / "mine.html", folder / "link.html"
+        page.write_bytes(b"<!DOCTYPE html>\n<meta charset='utf-8'>\n<title>Mine</title>\n")
+        link.symlink_to(page)
+        before = {file: file.read_bytes() for file in (mask, page, link)}
+        for file, data in before.items():
+            ended = subprocess.run([program, "paint", "--forward", file, mask], stdin=subprocess.DEVNULL,
+                                   stdout=subprocess.PIPE, stderr=subprocess.PIPE, check=False, timeout=SECONDS)
+            told = (ended.returncode, ended.stdout, ended.stderr)
+            check(told == (3, b"", b"seedpaint: P11\n"), f"where {file.name} has the name, the program tells {told}")
+            check(file.read_bytes() == data, f"{file.name} is as it was")
+        check(link.is_symlink(), "the link is as it was")
+    print("ok: what no start wrote stays where a file that forwards is to be", flush=True)
+
+
 def main():
     """Plays it in each shell that is there."""
     parser = argparse.ArgumentParser(description="Run the commands of README's page.")
@@ -206,6 +227,7 @@ def main():
     for shell in ("sh", "bash"):
         if shutil.which(shell):
             play(chosen.program.resolve(), shell)
+    others_stay(chosen.program.resolve())
 
 
 if __name__ == "__main__":
