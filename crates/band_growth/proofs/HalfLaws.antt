@@ -1,10 +1,7 @@
 -- What the halves of an image have to do with the whole.
-use Rattle.std.proofs.Common.{ℕ, ◌≤◌, refl, arith, inl, inr}
-use Rattle.std.proofs.lemmas.Bool.{cases_lt}
-use Rattle.grid_core.specs.declared.pixel.Pixel.{Pixel}
-use Rattle.grid_core.specs.Path.{Domain, Inside}
-use Rattle.grid_core.specs.Reconstruction.{IsLawful, IsReconstruction}
-use Rattle.grid_core.specs.Rects.{part}
+use Rattle.std.proofs.{Common.ℕ, Common.◌≤◌, Common.refl, Common.arith, Common.inl, Common.inr, lemmas.Bool.cases_lt}
+use Rattle.grid_core.specs.{declared.pixel.Pixel.Pixel, Path.Domain, Path.Inside, Reconstruction.IsLawful}
+use Rattle.grid_core.specs.{Reconstruction.IsReconstruction, Rects.part}
 use Rattle.grid_core.proofs.Images.{closed_is_reconstruction, reconstruction_is_closed}
 use Rattle.grid_core.proofs.Reach.{reaches_here, reaches_within_mask}
 use Rattle.raster_sweeps.proofs.Grown.{lawful_twice}

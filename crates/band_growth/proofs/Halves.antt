@@ -1,19 +1,13 @@
 -- Whole rows that are cut into those above a row and those from it on.
-use Rattle.std.proofs.Common.{◌≡◌, ℕ, ◌+◌, ◌-◌, ◌≤◌, ◌⊎◌, List, [], ◌∷◌, sym}
-use Rattle.std.proofs.Common.{ap, subst, arith, inl, inr}
-use Rattle.std.specs.List.{AllByRecursion}
+use Rattle.std.proofs.Common.{◌≡◌, ℕ, ◌+◌, ◌-◌, ◌≤◌, ◌⊎◌, List, [], ◌∷◌, sym, ap, subst, arith, inl, inr}
 use Rattle.std.proofs.lemmas.Bool.{cases_lt}
-use Rattle.grid_core.specs.declared.conn.Conn.{Conn}
-use Rattle.grid_core.specs.declared.conn.Conn.TheVariants.{Four, Eight}
-use Rattle.grid_core.specs.declared.pixel.Pixel.{Pixel}
-use Rattle.grid_core.specs.declared.rect.Rect.{Rect}
-use Rattle.grid_core.specs.Neighbours.{AreNeighbours}
+use Rattle.std.specs.List.{AllByRecursion}
+use Rattle.grid_core.specs.{declared.conn.Conn.Conn, declared.conn.Conn.TheVariants.Four}
+use Rattle.grid_core.specs.{declared.conn.Conn.TheVariants.Eight, declared.pixel.Pixel.Pixel, declared.rect.Rect.Rect}
+use Rattle.grid_core.specs.{Neighbours.AreNeighbours, Raster.IsInside, Rects.domain_in, Rects.in_image}
 use Rattle.grid_core.specs.Path.{Domain, Inside, IsPath, end_of, Reaches}
-use Rattle.grid_core.specs.Raster.{IsInside}
 use Rattle.grid_core.specs.Reconstruction.{IsClosed, IsLawful, IsOpen}
-use Rattle.grid_core.specs.Rects.{domain_in, in_image}
-use Rattle.grid_core.proofs.Pixels.{near, same_pixel}
-use Rattle.grid_core.proofs.Reach.{reaches_here, reaches_by_step}
+use Rattle.grid_core.proofs.{Pixels.near, Pixels.same_pixel, Reach.reaches_here, Reach.reaches_by_step}
 use Rattle.band_growth.specs.Bands.{IsAcross, rows_above, rows_from}
 
 -- ---- a rectangle of a domain

@@ -1,17 +1,13 @@
 -- Rows of cells that are cut into two lists, and joined again.
-use Rattle.std.proofs.Common.{◌≡◌, ℕ, ◌+◌, ◌-◌, ◌*◌, ◌<◌, ◌≤◌, List, ◌++◌, length, get_or, take, drop}
-use Rattle.std.proofs.Common.{refl, sym, ap, ap₂, ◌∙◌, subst, arith, inl, inr}
-use Rattle.std.proofs.Math.Nat.{mul-le-mul_right}
-use Rattle.std.proofs.lemmas.Bool.{cases_lt}
+use Rattle.std.proofs.Common.{◌≡◌, ℕ, ◌+◌, ◌-◌, ◌*◌, ◌<◌, ◌≤◌, List, ◌++◌, length, get_or, take, drop, refl, sym, ap}
+use Rattle.std.proofs.Common.{ap₂, ◌∙◌, subst, arith, inl, inr}
+use Rattle.std.proofs.{Math.Nat.mul-le-mul_right, lemmas.Bool.cases_lt}
 use Rattle.std.proofs.lemmas.List.{get_or-append-add, get_or_append_left, length-append, take-append-drop}
-use Rattle.grid_core.specs.declared.conn.Conn.{Conn}
-use Rattle.grid_core.specs.declared.pixel.Pixel.{Pixel}
+use Rattle.grid_core.specs.{declared.conn.Conn.Conn, declared.pixel.Pixel.Pixel, Rects.part}
 use Rattle.grid_core.specs.Raster.{IsBelow, value_at}
-use Rattle.grid_core.specs.Rects.{part}
-use Rattle.raster_sweeps.specs.declared.size.Size.{Size}
-use Rattle.raster_sweeps.specs.Growth.{rows_of}
-use Rattle.band_growth.specs.Bands.{AreClosed, AreClosedApart, AreGrown, CanGrowRows, IsAcross}
-use Rattle.band_growth.specs.Bands.{IsCut, IsOpenPair, above, all_of, below, rows_above, rows_from}
+use Rattle.raster_sweeps.specs.{declared.size.Size.Size, Growth.rows_of}
+use Rattle.band_growth.specs.Bands.{AreClosed, AreClosedApart, AreGrown, CanGrowRows, IsAcross, IsCut, IsOpenPair}
+use Rattle.band_growth.specs.Bands.{above, all_of, below, rows_above, rows_from}
 use Rattle.band_growth.proofs.Halves.{IsPartOf, halves_closed, halves_lawful}
 
 -- the values of whole rows
@@ -140,14 +136,7 @@ module _ (conn : Conn) (size : Size) (cut : ℕ) (is_cut : IsCut size cut)
   rows_grown = record {
     width = refl;
     height = refl;
-    filled =
-        omega (
-          arith,
-          length-append upper lower,
-          length-append upper_new lower_new,
-          up.filled,
-          down.filled,
-        );
+    filled = omega (arith, length-append upper lower, length-append upper_new lower_new, up.filled, down.filled);
     below = below_joined;
     outside = λ p inside out.
         absurd (out (omega arith, omega (arith, inside.0), omega arith, omega (arith, inside.1)));

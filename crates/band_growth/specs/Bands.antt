@@ -1,9 +1,7 @@
 -- Whole rows that are cut into those above a row and those from it on. But for the two halves and what lies across the
 -- cut, of which `specs/Laws.antt` speaks, only private functions have these words in their contracts.
 use Rattle.std.specs.Prelude.{◌≡◌, ℕ, ◌+◌, ◌-◌, ◌<◌, ◌≤◌, ◌⊎◌, List}
-use Rattle.grid_core.specs.declared.conn.Conn.{Conn}
-use Rattle.grid_core.specs.declared.pixel.Pixel.{Pixel}
-use Rattle.grid_core.specs.declared.rect.Rect.{Rect}
+use Rattle.grid_core.specs.{declared.conn.Conn.Conn, declared.pixel.Pixel.Pixel, declared.rect.Rect.Rect}
 use Rattle.raster_sweeps.specs.declared.size.Size.{Size}
 use Rattle.raster_sweeps.specs.Growth.{CanClose, IsClosedIn, IsGrown, IsGrownUp, IsOpenIn, rows_of}
 

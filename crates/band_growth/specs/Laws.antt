@@ -1,9 +1,6 @@
 -- Laws of images that are grown in two halves, as statements. Public functions have them as their contracts.
 use Rattle.std.specs.Prelude.{ℕ, ◌≤◌}
-use Rattle.grid_core.specs.declared.conn.Conn.{Conn}
-use Rattle.grid_core.specs.declared.pixel.Pixel.{Pixel}
-use Rattle.grid_core.specs.declared.rect.Rect.{Rect}
-use Rattle.grid_core.specs.Path.{Domain}
+use Rattle.grid_core.specs.{declared.conn.Conn.Conn, declared.pixel.Pixel.Pixel, declared.rect.Rect.Rect, Path.Domain}
 use Rattle.grid_core.specs.Reconstruction.{IsClosed, IsLawful, IsOpen, IsReconstruction}
 use Rattle.grid_core.specs.Rects.{domain_in, part}
 use Rattle.band_growth.specs.Bands.{IsAcross, rows_above, rows_from}

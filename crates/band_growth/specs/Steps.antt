@@ -2,8 +2,7 @@
 -- their contracts.
 use Rattle.std.specs.Prelude.{ℕ, Bool, IsTrue, List}
 use Rattle.raster_sweeps.specs.Growth.{IsScannedInto, rows_of}
-use Rattle.raster_sweeps.specs.RowPairs.{CanGrowAcross, IsFromTo, IsScannedUp, NoneOpen}
-use Rattle.raster_sweeps.specs.RowRaises.{IsRowGrown}
+use Rattle.raster_sweeps.specs.RowPairs.{CanGrowAcross, IsFromTo, IsScannedUp, NoneOpen, IsRowGrown}
 use Rattle.band_growth.specs.declared.limits.Limits.{Limits}
 use Rattle.band_growth.specs.Bands.{AreClosed, AreClosedApart, AreGrown, AreGrownUp, CanGrowRows, all_of}
 

@@ -46,7 +46,8 @@ fn is_rising(limits: &Limits<'_>, image: &[u16]) -> bool
     is_brighter(limits, image, rows / 2, rows / 4) && is_brighter(limits, image, rows - 1, rows / 2)
 }
 
-// Whether in nearly all columns, some seven of eight, a row has a brighter pixel than another row, which the mask lets rise.
+// Whether in nearly all columns, some seven of eight, a row has a brighter pixel than another row, which the mask lets
+// rise.
 fn is_brighter(limits: &Limits<'_>, image: &[u16], row: u32, other: u32) -> bool
     requires grow { MayGrow limits.now image.now }
     requires row { row < limits.now.size.h }

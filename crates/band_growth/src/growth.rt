@@ -10,7 +10,7 @@ use crate::limits::Limits;
 use crossbeam_utils::CachePadded;
 use grid_core::laws::cells_given_back;
 use grid_core::{Conn, Grid, Memory};
-use raster_sweeps::steps::{STRIP_ROWS, Size, Waiting};
+use raster_sweeps::steps::{Size, Waiting};
 use std::alloc::{AllocError, Global};
 use std::marker::Sync;
 use std::thread::Threads;
@@ -104,7 +104,8 @@ fn bands_for(threads: usize, rows: u32) -> usize
     }
 }
 
-// A queue for each band. The first serves all rows as well, and each other one no more than about half of them. No two lie on one line of a cache, as each is written to by another thread.
+// A queue for each band. The first serves all rows as well, and each other one no more than about half of them. No two
+// lie on one line of a cache, as each is written to by another thread.
 fn queues_for(
     alloc: Global,
     size: Size,
@@ -113,17 +114,15 @@ fn queues_for(
     requires { IsImageSize size.w size.h }
     ensures { IfOk result (λ queues. vec_len queues ≡ max (min bands size.h) 1) }
 {
-    let strips = size.h.div_ceil(STRIP_ROWS) as usize;
-    let room = (size.w as usize * STRIP_ROWS as usize / 8).max(1024);
     let count = bands.min(size.h as usize).max(1);
     let mut queues = Vec::with_capacity(alloc, count)?;
     for band in 0..count {
-        let lists = if band == 0 {
-            strips
+        let rows = if band == 0 {
+            size.h
         } else {
-            strips.div_ceil(2)
+            size.h.div_ceil(2)
         };
-        let queue = Waiting::new(alloc, lists, room)?;
+        let queue = Waiting::for_rows(alloc, size.w, rows)?;
         queues.push_reserved(CachePadded::new(queue));
     }
     Ok(queues)

@@ -1,15 +1,15 @@
 //! Where rows that were grown in two halves meet: what is still open there spreads into both.
 
 ghost use Rattle.std.specs.Prelude.{◌≡◌, ◌+◌, ◌<◌, ◌≤◌, [], length, IsTrue};
-ghost use Rattle.raster_sweeps.specs.RowPairs.{AreRows};
+ghost use Rattle.row_scans.specs.Rows.{AreRows};
 ghost use Rattle.band_growth.specs.Bands.{IsCut};
-ghost use Rattle.band_growth.specs.Steps.{ClosedApart, HasRowGrown, HasRowGrownUp, HaveGrown, HaveGrownInto};
+ghost use Rattle.band_growth.specs.Steps.{ClosedApart, HasRowGrownUp, HaveGrown, HaveGrownInto};
 ghost use Rattle.band_growth.specs.Steps.{HaveGrownUp, MayGrow, MayRaise, NoneOpenBetween};
 
 use crate::limits::{Limits, all_of};
 use grid_core::Conn;
 use raster_sweeps::steps::{
-    Waiting, close, drain, is_closed_to, queue_downward, queue_row, raise_row_along, raise_row_by,
+    Waiting, close, drain, is_closed_to, queue_downward, queue_row, raise_row, raise_row_along,
     row_in,
 };
 
@@ -79,13 +79,15 @@ pub fn run_down(limits: &Limits<'_>, image: &mut [u16], cut: u32) -> u32
     ensures closed { ClosedApart limits.now image.old cut cut → ClosedApart limits.now image.new cut result }
     ensures row { result ≤ limits.now.size.h }
 {
-    for y in cut..limits.size.h {
+    let Limits { mask, size, conn } = *limits;
+    let all = all_of(size);
+    for y in cut..size.h {
         if is_row_closed(limits, image, y - 1, y) {
             return y;
         }
-        raise_downwards(limits, image, y);
+        raise_row(mask, image, size, all, y - 1, y, conn);
     }
-    limits.size.h
+    size.h
 }
 
 // The anti-raster scan, from the row before `bottom` back through the cut, until a row above it and the one below that
@@ -118,19 +120,6 @@ fn run_up(
     room
 }
 
-// Raises the pixels of row `y` by those of the row above it, and then along itself.
-fn raise_downwards(limits: &Limits<'_>, image: &mut [u16], y: u32)
-    requires some { 0 < y }
-    requires row { y < limits.now.size.h }
-    requires close { MayGrow limits.now image.old }
-    ensures { HasRowGrown limits.now y image.old image.new }
-{
-    let Limits { mask, size, conn } = *limits;
-    let all = all_of(size);
-    raise_row_by(mask, image, size, all, y - 1, y, conn);
-    raise_row_along(mask, image, size, all, y);
-}
-
 // Raises the pixels of row `y` by those of the row below it, where there is one, and then along itself.
 fn raise_upwards(limits: &Limits<'_>, image: &mut [u16], y: u32)
     requires row { y < limits.now.size.h }
@@ -143,8 +132,7 @@ fn raise_upwards(limits: &Limits<'_>, image: &mut [u16], y: u32)
         raise_row_along(mask, image, size, all, y);
         return;
     }
-    raise_row_by(mask, image, size, all, y + 1, y, conn);
-    raise_row_along(mask, image, size, all, y);
+    raise_row(mask, image, size, all, y + 1, y, conn);
 }
 
 // Whether no pixel of row `y` can raise one of the row below it, and none of that one of row `y`.

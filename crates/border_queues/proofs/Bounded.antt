@@ -1,25 +1,17 @@
 -- Pixels outside the bounds tell nothing.
-use Rattle.std.proofs.Common.{◌≡◌, ℕ, zero, suc, ◌+◌, ◌-◌, ◌<◌, ◌≤◌, List, [], ◌++◌, map, ap, sym, ◌∙◌}
-use Rattle.std.proofs.Common.{inl, inr, arith}
-use Rattle.std.specs.List.{flat_map, range_with_len}
+use Rattle.std.proofs.Common.{◌≡◌, ℕ, zero, suc, ◌+◌, ◌-◌, ◌<◌, ◌≤◌, List, [], ◌++◌, map, ap, sym, ◌∙◌, inl, inr, arith}
+use Rattle.std.proofs.Common.{flat_map}
 use Rattle.std.proofs.lemmas.Bool.{cases_lt}
-use Rattle.grid_core.specs.declared.bounds.Bounds.{Bounds}
-use Rattle.grid_core.specs.declared.pixel.Pixel.{Pixel}
-use Rattle.grid_core.specs.Bounds.{IsInBounds, bounds_of}
-use Rattle.grid_core.specs.Raster.{IsInside}
-use Rattle.grid_core.specs.RasterLaws.{NeighboursByRows}
-use Rattle.grid_core.specs.Rects.{IsInRect}
-use Rattle.grid_core.specs.Rows.{rows_around}
-use Rattle.grid_core.specs.TileLaws.{EachPixelInOneTile}
-use Rattle.grid_core.specs.Tiles.{IsTiled, count_of, rect_of}
-use Rattle.border_queues.specs.declared.border.Border.{Border}
-use Rattle.border_queues.specs.declared.hint.Hint.{Hint}
+use Rattle.std.specs.List.{range_with_len}
+use Rattle.grid_core.specs.{declared.bounds.Bounds.Bounds, declared.pixel.Pixel.Pixel, Bounds.IsInBounds}
+use Rattle.grid_core.specs.{Bounds.bounds_of, Raster.IsInside, RasterLaws.NeighboursByRows, Rects.IsInRect}
+use Rattle.grid_core.specs.{Rows.rows_around, TileLaws.EachPixelInOneTile, Tiles.IsTiled, Tiles.count_of, Tiles.rect_of}
+use Rattle.border_queues.specs.{declared.border.Border.Border, declared.hint.Hint.Hint}
 use Rattle.border_queues.specs.OpenEdges.{Sender, EdgesBeginIn, hint_to, is_open, hints_from}
 use Rattle.border_queues.specs.Borders.{sender_of, hints_of_row, hints_of_all, IsBorder}
 use Rattle.grid_core.proofs.Common.{not_true}
-use Rattle.border_queues.proofs.EdgesOpen.{open_tells}
-use Rattle.border_queues.proofs.Interior.{filter_none, none_told}
-use Rattle.border_queues.proofs.Told.{by_columns, by_rows}
+use Rattle.border_queues.proofs.{EdgesOpen.open_tells, Interior.filter_none, Interior.none_told, Told.by_columns}
+use Rattle.border_queues.proofs.{Told.by_rows}
 
 -- a pixel of the tile outside the bounds tells nothing
 pub outside_tells_none : (b : Border) (p : Pixel) → IsBorder b → NeighboursByRows → IsInRect b.rect p

@@ -1,23 +1,15 @@
 -- The hints of a tile are those of its open edges, in order.
-use Rattle.std.proofs.Common.{◌≡◌, ℕ, ◌<◌, true, List, [], ◌∷◌, ◌++◌, map, refl, ap, sym, subst, ◌∙◌}
-use Rattle.std.proofs.Common.{inl, inr, arith}
-use Rattle.std.specs.Prelude.{◌≢◌, not, nat_eq, nat_lt, Contains}
-use Rattle.std.specs.List.{filter, flat_map, range_with_len}
-use Rattle.std.proofs.lemmas.Bool.{ltb-true, lt-ltb}
-use Rattle.std.proofs.lemmas.Bool.Decides.{eqb_tells}
-use Rattle.std.proofs.lemmas.List.{map-append}
-use Rattle.grid_core.specs.declared.pixel.Pixel.{Pixel}
-use Rattle.grid_core.specs.declared.rect.Rect.{Rect}
-use Rattle.grid_core.specs.RasterLaws.{NeighboursByRows}
-use Rattle.grid_core.specs.Neighbours.{IsBefore, IsInRasterOrder}
-use Rattle.grid_core.specs.Rects.{IsInRect}
-use Rattle.grid_core.specs.Rows.{rows_around}
-use Rattle.grid_core.specs.TileLaws.{EachPixelInOneTile, TilesLieInside}
+use Rattle.std.proofs.Common.{◌≡◌, ℕ, ◌<◌, true, List, [], ◌∷◌, ◌++◌, map, refl, ap, sym, subst, ◌∙◌, inl, inr, arith}
+use Rattle.std.proofs.Common.{◌≢◌, not, nat_eq, nat_lt, Contains, filter, flat_map}
+use Rattle.std.proofs.{lemmas.Bool.ltb-true, lemmas.Bool.lt-ltb, lemmas.Bool.Decides.eqb_tells, lemmas.List.map-append}
+use Rattle.std.specs.List.{range_with_len}
+use Rattle.grid_core.specs.{declared.pixel.Pixel.Pixel, declared.rect.Rect.Rect, RasterLaws.NeighboursByRows}
+use Rattle.grid_core.specs.{Neighbours.IsBefore, Neighbours.IsInRasterOrder, Rects.IsInRect, Rows.rows_around}
+use Rattle.grid_core.specs.{TileLaws.EachPixelInOneTile, TileLaws.TilesLieInside}
 use Rattle.grid_core.specs.Tiles.{IsTiled, count_of, tile_of, rect_of}
-use Rattle.border_queues.specs.declared.hint.Hint.{Hint}
+use Rattle.border_queues.specs.{declared.hint.Hint.Hint, Laws.IsPairBefore, Laws.AreInPairOrder, Laws.AreHintsOf}
 use Rattle.border_queues.specs.OpenEdges.{Sender, IsOpenEdge, level_to, hint_to, is_open, hints_from, row_of, pixels_of}
 use Rattle.border_queues.specs.OpenEdges.{open_edges}
-use Rattle.border_queues.specs.Laws.{IsPairBefore, AreInPairOrder, AreHintsOf}
 use Rattle.grid_core.proofs.Common.{both_true, true_and, in_flat_map, flat_map_has, in_map, map_has, in_filter}
 use Rattle.grid_core.proofs.Common.{filter_has, range_has}
 use Rattle.border_queues.proofs.InOrder.{InOrder, order_flat_map, order_map, order_filter, order_range}

@@ -1,8 +1,7 @@
 -- Lists in which each element stands in a relation to all later ones, and lists made from them.
-use Rattle.std.proofs.Common.{ℕ, zero, suc, ◌+◌, ◌<◌, Bool, cond, List, [], ◌∷◌, ◌++◌, map}
-use Rattle.std.proofs.Common.{refl, sym, subst, inl, inr, arith}
-use Rattle.std.specs.Prelude.{Contains}
-use Rattle.std.specs.List.{AllByRecursion, filter, flat_map, range_with_len}
+use Rattle.std.proofs.Common.{ℕ, zero, suc, ◌+◌, ◌<◌, Bool, cond, List, [], ◌∷◌, ◌++◌, map, refl, sym, subst, inl, inr}
+use Rattle.std.proofs.Common.{arith, Contains, filter, flat_map}
+use Rattle.std.specs.List.{AllByRecursion, range_with_len}
 use Rattle.grid_core.proofs.Common.{true_or_false, here, later, first_or_later, in_flat_map, in_map, in_filter}
 use Rattle.grid_core.proofs.Common.{in_range}
 

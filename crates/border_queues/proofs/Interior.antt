@@ -1,25 +1,15 @@
 -- Pixels inside a tile have no neighbour in another tile.
-use Rattle.std.proofs.Common.{◌≡◌, ℕ, zero, suc, ◌+◌, ◌<◌, ◌≤◌, Bool, false, cond, List, [], ◌∷◌, ◌++◌, map}
-use Rattle.std.proofs.Common.{refl, ap, sym, ◌∙◌, arith, append-nil}
-use Rattle.std.specs.Prelude.{◌&&◌, not, nat_eq, nat_lt, Contains}
-use Rattle.std.specs.List.{filter, flat_map, range_with_len}
-use Rattle.std.proofs.lemmas.Bool.{eq-eqb, le-ltb}
-use Rattle.std.proofs.lemmas.List.Elements.{Contains-append_right}
-use Rattle.grid_core.specs.declared.conn.Conn.{Conn}
-use Rattle.grid_core.specs.declared.pixel.Pixel.{Pixel}
-use Rattle.grid_core.specs.declared.rect.Rect.{Rect}
-use Rattle.grid_core.specs.Raster.{IsInside}
-use Rattle.grid_core.specs.RasterLaws.{NeighboursByRows}
-use Rattle.grid_core.specs.Neighbours.{AreNeighbours}
-use Rattle.grid_core.specs.Rects.{IsInRect}
-use Rattle.grid_core.specs.Rows.{rows_around}
-use Rattle.grid_core.specs.Tiles.{tile_of}
-use Rattle.border_queues.specs.declared.hint.Hint.{Hint}
-use Rattle.grid_core.proofs.Common.{and_false}
-use Rattle.grid_core.proofs.Pixels.{near}
-use Rattle.border_queues.specs.declared.border.Border.{Border}
+use Rattle.std.proofs.Common.{◌≡◌, ℕ, zero, suc, ◌+◌, ◌<◌, ◌≤◌, Bool, false, cond, List, [], ◌∷◌, ◌++◌, map, refl, ap}
+use Rattle.std.proofs.Common.{sym, ◌∙◌, arith, append-nil, ◌&&◌, not, nat_eq, nat_lt, Contains, filter, flat_map}
+use Rattle.std.proofs.{lemmas.Bool.eq-eqb, lemmas.Bool.le-ltb, lemmas.List.Elements.Contains-append_right}
+use Rattle.std.specs.List.{range_with_len}
+use Rattle.grid_core.specs.{declared.conn.Conn.Conn, declared.pixel.Pixel.Pixel, declared.rect.Rect.Rect}
+use Rattle.grid_core.specs.{Raster.IsInside, RasterLaws.NeighboursByRows, Neighbours.AreNeighbours, Rects.IsInRect}
+use Rattle.grid_core.specs.{Rows.rows_around, Tiles.tile_of}
+use Rattle.border_queues.specs.{declared.hint.Hint.Hint, declared.border.Border.Border}
 use Rattle.border_queues.specs.OpenEdges.{Sender, hint_to, is_open, hints_to, hints_from, level_to}
 use Rattle.border_queues.specs.Borders.{sender_of, told_to, IsBorder}
+use Rattle.grid_core.proofs.{Common.and_false, Pixels.near}
 
 -- a test that each element fails keeps none
 pub filter_none : (test : Pixel → Bool) (qs : List Pixel) → ((q : Pixel) → Contains qs q → test q ≡ false)

@@ -1,15 +1,11 @@
 -- Open edges rest on the values of an image at its pixels alone.
-use Rattle.std.proofs.Common.{◌≡◌, ℕ, ◌+◌, ◌-◌, ◌<◌, map, ap, ◌∙◌, inl, inr, arith}
-use Rattle.std.specs.Prelude.{◌&&◌, not, nat_eq, nat_lt, if◌then◌else◌, min, Contains}
-use Rattle.std.specs.List.{range_with_len}
+use Rattle.std.proofs.Common.{◌≡◌, ℕ, ◌+◌, ◌-◌, ◌<◌, map, ap, ◌∙◌, inl, inr, arith, ◌&&◌, not, nat_eq, nat_lt}
+use Rattle.std.proofs.Common.{if◌then◌else◌, min, Contains}
 use Rattle.std.proofs.lemmas.Bool.Decides.{eqb_tells}
-use Rattle.grid_core.specs.declared.pixel.Pixel.{Pixel}
-use Rattle.grid_core.specs.declared.rect.Rect.{Rect}
-use Rattle.grid_core.specs.Raster.{IsInside}
-use Rattle.grid_core.specs.RasterLaws.{NeighboursByRows}
-use Rattle.grid_core.specs.Rects.{IsInRect, RectFits}
-use Rattle.grid_core.specs.Rows.{rows_around}
-use Rattle.grid_core.specs.TileLaws.{EachPixelInOneTile, TilesLieInside}
+use Rattle.std.specs.List.{range_with_len}
+use Rattle.grid_core.specs.{declared.pixel.Pixel.Pixel, declared.rect.Rect.Rect, Raster.IsInside}
+use Rattle.grid_core.specs.{RasterLaws.NeighboursByRows, Rects.IsInRect, Rects.RectFits, Rows.rows_around}
+use Rattle.grid_core.specs.{TileLaws.EachPixelInOneTile, TileLaws.TilesLieInside}
 use Rattle.grid_core.specs.Tiles.{Tiles, IsTiled, count_of, tile_of, rect_of}
 use Rattle.border_queues.specs.OpenEdges.{Sender, hint_to, is_open, hints_to, hints_from, row_of, pixels_of, open_edges}
 use Rattle.border_queues.specs.OpenEdges.{from_corner, with_tile}

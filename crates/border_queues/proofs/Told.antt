@@ -1,15 +1,11 @@
 -- Hints that are told part by part.
-use Rattle.std.proofs.Common.{◌≡◌, ℕ, ◌+◌, ◌-◌, ◌≤◌, List, [], ◌∷◌, ◌++◌, map, refl, ap, sym, ◌∙◌, arith}
-use Rattle.std.proofs.Common.{append_assoc, append-nil}
-use Rattle.std.specs.List.{filter, flat_map, range_with_len}
-use Rattle.std.proofs.lemmas.List.{map-append, flat_map_more}
-use Rattle.std.proofs.lemmas.List.{map-id}
-use Rattle.std.proofs.lemmas.List.Concat.{flat_map-append}
-use Rattle.std.proofs.lemmas.List.Folds.{flat_map-map}
-use Rattle.std.proofs.lemmas.List.FromFn.{map-range_with_len_more}
-use Rattle.std.proofs.lemmas.List.Elements.{filter-append}
-use Rattle.grid_core.specs.declared.pixel.Pixel.{Pixel}
-use Rattle.grid_core.specs.declared.rect.Rect.{Rect}
+use Rattle.std.proofs.Common.{◌≡◌, ℕ, ◌+◌, ◌-◌, ◌≤◌, List, [], ◌∷◌, ◌++◌, map, refl, ap, sym, ◌∙◌, arith, append_assoc}
+use Rattle.std.proofs.Common.{append-nil, filter, flat_map}
+use Rattle.std.proofs.lemmas.List.{map-append, flat_map_more, map-id}
+use Rattle.std.proofs.{lemmas.List.Concat.flat_map-append, lemmas.List.Folds.flat_map-map}
+use Rattle.std.proofs.{lemmas.List.FromFn.map-range_with_len_more, lemmas.List.Elements.filter-append}
+use Rattle.std.specs.List.{range_with_len}
+use Rattle.grid_core.specs.{declared.pixel.Pixel.Pixel, declared.rect.Rect.Rect}
 use Rattle.border_queues.specs.declared.hint.Hint.{Hint}
 use Rattle.border_queues.specs.OpenEdges.{Sender, hint_to, is_open, hints_to, hints_from, row_of, pixels_of}
 

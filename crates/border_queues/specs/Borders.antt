@@ -1,18 +1,11 @@
 -- A tile's border, as the private functions walk it.
-use Rattle.std.specs.Prelude.{◌≡◌, ℕ, ◌+◌, ◌≤◌, ◌↔◌, Bool, true, if◌then◌else◌, List, []}
-use Rattle.std.specs.List.{flat_map}
-use Rattle.grid_core.specs.declared.conn.Conn.{Conn}
-use Rattle.grid_core.specs.declared.pixel.Pixel.{Pixel}
-use Rattle.grid_core.specs.Bounds.{LieIn}
-use Rattle.grid_core.specs.Raster.{IsInside, IsImageSize, value_at}
-use Rattle.grid_core.specs.Rects.{IsInRect, RectFits}
-use Rattle.grid_core.specs.Rows.{row_around, rows_around}
-use Rattle.grid_core.specs.Tiles.{IsTiled, tile_of, rect_of}
-use Rattle.border_queues.specs.declared.border.Border.{Border}
-use Rattle.border_queues.specs.declared.hint.Hint.{Hint}
-use Rattle.border_queues.specs.Waiting.{Waiting}
-use Rattle.border_queues.specs.OpenEdges.{Sender, EdgesBeginIn, IsOnTiling, hints_from, hints_to, pixels_of}
-use Rattle.border_queues.specs.OpenEdges.{row_of, with_tile}
+use Rattle.std.specs.Prelude.{◌≡◌, ℕ, ◌+◌, ◌≤◌, ◌↔◌, Bool, true, if◌then◌else◌, List, [], flat_map}
+use Rattle.grid_core.specs.{declared.conn.Conn.Conn, declared.pixel.Pixel.Pixel, Bounds.LieIn, Raster.IsInside}
+use Rattle.grid_core.specs.{Raster.IsImageSize, Raster.value_at, Rects.IsInRect, Rects.RectFits, Rows.row_around}
+use Rattle.grid_core.specs.{Rows.rows_around, Tiles.IsTiled, Tiles.tile_of, Tiles.rect_of}
+use Rattle.border_queues.specs.{declared.border.Border.Border, declared.hint.Hint.Hint, Waiting.Waiting}
+use Rattle.border_queues.specs.OpenEdges.{Sender, EdgesBeginIn, IsOnTiling, hints_from, hints_to, pixels_of, row_of}
+use Rattle.border_queues.specs.OpenEdges.{with_tile}
 
 -- the pixel of `inside` where the tile's pixel stands that is p from the tile's corner
 abbrev pub moved : Pixel → Pixel → Pixel

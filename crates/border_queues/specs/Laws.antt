@@ -1,12 +1,8 @@
 -- Laws of open edges, as statements. Public functions have them as their contracts.
 use Rattle.std.specs.Prelude.{◌≡◌, ℕ, ◌<◌, ◌⊎◌, ◌↔◌, List, [], ◌∷◌, map, Contains}
 use Rattle.std.specs.List.{AllByRecursion}
-use Rattle.grid_core.specs.declared.bounds.Bounds.{Bounds}
-use Rattle.grid_core.specs.declared.pixel.Pixel.{Pixel}
-use Rattle.grid_core.specs.Bounds.{bounds_of}
-use Rattle.grid_core.specs.Raster.{IsInside}
-use Rattle.grid_core.specs.Neighbours.{IsBefore}
-use Rattle.grid_core.specs.Tiles.{IsTiled, count_of, rect_of}
+use Rattle.grid_core.specs.{declared.bounds.Bounds.Bounds, declared.pixel.Pixel.Pixel, Bounds.bounds_of}
+use Rattle.grid_core.specs.{Raster.IsInside, Neighbours.IsBefore, Tiles.IsTiled, Tiles.count_of, Tiles.rect_of}
 use Rattle.border_queues.specs.OpenEdges.{Sender, EdgesBeginIn, IsOpenEdge, hint_to, open_edges}
 
 -- senders whose images are equal at each pixel have the same open edges

@@ -1,15 +1,10 @@
 -- Open edges of a tile: pairs of neighbouring pixels across its border whose outer pixel can still rise.
-use Rattle.std.specs.Prelude.{◌≡◌, ◌≢◌, ℕ, ◌-◌, ◌*◌, ◌<◌, Bool, ◌&&◌, not, nat_eq, nat_lt, if◌then◌else◌, min}
-use Rattle.std.specs.Prelude.{List, map}
-use Rattle.std.specs.List.{filter, flat_map, range_with_len}
-use Rattle.grid_core.specs.declared.bounds.Bounds.{Bounds}
-use Rattle.grid_core.specs.declared.conn.Conn.{Conn}
-use Rattle.grid_core.specs.declared.pixel.Pixel.{Pixel}
-use Rattle.grid_core.specs.declared.rect.Rect.{Rect}
-use Rattle.grid_core.specs.Bounds.{IsInBounds}
+use Rattle.std.specs.Prelude.{◌≡◌, ◌≢◌, ℕ, ◌-◌, ◌*◌, ◌<◌, Bool, ◌&&◌, not, nat_eq, nat_lt, if◌then◌else◌, min, List}
+use Rattle.std.specs.Prelude.{map, filter, flat_map}
+use Rattle.std.specs.List.{range_with_len}
+use Rattle.grid_core.specs.{declared.bounds.Bounds.Bounds, declared.conn.Conn.Conn, declared.pixel.Pixel.Pixel}
+use Rattle.grid_core.specs.{declared.rect.Rect.Rect, Bounds.IsInBounds, Neighbours.AreNeighbours, Rows.rows_around}
 use Rattle.grid_core.specs.Raster.{Raster, IsInside}
-use Rattle.grid_core.specs.Neighbours.{AreNeighbours}
-use Rattle.grid_core.specs.Rows.{rows_around}
 use Rattle.grid_core.specs.Tiles.{Tiles, count_of, tile_of, rect_of}
 use Rattle.border_queues.specs.declared.hint.Hint.{Hint}
 

@@ -1,26 +1,22 @@
 -- Growing whole rows of cells: what it needs, and what it says of the image whose cells they are.
 use Rattle.std.proofs.Common.{◌≡◌, ℕ, List, ap, subst, sym, ◌∙◌}
-use Rattle.grid_core.specs.declared.conn.Conn.{Conn}
-use Rattle.grid_core.specs.declared.rect.Rect.{Rect}
+use Rattle.grid_core.specs.{declared.conn.Conn.Conn, declared.rect.Rect.Rect, Rects.RectFits}
 use Rattle.grid_core.specs.Raster.{Raster, IsBelow, IsFilled, IsSized}
-use Rattle.grid_core.specs.Rects.{RectFits}
 use Rattle.raster_sweeps.specs.declared.size.Size.{Size}
-use Rattle.raster_sweeps.specs.Growth.{CanClose, CanGrow, IsGrown, rows_of}
-use Rattle.raster_sweeps.proofs.Grown.{grown_filled}
+use Rattle.raster_sweeps.specs.Growth.{CanClose, IsGrown, rows_of}
+use Rattle.raster_sweeps.proofs.Grown.{fits_below, grown_filled, grown_same}
 
--- an image that may grow, with a value for each pixel, may grow
-pub can_grow : (rect : Rect) (mask image : Raster) → CanClose rect mask image → CanGrow rect mask image
-can_grow rect mask image close = record { below = close.below; fits = close.fits }
+-- an image that may grow has grown from itself
+pub grown_nowhere : {conn : Conn} {rect : Rect} {mask image : Raster} → CanClose rect mask image
+    → IsGrown conn rect mask image image
+grown_nowhere close = grown_same close.filled close.below (fits_below close.below close.fits)
 
--- rows that may grow may do so when they have grown
-pub can_close_on : (conn : Conn) (rect : Rect) (size : Size) (mask before after : List ℕ)
-    → CanClose rect (rows_of size mask) (rows_of size before)
-    → IsGrown conn rect (rows_of size mask) (rows_of size before) (rows_of size after)
-    → CanClose rect (rows_of size mask) (rows_of size after)
-can_close_on conn rect size mask before after close grown = record {
-  size = close.size;
-  filled =
-      grown_filled conn rect (rows_of size mask) (rows_of size before) (rows_of size after) close.filled grown;
+-- an image that may grow may do so when it has grown
+pub can_close_on : {conn : Conn} {rect : Rect} {mask before after : Raster} → CanClose rect mask before
+    → IsGrown conn rect mask before after → CanClose rect mask after
+can_close_on close grown = record {
+  size = rw (grown.width, grown.height) close.size;
+  filled = grown_filled close.filled grown;
   mask_filled = close.mask_filled;
   below = grown.below;
   fits = close.fits;

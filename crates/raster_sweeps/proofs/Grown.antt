@@ -1,29 +1,22 @@
 -- Images that have grown inside a rectangle.
 use Rattle.std.proofs.Common.{◌≡◌, ℕ, ◌+◌, ◌-◌, ◌*◌, ◌<◌, ◌≤◌, ◌⊎◌, List, [], ◌∷◌, length, sym, ◌∙◌, ap, subst, arith}
-use Rattle.std.proofs.Common.{inl, inr, refl}
-use Rattle.std.specs.Prelude.{slice_index}
-use Rattle.std.specs.List.{AllByRecursion}
+use Rattle.std.proofs.Common.{inl, inr, refl, slice_index}
 use Rattle.std.proofs.lemmas.Bool.{cases_lt}
-use Rattle.grid_core.specs.declared.conn.Conn.{Conn}
-use Rattle.grid_core.specs.declared.pixel.Pixel.{Pixel}
-use Rattle.grid_core.specs.declared.rect.Rect.{Rect}
-use Rattle.grid_core.specs.Path.{Domain, IsPath, end_of, Reaches}
+use Rattle.std.specs.List.{AllByRecursion}
+use Rattle.grid_core.specs.{declared.conn.Conn.Conn, declared.pixel.Pixel.Pixel, declared.rect.Rect.Rect, Path.Domain}
+use Rattle.grid_core.specs.{Path.IsPath, Path.end_of, Path.Reaches, Reconstruction.IsClosed, Reconstruction.IsLawful}
 use Rattle.grid_core.specs.Raster.{Raster, IsInside, IsBelow, IsFilled, index_of, value_at, headroom}
-use Rattle.grid_core.specs.Reconstruction.{IsClosed, IsLawful}
 use Rattle.grid_core.specs.Rects.{IsInRect, RectFits, domain_in, in_image, part}
 use Rattle.grid_core.proofs.Cells.{pixel_of, pixel_of-inside, index_of-pixel_of, below_at_each_pixel}
-use Rattle.grid_core.proofs.Headroom.{headroom_falls}
-use Rattle.grid_core.proofs.Images.{closed_is_reconstruction}
-use Rattle.grid_core.proofs.Pixels.{same_pixel}
+use Rattle.grid_core.proofs.{Headroom.headroom_falls, Images.closed_is_reconstruction, Pixels.same_pixel}
 use Rattle.grid_core.proofs.Reach.{reaches_here, reaches_by_step, reaches_lower}
-use Rattle.raster_sweeps.specs.Growth.{AreInside, AreOpen, IsGrown}
+use Rattle.raster_sweeps.specs.{Growth.IsGrown, Growth.IsGrownUp}
 use Rattle.raster_sweeps.specs.Regrowth.{IsRegrownIn}
 
 -- a pixel of the rectangle is one of the image
-pub in_image-inside : (width height : ℕ) (rect : Rect) (p : Pixel) → RectFits width height rect
+pub in_image-inside : {width height : ℕ} {rect : Rect} (p : Pixel) → RectFits width height rect
     → IsInside rect.w rect.h p → IsInside width height (in_image rect p)
-in_image-inside width height rect p fits inside =
-    (omega (arith, inside.0, fits.columns), omega (arith, inside.1, fits.rows))
+in_image-inside p fits inside = (omega (arith, inside.0, fits.columns), omega (arith, inside.1, fits.rows))
 
 -- a pixel of the image lies in the rectangle, and is then one of its pixels, or it does not
 pub in_rect_or_not : (rect : Rect) (p : Pixel)
@@ -39,20 +32,16 @@ in_rect_or_not rect p =
             | inr below ↦ inr (λ h. absurd (omega (arith, below, h.3)))
             | inl to_below ↦
                 let q : Pixel = record { x = p.x - rect.x; y = p.y - rect.y } in
-                inl (
-                  q,
-                  (omega arith, omega arith),
-                  same_pixel (in_image rect q) p (omega arith) (omega arith),
-                )
+                inl (q, (omega arith, omega arith), same_pixel (in_image rect q) p (omega arith) (omega arith))
           ]
         ]
       ]
     ]
 
 -- an image below the mask has grown from itself
-pub grown_same : (conn : Conn) (rect : Rect) (mask image : Raster) → IsFilled image → IsBelow image mask
+pub grown_same : {conn : Conn} {rect : Rect} {mask image : Raster} → IsFilled image → IsBelow image mask
     → RectFits image.width image.height rect → IsGrown conn rect mask image image
-grown_same conn rect mask image filled below fits = record {
+grown_same {conn} {rect} {mask} {image} filled below fits = record {
   width = refl;
   height = refl;
   filled = refl;
@@ -60,8 +49,7 @@ grown_same conn rect mask image filled below fits = record {
   outside = λ p inside out. refl;
   lawful = λ p inside.
       let under : value_at image (in_image rect p) ≤ value_at mask (in_image rect p) =
-      below_at_each_pixel image mask filled below (in_image rect p)
-      (in_image-inside image.width image.height rect p fits inside) in (
+      below_at_each_pixel image mask filled below (in_image rect p) (in_image-inside p fits inside) in (
         omega arith,
         reaches_here (domain_in rect conn) (part rect (value_at mask)) (part rect (value_at image)) p
             (value_at image (in_image rect p)) inside under (omega arith),
@@ -88,10 +76,10 @@ lawful_twice d mask before between after first second p inside =
     (omega arith, reaches_through d mask before between first (after p) p reach.0 reach.1 reach.2 reach.3)
 
 -- an image that has grown twice has grown
-pub grown_twice : (conn : Conn) (rect : Rect) (mask before between after : Raster)
+pub grown_twice : {conn : Conn} {rect : Rect} {mask before between after : Raster}
     → IsGrown conn rect mask before between
     → IsGrown conn rect mask between after → IsGrown conn rect mask before after
-grown_twice conn rect mask before between after first second = record {
+grown_twice {conn} {rect} {mask} {before} {between} {after} first second = record {
   width = second.width ∙ first.width;
   height = second.height ∙ first.height;
   filled = second.filled ∙ first.filled;
@@ -104,7 +92,13 @@ grown_twice conn rect mask before between after first second = record {
       (part rect (value_at between)) (part rect (value_at after)) first.lawful second.lawful;
 }
 
-module _ (conn : Conn) (rect : Rect) (mask before after : Raster) (filled : IsFilled before)
+-- an image that has grown, and then until no pixel can raise a neighbour
+pub grown_up : {conn : Conn} {rect : Rect} {mask before between after : Raster}
+    → IsGrown conn rect mask before between
+    → IsGrownUp conn rect mask between after → IsGrownUp conn rect mask before after
+grown_up first second = record { grown = grown_twice first second.grown; closed = second.closed }
+
+module _ {conn : Conn} {rect : Rect} {mask before after : Raster} (filled : IsFilled before)
     (grown : IsGrown conn rect mask before after) where
   -- no pixel of the image falls
   pub grown_at : (p : Pixel) → IsInside before.width before.height p → value_at before p ≤ value_at after p
@@ -132,40 +126,33 @@ module _ (conn : Conn) (rect : Rect) (mask before after : Raster) (filled : IsFi
   grown_headroom = headroom_falls before.cells after.cells grown.filled grown_rises
 
 -- a rectangle that lies in the mask lies in an image of its size
-pub fits_below : (rect : Rect) (mask image : Raster) → IsBelow image mask → RectFits mask.width mask.height rect
+pub fits_below : {rect : Rect} {mask image : Raster} → IsBelow image mask → RectFits mask.width mask.height rect
     → RectFits image.width image.height rect
-fits_below rect mask image below fits = record {
+fits_below below fits = record {
   some_width = fits.some_width;
   some_height = fits.some_height;
   columns = omega (arith, fits.columns, below.width);
   rows = omega (arith, fits.rows, below.height);
 }
 
--- cells with open pairs lie inside
-pub open_inside : (conn : Conn) (rect : Rect) (mask image : Raster) (waiting : List ℕ)
-    → AreOpen conn rect mask image waiting → AreInside rect image.width waiting
-open_inside conn rect mask image waiting wide i waits =
-    let found = wide i waits in
-    (found.0, found.2.from_inside, found.3)
-
 -- an image that has grown has a value for each pixel
-pub grown_filled : (conn : Conn) (rect : Rect) (mask before after : Raster) → IsFilled before
+pub grown_filled : {conn : Conn} {rect : Rect} {mask before after : Raster} → IsFilled before
     → IsGrown conn rect mask before after → IsFilled after
-grown_filled conn rect mask before after filled grown =
+grown_filled {before} {after} filled grown =
     grown.filled ∙ filled ∙ ap (λ w. w * before.height) (sym grown.width)
     ∙ ap (λ h. after.width * h) (sym grown.height)
 
 -- an image that has grown until no pair is open is regrown
-pub regrown : (conn : Conn) (rect : Rect) (mask before after : Raster) → IsFilled before
+pub regrown : {conn : Conn} {rect : Rect} {mask before after : Raster} → IsFilled before
     → IsGrown conn rect mask before after
     → IsClosed (domain_in rect conn) (part rect (value_at mask)) (part rect (value_at after))
     → IsRegrownIn conn rect mask before after
-regrown conn rect mask before after filled grown closed = record {
+regrown {conn} {rect} {mask} {before} {after} filled grown closed = record {
   patch = record {
     size = record {
       width = grown.width;
       height = grown.height;
-      filled = grown_filled conn rect mask before after filled grown;
+      filled = grown_filled filled grown;
     };
     beyond = grown.outside;
   };

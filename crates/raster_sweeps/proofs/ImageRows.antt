@@ -1,13 +1,11 @@
 -- Rows of an image, and which pixels of them are neighbours.
 use Rattle.std.proofs.Common.{◌≡◌, ℕ, ◌+◌, ◌<◌, ◌≤◌, List, get_or, min, refl, sym, ap, ◌∙◌, inl, inr, arith}
 use Rattle.std.proofs.lemmas.Bool.{cases_lt}
-use Rattle.grid_core.specs.declared.conn.Conn.{Conn}
-use Rattle.grid_core.specs.declared.conn.Conn.TheVariants.{Four, Eight}
-use Rattle.grid_core.specs.declared.pixel.Pixel.{Pixel}
-use Rattle.grid_core.specs.Neighbours.{apart, AreNeighbours}
-use Rattle.grid_core.specs.Path.{Domain, Inside}
-use Rattle.raster_sweeps.specs.RowPairs.{AreAside, AreBeside, IsClosedTo, IsRowClosed}
-use Rattle.grid_core.specs.Rects.{IsRowOf}
+use Rattle.grid_core.specs.{declared.conn.Conn.Conn, declared.conn.Conn.TheVariants.Four}
+use Rattle.grid_core.specs.{declared.conn.Conn.TheVariants.Eight, declared.pixel.Pixel.Pixel, Neighbours.apart}
+use Rattle.grid_core.specs.{Neighbours.AreNeighbours, Path.Domain, Path.Inside, Rects.IsRowOf}
+use Rattle.row_scans.specs.Rows.{AreAside, AreBeside, IsClosedTo}
+use Rattle.raster_sweeps.specs.RowPairs.{IsRowClosed}
 
 -- ---- neighbours, by their rows and columns
 
@@ -35,17 +33,16 @@ neighbours_in_rows Eight p q next beside = (beside, omega arith, omega arith)
 -- ---- pairs of rows
 
 -- the value of a pixel in its row
-pub value_in_row : (width : ℕ) (f : Pixel → ℕ) (y : ℕ) (row : List ℕ) (p : Pixel) → IsRowOf width f y row → p.x < width
+pub value_in_row : {width : ℕ} {f : Pixel → ℕ} {y : ℕ} {row : List ℕ} (p : Pixel) → IsRowOf width f y row → p.x < width
     → p.y ≡ y → get_or row p.x 0 ≡ f p
-value_in_row width f y row p of_row less same =
-    of_row.values p.x less ∙ ap (λ v. f (record { x = p.x; y = v })) (sym same)
+value_in_row {f} p of_row less same = of_row.values p.x less ∙ ap (λ v. f (record { x = p.x; y = v })) (sym same)
 
 -- no pixel of a row raises a neighbour in another row, which may be the same
 abbrev pub IsClosedFrom : Domain → (Pixel → ℕ) → (Pixel → ℕ) → ℕ → ℕ → Type 0
 IsClosedFrom d mask j y z =
     (p q : Pixel) → Inside d p → Inside d q → AreNeighbours d.conn p q → p.y ≡ y → q.y ≡ z → min (j p) (mask q) ≤ j q
 
-module _ (d : Domain) (mask j : Pixel → ℕ) (y z : ℕ) (from limits to : List ℕ) (of_from : IsRowOf d.width j y from)
+module _ (d : Domain) {mask j : Pixel → ℕ} {y z : ℕ} {from limits to : List ℕ} (of_from : IsRowOf d.width j y from)
     (of_mask : IsRowOf d.width mask z limits) (of_to : IsRowOf d.width j z to) where
   -- a pair of columns is closed if the pair of pixels is
   columns_closed : (p q : Pixel) → Inside d p → Inside d q → p.y ≡ y → q.y ≡ z → min (j p) (mask q) ≤ j q
@@ -54,9 +51,9 @@ module _ (d : Domain) (mask j : Pixel → ℕ) (y z : ℕ) (from limits to : Lis
       omega (
         arith,
         closed,
-        value_in_row d.width j y from p of_from inside_p.0 row_p,
-        value_in_row d.width mask z limits q of_mask inside_q.0 row_q,
-        value_in_row d.width j z to q of_to inside_q.0 row_q,
+        value_in_row p of_from inside_p.0 row_p,
+        value_in_row q of_mask inside_q.0 row_q,
+        value_in_row q of_to inside_q.0 row_q,
       )
 
   -- a pair of pixels is closed if the pair of columns is
@@ -67,9 +64,9 @@ module _ (d : Domain) (mask j : Pixel → ℕ) (y z : ℕ) (from limits to : Lis
       omega (
         arith,
         closed,
-        value_in_row d.width j y from p of_from inside_p.0 row_p,
-        value_in_row d.width mask z limits q of_mask inside_q.0 row_q,
-        value_in_row d.width j z to q of_to inside_q.0 row_q,
+        value_in_row p of_from inside_p.0 row_p,
+        value_in_row q of_mask inside_q.0 row_q,
+        value_in_row q of_to inside_q.0 row_q,
       )
 
   pub aside_closed : y ≡ z → IsClosedTo AreAside from limits to → IsClosedFrom d mask j y z

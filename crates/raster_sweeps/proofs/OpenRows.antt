@@ -1,20 +1,17 @@
 -- Open pairs of a rectangle, row by row.
-use Rattle.std.proofs.Common.{◌≡◌, ℕ, ◌+◌, ◌*◌, ◌<◌, ◌≤◌, ◌⊎◌, Bool, true, false, List, min, refl, ap}
-use Rattle.std.proofs.Common.{inl, inr, arith}
+use Rattle.std.proofs.Common.{◌≡◌, ℕ, ◌+◌, ◌*◌, ◌<◌, ◌≤◌, ◌⊎◌, Bool, true, false, List, min, refl, ap, inl, inr, arith}
 use Rattle.std.proofs.lemmas.Bool.{cases_lt}
-use Rattle.grid_core.specs.declared.conn.Conn.{Conn}
-use Rattle.grid_core.specs.declared.rect.Rect.{Rect}
-use Rattle.grid_core.specs.Neighbours.{apart, AreNeighbours}
+use Rattle.grid_core.specs.{declared.conn.Conn.Conn, declared.rect.Rect.Rect, Neighbours.apart}
+use Rattle.grid_core.specs.{Neighbours.AreNeighbours, Rects.part, Rects.IsRowOf}
 use Rattle.grid_core.specs.Raster.{Raster, IsInside, value_at}
-use Rattle.grid_core.specs.Rects.{part, IsRowOf}
 use Rattle.raster_sweeps.specs.Growth.{cell_of}
-use Rattle.raster_sweeps.specs.RowPairs.{AreAside, AreBeside, AreJoined, RaisesTo, IsOpenCell, HaveJoined, IsFromTo}
-use Rattle.raster_sweeps.specs.RowPairs.{IsOpenFrom, IsScannedUp, IsUpper}
+use Rattle.raster_sweeps.specs.RowPairs.{AreJoined, IsOpenCell, IsFromTo, IsOpenFrom, IsScannedUp, IsUpper}
+use Rattle.row_scans.specs.Rows.{AreAside, AreBeside, RaisesTo, HaveJoined}
 use Rattle.raster_sweeps.proofs.ImageRows.{value_in_row, rows_near, aside_in_row, neighbours_in_row, beside_in_rows}
 use Rattle.raster_sweeps.proofs.ImageRows.{neighbours_in_rows}
-use Rattle.raster_sweeps.proofs.Joining.{none_joined, joined_same, joined_both, joined_stopped}
+use Rattle.row_scans.proofs.Joining.{none_joined, joined_same, joined_both, joined_stopped}
 
-module _ (conn : Conn) (rect : Rect) (mask image : Raster) (y z first : ℕ) (from limits to : List ℕ)
+module _ {conn : Conn} {rect : Rect} {mask image : Raster} {y z : ℕ} (first : ℕ) {from limits to : List ℕ}
     (of_from : IsRowOf rect.w (part rect (value_at image)) y from)
     (of_mask : IsRowOf rect.w (part rect (value_at mask)) z limits)
     (of_to : IsRowOf rect.w (part rect (value_at image)) z to) (inside_y : y < rect.h) (inside_z : z < rect.h)
@@ -58,9 +55,9 @@ module _ (conn : Conn) (rect : Rect) (mask image : Raster) (y z first : ℕ) (fr
         omega (
           arith,
           o.raises.lower,
-          value_in_row rect.w (part rect (value_at image)) y from o.pixel of_from o.raises.from_inside.0 o.rows.0,
-          value_in_row rect.w (part rect (value_at mask)) z limits o.other of_mask o.raises.to_inside.0 o.rows.1,
-          value_in_row rect.w (part rect (value_at image)) z to o.other of_to o.raises.to_inside.0 o.rows.1,
+          value_in_row o.pixel of_from o.raises.from_inside.0 o.rows.0,
+          value_in_row o.other of_mask o.raises.to_inside.0 o.rows.1,
+          value_in_row o.other of_to o.raises.to_inside.0 o.rows.1,
         );
     place = omega (arith, o.place, ap (λ v. v * image.width) o.rows.0);
   }
@@ -94,10 +91,10 @@ module _ (conn : Conn) (rect : Rect) (mask image : Raster) (y z first : ℕ) (fr
 -- ---- the pairs of a row
 
 -- open pairs of some rows, as such of others
-pub in_other_rows : (conn : Conn) (rect : Rect) (mask image : Raster) (AreRows AreOthers : ℕ → ℕ → Type 0) (cell : ℕ)
+pub in_other_rows : {conn : Conn} {rect : Rect} {mask image : Raster} {AreRows AreOthers : ℕ → ℕ → Type 0} {cell : ℕ}
     → (o : IsOpenCell conn rect mask image AreRows cell) → AreOthers o.pixel.y o.other.y
     → IsOpenCell conn rect mask image AreOthers cell
-in_other_rows conn rect mask image AreRows AreOthers cell o others = record {
+in_other_rows o others = record {
   pixel = o.pixel;
   other = o.other;
   raises = o.raises;
@@ -109,85 +106,73 @@ in_other_rows conn rect mask image AreRows AreOthers cell o others = record {
 abbrev pub IsUpperAbove : ℕ → ℕ → ℕ → Type 0
 IsUpperAbove y a b = min a b < y
 
-module _ (conn : Conn) (rect : Rect) (mask image : Raster) (y : ℕ) where
-  -- the cell is that of the first pixel of an open pair of rows that are such
-  abbrev Opens : (ℕ → ℕ → Type 0) → ℕ → Type 0
-  Opens AreRows cell = IsOpenCell conn rect mask image AreRows cell
+module _ {conn : Conn} {rect : Rect} {mask image : Raster} (y : ℕ) where
+  in_row : (cell : ℕ) → IsOpenCell conn rect mask image (IsFromTo y y) cell
+      → IsOpenCell conn rect mask image (IsUpper y) cell
+  in_row cell o = in_other_rows o (omega (arith, o.rows.0, o.rows.1))
 
-  in_row : (cell : ℕ) → Opens (IsFromTo y y) cell → Opens (IsUpper y) cell
-  in_row cell o =
-      in_other_rows conn rect mask image (IsFromTo y y) (IsUpper y) cell o (omega (arith, o.rows.0, o.rows.1))
+  down_row : (cell : ℕ) → IsOpenCell conn rect mask image (IsFromTo y (y + 1)) cell
+      → IsOpenCell conn rect mask image (IsUpper y) cell
+  down_row cell o = in_other_rows o (omega (arith, o.rows.0, o.rows.1))
 
-  down_row : (cell : ℕ) → Opens (IsFromTo y (y + 1)) cell → Opens (IsUpper y) cell
-  down_row cell o =
-      in_other_rows conn rect mask image (IsFromTo y (y + 1)) (IsUpper y) cell o (omega (arith, o.rows.0, o.rows.1))
+  up_row : (cell : ℕ) → IsOpenCell conn rect mask image (IsFromTo (y + 1) y) cell
+      → IsOpenCell conn rect mask image (IsUpper y) cell
+  up_row cell o = in_other_rows o (omega (arith, o.rows.0, o.rows.1))
 
-  up_row : (cell : ℕ) → Opens (IsFromTo (y + 1) y) cell → Opens (IsUpper y) cell
-  up_row cell o =
-      in_other_rows conn rect mask image (IsFromTo (y + 1) y) (IsUpper y) cell o (omega (arith, o.rows.0, o.rows.1))
-
-  pub row_cases : (cell : ℕ) → Opens (IsUpper y) cell
-      → Opens (IsFromTo y y) cell ⊎ (Opens (IsFromTo y (y + 1)) cell ⊎ Opens (IsFromTo (y + 1) y) cell)
+  pub row_cases : (cell : ℕ) → IsOpenCell conn rect mask image (IsUpper y) cell
+      → IsOpenCell conn rect mask image (IsFromTo y y) cell
+      ⊎ (IsOpenCell conn rect mask image (IsFromTo y (y + 1)) cell
+      ⊎ IsOpenCell conn rect mask image (IsFromTo (y + 1) y) cell)
   row_cases cell o =
       let near = rows_near conn o.pixel o.other o.raises.beside in
       elim (cases_lt o.pixel.y o.other.y) [
-        | inl below ↦
-            inr (inl (in_other_rows conn rect mask image (IsUpper y) (IsFromTo y (y + 1)) cell o
-            (omega (arith, o.rows), omega (arith, o.rows))))
+        | inl below ↦ inr (inl (in_other_rows o (omega (arith, o.rows), omega (arith, o.rows))))
         | inr not_below ↦ elim (cases_lt o.other.y o.pixel.y) [
-          | inl above ↦
-              inr (inr (in_other_rows conn rect mask image (IsUpper y) (IsFromTo (y + 1) y) cell o
-              (omega (arith, o.rows), omega (arith, o.rows))))
-          | inr same ↦
-              inl (in_other_rows conn rect mask image (IsUpper y) (IsFromTo y y) cell o
-              (omega (arith, o.rows), omega (arith, o.rows)))
+          | inl above ↦ inr (inr (in_other_rows o (omega (arith, o.rows), omega (arith, o.rows))))
+          | inr same ↦ inl (in_other_rows o (omega (arith, o.rows), omega (arith, o.rows)))
         ]
       ]
 
-  pub row_stopped : (old new : List ℕ) → HaveJoined (Opens (IsFromTo y y)) false old new
-      → HaveJoined (Opens (IsUpper y)) false old new
-  row_stopped old new within = joined_stopped (Opens (IsFromTo y y)) (Opens (IsUpper y)) old new in_row within
+  pub row_stopped : {old new : List ℕ} → HaveJoined (IsOpenCell conn rect mask image (IsFromTo y y)) false old new
+      → HaveJoined (IsOpenCell conn rect mask image (IsUpper y)) false old new
+  row_stopped within = joined_stopped within in_row
 
   -- the last row has none below
-  pub last_row_joined : (old new : List ℕ) → y + 1 ≡ rect.h → HaveJoined (Opens (IsFromTo y y)) true old new
-      → HaveJoined (Opens (IsUpper y)) true old new
-  last_row_joined old new last within =
-      joined_same (Opens (IsFromTo y y)) (Opens (IsUpper y)) true old new in_row
-      (λ cell o. elim (row_cases cell o) [
+  pub last_row_joined : {old new : List ℕ} → y + 1 ≡ rect.h
+      → HaveJoined (IsOpenCell conn rect mask image (IsFromTo y y)) true old new
+      → HaveJoined (IsOpenCell conn rect mask image (IsUpper y)) true old new
+  last_row_joined last within =
+      joined_same within in_row (λ cell o. elim (row_cases cell o) [
         | inl here ↦ here
         | inr other ↦ elim other [
           | inl down ↦ absurd (omega (arith, down.rows.1, down.raises.to_inside.1))
           | inr up ↦ absurd (omega (arith, up.rows.0, up.raises.from_inside.1))
         ]
-      ]) within
+      ])
 
-  pub row_down_stopped : (old mid new : List ℕ) → HaveJoined (Opens (IsFromTo y y)) true old mid
-      → HaveJoined (Opens (IsFromTo y (y + 1))) false mid new
-      → HaveJoined (Opens (IsUpper y)) false old new
-  row_down_stopped old mid new within down =
-      joined_stopped (λ i. Opens (IsFromTo y y) i ⊎ Opens (IsFromTo y (y + 1)) i) (Opens (IsUpper y)) old new
+  pub row_down_stopped : {old mid new : List ℕ}
+      → HaveJoined (IsOpenCell conn rect mask image (IsFromTo y y)) true old mid
+      → HaveJoined (IsOpenCell conn rect mask image (IsFromTo y (y + 1))) false mid new
+      → HaveJoined (IsOpenCell conn rect mask image (IsUpper y)) false old new
+  row_down_stopped within down =
+      joined_stopped (joined_both within down)
       (λ cell o. elim o [ inl here ↦ in_row cell here | inr below ↦ down_row cell below ])
-      (joined_both (Opens (IsFromTo y y)) (Opens (IsFromTo y (y + 1))) false old mid new within down)
 
-  pub row_joined : (room : Bool) (old mid low new : List ℕ) → HaveJoined (Opens (IsFromTo y y)) true old mid
-      → HaveJoined (Opens (IsFromTo y (y + 1))) true mid low
-      → HaveJoined (Opens (IsFromTo (y + 1) y)) room low new
-      → HaveJoined (Opens (IsUpper y)) room old new
-  row_joined room old mid low new within down up =
-      joined_same
-      (λ i. Opens (IsFromTo y y) i ⊎ (Opens (IsFromTo y (y + 1)) i ⊎ Opens (IsFromTo (y + 1) y) i))
-      (Opens (IsUpper y)) room old new
+  pub row_joined : {room : Bool} {old mid low new : List ℕ}
+      → HaveJoined (IsOpenCell conn rect mask image (IsFromTo y y)) true old mid
+      → HaveJoined (IsOpenCell conn rect mask image (IsFromTo y (y + 1))) true mid low
+      → HaveJoined (IsOpenCell conn rect mask image (IsFromTo (y + 1) y)) room low new
+      → HaveJoined (IsOpenCell conn rect mask image (IsUpper y)) room old new
+  row_joined within down up =
+      joined_same (joined_both within (joined_both down up))
       (λ cell o. elim o [
         | inl here ↦ in_row cell here
         | inr other ↦ elim other [ inl below ↦ down_row cell below | inr above ↦ up_row cell above ]
       ]) row_cases
-      (joined_both (Opens (IsFromTo y y)) (λ i. Opens (IsFromTo y (y + 1)) i ⊎ Opens (IsFromTo (y + 1) y) i) room old
-      mid new within
-      (joined_both (Opens (IsFromTo y (y + 1))) (Opens (IsFromTo (y + 1) y)) room mid low new down up))
 
   -- where no pixel of the row raises another in it, nor one of the row below one of it
-  open_downward : IsScannedUp conn rect mask image y → (cell : ℕ) → Opens (IsUpper y) cell
-      → Opens (IsFromTo y (y + 1)) cell
+  open_downward : IsScannedUp conn rect mask image y → (cell : ℕ) → IsOpenCell conn rect mask image (IsUpper y) cell
+      → IsOpenCell conn rect mask image (IsFromTo y (y + 1)) cell
   open_downward scanned cell o = elim (row_cases cell o) [
     | inl here ↦ absurd (scanned.along here.pixel here.other here.raises here.rows)
     | inr other ↦ elim other [
@@ -196,42 +181,36 @@ module _ (conn : Conn) (rect : Rect) (mask image : Raster) (y : ℕ) where
     ]
   ]
 
-  pub downward_joined : (room : Bool) (old new : List ℕ) → IsScannedUp conn rect mask image y
-      → HaveJoined (Opens (IsFromTo y (y + 1))) room old new
-      → HaveJoined (Opens (IsUpper y)) room old new
-  downward_joined room old new scanned down =
-      joined_same (Opens (IsFromTo y (y + 1))) (Opens (IsUpper y)) room old new down_row (open_downward scanned) down
+  pub downward_joined : {room : Bool} {old new : List ℕ} → IsScannedUp conn rect mask image y
+      → HaveJoined (IsOpenCell conn rect mask image (IsFromTo y (y + 1))) room old new
+      → HaveJoined (IsOpenCell conn rect mask image (IsUpper y)) room old new
+  downward_joined scanned down = joined_same down down_row (open_downward scanned)
 
   -- the last row has none below
-  pub last_row_closed : (waiting : List ℕ) → y + 1 ≡ rect.h → IsScannedUp conn rect mask image y
-      → HaveJoined (Opens (IsUpper y)) true waiting waiting
-  last_row_closed waiting last scanned = none_joined (Opens (IsUpper y)) waiting (λ cell o.
+  pub last_row_closed : {waiting : List ℕ} → y + 1 ≡ rect.h → IsScannedUp conn rect mask image y
+      → HaveJoined (IsOpenCell conn rect mask image (IsUpper y)) true waiting waiting
+  last_row_closed last scanned = none_joined (λ cell o.
       let down = open_downward scanned cell o in
       omega (arith, last, down.rows.1, down.raises.to_inside.1))
 
   -- one row more
-  pub rows_joined : (room : Bool) (old mid new : List ℕ) → HaveJoined (Opens (IsUpperAbove y)) true old mid
-      → HaveJoined (Opens (IsUpper y)) room mid new
-      → HaveJoined (Opens (IsUpperAbove (y + 1))) room old new
-  rows_joined room old mid new before here =
-      joined_same (λ i. Opens (IsUpperAbove y) i ⊎ Opens (IsUpper y) i) (Opens (IsUpperAbove (y + 1))) room old new
+  pub rows_joined : {room : Bool} {old mid new : List ℕ}
+      → HaveJoined (IsOpenCell conn rect mask image (IsUpperAbove y)) true old mid
+      → HaveJoined (IsOpenCell conn rect mask image (IsUpper y)) room mid new
+      → HaveJoined (IsOpenCell conn rect mask image (IsUpperAbove (y + 1))) room old new
+  rows_joined before here =
+      joined_same (joined_both before here)
       (λ cell o. elim o [
-        | inl above ↦
-            in_other_rows conn rect mask image (IsUpperAbove y) (IsUpperAbove (y + 1)) cell above
-            (omega (arith, above.rows))
-        | inr own ↦
-            in_other_rows conn rect mask image (IsUpper y) (IsUpperAbove (y + 1)) cell own (omega (arith, own.rows))
+        | inl above ↦ in_other_rows above (omega (arith, above.rows))
+        | inr own ↦ in_other_rows own (omega (arith, own.rows))
       ])
       (λ cell o. elim (cases_lt (min o.pixel.y o.other.y) y) [
-        | inl above ↦
-            inl (in_other_rows conn rect mask image (IsUpperAbove (y + 1)) (IsUpperAbove y) cell o above)
-        | inr own ↦
-            inr (in_other_rows conn rect mask image (IsUpperAbove (y + 1)) (IsUpper y) cell o
-            (omega (arith, o.rows)))
+        | inl above ↦ inl (in_other_rows o above)
+        | inr own ↦ inr (in_other_rows o (omega (arith, o.rows)))
       ])
-      (joined_both (Opens (IsUpperAbove y)) (Opens (IsUpper y)) room old mid new before here)
 
-  of_inside : (cell : ℕ) → Opens (IsUpperAbove y) cell → IsOpenFrom conn rect mask image (IsInside rect.w rect.h) cell
+  of_inside : (cell : ℕ) → IsOpenCell conn rect mask image (IsUpperAbove y) cell
+      → IsOpenFrom conn rect mask image (IsInside rect.w rect.h) cell
   of_inside cell o = record {
     pixel = o.pixel;
     other = o.other;
@@ -240,18 +219,17 @@ module _ (conn : Conn) (rect : Rect) (mask image : Raster) (y : ℕ) where
     place = o.place;
   }
 
-  pub rows_stopped : (old new : List ℕ) → HaveJoined (Opens (IsUpperAbove y)) false old new
+  pub rows_stopped : {old new : List ℕ}
+      → HaveJoined (IsOpenCell conn rect mask image (IsUpperAbove y)) false old new
       → AreJoined conn rect mask image (IsInside rect.w rect.h) false old new
-  rows_stopped old new joined =
-      joined_stopped (Opens (IsUpperAbove y)) (IsOpenFrom conn rect mask image (IsInside rect.w rect.h)) old new
-      of_inside joined
+  rows_stopped joined = joined_stopped joined of_inside
 
   -- after all rows each open pair has joined
-  pub all_rows_joined : (old new : List ℕ) → rect.h ≤ y → HaveJoined (Opens (IsUpperAbove y)) true old new
+  pub all_rows_joined : {old new : List ℕ} → rect.h ≤ y
+      → HaveJoined (IsOpenCell conn rect mask image (IsUpperAbove y)) true old new
       → AreJoined conn rect mask image (IsInside rect.w rect.h) true old new
-  all_rows_joined old new all joined =
-      joined_same (Opens (IsUpperAbove y)) (IsOpenFrom conn rect mask image (IsInside rect.w rect.h)) true old new
-      of_inside
+  all_rows_joined all joined =
+      joined_same joined of_inside
       (λ cell begins. record {
         pixel = begins.pixel;
         other = begins.other;
@@ -259,4 +237,3 @@ module _ (conn : Conn) (rect : Rect) (mask image : Raster) (y : ℕ) where
         rows = omega (arith, begins.raises.from_inside.1);
         place = begins.place;
       })
-      joined

@@ -1,29 +1,28 @@
 -- Cells that are raised to one level, as far as the mask lets them, and the queue of those that rose.
-use Rattle.std.proofs.Common.{◌≡◌, ℕ, ◌+◌, ◌<◌, ◌≤◌, ◌⊎◌, List, length, min, max, set, sym, ◌∙◌, subst}
-use Rattle.std.proofs.Common.{arith, inl, inr, refl, get_or, Contains}
-use Rattle.std.specs.Prelude.{◌≢◌}
+use Rattle.std.proofs.Common.{◌≡◌, ℕ, ◌+◌, ◌<◌, ◌≤◌, ◌⊎◌, List, length, min, max, set, sym, ◌∙◌, subst, arith, inl, inr}
+use Rattle.std.proofs.Common.{refl, get_or, Contains, ◌≢◌}
 use Rattle.std.proofs.lemmas.Bool.{cases_eq, cases_lt}
 use Rattle.std.proofs.lemmas.List.{length-set, get_or-set_same, get_or-set_other}
 use Rattle.grid_core.specs.Raster.{headroom, max_level}
 use Rattle.grid_core.proofs.Headroom.{headroom_set}
-use Rattle.raster_sweeps.specs.declared.neighbourhood.Span.{Span}
-use Rattle.raster_sweeps.specs.Waiting.{AreOneMore}
+use Rattle.raster_sweeps.specs.declared.neighbourhood.RowSpan.{RowSpan}
 use Rattle.raster_sweeps.specs.Spans.{AreQueued, AreSpread, InSpan, IsRaised}
+use Rattle.row_scans.specs.Waiting.{AreOneMore}
 
 -- no cell is raised
-pub raised_none : (at : ℕ → Type 0) (mask : List ℕ) (level : ℕ) (cells : List ℕ) → ((k : ℕ) → at k → ⊥)
+pub raised_none : {at : ℕ → Type 0} {mask : List ℕ} {level : ℕ} {cells : List ℕ} → ((k : ℕ) → at k → ⊥)
     → IsRaised at mask level cells cells
-raised_none at mask level cells none = record {
+raised_none none = record {
   filled = refl;
   raised = λ k here. absurd (none k here);
   each = λ k. inl refl;
 }
 
 -- the same cells, said in another way
-pub raised_at : (at other : ℕ → Type 0) (mask : List ℕ) (level : ℕ) (before after : List ℕ)
-    → ((k : ℕ) → at k → other k) → ((k : ℕ) → other k → at k)
-    → IsRaised at mask level before after → IsRaised other mask level before after
-raised_at at other mask level before after to from raised = record {
+pub raised_at : {at other : ℕ → Type 0} {mask : List ℕ} {level : ℕ} {before after : List ℕ}
+    → IsRaised at mask level before after → ((k : ℕ) → at k → other k) → ((k : ℕ) → other k → at k)
+    → IsRaised other mask level before after
+raised_at raised to from = record {
   filled = raised.filled;
   raised = λ k here. raised.raised k (from k here);
   each = λ k. elim (raised.each k) [ inl same ↦ inl same | inr rose ↦ inr (to k rose.0, rose.1) ];
@@ -50,9 +49,9 @@ raised_one mask level cells j within lower =
     }
 
 -- a cell is not raised that lies as high
-pub raised_not : (mask : List ℕ) (level : ℕ) (cells : List ℕ) (j : ℕ)
+pub raised_not : {mask : List ℕ} {level : ℕ} {cells : List ℕ} (j : ℕ)
     → min level (get_or mask j 0) ≤ get_or cells j 0 → IsRaised (λ k. k ≡ j) mask level cells cells
-raised_not mask level cells j high = record {
+raised_not {mask} {level} {cells} j high = record {
   filled = refl;
   raised = λ k e.
       subst (λ i. get_or cells i 0 ≡ max (get_or cells i 0) (min level (get_or mask i 0))) (sym e)
@@ -61,10 +60,10 @@ raised_not mask level cells j high = record {
 }
 
 -- cells are raised, and then others
-pub raised_twice : (at other : ℕ → Type 0) (mask : List ℕ) (level : ℕ) (before between after : List ℕ)
+pub raised_twice : {at other : ℕ → Type 0} {mask : List ℕ} {level : ℕ} {before between after : List ℕ}
     → IsRaised at mask level before between → IsRaised other mask level between after
     → IsRaised (λ k. at k ⊎ other k) mask level before after
-raised_twice at other mask level before between after first second =
+raised_twice {other} {mask} {level} {before} {between} {after} first second =
     let from_between : (k : ℕ) → get_or between k 0 ≡ max (get_or before k 0) (min level (get_or mask k 0))
     → get_or after k 0 ≡ max (get_or before k 0) (min level (get_or mask k 0)) =
     λ k e. elim (second.each k) [ inl same ↦ omega (arith, same, e) | inr rose ↦ omega (arith, rose.1, e) ] in
@@ -89,39 +88,39 @@ raised_twice at other mask level before between after first second =
     }
 
 -- no cell that is raised falls
-pub raised_rises : (at : ℕ → Type 0) (mask : List ℕ) (level : ℕ) (before after : List ℕ)
+pub raised_rises : {at : ℕ → Type 0} {mask : List ℕ} {level : ℕ} {before after : List ℕ}
     → IsRaised at mask level before after → (k : ℕ) → get_or before k 0 ≤ get_or after k 0
-raised_rises at mask level before after raised k =
+raised_rises raised k =
     elim (raised.each k) [ inl same ↦ omega (arith, same) | inr rose ↦ omega (arith, rose.1) ]
 
 -- no cell is queued
-pub queued_none : (at : ℕ → Type 0) (mask : List ℕ) (level : ℕ) (cells waiting : List ℕ) → ((k : ℕ) → at k → ⊥)
+pub queued_none : {at : ℕ → Type 0} {mask : List ℕ} {level : ℕ} {cells waiting : List ℕ} → ((k : ℕ) → at k → ⊥)
     → AreQueued at mask level cells waiting waiting
-queued_none at mask level cells waiting none = record {
+queued_none none = record {
   kept = λ i waits. waits;
   added = λ k here lower. absurd (none k here);
 }
 
 -- the same cells, said in another way
-pub queued_at : (at other : ℕ → Type 0) (mask : List ℕ) (level : ℕ) (cells old new : List ℕ)
-    → ((k : ℕ) → other k → at k) → AreQueued at mask level cells old new → AreQueued other mask level cells old new
-queued_at at other mask level cells old new from queued = record {
+pub queued_at : {at other : ℕ → Type 0} {mask : List ℕ} {level : ℕ} {cells old new : List ℕ}
+    → AreQueued at mask level cells old new → ((k : ℕ) → other k → at k) → AreQueued other mask level cells old new
+queued_at queued from = record {
   kept = queued.kept;
   added = λ k here. queued.added k (from k here);
 }
 
 -- a cell that is raised is queued
-pub queued_one : (mask : List ℕ) (level : ℕ) (cells waiting new : List ℕ) (j : ℕ) → AreOneMore j waiting new
+pub queued_one : {mask : List ℕ} {level : ℕ} {cells waiting new : List ℕ} {j : ℕ} → AreOneMore j waiting new
     → AreQueued (λ k. k ≡ j) mask level cells waiting new
-queued_one mask level cells waiting new j one = record {
+queued_one one = record {
   kept = λ i has. (one.each i).1 (inl has);
   added = λ k e lower. (one.each k).1 (inr e);
 }
 
 -- a cell that is not raised need not be queued
-pub queued_not : (mask : List ℕ) (level : ℕ) (cells waiting : List ℕ) (j : ℕ)
+pub queued_not : {mask : List ℕ} {level : ℕ} {cells waiting : List ℕ} (j : ℕ)
     → min level (get_or mask j 0) ≤ get_or cells j 0 → AreQueued (λ k. k ≡ j) mask level cells waiting waiting
-queued_not mask level cells waiting j high = record {
+queued_not {mask} {level} {cells} j high = record {
   kept = λ i waits. waits;
   added = λ k e lower.
       let low : get_or cells j 0 < min level (get_or mask j 0) =
@@ -130,10 +129,10 @@ queued_not mask level cells waiting j high = record {
 }
 
 -- cells are queued, and then others
-pub queued_twice : (at other : ℕ → Type 0) (mask : List ℕ) (level : ℕ) (before between old middle new : List ℕ)
+pub queued_twice : {at other : ℕ → Type 0} {mask : List ℕ} {level : ℕ} {before between old middle new : List ℕ}
     → IsRaised at mask level before between → AreQueued at mask level before old middle
     → AreQueued other mask level between middle new → AreQueued (λ k. at k ⊎ other k) mask level before old new
-queued_twice at other mask level before between old middle new raised first second = record {
+queued_twice raised first second = record {
   kept = λ i waits. second.kept i (first.kept i waits);
   added = λ k here lower. elim here [
     | inl at_first ↦ second.kept k (first.added k at_first lower)
@@ -145,11 +144,11 @@ queued_twice at other mask level before between old middle new raised first seco
 }
 
 -- each cell that waited waits, and each that rose
-pub queued_stays : (at : ℕ → Type 0) (mask : List ℕ) (level : ℕ) (before after old new : List ℕ)
+pub queued_stays : {at : ℕ → Type 0} {mask : List ℕ} {level : ℕ} {before after old new : List ℕ}
     → IsRaised at mask level before after → AreQueued at mask level before old new → (k : ℕ)
     → Contains old k ⊎ (get_or after k 0 ≢ get_or before k 0)
     → Contains new k
-queued_stays at mask level before after old new raised queued k why =
+queued_stays {mask} {level} {before} raised queued k why =
     elim why [
       | inl waited ↦ queued.kept k waited
       | inr changed ↦ elim (raised.each k) [
@@ -162,19 +161,17 @@ queued_stays at mask level before after old new raised queued k why =
     ]
 
 -- cells are raised and queued, and then others
-pub spread_twice : (at other : ℕ → Type 0) (mask : List ℕ) (level : ℕ) (before between after old middle new : List ℕ)
-    → (First Second : Type 0) → AreSpread at mask level before between old middle First
+pub spread_twice : {at other : ℕ → Type 0} {mask : List ℕ} {level : ℕ} {before between after old middle new : List ℕ}
+    → {First Second : Type 0} → AreSpread at mask level before between old middle First
     → AreSpread other mask level between after middle new Second
     → AreSpread (λ k. at k ⊎ other k) mask level before after old new (First × Second)
-spread_twice at other mask level before between after old middle new First Second first second = record {
-  raised = raised_twice at other mask level before between after first.raised second.raised;
+spread_twice first second = record {
+  raised = raised_twice first.raised second.raised;
   inside = λ i waits. elim (second.inside i waits) [
     | inr here ↦ inr (inr here)
     | inl earlier ↦ elim (first.inside i earlier) [ inl was ↦ inl was | inr here ↦ inr (inl here) ]
   ];
-  queued = λ both.
-      queued_twice at other mask level before between old middle new first.raised (first.queued both.0)
-      (second.queued both.1);
+  queued = λ both. queued_twice first.raised (first.queued both.0) (second.queued both.1);
   count = λ both. omega (arith, first.count both.0, second.count both.1);
   effort = λ both. omega (arith, first.effort both.0, second.effort both.1);
   fell = elim first.fell [
@@ -192,10 +189,10 @@ spread_twice at other mask level before between after old middle new First Secon
 }
 
 -- the same, where there is room for all in another sense
-pub spread_with : (at : ℕ → Type 0) (mask : List ℕ) (level : ℕ) (before after old new : List ℕ) (Room Other : Type 0)
-    → (Other → Room) → (Room → Other) → AreSpread at mask level before after old new Room
+pub spread_with : {at : ℕ → Type 0} {mask : List ℕ} {level : ℕ} {before after old new : List ℕ} {Room Other : Type 0}
+    → AreSpread at mask level before after old new Room → (Other → Room) → (Room → Other)
     → AreSpread at mask level before after old new Other
-spread_with at mask level before after old new Room Other from to spread = record {
+spread_with spread from to = record {
   raised = spread.raised;
   inside = spread.inside;
   queued = λ other. spread.queued (from other);
@@ -214,15 +211,14 @@ pub spread_one : (mask : List ℕ) (level : ℕ) (cells : List ℕ) (j : ℕ) (o
 spread_one mask level cells j old new Room top within lower joined =
     let v : ℕ = min level (get_or mask j 0) in
     let less : headroom (set cells j v) < headroom cells = headroom_set cells j v within lower (omega (arith, top)) in
-    let one : Room → AreOneMore j old new =
-    λ room. elim joined [ inl one ↦ one | inr full ↦ absurd (full.0 room) ] in
+    let one : Room → AreOneMore j old new = λ room. elim joined [ inl one ↦ one | inr full ↦ absurd (full.0 room) ] in
     record {
       raised = raised_one mask level cells j within lower;
       inside = λ i waits. elim joined [
         | inl more ↦ (more.each i).0 waits
         | inr full ↦ inl (subst (λ xs. Contains xs i) full.1 waits)
       ];
-      queued = λ room. queued_one mask level cells old new j (one room);
+      queued = λ room. queued_one (one room);
       count = λ room. omega (arith, (one room).count);
       effort = λ room. omega (arith, (one room).count, less);
       fell = inr less;
@@ -231,13 +227,13 @@ spread_one mask level cells j old new Room top within lower joined =
     }
 
 -- a cell that lies as high stays
-pub spread_stays : (mask : List ℕ) (level : ℕ) (cells : List ℕ) (j : ℕ) (waiting : List ℕ) (Room : Type 0) → Room
+pub spread_stays : {mask : List ℕ} {level : ℕ} {cells : List ℕ} {j : ℕ} {waiting : List ℕ} {Room : Type 0} → Room
     → min level (get_or mask j 0) ≤ get_or cells j 0
     → AreSpread (λ k. k ≡ j) mask level cells cells waiting waiting Room
-spread_stays mask level cells j waiting Room all high = record {
-  raised = raised_not mask level cells j high;
+spread_stays {mask} {level} {cells} {j} all high = record {
+  raised = raised_not j high;
   inside = λ i waits. inl waits;
-  queued = λ room. queued_not mask level cells waiting j high;
+  queued = λ room. queued_not j high;
   count = λ room. omega arith;
   effort = λ room. omega arith;
   fell = inl all;
@@ -249,12 +245,12 @@ spread_stays mask level cells j waiting Room all high = record {
 }
 
 -- where there is no cell, all stays
-pub spread_none : (at : ℕ → Type 0) (mask : List ℕ) (level : ℕ) (cells waiting : List ℕ) (Room : Type 0) → Room
+pub spread_none : {at : ℕ → Type 0} {mask : List ℕ} {level : ℕ} {cells waiting : List ℕ} {Room : Type 0} → Room
     → ((k : ℕ) → at k → ⊥) → AreSpread at mask level cells cells waiting waiting Room
-spread_none at mask level cells waiting Room all none = record {
-  raised = raised_none at mask level cells none;
+spread_none all none = record {
+  raised = raised_none none;
   inside = λ i waits. inl waits;
-  queued = λ room. queued_none at mask level cells waiting none;
+  queued = λ room. queued_none none;
   count = λ room. omega arith;
   effort = λ room. omega arith;
   fell = inl all;
@@ -263,7 +259,7 @@ spread_none at mask level cells waiting Room all none = record {
 }
 
 -- the span up to the next cell has the cells of the span, and that cell
-abbrev pub span_to : ℕ → ℕ → Span
+abbrev pub span_to : ℕ → ℕ → RowSpan
 span_to first end = record { first = first; end = end; row = 0 }
 
 pub span_more : (first j k : ℕ) → first ≤ j → InSpan (span_to first j) k ⊎ (k ≡ j) → InSpan (span_to first (j + 1)) k
@@ -277,42 +273,28 @@ pub span_less : (first j k : ℕ) → InSpan (span_to first (j + 1)) k → InSpa
 span_less first j k here =
     elim (cases_lt k j) [ inl before ↦ inl (here.0, before) | inr last ↦ inr (omega (arith, here.1)) ]
 
-module _ (mask : List ℕ) (level : ℕ) (before cells old waiting : List ℕ) (first j : ℕ) (from : first ≤ j)
-    (within : j < length cells)
-    (raised : IsRaised (InSpan (span_to first j)) mask level before cells) where
+module _ {mask : List ℕ} {level : ℕ} {before cells : List ℕ} (first j : ℕ) (from : first ≤ j)
+    (within : j < length cells) (raised : IsRaised (InSpan (span_to first j)) mask level before cells) where
   -- the next cell of the span is raised
   pub next_raised : get_or cells j 0 < min level (get_or mask j 0)
       → IsRaised (InSpan (span_to first (j + 1))) mask level before (set cells j (min level (get_or mask j 0)))
   next_raised lower =
-      raised_at (λ k. InSpan (span_to first j) k ⊎ (k ≡ j)) (InSpan (span_to first (j + 1))) mask level before
-      (set cells j (min level (get_or mask j 0))) (λ k. span_more first j k from) (span_less first j)
-      (raised_twice (InSpan (span_to first j)) (λ k. k ≡ j) mask level before cells
-      (set cells j (min level (get_or mask j 0))) raised (raised_one mask level cells j within lower))
+      raised_at (raised_twice raised (raised_one mask level cells j within lower))
+      (λ k. span_more first j k from) (span_less first j)
 
   -- the next cell of the span lies as high
   pub next_not_raised : min level (get_or mask j 0) ≤ get_or cells j 0
       → IsRaised (InSpan (span_to first (j + 1))) mask level before cells
   next_not_raised high =
-      raised_at (λ k. InSpan (span_to first j) k ⊎ (k ≡ j)) (InSpan (span_to first (j + 1))) mask level before
-      cells (λ k. span_more first j k from) (span_less first j)
-      (raised_twice (InSpan (span_to first j)) (λ k. k ≡ j) mask level before cells cells raised
-      (raised_not mask level cells j high))
+      raised_at (raised_twice raised (raised_not j high)) (λ k. span_more first j k from) (span_less first j)
 
-  module _ (queued : AreQueued (InSpan (span_to first j)) mask level before old waiting) where
+  module _ {old waiting : List ℕ} (queued : AreQueued (InSpan (span_to first j)) mask level before old waiting) where
     -- the next cell of the span is raised and queued
-    pub next_queued : (new : List ℕ) → AreOneMore j waiting new
+    pub next_queued : {new : List ℕ} → AreOneMore j waiting new
         → AreQueued (InSpan (span_to first (j + 1))) mask level before old new
-    next_queued new one =
-        queued_at (λ k. InSpan (span_to first j) k ⊎ (k ≡ j)) (InSpan (span_to first (j + 1))) mask level before old
-        new (span_less first j)
-        (queued_twice (InSpan (span_to first j)) (λ k. k ≡ j) mask level before cells old waiting new
-        raised queued (queued_one mask level cells waiting new j one))
+    next_queued one = queued_at (queued_twice raised queued (queued_one one)) (span_less first j)
 
     -- the next cell of the span lies as high, and need not be queued
     pub next_not_queued : min level (get_or mask j 0) ≤ get_or cells j 0
         → AreQueued (InSpan (span_to first (j + 1))) mask level before old waiting
-    next_not_queued high =
-        queued_at (λ k. InSpan (span_to first j) k ⊎ (k ≡ j)) (InSpan (span_to first (j + 1))) mask level before old
-        waiting (span_less first j)
-        (queued_twice (InSpan (span_to first j)) (λ k. k ≡ j) mask level before cells old waiting waiting
-        raised queued (queued_not mask level cells waiting j high))
+    next_not_queued high = queued_at (queued_twice raised queued (queued_not j high)) (span_less first j)

@@ -1,25 +1,20 @@
 -- A scan, row by row.
-use Rattle.std.proofs.Common.{◌≡◌, ℕ, ◌+◌, ◌≤◌, Bool, IsTrue, List, [], length, min, refl, sym, ap, ◌∙◌}
-use Rattle.std.proofs.Common.{subst, inl, inr, arith}
-use Rattle.std.specs.List.{Contains}
+use Rattle.std.proofs.Common.{◌≡◌, ℕ, ◌+◌, ◌≤◌, Bool, IsTrue, List, [], length, min, refl, sym, ap, ◌∙◌, subst, inl}
+use Rattle.std.proofs.Common.{inr, arith, Contains}
 use Rattle.std.proofs.lemmas.Bool.{cases_lt}
-use Rattle.grid_core.specs.declared.conn.Conn.{Conn}
-use Rattle.grid_core.specs.declared.rect.Rect.{Rect}
-use Rattle.grid_core.specs.Raster.{Raster}
+use Rattle.grid_core.specs.{declared.conn.Conn.Conn, declared.rect.Rect.Rect, Raster.Raster}
 use Rattle.raster_sweeps.specs.Growth.{IsOpenIn, WaitFrom, AllWait, AreInside, cell_of}
-use Rattle.raster_sweeps.specs.RowPairs.{IsDark, IsOpenCell, HaveJoined, IsFromTo, IsScannedUp, IsUpper}
-use Rattle.raster_sweeps.specs.RowPairs.{NoneOpen, NoneOpenAlong, NoneOpenToLeft, NoneOpenToRight}
-use Rattle.raster_sweeps.specs.RowRaises.{IsRowGrown}
-use Rattle.raster_sweeps.proofs.Grown.{grown_twice}
-use Rattle.raster_sweeps.proofs.ImageRows.{aside_in_row}
-use Rattle.raster_sweeps.proofs.Spans.{near_rows}
+use Rattle.raster_sweeps.specs.RowPairs.{IsDark, IsOpenCell, IsFromTo, IsScannedUp, IsUpper, NoneOpen, NoneOpenAlong}
+use Rattle.raster_sweeps.specs.RowPairs.{NoneOpenToLeft, NoneOpenToRight, IsRowGrown}
+use Rattle.row_scans.specs.Rows.{HaveJoined}
+use Rattle.raster_sweeps.proofs.{Grown.grown_twice, ImageRows.aside_in_row, Spans.near_rows}
 
 -- a row that has grown twice
-pub row_grown_twice : (conn : Conn) (rect : Rect) (mask : Raster) (y : ℕ) (before between after : Raster)
+pub row_grown_twice : {conn : Conn} {rect : Rect} {mask : Raster} {y : ℕ} {before between after : Raster}
     → IsRowGrown conn rect mask y before between → IsRowGrown conn rect mask y between after
     → IsRowGrown conn rect mask y before after
-row_grown_twice conn rect mask y before between after first second = record {
-  grown = grown_twice conn rect mask before between after first.grown second.grown;
+row_grown_twice first second = record {
+  grown = grown_twice first.grown second.grown;
   others = λ p inside other. second.others p inside other ∙ first.others p inside other;
 }
 
@@ -34,28 +29,25 @@ none_open_along conn rect mask image y none_left none_right p q raises rows =
       | inr left ↦ none_left p q raises rows (omega (arith, aside, left))
     ]
 
--- a row that was raised by the row below and then along itself
-pub scanned_up : (conn : Conn) (rect : Rect) (mask : Raster) (y : ℕ) (before after : Raster)
-    → NoneOpen conn rect mask before (IsFromTo (y + 1) y) → IsRowGrown conn rect mask y before after
-    → NoneOpenAlong conn rect mask after y
-    → IsScannedUp conn rect mask after y
-scanned_up conn rect mask y before after none_up grown none_along = record {
-  along = none_along;
-  up = λ p q raises rows.
-      none_up p q
-      (record {
-        from_inside = raises.from_inside;
-        to_inside = raises.to_inside;
-        beside = raises.beside;
-        lower =
-            omega (
-              arith,
-              raises.lower,
-              grown.others p raises.from_inside (λ same. omega (arith, rows.0)),
-              (grown.grown.lawful q raises.to_inside).0,
-            );
-      }) rows;
-}
+-- where no pixel of a row could raise one of another, none can after that other one has grown
+pub across_stays : {conn : Conn} {rect : Rect} {mask : Raster} {y z : ℕ} {before after : Raster} → (y ≡ z → ⊥)
+    → NoneOpen conn rect mask before (IsFromTo y z) → IsRowGrown conn rect mask z before after
+    → NoneOpen conn rect mask after (IsFromTo y z)
+across_stays apart none grown p q raises rows =
+    none p q
+    (record {
+      from_inside = raises.from_inside;
+      to_inside = raises.to_inside;
+      beside = raises.beside;
+      lower =
+          omega (
+            arith,
+            raises.lower,
+            grown.others p raises.from_inside (λ same. apart (sym rows.0 ∙ same)),
+            (grown.grown.lawful q raises.to_inside).0,
+          );
+    })
+    rows
 
 -- the last row has none below
 pub last_scanned_up : (conn : Conn) (rect : Rect) (mask image : Raster) (y : ℕ) → rect.h ≤ y + 1
@@ -67,20 +59,15 @@ last_scanned_up conn rect mask image y last none_along = record {
 }
 
 -- what has joined a queue of cells of the rectangle is inside too
-pub joined_inside : (conn : Conn) (rect : Rect) (mask image : Raster) (y width : ℕ) (room : Bool) (old new : List ℕ)
-    → image.width ≡ width → AreInside rect width old
-    → HaveJoined (IsOpenCell conn rect mask image (IsUpper y)) room old new
-    → AreInside rect width new
-joined_inside conn rect mask image y width room old new same inside joined i there = elim (joined.each i there) [
+pub joined_inside : {conn : Conn} {rect : Rect} {mask image : Raster} {AreRows : ℕ → ℕ → Type 0} {room : Bool}
+    {old new : List ℕ} → AreInside rect image.width old
+    → HaveJoined (IsOpenCell conn rect mask image AreRows) room old new → AreInside rect image.width new
+joined_inside inside joined i there = elim (joined.each i there) [
   | inl before ↦ inside i before
-  | inr o ↦ (
-    o.pixel,
-    o.raises.from_inside,
-    subst (λ w. cell_of rect w o.pixel ≡ i) same o.place,
-  )
+  | inr o ↦ (o.pixel, o.raises.from_inside, o.place)
 ]
 
-module _ (conn : Conn) (rect : Rect) (mask before after : Raster) (y : ℕ) (room : Bool) (old new : List ℕ)
+module _ {conn : Conn} {rect : Rect} {mask before after : Raster} {y : ℕ} {room : Bool} {old new : List ℕ}
     (grown : IsRowGrown conn rect mask y before after)
     (joined : HaveJoined (IsOpenCell conn rect mask after (IsUpper y)) room old new) (all : IsTrue room) where
   -- the first pixels of the open pairs from this row on wait, once the row is scanned and checked

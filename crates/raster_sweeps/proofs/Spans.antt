@@ -1,21 +1,17 @@
 -- The spans around a cell hold the neighbours of its pixel.
-use Rattle.std.proofs.Common.{◌≡◌, ℕ, ◌+◌, ◌-◌, ◌*◌, ◌/◌, ◌%◌, ◌<◌, ◌≤◌, ◌⊎◌, min, max, sym, ◌∙◌, ap, arith}
-use Rattle.std.proofs.Common.{inl, inr, refl}
-use Rattle.std.proofs.lemmas.Bool.{cases_eq, cases_order}
-use Rattle.std.proofs.lemmas.Nat.{div-mul-add, mod-mul-add}
-use Rattle.grid_core.specs.declared.conn.Conn.{Conn}
-use Rattle.grid_core.specs.declared.conn.Conn.TheVariants.{Four, Eight}
-use Rattle.grid_core.specs.declared.pixel.Pixel.{Pixel}
-use Rattle.grid_core.specs.declared.rect.Rect.{Rect}
-use Rattle.grid_core.specs.Neighbours.{AreNeighbours, apart}
-use Rattle.grid_core.specs.Raster.{IsInside}
+use Rattle.std.proofs.Common.{◌≡◌, ℕ, ◌+◌, ◌-◌, ◌*◌, ◌/◌, ◌%◌, ◌<◌, ◌≤◌, ◌⊎◌, min, max, sym, ◌∙◌, ap, arith, inl, inr}
+use Rattle.std.proofs.Common.{refl}
+use Rattle.std.proofs.{lemmas.Bool.cases_eq, lemmas.Bool.cases_order, lemmas.Nat.div-mul-add, lemmas.Nat.mod-mul-add}
+use Rattle.grid_core.specs.{declared.conn.Conn.Conn, declared.conn.Conn.TheVariants.Four}
+use Rattle.grid_core.specs.{declared.conn.Conn.TheVariants.Eight, declared.pixel.Pixel.Pixel, declared.rect.Rect.Rect}
+use Rattle.grid_core.specs.{Neighbours.AreNeighbours, Neighbours.apart, Raster.IsInside}
 use Rattle.grid_core.proofs.Pixels.{same_pixel}
-use Rattle.raster_sweeps.specs.declared.neighbourhood.Span.{Span}
-use Rattle.raster_sweeps.specs.Growth.{cell_of}
+use Rattle.raster_sweeps.specs.{declared.neighbourhood.RowSpan.RowSpan, Growth.cell_of}
 use Rattle.raster_sweeps.specs.Spans.{AreAround, InSpan, IsAround}
 
 -- the span holds the neighbours of the pixel in some rows, and nothing else but the pixel itself
-pub record IsSpanOf (conn : Conn) (rect : Rect) (width : ℕ) (p : Pixel) (rows : ℕ → Type 0) (span : Span) : Type 0 where
+pub record IsSpanOf (conn : Conn) (rect : Rect) (width : ℕ) (p : Pixel) (rows : ℕ → Type 0) (span : RowSpan)
+    : Type 0 where
   pub each : (k : ℕ) → InSpan span k
       → (q : Pixel) × IsInside rect.w rect.h q × (cell_of rect width q ≡ k) × ((q ≡ p) ⊎ AreNeighbours conn p q)
   pub every : (q : Pixel) → IsInside rect.w rect.h q → AreNeighbours conn p q → rows q.y
@@ -42,11 +38,11 @@ near_rows Eight p q near =
     ]
 
 -- the spans of the row above, the own row and the row below hold all neighbours
-pub spans_of : (conn : Conn) (rect : Rect) (width : ℕ) (p : Pixel) (above beside below : Span)
+pub spans_of : {conn : Conn} {rect : Rect} {width : ℕ} {p : Pixel} {above beside below : RowSpan}
     → IsSpanOf conn rect width p (λ y. y + 1 ≡ p.y) above → IsSpanOf conn rect width p (λ y. y ≡ p.y) beside
     → IsSpanOf conn rect width p (λ y. y ≡ p.y + 1) below
     → AreAround conn rect width p (IsAround (record { above = above; beside = beside; below = below }))
-spans_of conn rect width p above beside below up own down = record {
+spans_of {conn} {p} up own down = record {
   each = λ k around. elim around [
     | inl here ↦ up.each k here
     | inr further ↦ elim further [ inl here ↦ own.each k here | inr here ↦ down.each k here ]
@@ -61,10 +57,10 @@ spans_of conn rect width p above beside below up own down = record {
 }
 
 -- a span with no cell holds the neighbours in no row
-pub no_span : (conn : Conn) (rect : Rect) (width : ℕ) (p : Pixel) (rows : ℕ → Type 0) (span : Span)
+pub no_span : {conn : Conn} {rect : Rect} {width : ℕ} {p : Pixel} {rows : ℕ → Type 0} {span : RowSpan}
     → ((k : ℕ) → InSpan span k → ⊥) → ((q : Pixel) → IsInside rect.w rect.h q → rows q.y → ⊥)
     → IsSpanOf conn rect width p rows span
-no_span conn rect width p rows span none empty = record {
+no_span none empty = record {
   each = λ k here. absurd (none k here);
   every = λ q inside near row. absurd (empty q inside row);
 }
@@ -146,7 +142,7 @@ pixel_in_row rect width y left right k row from to low high =
     )
 
 module _ (conn : Conn) (rect : Rect) (width : ℕ) (p : Pixel) (inside : IsInside rect.w rect.h p)
-    (left right : ℕ) (columns : AreColumns conn rect (rect.x + p.x) left right) (span : Span) where
+    (left right : ℕ) (columns : AreColumns conn rect (rect.x + p.x) left right) (span : RowSpan) where
   -- the span of the row above
   pub span_above : (y : ℕ) → y + 1 ≡ p.y → span.first ≡ (rect.y + y) * width + left
       → span.end ≡ (rect.y + y) * width + right → IsSpanOf conn rect width p (λ r. r + 1 ≡ p.y) span
@@ -163,8 +159,7 @@ module _ (conn : Conn) (rect : Rect) (width : ℕ) (p : Pixel) (inside : IsInsid
               inr (columns_near conn rect p found.0 left right columns (omega (arith, found.3, row)) found.4 found.5),
             );
         every = λ q inside_q near row_q.
-            let at =
-            near_columns conn rect p q left right columns inside_q near (omega (arith, row_q)) in
+            let at = near_columns conn rect p q left right columns inside_q near (omega (arith, row_q)) in
             let same : q.y ≡ y = omega (arith, row_q, row) in
             let start : (rect.y + q.y) * width ≡ (rect.y + y) * width = ap (λ r. (rect.y + r) * width) same in
             (omega (arith, start, first, at.0), omega (arith, start, end, at.1));
@@ -186,14 +181,13 @@ module _ (conn : Conn) (rect : Rect) (width : ℕ) (p : Pixel) (inside : IsInsid
               inr (columns_near conn rect p found.0 left right columns (omega (arith, found.3)) found.4 found.5),
             );
         every = λ q inside_q near row_q.
-            let at =
-            near_columns conn rect p q left right columns inside_q near (omega (arith, row_q)) in
+            let at = near_columns conn rect p q left right columns inside_q near (omega (arith, row_q)) in
             let start : (rect.y + q.y) * width ≡ (rect.y + (p.y + 1)) * width = ap (λ r. (rect.y + r) * width) row_q in
             (omega (arith, start, first, at.0), omega (arith, start, end, at.1));
       }
 
 -- the span of the pixel's own row
-pub span_beside : (conn : Conn) (rect : Rect) (width : ℕ) (p : Pixel) (span : Span) → IsInside rect.w rect.h p
+pub span_beside : (conn : Conn) (rect : Rect) (width : ℕ) (p : Pixel) (span : RowSpan) → IsInside rect.w rect.h p
     → span.first ≡ (rect.y + p.y) * width + first_beside rect (rect.x + p.x)
     → span.end ≡ (rect.y + p.y) * width + end_beside rect (rect.x + p.x)
     → IsSpanOf conn rect width p (λ r. r ≡ p.y) span

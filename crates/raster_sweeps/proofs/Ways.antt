@@ -2,22 +2,18 @@
 -- those that begin at the last cell of the way.
 use Rattle.std.proofs.Common.{◌≡◌, ℕ, suc, ◌+◌, ◌-◌, ◌*◌, ◌/◌, ◌%◌, ◌<◌, ◌≤◌, ◌⊎◌, List, [], ◌∷◌, length, min, max}
 use Rattle.std.proofs.Common.{get_or, Bool, true, false, sym, ◌∙◌, ap, subst, arith, inl, inr, refl, length-set}
-use Rattle.std.specs.Prelude.{MatchBool}
-use Rattle.std.specs.List.{Contains}
+use Rattle.std.proofs.Common.{MatchBool, Contains}
 use Rattle.std.proofs.lemmas.Bool.{cases_eq, cases_order}
 use Rattle.std.proofs.lemmas.List.{get_or-set_same, get_or-set_other}
 use Rattle.std.proofs.lemmas.List.Elements.{Contains-append_cases, Contains-append_left, Contains-append_right}
-use Rattle.grid_core.specs.declared.conn.Conn.{Conn}
-use Rattle.grid_core.specs.declared.conn.Conn.TheVariants.{Four, Eight}
-use Rattle.grid_core.specs.declared.pixel.Pixel.{Pixel}
-use Rattle.grid_core.specs.declared.rect.Rect.{Rect}
-use Rattle.grid_core.specs.Neighbours.{AreNeighbours}
-use Rattle.grid_core.specs.Raster.{Raster, IsInside, IsFilled}
+use Rattle.grid_core.specs.{declared.conn.Conn.Conn, declared.conn.Conn.TheVariants.Four}
+use Rattle.grid_core.specs.{declared.conn.Conn.TheVariants.Eight, declared.pixel.Pixel.Pixel, declared.rect.Rect.Rect}
+use Rattle.grid_core.specs.{Neighbours.AreNeighbours, Raster.Raster, Raster.IsInside}
 use Rattle.raster_sweeps.specs.Corridors.{HasPassed, HasRisenAlone, IsBehind, IsFollowed, IsWay}
-use Rattle.raster_sweeps.specs.Growth.{AllWait, AreInside, CanClose, CanGrow, IsCellIn, cell_of}
+use Rattle.raster_sweeps.specs.Growth.{AllWait, AreInside, CanClose, IsCellIn, cell_of}
 use Rattle.raster_sweeps.specs.Spans.{AreAround, AreQueued, IsRaised}
-use Rattle.raster_sweeps.proofs.Grown.{fits_below, grown_same, grown_twice}
-use Rattle.raster_sweeps.proofs.Raised.{raised_rises}
+use Rattle.raster_sweeps.proofs.Growing.{grown_nowhere}
+use Rattle.raster_sweeps.proofs.{Grown.grown_twice, Raised.raised_rises}
 use Rattle.raster_sweeps.proofs.RaisedBy.{cell_in_image, raised_grown, raised_waits, single}
 use Rattle.raster_sweeps.proofs.Spans.{column_of_cell, near_beside, near_rows, row_of_cell}
 
@@ -83,33 +79,23 @@ module _ (rect : Rect) (width cell : ℕ) (p : Pixel) (columns : rect.x + rect.w
   }
 
 -- the cells of a way, and those to their right, are cells of the image
-pub way_in_image : (rect : Rect) (mask image : Raster) (width behind cell count : ℕ) (cells : List ℕ)
-    → CanClose rect mask image → width ≡ mask.width → cells ≡ image.cells → IsWay rect width behind cell count
-    → (behind + 1 < length cells) × (cell + 1 < length cells)
-way_in_image rect mask image width behind cell count cells close of_mask lent way =
-    let last : Pixel = record { x = way.last.x + 1; y = way.last.y } in
-    let here : Pixel = record { x = way.here.x + 1; y = way.here.y } in
-    let grow : CanGrow rect mask image = record { below = close.below; fits = close.fits } in
-    let same : width ≡ image.width = of_mask ∙ sym close.below.width in
-    let beside_last : IsCellIn rect width (behind + 1) =
-    (last, (omega (arith, way.column, way.right), way.last_inside.1), omega (arith, way.last_cell)) in
-    let beside_here : IsCellIn rect width (cell + 1) =
-    (here, (way.right, way.here_inside.1), omega (arith, way.here_cell)) in (
-      omega (
-        arith,
-        ap length lent,
-        cell_in_image rect mask image (behind + 1) grow close.filled
-            (subst (λ w. IsCellIn rect w (behind + 1)) same beside_last),
-      ),
-      omega (
-        arith,
-        ap length lent,
-        cell_in_image rect mask image (cell + 1) grow close.filled
-            (subst (λ w. IsCellIn rect w (cell + 1)) same beside_here),
-      ),
-    )
+pub way_in_image : {rect : Rect} {mask image : Raster} {behind cell count : ℕ} → CanClose rect mask image
+    → IsWay rect image.width behind cell count
+    → (behind + 1 < length image.cells) × (cell + 1 < length image.cells)
+way_in_image {rect} {image = image} {behind} {cell} close way =
+    let beside_last : IsCellIn rect image.width (behind + 1) = (
+      record { x = way.last.x + 1; y = way.last.y },
+      (omega (arith, way.column, way.right), way.last_inside.1),
+      omega (arith, way.last_cell),
+    ) in
+    let beside_here : IsCellIn rect image.width (cell + 1) = (
+      record { x = way.here.x + 1; y = way.here.y },
+      (way.right, way.here_inside.1),
+      omega (arith, way.here_cell),
+    ) in
+    (cell_in_image close beside_last, cell_in_image close beside_here)
 
-module _ (rect : Rect) (width behind cell count : ℕ) (way : IsWay rect width behind cell (suc count)) where
+module _ {rect : Rect} {width behind cell count : ℕ} (way : IsWay rect width behind cell (suc count)) where
   abbrev next : Pixel
   next = next_pixel way.last way.here
 
@@ -203,25 +189,18 @@ module _ (rect : Rect) (width behind cell count : ℕ) (way : IsWay rect width b
         )
       ]
 
-  -- the cell, and the cells on either side of the next one, are cells of the image
-  pub way_within : (mask image : Raster) → image.width ≡ width → CanGrow rect mask image → IsFilled image
-      → (cell < length image.cells) × (0 < cell + cell - behind) × (cell + cell - behind + 1 < length image.cells)
-  way_within mask image same grow filled =
-      let beside : Pixel = record { x = next.x + 1; y = next.y } in
-      let here : IsCellIn rect image.width cell =
-      subst (λ w. IsCellIn rect w cell) (sym same) (way.here, way.here_inside, way.here_cell) in
-      let right : IsCellIn rect image.width (cell + cell - behind + 1) =
-      subst (λ w. IsCellIn rect w (cell + cell - behind + 1)) (sym same)
-      (beside, (way.right, next_inside.1), omega (arith, next_cell)) in (
-        cell_in_image rect mask image cell grow filled here,
-        omega (arith, next_cell, way.left),
-        cell_in_image rect mask image (cell + cell - behind + 1) grow filled right,
-      )
+-- the cell, and the cells on either side of the next one, are cells of the image
+pub way_within : {rect : Rect} {mask image : Raster} {behind cell count : ℕ} → CanClose rect mask image
+    → IsWay rect image.width behind cell (suc count)
+    → (cell < length image.cells) × (0 < cell + cell - behind) × (cell + cell - behind + 1 < length image.cells)
+way_within close way =
+    let within = way_in_image close (way_on way) in
+    (omega (arith, within.0), omega (arith, next_cell way, way.left), within.1)
 
 -- ---- a step of it
 
-module _ (rect : Rect) (mask before : Raster) (after : List ℕ) (behind cell : ℕ)
-    (grow : CanGrow rect mask before) (filled : IsFilled before) (way : IsWay rect before.width behind cell 1)
+module _ {rect : Rect} {mask before : Raster} {after : List ℕ} {behind cell : ℕ}
+    (close : CanClose rect mask before) (way : IsWay rect before.width behind cell 1)
     (last : IsBehind mask before behind cell)
     (alone : HasRisenAlone mask.cells (get_or before.cells cell 0) before.cells after (cell + cell - behind)) where
   abbrev level : ℕ
@@ -247,12 +226,7 @@ module _ (rect : Rect) (mask before : Raster) (after : List ℕ) (behind cell : 
 
   -- the next cell is one of the image
   ahead_within : ahead < length before.cells
-  ahead_within =
-      cell_in_image rect mask before ahead grow filled (
-        next rect before.width behind cell 0 way,
-        next_inside rect before.width behind cell 0 way,
-        next_cell rect before.width behind cell 0 way,
-      )
+  ahead_within = cell_in_image close (next way, next_inside way, next_cell way)
 
   -- of these the next cell alone can rise
   near_stays : (conn : Conn) (k : ℕ) → IsNear conn k
@@ -260,7 +234,7 @@ module _ (rect : Rect) (mask before : Raster) (after : List ℕ) (behind cell : 
   near_stays conn k near =
       let q = near.0 in
       let width = before.width in
-      let found = rows_around rect width behind cell 0 way conn q near.3 in
+      let found = rows_around way conn q near.3 in
       let to_left : way.here.x ≤ q.x + 1 = found.0.1 in
       let to_right : q.x ≤ way.here.x + 1 = found.0.0 in
       elim found.1 [
@@ -274,8 +248,8 @@ module _ (rect : Rect) (mask before : Raster) (after : List ℕ) (behind cell : 
               inr (last.beside k (omega (arith, row, near.2, way.here_cell, to_left, to_right))
               (omega (arith, row, near.2, way.here_cell, to_left, to_right)))
           | inr on ↦
-              let row = beside_in_row rect width (next rect width behind cell 0 way) q on in
-              let place = next_cell rect width behind cell 0 way in
+              let row = beside_in_row rect width (next way) q on in
+              let place = next_cell way in
               elim (cases_order q.x way.here.x) [
                 | inl same ↦ inl (omega (arith, row, near.2, place, same))
                 | inr aside ↦ elim aside [
@@ -317,12 +291,7 @@ module _ (rect : Rect) (mask before : Raster) (after : List ℕ) (behind cell : 
     each = λ k. elim (cases_eq k ahead) [
       | inr other ↦ inl (elsewhere k other)
       | inl same ↦ inr (
-        (
-          next rect before.width behind cell 0 way,
-          next_inside rect before.width behind cell 0 way,
-          next_cell rect before.width behind cell 0 way ∙ sym same,
-          inr (next_near rect before.width behind cell 0 way conn),
-        ),
+        (next way, next_inside way, next_cell way ∙ sym same, inr (next_near way conn)),
         subst (λ i. get_or after i 0 ≡ max (get_or before.cells i 0) (min level (get_or mask.cells i 0))) (sym same)
             (omega (arith, at_ahead, alone.rises)),
       )
@@ -346,27 +315,19 @@ module _ (rect : Rect) (mask before : Raster) (after : List ℕ) (behind cell : 
   own = ap (λ i. get_or before.cells i 0) (sym way.here_cell)
 
   followed : (conn : Conn) → IsFollowed conn rect mask before drawn cell ahead
-  followed conn =
-      let fits = fits_below rect mask before grow.below grow.fits in
-      record {
-        grown =
-            raised_grown conn rect mask before after way.here (IsNear conn) level filled grow.below fits
-            way.here_inside (near_around conn) own (near_raised conn);
-        inside = (
-          next rect before.width behind cell 0 way,
-          next_inside rect before.width behind cell 0 way,
-          next_cell rect before.width behind cell 0 way,
-        );
-        waits = λ others waited.
-            raised_waits conn rect mask before after way.here (IsNear conn) level filled grow.below fits
-            way.here_inside (near_around conn) own (near_raised conn) others (ahead ∷ others) (near_queued conn others)
-            (subst (λ i. AllWait conn rect mask before (i ∷ others)) (sym way.here_cell) waited);
-      }
+  followed conn = record {
+    grown = raised_grown close way.here_inside (near_around conn) own (near_raised conn);
+    inside = (next way, next_inside way, next_cell way);
+    waits = λ others waited.
+        raised_waits close way.here_inside (near_around conn) own (near_raised conn) others
+        (ahead ∷ others) (near_queued conn others)
+        (subst (λ i. AllWait conn rect mask before (i ∷ others)) (sym way.here_cell) waited);
+  }
 
   -- nothing behind it can rise
   nothing_behind : IsBehind mask drawn cell ahead
   nothing_behind =
-      let rises = raised_rises (IsNear Four) mask.cells level before.cells after (near_raised Four) in
+      let rises = raised_rises (near_raised Four) in
       record {
         last = λ k from to. omega (arith, last.beside k from to, rises k, at_ahead);
         beside = λ k from to. elim (cases_order k ahead) [
@@ -394,29 +355,29 @@ module _ (rect : Rect) (mask before : Raster) (after : List ℕ) (behind cell : 
 -- ---- the whole way
 
 -- a cell that is not followed
-pub followed_nowhere : (conn : Conn) (rect : Rect) (mask image : Raster) (cell : ℕ) → CanClose rect mask image
+pub followed_nowhere : {conn : Conn} {rect : Rect} {mask image : Raster} {cell : ℕ} → CanClose rect mask image
     → IsCellIn rect image.width cell → IsFollowed conn rect mask image image cell cell
-followed_nowhere conn rect mask image cell close inside = record {
-  grown = grown_same conn rect mask image close.filled close.below (fits_below rect mask image close.below close.fits);
+followed_nowhere close inside = record {
+  grown = grown_nowhere close;
   inside = inside;
   waits = λ others waited. waited;
 }
 
 -- a cell is followed, and then the last one of its way
-pub followed_on : (conn : Conn) (rect : Rect) (mask before between after : Raster) (first middle last : ℕ)
+pub followed_on : {conn : Conn} {rect : Rect} {mask before between after : Raster} {first middle last : ℕ}
     → IsFollowed conn rect mask before between first middle → IsFollowed conn rect mask between after middle last
     → IsFollowed conn rect mask before after first last
-followed_on conn rect mask before between after first middle last one other = record {
-  grown = grown_twice conn rect mask before between after one.grown other.grown;
+followed_on one other = record {
+  grown = grown_twice one.grown other.grown;
   inside = other.inside;
   waits = λ others waited. other.waits others (one.waits others waited);
 }
 
 -- the last cell of the way lies inside, with those that waited
-pub with_last_inside : (conn : Conn) (rect : Rect) (mask before after : Raster) (first last : ℕ) (others : List ℕ)
+pub with_last_inside : {conn : Conn} {rect : Rect} {mask before after : Raster} {first last : ℕ} (others : List ℕ)
     → IsFollowed conn rect mask before after first last → AreInside rect before.width (first ∷ others)
     → AreInside rect after.width (last ∷ others)
-with_last_inside conn rect mask before after first last others followed inside i waits =
+with_last_inside {rect} {after} {first} {last} others followed inside i waits =
     elim (Contains-append_cases (last ∷ []) others i waits) [
       | inl here ↦ subst (IsCellIn rect after.width) (single last i here) followed.inside
       | inr later ↦

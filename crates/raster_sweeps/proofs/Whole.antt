@@ -1,11 +1,7 @@
 -- A whole image is the rectangle of all its pixels.
 use Rattle.std.proofs.Common.{◌≡◌, ℕ, arith, subst}
-use Rattle.grid_core.specs.declared.conn.Conn.{Conn}
-use Rattle.grid_core.specs.declared.pixel.Pixel.{Pixel}
-use Rattle.grid_core.specs.declared.rect.Rect.{Rect}
-use Rattle.grid_core.specs.Path.{Domain}
-use Rattle.grid_core.specs.Reconstruction.{IsReconstruction}
-use Rattle.grid_core.specs.Rects.{domain_in, in_image, part}
+use Rattle.grid_core.specs.{declared.conn.Conn.Conn, declared.pixel.Pixel.Pixel, declared.rect.Rect.Rect, Path.Domain}
+use Rattle.grid_core.specs.{Reconstruction.IsReconstruction, Rects.domain_in, Rects.in_image, Rects.part}
 use Rattle.grid_core.proofs.Pixels.{same_pixel}
 
 -- a rectangle of this width and height from the upper left corner

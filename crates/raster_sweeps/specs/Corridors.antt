@@ -1,8 +1,6 @@
 -- The way of a level along a column, from cell to cell. Only private functions have these words in their contracts.
 use Rattle.std.specs.Prelude.{◌≡◌, ℕ, ◌+◌, ◌-◌, ◌<◌, ◌≤◌, ◌⊎◌, List, ◌∷◌, min, slice_index, slice_set}
-use Rattle.grid_core.specs.declared.conn.Conn.{Conn}
-use Rattle.grid_core.specs.declared.pixel.Pixel.{Pixel}
-use Rattle.grid_core.specs.declared.rect.Rect.{Rect}
+use Rattle.grid_core.specs.{declared.conn.Conn.Conn, declared.pixel.Pixel.Pixel, declared.rect.Rect.Rect}
 use Rattle.grid_core.specs.Raster.{Raster, IsInside}
 use Rattle.raster_sweeps.specs.Growth.{AllWait, IsCellIn, IsGrown, cell_of}
 

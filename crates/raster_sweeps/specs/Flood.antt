@@ -1,12 +1,8 @@
 -- The flood of a mask from a marker, one level after another. Only private functions have these words in their
 -- contracts; what a reconstruction is stands in `specs/Reconstruction.antt` of `grid_core`.
-use Rattle.std.specs.Prelude.{◌≡◌, ℕ, ◌-◌, ◌*◌, ◌<◌, ◌≤◌, ◌⊎◌, List, length}
-use Rattle.std.specs.List.{Contains, sum_by}
-use Rattle.grid_core.specs.declared.conn.Conn.{Conn}
-use Rattle.grid_core.specs.declared.pixel.Pixel.{Pixel}
-use Rattle.grid_core.specs.Neighbours.{AreNeighbours}
-use Rattle.grid_core.specs.Path.{Domain, domain_of, Inside, Reaches}
-use Rattle.grid_core.specs.Raster.{Raster, index_of, value_at}
+use Rattle.std.specs.Prelude.{◌≡◌, ℕ, ◌-◌, ◌*◌, ◌<◌, ◌≤◌, ◌⊎◌, List, length, Contains, sum_by}
+use Rattle.grid_core.specs.{declared.conn.Conn.Conn, declared.pixel.Pixel.Pixel, Neighbours.AreNeighbours, Path.Domain}
+use Rattle.grid_core.specs.{Path.domain_of, Path.Inside, Path.Reaches, Raster.Raster, Raster.index_of, Raster.value_at}
 
 -- the image has a value for each pixel of the domain
 pub record IsImageOn (d : Domain) (image : Raster) : Type 0 where

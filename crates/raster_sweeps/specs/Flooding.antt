@@ -1,8 +1,6 @@
 -- The flood of what is reconstructed, as the private functions carry it from one level to the next.
 use Rattle.std.specs.Prelude.{ℕ, ◌*◌, List}
-use Rattle.grid_core.specs.declared.pixel.Pixel.{Pixel}
-use Rattle.grid_core.specs.Path.{domain_of}
-use Rattle.grid_core.specs.Raster.{Raster, IsBelow}
+use Rattle.grid_core.specs.{declared.pixel.Pixel.Pixel, Path.domain_of, Raster.Raster, Raster.IsBelow}
 use Rattle.raster_sweeps.specs.declared.thresholds.Reconstruction.{Reconstruction}
 use Rattle.raster_sweeps.specs.Flood.{IsImageOn, IsLevelDone, IsSeeding}
 

@@ -1,12 +1,9 @@
 -- Growing an image in place, inside a rectangle. Only the steps of growing have these words in their contracts, but for
 -- `CanGrow`, and for open pairs, of which `specs/OpenBounds.antt` speaks. What a reconstruction is stands in
 -- `grid_core`'s `specs/Reconstruction.antt`, and what a rectangle is in `specs/Rects.antt` there.
-use Rattle.std.specs.Prelude.{◌≡◌, ◌≢◌, ℕ, ◌+◌, ◌<◌, ◌≤◌, ◌⊎◌, Bool, IsTrue, List, [], ◌∷◌, length}
-use Rattle.std.specs.Prelude.{slice_index}
-use Rattle.std.specs.List.{Contains}
-use Rattle.grid_core.specs.declared.conn.Conn.{Conn}
-use Rattle.grid_core.specs.declared.pixel.Pixel.{Pixel}
-use Rattle.grid_core.specs.declared.rect.Rect.{Rect}
+use Rattle.std.specs.Prelude.{◌≡◌, ◌≢◌, ℕ, ◌+◌, ◌<◌, ◌≤◌, ◌⊎◌, Bool, IsTrue, List, [], ◌∷◌, length, slice_index}
+use Rattle.std.specs.Prelude.{Contains}
+use Rattle.grid_core.specs.{declared.conn.Conn.Conn, declared.pixel.Pixel.Pixel, declared.rect.Rect.Rect}
 use Rattle.grid_core.specs.Raster.{Raster, IsInside, IsBelow, IsFilled, IsImageSize, headroom, index_of, value_at}
 use Rattle.grid_core.specs.Reconstruction.{IsClosed, IsLawful, IsOpen}
 use Rattle.grid_core.specs.Rects.{IsInRect, RectFits, domain_in, in_image, part}
@@ -99,15 +96,6 @@ pub record AreSomeOpen (conn : Conn) (rect : Rect) (mask image : Raster) (waitin
 pub record IsGrownUp (conn : Conn) (rect : Rect) (mask before after : Raster) : Type 0 where
   pub grown : IsGrown conn rect mask before after
   pub closed : IsClosedIn conn rect mask after
-
--- the image has grown inside the rectangle. The queue has cells of the rectangle alone, and if there was room for all,
--- the first pixel of each of its open pairs; where there was not, a cell has risen
-pub record IsQueueFilled (conn : Conn) (rect : Rect) (mask before after : Raster) (room : Bool) (waiting : List ℕ)
-    : Type 0 where
-  pub grown : IsGrown conn rect mask before after
-  pub inside : AreInside rect after.width waiting
-  pub waits : IsTrue room → AllWait conn rect mask after waiting
-  pub rose : IsTrue room ⊎ (headroom after.cells < headroom before.cells)
 
 -- the image has grown inside the rectangle, and each open pair there waits, if there was room for all of them
 pub record IsScannedInto (conn : Conn) (rect : Rect) (mask before after : Raster) (room : Bool) (waiting : List ℕ)

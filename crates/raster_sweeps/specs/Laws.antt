@@ -1,13 +1,9 @@
 -- Laws of the rectangles whose open pairs begin within bounds, as statements. Public functions have them as their
 -- contracts.
 use Rattle.std.specs.Prelude.{◌≡◌, ℕ}
-use Rattle.grid_core.specs.declared.bounds.Bounds.{Bounds}
-use Rattle.grid_core.specs.declared.conn.Conn.{Conn}
-use Rattle.grid_core.specs.declared.pixel.Pixel.{Pixel}
-use Rattle.grid_core.specs.declared.rect.Rect.{Rect}
+use Rattle.grid_core.specs.{declared.bounds.Bounds.Bounds, declared.conn.Conn.Conn, declared.pixel.Pixel.Pixel}
+use Rattle.grid_core.specs.{declared.rect.Rect.Rect, Reconstruction.IsReconstruction, Rects.domain_in, Rects.part}
 use Rattle.grid_core.specs.Raster.{Raster, IsInside, value_at}
-use Rattle.grid_core.specs.Reconstruction.{IsReconstruction}
-use Rattle.grid_core.specs.Rects.{domain_in, part}
 use Rattle.raster_sweeps.specs.OpenBounds.{OpenPairsBeginIn}
 
 -- where the image is in the rectangle the reconstruction of the mask there, from whatever marker, no pair is open in

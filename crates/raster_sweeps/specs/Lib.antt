@@ -3,6 +3,8 @@ pub use Rattle.grid_core.specs.Path
 pub use Rattle.grid_core.specs.Raster
 pub use Rattle.grid_core.specs.Reconstruction
 pub use Rattle.grid_core.specs.Rects
+pub use Rattle.row_scans.specs.Rows
+pub use Rattle.row_scans.specs.Waiting
 pub mod Corridors
 pub mod Flood
 pub mod Flooding
@@ -11,6 +13,4 @@ pub mod Laws
 pub mod OpenBounds
 pub mod Regrowth
 pub mod RowPairs
-pub mod RowRaises
 pub mod Spans
-pub mod Waiting

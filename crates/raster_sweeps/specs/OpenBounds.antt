@@ -1,13 +1,9 @@
 -- Rectangles of which, but for the pixels within some bounds, nothing is left to grow. The bounds are counted in the
 -- image. Public functions have these words in their contracts, but for the last.
 use Rattle.std.specs.Prelude.{◌≢◌, ◌⊎◌, Option, IfSome}
-use Rattle.grid_core.specs.declared.bounds.Bounds.{Bounds}
-use Rattle.grid_core.specs.declared.conn.Conn.{Conn}
-use Rattle.grid_core.specs.declared.pixel.Pixel.{Pixel}
-use Rattle.grid_core.specs.declared.rect.Rect.{Rect}
-use Rattle.grid_core.specs.Bounds.{IsInBounds, LieIn}
-use Rattle.grid_core.specs.Raster.{Raster, value_at}
-use Rattle.grid_core.specs.Rects.{IsInRect, in_image}
+use Rattle.grid_core.specs.{declared.bounds.Bounds.Bounds, declared.conn.Conn.Conn, declared.pixel.Pixel.Pixel}
+use Rattle.grid_core.specs.{declared.rect.Rect.Rect, Bounds.IsInBounds, Bounds.LieIn, Raster.Raster, Raster.value_at}
+use Rattle.grid_core.specs.{Rects.IsInRect, Rects.in_image}
 use Rattle.raster_sweeps.specs.Growth.{IsClosedIn, IsGrown, IsOpenIn}
 
 -- each open pair of the rectangle has its first pixel within the bounds

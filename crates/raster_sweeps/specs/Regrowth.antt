@@ -1,12 +1,9 @@
 -- What growing a whole image gives, and what growing inside a rectangle leaves. Public functions have these words in
 -- their contracts.
 use Rattle.std.specs.Prelude.{◌≡◌}
-use Rattle.grid_core.specs.declared.conn.Conn.{Conn}
-use Rattle.grid_core.specs.declared.rect.Rect.{Rect}
-use Rattle.grid_core.specs.Path.{domain_of}
+use Rattle.grid_core.specs.{declared.conn.Conn.Conn, declared.rect.Rect.Rect, Path.domain_of}
+use Rattle.grid_core.specs.{Reconstruction.IsReconstruction, Rects.IsPatch, Rects.domain_in, Rects.part}
 use Rattle.grid_core.specs.Raster.{Raster, IsBelow, IsFilled, value_at}
-use Rattle.grid_core.specs.Reconstruction.{IsReconstruction}
-use Rattle.grid_core.specs.Rects.{IsPatch, domain_in, part}
 
 -- the image is the reconstruction of the mask from the marker: it has the mask's size and a value for each pixel, is
 -- below the mask, and its values are those of the reconstruction

@@ -1,16 +1,13 @@
--- Pairs of pixels in one row or in two rows that touch, by their columns. Only private functions and those of `steps`
--- have these words in their contracts; which pixels are neighbours stands in `specs/Neighbours.antt` of `grid_core`.
-use Rattle.std.specs.Prelude.{◌≡◌, ℕ, ◌+◌, ◌<◌, ◌≤◌, ◌⊎◌, Bool, IsTrue, List, length, slice_index, min}
-use Rattle.std.specs.List.{Contains}
-use Rattle.grid_core.specs.declared.conn.Conn.{Conn}
-use Rattle.grid_core.specs.declared.conn.Conn.TheVariants.{Four, Eight}
-use Rattle.grid_core.specs.declared.pixel.Pixel.{Pixel}
-use Rattle.grid_core.specs.declared.rect.Rect.{Rect}
-use Rattle.grid_core.specs.Neighbours.{apart, AreNeighbours}
-use Rattle.grid_core.specs.Path.{Domain, Inside}
+-- Rows of a rectangle, and the pairs of pixels in one of them or in two that touch. Only private functions and those of
+-- `steps` have these words in their contracts; which pixels are neighbours stands in `specs/Neighbours.antt` of
+-- `grid_core`.
+use Rattle.std.specs.Prelude.{◌≡◌, ℕ, ◌+◌, ◌<◌, ◌≤◌, Bool, List, min}
+use Rattle.grid_core.specs.{declared.pixel.Pixel.Pixel, declared.conn.Conn.Conn, declared.rect.Rect.Rect}
+use Rattle.grid_core.specs.{Neighbours.apart, Neighbours.AreNeighbours, Path.Domain, Path.Inside}
 use Rattle.grid_core.specs.Raster.{Raster, IsBelow, IsFilled, IsImageSize, IsInside, max_pixels, value_at}
 use Rattle.grid_core.specs.Rects.{RectFits, domain_in, part}
-use Rattle.raster_sweeps.specs.Growth.{IsOpenIn, cell_of}
+use Rattle.row_scans.specs.Rows.{HaveJoined}
+use Rattle.raster_sweeps.specs.Growth.{IsGrown, IsOpenIn, cell_of}
 
 -- the image may grow inside the rectangle, as `CanClose` says, and the rectangle has this row
 pub record CanGrowRow (rect : Rect) (mask image : Raster) (y : ℕ) : Type 0 where
@@ -36,35 +33,6 @@ pub record CanGrowAcross (rect : Rect) (mask image : Raster) (y z : ℕ) : Type 
 abbrev pub IsDark : Rect → Raster → ℕ → Type 0
 IsDark rect image y = (p : Pixel) → IsInside rect.w rect.h p → p.y ≡ y → part rect (value_at image) p ≡ 0
 
--- none of the values is greater, and it is one of them where it is above 0
-pub record IsGreatest (values : List ℕ) (greatest : ℕ) : Type 0 where
-  pub each : (k : ℕ) → k < length values → slice_index values k ≤ greatest
-  pub some : (greatest ≡ 0) ⊎ ((k : ℕ) × (k < length values) × (slice_index values k ≡ greatest))
-
--- the rows are equally long
-pub record AreRows (raising limits raised : List ℕ) : Type 0 where
-  pub from : length raising ≡ length raised
-  pub mask : length limits ≡ length raised
-
--- and not empty
-pub record AreFullRows (raising limits raised : List ℕ) : Type 0 where
-  pub some : 0 < length raised
-  pub from : length raising ≡ length raised
-  pub mask : length limits ≡ length raised
-
--- the rows are equally long, and their cells begin at this one
-pub record AreRowsAt (first : ℕ) (raising limits raised : List ℕ) : Type 0 where
-  pub from : length raising ≡ length raised
-  pub mask : length limits ≡ length raised
-  pub cells : first + length raised ≤ max_pixels
-
--- and not empty
-pub record AreFullRowsAt (first : ℕ) (raising limits raised : List ℕ) : Type 0 where
-  pub some : 0 < length raised
-  pub from : length raising ≡ length raised
-  pub mask : length limits ≡ length raised
-  pub cells : first + length raised ≤ max_pixels
-
 -- the cell is the first of the rectangle's row
 pub record IsFirstOfRow (rect : Rect) (width y cell : ℕ) : Type 0 where
   pub place : cell ≡ cell_of rect width (record { x = 0; y = y })
@@ -77,26 +45,6 @@ IsFromTo y z a b = (a ≡ y) × (b ≡ z)
 -- the upper of the two rows is this one
 abbrev pub IsUpper : ℕ → ℕ → ℕ → Type 0
 IsUpper y a b = min a b ≡ y
-
--- the pixels at these columns of two rows that touch are neighbours
-abbrev pub AreBeside : Conn → ℕ → ℕ → Type 0
-AreBeside Four a b = a ≡ b
-AreBeside Eight a b = apart a b ≤ 1
-
--- the columns are next to one another
-abbrev pub AreAside : ℕ → ℕ → Type 0
-AreAside a b = apart a b ≡ 1
-
--- no pixel of the first row raises the one in the same column of the other, as far as the other's mask lets it
-abbrev pub IsClosedStraight : List ℕ → List ℕ → List ℕ → Type 0
-IsClosedStraight from mask to =
-    (k : ℕ) → k < length to → min (slice_index from k) (slice_index mask k) ≤ slice_index to k
-
--- no pixel of the first row raises a pixel of the other in a column beside it, as far as the other's mask lets it
-abbrev pub IsClosedTo : (ℕ → ℕ → Type 0) → List ℕ → List ℕ → List ℕ → Type 0
-IsClosedTo IsBeside from mask to =
-    (a b : ℕ) → a < length to → b < length to → IsBeside a b
-    → min (slice_index from a) (slice_index mask b) ≤ slice_index to b
 
 -- of the pairs of the rectangle whose two rows, counted from its top, are such none is open
 abbrev pub NoneOpen : Conn → Rect → Raster → Raster → (ℕ → ℕ → Type 0) → Type 0
@@ -131,25 +79,6 @@ abbrev pub IsRowClosedIn : Conn → Rect → Raster → Raster → ℕ → Type 
 IsRowClosedIn conn rect mask image =
     IsRowClosed (domain_in rect conn) (part rect (value_at mask)) (part rect (value_at image))
 
--- the cell is that of a pixel of the first row, whose cells begin at `first`, that raises the one in the same column of
--- the other, as far as the other's mask lets it
-pub record RaisesStraight (first : ℕ) (from mask to : List ℕ) (cell : ℕ) : Type 0 where
-  pub column : ℕ
-  pub within : column < length to
-  pub lower : slice_index to column < min (slice_index from column) (slice_index mask column)
-  pub place : first + column ≡ cell
-
--- the cell is that of a pixel of the first row, whose cells begin at `first`, that raises one of the other in a column
--- beside it, as far as the other's mask lets it
-pub record RaisesTo (IsBeside : ℕ → ℕ → Type 0) (first : ℕ) (from mask to : List ℕ) (cell : ℕ) : Type 0 where
-  pub column : ℕ
-  pub other : ℕ
-  pub within : column < length to
-  pub other_within : other < length to
-  pub beside : IsBeside column other
-  pub lower : slice_index to other < min (slice_index from column) (slice_index mask other)
-  pub place : first + column ≡ cell
-
 -- the cell is that of the first pixel of an open pair whose two rows, counted from the rectangle's top, are such
 pub record IsOpenCell (conn : Conn) (rect : Rect) (mask image : Raster) (AreRows : ℕ → ℕ → Type 0) (cell : ℕ) : Type 0
   where
@@ -169,14 +98,12 @@ pub record IsOpenFrom (conn : Conn) (rect : Rect) (mask image : Raster) (IsFrom 
     pub from : IsFrom pixel
     pub place : cell_of rect image.width pixel ≡ cell
 
--- such cells have joined the queue: it has what it had, each cell that is new is such a cell, and if there was room
--- then each such cell is in it; else it is not empty
-pub record HaveJoined (IsSuch : ℕ → Type 0) (room : Bool) (old new : List ℕ) : Type 0 where
-  pub kept : (i : ℕ) → Contains old i → Contains new i
-  pub each : (i : ℕ) → Contains new i → Contains old i ⊎ IsSuch i
-  pub every : IsTrue room → (i : ℕ) → IsSuch i → Contains new i
-  pub full : IsTrue room ⊎ (0 < length new)
-
 -- the cells of the pixels of this kind that are the first of an open pair have joined the queue
 abbrev pub AreJoined : Conn → Rect → Raster → Raster → (Pixel → Type 0) → Bool → List ℕ → List ℕ → Type 0
 AreJoined conn rect mask image IsFrom room old new = HaveJoined (IsOpenFrom conn rect mask image IsFrom) room old new
+
+-- an image has grown inside the rectangle, in no row but this one
+pub record IsRowGrown (conn : Conn) (rect : Rect) (mask : Raster) (y : ℕ) (before after : Raster) : Type 0 where
+  pub grown : IsGrown conn rect mask before after
+  pub others : (p : Pixel) → IsInside rect.w rect.h p → (p.y ≡ y → ⊥)
+      → part rect (value_at after) p ≡ part rect (value_at before) p

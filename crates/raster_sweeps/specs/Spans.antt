@@ -1,20 +1,15 @@
 -- The cells around a cell, and what raising them by it does. Only private functions have these words in their
 -- contracts.
 use Rattle.std.specs.Prelude.{◌≡◌, ℕ, ◌+◌, ◌<◌, ◌≤◌, ◌⊎◌, List, Option, None, Some, length, min, max, slice_index}
-use Rattle.std.specs.List.{Contains}
-use Rattle.grid_core.specs.declared.conn.Conn.{Conn}
-use Rattle.grid_core.specs.declared.pixel.Pixel.{Pixel}
-use Rattle.grid_core.specs.declared.rect.Rect.{Rect}
-use Rattle.grid_core.specs.Neighbours.{AreNeighbours}
-use Rattle.grid_core.specs.Raster.{IsInside, headroom}
-use Rattle.raster_sweeps.specs.declared.neighbourhood.Cross.{Cross}
-use Rattle.raster_sweeps.specs.declared.neighbourhood.Place.{Place}
-use Rattle.raster_sweeps.specs.declared.neighbourhood.Span.{Span}
-use Rattle.raster_sweeps.specs.declared.neighbourhood.Spans.{Spans}
+use Rattle.std.specs.Prelude.{Contains}
+use Rattle.grid_core.specs.{declared.conn.Conn.Conn, declared.pixel.Pixel.Pixel, declared.rect.Rect.Rect}
+use Rattle.grid_core.specs.{Neighbours.AreNeighbours, Raster.IsInside, Raster.headroom}
+use Rattle.raster_sweeps.specs.{declared.neighbourhood.Cross.Cross, declared.neighbourhood.Neighbour.Neighbour}
+use Rattle.raster_sweeps.specs.{declared.neighbourhood.RowSpan.RowSpan, declared.neighbourhood.Spans.Spans}
 use Rattle.raster_sweeps.specs.Growth.{cell_of}
 
 -- the cell is in the span
-abbrev pub InSpan : Span → ℕ → Type 0
+abbrev pub InSpan : RowSpan → ℕ → Type 0
 InSpan span k = (span.first ≤ k) × (k < span.end)
 
 -- the cell is in one of the three spans
@@ -22,7 +17,7 @@ abbrev pub IsAround : Spans → ℕ → Type 0
 IsAround spans k = InSpan spans.above k ⊎ (InSpan spans.beside k ⊎ InSpan spans.below k)
 
 -- it is the cell of the place that there is
-abbrev pub IsCell : Option Place → ℕ → Type 0
+abbrev pub IsCell : Option Neighbour → ℕ → Type 0
 IsCell None k = ⊥
 IsCell (Some place) k = k ≡ place.cell
 

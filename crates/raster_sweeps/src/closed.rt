@@ -4,11 +4,11 @@ ghost use Rattle.std.specs.Prelude.{◌≡◌, ◌<◌, ◌↔◌, IsTrue};
 ghost use Rattle.grid_core.specs.Path.{domain_of};
 ghost use Rattle.grid_core.specs.Raster.{value_at};
 ghost use Rattle.grid_core.specs.Reconstruction.{IsClosed};
-ghost use Rattle.raster_sweeps.specs.Growth.{FitsBoth, IsClosedIn};
+ghost use Rattle.raster_sweeps.specs.Growth.{FitsBoth};
 ghost use Rattle.raster_sweeps.specs.RowPairs.{IsRowClosedIn};
 
-use crate::rows::{is_closed_aslant, is_closed_to};
 use grid_core::{Conn, Grid, Rect};
+use row_scans::{is_closed_along, is_closed_to};
 
 /// Whether no pixel of the image can raise a neighbour further, as far as the mask lets it. It takes no memory.
 pub fn is_closed(mask: &Grid, image: &Grid, conn: Conn) -> bool
@@ -22,16 +22,8 @@ pub fn is_closed(mask: &Grid, image: &Grid, conn: Conn) -> bool
         w: mask.width(),
         h: mask.height(),
     };
-    is_closed_in(mask, image, whole, conn)
-}
-
-// Whether no pixel of the rectangle can raise a neighbour in it.
-fn is_closed_in(mask: &Grid, image: &Grid, rect: Rect, conn: Conn) -> bool
-    requires { FitsBoth rect mask.now image.now }
-    ensures { IsTrue result ↔ IsClosedIn conn rect mask.now image.now }
-{
-    for y in 0..rect.h {
-        if !is_row_closed(mask, image, rect, y, conn) {
+    for y in 0..whole.h {
+        if !is_row_closed(mask, image, whole, y, conn) {
             return false;
         }
     }
@@ -47,7 +39,7 @@ fn is_row_closed(mask: &Grid, image: &Grid, rect: Rect, y: u32, conn: Conn) -> b
 {
     let mask_row = mask.row_in(rect, y);
     let row = image.row_in(rect, y);
-    if !is_closed_aslant(row, mask_row, row) {
+    if !is_closed_along(row, mask_row) {
         return false;
     }
     if y + 1 == rect.h {

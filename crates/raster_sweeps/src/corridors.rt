@@ -8,8 +8,8 @@ ghost use Rattle.raster_sweeps.specs.Corridors.{IsWay, NoneRises};
 ghost use Rattle.raster_sweeps.specs.Growth.{CanClose, IsCellIn, rows_of};
 
 use crate::size::Size;
-use crate::waiting::Waiting;
 use grid_core::Rect;
+use row_scans::Waiting;
 
 /// Lets a cell raise the next one of its column, and each that rises so the next one, as long as no other of the eight
 /// cells around it can be raised by it. It is tried where no other cell waits near by.

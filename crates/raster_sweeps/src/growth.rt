@@ -1,20 +1,20 @@
 //! Growing in place: until no pair of neighbours is open (Vincent, "Morphological Grayscale Reconstruction in Image
 //! Analysis", 1993).
 
-ghost use Rattle.std.specs.Prelude.{◌≡◌, ◌<◌, [], IfOk, OnErr, OnOk, false};
-ghost use Rattle.grid_core.specs.Raster.{IsBelow};
+ghost use Rattle.std.specs.Prelude.{◌≡◌, ◌<◌, ◌⊎◌, [], IfOk, IsTrue, OnErr, OnOk, false};
+ghost use Rattle.grid_core.specs.Raster.{IsBelow, headroom};
 ghost use Rattle.grid_core.specs.Bounds.{LieIn};
-ghost use Rattle.raster_sweeps.specs.Growth.{AreSomeOpen, IsGrownUp, IsQueueFilled, CanClose, CanGrow, rows_of};
+ghost use Rattle.raster_sweeps.specs.Growth.{AreSomeOpen, CanClose, CanGrow, IsGrownUp, IsScannedInto, rows_of};
 ghost use Rattle.raster_sweeps.specs.OpenBounds.{IsRaisedFrom, OpenPairsBeginIn, RiseWithin};
 ghost use Rattle.raster_sweeps.specs.Regrowth.{IsRegrown, IsRegrownIn};
 
-use crate::open_pairs::queue_open_pairs;
+use crate::open_pairs::{queue_all, queue_open_pairs};
 use crate::raising::{drain, drain_within, spread};
 use crate::scans::{scan_down, scan_up};
 use crate::size::Size;
-use crate::waiting::{STRIP_ROWS, Waiting};
 use grid_core::laws::cells_given_back;
 use grid_core::{Bounds, Conn, Grid, Memory, Rect};
+use row_scans::Waiting;
 use std::alloc::Global;
 
 /// The memory that growing needs: room for the cells whose neighbours are still to be raised.
@@ -62,8 +62,8 @@ pub fn grow_within(room: &mut Room, mask: &Grid, image: &mut Grid, rect: Rect, c
 ///
 /// It answers bounds within which these lie and every pixel that rises.
 ///
-/// The pixels within the bounds and those around them are checked, and no others, and a queue spreads from these. Where
-/// it is full, and where the bounds are those of the whole rectangle, it goes on with the scans. It takes no memory.
+/// A queue spreads from the pixels within the bounds, and no others are looked at first. Where it is full, and where
+/// the bounds are those of the whole rectangle, it goes on with the scans. It takes no memory.
 pub fn grow_from_bounds(
     room: &mut Room,
     mask: &Grid,
@@ -117,9 +117,7 @@ pub fn grow_in_place(alloc: Global, mask: &Grid, image: &mut Grid, conn: Conn) -
 {
     cells_given_back();
     let size = Size::of(image);
-    let strips = size.h.div_ceil(STRIP_ROWS) as usize;
-    let room = (size.w as usize * STRIP_ROWS as usize / 8).max(1024);
-    let mut waiting = Waiting::new(alloc, strips, room)?;
+    let mut waiting = Waiting::for_rows(alloc, size.w, size.h)?;
     let whole = Rect {
         x: 0,
         y: 0,
@@ -159,13 +157,11 @@ fn raise_from_bounds(
     if bounds.is_empty() {
         return Some(bounds);
     }
-    let whole = Bounds::of(rect);
-    if bounds == whole {
+    if bounds == Bounds::of(rect) {
         return None;
     }
     waiting.clear();
-    let near = bounds.wider().intersection(whole).rect();
-    if !queue_open_pairs(mask, image, size, near, conn, waiting) {
+    if !queue_all(size, bounds.rect(), waiting) {
         return None;
     }
     drain_within(mask, image, size, rect, conn, waiting, bounds)
@@ -202,8 +198,9 @@ fn fill(
     waiting: &mut Waiting,
 ) -> bool
     requires { CanClose rect (rows_of size mask.now) (rows_of size image.old) }
-    ensures { IsQueueFilled conn rect (rows_of size mask.now) (rows_of size image.old)
+    ensures scanned { IsScannedInto conn rect (rows_of size mask.now) (rows_of size image.old)
         (rows_of size image.new) result waiting.new }
+    ensures rose { IsTrue result ⊎ (headroom image.new < headroom image.old) }
 {
     waiting.clear();
     scan_down(mask, image, size, rect, conn);
@@ -226,8 +223,9 @@ fn check(
 ) -> bool
     requires close { CanClose rect (rows_of size mask.now) (rows_of size image.old) }
     requires empty { waiting.old ≡ [] }
-    ensures { IsQueueFilled conn rect (rows_of size mask.now) (rows_of size image.old)
+    ensures scanned { IsScannedInto conn rect (rows_of size mask.now) (rows_of size image.old)
         (rows_of size image.new) result waiting.new }
+    ensures rose { IsTrue result ⊎ (headroom image.new < headroom image.old) }
 {
     if queue_open_pairs(mask, image, size, rect, conn, waiting) {
         return true;
@@ -247,8 +245,9 @@ fn spread_first(
 )
     requires close { CanClose rect (rows_of size mask.now) (rows_of size image.old) }
     requires open { AreSomeOpen conn rect (rows_of size mask.now) (rows_of size image.old) waiting.old }
-    ensures { IsQueueFilled conn rect (rows_of size mask.now) (rows_of size image.old)
+    ensures scanned { IsScannedInto conn rect (rows_of size mask.now) (rows_of size image.old)
         (rows_of size image.new) false waiting.new }
+    ensures rose { headroom image.new < headroom image.old }
 {
     if let Some(cell) = waiting.pop() {
         let _room = spread(mask, image, size, rect, conn, waiting, cell);

@@ -21,7 +21,8 @@
 //! where it leaves every pixel outside as it was. That takes no memory: the caller lends it a [`Room`], and may use
 //! that again. [`grow_from_bounds`] looks only within bounds, where no pixel outside of them can raise a neighbour.
 //!
-//! A [`Grower`] is what grows a whole image for those above, who need not know how many threads it takes.
+//! A [`Grower`] is what grows a whole image for those above, who need not know how many threads it takes. It also makes
+//! memory for images while something else is done ([`Blanks`]).
 //!
 //! [`steps`] has what these are made of, on whole rows of cells, which can be given away.
 //!
@@ -32,23 +33,21 @@
 //! `specs/Reconstruction.antt` what a reconstruction is, and its `specs/Rects.antt` what a rectangle is; and then at
 //! [`grow_within`].
 
+mod blanks;
 mod closed;
 mod corridors;
 mod grower;
 mod growth;
 pub mod laws;
-mod lists;
 mod neighbourhood;
 mod open_pairs;
 mod raising;
-mod row_raises;
-mod rows;
 mod scans;
 mod size;
 pub mod steps;
 mod thresholds;
-mod waiting;
 
+pub use blanks::Blanks;
 pub use closed::is_closed;
 pub use grower::{Grower, OneThread};
 pub use growth::{Room, grow, grow_from_bounds, grow_in_place, grow_within};

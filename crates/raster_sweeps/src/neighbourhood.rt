@@ -8,9 +8,9 @@ ghost use Rattle.raster_sweeps.specs.Spans.{AreAround, IsAround, IsOnCross};
 
 use grid_core::Rect;
 
-/// A cell, and its row, counted from the rectangle's first.
+/// A cell beside another, and its row, counted from the rectangle's first.
 #[derive(Clone, Copy)]
-pub struct Place {
+pub struct Neighbour {
     pub cell: u32,
     pub row: u32,
 }
@@ -18,15 +18,15 @@ pub struct Place {
 /// The four neighbours of a cell, as far as there are.
 #[derive(Clone, Copy)]
 pub struct Cross {
-    pub above: Option<Place>,
-    pub left: Option<Place>,
-    pub right: Option<Place>,
-    pub below: Option<Place>,
+    pub above: Option<Neighbour>,
+    pub left: Option<Neighbour>,
+    pub right: Option<Neighbour>,
+    pub below: Option<Neighbour>,
 }
 
 /// The cells from `first` to before `end`, all in one row, which is counted from the rectangle's first.
 #[derive(Clone, Copy)]
-pub struct Span {
+pub struct RowSpan {
     pub first: u32,
     pub end: u32,
     pub row: u32,
@@ -35,9 +35,9 @@ pub struct Span {
 /// The neighbours of a cell in the row above, those beside it and itself, and those in the row below.
 #[derive(Clone, Copy)]
 pub struct Spans {
-    pub above: Span,
-    pub beside: Span,
-    pub below: Span,
+    pub above: RowSpan,
+    pub beside: RowSpan,
+    pub below: RowSpan,
 }
 
 /// The four neighbours of a cell of the rectangle, in an image of this width.
@@ -53,7 +53,7 @@ pub fn cross_around(width: u32, rect: Rect, cell: u32) -> Cross
     let y = cell / width;
     let here = y - rect.y;
     let above = if y > rect.y {
-        Some(Place {
+        Some(Neighbour {
             cell: cell - width,
             row: here - 1,
         })
@@ -61,7 +61,7 @@ pub fn cross_around(width: u32, rect: Rect, cell: u32) -> Cross
         None
     };
     let left = if x > rect.x {
-        Some(Place {
+        Some(Neighbour {
             cell: cell - 1,
             row: here,
         })
@@ -69,7 +69,7 @@ pub fn cross_around(width: u32, rect: Rect, cell: u32) -> Cross
         None
     };
     let right = if x + 1 < rect.x + rect.w {
-        Some(Place {
+        Some(Neighbour {
             cell: cell + 1,
             row: here,
         })
@@ -77,7 +77,7 @@ pub fn cross_around(width: u32, rect: Rect, cell: u32) -> Cross
         None
     };
     let below = if y + 1 < rect.y + rect.h {
-        Some(Place {
+        Some(Neighbour {
             cell: cell + width,
             row: here + 1,
         })
@@ -108,32 +108,32 @@ pub fn spans_around(width: u32, rect: Rect, cell: u32) -> Spans
     let right = (x + 2).min(rect.x + rect.w);
     let here = y - rect.y;
     let above = if y > rect.y {
-        Span {
+        RowSpan {
             first: row - width + left,
             end: row - width + right,
             row: here - 1,
         }
     } else {
-        Span {
+        RowSpan {
             first: 0,
             end: 0,
             row: 0,
         }
     };
     let below = if y + 1 < rect.y + rect.h {
-        Span {
+        RowSpan {
             first: row + width + left,
             end: row + width + right,
             row: here + 1,
         }
     } else {
-        Span {
+        RowSpan {
             first: 0,
             end: 0,
             row: 0,
         }
     };
-    let beside = Span {
+    let beside = RowSpan {
         first: row + left,
         end: row + right,
         row: here,

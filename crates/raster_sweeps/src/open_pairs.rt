@@ -1,20 +1,17 @@
 //! The check of rows for open pairs: neighbours of which the first can still raise the second, as far as the mask lets
 //! it. The first pixels of such pairs are put into the queue.
 
-ghost use Rattle.std.specs.Prelude.{◌+◌, ◌<◌, min};
-ghost use Rattle.grid_core.specs.Raster.{IsInside};
-ghost use Rattle.raster_sweeps.specs.Growth.{CanClose, rows_of};
-ghost use Rattle.raster_sweeps.specs.RowPairs.{AreAside, AreBeside, RaisesStraight, RaisesTo, IsOpenCell, HaveJoined};
-ghost use Rattle.raster_sweeps.specs.RowPairs.{AreFullRowsAt, AreJoined, AreRowsAt, CanGrowAcross, CanGrowRow};
-ghost use Rattle.raster_sweeps.specs.RowPairs.{IsFromTo, IsScannedUp, IsUpper};
+ghost use Rattle.std.specs.Prelude.{◌+◌};
+ghost use Rattle.grid_core.specs.Raster.{IsImageSize, IsInside};
+ghost use Rattle.grid_core.specs.Rects.{RectFits};
+ghost use Rattle.raster_sweeps.specs.Growth.{CanClose, IsCellIn, rows_of};
+ghost use Rattle.raster_sweeps.specs.RowPairs.{AreJoined, CanGrowAcross, CanGrowRow, IsFromTo, IsOpenCell};
+ghost use Rattle.raster_sweeps.specs.RowPairs.{IsScannedUp, IsUpper};
+ghost use Rattle.row_scans.specs.Rows.{HaveJoined};
 
-use crate::rows::is_closed_straight;
 use crate::size::{Size, first_cell, row_in};
-use crate::waiting::{Waiting, strip_of};
 use grid_core::{Conn, Rect};
-
-// How many columns are checked at once.
-const STRIP: usize = 64;
+use row_scans::{Waiting, queue_aslant, queue_cells, queue_to, strip_of};
 
 /// Puts the first pixel of each open pair of the rectangle into the queue. Each row is checked, 64 columns at once.
 ///
@@ -33,6 +30,22 @@ pub fn queue_open_pairs(
 {
     for y in 0..rect.h {
         if !queue_row(mask, image, size, rect, y, conn, waiting) {
+            return false;
+        }
+    }
+    true
+}
+
+/// Puts the cells of all pixels of the rectangle into the queue.
+///
+/// It answers whether there was room for all of them, and stops where there was not.
+pub fn queue_all(size: Size, rect: Rect, waiting: &mut Waiting) -> bool
+    requires size { IsImageSize size.w size.h }
+    requires fits { RectFits size.w size.h rect }
+    ensures { HaveJoined (IsCellIn rect size.w) result waiting.old waiting.new }
+{
+    for y in 0..rect.h {
+        if !queue_cells(first_cell(size, rect, y), rect.w, strip_of(y), waiting) {
             return false;
         }
     }
@@ -138,107 +151,4 @@ fn queue_between(
         conn,
         waiting,
     )
-}
-
-// Puts the cells of the row `from`, which begin at `first`, that raise a neighbour in the row `to`, which touches it,
-// into the queue. It answers whether there was room for all of them.
-fn queue_to(
-    from: &[u16],
-    mask: &[u16],
-    to: &[u16],
-    first: u32,
-    strip: usize,
-    conn: Conn,
-    waiting: &mut Waiting,
-) -> bool
-    requires { AreFullRowsAt first from.now mask.now to.now }
-    ensures { HaveJoined (RaisesTo (AreBeside conn) first from.now mask.now to.now) result waiting.old waiting.new }
-{
-    if !queue_straight(from, mask, to, first, strip, waiting) {
-        return false;
-    }
-    match conn {
-        Conn::Four => true,
-        Conn::Eight => queue_aslant(from, mask, to, first, strip, waiting),
-    }
-}
-
-// Puts the cells of the row `from`, which begin at `first`, that raise one in the next column of the row `to`, to the
-// right or the left, into the queue. It answers whether there was room for all of them.
-fn queue_aslant(
-    from: &[u16],
-    mask: &[u16],
-    to: &[u16],
-    first: u32,
-    strip: usize,
-    waiting: &mut Waiting,
-) -> bool
-    requires { AreFullRowsAt first from.now mask.now to.now }
-    ensures { HaveJoined (RaisesTo AreAside first from.now mask.now to.now) result waiting.old waiting.new }
-{
-    let last = to.len() - 1;
-    queue_straight(&from[..last], &mask[1..], &to[1..], first, strip, waiting)
-        && queue_straight(
-            &from[1..],
-            &mask[..last],
-            &to[..last],
-            first + 1,
-            strip,
-            waiting,
-        )
-}
-
-// Puts the cells of the row `from`, which begin at `first`, that raise the one in the same column of the row `to` into
-// the queue. It answers whether there was room for all of them.
-fn queue_straight(
-    from: &[u16],
-    mask: &[u16],
-    to: &[u16],
-    first: u32,
-    strip: usize,
-    waiting: &mut Waiting,
-) -> bool
-    requires { AreRowsAt first from.now mask.now to.now }
-    ensures { HaveJoined (RaisesStraight first from.now mask.now to.now) result waiting.old waiting.new }
-{
-    let mut start = 0;
-    while start < to.len() {
-        let end = (start + STRIP).min(to.len());
-        let next = first + start as u32;
-        if !queue_strip(
-            &from[start..end],
-            &mask[start..end],
-            &to[start..end],
-            next,
-            strip,
-            waiting,
-        ) {
-            return false;
-        }
-        start = end;
-    }
-    true
-}
-
-// The same for a few columns, which are looked at one by one only where a pair is open.
-fn queue_strip(
-    from: &[u16],
-    mask: &[u16],
-    to: &[u16],
-    first: u32,
-    strip: usize,
-    waiting: &mut Waiting,
-) -> bool
-    requires { AreRowsAt first from.now mask.now to.now }
-    ensures { HaveJoined (RaisesStraight first from.now mask.now to.now) result waiting.old waiting.new }
-{
-    if is_closed_straight(from, mask, to) {
-        return true;
-    }
-    for i in 0..to.len() {
-        if to[i] < from[i].min(mask[i]) && !waiting.push(strip, first + i as u32) {
-            return false;
-        }
-    }
-    true
 }

@@ -9,10 +9,10 @@ ghost use Rattle.raster_sweeps.specs.Growth.{CellHasSpread, IsDrained, IsPixelOf
 ghost use Rattle.raster_sweeps.specs.OpenBounds.{IsRaisedFrom};
 
 use crate::corridors::follow;
-use crate::neighbourhood::{Cross, Place, Span, Spans, cross_around, spans_around};
+use crate::neighbourhood::{Cross, Neighbour, RowSpan, Spans, cross_around, spans_around};
 use crate::size::Size;
-use crate::waiting::{Waiting, strip_of};
 use grid_core::{Bounds, Conn, Pixel, Rect};
+use row_scans::{Waiting, strip_of};
 
 /// Lets the waiting cells spread until none waits, which it answers by `true`. A corridor is followed to its end.
 ///
@@ -138,8 +138,8 @@ fn raise_two(
     cells: &mut [u16],
     waiting: &mut Waiting,
     level: u16,
-    one: Option<Place>,
-    other: Option<Place>,
+    one: Option<Neighbour>,
+    other: Option<Neighbour>,
 ) -> bool
     requires within { (k : _) → IsCell one k ⊎ IsCell other k → k < length cells.old }
     requires same { length mask.now ≡ length cells.old }
@@ -159,7 +159,7 @@ fn raise_one(
     cells: &mut [u16],
     waiting: &mut Waiting,
     level: u16,
-    one: Option<Place>,
+    one: Option<Neighbour>,
 ) -> bool
     requires within { (k : _) → IsCell one k → k < length cells.old }
     requires same { length mask.now ≡ length cells.old }
@@ -199,7 +199,7 @@ fn raise_around(
 // Raises the cells of the span to the level, as far as the mask lets them, and puts those that rise into the queue.
 // It answers whether there was room for all of them.
 #[inline(always)]
-fn raise(mask: &[u16], cells: &mut [u16], waiting: &mut Waiting, level: u16, span: Span) -> bool
+fn raise(mask: &[u16], cells: &mut [u16], waiting: &mut Waiting, level: u16, span: RowSpan) -> bool
     requires within { (k : _) → InSpan span k → k < length cells.old }
     requires same { length mask.now ≡ length cells.old }
     ensures { AreSpread (InSpan span) mask.now level cells.old cells.new waiting.old waiting.new (IsTrue result) }

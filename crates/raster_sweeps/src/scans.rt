@@ -1,20 +1,19 @@
 //! The raster and the anti-raster scan of a rectangle (Vincent, "Morphological Grayscale Reconstruction in Image
 //! Analysis", 1993).
 
-ghost use Rattle.std.specs.Prelude.{◌≡◌, ◌<◌, ◌↔◌, [], length, IsTrue};
+ghost use Rattle.std.specs.Prelude.{◌≡◌, ◌<◌, ◌↔◌, [], IsTrue};
 ghost use Rattle.grid_core.specs.Raster.{IsSized};
 ghost use Rattle.grid_core.specs.Rects.{RectFits};
 ghost use Rattle.raster_sweeps.specs.Growth.{IsGrown, CanClose, IsScannedInto, rows_of};
-ghost use Rattle.raster_sweeps.specs.RowPairs.{CanGrowAcross, CanGrowRow, IsDark, IsFromTo, IsGreatest};
+ghost use Rattle.raster_sweeps.specs.RowPairs.{CanGrowAcross, CanGrowRow, IsDark, IsFromTo, IsRowGrown};
 ghost use Rattle.raster_sweeps.specs.RowPairs.{NoneOpen, NoneOpenAlong, NoneOpenToLeft, NoneOpenToRight};
-ghost use Rattle.raster_sweeps.specs.RowRaises.{AreApart, AreCellsRaised, IsRowGrown};
 
 use crate::open_pairs::queue_downward;
-use crate::row_raises::{raise_by, raise_from_left, raise_from_right};
-use crate::rows::is_closed_along;
 use crate::size::{Size, row_in};
-use crate::waiting::Waiting;
 use grid_core::{Conn, Rect};
+use row_scans::{
+    Waiting, greatest, is_closed_along, raise_cells_by, raise_from_left, raise_from_right,
+};
 
 /// The raster scan: row by row from the top, each pixel of the rectangle is raised by its neighbours in the row above,
 /// and then along its row, as far as the mask lets it. A row that is 0 as is the one before it is passed over: nothing
@@ -31,8 +30,7 @@ pub fn scan_down(mask: &[u16], image: &mut [u16], size: Size, rect: Rect, conn: 
         if dark && is_dark(image, size, rect, y) {
             continue;
         }
-        raise_row_by(mask, image, size, rect, y - 1, y, conn);
-        raise_row_along(mask, image, size, rect, y);
+        raise_row(mask, image, size, rect, y - 1, y, conn);
         dark = is_dark(image, size, rect, y);
     }
 }
@@ -63,8 +61,7 @@ pub fn scan_up(
         if dark && is_dark(image, size, rect, y) {
             continue;
         }
-        raise_row_by(mask, image, size, rect, y + 1, y, conn);
-        raise_row_along(mask, image, size, rect, y);
+        raise_row(mask, image, size, rect, y + 1, y, conn);
         dark = is_dark(image, size, rect, y);
         all = all && queue_downward(mask, image, size, rect, y, conn, waiting);
     }
@@ -84,20 +81,30 @@ fn is_dark(image: &[u16], size: Size, rect: Rect, y: u32) -> bool
     true
 }
 
-// The greatest of these values, and 0 where there is none.
-fn greatest(row: &[u16]) -> u16
-    ensures { IsGreatest row.now result }
+/// Raises the pixels of the rectangle's row `to` by their neighbours in the row `from`, which touches it, and then
+/// along the row, so that none of the row `from` can raise one of them, nor any of them another.
+pub fn raise_row(
+    mask: &[u16],
+    image: &mut [u16],
+    size: Size,
+    rect: Rect,
+    from: u32,
+    to: u32,
+    conn: Conn,
+)
+    requires { CanGrowAcross rect (rows_of size mask.now) (rows_of size image.old) from to }
+    ensures grown { IsRowGrown conn rect (rows_of size mask.now) to (rows_of size image.old)
+        (rows_of size image.new) }
+    ensures along { NoneOpenAlong conn rect (rows_of size mask.now) (rows_of size image.new) to }
+    ensures across { NoneOpen conn rect (rows_of size mask.now) (rows_of size image.new) (IsFromTo from to) }
 {
-    let mut most = 0;
-    for value in row {
-        most = most.max(*value);
-    }
-    most
+    raise_row_by(mask, image, size, rect, from, to, conn);
+    raise_row_along(mask, image, size, rect, to);
 }
 
-/// Raises the pixels of the rectangle's row `to` by their neighbours in the row `from`, which touches it, so that none
-/// of these can raise them further.
-pub fn raise_row_by(
+// Raises the pixels of the rectangle's row `to` by their neighbours in the row `from`, which touches it, so that none
+// of these can raise them further.
+fn raise_row_by(
     mask: &[u16],
     image: &mut [u16],
     size: Size,
@@ -116,31 +123,6 @@ pub fn raise_row_by(
     let source = (rect.y + from) as usize * width + rect.x as usize;
     let target = (rect.y + to) as usize * width + rect.x as usize;
     raise_cells_by(limits, image, source, target, conn);
-}
-
-// Raises the row of cells that begins at `target` by the row that begins at `source`, above or below it.
-fn raise_cells_by(limits: &[u16], cells: &mut [u16], source: usize, target: usize, conn: Conn)
-    requires { AreApart (length limits.now) source target (length cells.old) }
-    ensures { AreCellsRaised conn limits.now source target cells.old cells.new }
-{
-    let size = limits.len();
-    if source < target {
-        let (above, below) = cells.split_at_mut(target);
-        raise_by(
-            limits,
-            &above[source..source + size],
-            &mut below[..size],
-            conn,
-        );
-    } else {
-        let (above, below) = cells.split_at_mut(source);
-        raise_by(
-            limits,
-            &below[..size],
-            &mut above[target..target + size],
-            conn,
-        );
-    }
 }
 
 /// Raises the pixels of the rectangle's row `y` along the row, from the left and then from the right, so that none of

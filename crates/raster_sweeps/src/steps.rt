@@ -3,7 +3,6 @@
 pub use crate::growth::close;
 pub use crate::open_pairs::{queue_downward, queue_row};
 pub use crate::raising::drain;
-pub use crate::rows::is_closed_to;
-pub use crate::scans::{raise_row_along, raise_row_by, scan_down, scan_up};
+pub use crate::scans::{raise_row, raise_row_along, scan_down, scan_up};
 pub use crate::size::{Size, row_in};
-pub use crate::waiting::{STRIP_ROWS, Waiting};
+pub use row_scans::{Waiting, is_closed_to};

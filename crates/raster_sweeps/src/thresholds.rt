@@ -2,13 +2,14 @@
 //! "Morphological Grayscale Reconstruction in Image Analysis", 1993).
 
 ghost use Rattle.std.specs.Prelude.{◌≡◌, ◌+◌, ◌-◌, ◌*◌, ◌<◌, ◌≤◌, [], ◌∷◌, ◌++◌};
-ghost use Rattle.std.specs.Prelude.{length, slice_index, EachIndex, OnOk, IfOk};
+ghost use Rattle.std.specs.Prelude.{length, OnOk, IfOk};
 ghost use Rattle.grid_core.specs.Raster.{IsInside, IsBelow, max_side, index_of, with_value};
 ghost use Rattle.raster_sweeps.specs.Flooding.{IsFlooded, Floods, seeds_of};
 ghost use Rattle.raster_sweeps.specs.Flood.{missing};
 ghost use Rattle.raster_sweeps.specs.Regrowth.{IsRegrown};
 
 use grid_core::{Conn, Grid, Memory, Pixel, neighbours};
+use row_scans::greatest;
 use std::alloc::Global;
 
 /// What is reconstructed: a mask and a marker of one size, and which pixels are neighbours.
@@ -37,13 +38,6 @@ pub fn slow(alloc: Global, mask: &Grid, marker: &Grid, conn: Conn) -> Result<Gri
         flood_level(alloc, &source, &mut image, done + 1)?;
     }
     Ok(image)
-}
-
-// The greatest of the values, 0 where there is none.
-fn greatest(values: &[u16]) -> u16
-    ensures { EachIndex values.now (λ k. slice_index values.now k ≤ result) }
-{
-    values.iter().copied().max().unwrap_or(0)
 }
 
 // Floods one level: each pixel that reaches it gets it as its value.

@@ -1,11 +1,8 @@
 -- Values of an image at its pixels, and one written.
 use Rattle.std.proofs.Common.{◌≡◌, ℕ, ◌-◌, ◌*◌, ◌<◌, ◌⊎◌, length, arith, inl, inr, sym, ◌∙◌, ap}
-use Rattle.std.proofs.lemmas.Bool.{cases_eq}
+use Rattle.std.proofs.{lemmas.Bool.cases_eq, lemmas.List.Sums.sum_by-set, lemmas.Nat.mul-add-lt}
 use Rattle.std.proofs.lemmas.List.{length-set, get_or-set_same, get_or-set_other}
-use Rattle.std.proofs.lemmas.List.Sums.{sum_by-set}
-use Rattle.std.proofs.lemmas.Nat.{mul-add-lt}
-use Rattle.grid_core.specs.declared.pixel.Pixel.{Pixel}
-use Rattle.grid_core.specs.Path.{Domain, Inside}
+use Rattle.grid_core.specs.{declared.pixel.Pixel.Pixel, Path.Domain, Path.Inside}
 use Rattle.grid_core.specs.Raster.{Raster, IsFilled, index_of, value_at, with_value}
 use Rattle.grid_core.proofs.Cells.{same_place}
 use Rattle.raster_sweeps.specs.Flood.{IsImageOn, missing}
@@ -35,14 +32,13 @@ written_else d image p q v sized inside_p inside_q =
     ]
 
 -- a write keeps the size
-pub written_sized : (d : Domain) (image : Raster) (p : Pixel) (v : ℕ) → IsImageOn d image
+pub written_sized : {d : Domain} {image : Raster} (p : Pixel) (v : ℕ) → IsImageOn d image
     → IsImageOn d (with_value image p v)
-written_sized d image p v sized =
-    record {
-      width = sized.width;
-      height = sized.height;
-      filled = length-set image.cells (index_of image.width p) v ∙ sized.filled;
-    }
+written_sized {image} p v sized = record {
+  width = sized.width;
+  height = sized.height;
+  filled = length-set image.cells (index_of image.width p) v ∙ sized.filled;
+}
 
 -- to raise a value to the level takes from what is missing
 pub missing_less : (d : Domain) (image : Raster) (p : Pixel) (level : ℕ) → IsImageOn d image → Inside d p

@@ -1,19 +1,15 @@
 -- The flood of one level: it begins, marks pixels, and is done when no pixel waits.
 use Rattle.std.proofs.Common.{◌≡◌, ℕ, ◌+◌, ◌*◌, ◌<◌, ◌≤◌, ◌⊎◌, List, [], ◌∷◌, ◌++◌, length, replicate, get_or, sym}
-use Rattle.std.proofs.Common.{subst, ap, ◌∙◌, arith, inl, inr}
-use Rattle.std.specs.List.{AllByRecursion, Contains}
-use Rattle.std.proofs.lemmas.Bool.{cases_lt}
+use Rattle.std.proofs.Common.{subst, ap, ◌∙◌, arith, inl, inr, Contains}
+use Rattle.std.proofs.{lemmas.Bool.cases_lt, lemmas.Nat.mul-add-lt}
 use Rattle.std.proofs.lemmas.List.Elements.{Contains-push, Contains-push_cases, Contains-append_left}
 use Rattle.std.proofs.lemmas.List.Elements.{Contains-append_right, Contains-append_cases}
 use Rattle.std.proofs.lemmas.List.{length-replicate, get_or-replicate}
-use Rattle.std.proofs.lemmas.Nat.{mul-add-lt}
-use Rattle.grid_core.specs.declared.conn.Conn.{Conn}
-use Rattle.grid_core.specs.declared.pixel.Pixel.{Pixel}
+use Rattle.std.specs.List.{AllByRecursion}
+use Rattle.grid_core.specs.{declared.conn.Conn.Conn, declared.pixel.Pixel.Pixel, Reconstruction.IsReconstruction}
 use Rattle.grid_core.specs.Path.{Domain, domain_of, Inside, IsPath, end_of, Reaches}
 use Rattle.grid_core.specs.Raster.{Raster, IsBelow, index_of, value_at}
-use Rattle.grid_core.specs.Reconstruction.{IsReconstruction}
-use Rattle.grid_core.proofs.Pixels.{AreNeighbours-sym}
-use Rattle.grid_core.proofs.Cells.{each_pixel_below}
+use Rattle.grid_core.proofs.{Pixels.AreNeighbours-sym, Cells.each_pixel_below}
 use Rattle.grid_core.proofs.Reach.{IsPath-inside, IsPath-ends_inside, reaches_within_mask}
 use Rattle.raster_sweeps.specs.Flood.{IsImageOn, IsFloodedTo, IsFlooding, HasSpread}
 use Rattle.raster_sweeps.proofs.Flood.Cells.{index_inside, filled_on}

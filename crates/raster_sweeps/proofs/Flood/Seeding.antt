@@ -1,17 +1,13 @@
 -- The seeds of a level are marked, cell after cell.
 use Rattle.std.proofs.Common.{◌≡◌, ℕ, ◌+◌, ◌*◌, ◌<◌, ◌≤◌, List, [], ◌∷◌, ◌++◌, length, get_or, sym, ◌∙◌, subst, ap}
-use Rattle.std.proofs.Common.{arith, inl, inr}
-use Rattle.std.specs.List.{EachIndex}
-use Rattle.std.proofs.lemmas.Bool.{cases_lt}
-use Rattle.std.proofs.Math.Nat.{mul-le-mul_left}
-use Rattle.grid_core.specs.declared.conn.Conn.{Conn}
-use Rattle.grid_core.specs.declared.pixel.Pixel.{Pixel}
+use Rattle.std.proofs.Common.{arith, inl, inr, EachIndex}
+use Rattle.std.proofs.{lemmas.Bool.cases_lt, Math.Nat.mul-le-mul_left}
+use Rattle.grid_core.specs.{declared.conn.Conn.Conn, declared.pixel.Pixel.Pixel}
 use Rattle.grid_core.specs.Path.{Domain, Inside, domain_of}
 use Rattle.grid_core.specs.Raster.{Raster, IsBelow, index_of, value_at, with_value}
-use Rattle.grid_core.proofs.Reach.{reaches_here}
+use Rattle.grid_core.proofs.{Reach.reaches_here, Cells.same_place}
 use Rattle.raster_sweeps.specs.Flood.{IsImageOn, IsSeeding}
 use Rattle.raster_sweeps.proofs.Flood.Cells.{index_inside, written_here, written_else}
-use Rattle.grid_core.proofs.Cells.{same_place}
 use Rattle.raster_sweeps.proofs.Flood.Flooding.{flood_marks, flood_sees}
 
 -- a place among the cells is that of a pixel inside

@@ -1,17 +1,12 @@
 -- A marked pixel spreads to its neighbours, one after another.
 use Rattle.std.proofs.Common.{◌≡◌, ℕ, ◌+◌, ◌*◌, ◌<◌, ◌≤◌, ◌↔◌, List, [], ◌∷◌, ◌++◌, length, get_or, sym, subst, arith}
-use Rattle.std.proofs.Common.{inl, inr}
-use Rattle.std.specs.List.{Contains}
-use Rattle.std.proofs.lemmas.Bool.{cases_lt}
-use Rattle.std.proofs.lemmas.List.{length-append, get_or_default}
+use Rattle.std.proofs.Common.{inl, inr, Contains}
+use Rattle.std.proofs.{lemmas.Bool.cases_lt, lemmas.List.length-append, lemmas.List.get_or_default}
 use Rattle.std.proofs.lemmas.List.Elements.{Contains-push, Contains-append_left, Contains-get_or}
-use Rattle.grid_core.specs.declared.conn.Conn.{Conn}
-use Rattle.grid_core.specs.declared.pixel.Pixel.{Pixel}
-use Rattle.grid_core.specs.Neighbours.{AreNeighbours}
+use Rattle.grid_core.specs.{declared.conn.Conn.Conn, declared.pixel.Pixel.Pixel, Neighbours.AreNeighbours}
 use Rattle.grid_core.specs.Path.{Domain, Inside, Reaches, domain_of}
 use Rattle.grid_core.specs.Raster.{Raster, IsInside, value_at, with_value}
-use Rattle.grid_core.proofs.Pixels.{AreNeighbours-sym}
-use Rattle.grid_core.proofs.Reach.{reaches_by_step}
+use Rattle.grid_core.proofs.{Pixels.AreNeighbours-sym, Reach.reaches_by_step}
 use Rattle.raster_sweeps.specs.Flood.{IsImageOn, IsSeeded, HasSpread, missing}
 use Rattle.raster_sweeps.proofs.Flood.Cells.{written_here, written_else, written_sized, missing_less}
 use Rattle.raster_sweeps.proofs.Flood.Flooding.{flood_marks, flood_lets_go}
@@ -72,7 +67,7 @@ module _ (conn : Conn) (mask marker : Raster) (level : ℕ) (pixel : Pixel) (nea
       reaches_by_step d (value_at mask) (value_at marker) q pixel level about.1 (AreNeighbours-sym conn pixel q about.0)
       below pixel_reaches in
       record {
-        sized = written_sized d image q level state.sized;
+        sized = written_sized q level state.sized;
         seeded =
             flood_marks d (value_at mask) (value_at marker) (value_at image) (value_at new) level
             (mask.width * mask.height) (pixel ∷ waiting) q about.1 reach here

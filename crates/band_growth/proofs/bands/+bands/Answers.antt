@@ -1,6 +1,6 @@
 use Rattle.std.proofs.Common.{◌*◌}
 use Rattle.band_growth.proofs.Joined.{halves_apart, halves_grown, lower_can_grow, parts_joined}
-use Rattle.band_growth.proofs.Seams.{rows_twice}
+use Rattle.raster_sweeps.proofs.Grown.{grown_twice}
 use Rattle.band_growth.proofs.bands.+bands.Goals as goal
 
 pub grow_halves-grow_both-requires-clause-below : goal.grow_halves-grow_both-requires-clause-below
@@ -40,21 +40,13 @@ grow_halves-returns g t c =
     }
 
 pub grow_bands-returns-then-lower : goal.grow_bands-returns-then-lower
-grow_bands-returns-then-lower g t c =
-    let limits = c.args.limits.now in
-    record {
-      grown =
-          rows_twice limits.conn limits.size limits.mask.now c.args.image.now c.grow_halves-upper.new.image
-          c.close_seam.new.image c.grow_halves-upper.ensures.grown c.close_seam.ensures.grown;
-      closed = λ yes. c.close_seam.ensures.closed;
-    }
+grow_bands-returns-then-lower g t c = record {
+  grown = grown_twice c.grow_halves-upper.ensures.grown c.close_seam.ensures.grown;
+  closed = λ yes. c.close_seam.ensures.closed;
+}
 
 pub grow_bands-returns-then-upper-2 : goal.grow_bands-returns-then-upper-2
-grow_bands-returns-then-upper-2 g t c =
-    let limits = c.args.limits.now in
-    record {
-      grown =
-          rows_twice limits.conn limits.size limits.mask.now c.args.image.now c.grow_halves-upper.new.image
-          c.close_bands.new.image c.grow_halves-upper.ensures.grown c.close_bands.ensures.grown;
-      closed = λ yes. c.close_bands.ensures.closed;
-    }
+grow_bands-returns-then-upper-2 g t c = record {
+  grown = grown_twice c.grow_halves-upper.ensures.grown c.close_bands.ensures.grown;
+  closed = λ yes. c.close_bands.ensures.closed;
+}

@@ -1,5 +1,4 @@
-use Rattle.std.proofs.Common.{◌≤◌, ◌≡◌}
-use Rattle.std.specs.Vec.{vec_capacity, vec_len}
+use Rattle.std.proofs.Common.{◌≤◌, ◌≡◌, vec_capacity, vec_len}
 use Rattle.band_growth.proofs.growth.queues_for.Given as goal
 
 abbrev pub invariant-loop-band : goal.invariant-loop-band

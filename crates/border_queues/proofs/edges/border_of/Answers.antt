@@ -1,8 +1,5 @@
-use Rattle.std.proofs.Common.{◌≡◌, sym, subst}
-use Rattle.std.specs.Prelude.{◌↔◌}
-use Rattle.grid_core.specs.declared.rect.Rect.{Rect}
-use Rattle.grid_core.specs.Rects.{IsInRect}
-use Rattle.grid_core.specs.Tiles.{tile_of}
+use Rattle.std.proofs.Common.{◌≡◌, sym, subst, ◌↔◌}
+use Rattle.grid_core.specs.{declared.rect.Rect.Rect, Rects.IsInRect, Tiles.tile_of}
 use Rattle.border_queues.proofs.edges.border_of.Goals as goal
 
 pub returns-clause-border : goal.returns-clause-border

@@ -1,12 +1,7 @@
-use Rattle.std.proofs.Common.{◌≡◌, ℕ, ◌++◌, ap, ◌∙◌, arith, rules, List, length, zero-add}
-use Rattle.std.specs.List.{flat_map}
-use Rattle.grid_core.specs.declared.pixel.Pixel.{Pixel}
-use Rattle.grid_core.specs.Bounds.{bounds_of}
-use Rattle.grid_core.specs.Raster.{value_at}
-use Rattle.grid_core.specs.Tiles.{rect_of}
-use Rattle.border_queues.specs.declared.hint.Hint.{Hint}
+use Rattle.std.proofs.Common.{◌≡◌, ℕ, ◌++◌, ap, ◌∙◌, arith, rules, List, length, zero-add, flat_map}
+use Rattle.grid_core.specs.{declared.pixel.Pixel.Pixel, Bounds.bounds_of, Raster.value_at, Tiles.rect_of}
+use Rattle.border_queues.specs.{declared.hint.Hint.Hint, Borders.moved, Borders.sender_of}
 use Rattle.border_queues.specs.OpenEdges.{Sender, hints_from, pixels_of, with_tile}
-use Rattle.border_queues.specs.Borders.{moved, sender_of}
 use Rattle.border_queues.proofs.edges.open_edges.Goals as goal
 
 pub of-bounds-requires : goal.of-bounds-requires

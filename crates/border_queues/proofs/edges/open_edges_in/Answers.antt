@@ -1,13 +1,8 @@
-use Rattle.std.proofs.Common.{◌≡◌, ◌++◌, ap, ◌∙◌, arith, rules, List, length}
-use Rattle.std.specs.List.{flat_map}
-use Rattle.grid_core.specs.declared.pixel.Pixel.{Pixel}
-use Rattle.grid_core.specs.Raster.{value_at}
-use Rattle.grid_core.specs.Tiles.{rect_of}
-use Rattle.border_queues.specs.declared.hint.Hint.{Hint}
+use Rattle.std.proofs.Common.{◌≡◌, ◌++◌, ap, ◌∙◌, arith, rules, List, length, flat_map}
+use Rattle.grid_core.specs.{declared.pixel.Pixel.Pixel, Raster.value_at, Tiles.rect_of}
+use Rattle.border_queues.specs.{declared.hint.Hint.Hint, Borders.moved}
 use Rattle.border_queues.specs.OpenEdges.{Sender, hints_from, pixels_of, open_edges, with_tile}
-use Rattle.border_queues.specs.Borders.{moved}
-use Rattle.border_queues.proofs.Bounded.{same_begin}
-use Rattle.border_queues.proofs.SameEdges.{own_image}
+use Rattle.border_queues.proofs.{Bounded.same_begin, SameEdges.own_image}
 use Rattle.border_queues.proofs.edges.open_edges_in.Goals as goal
 
 pub border_of-border-requires-clause-bounds : goal.border_of-border-requires-clause-bounds

@@ -1,8 +1,7 @@
-use Rattle.std.proofs.Common.{◌≡◌, ◌+◌, ◌-◌, ◌<◌, suc, length, arith, refl, subst, sym}
+use Rattle.std.proofs.Common.{◌≡◌, ◌+◌, ◌-◌, ◌<◌, suc, length, arith, subst, sym}
 use Rattle.grid_core.specs.declared.conn.Conn.TheVariants.{Four}
-use Rattle.raster_sweeps.specs.Corridors.{IsFollowed, IsWay}
-use Rattle.raster_sweeps.specs.Growth.{rows_of}
-use Rattle.raster_sweeps.proofs.Growing.{can_close_on, can_grow}
+use Rattle.raster_sweeps.specs.{Corridors.IsFollowed, Corridors.IsWay, Growth.rows_of}
+use Rattle.raster_sweeps.proofs.Growing.{can_close_on}
 use Rattle.raster_sweeps.proofs.Ways.{followed_nowhere, followed_on, way_on, way_within}
 use Rattle.raster_sweeps.proofs.corridors.follow_column.Goals as goal
 
@@ -11,7 +10,7 @@ loop-init c =
     let size = c.args.size in
     record {
       followed = λ conn.
-          followed_nowhere conn c.args.rect (rows_of size c.args.mask.now) (rows_of size c.args.image.now) c.args.cell
+          followed_nowhere
           c.requires.close (c.requires.way.here, c.requires.way.here_inside, c.requires.way.here_cell);
       way =
           let all : c.args.count ≡ c.args.count - 0 = omega arith in
@@ -20,9 +19,7 @@ loop-init c =
     }
 
 pub raise_next-requires-clause-close : goal.raise_next-requires-clause-close
-raise_next-requires-clause-close c =
-    can_close_on Four c.args.rect c.args.size c.args.mask.now c.args.image.now c.loop.image c.requires.close
-    (c.loop.invariant.followed Four).grown
+raise_next-requires-clause-close c = can_close_on c.requires.close (c.loop.invariant.followed Four).grown
 
 pub returns-then-not-raise_next : goal.returns-then-not-raise_next
 returns-then-not-raise_next c conn =
@@ -42,15 +39,7 @@ some_way c =
 within_image : (c : goal.Else-not-raise_next)
     → (c.loop.at < length c.loop.image) × (c.loop.last < c.loop.at + c.loop.at)
 within_image c =
-    let size = c.args.size in
-    let mask = rows_of size c.args.mask.now in
-    let image = rows_of size c.loop.image in
-    let close =
-    can_close_on Four c.args.rect size c.args.mask.now c.args.image.now c.loop.image c.requires.close
-    (c.loop.invariant.followed Four).grown in
-    let fits =
-    way_within c.args.rect size.w c.loop.last c.loop.at (c.args.count - (c.loop.counter + 1)) (some_way c) mask image
-    refl (can_grow c.args.rect mask image close) close.filled in
+    let fits = way_within (can_close_on c.requires.close (c.loop.invariant.followed Four).grown) (some_way c) in
     (fits.0, omega (arith, fits.1))
 
 pub overflow_add-next : goal.overflow_add-next
@@ -68,17 +57,9 @@ overflow_sub-next c = omega (arith, (within_image c).1)
 
 pub loop-preserved : goal.loop-preserved
 loop-preserved c =
-    let size = c.args.size in
-    let mask = rows_of size c.args.mask.now in
-    let before = rows_of size c.args.image.now in
-    let between = rows_of size c.loop.image in
-    let after = rows_of size c.raise_next.new.image in
     let passed = c.if-not-raise_next.ensures in
     record {
-      followed = λ conn.
-          followed_on conn c.args.rect mask before between after c.args.cell c.loop.at
-          (c.loop.at + c.loop.at - c.loop.last) (c.loop.invariant.followed conn) (passed.followed conn);
-      way =
-          way_on c.args.rect size.w c.loop.last c.loop.at (c.args.count - (c.loop.counter + 1)) (some_way c);
+      followed = λ conn. followed_on (c.loop.invariant.followed conn) (passed.followed conn);
+      way = way_on (some_way c);
       behind = passed.shut;
     }

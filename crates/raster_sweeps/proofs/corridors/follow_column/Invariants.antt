@@ -1,7 +1,6 @@
 use Rattle.std.proofs.Common.{◌-◌}
 use Rattle.grid_core.specs.declared.conn.Conn.{Conn}
-use Rattle.raster_sweeps.specs.Corridors.{IsBehind, IsFollowed, IsWay}
-use Rattle.raster_sweeps.specs.Growth.{rows_of}
+use Rattle.raster_sweeps.specs.{Corridors.IsBehind, Corridors.IsFollowed, Corridors.IsWay, Growth.rows_of}
 use Rattle.raster_sweeps.proofs.corridors.follow_column.Given as goal
 
 abbrev pub invariant-loop : goal.invariant-loop

@@ -5,35 +5,29 @@ use Rattle.raster_sweeps.proofs.Grown.{grown_headroom, grown_twice}
 use Rattle.raster_sweeps.proofs.growth.fill.Goals as goal
 
 pub returns-then-scan_up : goal.returns-then-scan_up
-returns-then-scan_up c =
-    let size = c.args.size in
-    let mask = rows_of size c.args.mask.now in
-    let image = rows_of size c.args.image.now in
-    let down = rows_of size c.scan_down.new.image in
-    let up = rows_of size c.scan_up.new.image in
-    record {
-      grown =
-          grown_twice c.args.conn c.args.rect mask image down up c.scan_down.ensures c.scan_up.ensures.grown;
-      inside = c.scan_up.ensures.inside;
-      waits = λ all. c.scan_up.ensures.waits c.if-scan_up.true;
-      rose = inl refl;
-    }
+returns-then-scan_up c = record {
+  scanned =
+      record {
+        grown = grown_twice c.scan_down.ensures c.scan_up.ensures.grown;
+        inside = c.scan_up.ensures.inside;
+        waits = λ all. c.scan_up.ensures.waits c.if-scan_up.true;
+      };
+  rose = inl refl;
+}
 
 pub returns : goal.returns
 returns c =
     let size = c.args.size in
-    let mask = rows_of size c.args.mask.now in
     let image = rows_of size c.args.image.now in
-    let down = rows_of size c.scan_down.new.image in
     let up = rows_of size c.scan_up.new.image in
-    let after = rows_of size c.check.new.image in
-    let scanned =
-    grown_twice c.args.conn c.args.rect mask image down up c.scan_down.ensures c.scan_up.ensures.grown in
-    let before : headroom up.cells ≤ headroom image.cells =
-    grown_headroom c.args.conn c.args.rect mask image up c.requires.filled scanned in
+    let scanned = grown_twice c.scan_down.ensures c.scan_up.ensures.grown in
+    let before : headroom up.cells ≤ headroom image.cells = grown_headroom c.requires.filled scanned in
     record {
-      grown = grown_twice c.args.conn c.args.rect mask image up after scanned c.check.ensures.grown;
-      inside = c.check.ensures.inside;
-      waits = c.check.ensures.waits;
+      scanned =
+          record {
+            grown = grown_twice scanned c.check.ensures.scanned.grown;
+            inside = c.check.ensures.scanned.inside;
+            waits = c.check.ensures.scanned.waits;
+          };
       rose = elim c.check.ensures.rose [ inl all ↦ inl all | inr less ↦ inr (omega (arith, less, before)) ];
     }

@@ -1,7 +1,5 @@
 use Rattle.std.proofs.Common.{subst}
-use Rattle.grid_core.specs.Path.{domain_of}
-use Rattle.grid_core.specs.Raster.{Raster, value_at}
-use Rattle.grid_core.specs.Reconstruction.{IsReconstruction}
+use Rattle.grid_core.specs.{Path.domain_of, Raster.Raster, Raster.value_at, Reconstruction.IsReconstruction}
 use Rattle.raster_sweeps.proofs.growth.grow.Goals as goal
 
 pub returns : goal.returns

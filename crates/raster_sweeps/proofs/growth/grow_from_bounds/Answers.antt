@@ -1,9 +1,8 @@
-use Rattle.std.proofs.Common.{◌≡◌, length, ap, subst, ◌∙◌}
-use Rattle.std.specs.Option.{IfSome}
+use Rattle.std.proofs.Common.{◌≡◌, length, ap, subst, ◌∙◌, IfSome}
 use Rattle.grid_core.specs.Lending.{with_cells}
-use Rattle.raster_sweeps.specs.Growth.{IsClosedIn, IsGrownUp, rows_of}
+use Rattle.raster_sweeps.specs.Growth.{IsClosedIn, IsGrownUp}
 use Rattle.raster_sweeps.specs.OpenBounds.{IsRaisedFrom, OpenPairsBeginIn, RiseWithin}
-use Rattle.raster_sweeps.proofs.Grown.{grown_twice, regrown}
+use Rattle.raster_sweeps.proofs.Grown.{grown_up, regrown}
 use Rattle.raster_sweeps.proofs.Growing.{of_rows, rows_can_close, to_rows}
 use Rattle.raster_sweeps.proofs.growth.grow_from_bounds.Goals as goal
 
@@ -38,8 +37,7 @@ raised c =
 pub returns-in-Some-clause-regrown : goal.returns-in-Some-clause-regrown
 returns-in-Some-clause-regrown c =
     let after = with_cells c.args.image.now c.raise_from_bounds-risen.new.image in
-    regrown c.args.conn c.args.rect c.args.mask.now c.args.image.now after c.cells_mut-cells.ensures.sized.filled
-    (raised c).grown
+    regrown c.cells_mut-cells.ensures.sized.filled (raised c).grown
     (subst (λ o. IfSome o (λ bounds. IsClosedIn c.args.conn c.args.rect c.args.mask.now after)) c.in-Some.is
     (raised c).closed)
 
@@ -58,19 +56,12 @@ returns-clause-regrown c =
     let image = c.args.image.now in
     let limits = c.cells-limits.result.now in
     let cells = c.cells_mut-cells.result.now in
-    let between = c.raise_from_bounds-risen.new.image in
     let new = c.close.new.image in
     let after = with_cells image new in
-    let twice : IsGrownUp conn rect (rows_of size limits) (rows_of size cells) (rows_of size new) = record {
-      grown =
-          grown_twice conn rect (rows_of size limits) (rows_of size cells) (rows_of size between) (rows_of size new)
-          c.raise_from_bounds-risen.ensures.grown c.close.ensures.grown;
-      closed = c.close.ensures.closed;
-    } in
-    let long : length new ≡ length image.cells =
-    twice.grown.filled ∙ ap length c.cells_mut-cells.ensures.values in
+    let twice = grown_up c.raise_from_bounds-risen.ensures.grown c.close.ensures in
+    let long : length new ≡ length image.cells = twice.grown.filled ∙ ap length c.cells_mut-cells.ensures.values in
     let grown : IsGrownUp conn rect mask image after =
     of_rows size mask image limits cells c.cells-limits.ensures.values c.cells_mut-cells.ensures.values
     c.of-size.ensures.rows c.requires.grow.below (IsGrownUp conn rect) after new
     (c.cells_given_back.ensures image new long) twice in
-    regrown conn rect mask image after c.cells_mut-cells.ensures.sized.filled grown.grown grown.closed
+    regrown c.cells_mut-cells.ensures.sized.filled grown.grown grown.closed

@@ -1,13 +1,10 @@
 use Rattle.std.proofs.Common.{◌≡◌, length, ap, subst, ◌∙◌, arith}
-use Rattle.grid_core.specs.Lending.{with_cells}
-use Rattle.grid_core.specs.Raster.{Raster, value_at}
-use Rattle.grid_core.specs.Reconstruction.{IsReconstruction}
-use Rattle.grid_core.specs.Rects.{domain_in, part}
+use Rattle.grid_core.specs.{Lending.with_cells, Raster.Raster, Raster.value_at, Reconstruction.IsReconstruction}
+use Rattle.grid_core.specs.{Rects.domain_in, Rects.part}
 use Rattle.grid_core.proofs.Images.{closed_is_reconstruction}
 use Rattle.raster_sweeps.specs.Growth.{IsGrownUp}
-use Rattle.raster_sweeps.proofs.Grown.{grown_filled}
-use Rattle.raster_sweeps.proofs.Growing.{of_rows, rows_can_close}
-use Rattle.raster_sweeps.proofs.Whole.{whole, whole_reconstruction}
+use Rattle.raster_sweeps.proofs.{Grown.grown_filled, Growing.of_rows, Growing.rows_can_close, Whole.whole}
+use Rattle.raster_sweeps.proofs.{Whole.whole_reconstruction}
 use Rattle.raster_sweeps.proofs.growth.grow_in_place.Goals as goal
 
 pub close-requires : goal.close-requires
@@ -46,7 +43,7 @@ returns-clause-grown c =
     (closed_is_reconstruction (domain_in rect conn) (part rect (value_at mask)) (part rect (value_at before))
     (part rect (value_at after)) grown.grown.lawful grown.closed) in
     record {
-      filled = grown_filled conn rect mask before after c.cells_mut.ensures.sized.filled grown.grown;
+      filled = grown_filled c.cells_mut.ensures.sized.filled grown.grown;
       width = grown.grown.below.width;
       height = grown.grown.below.height;
       below = grown.grown.below;

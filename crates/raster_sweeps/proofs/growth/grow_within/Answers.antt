@@ -1,8 +1,7 @@
 use Rattle.std.proofs.Common.{◌≡◌, length, ap, ◌∙◌}
 use Rattle.grid_core.specs.Lending.{with_cells}
 use Rattle.raster_sweeps.specs.Growth.{IsGrownUp}
-use Rattle.raster_sweeps.proofs.Grown.{regrown}
-use Rattle.raster_sweeps.proofs.Growing.{of_rows, rows_can_close}
+use Rattle.raster_sweeps.proofs.{Grown.regrown, Growing.of_rows, Growing.rows_can_close}
 use Rattle.raster_sweeps.proofs.growth.grow_within.Goals as goal
 
 pub close-requires : goal.close-requires
@@ -25,4 +24,4 @@ returns c =
     of_rows c.of-size.result mask image c.cells.result.now c.cells_mut.result.now c.cells.ensures.values
     c.cells_mut.ensures.values c.of-size.ensures.rows c.requires.below (IsGrownUp conn rect) after new
     (c.cells_given_back.ensures image new long) c.close.ensures in
-    regrown conn rect mask image after c.cells_mut.ensures.sized.filled grown.grown grown.closed
+    regrown c.cells_mut.ensures.sized.filled grown.grown grown.closed

@@ -1,10 +1,9 @@
 use Rattle.std.proofs.Common.{◌≡◌, ℕ, ◌+◌, ◌-◌, ◌/◌, ◌%◌, None, Some, arith, inl, inr, refl}
 use Rattle.raster_sweeps.specs.declared.neighbourhood.Cross.{Cross}
-use Rattle.raster_sweeps.proofs.Crosses.{crossed}
-use Rattle.raster_sweeps.proofs.Spans.{column_of_cell, row_of_cell}
-use Rattle.raster_sweeps.proofs.neighbourhood.cross_around.Goals as goal
+use Rattle.raster_sweeps.proofs.{Crosses.crossed, Spans.column_of_cell, Spans.row_of_cell}
 use Rattle.raster_sweeps.proofs.neighbourhood.cross_around.Goals.{then-y-rect, else-y-rect, then-x-rect, else-x-rect}
 use Rattle.raster_sweeps.proofs.neighbourhood.cross_around.Goals.{then-x-rect-2, else-x-rect-2}
+use Rattle.raster_sweeps.proofs.neighbourhood.cross_around.Goals as goal
 
 pub returns-then-y-rect-2 : goal.returns-then-y-rect-2
 returns-then-y-rect-2 c p inside place =

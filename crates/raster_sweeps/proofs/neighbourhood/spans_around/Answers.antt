@@ -1,12 +1,12 @@
 use Rattle.std.proofs.Common.{◌≡◌, ◌<◌, ◌≤◌, ◌+◌, ◌*◌, ◌/◌, ◌%◌, ℕ, ◌-◌, ap, arith}
 use Rattle.std.proofs.Math.Nat.{mul-le-mul_left}
 use Rattle.grid_core.specs.declared.conn.Conn.TheVariants.{Eight}
-use Rattle.raster_sweeps.specs.declared.neighbourhood.Span.{Span}
-use Rattle.raster_sweeps.proofs.Spans.{AreColumns, column_of_cell, no_span, row_of_cell, span_above}
-use Rattle.raster_sweeps.proofs.Spans.{span_below, span_beside, spans_of}
+use Rattle.raster_sweeps.specs.declared.neighbourhood.RowSpan.{RowSpan}
+use Rattle.raster_sweeps.proofs.Spans.{AreColumns, column_of_cell, no_span, row_of_cell, span_above, span_below}
+use Rattle.raster_sweeps.proofs.Spans.{span_beside, spans_of}
+use Rattle.raster_sweeps.proofs.neighbourhood.spans_around.Goals.{then-y-rect, else-y-rect, then-y-rect-2}
+use Rattle.raster_sweeps.proofs.neighbourhood.spans_around.Goals.{else-y-rect-2}
 use Rattle.raster_sweeps.proofs.neighbourhood.spans_around.Goals as goal
-use Rattle.raster_sweeps.proofs.neighbourhood.spans_around.Goals.{then-y-rect, else-y-rect}
-use Rattle.raster_sweeps.proofs.neighbourhood.spans_around.Goals.{then-y-rect-2, else-y-rect-2}
 
 pub returns : goal.returns
 returns c p inside place =
@@ -19,15 +19,12 @@ returns c p inside place =
     let row : cell - cell % width ≡ (rect.y + p.y) * width = omega (arith, place, x) in
     let columns : AreColumns conn rect (rect.x + p.x) (c.max-left.result - 1) c.min-right.result =
     (omega (arith, c.max-left.ensures, x), omega (arith, c.min-right.ensures, x)) in
-    let beside : Span = record {
+    let beside : RowSpan = record {
       first = cell - cell % width + (c.max-left.result - 1);
       end = cell - cell % width + c.min-right.result;
       row = cell / width - rect.y;
     } in
-    spans_of conn rect width p c.if-y-rect.above
-    beside
-    c.if-y-rect-2.below
-    (elim c.if-y-rect.branch [
+    spans_of (elim c.if-y-rect.branch [
       | then-y-rect w ↦
           let up : ℕ = p.y - 1 in
           let next : up + 1 ≡ p.y = omega (arith, w.if-y-rect.true, y) in
@@ -37,8 +34,7 @@ returns c p inside place =
           (omega (arith, ap (λ s. s.first) w.above-is, row, start))
           (omega (arith, ap (λ s. s.end) w.above-is, row, start))
       | else-y-rect w ↦
-          no_span conn rect width p (λ r. r + 1 ≡ p.y) c.if-y-rect.above
-          (λ k here. absurd (omega (arith, here.1, ap (λ s. s.end) w.above-is)))
+          no_span (λ k here. absurd (omega (arith, here.1, ap (λ s. s.end) w.above-is)))
           (λ q inside_q up. absurd (omega (arith, up, w.if-y-rect.false, y)))
     ])
     (span_beside conn rect width p
@@ -51,8 +47,7 @@ returns c p inside place =
           (omega (arith, ap (λ s. s.first) w.below-is, row))
           (omega (arith, ap (λ s. s.end) w.below-is, row))
       | else-y-rect-2 w ↦
-          no_span conn rect width p (λ r. r ≡ p.y + 1) c.if-y-rect-2.below
-          (λ k here. absurd (omega (arith, here.1, ap (λ s. s.end) w.below-is)))
+          no_span (λ k here. absurd (omega (arith, here.1, ap (λ s. s.end) w.below-is)))
           (λ q inside_q down. absurd (omega (arith, down, inside_q.1, w.if-y-rect-2.false, y)))
     ])
 

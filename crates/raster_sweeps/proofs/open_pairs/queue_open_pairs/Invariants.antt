@@ -1,6 +1,6 @@
-use Rattle.raster_sweeps.specs.Growth.{rows_of}
+use Rattle.raster_sweeps.specs.{Growth.rows_of, RowPairs.IsOpenCell}
 use Rattle.std.proofs.Common.{true}
-use Rattle.raster_sweeps.specs.RowPairs.{IsOpenCell, HaveJoined}
+use Rattle.row_scans.specs.Rows.{HaveJoined}
 use Rattle.raster_sweeps.proofs.OpenRows.{IsUpperAbove}
 use Rattle.raster_sweeps.proofs.open_pairs.queue_open_pairs.Given as goal
 

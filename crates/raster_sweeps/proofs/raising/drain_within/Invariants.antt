@@ -1,6 +1,5 @@
 use Rattle.std.proofs.Common.{◌+◌, length}
-use Rattle.grid_core.specs.Bounds.{LieIn}
-use Rattle.grid_core.specs.Raster.{headroom}
+use Rattle.grid_core.specs.{Bounds.LieIn, Raster.headroom}
 use Rattle.raster_sweeps.specs.Growth.{AllWait, AreInside, IsGrown, rows_of}
 use Rattle.raster_sweeps.proofs.OpenBounds.{RiseOrWait}
 use Rattle.raster_sweeps.proofs.raising.drain_within.Given as goal

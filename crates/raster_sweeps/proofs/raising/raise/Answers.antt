@@ -1,16 +1,14 @@
-use Rattle.std.proofs.Common.{◌≡◌, ◌+◌, ◌<◌, ◌≤◌, ◌⊎◌, ℕ, List, length, min, set, get_or}
-use Rattle.std.proofs.Common.{subst, sym, ◌∙◌, ap}
-use Rattle.std.proofs.Common.{arith, inl, inr}
-use Rattle.std.specs.Prelude.{Contains, IsTrue}
+use Rattle.std.proofs.Common.{◌≡◌, ◌+◌, ◌<◌, ◌≤◌, ◌⊎◌, ℕ, List, length, min, set, get_or, subst, sym, ◌∙◌, ap, arith}
+use Rattle.std.proofs.Common.{inl, inr, Contains, IsTrue}
 use Rattle.std.proofs.lemmas.Bool.{false≢true}
 use Rattle.grid_core.specs.Raster.{headroom, max_level}
 use Rattle.raster_sweeps.specs.Spans.{InSpan, IsRaised}
-use Rattle.raster_sweeps.specs.Waiting.{AreOneMore}
+use Rattle.row_scans.specs.Waiting.{AreOneMore}
 use Rattle.grid_core.proofs.Headroom.{headroom_less, headroom_set}
-use Rattle.raster_sweeps.proofs.Raised.{span_to, next_raised, next_not_raised, next_queued, next_not_queued}
-use Rattle.raster_sweeps.proofs.Raised.{queued_at, raised_at, raised_rises}
-use Rattle.raster_sweeps.proofs.raising.raise.Goals as goal
+use Rattle.raster_sweeps.proofs.Raised.{span_to, next_raised, next_not_raised, next_queued, next_not_queued, queued_at}
+use Rattle.raster_sweeps.proofs.Raised.{raised_at, raised_rises}
 use Rattle.raster_sweeps.proofs.raising.raise.Goals.{then-cells-at+then-push, then-cells-at+else-push, else-cells-at}
+use Rattle.raster_sweeps.proofs.raising.raise.Goals as goal
 
 -- what was queued before, or is of the span, is so up to the next cell
 inside_more : (old : List ℕ) (first j i : ℕ) → Contains old i ⊎ InSpan (span_to first j) i
@@ -22,7 +20,6 @@ pub loop-cell-preserved : goal.loop-cell-preserved
 loop-cell-preserved c =
     let mask = c.args.mask.now in
     let level = c.args.level in
-    let before = c.args.cells.now in
     let cells = c.loop-cell.cells in
     let old = c.args.waiting.now in
     let waiting = c.loop-cell.waiting in
@@ -44,16 +41,14 @@ loop-cell-preserved c =
           let less : headroom c.if-cells-at.cells < headroom cells =
           rw drawn (headroom_set cells j (min level (get_or mask j 0)) within lower (omega (arith, v, top))) in
           record {
-            raised =
-                rw drawn (next_raised mask level before cells old waiting first j from within held.raised lower);
+            raised = rw drawn (next_raised first j from within held.raised lower);
             inside = λ i waits.
                 elim ((one.each i).0 waits) [
                   | inl earlier ↦ inside_more old first j i (held.inside i earlier)
                   | inr same ↦ inr (omega (arith, from, same), omega (arith, same))
                 ];
             queued = λ room.
-                next_queued mask level before cells old waiting first j from within held.raised
-                (held.queued (subst IsTrue w.room-is room)) c.if-cells-at.waiting one;
+                next_queued first j from within held.raised (held.queued (subst IsTrue w.room-is room)) one;
             count = λ room. omega (arith, one.count, held.count (subst IsTrue w.room-is room));
             effort = λ room. omega (arith, one.count, less, held.effort (subst IsTrue w.room-is room));
             fell = inr (omega (arith, less, held.kept));
@@ -67,11 +62,9 @@ loop-cell-preserved c =
           let lower : get_or cells j 0 < min level (get_or mask j 0) = omega (arith, w.if-cells-at.true, v) in
           let less : headroom c.if-cells-at.cells < headroom cells =
           rw drawn (headroom_set cells j (min level (get_or mask j 0)) within lower (omega (arith, v, top))) in
-          let none : IsTrue c.if-cells-at.room → ⊥ =
-          λ room. false≢true (sym (w.room-is ∙ w.if-push.false) ∙ room) in
+          let none : IsTrue c.if-cells-at.room → ⊥ = λ room. false≢true (sym (w.room-is ∙ w.if-push.false) ∙ room) in
           record {
-            raised =
-                rw drawn (next_raised mask level before cells old waiting first j from within held.raised lower);
+            raised = rw drawn (next_raised first j from within held.raised lower);
             inside = λ i waits. inside_more old first j i (held.inside i (subst (λ xs. Contains xs i) listed waits));
             queued = λ room. absurd (none room);
             count = λ room. absurd (none room);
@@ -83,13 +76,11 @@ loop-cell-preserved c =
       | else-cells-at w ↦
           let high : min level (get_or mask j 0) ≤ get_or cells j 0 = omega (arith, w.if-cells-at.false, v) in
           record {
-            raised =
-                rw w.cells-is (next_not_raised mask level before cells old waiting first j from within held.raised
-                high);
+            raised = rw w.cells-is (next_not_raised first j from within held.raised high);
             inside = λ i waits.
                 inside_more old first j i (held.inside i (subst (λ xs. Contains xs i) w.waiting-is waits));
             queued = λ room.
-                rw w.waiting-is (next_not_queued mask level before cells old waiting first j from within held.raised
+                rw w.waiting-is (next_not_queued first j from within held.raised
                 (held.queued (subst IsTrue w.room-is room)) high);
             count = λ room. rw w.waiting-is (held.count (subst IsTrue w.room-is room));
             effort = λ room. rw (w.waiting-is, w.cells-is) (held.effort (subst IsTrue w.room-is room));
@@ -105,15 +96,11 @@ returns c =
     let level = c.args.level in
     let before = c.args.cells.now in
     let after = c.loop-cell.cells in
-    let first = c.args.span.first in
-    let j = c.loop-cell.cell in
     let held = c.loop-cell.invariant in
-    let test : c.args.span.end ≤ j = c.loop-cell-test.false in
+    let test : c.args.span.end ≤ c.loop-cell.cell = c.loop-cell-test.false in
     let raised : IsRaised (InSpan c.args.span) mask level before after =
-    raised_at (InSpan (span_to first j)) (InSpan c.args.span) mask level before after
-    (λ k here. (here.0, omega (arith, here.1, here.0, held.ends)))
-    (λ k here. (here.0, omega (arith, here.1, test)))
-    held.raised in
+    raised_at held.raised (λ k here. (here.0, omega (arith, here.1, here.0, held.ends)))
+    (λ k here. (here.0, omega (arith, here.1, test))) in
     record {
       raised = raised;
       inside = λ i waits.
@@ -121,16 +108,13 @@ returns c =
             | inl earlier ↦ inl earlier
             | inr here ↦ inr (here.0, omega (arith, here.1, here.0, held.ends))
           ];
-      queued = λ room.
-          queued_at (InSpan (span_to first j)) (InSpan c.args.span) mask level before c.args.waiting.now
-          c.loop-cell.waiting (λ k here. (here.0, omega (arith, here.1, test))) (held.queued room);
+      queued = λ room. queued_at (held.queued room) (λ k here. (here.0, omega (arith, here.1, test)));
       count = held.count;
       effort = held.effort;
       fell = held.fell;
       kept = held.kept;
       less = λ k here lower.
-          headroom_less before after k raised.filled
-          (λ i within. raised_rises (InSpan c.args.span) mask level before after raised i)
-          (c.requires.within k here) (omega (arith, raised.raised k here, lower))
+          headroom_less before after k raised.filled (λ i within. raised_rises raised i) (c.requires.within k here)
+          (omega (arith, raised.raised k here, lower))
           (omega (arith, raised.raised k here, lower, c.ranges.level.fits));
     }

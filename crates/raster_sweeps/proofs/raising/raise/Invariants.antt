@@ -1,5 +1,4 @@
-use Rattle.std.proofs.Common.{◌≡◌, ◌+◌, ◌<◌, ◌≤◌, ◌⊎◌, length, ℕ}
-use Rattle.std.specs.Prelude.{Contains, IsTrue}
+use Rattle.std.proofs.Common.{◌≡◌, ◌+◌, ◌<◌, ◌≤◌, ◌⊎◌, length, ℕ, Contains, IsTrue}
 use Rattle.grid_core.specs.Raster.{headroom}
 use Rattle.raster_sweeps.specs.Spans.{AreQueued, InSpan, IsRaised}
 use Rattle.raster_sweeps.proofs.Raised.{span_to}

@@ -1,8 +1,8 @@
-use Rattle.std.proofs.Common.{◌≡◌, ◌⊎◌, min, get_or, set, arith, inl, inr, refl, subst, sym, ◌∙◌}
-use Rattle.std.specs.Prelude.{IsTrue, MatchBool, true}
+use Rattle.std.proofs.Common.{◌≡◌, ◌⊎◌, min, get_or, set, arith, inl, inr, refl, subst, sym, ◌∙◌, IsTrue, MatchBool}
+use Rattle.std.proofs.Common.{true}
 use Rattle.std.proofs.lemmas.Bool.{cases_Bool, false≢true}
 use Rattle.raster_sweeps.specs.Spans.{AreSpread, IsCell}
-use Rattle.raster_sweeps.specs.Waiting.{AreOneMore}
+use Rattle.row_scans.specs.Waiting.{AreOneMore}
 use Rattle.raster_sweeps.proofs.Raised.{spread_none, spread_one, spread_stays}
 use Rattle.raster_sweeps.proofs.raising.raise_one.Goals as goal
 
@@ -48,11 +48,7 @@ pub returns-else-cells-at : goal.returns-else-cells-at
 returns-else-cells-at c =
     subst (λ one. AreSpread (IsCell one) c.args.mask.now c.args.level c.args.cells.now c.args.cells.now
     c.args.waiting.now c.args.waiting.now (IsTrue true)) (sym c.in-Some.is)
-    (spread_stays c.args.mask.now c.args.level c.args.cells.now c.in-Some.place.cell c.args.waiting.now (IsTrue true)
-    refl
-    (omega (arith, c.if-cells-at.false, c.min-raised.ensures)))
+    (spread_stays refl (omega (arith, c.if-cells-at.false, c.min-raised.ensures)))
 
 pub returns-in_default : goal.returns-in_default
-returns-in_default c =
-    spread_none (IsCell c.args.one) c.args.mask.now c.args.level c.args.cells.now c.args.waiting.now (IsTrue true) refl
-    (λ k here. subst (λ one. IsCell one k) c.in_default.is here)
+returns-in_default c = spread_none refl (λ k here. subst (λ one. IsCell one k) c.in_default.is here)

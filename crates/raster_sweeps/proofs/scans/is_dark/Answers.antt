@@ -1,8 +1,6 @@
 use Rattle.std.proofs.Common.{◌≡◌, get_or, arith, inl, inr, refl, subst, sym}
 use Rattle.std.proofs.lemmas.Bool.{false≢true}
-use Rattle.grid_core.specs.declared.pixel.Pixel.{Pixel}
-use Rattle.grid_core.specs.Raster.{value_at}
-use Rattle.grid_core.specs.Rects.{part}
+use Rattle.grid_core.specs.{declared.pixel.Pixel.Pixel, Raster.value_at, Rects.part}
 use Rattle.raster_sweeps.specs.Growth.{rows_of}
 use Rattle.raster_sweeps.proofs.scans.is_dark.Goals as goal
 

@@ -2,20 +2,14 @@
 use Rattle.std.proofs.Common.{◌∙◌, refl}
 use Rattle.grid_core.specs.declared.conn.Conn.TheVariants.{Four}
 use Rattle.raster_sweeps.specs.Growth.{rows_of}
-use Rattle.raster_sweeps.proofs.Grown.{fits_below, grown_same}
-use Rattle.raster_sweeps.proofs.Scanning.{none_open_along, row_grown_twice}
+use Rattle.raster_sweeps.proofs.{Grown.fits_below, Grown.grown_same, Scanning.none_open_along, Scanning.row_grown_twice}
 use Rattle.raster_sweeps.proofs.scans.raise_row_along.Goals as goal
 
 pub returns-then-is_row_closed_along-clause-grown : goal.returns-then-is_row_closed_along-clause-grown
-returns-then-is_row_closed_along-clause-grown c conn =
-    let rect = c.args.rect in
-    let mask = rows_of c.args.size c.args.mask.now in
-    let image = rows_of c.args.size c.args.image.now in
-    record {
-      grown = grown_same conn rect mask image c.requires.filled c.requires.below
-          (fits_below rect mask image c.requires.below c.requires.fits);
-      others = λ p inside other. refl;
-    }
+returns-then-is_row_closed_along-clause-grown c conn = record {
+  grown = grown_same c.requires.filled c.requires.below (fits_below c.requires.below c.requires.fits);
+  others = λ p inside other. refl;
+}
 
 pub raise_row_from_right-requires : goal.raise_row_from_right-requires
 raise_row_from_right-requires c =
@@ -31,10 +25,7 @@ raise_row_from_right-requires c =
 
 pub returns-clause-grown : goal.returns-clause-grown
 returns-clause-grown c conn =
-    let size = c.args.size in
-    row_grown_twice conn c.args.rect (rows_of size c.args.mask.now) c.args.y (rows_of size c.args.image.now)
-    (rows_of size c.raise_row_from_left.new.image) (rows_of size c.raise_row_from_right.new.image)
-    (c.raise_row_from_left.ensures.grown conn) (c.raise_row_from_right.ensures.grown conn)
+    row_grown_twice (c.raise_row_from_left.ensures.grown conn) (c.raise_row_from_right.ensures.grown conn)
 
 pub returns-clause-closed : goal.returns-clause-closed
 returns-clause-closed c conn =

@@ -1,6 +1,5 @@
-use Rattle.std.specs.Prelude.{IsTrue}
-use Rattle.raster_sweeps.specs.Growth.{IsGrown, AreInside, WaitFrom, rows_of}
-use Rattle.raster_sweeps.specs.RowPairs.{IsDark}
+use Rattle.std.proofs.Common.{IsTrue}
+use Rattle.raster_sweeps.specs.{Growth.IsGrown, Growth.AreInside, Growth.WaitFrom, Growth.rows_of, RowPairs.IsDark}
 use Rattle.raster_sweeps.proofs.scans.scan_up.Given as goal
 
 abbrev pub invariant-loop-y : goal.invariant-loop-y

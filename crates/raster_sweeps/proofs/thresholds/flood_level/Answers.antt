@@ -1,6 +1,5 @@
 use Rattle.std.proofs.Common.{◌≡◌, ◌*◌, [], ◌∷◌, ◌++◌, length, subst, arith}
-use Rattle.grid_core.specs.Raster.{value_at}
-use Rattle.grid_core.specs.Path.{domain_of}
+use Rattle.grid_core.specs.{Raster.value_at, Path.domain_of}
 use Rattle.raster_sweeps.specs.Flood.{IsSeeded}
 use Rattle.raster_sweeps.proofs.Flood.Flooding.{flood_pops, flood_ends}
 use Rattle.raster_sweeps.proofs.thresholds.flood_level.Goals as goal

@@ -1,6 +1,5 @@
 use Rattle.std.proofs.Common.{◌+◌, length}
-use Rattle.raster_sweeps.specs.Flood.{missing}
-use Rattle.raster_sweeps.specs.Flooding.{Floods, seeds_of}
+use Rattle.raster_sweeps.specs.{Flood.missing, Flooding.Floods, Flooding.seeds_of}
 use Rattle.raster_sweeps.proofs.thresholds.flood_level.Given as goal
 
 abbrev pub invariant-loop-pixel : goal.invariant-loop-pixel

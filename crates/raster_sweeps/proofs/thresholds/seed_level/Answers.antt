@@ -1,11 +1,10 @@
 use Rattle.std.proofs.Common.{◌≡◌, ◌*◌, ◌<◌, ◌≤◌, [], ◌∷◌, ◌++◌, length, get_or, subst, ap, arith, ◌∙◌}
-use Rattle.grid_core.specs.Path.{Inside, domain_of}
-use Rattle.grid_core.specs.Raster.{index_of, value_at, with_value}
+use Rattle.grid_core.specs.{Path.Inside, Path.domain_of, Raster.index_of, Raster.value_at, Raster.with_value}
 use Rattle.raster_sweeps.specs.Flooding.{Floods}
 use Rattle.raster_sweeps.proofs.Flood.Cells.{written_sized}
 use Rattle.raster_sweeps.proofs.Flood.Seeding.{inside_from_index, seeding_marks, seeding_passes}
-use Rattle.raster_sweeps.proofs.thresholds.seed_level.Goals as goal
 use Rattle.raster_sweeps.proofs.thresholds.seed_level.Goals.{then-value-level+in_ok-mark, else-value-level}
+use Rattle.raster_sweeps.proofs.thresholds.seed_level.Goals as goal
 
 pub loop-i-preserved : goal.loop-i-preserved
 loop-i-preserved c =
@@ -46,7 +45,7 @@ loop-i-preserved c =
           ap (λ v. v.items) w.waiting-is ∙ w.in_ok-mark.ensures.waiting in
           record {
             below = c.loop-i.invariant.below;
-            sized = rw drawn (written_sized d image q level c.loop-i.invariant.sized);
+            sized = rw drawn (written_sized q level c.loop-i.invariant.sized);
             flooding =
                 rw (drawn, listed) (seeding_marks conn mask marker level i image waiting below filled
                 c.loop-i.invariant.sized c.loop-i.invariant.flooding q inside place seed);

@@ -1,10 +1,8 @@
 use Rattle.std.proofs.Common.{◌≡◌, ◌+◌, ◌-◌, ◌*◌, replicate, subst, arith, rules}
-use Rattle.grid_core.specs.Raster.{value_at}
-use Rattle.grid_core.specs.Path.{domain_of}
+use Rattle.grid_core.specs.{Raster.value_at, Path.domain_of}
 use Rattle.raster_sweeps.specs.Flood.{IsLevelDone}
 use Rattle.raster_sweeps.proofs.Flood.Flooding.{zeros_sized, zeros_flooded, flood_is_reconstruction, flooded_below}
-use Rattle.raster_sweeps.proofs.Flood.Cells.{filled_on}
-use Rattle.raster_sweeps.proofs.Flood.Seeding.{marker_at_most}
+use Rattle.raster_sweeps.proofs.{Flood.Cells.filled_on, Flood.Seeding.marker_at_most}
 use Rattle.raster_sweeps.proofs.thresholds.slow.Goals as goal
 
 pub loop-done-init : goal.loop-done-init
@@ -54,6 +52,6 @@ returns c =
       reconstruction =
           flood_is_reconstruction d (value_at mask) (value_at marker) (value_at c.loop-done.image) top
           (marker_at_most c.args.conn mask marker c.cells.result.now top c.requires c.cells.ensures.sized.filled
-          c.cells.ensures.values c.greatest-done-end.ensures)
+          c.cells.ensures.values c.greatest-done-end.ensures.each)
           (subst (λ n. IsLevelDone c.args.conn mask marker n c.loop-done.image) all c.loop-done.invariant.done);
     }

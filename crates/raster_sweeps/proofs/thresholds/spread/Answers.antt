@@ -1,14 +1,12 @@
 use Rattle.std.proofs.Common.{◌≡◌, ◌+◌, ◌≤◌, [], ◌∷◌, ◌++◌, length, get_or, ap, arith, ◌∙◌}
 use Rattle.std.proofs.lemmas.List.Elements.{Contains-get_or}
-use Rattle.grid_core.specs.declared.pixel.Pixel.{Pixel}
-use Rattle.grid_core.specs.Path.{Inside, domain_of}
-use Rattle.grid_core.specs.Raster.{value_at, with_value}
+use Rattle.grid_core.specs.{declared.pixel.Pixel.Pixel, Path.Inside, Path.domain_of, Raster.value_at, Raster.with_value}
 use Rattle.raster_sweeps.specs.Flood.{missing}
 use Rattle.raster_sweeps.proofs.Flood.Spreading.{neighbours_listed, spreading_marks, spreading_passes, spreading_ends}
-use Rattle.raster_sweeps.proofs.thresholds.spread.Goals as goal
 use Rattle.raster_sweeps.proofs.thresholds.spread.Goals.{then-get-level+then-get-level-2+in_ok-mark, else-get-level}
 use Rattle.raster_sweeps.proofs.thresholds.spread.Goals.{else-get-level-via-then-get-level+else-get-level-2}
 use Rattle.raster_sweeps.proofs.thresholds.spread.Goals.{else-get-level-via-else-get-level}
+use Rattle.raster_sweeps.proofs.thresholds.spread.Goals as goal
 
 origin : Pixel
 origin = record { x = 0; y = 0 }

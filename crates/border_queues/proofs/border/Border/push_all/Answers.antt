@@ -1,11 +1,9 @@
-use Rattle.std.proofs.Common.{◌≡◌, ◌-◌, ◌*◌, ◌++◌, ap, ◌∙◌, inl, inr, arith}
-use Rattle.std.specs.List.{flat_map, range_with_len}
-use Rattle.border_queues.specs.Waiting.{AddsWithin}
-use Rattle.border_queues.specs.Borders.{hints_of_row}
-use Rattle.border_queues.proofs.Bounded.{rows_told}
-use Rattle.border_queues.proofs.Told.{told_next}
-use Rattle.border_queues.proofs.border.Border.push_all.Goals as goal
+use Rattle.std.proofs.Common.{◌≡◌, ◌-◌, ◌*◌, ◌++◌, ap, ◌∙◌, inl, inr, arith, flat_map}
+use Rattle.std.specs.List.{range_with_len}
+use Rattle.border_queues.specs.{Waiting.AddsWithin, Borders.hints_of_row}
+use Rattle.border_queues.proofs.{Bounded.rows_told, Told.told_next}
 use Rattle.border_queues.proofs.border.Border.push_all.Goals.{then-y-last, else-y-last}
+use Rattle.border_queues.proofs.border.Border.push_all.Goals as goal
 
 pub loop-y-preserved : goal.loop-y-preserved
 loop-y-preserved c =

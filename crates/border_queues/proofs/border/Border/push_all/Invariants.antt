@@ -1,8 +1,6 @@
-use Rattle.std.proofs.Common.{◌≡◌, ◌+◌, ◌-◌, ◌*◌, ◌<◌, ◌≤◌, ◌++◌}
-use Rattle.std.specs.Prelude.{max}
-use Rattle.std.specs.List.{flat_map, range_with_len}
-use Rattle.border_queues.specs.Waiting.{places}
-use Rattle.border_queues.specs.Borders.{hints_of_row}
+use Rattle.std.proofs.Common.{◌≡◌, ◌+◌, ◌-◌, ◌*◌, ◌<◌, ◌≤◌, ◌++◌, max, flat_map}
+use Rattle.std.specs.List.{range_with_len}
+use Rattle.border_queues.specs.{Waiting.places, Borders.hints_of_row}
 use Rattle.border_queues.proofs.border.Border.push_all.Given as goal
 
 -- the hints of the rows so far are told

@@ -1,10 +1,7 @@
-use Rattle.std.proofs.Common.{◌≡◌, ◌+◌, List, [], ◌++◌, ap, ◌∙◌, true, arith}
-use Rattle.std.specs.Prelude.{nat_lt, if◌then◌else◌}
-use Rattle.grid_core.specs.declared.conn.Conn.TheVariants.{Eight}
-use Rattle.grid_core.specs.declared.pixel.Pixel.{Pixel}
+use Rattle.std.proofs.Common.{◌≡◌, ◌+◌, List, [], ◌++◌, ap, ◌∙◌, true, arith, nat_lt, if◌then◌else◌}
+use Rattle.grid_core.specs.{declared.conn.Conn.TheVariants.Eight, declared.pixel.Pixel.Pixel}
 use Rattle.grid_core.specs.Rows.{pixel_if, row_around}
-use Rattle.border_queues.specs.declared.hint.Hint.{Hint}
-use Rattle.border_queues.specs.Borders.{around, sender_of, told_to}
+use Rattle.border_queues.specs.{declared.hint.Hint.Hint, Borders.around, Borders.sender_of, Borders.told_to}
 use Rattle.border_queues.proofs.Told.{told_around}
 use Rattle.border_queues.proofs.border.Border.push_eight.Goals as goal
 

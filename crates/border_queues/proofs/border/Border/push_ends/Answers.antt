@@ -1,12 +1,9 @@
-use Rattle.std.proofs.Common.{◌≡◌, ℕ, suc, ◌+◌, ◌-◌, ◌<◌, List, ◌++◌, ap, sym, ◌∙◌, append_assoc, arith}
-use Rattle.std.specs.List.{flat_map, range_with_len}
+use Rattle.std.proofs.Common.{◌≡◌, ℕ, suc, ◌+◌, ◌-◌, ◌<◌, List, ◌++◌, ap, sym, ◌∙◌, append_assoc, arith, flat_map}
+use Rattle.std.specs.List.{range_with_len}
 use Rattle.grid_core.specs.RasterLaws.{NeighboursByRows}
-use Rattle.border_queues.specs.declared.hint.Hint.{Hint}
-use Rattle.border_queues.specs.declared.border.Border.{Border}
-use Rattle.border_queues.specs.OpenEdges.{hints_from, row_of}
-use Rattle.border_queues.specs.Borders.{sender_of, IsBorder}
-use Rattle.border_queues.proofs.Interior.{interior_tells_none, ends_told, end_told}
-use Rattle.border_queues.proofs.Told.{by_columns}
+use Rattle.border_queues.specs.{declared.hint.Hint.Hint, declared.border.Border.Border, OpenEdges.hints_from}
+use Rattle.border_queues.specs.{OpenEdges.row_of, Borders.sender_of, Borders.IsBorder}
+use Rattle.border_queues.proofs.{Interior.interior_tells_none, Interior.ends_told, Interior.end_told, Told.by_columns}
 use Rattle.border_queues.proofs.border.Border.push_ends.Goals as goal
 
 -- a row of more than one pixel tells what its ends tell

@@ -1,10 +1,6 @@
-use Rattle.std.proofs.Common.{◌≡◌, ◌+◌, List, [], ◌++◌, ap, ◌∙◌, arith}
-use Rattle.std.specs.Prelude.{nat_lt}
-use Rattle.grid_core.specs.declared.conn.Conn.TheVariants.{Four}
-use Rattle.grid_core.specs.declared.pixel.Pixel.{Pixel}
-use Rattle.grid_core.specs.Rows.{pixel_if}
-use Rattle.border_queues.specs.declared.hint.Hint.{Hint}
-use Rattle.border_queues.specs.Borders.{around, sender_of, told_to}
+use Rattle.std.proofs.Common.{◌≡◌, ◌+◌, List, [], ◌++◌, ap, ◌∙◌, arith, nat_lt}
+use Rattle.grid_core.specs.{declared.conn.Conn.TheVariants.Four, declared.pixel.Pixel.Pixel, Rows.pixel_if}
+use Rattle.border_queues.specs.{declared.hint.Hint.Hint, Borders.around, Borders.sender_of, Borders.told_to}
 use Rattle.border_queues.proofs.Told.{told_around}
 use Rattle.border_queues.proofs.border.Border.push_four.Goals as goal
 

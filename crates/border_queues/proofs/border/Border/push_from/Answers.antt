@@ -1,8 +1,7 @@
 use Rattle.std.proofs.Common.{◌≡◌, ◌++◌, append-nil, ap, sym, ◌∙◌, arith}
 use Rattle.grid_core.specs.declared.conn.Conn.TheVariants.{Eight, Four}
 use Rattle.grid_core.specs.declared.pixel.Pixel.{Pixel}
-use Rattle.border_queues.specs.OpenEdges.{hints_from}
-use Rattle.border_queues.specs.Borders.{around, sender_of, told_to}
+use Rattle.border_queues.specs.{OpenEdges.hints_from, Borders.around, Borders.sender_of, Borders.told_to}
 use Rattle.border_queues.proofs.Interior.{zero_tells_none}
 use Rattle.border_queues.proofs.border.Border.push_from.Goals as goal
 

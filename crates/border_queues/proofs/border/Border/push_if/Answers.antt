@@ -1,6 +1,5 @@
 use Rattle.std.proofs.Common.{◌≡◌, ◌++◌, [], append-nil, ap, sym, ◌∙◌, inl, inr, arith, rules}
-use Rattle.grid_core.specs.declared.pixel.Pixel.{Pixel}
-use Rattle.grid_core.specs.Rows.{pixel_if}
+use Rattle.grid_core.specs.{declared.pixel.Pixel.Pixel, Rows.pixel_if}
 use Rattle.border_queues.specs.Borders.{told_to}
 use Rattle.border_queues.proofs.Interior.{own_told_none}
 use Rattle.border_queues.proofs.border.Border.push_if.Goals as goal

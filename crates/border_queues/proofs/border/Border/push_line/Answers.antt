@@ -1,10 +1,7 @@
-use Rattle.std.proofs.Common.{◌≡◌, ℕ, ◌-◌, List, ◌++◌, ap, ◌∙◌, arith}
-use Rattle.std.specs.List.{flat_map, range_with_len}
-use Rattle.border_queues.specs.declared.hint.Hint.{Hint}
-use Rattle.border_queues.specs.OpenEdges.{hints_from}
-use Rattle.border_queues.specs.Borders.{sender_of}
-use Rattle.border_queues.proofs.Bounded.{columns_told}
-use Rattle.border_queues.proofs.Told.{told_next}
+use Rattle.std.proofs.Common.{◌≡◌, ℕ, ◌-◌, List, ◌++◌, ap, ◌∙◌, arith, flat_map}
+use Rattle.std.specs.List.{range_with_len}
+use Rattle.border_queues.specs.{declared.hint.Hint.Hint, OpenEdges.hints_from, Borders.sender_of}
+use Rattle.border_queues.proofs.{Bounded.columns_told, Told.told_next}
 use Rattle.border_queues.proofs.border.Border.push_line.Goals as goal
 
 pub push_from-requires : goal.push_from-requires

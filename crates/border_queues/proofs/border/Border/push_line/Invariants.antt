@@ -1,9 +1,6 @@
-use Rattle.std.proofs.Common.{◌≡◌, ◌+◌, ◌-◌, ◌*◌, ◌≤◌, ◌++◌}
-use Rattle.std.specs.Prelude.{max}
-use Rattle.std.specs.List.{flat_map, range_with_len}
-use Rattle.border_queues.specs.Waiting.{places}
-use Rattle.border_queues.specs.OpenEdges.{hints_from}
-use Rattle.border_queues.specs.Borders.{sender_of}
+use Rattle.std.proofs.Common.{◌≡◌, ◌+◌, ◌-◌, ◌*◌, ◌≤◌, ◌++◌, max, flat_map}
+use Rattle.std.specs.List.{range_with_len}
+use Rattle.border_queues.specs.{Waiting.places, OpenEdges.hints_from, Borders.sender_of}
 use Rattle.border_queues.proofs.border.Border.push_line.Given as goal
 
 -- the hints of the columns so far are told

@@ -1,9 +1,9 @@
 use Rattle.std.proofs.Common.{◌++◌, append-nil, ap, sym, ◌∙◌, arith}
 use Rattle.grid_core.specs.declared.pixel.Pixel.{Pixel}
 use Rattle.border_queues.proofs.Bounded.{outside_tells_none}
-use Rattle.border_queues.proofs.border.Border.push_within.Goals as goal
 use Rattle.border_queues.proofs.border.Border.push_within.Goals.{else-self-x-via-then-self-x+else-x-self}
 use Rattle.border_queues.proofs.border.Border.push_within.Goals.{else-self-x-via-else-self-x}
+use Rattle.border_queues.proofs.border.Border.push_within.Goals as goal
 
 pub returns-else-self-x : goal.returns-else-self-x
 returns-else-self-x c =

@@ -1,8 +1,0 @@
-use Rattle.raster_sweeps.specs.Waiting.{AreEmptyWithin, HaveCapacity}
-use Rattle.raster_sweeps.proofs.lists.Lists.clear.Given as goal
-
-abbrev pub invariant-loop-list : goal.invariant-loop-list
-invariant-loop-list l = record {
-  empty : AreEmptyWithin l.list-items 0 l.list-index;
-  capacity : HaveCapacity l.list-items;
-}

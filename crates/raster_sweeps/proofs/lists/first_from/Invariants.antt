@@ -1,5 +1,0 @@
-use Rattle.raster_sweeps.specs.Waiting.{AreEmptyWithin}
-use Rattle.raster_sweeps.proofs.lists.first_from.Given as goal
-
-abbrev pub invariant-loop-at : goal.invariant-loop-at
-invariant-loop-at l = AreEmptyWithin l.lists l.start l.at

@@ -1,0 +1,8 @@
+-- The lemmas of this crate.
+pub mod Bags
+pub mod Joining
+pub mod Replacing
+pub mod RowPairs
+pub mod RowQueues
+pub mod RowRaises
+pub mod Strips

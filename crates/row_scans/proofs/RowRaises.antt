@@ -1,0 +1,173 @@
+-- Rows that are raised, by another row or along themselves.
+use Rattle.std.proofs.Common.{◌≡◌, ℕ, zero, suc, ◌+◌, ◌-◌, ◌<◌, ◌≤◌, List, length, get_or, min, max, subst, inl, inr}
+use Rattle.std.proofs.Common.{arith}
+use Rattle.std.proofs.lemmas.Bool.{cases_lt}
+use Rattle.std.specs.List.{between}
+use Rattle.grid_core.specs.declared.conn.Conn.{Conn}
+use Rattle.row_scans.specs.Rows.{AreBeside, IsClosedTo}
+use Rattle.row_scans.specs.RowRaises.{IsRaisedStraight, IsRaisedBy, IsRaisedFromLeft, IsRaisedFromRight, AreCellsRaised}
+use Rattle.row_scans.specs.RowRaises.{IsStepFromLeft, IsStepFromRight}
+use Rattle.row_scans.proofs.{RowPairs.AreParts, Replacing.IsReplaced, Replacing.replaced_read}
+
+-- a part of a row is raised by a part of another
+pub part_value : {by mask xs ys b m part new : List ℕ} {i j n : ℕ} → AreParts by mask xs b m part j i n
+    → IsRaisedStraight m b part new → IsReplaced i new xs ys → (s : ℕ) → s < n
+    → get_or ys (i + s) 0 ≡ max (get_or xs (i + s) 0) (min (get_or by (j + s) 0) (get_or mask (i + s) 0))
+part_value parts raised replaced s less =
+    omega (
+      arith,
+      replaced.inside s (omega (arith, raised.long, parts.to.long)),
+      raised.raised s (omega (arith, parts.to.long)),
+      parts.to.reads s less,
+      parts.from.reads s less,
+      parts.mask.reads s less,
+    )
+
+-- and so is then the whole row
+pub part_raised : {AreThese : ℕ → ℕ → Type 0} {by mask xs ys b m part new : List ℕ} {i j n : ℕ}
+    → AreParts by mask xs b m part j i n → IsRaisedStraight m b part new → IsReplaced i new xs ys
+    → ((s : ℕ) → s < n → AreThese (i + s) (j + s)) → length by ≡ length xs → j + n ≤ length by
+    → IsRaisedBy AreThese mask by xs ys
+part_raised {AreThese} {by} {mask} {xs} {ys} {new = new} {i} {j} {n} parts raised replaced these same_by within =
+    let long : length new ≡ n = omega (arith, raised.long, parts.to.long) in
+    let here = part_value parts raised replaced in
+    record {
+      long = replaced.long;
+      rises = λ k less. elim (cases_lt k i) [
+        | inl ahead ↦ omega (arith, replaced.ahead k ahead)
+        | inr from ↦ elim (cases_lt k (i + n)) [
+          | inr behind ↦ omega (arith, replaced.behind k (omega arith))
+          | inl inside ↦
+              let place : i + (k - i) ≡ k = omega arith in
+              subst (λ p. get_or xs p 0 ≤ get_or ys p 0) place (omega (arith, here (k - i) (omega arith)))
+        ]
+      ];
+      raised = λ k less. elim (cases_lt k i) [
+        | inl ahead ↦ inl (replaced.ahead k ahead)
+        | inr from ↦ elim (cases_lt k (i + n)) [
+          | inr behind ↦ inl (replaced.behind k (omega arith))
+          | inl inside ↦
+              let s = k - i in
+              let place : i + s ≡ k = omega arith in
+              let new_value = here s (omega arith) in
+              elim (cases_lt (get_or xs (i + s) 0) (min (get_or by (j + s) 0) (get_or mask (i + s) 0))) [
+                | inr kept ↦
+                    let same : get_or ys (i + s) 0 ≡ get_or xs (i + s) 0 = omega arith in
+                    inl (subst (λ p. get_or ys p 0 ≡ get_or xs p 0) place same)
+                | inl rose ↦
+                    let less_j : j + s < length xs = omega arith in
+                    let under : get_or ys (i + s) 0 ≤ min (get_or by (j + s) 0) (get_or mask (i + s) 0) = omega arith in
+                    inr (
+                      j + s,
+                      less_j,
+                      subst (λ p. AreThese p (j + s)) place (these s (omega arith)),
+                      subst (λ p. get_or ys p 0 ≤ min (get_or by (j + s) 0) (get_or mask p 0)) place under,
+                    )
+              ]
+        ]
+      ];
+    }
+
+-- a row that is raised by another twice
+pub raised_twice : {AreThese : ℕ → ℕ → Type 0} {mask by xs ys zs : List ℕ} → IsRaisedBy AreThese mask by xs ys
+    → IsRaisedBy AreThese mask by ys zs → IsRaisedBy AreThese mask by xs zs
+raised_twice first second = record {
+  long = omega (arith, first.long, second.long);
+  rises = λ k less. omega (arith, first.rises k less, second.rises k (omega (arith, first.long)));
+  raised = λ k less. elim (second.raised k (omega (arith, first.long))) [
+    | inl kept ↦ elim (first.raised k less) [
+      | inl same ↦ inl (omega arith)
+      | inr rose ↦ inr (rose.0, rose.1, rose.2, omega (arith, rose.3))
+    ]
+    | inr rose ↦ inr (rose.0, omega (arith, rose.1, first.long), rose.2, rose.3)
+  ];
+}
+
+-- a row of a list of cells is raised by another
+pub cells_raised : {conn : Conn} {mask row before after : List ℕ} {source target : ℕ} → length row ≡ length mask
+    → IsReplaced target row before after
+    → IsRaisedBy (AreBeside conn) mask (between source (source + length mask) before)
+    (between target (target + length mask) before) row
+    → IsClosedTo (AreBeside conn) (between source (source + length mask) before) mask row
+    → AreCellsRaised conn mask source target before after
+cells_raised {conn} {mask} {row} {before} {after} {source} {target} same replaced raised closed =
+    let n = length mask in
+    let read : row ≡ between target (target + n) after = replaced_read target (target + n) (omega arith) replaced in
+    record {
+      long = replaced.long;
+      row =
+          subst (λ new. IsRaisedBy (AreBeside conn) mask (between source (source + n) before)
+          (between target (target + n) before) new) read raised;
+      closed =
+          subst (IsClosedTo (AreBeside conn) (between source (source + n) before) mask) read closed;
+      ahead = replaced.ahead;
+      behind = λ i past. replaced.behind i (omega arith);
+    }
+
+-- ---- no value falls
+
+pub rises_from_left : {mask old new : List ℕ} → IsRaisedFromLeft mask old new → (x : ℕ) → x < length old
+    → get_or old x 0 ≤ get_or new x 0
+rises_from_left raised zero less = omega (arith, raised.first)
+rises_from_left raised (suc x) less =
+    let one : suc x ≡ x + 1 = omega arith in
+    rw one (omega (arith, raised.raised x (omega arith)))
+
+pub rises_from_right : {mask old new : List ℕ} → IsRaisedFromRight mask old new → (x : ℕ) → x < length old
+    → get_or old x 0 ≤ get_or new x 0
+rises_from_right {old} raised x less = elim (cases_lt (x + 1) (length old)) [
+  | inl inner ↦ omega (arith, raised.raised x inner)
+  | inr last ↦ omega (arith, raised.last x (omega arith))
+]
+
+-- ---- a step along a row, and then the rest of the way
+
+-- no value falls in a step
+step_from_left_rises : {mask before after : List ℕ} → IsStepFromLeft mask before after → (k : ℕ) → k < length before
+    → get_or before k 0 ≤ get_or after k 0
+step_from_left_rises step zero less = omega (arith, step.first)
+step_from_left_rises step (suc k) less =
+    let one : suc k ≡ k + 1 = omega arith in
+    rw one (omega (arith, step.raised k (omega arith)))
+
+step_from_right_rises : {mask before after : List ℕ} → IsStepFromRight mask before after → (k : ℕ) → k < length before
+    → get_or before k 0 ≤ get_or after k 0
+step_from_right_rises {before} step k less =
+    elim (cases_lt (k + 1) (length before)) [
+      | inl more ↦ omega (arith, step.raised k more)
+      | inr end ↦ omega (arith, step.last k (omega arith))
+    ]
+
+-- what a row becomes after a step it becomes without it
+pub after_step_from_left : {mask before between after : List ℕ} → IsStepFromLeft mask before between
+    → IsRaisedFromLeft mask between after → IsRaisedFromLeft mask before after
+after_step_from_left {between} {after} step raised = record {
+  long = omega (arith, raised.long, step.long);
+  first = omega (arith, raised.first, step.first);
+  raised = λ k within.
+      let rose : get_or between k 0 ≤ get_or after k 0 = rises_from_left raised k (omega (arith, step.long)) in
+      omega (
+        arith,
+        raised.raised k (omega (arith, step.long)),
+        step.raised k within,
+        rose,
+        step_from_left_rises step k (omega arith),
+      );
+}
+
+pub after_step_from_right : {mask before between after : List ℕ} → IsStepFromRight mask before between
+    → IsRaisedFromRight mask between after → IsRaisedFromRight mask before after
+after_step_from_right {between} {after} step raised = record {
+  long = omega (arith, raised.long, step.long);
+  last = λ k end. omega (arith, raised.last k (omega (arith, step.long)), step.last k end);
+  raised = λ k within.
+      let rose : get_or between (k + 1) 0 ≤ get_or after (k + 1) 0 =
+      rises_from_right raised (k + 1) (omega (arith, step.long)) in
+      omega (
+        arith,
+        raised.raised k (omega (arith, step.long)),
+        step.raised k within,
+        rose,
+        step_from_right_rises step (k + 1) within,
+      );
+}
