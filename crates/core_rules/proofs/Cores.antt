@@ -1,21 +1,13 @@
 -- Cores in which image and work change and all else stays.
-use Rattle.std.proofs.Common.{◌≡◌, ℕ, ◌<◌, ◌≤◌, List, length, sym, subst, ap, ◌∙◌, arith, inl, inr, ◌⊎◌}
-use Rattle.std.specs.Prelude.{◌≢◌, Contains}
-use Rattle.std.proofs.lemmas.Bool.{cases_eq}
-use Rattle.std.proofs.lemmas.List.{get_or-set_same, get_or-set_other}
-use Rattle.grid_core.specs.declared.pixel.Pixel.{Pixel}
+use Rattle.std.proofs.Common.{◌≡◌, ℕ, ◌<◌, ◌≤◌, List, length, sym, subst, ap, ◌∙◌, arith, inl, inr, ◌⊎◌, ◌≢◌, Contains}
+use Rattle.std.proofs.{lemmas.Bool.cases_eq, lemmas.List.get_or-set_same, lemmas.List.get_or-set_other}
+use Rattle.grid_core.specs.{declared.pixel.Pixel.Pixel, Path.Inside, Tiles.tile_of}
 use Rattle.grid_core.specs.Raster.{Raster, IsInside, value_at}
-use Rattle.grid_core.specs.Path.{Inside}
-use Rattle.border_queues.specs.declared.hint.Hint.{Hint}
-use Rattle.core_rules.specs.Image.{IsOpen}
-use Rattle.core_rules.specs.Image.{IsSupported, IsOfSize}
-use Rattle.grid_core.specs.Tiles.{tile_of}
-use Rattle.grid_core.proofs.Tilings.{each_pixel_in_one_tile}
+use Rattle.border_queues.specs.{declared.hint.Hint.Hint, TileWork.TileWork, TileWork.idle}
+use Rattle.core_rules.specs.{Image.IsOpen, Image.IsSupported, Image.IsOfSize, Hits.IsInTile, Hints.IsPresent}
 use Rattle.core_rules.specs.Work.{Core, domain, tiling, mask_at, image_at, IsTile, work_at, with_work}
-use Rattle.border_queues.specs.TileWork.{TileWork, idle}
-use Rattle.core_rules.specs.Hits.{IsInTile}
-use Rattle.core_rules.specs.Hints.{IsPresent}
 use Rattle.core_rules.specs.Invariant.{IsShaped, IsValid, HasHint, HasWork, IsSound}
+use Rattle.grid_core.proofs.Tilings.{each_pixel_in_one_tile}
 
 -- ---- other work at one tile
 
@@ -30,28 +22,25 @@ work_elsewhere core t u work other = get_or-set_other core.tiles t u work idle o
 pub field_kept : {X : Type 0} (core : Core) (t : ℕ) (work : TileWork) (f : TileWork → X) → IsTile core t
     → f work ≡ f (work_at core t) → (u : ℕ) → f (work_at (with_work core t work) u) ≡ f (work_at core u)
 field_kept core t work f within same u = elim (cases_eq u t) [
-  | inl here ↦
-      subst (λ v. f (work_at (with_work core t work) v) ≡ f (work_at core v)) (sym here)
-      (ap f (work_there core t work within) ∙ same)
+  | inl here ↦ rw here (ap f (work_there core t work within) ∙ same)
   | inr other ↦ ap f (work_elsewhere core t u work other)
 ]
 
 -- a tile with a pixel is one of the core's
+pub tile_of_pixel : (core : Core) (p : Pixel) → IsShaped core → Inside (domain core) p
+    → IsTile core (tile_of (tiling core) p)
+tile_of_pixel core p shape inside =
+    omega (arith, (each_pixel_in_one_tile (tiling core) p shape.tiled inside).0, shape.tiles)
+
 pub tile_of_pixel_is_tile : (core : Core) (t : ℕ) (p : Pixel) → IsShaped core → IsInTile (tiling core) t p
     → IsTile core t
-tile_of_pixel_is_tile core t p shape in_tile =
-    let in_one = (each_pixel_in_one_tile (tiling core) p shape.tiled in_tile.inside).0 in
-    let count = shape.tiles in
-    let is_tile : IsTile core (tile_of (tiling core) p) = omega (arith, in_one, count) in
-    subst (IsTile core) in_tile.tile is_tile
+tile_of_pixel_is_tile core t p shape in_tile = rw in_tile.tile at (tile_of_pixel core p shape in_tile.inside)
 
 -- a pixel of the domain is one of the image
 pub inside_image : (core : Core) (p : Pixel) → IsShaped core → Inside (domain core) p
     → IsInside core.image.width core.image.height p
 inside_image core p shape inside =
-    let width = shape.image.width in
-    let height = shape.image.height in
-    (omega (arith, inside.0, width), omega (arith, inside.1, height))
+    (omega (arith, inside.0, shape.image.width), omega (arith, inside.1, shape.image.height))
 
 -- ---- another image, other work, another serial
 
@@ -81,13 +70,13 @@ module _ (before : Core) (image : Raster) (tiles : List TileWork) (serial : ℕ)
   present_before : (hint : Hint) → IsPresent (changed before image tiles serial) hint → IsPresent before hint
   present_before hint present = record {
     is_tile = subst (λ n. hint.from < n) rise.count present.is_tile;
-    generation = let same = rise.generations hint.from in omega (arith, same, present.generation);
+    generation = omega (arith, rise.generations hint.from, present.generation);
   }
 
   pub present_after : (hint : Hint) → IsPresent before hint → IsPresent (changed before image tiles serial) hint
   present_after hint present = record {
     is_tile = subst (λ n. hint.from < n) (sym rise.count) present.is_tile;
-    generation = let same = rise.generations hint.from in omega (arith, same, present.generation);
+    generation = omega (arith, rise.generations hint.from, present.generation);
   }
 
   -- what a hint says stays true
@@ -95,7 +84,7 @@ module _ (before : Core) (image : Raster) (tiles : List TileWork) (serial : ℕ)
   valid_after t hint valid = record {
     to = record { inside = valid.to.inside; tile = valid.to.tile };
     from = subst (λ n. hint.from < n) (sym rise.count) valid.from;
-    earlier = let same = rise.generations hint.from in omega (arith, same, valid.earlier);
+    earlier = omega (arith, rise.generations hint.from, valid.earlier);
     holds = λ present.
         let can = valid.holds (present_before hint present) in
         record {
@@ -126,26 +115,22 @@ module _ (before : Core) (image : Raster) (tiles : List TileWork) (serial : ℕ)
       → Contains (work_at (changed before image tiles serial) t).inbox hint
       → Contains (work_at before t).inbox hint ⊎ IsValid (changed before image tiles serial) t hint)
       → ((p q : Pixel) → IsOpen (domain before) (mask_at before) (value_at image) p q
-      → HasWork (changed before image tiles serial) p q)
-      → IsSound (changed before image tiles serial)
+      → HasWork (changed before image tiles serial) p q) → IsSound (changed before image tiles serial)
   sound_after sound size supported hints work = record {
     shape = record {
       tiled = sound.shape.tiled;
       mask = sound.shape.mask;
       image = size;
-      tiles = let same = rise.count in omega (arith, same, sound.shape.tiles);
+      tiles = omega (arith, rise.count, sound.shape.tiles);
       strokes = sound.shape.strokes;
       generations = λ t within.
-          let bound = sound.shape.generations t (subst (λ n. t < n) rise.count within) in
-          let same = rise.generations t in
-          omega (arith, bound, same);
+          omega (arith, sound.shape.generations t (subst (λ n. t < n) rise.count within), rise.generations t);
     };
     marker = sound.marker;
     is_marker = sound.is_marker;
     supported = supported;
     hints = λ t hint within waits. elim (hints t hint within waits) [
-      | inl waited ↦
-          valid_after t hint (sound.hints t hint (subst (λ n. t < n) rise.count within) waited)
+      | inl waited ↦ valid_after t hint (sound.hints t hint (subst (λ n. t < n) rise.count within) waited)
       | inr valid ↦ valid
     ];
     work = work;

@@ -1,52 +1,36 @@
 -- A run without merges takes no more jobs than there was work.
 use Rattle.std.proofs.Common.{◌≡◌, ℕ, zero, suc, ◌+◌, ◌-◌, ◌<◌, ◌≤◌, Bool, true, false, cond, List, [], ◌∷◌, ◌++◌}
-use Rattle.std.proofs.Common.{length, get_or}
-use Rattle.std.proofs.Common.{refl, sym, ◌∙◌, ap, subst, arith, inl, inr}
-use Rattle.std.specs.Prelude.{Option, Some, None, remove, count_by, is_some, option_map, option_to_list}
-use Rattle.std.specs.List.{sum_by}
-use Rattle.std.proofs.lemmas.List.{length-append}
-use Rattle.std.proofs.lemmas.List.Sums.{sum_by-cons, sum_by-set}
-use Rattle.grid_core.specs.declared.conn.Conn.{Conn}
-use Rattle.grid_core.specs.declared.pixel.Pixel.{Pixel}
-use Rattle.grid_core.specs.Raster.{Raster, value_at}
-use Rattle.grid_core.specs.Path.{Inside, domain_of}
-use Rattle.grid_core.specs.Reconstruction.{IsReconstruction, IsLawful}
-use Rattle.grid_core.specs.Tiles.{tile_of}
-use Rattle.grid_core.proofs.Images.{lies_between}
-use Rattle.grid_core.specs.Owed.{sum_over}
-use Rattle.grid_core.proofs.Sums.{sum_over-le, sum_over-less}
+use Rattle.std.proofs.Common.{length, get_or, refl, sym, ◌∙◌, ap, subst, arith, inl, inr, Option, Some, None, remove}
+use Rattle.std.proofs.Common.{count_by, is_some, option_map, option_to_list, sum_by}
+use Rattle.std.proofs.{lemmas.List.length-append, lemmas.List.Sums.sum_by-cons, lemmas.List.Sums.sum_by-set}
+use Rattle.grid_core.specs.{declared.conn.Conn.Conn, declared.pixel.Pixel.Pixel, Raster.Raster, Raster.value_at}
+use Rattle.grid_core.specs.{Path.Inside, Path.domain_of, Reconstruction.IsReconstruction, Reconstruction.IsLawful}
+use Rattle.grid_core.specs.{Tiles.tile_of, Owed.sum_over}
+use Rattle.grid_core.proofs.{Images.lies_between, Sums.sum_over-le, Sums.sum_over-less, Growing.reconstruction_of}
 use Rattle.grid_core.proofs.Owed.{one_owed, same_marker, reconstruction_is_owed_nothing}
-use Rattle.grid_core.proofs.Growing.{reconstruction_of}
 use Rattle.stroke_lattice.specs.State.{State}
 use Rattle.marker_tiles.specs.Marker.{IsMarker}
 use Rattle.marker_tiles.proofs.Levels.{one_marker}
-use Rattle.border_queues.specs.Laws.{EdgesAreOpen}
-use Rattle.tile_generations.specs.declared.ticket.Ticket.{Ticket}
-use Rattle.tile_generations.specs.Jobs.{Job, Swept, IsSwept}
-use Rattle.core_rules.specs.declared.answers.Back.{Back}
+use Rattle.border_queues.specs.{Laws.EdgesAreOpen, TileWork.TileWork, TileWork.idle}
+use Rattle.tile_generations.specs.{declared.ticket.Ticket.Ticket, Jobs.Job, Jobs.Swept, Jobs.IsSwept}
+use Rattle.core_rules.specs.{declared.answers.Back.Back, declared.answers.Handed.Handed, declared.step.Step.Step}
+use Rattle.core_rules.specs.{Hints.without_hint, Hints.raised, Hints.IsHanded, Invariant.IsSound}
 use Rattle.core_rules.specs.declared.answers.Back.TheVariants.{Joined, Again, Stale, Stranger}
-use Rattle.core_rules.specs.declared.answers.Handed.{Handed}
 use Rattle.core_rules.specs.declared.answers.Handed.TheVariants.{Raised, Same, Stale as Old, Nothing}
-use Rattle.core_rules.specs.declared.step.Step.{Step}
-use Rattle.core_rules.specs.declared.step.Step.TheVariants as steps
-use Rattle.core_rules.specs.Work.{Core, domain, tiling, mask_at, image_at, IsTile, work_at, with_work}
-use Rattle.border_queues.specs.TileWork.{TileWork, idle}
-use Rattle.core_rules.specs.Work.{IsQuiet}
+use Rattle.core_rules.specs.Work.{Core, domain, tiling, mask_at, image_at, IsTile, work_at, with_work, IsQuiet}
 use Rattle.core_rules.specs.Sweeps.{taken, IsKnown, IsTaken, IsGivenBack, IsAbandoned, IsJoined}
-use Rattle.core_rules.specs.Hints.{without_hint, raised, IsHanded}
-use Rattle.core_rules.specs.Events.{Event, Answer, Happens, Merge, Take, GiveBack, Abandon, Hand}
-use Rattle.core_rules.specs.Events.{OfMerge, OfTake, OfGiveBack, OfAbandon, OfHand}
+use Rattle.core_rules.specs.Events.{Event, Answer, Happens, Merge, Take, GiveBack, Abandon, Hand, OfMerge, OfTake}
+use Rattle.core_rules.specs.Events.{OfGiveBack, OfAbandon, OfHand}
 use Rattle.core_rules.specs.Runs.{Entry, IsRun, jobs_of, abandons_of, abandoned, tickets_out, IsWorkedOff, IsSettling}
 use Rattle.core_rules.specs.Runs.{IsSettled}
 use Rattle.core_rules.specs.Schedule.{Progress, started, IsStep, AreSteps}
 use Rattle.core_rules.specs.Counting.{dirty_tiles, tiles_out, Owes, merges_of, IsWithinWork}
-use Rattle.core_rules.specs.Invariant.{IsSound}
-use Rattle.core_rules.proofs.Removals.{taken_was_there}
+use Rattle.core_rules.proofs.{Removals.taken_was_there, Schedules.schedule_is_run}
 use Rattle.core_rules.proofs.Handing.{hint_of_tile, home_is_tile, at_home, raised_rise}
 use Rattle.core_rules.proofs.Joining.{local, placed, in_rect_size, rises, same_dirty}
 use Rattle.core_rules.proofs.Quiet.{sound_is_lawful, quiet_is_reconstruction}
 use Rattle.core_rules.proofs.Running.{event_keeps_sound, run_keeps_sound, settling_is_run}
-use Rattle.core_rules.proofs.Schedules.{schedule_is_run}
+use Rattle.core_rules.specs.declared.step.Step.TheVariants as steps
 
 -- ---- how many tiles are dirty
 
@@ -71,9 +55,7 @@ same_sum f (work ∷ works) [] count same = absurd (omega (arith, count))
 same_sum f (old ∷ olds) (new ∷ news) count same =
     let rest : sum_by f news ≡ sum_by f olds = same_sum f olds news (omega (arith, count)) (λ k. same (suc k)) in
     let first : f new ≡ f old = same zero in
-    let new_is = sum_by-cons f new news in
-    let old_is = sum_by-cons f old olds in
-    omega (arith, rest, first, new_is, old_is)
+    omega (arith, rest, first, sum_by-cons f new news, sum_by-cons f old olds)
 
 -- ---- what an event takes and pays
 
@@ -107,7 +89,7 @@ both_paid : (a b c : Core) (r : Pixel → ℕ) (jobs more_jobs abandons more_aba
     → IsPaid b c r more_jobs more_abandons → IsPaid a c r (jobs + more_jobs) (abandons + more_abandons)
 both_paid a b c r jobs more_jobs abandons more_abandons first second = record {
   same = second.same ∙ first.same;
-  count = let one = first.count in let other = second.count in omega (arith, one, other);
+  count = omega (arith, first.count, second.count);
 }
 
 take_is_paid : (before after : Core) (t : ℕ) (job : Job) (r : Pixel → ℕ) → IsTaken before t (Some job) after
@@ -142,9 +124,8 @@ without_hint_dirty core t i within =
 lost_is_paid : (before : Core) (t i : ℕ) (r : Pixel → ℕ) → IsTile before t
     → IsPaid before (without_hint before t i) r 0 0
 lost_is_paid before t i r within =
-    let dirty = without_hint_dirty before t i within in
     let lacks : lack (without_hint before t i) r ≡ lack before r = refl in
-    record { same = refl; count = omega (arith, dirty, lacks) }
+    record { same = refl; count = omega (arith, without_hint_dirty before t i within, lacks) }
 
 -- a hint that raises its pixel makes a tile dirty at most, and the image lacks less
 raise_is_paid : (before after : Core) (t i : ℕ) (r : Pixel → ℕ) → IsSound before → IsSound after
@@ -158,26 +139,23 @@ raise_is_paid before after t i r sound sound_after goal (hint, there, present, a
     let work : TileWork = record (work_at lost home) { dirty = true } in
     let moves : dirty_tiles now + one_if (work_at lost home).dirty ≡ dirty_tiles lost + 1 =
     dirty_moves lost home work (home_is_tile before sound t i hint there valid) in
-    let dirty = without_hint_dirty before t i within in
-    let is : image_at now hint.to_pixel ≡ hint.value =
-    at_home before sound t i hint there valid present above in
+    let is : image_at now hint.to_pixel ≡ hint.value = at_home before sound t i hint there valid present above in
     let lawful : IsLawful (domain before) (mask_at before) goal.0 (image_at now) =
     sound_is_lawful now (subst IsSound same sound_after) goal.0 goal.1 in
     let top : image_at now hint.to_pixel ≤ r hint.to_pixel =
     (lies_between (domain before) (mask_at before) goal.0 (image_at now) r lawful goal.2 hint.to_pixel
     valid.to.inside).1 in
     let less : lack now r < lack before r =
-    sum_over-less (domain before) (λ p. r p - image_at now p) (λ p. r p - image_at before p) hint.to_pixel
-    (λ p inside.
+    sum_over-less (domain before) (λ p. r p - image_at now p) (λ p. r p - image_at before p) hint.to_pixel (λ p inside.
     let more : image_at before p ≤ image_at now p =
     (raised_rise before sound t i hint there valid present above).rises p inside in
     omega (arith, more)) valid.to.inside (omega (arith, is, top, above)) in
-    subst (λ c. IsPaid before c r 0 0) (sym same) (record { same = refl; count = omega (arith, moves, dirty, less) })
+    let dirty = without_hint_dirty before t i within in
+    rw same (record { same = refl; count = omega (arith, moves, dirty, less) })
 
 hand_is_paid : (before after : Core) (t i : ℕ) (handed : Handed) (r : Pixel → ℕ) → IsSound before → IsSound after
     → IsGoal (scene before) r → IsHanded before t i handed after → IsPaid before after r 0 0
-hand_is_paid before after t i Nothing r sound sound_after goal (none, same) =
-    subst (λ c. IsPaid before c r 0 0) (sym same) (free before r)
+hand_is_paid before after t i Nothing r sound sound_after goal (none, same) = rw same (free before r)
 hand_is_paid before after t i Old r sound sound_after goal (hint, there, old, same) =
     subst (λ c. IsPaid before c r 0 0) (sym same) (lost_is_paid before t i r (hint_of_tile before t i hint there))
 hand_is_paid before after t i Raised r sound sound_after goal handed =
@@ -200,23 +178,19 @@ join_is_paid edges_open before after swept r sound is_swept known joined below =
     ap (λ (c : Core). lack c r) joined.rest in
     let less : sum_over (domain before) (λ p. r p - image_at after p) ≤ lack before r =
     sum_over-le (domain before) (λ p. r p - image_at after p) (λ p. r p - image_at before p) (λ p inside.
-    let more = rises before after swept sound is_swept known joined edges_open below p inside in
-    omega (arith, more)) in
+    omega (arith, rises before after swept sound is_swept known joined edges_open below p inside)) in
     record { same = ap scene joined.rest; count = omega (arith, dirty, lacks, less) }
 
 give_back_is_paid : EdgesAreOpen → (before after : Core) (swept : Swept) (back : Back) (r : Pixel → ℕ)
     → IsSound before → IsSwept swept → IsGivenBack before swept back after → IsPaid before after r 0 0
 give_back_is_paid edges_open before after swept Joined r sound is_swept (known, out, unchanged, joined) =
     join_is_paid edges_open before after swept r sound is_swept known joined (λ p inside.
-    let e = unchanged.base.values p (in_rect_size before swept sound known p inside) in
-    omega (arith, e))
+    omega (arith, unchanged.base.values p (in_rect_size before swept sound known p inside)))
 give_back_is_paid edges_open before after swept Again r sound is_swept (known, out, risen, joined) =
     join_is_paid edges_open before after swept r sound is_swept known joined (λ p inside.
     risen.base.values p (in_rect_size before swept sound known p inside))
-give_back_is_paid edges_open before after swept Stale r sound is_swept (known, not_out, same) =
-    subst (λ c. IsPaid before c r 0 0) (sym same) (free before r)
-give_back_is_paid edges_open before after swept Stranger r sound is_swept (why, same) =
-    subst (λ c. IsPaid before c r 0 0) (sym same) (free before r)
+give_back_is_paid edges_open before after swept Stale r sound is_swept (known, not_out, same) = rw same (free before r)
+give_back_is_paid edges_open before after swept Stranger r sound is_swept (why, same) = rw same (free before r)
 
 -- ---- lists of events
 
@@ -231,9 +205,7 @@ abandons_first entry log = omega arith
 
 merges_append : (first second : List Entry) → merges_of (first ++ second) ≡ merges_of first + merges_of second
 merges_append [] second = omega arith
-merges_append ((Merge delta, answer) ∷ log) second =
-    let rest = merges_append log second in
-    omega (arith, rest)
+merges_append ((Merge delta, answer) ∷ log) second = omega (arith, merges_append log second)
 merges_append (entry ∷ log) second = merges_append log second
 
 event_is_paid : EdgesAreOpen → (before after : Core) (event : Event) (answer : Answer) (r : Pixel → ℕ)
@@ -242,8 +214,7 @@ event_is_paid : EdgesAreOpen → (before after : Core) (event : Event) (answer :
     → IsPaid before after r (jobs_of ((event, answer) ∷ [])) (abandons_of ((event, answer) ∷ []))
 event_is_paid edges_open before after (Take t) (OfTake (Some job)) r sound goal none happens =
     take_is_paid before after t job r happens
-event_is_paid edges_open before after (Take t) (OfTake None) r sound goal none (unready, same) =
-    subst (λ c. IsPaid before c r 0 0) (sym same) (free before r)
+event_is_paid edges_open before after (Take t) (OfTake None) r sound goal none (unready, same) = rw same (free before r)
 event_is_paid edges_open before after (GiveBack swept) (OfGiveBack back) r sound goal none (is_swept, given) =
     give_back_is_paid edges_open before after swept back r sound is_swept given
 event_is_paid edges_open before after (Abandon ticket) (OfAbandon true) r sound goal none happens =
@@ -259,19 +230,16 @@ event_is_paid edges_open before after _ _ r sound goal none happens = absurd hap
 run_is_paid : EdgesAreOpen → (before after : Core) (log : List Entry) (r : Pixel → ℕ) → IsSound before
     → IsGoal (scene before) r → merges_of log ≡ 0 → IsRun before log after
     → IsPaid before after r (jobs_of log) (abandons_of log)
-run_is_paid edges_open before after [] r sound goal none same =
-    subst (λ c. IsPaid before c r 0 0) (sym same) (free before r)
+run_is_paid edges_open before after [] r sound goal none same = rw same (free before r)
 run_is_paid edges_open before after ((event, answer) ∷ log) r sound goal none (next, happens, run) =
     let one : List Entry = (event, answer) ∷ [] in
     let merges : merges_of ((event, answer) ∷ log) ≡ merges_of one + merges_of log = merges_append one log in
-    let first =
-    event_is_paid edges_open before next event answer r sound goal (omega (arith, merges, none)) happens in
+    let first = event_is_paid edges_open before next event answer r sound goal (omega (arith, merges, none)) happens in
     let others =
     run_is_paid edges_open next after log r (event_keeps_sound edges_open before next event answer sound happens)
     (subst (λ s. IsGoal s r) (sym first.same) goal) (omega (arith, merges, none)) run in
-    subst (λ n. IsPaid before after r n (abandons_of ((event, answer) ∷ log))) (sym (jobs_first (event, answer) log))
-    (subst (IsPaid before after r (jobs_of one + jobs_of log)) (sym (abandons_first (event, answer) log))
-    (both_paid before next after r (jobs_of one) (jobs_of log) (abandons_of one) (abandons_of log) first others))
+    rw (jobs_first (event, answer) log, abandons_first (event, answer) log)
+    (both_paid before next after r (jobs_of one) (jobs_of log) (abandons_of one) (abandons_of log) first others)
 
 -- the core owes what it lacks of the reconstruction
 lack_is_owed : (core : Core) (r : Pixel → ℕ) → IsGoal (scene core) r → Owes core (lack core r)
@@ -327,35 +295,25 @@ abbrev IsMatched : Progress → Type 0
 IsMatched a = merges_of a.log ≡ length a.accepted
 
 -- an event that is no merge
-event_matches : (a b : Progress) (event : Event) (answer : Answer) → IsMatched a
-    → merges_of ((event, answer) ∷ []) ≡ 0 → b.log ≡ a.log ++ (event, answer) ∷ [] → b.accepted ≡ a.accepted
-    → IsMatched b
-event_matches a b event answer matched none log accepted =
-    let longer : merges_of b.log ≡ merges_of a.log + merges_of ((event, answer) ∷ []) =
-    ap merges_of log ∙ merges_append a.log ((event, answer) ∷ []) in
-    let same : length b.accepted ≡ length a.accepted = ap length accepted in
-    omega (arith, matched, none, longer, same)
+event_matches : (a : Progress) (event : Event) (answer : Answer) → IsMatched a → merges_of ((event, answer) ∷ []) ≡ 0
+    → merges_of (a.log ++ (event, answer) ∷ []) ≡ length a.accepted
+event_matches a event answer matched none = omega (arith, matched, none, merges_append a.log ((event, answer) ∷ []))
 
 step_matches : (step : Step) (a b : Progress) → IsMatched a → IsStep step a b → IsMatched b
 step_matches (steps.Edit delta) a b matched (inl (turnover, happens, same)) =
     let longer = merges_append a.log ((Merge delta, OfMerge turnover) ∷ []) in
-    let more = length-append a.accepted (a.count ∷ []) in
-    subst IsMatched (sym same) (omega (arith, matched, longer, more))
-step_matches (steps.Edit delta) a b matched (inr (why, refused, same)) = subst IsMatched (sym same) matched
+    rw same (omega (arith, matched, longer, length-append a.accepted (a.count ∷ [])))
+step_matches (steps.Edit delta) a b matched (inr (why, refused, same)) = rw same matched
 step_matches (steps.Take t) a b matched (job, more, happens, added, same) =
-    event_matches a b (Take t) (OfTake job) matched refl (ap (λ (c : Progress). c.log) same)
-    (ap (λ (c : Progress). c.accepted) same)
+    rw same (event_matches a (Take t) (OfTake job) matched refl)
 step_matches (steps.Return j) a b matched (inl (swept, there, (answer, happens, same))) =
-    event_matches a b (GiveBack swept) answer matched refl (ap (λ (c : Progress). c.log) same)
-    (ap (λ (c : Progress). c.accepted) same)
-step_matches (steps.Return j) a b matched (inr (none, same)) = subst IsMatched (sym same) matched
+    rw same (event_matches a (GiveBack swept) answer matched refl)
+step_matches (steps.Return j) a b matched (inr (none, same)) = rw same matched
 step_matches (steps.Abandon j) a b matched (inl (swept, there, (answer, happens, same))) =
-    event_matches a b (Abandon swept.job.ticket) answer matched refl (ap (λ (c : Progress). c.log) same)
-    (ap (λ (c : Progress). c.accepted) same)
-step_matches (steps.Abandon j) a b matched (inr (none, same)) = subst IsMatched (sym same) matched
+    rw same (event_matches a (Abandon swept.job.ticket) answer matched refl)
+step_matches (steps.Abandon j) a b matched (inr (none, same)) = rw same matched
 step_matches (steps.Hand t place) a b matched (answer, happens, same) =
-    event_matches a b (Hand t place) answer matched refl (ap (λ (c : Progress). c.log) same)
-    (ap (λ (c : Progress). c.accepted) same)
+    rw same (event_matches a (Hand t place) answer matched refl)
 
 steps_match : (steps : List Step) (a b : Progress) → IsMatched a → AreSteps steps a b → IsMatched b
 steps_match [] a b matched same = subst IsMatched (sym same) matched
@@ -372,8 +330,7 @@ schedule_is_within_work edges_open start steps end sound are_steps none =
 
 -- ---- settling
 
-no_merges_abandoned : (tickets : List Ticket) (log : List Entry)
-    → merges_of (abandoned tickets ++ log) ≡ merges_of log
+no_merges_abandoned : (tickets : List Ticket) (log : List Entry) → merges_of (abandoned tickets ++ log) ≡ merges_of log
 no_merges_abandoned [] log = refl
 no_merges_abandoned (ticket ∷ tickets) log = no_merges_abandoned tickets log
 
@@ -384,8 +341,7 @@ worked_merges before after ((GiveBack swept, answer) ∷ log) (is_next, (next, h
     worked_merges next after log rest
 worked_merges before after ((Hand t place, answer) ∷ log) (is_next, (next, happens, rest)) =
     worked_merges next after log rest
-worked_merges before after ((Take t, answer) ∷ log) (is_next, (next, happens, rest)) =
-    worked_merges next after log rest
+worked_merges before after ((Take t, answer) ∷ log) (is_next, (next, happens, rest)) = worked_merges next after log rest
 worked_merges before after ((_, _) ∷ log) (is_next, (next, happens, rest)) = absurd is_next
 
 pub settling_is_within_work : EdgesAreOpen → (before after : Core) (log : List Entry) → IsSound before

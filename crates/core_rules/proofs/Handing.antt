@@ -1,22 +1,15 @@
 -- Handing over a hint keeps a core sound.
-use Rattle.std.proofs.Common.{◌≡◌, ℕ, ◌<◌, ◌≤◌, true, length, refl, sym, ◌∙◌, ap, subst, arith, inl, inr, ◌⊎◌}
-use Rattle.std.specs.Prelude.{Contains, Some, None, IsTrue, remove, slice_get}
-use Rattle.std.proofs.lemmas.Bool.{cases_lt, cases_eq}
-use Rattle.std.proofs.lemmas.List.{length-set, get_or_past}
+use Rattle.std.proofs.Common.{◌≡◌, ℕ, ◌<◌, ◌≤◌, true, length, refl, sym, ◌∙◌, ap, subst, arith, inl, inr, ◌⊎◌, Contains}
+use Rattle.std.proofs.Common.{Some, None, IsTrue, remove, slice_get}
+use Rattle.std.proofs.{lemmas.Bool.cases_lt, lemmas.Bool.cases_eq, lemmas.List.length-set, lemmas.List.get_or_past}
 use Rattle.std.proofs.lemmas.Option.{slice_get_within}
-use Rattle.grid_core.specs.declared.pixel.Pixel.{Pixel}
-use Rattle.grid_core.specs.Raster.{value_at, with_value, index_of}
-use Rattle.grid_core.specs.Path.{Inside}
-use Rattle.grid_core.specs.Tiles.{tile_of}
-use Rattle.grid_core.proofs.Pixels.{same_pixel_or_not}
-use Rattle.grid_core.proofs.Cells.{set_is_read, set_keeps_others}
-use Rattle.border_queues.specs.declared.hint.Hint.{Hint}
-use Rattle.core_rules.specs.Image.{IsOpen}
-use Rattle.core_rules.specs.declared.answers.Handed.{Handed}
+use Rattle.grid_core.specs.{declared.pixel.Pixel.Pixel, Path.Inside, Tiles.tile_of}
+use Rattle.grid_core.specs.Raster.{Raster, value_at, with_value, index_of}
+use Rattle.grid_core.proofs.{Pixels.same_pixel_or_not, Cells.set_is_read, Cells.set_keeps_others}
+use Rattle.border_queues.specs.{declared.hint.Hint.Hint, TileWork.TileWork, TileWork.idle}
+use Rattle.core_rules.specs.{Image.IsOpen, Image.IsSupported, declared.answers.Handed.Handed}
 use Rattle.core_rules.specs.declared.answers.Handed.TheVariants.{Raised, Same, Stale, Nothing}
-use Rattle.core_rules.specs.Image.{IsSupported}
 use Rattle.core_rules.specs.Work.{Core, domain, tiling, mask_at, image_at, IsTile, work_at}
-use Rattle.border_queues.specs.TileWork.{TileWork, idle}
 use Rattle.core_rules.specs.Hints.{hint_at, IsPresent, without_hint, raised, IsHanded}
 use Rattle.core_rules.specs.Invariant.{IsValid, HasHint, HasWork, IsSound}
 use Rattle.core_rules.proofs.Cores.{work_there, work_elsewhere, field_kept, inside_image, IsRise, sound_after}
@@ -35,180 +28,146 @@ hint_of_tile core t i hint there = elim (cases_lt t (length core.tiles)) [
       absurd cc
 ]
 
+-- what is left at the tile without that hint
+abbrev pub left : Core → ℕ → ℕ → TileWork
+left core t i = record (work_at core t) { inbox = remove (work_at core t).inbox i }
+
 module _ (before : Core) (sound : IsSound before) (t i : ℕ) (hint : Hint) (there : hint_at before t i ≡ Some hint) where
   is_tile : IsTile before t
   is_tile = hint_of_tile before t i hint there
 
+  abbrev lost : Core
+  lost = without_hint before t i
+
   -- a hint that waits afterwards waited before
-  waited : (u : ℕ) (h : Hint) → Contains (work_at (without_hint before t i) u).inbox h
-      → Contains (work_at before u).inbox h
-  waited u h waits =
-      let place = slice_get_within (work_at before t).inbox i hint there in
-      elim (cases_eq u t) [
-        | inl here ↦
-            let at_t : Contains (remove (work_at before t).inbox i) h =
-            subst (λ (w : TileWork). Contains w.inbox h)
-            (work_there before t (record (work_at before t) { inbox = remove (work_at before t).inbox i }) is_tile)
-            (subst (λ v. Contains (work_at (without_hint before t i) v).inbox h) here waits) in
-            subst (λ v. Contains (work_at before v).inbox h) (sym here)
-            (left_was_there (work_at before t).inbox i h place at_t)
-        | inr other ↦
-            subst (λ (w : TileWork). Contains w.inbox h)
-            (work_elsewhere before t u (record (work_at before t) { inbox = remove (work_at before t).inbox i }) other)
-            waits
-      ]
+  waited : (u : ℕ) (h : Hint) → Contains (work_at lost u).inbox h → Contains (work_at before u).inbox h
+  waited u h waits = elim (cases_eq u t) [
+    | inl here ↦
+        rw here (left_was_there (work_at before t).inbox i h (slice_get_within (work_at before t).inbox i hint there)
+        (rw (here, work_there before t (left before t i) is_tile) at waits))
+    | inr other ↦ rw (work_elsewhere before t u (left before t i) other) at waits
+  ]
 
   -- a hint that waited waits still, or is the one that was handed over
   waits_still : (u : ℕ) (h : Hint) → Contains (work_at before u).inbox h
-      → Contains (work_at (without_hint before t i) u).inbox h ⊎ (h ≡ hint)
+      → Contains (work_at lost u).inbox h ⊎ (h ≡ hint)
   waits_still u h waits = elim (cases_eq u t) [
-    | inl here ↦
-        let at_t : Contains (work_at before t).inbox h =
-        subst (λ v. Contains (work_at before v).inbox h) here waits in
-        elim (left_or_taken (work_at before t).inbox i h hint there at_t) [
-          | inl left ↦
-              inl (subst (λ v. Contains (work_at (without_hint before t i) v).inbox h) (sym here)
-              (subst (λ (w : TileWork). Contains w.inbox h)
-              (sym (work_there before t (record (work_at before t) { inbox = remove (work_at before t).inbox i })
-              is_tile)) left))
-          | inr taken ↦ inr taken
-        ]
-    | inr other ↦
-        inl (subst (λ (w : TileWork). Contains w.inbox h)
-        (sym (work_elsewhere before t u (record (work_at before t) { inbox = remove (work_at before t).inbox i })
-        other))
-        waits)
+    | inl here ↦ elim (left_or_taken (work_at before t).inbox i h hint there (rw here at waits)) [
+      | inl still ↦ inl (rw (here, work_there before t (left before t i) is_tile) still)
+      | inr taken ↦ inr taken
+    ]
+    | inr other ↦ inl (rw (work_elsewhere before t u (left before t i) other) waits)
   ]
 
   -- what is no matter of inboxes stays
-  stays : {X : Type 0} (f : TileWork → X)
-      → f (record (work_at before t) { inbox = remove (work_at before t).inbox i }) ≡ f (work_at before t)
-      → (u : ℕ) → f (work_at (without_hint before t i) u) ≡ f (work_at before u)
-  stays f same u =
-      field_kept before t (record (work_at before t) { inbox = remove (work_at before t).inbox i }) f is_tile same u
+  stays : {X : Type 0} (f : TileWork → X) → f (left before t i) ≡ f (work_at before t)
+      → (u : ℕ) → f (work_at lost u) ≡ f (work_at before u)
+  stays f same u = field_kept before t (left before t i) f is_tile same u
 
   -- ---- a hint that raises nothing
 
-  lost_rise : IsRise before before.image (without_hint before t i).tiles
+  lost_rise : IsRise before before.image lost.tiles
   lost_rise = record {
     rises = λ p inside. omega arith;
-    count = length-set before.tiles t (record (work_at before t) { inbox = remove (work_at before t).inbox i });
+    count = length-set before.tiles t (left before t i);
     generations = λ u. stays (λ (w : TileWork). w.generation) refl u;
   }
 
   lost_work : ((p q : Pixel) → IsOpen (domain before) (mask_at before) (image_at before) p q
       → (told : HasHint before p q) → told.hint ≡ hint → ⊥) → (p q : Pixel)
-      → IsOpen (domain before) (mask_at before) (image_at before) p q → HasWork before p q
-      → HasWork (without_hint before t i) p q
+      → IsOpen (domain before) (mask_at before) (image_at before) p q → HasWork before p q → HasWork lost p q
   lost_work needless p q pair (inl dirty) =
       inl (subst IsTrue (sym (stays (λ (w : TileWork). w.dirty) refl (tile_of (tiling before) p))) dirty)
   lost_work needless p q pair (inr (inl out)) =
       inr (inl (λ none. out (sym (stays (λ (w : TileWork). w.out) refl (tile_of (tiling before) p)) ∙ none)))
   lost_work needless p q pair (inr (inr told)) = elim (waits_still (tile_of (tiling before) q) told.hint told.waits) [
-    | inl waits ↦
-        inr (inr (told_after before before.image (without_hint before t i).tiles before.serial lost_rise p q refl told
-        waits))
+    | inl waits ↦ inr (inr (told_after before before.image lost.tiles before.serial lost_rise p q refl told waits))
     | inr same ↦ absurd (needless p q pair told same)
   ]
 
   pub lost_sound : ((p q : Pixel) → IsOpen (domain before) (mask_at before) (image_at before) p q
-      → (told : HasHint before p q) → told.hint ≡ hint → ⊥) → IsSound (without_hint before t i)
+      → (told : HasHint before p q) → told.hint ≡ hint → ⊥) → IsSound lost
   lost_sound needless =
-      sound_after before before.image (without_hint before t i).tiles before.serial lost_rise sound sound.shape.image
+      sound_after before before.image lost.tiles before.serial lost_rise sound sound.shape.image
       sound.supported (λ u h within waits. inl (waited u h waits))
       (λ p q pair. lost_work needless p q pair (sound.work p q pair))
 
   -- ---- a hint that raises its pixel
 
-  pub home_is_tile : (valid : IsValid before t hint)
-      → IsTile (without_hint before t i) (tile_of (tiling before) hint.to_pixel)
+  pub home_is_tile : (valid : IsValid before t hint) → IsTile lost (tile_of (tiling before) hint.to_pixel)
   home_is_tile valid =
       let home : tile_of (tiling before) hint.to_pixel ≡ t = valid.to.tile in
-      let count = length-set before.tiles t (record (work_at before t) { inbox = remove (work_at before t).inbox i }) in
-      omega (arith, home, is_tile, count)
+      omega (arith, home, is_tile, length-set before.tiles t (left before t i))
 
   module _ (valid : IsValid before t hint) (present : IsPresent before hint)
       (above : image_at before hint.to_pixel < hint.value) where
+    -- the tile of the pixel, the work there afterwards, and the image and the core then
+    abbrev home : ℕ
+    home = tile_of (tiling before) hint.to_pixel
+
+    abbrev work : TileWork
+    work = record (work_at lost home) { dirty = true }
+
+    abbrev image : Raster
+    image = with_value before.image hint.to_pixel hint.value
+
+    abbrev after : Core
+    after = raised lost hint
+
     -- what is no matter of dirty marks stays as without the hint
     marked : {X : Type 0} (f : TileWork → X) → ((work : TileWork) → f (record work { dirty = true }) ≡ f work)
-        → (u : ℕ) → f (work_at (raised (without_hint before t i) hint) u) ≡ f (work_at (without_hint before t i) u)
-    marked f same u =
-        let home = tile_of (tiling before) hint.to_pixel in
-        field_kept (without_hint before t i) home
-        (record (work_at (without_hint before t i) home) { dirty = true }) f (home_is_tile valid)
-        (same (work_at (without_hint before t i) home)) u
+        → (u : ℕ) → f (work_at after u) ≡ f (work_at lost u)
+    marked f same u = field_kept lost home work f (home_is_tile valid) (same (work_at lost home)) u
 
-    pub home_dirty : IsTrue
-        (work_at (raised (without_hint before t i) hint) (tile_of (tiling before) hint.to_pixel)).dirty
-    home_dirty =
-        let home = tile_of (tiling before) hint.to_pixel in
-        let work = record (work_at (without_hint before t i) home) { dirty = true } in
-        subst (λ (w : TileWork). IsTrue w.dirty)
-        (sym (work_there (without_hint before t i) home work (home_is_tile valid))) refl
+    pub home_dirty : IsTrue (work_at after home).dirty
+    home_dirty = rw (work_there lost home work (home_is_tile valid)) refl
 
-    dirty_still : (u : ℕ) → IsTrue (work_at before u).dirty
-        → IsTrue (work_at (raised (without_hint before t i) hint) u).dirty
+    dirty_still : (u : ℕ) → IsTrue (work_at before u).dirty → IsTrue (work_at after u).dirty
     dirty_still u dirty =
-        let home = tile_of (tiling before) hint.to_pixel in
         elim (cases_eq u home) [
-          | inl here ↦
-              subst (λ v. IsTrue (work_at (raised (without_hint before t i) hint) v).dirty) (sym here) home_dirty
-          | inr other ↦
-              let work = record (work_at (without_hint before t i) home) { dirty = true } in
-              subst (λ (w : TileWork). IsTrue w.dirty)
-              (sym (work_elsewhere (without_hint before t i) home u work other))
-              (subst IsTrue (sym (stays (λ (w : TileWork). w.dirty) refl u)) dirty)
+          | inl here ↦ rw here home_dirty
+          | inr other ↦ rw (work_elsewhere lost home u work other, stays (λ (w : TileWork). w.dirty) refl u) dirty
         ]
 
-    pub at_home : value_at (with_value before.image hint.to_pixel hint.value) hint.to_pixel ≡ hint.value
+    pub at_home : value_at image hint.to_pixel ≡ hint.value
     at_home =
         set_is_read before.image hint.to_pixel hint.value sound.shape.image.filled
         (inside_image before hint.to_pixel sound.shape valid.to.inside)
 
     pub elsewhere : (p : Pixel) → Inside (domain before) p → (p ≡ hint.to_pixel → ⊥)
-        → value_at (with_value before.image hint.to_pixel hint.value) p ≡ image_at before p
+        → value_at image p ≡ image_at before p
     elsewhere p inside other =
         set_keeps_others before.image hint.to_pixel p hint.value
         (inside_image before hint.to_pixel sound.shape valid.to.inside) (inside_image before p sound.shape inside) other
 
-    pub raised_rise : IsRise before (with_value before.image hint.to_pixel hint.value)
-        (raised (without_hint before t i) hint).tiles
+    pub raised_rise : IsRise before image after.tiles
     raised_rise = record {
       rises = λ p inside. elim (same_pixel_or_not p hint.to_pixel) [
         | inl same ↦
-            subst
-            (λ (r : Pixel). image_at before r ≤ value_at (with_value before.image hint.to_pixel hint.value) r)
+            subst (λ (r : Pixel). image_at before r ≤ value_at image r)
             (sym same) (let e = at_home in omega (arith, e, above))
-        | inr other ↦ let e = elsewhere p inside other in omega (arith, e)
+        | inr other ↦ omega (arith, elsewhere p inside other)
       ];
-      count =
-          let home = tile_of (tiling before) hint.to_pixel in
-          length-set (without_hint before t i).tiles home
-          (record (work_at (without_hint before t i) home) { dirty = true })
-          ∙ length-set before.tiles t (record (work_at before t) { inbox = remove (work_at before t).inbox i });
+      count = length-set lost.tiles home work ∙ length-set before.tiles t (left before t i);
       generations = λ u.
           marked (λ (w : TileWork). w.generation) (λ w. refl) u ∙ stays (λ (w : TileWork). w.generation) refl u;
     }
 
-    raised_supported : IsSupported (domain before) (mask_at before) sound.marker
-        (value_at (with_value before.image hint.to_pixel hint.value))
+    raised_supported : IsSupported (domain before) (mask_at before) sound.marker (value_at image)
     raised_supported =
         let can = valid.holds present in
         let e = at_home in
         raise_is_supported (domain before) (mask_at before) sound.marker (image_at before)
-        (value_at (with_value before.image hint.to_pixel hint.value)) can.p hint.to_pixel sound.supported
+        (value_at image) can.p hint.to_pixel sound.supported
         can.from.inside valid.to.inside can.beside (omega (arith, e, above)) (omega (arith, e, can.enough)) elsewhere
 
-    raised_waited : (u : ℕ) (h : Hint) → Contains (work_at (raised (without_hint before t i) hint) u).inbox h
-        → Contains (work_at before u).inbox h
+    raised_waited : (u : ℕ) (h : Hint) → Contains (work_at after u).inbox h → Contains (work_at before u).inbox h
     raised_waited u h waits =
         waited u h (subst (λ hs. Contains hs h) (marked (λ (w : TileWork). w.inbox) (λ w. refl) u) waits)
 
     -- a pair whose first pixel did not rise
-    raised_work : (p q : Pixel) → (p ≡ hint.to_pixel → ⊥)
-        → IsOpen (domain before) (mask_at before)
-        (value_at (with_value before.image hint.to_pixel hint.value)) p q
-        → HasWork before p q → HasWork (raised (without_hint before t i) hint) p q
+    raised_work : (p q : Pixel) → (p ≡ hint.to_pixel → ⊥) → IsOpen (domain before) (mask_at before) (value_at image) p q
+        → HasWork before p q → HasWork after p q
     raised_work p q other pair (inl dirty) = inl (dirty_still (tile_of (tiling before) p) dirty)
     raised_work p q other pair (inr (inl out)) =
         let u = tile_of (tiling before) p in
@@ -218,24 +177,18 @@ module _ (before : Core) (sound : IsSound before) (t i : ℕ) (hint : Hint) (the
         let same = elsewhere p pair.from_inside other in
         elim (waits_still (tile_of (tiling before) q) told.hint told.waits) [
           | inl waits ↦
-              inr (inr (told_after before (with_value before.image hint.to_pixel hint.value)
-              (raised (without_hint before t i) hint).tiles before.serial raised_rise p q same told
-              (subst (λ hs. Contains hs told.hint)
-              (sym (marked (λ (w : TileWork). w.inbox) (λ w. refl) (tile_of (tiling before) q))) waits)))
+              inr (inr (told_after before image after.tiles before.serial raised_rise p q same told
+              (rw (marked (λ (w : TileWork). w.inbox) (λ w. refl) (tile_of (tiling before) q)) waits)))
           | inr handed ↦
               let to : q ≡ hint.to_pixel = sym told.to ∙ ap (λ (h : Hint). h.to_pixel) handed in
               let value : told.hint.value ≡ hint.value = ap (λ (h : Hint). h.value) handed in
-              let at_q : value_at (with_value before.image hint.to_pixel hint.value) q ≡ hint.value =
-              subst (λ (r : Pixel). value_at (with_value before.image hint.to_pixel hint.value) r ≡ hint.value)
-              (sym to) at_home in
+              let at_q : value_at image q ≡ hint.value = rw to at_home in
               absurd (omega (arith, at_q, value, same, pair.lower, told.enough))
         ]
 
-    pub raised_sound : IsSound (raised (without_hint before t i) hint)
+    pub raised_sound : IsSound after
     raised_sound =
-        let image = with_value before.image hint.to_pixel hint.value in
-        let tiles = (raised (without_hint before t i) hint).tiles in
-        sound_after before image tiles before.serial raised_rise sound (record {
+        sound_after before image after.tiles before.serial raised_rise sound (record {
           width = sound.shape.image.width;
           height = sound.shape.image.height;
           filled = let old = sound.shape.image.filled in
@@ -243,12 +196,10 @@ module _ (before : Core) (sound : IsSound before) (t i : ℕ) (hint : Hint) (the
         }) raised_supported (λ u h within waits. inl (raised_waited u h waits)) (λ p q pair.
         elim (same_pixel_or_not p hint.to_pixel) [
           | inl same ↦
-              inl (subst
-              (λ (r : Pixel).
-              IsTrue (work_at (raised (without_hint before t i) hint) (tile_of (tiling before) r)).dirty)
+              inl (subst (λ (r : Pixel). IsTrue (work_at after (tile_of (tiling before) r)).dirty)
               (sym same) home_dirty)
           | inr other ↦
-              let before_too = open_before before image tiles before.serial raised_rise p q
+              let before_too = open_before before image after.tiles before.serial raised_rise p q
               (elsewhere p pair.from_inside other) pair in
               raised_work p q other pair (sound.work p q before_too)
         ])

@@ -1,33 +1,23 @@
 -- Joining a swept tile keeps a core sound.
-use Rattle.std.proofs.Common.{◌≡◌, ℕ, ◌<◌, ◌≤◌, max, List, length, map, refl, sym, ◌∙◌, ap}
-use Rattle.std.proofs.Common.{subst, arith, inl, inr, ◌⊎◌}
-use Rattle.std.specs.Prelude.{◌≢◌, ◌==◌, Contains, IsTrue, None}
+use Rattle.std.proofs.Common.{◌≡◌, ℕ, ◌<◌, ◌≤◌, max, List, length, map, refl, sym, ◌∙◌, ap, subst, arith, inl, inr, ◌⊎◌}
+use Rattle.std.proofs.Common.{◌≢◌, ◌==◌, Contains, IsTrue, None}
 use Rattle.std.proofs.lemmas.Bool.{cases_lt, cases_eq, eqb-true, eq-eqb}
 use Rattle.std.proofs.lemmas.List.{get_or_past}
 use Rattle.std.proofs.lemmas.List.Elements.{Contains-append_left, Contains-append_right, Contains-append_cases}
-use Rattle.grid_core.specs.declared.pixel.Pixel.{Pixel}
-use Rattle.grid_core.specs.Raster.{IsInside, value_at}
-use Rattle.grid_core.specs.Neighbours.{AreNeighbours}
+use Rattle.grid_core.specs.{declared.pixel.Pixel.Pixel, Raster.IsInside, Raster.value_at, Neighbours.AreNeighbours}
+use Rattle.grid_core.specs.{Rects.in_image, Tiles.count_of, Tiles.tile_of}
 use Rattle.grid_core.specs.Path.{Domain, domain_of, Inside, Reaches}
-use Rattle.grid_core.specs.Rects.{in_image}
-use Rattle.grid_core.specs.Tiles.{count_of, tile_of}
-use Rattle.grid_core.proofs.Cells.{below_at_each_pixel}
-use Rattle.grid_core.proofs.Reach.{reaches_here, reaches_within_mask}
-use Rattle.grid_core.proofs.Tilings.{each_pixel_in_one_tile, tile_pixels}
-use Rattle.border_queues.specs.declared.hint.Hint.{Hint}
-use Rattle.border_queues.specs.OpenEdges.{Sender, IsOpenEdge, hint_to}
-use Rattle.border_queues.specs.Laws.{EdgesAreOpen}
-use Rattle.core_rules.specs.Image.{IsOpen}
-use Rattle.tile_generations.specs.Jobs.{Swept, IsSwept}
-use Rattle.core_rules.specs.declared.answers.Back.{Back}
+use Rattle.grid_core.proofs.{Cells.below_at_each_pixel, Reach.reaches_here, Reach.reaches_within_mask}
+use Rattle.grid_core.proofs.{Tilings.each_pixel_in_one_tile, Tilings.tile_pixels}
+use Rattle.border_queues.specs.{declared.hint.Hint.Hint, OpenEdges.Sender, OpenEdges.IsOpenEdge, OpenEdges.hint_to}
+use Rattle.border_queues.specs.{Laws.EdgesAreOpen, TileWork.TileWork, TileWork.idle, TileWork.received}
+use Rattle.core_rules.specs.{Image.IsOpen, Image.IsSupported, declared.answers.Back.Back}
 use Rattle.core_rules.specs.declared.answers.Back.TheVariants.{Joined, Again, Stale, Stranger}
-use Rattle.core_rules.specs.Image.{IsSupported}
 use Rattle.core_rules.specs.Work.{Core, domain, tiling, mask_at, image_at, IsTile, work_at}
-use Rattle.border_queues.specs.TileWork.{TileWork, idle, received}
-use Rattle.core_rules.specs.Sweeps.{tile_rect, IsKnown, sender_of, hints_of, hints_for, IsJoined}
-use Rattle.core_rules.specs.Sweeps.{IsGivenBack}
+use Rattle.core_rules.specs.Sweeps.{tile_rect, IsKnown, sender_of, hints_of, hints_for, IsJoined, IsGivenBack}
 use Rattle.core_rules.specs.Invariant.{IsValid, HasHint, HasWork, IsSound}
-use Rattle.core_rules.proofs.Cores.{inside_image, changed, IsRise, sound_after, told_after, open_before}
+use Rattle.tile_generations.specs.Jobs.{Swept, IsSwept}
+use Rattle.core_rules.proofs.Cores.{inside_image, tile_of_pixel, changed, IsRise, sound_after, told_after, open_before}
 use Rattle.core_rules.proofs.Removals.{passed_was_there, passed_test, passes_filter, in_map, from_map}
 use Rattle.core_rules.proofs.Supporting.{reaches_above, reach_at_most, reconstruction_is_closed, neighbours_from_image}
 use Rattle.core_rules.proofs.Supporting.{part_reaches}
@@ -40,21 +30,29 @@ local swept = domain_of swept.job.mask swept.job.conn
 abbrev pub placed : Core → Swept → Pixel → Pixel
 placed core swept p = in_image (tile_rect core swept.job.ticket.tile) p
 
+-- what a sweep gives is nowhere below its base
+pub base_at_most : (swept : Swept) → IsSwept swept → (p : Pixel) → Inside (local swept) p
+    → value_at swept.job.base p ≤ value_at swept.pixels p
+base_at_most swept is_swept p inside =
+    let base = value_at swept.job.base in
+    let mask = value_at swept.job.mask in
+    let there : IsInside swept.job.base.width swept.job.base.height p =
+    omega (arith, is_swept.job.below.width, is_swept.job.below.height) in
+    let below = below_at_each_pixel swept.job.base swept.job.mask is_swept.job.filled is_swept.job.below p there in
+    reach_at_most (local swept) mask base (value_at swept.pixels) is_swept.is_reconstruction p (base p) inside
+    (reaches_here (local swept) mask base p (base p) inside below (omega arith))
+
 -- ---- the pixels of the tile
 
 module _ (before : Core) (swept : Swept) (sound : IsSound before) (known : IsKnown before swept.job) where
   tile_within : swept.job.ticket.tile < count_of (tiling before)
-  tile_within = let count = sound.shape.tiles in omega (arith, known.is_tile, count)
+  tile_within = omega (arith, known.is_tile, sound.shape.tiles)
 
   pub in_rect_size : (p : Pixel) → Inside (local swept) p
       → IsInside (tile_rect before swept.job.ticket.tile).w (tile_rect before swept.job.ticket.tile).h p
-  in_rect_size p inside =
-      let width = known.mask.width in
-      let height = known.mask.height in
-      (omega (arith, inside.0, width), omega (arith, inside.1, height))
+  in_rect_size p inside = (omega (arith, inside.0, known.mask.width), omega (arith, inside.1, known.mask.height))
 
-  pub to_image : (p : Pixel) → Inside (local swept) p
-      → Inside (domain before) (placed before swept p)
+  pub to_image : (p : Pixel) → Inside (local swept) p → Inside (domain before) (placed before swept p)
       × (tile_of (tiling before) (placed before swept p) ≡ swept.job.ticket.tile)
   to_image p inside =
       (tile_pixels (tiling before) swept.job.ticket.tile (placed before swept p) sound.shape.tiled tile_within).1
@@ -65,9 +63,7 @@ module _ (before : Core) (swept : Swept) (sound : IsSound before) (known : IsKno
   from_image q inside same =
       let (p, within, is) =
       (tile_pixels (tiling before) swept.job.ticket.tile q sound.shape.tiled tile_within).0 (inside, same) in
-      let width = known.mask.width in
-      let height = known.mask.height in
-      (p, (omega (arith, within.0, width), omega (arith, within.1, height)), is)
+      (p, (omega (arith, within.0, known.mask.width), omega (arith, within.1, known.mask.height)), is)
 
 -- ---- the image afterwards
 
@@ -75,44 +71,52 @@ module _ (before after : Core) (swept : Swept) (sound : IsSound before) (is_swep
     (known : IsKnown before swept.job) (joined : IsJoined before swept after) (edges_open : EdgesAreOpen)
     (below : (p : Pixel) → Inside (local swept) p
     → value_at swept.job.base p ≤ image_at before (placed before swept p)) where
-  at_part : (p : Pixel) → Inside (local swept) p
-      → image_at after (placed before swept p)
+  -- the tile, the core afterwards, the tile as it tells others then, the hints that it tells, and the tile of a pixel
+  abbrev its_tile : ℕ
+  its_tile = swept.job.ticket.tile
+
+  abbrev now : Core
+  now = changed before after.image after.tiles before.serial
+
+  abbrev sender : Sender
+  sender = record (sender_of before its_tile) { image = image_at after }
+
+  abbrev hints : List Hint
+  hints = hints_of before after its_tile
+
+  abbrev home : Pixel → ℕ
+  home p = tile_of (tiling before) p
+
+  at_part : (p : Pixel) → Inside (local swept) p → image_at after (placed before swept p)
       ≡ max (image_at before (placed before swept p)) (value_at swept.pixels p)
   at_part p inside = joined.image.within p (in_rect_size before swept sound known p inside)
 
-  elsewhere : (q : Pixel) → Inside (domain before) q → tile_of (tiling before) q ≢ swept.job.ticket.tile
-      → image_at after q ≡ image_at before q
+  elsewhere : (q : Pixel) → Inside (domain before) q → home q ≢ its_tile → image_at after q ≡ image_at before q
   elsewhere q inside other =
       let in_one = each_pixel_in_one_tile (tiling before) q sound.shape.tiled inside in
       joined.image.beyond q (inside_image before q sound.shape inside)
-      (λ found. other ((in_one.1 swept.job.ticket.tile (tile_within before swept sound known)).0 found))
+      (λ found. other ((in_one.1 its_tile (tile_within before swept sound known)).0 found))
 
   pub rises : (q : Pixel) → Inside (domain before) q → image_at before q ≤ image_at after q
-  rises q inside = elim (cases_eq (tile_of (tiling before) q) swept.job.ticket.tile) [
+  rises q inside = elim (cases_eq (home q) its_tile) [
     | inl here ↦
         let (p, inside_p, is) = from_image before swept sound known q inside here in
-        let e = at_part p inside_p in
-        subst (λ (r : Pixel). image_at before r ≤ image_at after r) is (omega (arith, e))
-    | inr other ↦ let e = elsewhere q inside other in omega (arith, e)
+        subst (λ (r : Pixel). image_at before r ≤ image_at after r) is (omega (arith, at_part p inside_p))
+    | inr other ↦ omega (arith, elsewhere q inside other)
   ]
 
   -- what is no matter of inboxes and of what is out stays
-  field_stays : {X : Type 0} (f : TileWork → X)
-      → ((work : TileWork) → f (record work { out = None }) ≡ f work)
+  field_stays : {X : Type 0} (f : TileWork → X) → ((work : TileWork) → f (record work { out = None }) ≡ f work)
       → ((work : TileWork) (hints : List Hint) → f (received work hints) ≡ f work)
       → (u : ℕ) → f (work_at after u) ≡ f (work_at before u)
   field_stays f without_out without_inbox u = elim (cases_lt u (length before.tiles)) [
-    | inl within ↦ elim (cases_eq u swept.job.ticket.tile) [
-      | inl here ↦
-          subst (λ v. f (work_at after v) ≡ f (work_at before v)) (sym here)
-          (ap f joined.own ∙ without_out (work_at before swept.job.ticket.tile))
+    | inl within ↦ elim (cases_eq u its_tile) [
+      | inl here ↦ rw here (ap f joined.own ∙ without_out (work_at before its_tile))
       | inr other ↦
-          ap f (joined.others u within other)
-          ∙ without_inbox (work_at before u) (hints_for before u (hints_of before after swept.job.ticket.tile))
+          ap f (joined.others u within other) ∙ without_inbox (work_at before u) (hints_for before u hints)
     ]
     | inr past ↦
-        let count = joined.count in
-        ap f (get_or_past after.tiles u idle (omega (arith, past, count))
+        ap f (get_or_past after.tiles u idle (omega (arith, past, joined.count))
         ∙ sym (get_or_past before.tiles u idle past))
   ]
 
@@ -126,7 +130,7 @@ module _ (before after : Core) (swept : Swept) (sound : IsSound before) (is_swep
   rise = record { rises = rises; count = joined.count; generations = same_generation }
 
   supported : IsSupported (domain before) (mask_at before) sound.marker (image_at after)
-  supported q inside = elim (cases_eq (tile_of (tiling before) q) swept.job.ticket.tile) [
+  supported q inside = elim (cases_eq (home q) its_tile) [
     | inl here ↦
         let (p, inside_p, is) = from_image before swept sound known q inside here in
         let r = placed before swept p in
@@ -144,10 +148,10 @@ module _ (before after : Core) (swept : Swept) (sound : IsSound before) (is_swep
           | inl less ↦
               let level : image_at after r ≡ value_at swept.pixels p = omega (arith, e, less) in
               subst (Reaches (domain before) (image_at after) sound.marker r) (sym level)
-              (part_reaches (domain before) (local swept) (tile_rect before swept.job.ticket.tile) sound.marker
+              (part_reaches (domain before) (local swept) (tile_rect before its_tile) sound.marker
               (image_at before) (image_at after) (value_at swept.job.mask) (value_at swept.job.base)
               (value_at swept.pixels) known.conn (λ s h. (to_image before swept sound known s h).0)
-              is_swept.is_reconstruction below (λ s h. let m = at_part s h in omega (arith, m)) rises
+              is_swept.is_reconstruction below (λ s h. omega (arith, at_part s h)) rises
               (λ s h. (sound.supported s h).2) (value_at swept.pixels p) p recon.0 recon.1 recon.2 recon.3)
           | inr at_least ↦
               let level : image_at after r ≡ image_at before r = omega (arith, e, at_least) in
@@ -155,8 +159,7 @@ module _ (before after : Core) (swept : Swept) (sound : IsSound before) (is_swep
               (reaches_above (domain before) (image_at before) (image_at after) sound.marker rises r
               (image_at before r) was.2)
         ] in
-        subst
-        (λ (s : Pixel). (sound.marker s ≤ image_at after s) × (image_at after s ≤ mask_at before s)
+        subst (λ (s : Pixel). (sound.marker s ≤ image_at after s) × (image_at after s ≤ mask_at before s)
         × Reaches (domain before) (image_at after) sound.marker s (image_at after s)) is
         (omega (arith, e, was.0), omega (arith, e, was.1, within, mask), reach)
     | inr other ↦
@@ -173,38 +176,29 @@ module _ (before after : Core) (swept : Swept) (sound : IsSound before) (is_swep
   -- ---- the hints afterwards
 
   -- a hint that came is of an open edge
-  came_from : (u : ℕ) (h : Hint) → Contains (hints_for before u (hints_of before after swept.job.ticket.tile)) h
-      → (pair : Pixel × Pixel)
-      × IsOpenEdge (record (sender_of before swept.job.ticket.tile) { image = image_at after }) pair.0 pair.1
-      × (hint_to (record (sender_of before swept.job.ticket.tile) { image = image_at after }) (image_at after pair.0)
-      pair.1 ≡ h)
+  came_from : (u : ℕ) (h : Hint) → Contains (hints_for before u hints) h → (pair : Pixel × Pixel)
+      × IsOpenEdge sender pair.0 pair.1 × (hint_to sender (image_at after pair.0) pair.1 ≡ h)
   came_from u h came =
-      let sender : Sender = record (sender_of before swept.job.ticket.tile) { image = image_at after } in
       let (pairs, are_hints) = edges_open sender sound.shape.tiled (tile_within before swept sound known) in
-      let there =
-      passed_was_there (λ hint. tile_of (tiling before) hint.to_pixel == u)
-      (hints_of before after swept.job.ticket.tile) h came in
+      let there = passed_was_there (λ hint. tile_of (tiling before) hint.to_pixel == u) hints h came in
       let make : Pixel × Pixel → Hint = λ a. hint_to sender (image_at after a.0) a.1 in
       let listed : Contains (map make pairs) h = subst (λ hs. Contains hs h) are_hints.hints there in
       let (pair, held, is) = from_map make pairs h (h.to_pixel, h.to_pixel) listed in
       (pair, (are_hints.edges pair.0 pair.1).0 held, is)
 
-  came_valid : (u : ℕ) (h : Hint) → Contains (hints_for before u (hints_of before after swept.job.ticket.tile)) h
-      → IsValid (changed before after.image after.tiles before.serial) u h
+  came_valid : (u : ℕ) (h : Hint) → Contains (hints_for before u hints) h → IsValid now u h
   came_valid u h came =
       let (pair, edge, is) = came_from u h came in
       let to_u : tile_of (tiling before) h.to_pixel ≡ u =
-      eqb-true (tile_of (tiling before) h.to_pixel) u
-      (passed_test (λ hint. tile_of (tiling before) hint.to_pixel == u)
-      (hints_of before after swept.job.ticket.tile) h came) in
-      let count = joined.count in
-      subst (IsValid (changed before after.image after.tiles before.serial) u) is (record {
+      eqb-true (tile_of (tiling before) h.to_pixel) u (passed_test (λ hint. tile_of (tiling before) hint.to_pixel == u)
+      hints h came) in
+      subst (IsValid now u) is (record {
         to = record {
           inside = edge.to_inside;
           tile = subst (λ (k : Hint). tile_of (tiling before) k.to_pixel ≡ u) (sym is) to_u;
         };
-        from = omega (arith, known.is_tile, count);
-        earlier = let e = same_generation swept.job.ticket.tile in omega (arith, e);
+        from = omega (arith, known.is_tile, joined.count);
+        earlier = omega (arith, same_generation its_tile);
         holds = λ present. record {
           p = pair.0;
           from = record { inside = edge.from_inside; tile = edge.from_tile };
@@ -213,19 +207,14 @@ module _ (before after : Core) (swept : Swept) (sound : IsSound before) (is_swep
         };
       })
 
-  hints_after : (u : ℕ) (h : Hint) → IsTile (changed before after.image after.tiles before.serial) u
-      → Contains (work_at (changed before after.image after.tiles before.serial) u).inbox h
-      → Contains (work_at before u).inbox h ⊎ IsValid (changed before after.image after.tiles before.serial) u h
-  hints_after u h within waits = elim (cases_eq u swept.job.ticket.tile) [
-    | inl here ↦
-        inl (subst (λ v. Contains (work_at before v).inbox h) (sym here)
-        (subst (λ (w : TileWork). Contains w.inbox h) joined.own
-        (subst (λ v. Contains (work_at after v).inbox h) here waits)))
+  hints_after : (u : ℕ) (h : Hint) → IsTile now u → Contains (work_at now u).inbox h
+      → Contains (work_at before u).inbox h ⊎ IsValid now u h
+  hints_after u h within waits = elim (cases_eq u its_tile) [
+    | inl here ↦ inl (rw here (rw (here, joined.own) at waits))
     | inr other ↦
         let is_tile = subst (λ n. u < n) joined.count within in
         let both = subst (λ (w : TileWork). Contains w.inbox h) (joined.others u is_tile other) waits in
-        elim (Contains-append_cases (work_at before u).inbox
-        (hints_for before u (hints_of before after swept.job.ticket.tile)) h both) [
+        elim (Contains-append_cases (work_at before u).inbox (hints_for before u hints) h both) [
           | inl waited ↦ inl waited
           | inr came ↦ inr (came_valid u h came)
         ]
@@ -234,37 +223,23 @@ module _ (before after : Core) (swept : Swept) (sound : IsSound before) (is_swep
   -- a hint that waited waits still
   waits_still : (u : ℕ) (h : Hint) → IsTile before u → Contains (work_at before u).inbox h
       → Contains (work_at after u).inbox h
-  waits_still u h is_tile waits = elim (cases_eq u swept.job.ticket.tile) [
-    | inl here ↦
-        subst (λ v. Contains (work_at after v).inbox h) (sym here)
-        (subst (λ (w : TileWork). Contains w.inbox h) (sym joined.own)
-        (subst (λ v. Contains (work_at before v).inbox h) here waits))
+  waits_still u h is_tile waits = elim (cases_eq u its_tile) [
+    | inl here ↦ rw (here, joined.own, ← here) waits
     | inr other ↦
-        subst (λ (w : TileWork). Contains w.inbox h) (sym (joined.others u is_tile other))
-        (Contains-append_left (work_at before u).inbox
-        (hints_for before u (hints_of before after swept.job.ticket.tile)) h waits)
+        rw (joined.others u is_tile other) (Contains-append_left (work_at before u).inbox
+        (hints_for before u hints) h waits)
   ]
 
   -- ---- what work is left afterwards
 
-  pixel_of_tile : (q : Pixel) → Inside (domain before) q → IsTile before (tile_of (tiling before) q)
-  pixel_of_tile q inside =
-      let in_one = (each_pixel_in_one_tile (tiling before) q sound.shape.tiled inside).0 in
-      let count = sound.shape.tiles in
-      omega (arith, in_one, count)
-
   -- an open pair that leads out of the tile has its hint
-  told_outside : (p q : Pixel) → tile_of (tiling before) p ≡ swept.job.ticket.tile
-      → tile_of (tiling before) q ≢ swept.job.ticket.tile
-      → IsOpen (domain before) (mask_at before) (image_at after) p q
-      → HasHint (changed before after.image after.tiles before.serial) p q
+  told_outside : (p q : Pixel) → home p ≡ its_tile
+      → home q ≢ its_tile → IsOpen (domain before) (mask_at before) (image_at after) p q → HasHint now p q
   told_outside p q from_here to_other pair =
-      let sender : Sender = record (sender_of before swept.job.ticket.tile) { image = image_at after } in
       let (pairs, are_hints) = edges_open sender sound.shape.tiled (tile_within before swept sound known) in
       let make : Pixel × Pixel → Hint = λ a. hint_to sender (image_at after a.0) a.1 in
-      let u = tile_of (tiling before) q in
-      let hints = hints_of before after swept.job.ticket.tile in
-      let edge : IsOpenEdge (record (sender_of before swept.job.ticket.tile) { image = image_at after }) p q = record {
+      let u = home q in
+      let edge : IsOpenEdge sender p q = record {
         from_inside = pair.from_inside;
         from_tile = from_here;
         to_inside = pair.to_inside;
@@ -273,12 +248,10 @@ module _ (before after : Core) (swept : Swept) (sound : IsSound before) (is_swep
         lower = pair.lower;
       } in
       let listed : Contains hints (make (p, q)) =
-      subst (λ hs. Contains hs (make (p, q))) (sym are_hints.hints)
-      (in_map make pairs (p, q) ((are_hints.edges p q).1 edge)) in
+      rw are_hints.hints (in_map make pairs (p, q) ((are_hints.edges p q).1 edge)) in
       let came : Contains (hints_for before u hints) (make (p, q)) =
       passes_filter (λ hint. tile_of (tiling before) hint.to_pixel == u) hints (make (p, q)) (eq-eqb u u refl) listed in
-      let is_tile = pixel_of_tile q pair.to_inside in
-      let count = joined.count in
+      let is_tile = tile_of_pixel before q sound.shape pair.to_inside in
       record {
         hint = make (p, q);
         waits = subst (λ (w : TileWork). Contains w.inbox (make (p, q))) (sym (joined.others u is_tile to_other))
@@ -286,43 +259,37 @@ module _ (before after : Core) (swept : Swept) (sound : IsSound before) (is_swep
         from = sym from_here;
         to = refl;
         present = record {
-          is_tile = omega (arith, known.is_tile, count);
-          generation = same_generation swept.job.ticket.tile;
+          is_tile = omega (arith, known.is_tile, joined.count);
+          generation = same_generation its_tile;
         };
         enough = omega arith;
       }
 
   -- an open pair whose first pixel lies in another tile
-  work_elsewhere : (p q : Pixel) → tile_of (tiling before) p ≢ swept.job.ticket.tile
-      → IsOpen (domain before) (mask_at before) (image_at after) p q → HasWork before p q
-      → HasWork (changed before after.image after.tiles before.serial) p q
-  work_elsewhere p q other pair (inl dirty) =
-      inl (subst IsTrue (sym (same_dirty (tile_of (tiling before) p))) dirty)
+  work_elsewhere : (p q : Pixel) → home p ≢ its_tile
+      → IsOpen (domain before) (mask_at before) (image_at after) p q → HasWork before p q → HasWork now p q
+  work_elsewhere p q other pair (inl dirty) = inl (subst IsTrue (sym (same_dirty (home p))) dirty)
   work_elsewhere p q other pair (inr (inl out)) =
-      let u = tile_of (tiling before) p in
-      let same = ap (λ (w : TileWork). w.out) (joined.others u (pixel_of_tile p pair.from_inside) other) in
-      inr (inl (λ none. out (sym same ∙ none)))
+      let is_tile = tile_of_pixel before p sound.shape pair.from_inside in
+      inr (inl (rw (joined.others (home p) is_tile other) out))
   work_elsewhere p q other pair (inr (inr told)) =
       inr (inr (told_after before after.image after.tiles before.serial rise p q
       (elsewhere p pair.from_inside other) told
-      (waits_still (tile_of (tiling before) q) told.hint (pixel_of_tile q pair.to_inside) told.waits)))
+      (waits_still (home q) told.hint (tile_of_pixel before q sound.shape pair.to_inside) told.waits)))
 
   -- the core is sound once the tile's own open pairs have work
   joined_sound : ((p q : Pixel) → IsOpen (domain before) (mask_at before) (image_at after) p q
-      → tile_of (tiling before) p ≡ swept.job.ticket.tile → tile_of (tiling before) q ≡ swept.job.ticket.tile
-      → IsTrue (work_at before swept.job.ticket.tile).dirty)
-      → IsSound (changed before after.image after.tiles before.serial)
+      → home p ≡ its_tile → home q ≡ its_tile → IsTrue (work_at before its_tile).dirty) → IsSound now
   joined_sound own =
       sound_after before after.image after.tiles before.serial rise sound (record {
         width = joined.image.size.width ∙ sound.shape.image.width;
         height = joined.image.size.height ∙ sound.shape.image.height;
         filled = joined.image.size.filled;
-      }) supported hints_after (λ p q pair. elim (cases_eq (tile_of (tiling before) p) swept.job.ticket.tile) [
-        | inl from_here ↦ elim (cases_eq (tile_of (tiling before) q) swept.job.ticket.tile) [
+      }) supported hints_after (λ p q pair. elim (cases_eq (home p) its_tile) [
+        | inl from_here ↦ elim (cases_eq (home q) its_tile) [
           | inl to_here ↦
               let dirty = own p q pair from_here to_here in
-              inl (subst (λ u. IsTrue (work_at after u).dirty) (sym from_here)
-              (subst IsTrue (sym (same_dirty swept.job.ticket.tile)) dirty))
+              inl (rw (from_here, same_dirty its_tile) dirty)
           | inr to_other ↦ inr (inr (told_outside p q from_here to_other pair))
         ]
         | inr from_other ↦
@@ -330,39 +297,22 @@ module _ (before after : Core) (swept : Swept) (sound : IsSound before) (is_swep
             rise p q (elsewhere p pair.from_inside from_other) pair))
       ])
 
-  base_inside : (p : Pixel) → Inside (local swept) p → IsInside swept.job.base.width swept.job.base.height p
-  base_inside p inside =
-      let width = is_swept.job.below.width in
-      let height = is_swept.job.below.height in
-      (omega (arith, inside.0, width), omega (arith, inside.1, height))
-
   -- where the image of the tile was the base, it is what the sweep gave
   new_is_swept : ((p : Pixel) → Inside (local swept) p
       → image_at before (placed before swept p) ≡ value_at swept.job.base p) → (p : Pixel) → Inside (local swept) p
       → image_at after (placed before swept p) ≡ value_at swept.pixels p
-  new_is_swept same p inside =
-      let base_below = below_at_each_pixel swept.job.base swept.job.mask is_swept.job.filled is_swept.job.below p
-      (base_inside p inside) in
-      let least : value_at swept.job.base p ≤ value_at swept.pixels p =
-      reach_at_most (local swept) (value_at swept.job.mask) (value_at swept.job.base) (value_at swept.pixels)
-      is_swept.is_reconstruction p (value_at swept.job.base p) inside
-      (reaches_here (local swept) (value_at swept.job.mask) (value_at swept.job.base) p (value_at swept.job.base p)
-      inside base_below (omega arith)) in
-      let was = same p inside in
-      let e = at_part p inside in
-      omega (arith, least, was, e)
+  new_is_swept same p inside = omega (arith, base_at_most swept is_swept p inside, same p inside, at_part p inside)
 
   -- where the image of the tile was the base, no pair of its pixels is open
   closed_inside : ((p : Pixel) → Inside (local swept) p
       → image_at before (placed before swept p) ≡ value_at swept.job.base p) → (p q : Pixel)
-      → IsOpen (domain before) (mask_at before) (image_at after) p q
-      → tile_of (tiling before) p ≡ swept.job.ticket.tile → tile_of (tiling before) q ≡ swept.job.ticket.tile → ⊥
+      → IsOpen (domain before) (mask_at before) (image_at after) p q → home p ≡ its_tile → home q ≡ its_tile → ⊥
   closed_inside same p q pair from_here to_here =
       let (a, inside_a, is_a) = from_image before swept sound known p pair.from_inside from_here in
       let (b, inside_b, is_b) = from_image before swept sound known q pair.to_inside to_here in
       let recon = is_swept.is_reconstruction in
       let beside : AreNeighbours swept.job.conn a b =
-      neighbours_from_image swept.job.conn (tile_rect before swept.job.ticket.tile) a b
+      neighbours_from_image swept.job.conn (tile_rect before its_tile) a b
       (subst (λ conn. AreNeighbours conn (placed before swept a) (placed before swept b)) (sym known.conn)
       (subst (λ (r : Pixel). AreNeighbours before.conn r (placed before swept b)) (sym is_a)
       (subst (λ (r : Pixel). AreNeighbours before.conn p r) (sym is_b) pair.beside))) in
@@ -387,10 +337,9 @@ give_back_keeps_sound edges_open before after swept Joined sound is_swept (known
     sym (unchanged.base.values p (in_rect_size before swept sound known p inside)) in
     let below : (p : Pixel) → Inside (local swept) p
     → value_at swept.job.base p ≤ image_at before (placed before swept p) = λ p inside.
-    let e = same p inside in omega (arith, e) in
+    omega (arith, same p inside) in
     subst IsSound (sym joined.rest) (joined_sound before after swept sound is_swept known joined edges_open below
-    (λ p q pair from_here to_here.
-    absurd
+    (λ p q pair from_here to_here. absurd
     (closed_inside before after swept sound is_swept known joined edges_open below same p q pair from_here to_here)))
 give_back_keeps_sound edges_open before after swept Again sound is_swept (known, out, risen, joined) =
     let below : (p : Pixel) → Inside (local swept) p
@@ -398,6 +347,5 @@ give_back_keeps_sound edges_open before after swept Again sound is_swept (known,
     risen.base.values p (in_rect_size before swept sound known p inside) in
     subst IsSound (sym joined.rest) (joined_sound before after swept sound is_swept known joined edges_open below
     (λ p q pair from_here to_here. risen.dirty))
-give_back_keeps_sound edges_open before after swept Stale sound is_swept (known, not_out, same) =
-    subst IsSound (sym same) sound
+give_back_keeps_sound edges_open before after swept Stale sound is_swept (known, not_out, same) = rw same sound
 give_back_keeps_sound edges_open before after swept Stranger sound is_swept (why, same) = subst IsSound (sym same) sound

@@ -1,39 +1,29 @@
 -- What events leave as it was at a tile that they do not take.
 use Rattle.std.proofs.Common.{◌≡◌, ◌≢◌, ℕ, zero, suc, ◌+◌, ◌%◌, ◌^◌, ◌<◌, true, false, List, [], ◌∷◌, ◌++◌, length}
-use Rattle.std.proofs.Common.{get_or, refl, sym, ◌∙◌, ap}
-use Rattle.std.proofs.Common.{subst, arith, inl, inr, IsTrue}
-use Rattle.std.specs.Prelude.{Contains, Option, Some, None, remove, option_to_list}
-use Rattle.std.proofs.lemmas.Bool.{cases_lt, cases_eq}
-use Rattle.std.proofs.lemmas.List.{append_assoc, length-set}
-use Rattle.std.proofs.lemmas.List.Elements.{Contains-append_left, Contains-append_right}
+use Rattle.std.proofs.Common.{get_or, refl, sym, ◌∙◌, ap, subst, arith, inl, inr, IsTrue, Contains, Option, Some, None}
+use Rattle.std.proofs.Common.{remove, option_to_list}
+use Rattle.std.proofs.{lemmas.Bool.cases_lt, lemmas.Bool.cases_eq, lemmas.List.append_assoc, lemmas.List.length-set}
+use Rattle.std.proofs.{lemmas.List.Elements.Contains-append_left, lemmas.List.Elements.Contains-append_right}
 use Rattle.grid_core.specs.Tiles.{Tiles, count_of, tile_of}
 use Rattle.grid_core.proofs.Tilings.{each_pixel_in_one_tile}
-use Rattle.stroke_lattice.specs.State.{State}
-use Rattle.stroke_lattice.specs.Change.{Turnover}
-use Rattle.border_queues.specs.declared.hint.Hint.{Hint}
-use Rattle.border_queues.specs.TileWork.{TileWork, idle}
-use Rattle.border_queues.specs.Laws.{EdgesAreOpen}
-use Rattle.tile_generations.specs.declared.ticket.Ticket.{Ticket}
-use Rattle.tile_generations.specs.Jobs.{Swept}
+use Rattle.stroke_lattice.specs.{State.State, Change.Turnover}
+use Rattle.border_queues.specs.{declared.hint.Hint.Hint, TileWork.TileWork, TileWork.idle, Laws.EdgesAreOpen}
+use Rattle.tile_generations.specs.{declared.ticket.Ticket.Ticket, Jobs.Swept}
 use Rattle.core_rules.specs.declared.answers.Back.TheVariants.{Joined, Again, Stale, Stranger}
-use Rattle.core_rules.specs.declared.answers.Handed.{Handed}
+use Rattle.core_rules.specs.{declared.answers.Handed.Handed, Hits.IsInTile, Merge.IsMerged, Invariant.IsSound}
 use Rattle.core_rules.specs.declared.answers.Handed.TheVariants.{Raised, Same, Stale as Old, Nothing}
 use Rattle.core_rules.specs.Work.{Core, tiling, image_at, IsTile, work_at, with_work}
-use Rattle.core_rules.specs.Hits.{IsInTile}
 use Rattle.core_rules.specs.Hints.{hint_at, IsPresent, without_hint, raised, IsHanded}
 use Rattle.core_rules.specs.Sweeps.{IsOut, IsJoined, IsAbandoned}
-use Rattle.core_rules.specs.Merge.{IsMerged}
-use Rattle.core_rules.specs.Events.{Event, Answer, Happens, Merge, Take, GiveBack, Abandon, Hand}
-use Rattle.core_rules.specs.Events.{OfMerge, OfTake, OfGiveBack, OfAbandon, OfHand}
+use Rattle.core_rules.specs.Events.{Event, Answer, Happens, Merge, Take, GiveBack, Abandon, Hand, OfMerge, OfTake}
+use Rattle.core_rules.specs.Events.{OfGiveBack, OfAbandon, OfHand}
 use Rattle.core_rules.specs.Runs.{Entry, IsRun, IsSettling, IsCutShort, NoneOut, abandoned, tickets_out, tiles_taken}
 use Rattle.core_rules.specs.Runs.{IsWorkedOff, IsDirty, IsTakenIn, ticket_out}
 use Rattle.core_rules.specs.Shown.{ShowsTheSame, IsPassedOver}
-use Rattle.core_rules.specs.Invariant.{IsSound}
 use Rattle.core_rules.proofs.Cores.{work_there, work_elsewhere, inside_image, tile_of_pixel_is_tile}
 use Rattle.core_rules.proofs.Handing.{hint_of_tile, home_is_tile, home_dirty, elsewhere}
-use Rattle.core_rules.proofs.InPlaceSweeps.{work_goes_on}
+use Rattle.core_rules.proofs.{InPlaceSweeps.work_goes_on, Removals.taken_was_there}
 use Rattle.core_rules.proofs.Ordered.{in_front_or_rest, in_front, none_there}
-use Rattle.core_rules.proofs.Removals.{taken_was_there}
 use Rattle.core_rules.proofs.Running.{event_keeps_sound, run_keeps_sound, worked_is_run, settling_is_run}
 use Rattle.core_rules.proofs.Running.{cut_short_is_run}
 
@@ -63,8 +53,7 @@ leaves_on a b c t first second = record {
   same_tiling = second.same_tiling ∙ first.same_tiling;
   dirty = λ dirty. second.dirty (first.dirty dirty);
   none_out = λ none. second.none_out (first.none_out none);
-  shows = λ none clean p in_tile.
-      second.shows (first.none_out none) clean p
+  shows = λ none clean p in_tile. second.shows (first.none_out none) clean p
       (subst (λ (tiles : Tiles). IsInTile tiles t p) (sym first.same_tiling) in_tile)
       ∙ first.shows none (λ dirty. clean (second.dirty dirty)) p in_tile;
 }
@@ -81,8 +70,7 @@ work_leaves core u work serial t is_tile dirty none_out =
     let field : (Q : TileWork → Type 0) → (t ≡ u → Q (work_at core u) → Q work) → P Q = λ Q here_too.
     elim (cases_eq t u) [
       | inl here ↦ λ was.
-          subst (λ v. Q (work_at (with_work core u work) v)) (sym here)
-          (subst Q (sym (work_there core u work is_tile)) (here_too here (subst (λ v. Q (work_at core v)) here was)))
+          rw (here, work_there core u work is_tile) (here_too here (subst (λ v. Q (work_at core v)) here was))
       | inr other ↦ λ was. subst Q (sym (work_elsewhere core u t work other)) was
     ] in
     record {
@@ -97,8 +85,7 @@ abandon_leaves : (before after : Core) (ticket : Ticket) (t : ℕ) → IsAbandon
     → Leaves before after t
 abandon_leaves before after ticket t (out, same) =
     let work : TileWork = record (work_at before ticket.tile) { dirty = true; out = None } in
-    subst (λ c. Leaves before c t) (sym same)
-    (work_leaves before ticket.tile work before.serial t out.is_tile (λ here was. refl) (λ here none. refl))
+    rw same (work_leaves before ticket.tile work before.serial t out.is_tile (λ here was. refl) (λ here none. refl))
 
 lost_leaves : (before : Core) (u i t : ℕ) → IsTile before u → Leaves before (without_hint before u i) t
 lost_leaves before u i t is_tile =
@@ -131,8 +118,7 @@ raised_leaves before u i t hint sound there present above =
 
 hand_leaves : (before after : Core) (u i t : ℕ) (handed : Handed) → IsSound before → IsHanded before u i handed after
     → Leaves before after t
-hand_leaves before after u i t Nothing sound (none, same) =
-    subst (λ c. Leaves before c t) (sym same) (leaves_all before t)
+hand_leaves before after u i t Nothing sound (none, same) = rw same (leaves_all before t)
 hand_leaves before after u i t Old sound (hint, there, old, same) =
     subst (λ c. Leaves before c t) (sym same) (lost_leaves before u i t (hint_of_tile before u i hint there))
 hand_leaves before after u i t Same sound (hint, there, present, enough, same) =
@@ -152,17 +138,13 @@ joined_leaves before after swept t sound is_tile out joined =
       count = joined.count;
       same_tiling = ap tiling joined.rest;
       dirty = λ was. elim (cases_eq t own) [
-        | inl here ↦
-            subst (λ v. IsTrue (work_at after v).dirty) (sym here)
-            (subst (λ (w : TileWork). IsTrue w.dirty) (sym joined.own)
-            (subst (λ v. IsTrue (work_at before v).dirty) here was))
+        | inl here ↦ rw (here, joined.own, ← here) was
         | inr other ↦ subst (λ (w : TileWork). IsTrue w.dirty) (sym (joined.others t is_tile other)) was
       ];
       none_out = λ none. ap (λ (w : TileWork). w.out) (joined.others t is_tile (apart none)) ∙ none;
       shows = λ none clean p in_tile.
           let in_one = each_pixel_in_one_tile (tiling before) p sound.shape.tiled in_tile.inside in
-          let within : own < count_of (tiling before) =
-          let count = sound.shape.tiles in omega (arith, out.is_tile, count) in
+          let within : own < count_of (tiling before) = omega (arith, out.is_tile, sound.shape.tiles) in
           joined.image.beyond p (inside_image before p sound.shape in_tile.inside)
           (λ found. apart none (sym in_tile.tile ∙ (in_one.1 own within).0 found));
     }
@@ -203,20 +185,16 @@ event_leaves : (before after : Core) (event : Event) (answer : Answer) (t : ℕ)
     → Happens before event answer after → (IsTakenIn ((event, answer) ∷ []) t → ⊥) → Leaves before after t
 event_leaves before after (Merge delta) (OfMerge turnover) t sound is_tile merged untaken =
     merge_leaves before after delta turnover t merged is_tile
-event_leaves before after (Take u) (OfTake None) t sound is_tile (none, same) untaken =
-    subst (λ c. Leaves before c t) (sym same) (leaves_all before t)
+event_leaves before after (Take u) (OfTake None) t sound is_tile (none, same) untaken = rw same (leaves_all before t)
 event_leaves before after (Take u) (OfTake (Some job)) t sound is_tile (ready, next, same) untaken =
     let work : TileWork = record (work_at before u) { dirty = false; out = Some before.serial } in
     let other : t ≡ u → ⊥ = λ here. untaken (subst (Contains (u ∷ [])) (sym here) (in_front u [])) in
-    subst (λ c. Leaves before c t) (sym same)
-    (work_leaves before u work ((before.serial + 1) % 2 ^ 64) t ready.is_tile (λ here was. absurd (other here))
+    rw same (work_leaves before u work ((before.serial + 1) % 2 ^ 64) t ready.is_tile (λ here was. absurd (other here))
     (λ here none. absurd (other here)))
-event_leaves before after (GiveBack swept) (OfGiveBack Joined) t sound is_tile (is_swept, (known, out, base, joined))
-    untaken =
-    joined_leaves before after swept t sound is_tile out joined
-event_leaves before after (GiveBack swept) (OfGiveBack Again) t sound is_tile (is_swept, (known, out, base, joined))
-    untaken =
-    joined_leaves before after swept t sound is_tile out joined
+event_leaves before after (GiveBack swept) (OfGiveBack Joined) t sound is_tile (is_swept, given) untaken =
+    joined_leaves before after swept t sound is_tile given.1 given.3
+event_leaves before after (GiveBack swept) (OfGiveBack Again) t sound is_tile (is_swept, given) untaken =
+    joined_leaves before after swept t sound is_tile given.1 given.3
 event_leaves before after (GiveBack swept) (OfGiveBack Stale) t sound is_tile (is_swept, (known, gone, same)) untaken =
     subst (λ c. Leaves before c t) (sym same) (leaves_all before t)
 event_leaves before after (GiveBack swept) (OfGiveBack Stranger) t sound is_tile (is_swept, (why, same)) untaken =
@@ -243,25 +221,21 @@ none_taken_abandoned (ticket ∷ tickets) = none_taken_abandoned tickets
 -- what one part of a list of events takes, the whole takes
 pub taken_first : (first second : List Entry) (t : ℕ) → IsTakenIn first t → IsTakenIn (first ++ second) t
 taken_first first second t taken =
-    subst (λ (ts : List ℕ). Contains ts t) (sym (taken_append first second))
-    (Contains-append_left (tiles_taken first) (tiles_taken second) t taken)
+    rw (taken_append first second) (Contains-append_left (tiles_taken first) (tiles_taken second) t taken)
 
 pub taken_second : (first second : List Entry) (t : ℕ) → IsTakenIn second t → IsTakenIn (first ++ second) t
 taken_second first second t taken =
-    subst (λ (ts : List ℕ). Contains ts t) (sym (taken_append first second))
-    (Contains-append_right (tiles_taken first) (tiles_taken second) t taken)
+    rw (taken_append first second) (Contains-append_right (tiles_taken first) (tiles_taken second) t taken)
 
 run_leaves : EdgesAreOpen → (before after : Core) (log : List Entry) (t : ℕ) → IsSound before → IsTile before t
     → IsRun before log after → (IsTakenIn log t → ⊥) → Leaves before after t
-run_leaves edges_open before after [] t sound is_tile same untaken =
-    subst (λ c. Leaves before c t) (sym same) (leaves_all before t)
+run_leaves edges_open before after [] t sound is_tile same untaken = rw same (leaves_all before t)
 run_leaves edges_open before after ((event, answer) ∷ log) t sound is_tile (next, happens, run) untaken =
     let entry : List Entry = (event, answer) ∷ [] in
     let first = event_leaves before next event answer t sound is_tile happens
     (λ taken. untaken (taken_first entry log t taken)) in
     let next_sound = event_keeps_sound edges_open before next event answer sound happens in
-    let count = first.count in
-    let rest = run_leaves edges_open next after log t next_sound (omega (arith, is_tile, count)) run
+    let rest = run_leaves edges_open next after log t next_sound (omega (arith, is_tile, first.count)) run
     (λ taken. untaken (taken_second entry log t taken)) in
     leaves_on before next after t first rest
 
@@ -270,29 +244,25 @@ pub run_shows : EdgesAreOpen → (before after : Core) (log : List Entry) → Is
 run_shows edges_open before after log sound run t none passed p in_tile =
     let is_tile = tile_of_pixel_is_tile before t p sound.shape in_tile in
     let left = run_leaves edges_open before after log t sound is_tile run passed.untaken in
-    let count = left.count in
-    left.shows none (λ dirty. passed.clean (omega (arith, is_tile, count), dirty)) p in_tile
+    left.shows none (λ dirty. passed.clean (omega (arith, is_tile, left.count), dirty)) p in_tile
 
 pub merge_shows : (before after : Core) (delta : State) (turnover : Turnover) → IsMerged before delta turnover after
     → (t : ℕ) → IsTile before t → (IsDirty after t → ⊥) → ShowsTheSame before after t
 merge_shows before after delta turnover merged t is_tile clean =
-    let count = merged.count in
-    clean_shows before after delta turnover t merged is_tile (λ dirty. clean (omega (arith, is_tile, count), dirty))
+    clean_shows before after delta turnover t merged is_tile
+    (λ dirty. clean (omega (arith, is_tile, merged.count), dirty))
 
 -- ---- settling
 
 -- a tile of which a job is out has its ticket
 out_is_listed : (k : ℕ) (works : List TileWork) (t serial : ℕ) → t < length works
-    → (get_or works t idle).out ≡ Some serial
-    → Contains (tickets_out k works)
+    → (get_or works t idle).out ≡ Some serial → Contains (tickets_out k works)
     (record { tile = k + t; generation = (get_or works t idle).generation; serial = serial })
 out_is_listed k [] t serial within out = absurd (omega (arith, within))
 out_is_listed k (work ∷ works) zero serial within out =
     let here : k ≡ k + 0 = omega arith in
     let ticket : ℕ → Ticket = λ n. record { tile = n; generation = work.generation; serial = serial } in
-    subst (λ o. Contains (tickets_out k (record work { out = o } ∷ works)) (ticket (k + 0))) (sym out)
-    (subst (λ n. Contains (ticket k ∷ tickets_out (k + 1) works) (ticket n)) here
-    (in_front (ticket k) (tickets_out (k + 1) works)))
+    rw (out, ← here) (in_front (ticket k) (tickets_out (k + 1) works))
 out_is_listed k (work ∷ works) (suc t) serial within out =
     let next : k + 1 + t ≡ k + suc t = omega arith in
     let ticket : ℕ → Ticket = λ n.
@@ -321,10 +291,8 @@ abandoned_is_dirty before after (first ∷ tickets) ticket (next, (out, same), r
       | inl here ↦
           let work : TileWork = record (work_at before first.tile) { dirty = true; out = None } in
           let dirty : IsTrue (work_at next first.tile).dirty =
-          subst (λ (c : Core). IsTrue (work_at c first.tile).dirty) (sym same)
-          (subst (λ (w : TileWork). IsTrue w.dirty) (sym (work_there before first.tile work out.is_tile)) refl) in
-          subst (λ (k : Ticket). IsTrue (work_at after k.tile).dirty) here
-          ((abandoned_leaves next after tickets first.tile run).dirty dirty)
+          rw (same, work_there before first.tile work out.is_tile) refl in
+          rw here at ((abandoned_leaves next after tickets first.tile run).dirty dirty)
       | inr later ↦ abandoned_is_dirty next after tickets ticket run later
     ]
 
@@ -337,52 +305,41 @@ out_is_dirty edges_open before after log t serial sound is_tile settling untaken
     let ticket : Ticket = record { tile = 0 + t; generation = (work_at before t).generation; serial = serial } in
     let zero_more : 0 + t ≡ t = omega arith in
     let cleared : IsTrue (work_at settling.cleared t).dirty =
-    subst (λ v. IsTrue (work_at settling.cleared v).dirty) zero_more
-    (abandoned_is_dirty before settling.cleared tickets ticket settling.clears
+    rw zero_more at (abandoned_is_dirty before settling.cleared tickets ticket settling.clears
     (out_is_listed 0 before.tiles t serial is_tile out)) in
     let clears = abandoned_leaves before settling.cleared tickets t settling.clears in
-    let count = clears.count in
     (run_leaves edges_open settling.cleared after settling.work t
     (run_keeps_sound edges_open before settling.cleared (abandoned tickets) sound settling.clears)
-    (omega (arith, is_tile, count)) (worked_is_run settling.cleared after settling.work settling.works)
-    (λ taken. untaken (subst (λ (es : List Entry). IsTakenIn es t) (sym settling.parts)
-    (taken_second (abandoned tickets) settling.work t taken)))).dirty cleared
+    (omega (arith, is_tile, clears.count)) (worked_is_run settling.cleared after settling.work settling.works)
+    (λ taken. untaken (rw settling.parts (taken_second (abandoned tickets) settling.work t taken)))).dirty cleared
+
+-- so a tile that is passed over shows what it showed, if it is dirty afterwards where a job of it was out
+shows_by_out : EdgesAreOpen → (before after : Core) (log : List Entry) → IsSound before → IsRun before log after
+    → (t : ℕ) → IsPassedOver log after t
+    → ((serial : ℕ) → IsTile before t → (work_at before t).out ≡ Some serial → IsTrue (work_at after t).dirty)
+    → ShowsTheSame before after t
+shows_by_out edges_open before after log sound run t passed dirty p in_tile = by_out (work_at before t).out refl where
+  by_out : (out : Option ℕ) → (work_at before t).out ≡ out → image_at after p ≡ image_at before p
+  by_out None none = run_shows edges_open before after log sound run t none passed p in_tile
+  by_out (Some serial) out =
+      let is_tile = tile_of_pixel_is_tile before t p sound.shape in_tile in
+      let count = (run_leaves edges_open before after log t sound is_tile run passed.untaken).count in
+      absurd (passed.clean (omega (arith, is_tile, count), dirty serial is_tile out))
 
 pub settling_shows : EdgesAreOpen → (before after : Core) (log : List Entry) → IsSound before
     → IsSettling before log after → (t : ℕ) → IsPassedOver log after t → ShowsTheSame before after t
-settling_shows edges_open before after log sound settling t passed p in_tile =
-    let run = settling_is_run before after log settling in
-    let is_tile = tile_of_pixel_is_tile before t p sound.shape in_tile in
-    let count = (run_leaves edges_open before after log t sound is_tile run passed.untaken).count in
-    by_out count is_tile run (work_at before t).out refl where
-      by_out : length after.tiles ≡ length before.tiles → IsTile before t → IsRun before log after → (out : Option ℕ)
-          → (work_at before t).out ≡ out → image_at after p ≡ image_at before p
-      by_out count is_tile run None none = run_shows edges_open before after log sound run t none passed p in_tile
-      by_out count is_tile run (Some serial) out =
-          absurd (passed.clean (
-            omega (arith, is_tile, count),
-            out_is_dirty edges_open before after log t serial sound is_tile settling passed.untaken out,
-          ))
+settling_shows edges_open before after log sound settling t passed =
+    shows_by_out edges_open before after log sound (settling_is_run before after log settling) t passed
+    (λ serial is_tile out. out_is_dirty edges_open before after log t serial sound is_tile settling passed.untaken out)
 
 pub cut_short_shows : EdgesAreOpen → (before after : Core) (log : List Entry) → IsSound before
     → IsCutShort before log after → (t : ℕ) → IsPassedOver log after t → ShowsTheSame before after t
-cut_short_shows edges_open before after log sound cut t passed p in_tile =
-    let run = cut_short_is_run before after log cut in
-    let is_tile = tile_of_pixel_is_tile before t p sound.shape in_tile in
-    let count = (run_leaves edges_open before after log t sound is_tile run passed.untaken).count in
-    by_out count is_tile run (work_at before t).out refl where
-      by_out : length after.tiles ≡ length before.tiles → IsTile before t → IsRun before log after → (out : Option ℕ)
-          → (work_at before t).out ≡ out → image_at after p ≡ image_at before p
-      by_out count is_tile run None none = run_shows edges_open before after log sound run t none passed p in_tile
-      by_out count is_tile run (Some serial) out =
-          let untaken : IsTakenIn cut.done t → ⊥ = λ taken.
-          passed.untaken (subst (λ (es : List Entry). IsTakenIn es t) (sym cut.parts)
-          (taken_first cut.done (abandoned cut.in_hand) t taken)) in
-          absurd (passed.clean (
-            omega (arith, is_tile, count),
-            (abandoned_leaves cut.reached after cut.in_hand t cut.drops).dirty
-                (out_is_dirty edges_open before cut.reached cut.done t serial sound is_tile cut.settling untaken out),
-          ))
+cut_short_shows edges_open before after log sound cut t passed =
+    let untaken : IsTakenIn cut.done t → ⊥ = λ taken.
+    passed.untaken (rw cut.parts (taken_first cut.done (abandoned cut.in_hand) t taken)) in
+    shows_by_out edges_open before after log sound (cut_short_is_run before after log cut) t passed
+    (λ serial is_tile out. (abandoned_leaves cut.reached after cut.in_hand t cut.drops).dirty
+    (out_is_dirty edges_open before cut.reached cut.done t serial sound is_tile cut.settling untaken out))
 
 -- where no job is out there is no ticket
 pub no_tickets : (k : ℕ) (works : List TileWork) → ((t : ℕ) → t < length works → (get_or works t idle).out ≡ None)
@@ -406,6 +363,5 @@ settling_goes_on a b c first second one none_out other =
       works = work_goes_on one.cleared b c one.work other.work one.works
           (subst (λ m. IsWorkedOff m other.work c) same other.works);
       parts = ap (λ (es : List Entry). es ++ second) one.parts
-          ∙ ap (λ (es : List Entry). (tickets ++ one.work) ++ es) work
-          ∙ append_assoc tickets one.work other.work;
+          ∙ ap (λ (es : List Entry). (tickets ++ one.work) ++ es) work ∙ append_assoc tickets one.work other.work;
     }

@@ -1,28 +1,21 @@
 -- Taking a delta keeps a core sound.
-use Rattle.std.proofs.Common.{◌≡◌, ℕ, ◌<◌, ◌≤◌, max, List, [], ◌∷◌, refl, sym, ◌∙◌}
-use Rattle.std.proofs.Common.{ap, subst, arith, inl, inr}
-use Rattle.std.specs.Prelude.{Contains}
-use Rattle.std.specs.List.{AllByRecursion}
+use Rattle.std.proofs.Common.{◌≡◌, ℕ, ◌<◌, ◌≤◌, max, List, [], ◌∷◌, refl, sym, ◌∙◌, ap, subst, arith, inl, inr}
+use Rattle.std.proofs.Common.{Contains}
 use Rattle.std.proofs.lemmas.Bool.{cases_lt}
-use Rattle.grid_core.specs.declared.pixel.Pixel.{Pixel}
+use Rattle.std.specs.List.{AllByRecursion}
+use Rattle.grid_core.specs.{declared.pixel.Pixel.Pixel, Tiles.tile_of}
 use Rattle.grid_core.specs.Path.{Inside, IsPath, end_of, Reaches}
-use Rattle.grid_core.specs.Tiles.{tile_of}
-use Rattle.grid_core.proofs.Pixels.{AreNeighbours-sym}
-use Rattle.grid_core.proofs.Reach.{IsPath-inside, reaches_here}
-use Rattle.grid_core.proofs.Tilings.{each_pixel_in_one_tile, neighbours_lie_in_touching_tiles}
-use Rattle.stroke_lattice.specs.State.{State}
-use Rattle.stroke_lattice.specs.Change.{Turnover}
+use Rattle.grid_core.proofs.{Pixels.AreNeighbours-sym, Reach.IsPath-inside, Reach.reaches_here}
+use Rattle.grid_core.proofs.Tilings.{neighbours_lie_in_touching_tiles}
+use Rattle.stroke_lattice.specs.{State.State, Change.Turnover}
 use Rattle.stroke_lattice.proofs.Joins.{join_is_union}
-use Rattle.border_queues.specs.declared.hint.Hint.{Hint}
-use Rattle.core_rules.specs.Image.{IsOpen}
-use Rattle.tile_generations.specs.Generations.{max_generation}
-use Rattle.core_rules.specs.Image.{IsSupported}
+use Rattle.border_queues.specs.{declared.hint.Hint.Hint, TileWork.TileWork}
+use Rattle.core_rules.specs.{Image.IsOpen, Image.IsSupported, Merge.IsKept, Merge.IsMerged, Hints.IsPresent}
 use Rattle.core_rules.specs.Work.{Core, domain, tiling, mask_at, image_at, IsTile, work_at}
-use Rattle.border_queues.specs.TileWork.{TileWork}
 use Rattle.core_rules.specs.Hits.{IsInTile, AreLinked, IsHit}
-use Rattle.core_rules.specs.Merge.{IsKept, IsMerged}
-use Rattle.core_rules.specs.Hints.{IsPresent}
 use Rattle.core_rules.specs.Invariant.{CanRaise, IsValid, HasWork, IsSound}
+use Rattle.tile_generations.specs.Generations.{max_generation}
+use Rattle.core_rules.proofs.Cores.{tile_of_pixel}
 
 -- the core with these
 abbrev pub merged_core : Core → Core → Core
@@ -32,28 +25,29 @@ module _ (before after : Core) (delta : State) (turnover : Turnover) (sound : Is
     (merged : IsMerged before delta turnover after) where
   -- ---- tiles of pixels
 
-  in_its_tile : (p : Pixel) → Inside (domain before) p → IsInTile (tiling before) (tile_of (tiling before) p) p
-  in_its_tile p inside = record { inside = inside; tile = refl }
+  abbrev home : Pixel → ℕ
+  home p = tile_of (tiling before) p
 
-  tile_of_pixel : (p : Pixel) → Inside (domain before) p → IsTile before (tile_of (tiling before) p)
-  tile_of_pixel p inside =
-      let in_one = (each_pixel_in_one_tile (tiling before) p sound.shape.tiled inside).0 in
-      let count = sound.shape.tiles in
-      omega (arith, in_one, count)
+  -- the tile is not hit
+  abbrev IsSpared : ℕ → Type 0
+  IsSpared t = IsHit before after.state t → ⊥
+
+  abbrev now : Core
+  now = merged_core before after
+
+  in_its_tile : (p : Pixel) → Inside (domain before) p → IsInTile (tiling before) (home p) p
+  in_its_tile p inside = record { inside = inside; tile = refl }
 
   -- a tile that is hit hits the tiles that it is linked to
   hits_next : (p q : Pixel) → Inside (domain before) p → Inside (domain before) q
-      → AreLinked (tiling before) before.image before.conn (tile_of (tiling before) q) (tile_of (tiling before) p)
-      → (IsHit before after.state (tile_of (tiling before) p) → ⊥)
-      → IsHit before after.state (tile_of (tiling before) q) → ⊥
-  hits_next p q inside_p inside_q linked spared (list, lead) =
-      spared (tile_of (tiling before) q ∷ list, (lead, linked))
+      → AreLinked (tiling before) before.image before.conn (home q) (home p) → IsSpared (home p)
+      → IsHit before after.state (home q) → ⊥
+  hits_next p q inside_p inside_q linked spared (list, lead) = spared (tile_of (tiling before) q ∷ list, (lead, linked))
 
   -- ---- markers
 
   -- in a tile that is not hit the marker is nowhere less than before
-  marker_rises : (p : Pixel) → Inside (domain before) p
-      → (IsHit before after.state (tile_of (tiling before) p) → ⊥) → sound.marker p ≤ merged.marker p
+  marker_rises : (p : Pixel) → Inside (domain before) p → IsSpared (home p) → sound.marker p ≤ merged.marker p
   marker_rises p inside spared =
       let (top, is_top, value) = sound.is_marker p inside in
       let (new_top, is_new_top, new_value) = merged.is_marker p inside in
@@ -92,29 +86,25 @@ module _ (before after : Core) (delta : State) (turnover : Turnover) (sound : Is
 
   -- ---- the image
 
-  kept_image : (p : Pixel) → Inside (domain before) p
-      → (IsHit before after.state (tile_of (tiling before) p) → ⊥)
+  kept_image : (p : Pixel) → Inside (domain before) p → IsSpared (home p)
       → image_at after p ≡ max (image_at before p) (merged.marker p)
-  kept_image p inside spared = elim (merged.each (tile_of (tiling before) p) (tile_of_pixel p inside)) [
+  kept_image p inside spared = elim (merged.each (home p) (tile_of_pixel before p sound.shape inside)) [
     | inl (hit, reset) ↦ absurd (spared hit)
     | inr (no_hit, kept) ↦ kept.image p (in_its_tile p inside)
   ]
 
   -- a path above 0 from a tile that is not hit stays in such tiles, and there image and marker do not fall
   path_is_kept : (k : ℕ) → 0 < k → (p : Pixel) (rest : List Pixel) → IsPath (domain before) p rest
-      → AllByRecursion (λ q. k ≤ image_at before q) (p ∷ rest) → k ≤ sound.marker (end_of p rest)
-      → (IsHit before after.state (tile_of (tiling before) p) → ⊥)
+      → AllByRecursion (λ q. k ≤ image_at before q) (p ∷ rest) → k ≤ sound.marker (end_of p rest) → IsSpared (home p)
       → AllByRecursion (λ q. k ≤ image_at after q) (p ∷ rest) × (k ≤ merged.marker (end_of p rest))
   path_is_kept k positive p [] path all end spared =
-      let image = kept_image p path spared in
-      let marker = marker_rises p path spared in
-      ((omega (arith, image, all.0), tt), omega (arith, marker, end))
+      ((omega (arith, kept_image p path spared, all.0), tt), omega (arith, marker_rises p path spared, end))
   path_is_kept k positive p (q ∷ rest) path all end spared =
       let inside_q = IsPath-inside (domain before) q rest path.2 in
       let at_p : k ≤ image_at before p = all.0 in
       let at_q : k ≤ image_at before q = all.1.0 in
-      let linked : AreLinked (tiling before) before.image before.conn (tile_of (tiling before) q)
-      (tile_of (tiling before) p) = record {
+      let linked : AreLinked (tiling before) before.image before.conn (home q)
+      (home p) = record {
         p = q;
         q = p;
         from = in_its_tile q inside_q;
@@ -125,22 +115,20 @@ module _ (before after : Core) (delta : State) (turnover : Turnover) (sound : Is
       } in
       let (others, ends) = path_is_kept k positive q rest path.2 all.1 end
       (hits_next p q path.0 inside_q linked spared) in
-      let image = kept_image p path.0 spared in
-      ((omega (arith, image, at_p), others), ends)
+      ((omega (arith, kept_image p path.0 spared, at_p), others), ends)
 
   at_marker : (p : Pixel) → Inside (domain before) p → image_at after p ≡ merged.marker p
       → (merged.marker p ≤ image_at after p) × (image_at after p ≤ mask_at before p)
       × Reaches (domain before) (image_at after) merged.marker p (image_at after p)
-  at_marker p inside same =
-      let within = marker_within_mask p inside in (
-        omega (arith, same),
-        omega (arith, same, within),
-        reaches_here (domain before) (image_at after) merged.marker p (image_at after p) inside (omega arith)
-            (omega (arith, same)),
-      )
+  at_marker p inside same = (
+    omega (arith, same),
+    omega (arith, same, marker_within_mask p inside),
+    reaches_here (domain before) (image_at after) merged.marker p (image_at after p) inside (omega arith)
+        (omega (arith, same)),
+  )
 
   supported : IsSupported (domain before) (mask_at before) merged.marker (image_at after)
-  supported p inside = elim (merged.each (tile_of (tiling before) p) (tile_of_pixel p inside)) [
+  supported p inside = elim (merged.each (home p) (tile_of_pixel before p sound.shape inside)) [
     | inl (hit, reset) ↦ at_marker p inside (reset.image p (in_its_tile p inside))
     | inr (spared, kept) ↦
         let image = kept.image p (in_its_tile p inside) in
@@ -170,19 +158,19 @@ module _ (before after : Core) (delta : State) (turnover : Turnover) (sound : Is
 
   generation_rises : (t : ℕ) → IsTile before t → (work_at before t).generation ≤ (work_at after t).generation
   generation_rises t within = elim (merged.each t within) [
-    | inl (hit, reset) ↦ let next = ap (λ (w : TileWork). w.generation) reset.work in omega (arith, next)
-    | inr (spared, kept) ↦ let same = ap (λ (w : TileWork). w.generation) kept.work in omega (arith, same)
+    | inl (hit, reset) ↦ omega (arith, ap (λ (w : TileWork). w.generation) reset.work)
+    | inr (spared, kept) ↦ omega (arith, ap (λ (w : TileWork). w.generation) kept.work)
   ]
 
   -- a tile whose generation is as before is not hit
   same_generation_spares : (t : ℕ) → IsTile before t
       → (work_at after t).generation ≤ (work_at before t).generation → IsHit before after.state t → ⊥
   same_generation_spares t within same = elim (merged.each t within) [
-    | inl (hit, reset) ↦ let next = ap (λ (w : TileWork). w.generation) reset.work in absurd (omega (arith, next, same))
+    | inl (hit, reset) ↦ absurd (omega (arith, ap (λ (w : TileWork). w.generation) reset.work, same))
     | inr (spared, kept) ↦ spared
   ]
 
-  spared_generation : (t : ℕ) → IsTile before t → (IsHit before after.state t → ⊥)
+  spared_generation : (t : ℕ) → IsTile before t → IsSpared t
       → (work_at after t).generation ≡ (work_at before t).generation
   spared_generation t within spared = elim (merged.each t within) [
     | inl (hit, reset) ↦ absurd (spared hit)
@@ -191,34 +179,27 @@ module _ (before after : Core) (delta : State) (turnover : Turnover) (sound : Is
 
   generations : (t : ℕ) → IsTile before t → (work_at after t).generation ≤ max_generation
   generations t within = elim (merged.each t within) [
-    | inl (hit, reset) ↦
-        let next = ap (λ (w : TileWork). w.generation) reset.work in
-        let unspent = merged.unspent t hit in
-        omega (arith, next, unspent)
+    | inl (hit, reset) ↦ omega (arith, ap (λ (w : TileWork). w.generation) reset.work, merged.unspent t hit)
     | inr (spared, kept) ↦
-        let same = ap (λ (w : TileWork). w.generation) kept.work in
-        let bound = sound.shape.generations t within in
-        omega (arith, same, bound)
+        omega (arith, ap (λ (w : TileWork). w.generation) kept.work, sound.shape.generations t within)
   ]
 
   -- ---- hints
 
-  was_tile : (t : ℕ) → IsTile (merged_core before after) t → IsTile before t
+  was_tile : (t : ℕ) → IsTile now t → IsTile before t
   was_tile t within = subst (λ n. t < n) merged.count within
 
-  is_tile_still : (t : ℕ) → IsTile before t → IsTile (merged_core before after) t
+  is_tile_still : (t : ℕ) → IsTile before t → IsTile now t
   is_tile_still t within = subst (λ n. t < n) (sym merged.count) within
 
-  hint_holds : (t : ℕ) (hint : Hint) → IsValid before t hint → IsPresent (merged_core before after) hint
-      → CanRaise (merged_core before after) hint.from hint.to_pixel hint.value
+  hint_holds : (t : ℕ) (hint : Hint) → IsValid before t hint → IsPresent now hint
+      → CanRaise now hint.from hint.to_pixel hint.value
   hint_holds t hint valid present =
-      let earlier = valid.earlier in
       let generation : (work_at after hint.from).generation ≡ hint.from_generation = present.generation in
-      let spared = same_generation_spares hint.from valid.from (omega (arith, earlier, generation)) in
-      let same = spared_generation hint.from valid.from spared in
+      let spared = same_generation_spares hint.from valid.from (omega (arith, valid.earlier, generation)) in
       let can = valid.holds (record {
         is_tile = valid.from;
-        generation = omega (arith, same, generation);
+        generation = omega (arith, spared_generation hint.from valid.from spared, generation);
       }) in
       let image = kept_image can.p can.from.inside
       (λ hit. spared (subst (IsHit before after.state) can.from.tile hit)) in
@@ -226,17 +207,14 @@ module _ (before after : Core) (delta : State) (turnover : Turnover) (sound : Is
         p = can.p;
         from = record { inside = can.from.inside; tile = can.from.tile };
         beside = can.beside;
-        enough = let was = can.enough in omega (arith, was, image);
+        enough = omega (arith, can.enough, image);
       }
 
-  hint_valid : (t : ℕ) (hint : Hint) → IsValid before t hint → IsValid (merged_core before after) t hint
+  hint_valid : (t : ℕ) (hint : Hint) → IsValid before t hint → IsValid now t hint
   hint_valid t hint valid = record {
     to = record { inside = valid.to.inside; tile = valid.to.tile };
     from = is_tile_still hint.from valid.from;
-    earlier =
-        let rises = generation_rises hint.from valid.from in
-        let was = valid.earlier in
-        omega (arith, rises, was);
+    earlier = omega (arith, generation_rises hint.from valid.from, valid.earlier);
     holds = λ present. hint_holds t hint valid present;
   }
 
@@ -244,50 +222,43 @@ module _ (before after : Core) (delta : State) (turnover : Turnover) (sound : Is
 
   -- a pair between tiles that are not hit, whose first pixel did not rise, was open before
   was_open : (p q : Pixel) → IsOpen (domain before) (mask_at before) (image_at after) p q
-      → image_at after p ≤ image_at before p → (IsHit before after.state (tile_of (tiling before) q) → ⊥)
+      → image_at after p ≤ image_at before p → IsSpared (home q)
       → IsOpen (domain before) (mask_at before) (image_at before) p q
   was_open p q pair no_rise spared_q =
-      let at_q = kept_image q pair.to_inside spared_q in
-      let raises = pair.lower in
       record {
         from_inside = pair.from_inside;
         to_inside = pair.to_inside;
         beside = pair.beside;
-        lower = omega (arith, at_q, raises, no_rise);
+        lower = omega (arith, kept_image q pair.to_inside spared_q, pair.lower, no_rise);
       }
 
   still_work : (p q : Pixel) → IsOpen (domain before) (mask_at before) (image_at after) p q
-      → image_at after p ≤ image_at before p → (IsHit before after.state (tile_of (tiling before) p) → ⊥)
-      → IsKept before merged.marker after (tile_of (tiling before) p) → HasWork before p q
-      → HasWork (merged_core before after) p q
+      → image_at after p ≤ image_at before p → IsSpared (home p)
+      → IsKept before merged.marker after (home p) → HasWork before p q → HasWork now p q
   still_work p q pair no_rise spared kept (inl dirty) = inl (kept.dirty.1 (inl dirty))
   still_work p q pair no_rise spared kept (inr (inl out)) =
       let same = ap (λ (w : TileWork). w.out) kept.work in
       inr (inl (λ none. out (sym same ∙ none)))
   still_work p q pair no_rise spared kept (inr (inr told)) =
       let u = tile_of (tiling before) q in
-      let is_tile_p = tile_of_pixel p pair.from_inside in
-      let same = spared_generation (tile_of (tiling before) p) is_tile_p spared in
-      let was = told.enough in
+      let is_tile_p = tile_of_pixel before p sound.shape pair.from_inside in
+      let same = spared_generation (home p) is_tile_p spared in
       inr (inr (record {
         hint = told.hint;
-        waits = subst (λ hs. Contains hs told.hint) (sym (same_inbox u (tile_of_pixel q pair.to_inside))) told.waits;
+        waits = rw (same_inbox u (tile_of_pixel before q sound.shape pair.to_inside)) told.waits;
         from = told.from;
         to = told.to;
         present = record {
           is_tile = is_tile_still told.hint.from told.present.is_tile;
-          generation =
-              subst (λ t. (work_at after t).generation ≡ (work_at before t).generation) (sym told.from) same
-              ∙ told.present.generation;
+          generation = rw told.from same ∙ told.present.generation;
         };
-        enough = omega (arith, was, no_rise);
+        enough = omega (arith, told.enough, no_rise);
       }))
 
-  has_work : (p q : Pixel) → IsOpen (domain before) (mask_at before) (image_at after) p q
-      → HasWork (merged_core before after) p q
-  has_work p q pair = elim (merged.each (tile_of (tiling before) p) (tile_of_pixel p pair.from_inside)) [
+  has_work : (p q : Pixel) → IsOpen (domain before) (mask_at before) (image_at after) p q → HasWork now p q
+  has_work p q pair = elim (merged.each (home p) (tile_of_pixel before p sound.shape pair.from_inside)) [
     | inl (hit, reset) ↦ inl (ap (λ (w : TileWork). w.dirty) reset.work)
-    | inr (spared, kept) ↦ elim (merged.each (tile_of (tiling before) q) (tile_of_pixel q pair.to_inside)) [
+    | inr (spared, kept) ↦ elim (merged.each (home q) (tile_of_pixel before q sound.shape pair.to_inside)) [
       | inl (hit_q, reset_q) ↦
           elim (neighbours_lie_in_touching_tiles (tiling before) before.conn p q sound.shape.tiled pair.from_inside
           pair.to_inside pair.beside) [
@@ -295,7 +266,7 @@ module _ (before after : Core) (delta : State) (turnover : Turnover) (sound : Is
             | inr touching ↦
                 inl (kept.dirty.1 (inr (inr (record {
                   u = tile_of (tiling before) q;
-                  is_tile = tile_of_pixel q pair.to_inside;
+                  is_tile = tile_of_pixel before q sound.shape pair.to_inside;
                   hit = hit_q;
                   touching = touching;
                 }))))
@@ -303,13 +274,12 @@ module _ (before after : Core) (delta : State) (turnover : Turnover) (sound : Is
       | inr (spared_q, kept_q) ↦ elim (cases_lt (image_at before p) (image_at after p)) [
         | inl risen ↦
             inl (kept.dirty.1 (inr (inl (record { p = p; in_tile = in_its_tile p pair.from_inside; rose = risen }))))
-        | inr no_rise ↦
-            still_work p q pair no_rise spared kept (sound.work p q (was_open p q pair no_rise spared_q))
+        | inr no_rise ↦ still_work p q pair no_rise spared kept (sound.work p q (was_open p q pair no_rise spared_q))
       ]
     ]
   ]
 
-  pub merged_sound : IsSound (merged_core before after)
+  pub merged_sound : IsSound now
   merged_sound = record {
     shape = record {
       tiled = sound.shape.tiled;

@@ -1,22 +1,17 @@
 -- A core as it is opened is sound and quiet.
 use Rattle.std.proofs.Common.{◌≡◌, ℕ, ◌<◌, ◌≤◌, min, length, refl, sym, ◌∙◌, ap, subst, arith, inl}
-use Rattle.std.specs.Prelude.{Contains}
 use Rattle.std.proofs.lemmas.List.{length-replicate, get_or-replicate}
-use Rattle.grid_core.specs.declared.conn.Conn.{Conn}
-use Rattle.grid_core.specs.declared.pixel.Pixel.{Pixel}
+use Rattle.grid_core.specs.{declared.conn.Conn.Conn, declared.pixel.Pixel.Pixel, Tiles.IsTiled, Tiles.count_of}
 use Rattle.grid_core.specs.Raster.{Raster, IsFilled, index_of, value_at}
 use Rattle.grid_core.specs.Path.{domain_of, Inside, Reaches}
-use Rattle.grid_core.specs.Tiles.{IsTiled, count_of}
-use Rattle.grid_core.proofs.Cells.{index_of-within}
-use Rattle.grid_core.proofs.Reach.{reaches_zero}
+use Rattle.grid_core.proofs.{Cells.index_of-within, Reach.reaches_zero}
 use Rattle.stroke_lattice.specs.State.{nothing}
 use Rattle.stroke_lattice.proofs.Joins.{nothing_has_no_stroke}
 use Rattle.marker_tiles.specs.Marker.{IsMarker}
 use Rattle.tile_generations.specs.Generations.{max_generation}
 use Rattle.core_rules.specs.Work.{tiling, IsTile, work_at, IsQuiet}
+use Rattle.core_rules.specs.{Opening.blank, Opening.opened, Invariant.IsSound}
 use Rattle.border_queues.specs.TileWork.{TileWork, idle, fresh}
-use Rattle.core_rules.specs.Opening.{blank, opened}
-use Rattle.core_rules.specs.Invariant.{IsSound}
 use Rattle.core_rules.proofs.Quiet.{none_in_nothing}
 
 module _ (mask : Raster) (conn : Conn) (side first : ℕ) where
@@ -60,8 +55,7 @@ module _ (mask : Raster) (conn : Conn) (side first : ℕ) (filled : IsFilled mas
       tiles = length-replicate (count_of (tiling (opened mask conn side first))) (fresh first);
       strokes = λ tag seed has. absurd (nothing_has_no_stroke tag seed has);
       generations = λ t within.
-          let same = ap (λ (w : TileWork). w.generation) (work_is_fresh mask conn side first t within) in
-          omega (arith, same, bound);
+          omega (arith, ap (λ (w : TileWork). w.generation) (work_is_fresh mask conn side first t within), bound);
     };
     marker = λ p. 0;
     is_marker = zero_is_marker;
@@ -72,12 +66,7 @@ module _ (mask : Raster) (conn : Conn) (side first : ℕ) (filled : IsFilled mas
           subst (λ v. Reaches (domain_of mask conn) (value_at (blank mask)) (λ q. 0) p v) (sym none)
               (reaches_zero (domain_of mask conn) (value_at (blank mask)) (λ q. 0) p inside),
         );
-    hints = λ t hint within waits.
-        absurd (none_in_nothing hint
-        (subst (λ hs. Contains hs hint)
-        (ap (λ (w : TileWork). w.inbox) (work_is_fresh mask conn side first t within)) waits));
-    work = λ p q pair.
-        let none = zero_everywhere p pair.from_inside in
-        let below = pair.lower in
-        absurd (omega (arith, none, below));
+    hints = λ t hint within waits. absurd (none_in_nothing hint
+        (rw (ap (λ (w : TileWork). w.inbox) (work_is_fresh mask conn side first t within)) at waits));
+    work = λ p q pair. absurd (omega (arith, zero_everywhere p pair.from_inside, pair.lower));
   }

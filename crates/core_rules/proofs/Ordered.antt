@@ -1,6 +1,6 @@
 -- Lists in strict order with the same elements are equal.
-use Rattle.std.proofs.Common.{◌≡◌, ℕ, zero, suc, ◌<◌, List, [], ◌∷◌, refl, sym, subst, arith, inl, inr, ◌⊎◌}
-use Rattle.std.specs.Prelude.{Contains, ◌↔◌}
+use Rattle.std.proofs.Common.{◌≡◌, ℕ, zero, suc, ◌<◌, List, [], ◌∷◌, refl, sym, subst, arith, inl, inr, ◌⊎◌, Contains}
+use Rattle.std.proofs.Common.{◌↔◌}
 use Rattle.std.specs.List.{AllByRecursion}
 
 -- an element of a longer list is its first or one of the others
@@ -58,11 +58,9 @@ module _ {X : Type 0} (R : X → X → Type 0) (S : List X → Type 0) (one_way 
       same_first x xs y ys order_x order_y ((same x).0 (in_front x xs)) ((same y).1 (in_front y ys)) in
       let order_z : S (x ∷ ys) = subst (λ w. S (w ∷ ys)) (sym first) order_y in
       let rest : xs ≡ ys = one_ordered xs ys (parts x xs order_x).1 (parts y ys order_y).1 (λ z. (
-        λ there.
-            rest_in_rest x xs ys z order_x there
+        λ there. rest_in_rest x xs ys z order_x there
             (subst (λ w. Contains (w ∷ ys) z) (sym first) ((same z).0 (in_rest x xs z there))),
-        λ there.
-            rest_in_rest x ys xs z order_z there ((same z).1 (in_rest y ys z there)),
+        λ there. rest_in_rest x ys xs z order_z there ((same z).1 (in_rest y ys z there)),
       )) in
       λ i. first i ∷ rest i
 

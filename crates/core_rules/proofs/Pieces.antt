@@ -1,18 +1,13 @@
 -- Pieces of images: each rectangle of an image is an image by itself.
 use Rattle.std.proofs.Common.{◌≡◌, ℕ, ◌+◌, ◌*◌, ◌<◌, length, get_or, map, refl, sym, ◌∙◌, ap, subst, arith}
-use Rattle.std.specs.List.{range_with_len}
 use Rattle.std.proofs.lemmas.Nat.{div-mul-add, mod-mul-add, mul-add-lt}
 use Rattle.std.proofs.lemmas.List.{get_or-map, length-map}
 use Rattle.std.proofs.lemmas.List.FromFn.{length-range_with_len, get_or-range_with_len}
-use Rattle.grid_core.specs.declared.pixel.Pixel.{Pixel}
-use Rattle.grid_core.specs.declared.rect.Rect.{Rect}
-use Rattle.grid_core.specs.Raster.{Raster, index_of, value_at}
-use Rattle.grid_core.specs.Path.{Domain, Inside, Reaches}
-use Rattle.grid_core.specs.Reconstruction.{IsReconstruction}
+use Rattle.std.specs.List.{range_with_len}
+use Rattle.grid_core.specs.{declared.pixel.Pixel.Pixel, declared.rect.Rect.Rect, Raster.Raster, Raster.index_of}
+use Rattle.grid_core.specs.{Raster.value_at, Path.Domain, Path.Inside, Path.Reaches, Reconstruction.IsReconstruction}
 use Rattle.grid_core.specs.Rects.{in_image}
-use Rattle.grid_core.proofs.Cells.{pixel_of}
-use Rattle.grid_core.proofs.Pixels.{same_pixel}
-use Rattle.grid_core.proofs.Reach.{reaches_rises}
+use Rattle.grid_core.proofs.{Cells.pixel_of, Pixels.same_pixel, Reach.reaches_rises}
 use Rattle.core_rules.specs.Image.{IsPart}
 use Rattle.core_rules.proofs.Supporting.{reaches_above}
 
@@ -39,8 +34,7 @@ piece_is_part rect whole =
       values = λ p inside.
           let i = index_of rect.w p in
           let below : i < rect.w * rect.h = omega (arith, mul-add-lt p.y rect.w p.x rect.h inside.1 inside.0) in
-          let within : i < length places =
-          subst (λ n. i < n) (sym (length-range_with_len 0 (rect.w * rect.h))) below in
+          let within : i < length places = rw (length-range_with_len 0 (rect.w * rect.h)) below in
           let place : get_or places i 0 ≡ i =
           get_or-range_with_len 0 (rect.w * rect.h) i 0 below ∙ (let e : 0 + i ≡ i = omega arith in e) in
           get_or-map value places i 0 0 within ∙ ap value place
@@ -54,8 +48,8 @@ pub reaches_same : (d : Domain) (mask other marker other_marker : Pixel → ℕ)
     → ((p : Pixel) → Inside d p → mask p ≡ other p) → ((p : Pixel) → Inside d p → marker p ≡ other_marker p)
     → (p : Pixel) (k : ℕ) → Reaches d mask marker p k → Reaches d other other_marker p k
 reaches_same d mask other marker other_marker same_mask same_marker p k reach =
-    reaches_rises d other marker other_marker (λ q h. let e = same_marker q h in omega (arith, e)) p k
-    (reaches_above d mask other marker (λ q h. let e = same_mask q h in omega (arith, e)) p k reach)
+    reaches_rises d other marker other_marker (λ q h. omega (arith, same_marker q h)) p k
+    (reaches_above d mask other marker (λ q h. omega (arith, same_mask q h)) p k reach)
 
 pub reconstruction_same : (d : Domain) (mask other marker other_marker r s : Pixel → ℕ)
     → ((p : Pixel) → Inside d p → mask p ≡ other p) → ((p : Pixel) → Inside d p → marker p ≡ other_marker p)
@@ -64,9 +58,7 @@ pub reconstruction_same : (d : Domain) (mask other marker other_marker r s : Pix
 reconstruction_same d mask other marker other_marker r s same_mask same_marker same recon p inside = (
   subst (Reaches d other other_marker p) (same p inside)
       (reaches_same d mask other marker other_marker same_mask same_marker p (r p) (recon p inside).0),
-  λ k above reach.
-      let e = same p inside in
-      (recon p inside).1 k (omega (arith, e, above))
+  λ k above reach. (recon p inside).1 k (omega (arith, same p inside, above))
       (reaches_same d other mask other_marker marker (λ q h. sym (same_mask q h)) (λ q h. sym (same_marker q h)) p k
       reach),
 )

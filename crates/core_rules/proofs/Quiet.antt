@@ -1,21 +1,14 @@
 -- A sound core has a lawful image, and where it is quiet the reconstruction.
-use Rattle.std.proofs.Common.{◌≡◌, ℕ, true, false, min, [], sym, ◌∙◌, subst, arith, inl, inr}
-use Rattle.std.specs.Prelude.{Contains}
+use Rattle.std.proofs.Common.{◌≡◌, ℕ, true, false, min, sym, ◌∙◌, subst, arith, inl, inr, Contains, []}
 use Rattle.std.proofs.lemmas.Bool.{cases_lt}
-use Rattle.grid_core.specs.declared.pixel.Pixel.{Pixel}
-use Rattle.grid_core.specs.Path.{Inside}
-use Rattle.grid_core.specs.Reconstruction.{IsClosed}
-use Rattle.grid_core.specs.Tiles.{tile_of}
-use Rattle.grid_core.proofs.Reach.{reaches_rises}
-use Rattle.grid_core.proofs.Images.{closed_is_reconstruction}
-use Rattle.grid_core.proofs.Tilings.{each_pixel_in_one_tile}
+use Rattle.grid_core.specs.{declared.pixel.Pixel.Pixel, Path.Inside, Reconstruction.IsClosed, Tiles.tile_of}
+use Rattle.grid_core.proofs.{Reach.reaches_rises, Images.closed_is_reconstruction}
 use Rattle.marker_tiles.specs.Marker.{IsMarker}
 use Rattle.marker_tiles.proofs.Levels.{one_marker}
-use Rattle.core_rules.specs.Image.{IsOpen}
-use Rattle.core_rules.specs.Image.{IsSupported}
+use Rattle.core_rules.specs.Image.{IsOpen, IsSupported}
 use Rattle.core_rules.specs.Work.{Core, domain, tiling, mask_at, image_at, IsTile, IsQuiet}
 use Rattle.core_rules.specs.Invariant.{HasWork, IsSound, HasLawfulImage, HasReconstruction}
-use Rattle.core_rules.proofs.Supporting.{supported_is_lawful}
+use Rattle.core_rules.proofs.{Cores.tile_of_pixel, Supporting.supported_is_lawful}
 
 -- the image of a sound core is supported by each marker of the strokes, since they are all one
 pub supported_by_marker : (core : Core) → IsSound core → (marker : Pixel → ℕ)
@@ -24,12 +17,11 @@ pub supported_by_marker : (core : Core) → IsSound core → (marker : Pixel →
 supported_by_marker core sound marker is_marker p inside =
     let same : (q : Pixel) → Inside (domain core) q → sound.marker q ≡ marker q =
     one_marker (domain core) (mask_at core) core.state sound.marker marker sound.is_marker is_marker in
-    let was = sound.supported p inside in
-    let here = same p inside in (
-      omega (arith, was.0, here),
+    let was = sound.supported p inside in (
+      omega (arith, was.0, same p inside),
       was.1,
       reaches_rises (domain core) (image_at core) sound.marker marker
-          (λ q h. let e = same q h in omega (arith, e)) p (image_at core p) was.2,
+          (λ q h. omega (arith, same q h)) p (image_at core p) was.2,
     )
 
 pub sound_is_lawful : (core : Core) → IsSound core → HasLawfulImage core
@@ -61,11 +53,8 @@ quiet_is_closed core sound quiet p q inside_p inside_q beside =
             beside = beside;
             lower = below;
           } in
-          let count = sound.shape.tiles in
-          let in_p = (each_pixel_in_one_tile (tiling core) p sound.shape.tiled inside_p).0 in
-          let in_q = (each_pixel_in_one_tile (tiling core) q sound.shape.tiled inside_q).0 in
-          absurd (no_work core quiet p q (omega (arith, count, in_p)) (omega (arith, count, in_q))
-          (sound.work p q pair))
+          absurd (no_work core quiet p q (tile_of_pixel core p sound.shape inside_p)
+          (tile_of_pixel core q sound.shape inside_q) (sound.work p q pair))
       | inr at_least ↦ at_least
     ]
 

@@ -1,22 +1,21 @@
 -- Lists from which elements are taken out: one at a place, or those that fail a test.
 use Rattle.std.proofs.Common.{◌≡◌, ℕ, zero, suc, ◌+◌, ◌-◌, ◌<◌, Bool, true, false, List, [], ◌∷◌, length, get_or, sym}
-use Rattle.std.proofs.Common.{◌∙◌, ap, subst, arith, inl, inr, ◌⊎◌, map}
-use Rattle.std.specs.Prelude.{Some, slice_get, remove, Contains, filter, cond}
-use Rattle.std.proofs.lemmas.Bool.{cases_lt, cases_eq}
-use Rattle.std.proofs.lemmas.Option.{slice_get_within, get_or_from_slice_get}
+use Rattle.std.proofs.Common.{◌∙◌, ap, subst, arith, inl, inr, ◌⊎◌, map, Some, slice_get, remove, Contains, filter}
+use Rattle.std.proofs.Common.{cond}
+use Rattle.std.proofs.{lemmas.Bool.cases_lt, lemmas.Bool.cases_eq, lemmas.Option.slice_get_within}
+use Rattle.std.proofs.{lemmas.Option.get_or_from_slice_get, lemmas.List.get_or-map, lemmas.List.length-map}
 use Rattle.std.proofs.lemmas.List.Edits.{length-remove, get_or-remove_below, get_or-remove_above}
 use Rattle.std.proofs.lemmas.List.Elements.{Contains-get_or, All-contains, All-filter, All-contains_itself}
 use Rattle.std.proofs.lemmas.List.Elements.{filter_passes}
-use Rattle.std.proofs.lemmas.List.{get_or-map, length-map}
 
 -- what is left was there
 pub left_was_there : {X : Type 0} (xs : List X) (i : ℕ) (x : X) → i < length xs → Contains (remove xs i) x
     → Contains xs x
 left_was_there xs i x within (k, below, there) =
-    let long = length-remove xs i within in
     elim (cases_lt k i) [
       | inl before ↦ (k, omega arith, sym (get_or-remove_below xs i x k before within) ∙ there)
-      | inr after ↦ (k + 1, omega (arith, long), sym (get_or-remove_above xs i x k after within) ∙ there)
+      | inr after ↦
+          (k + 1, omega (arith, length-remove xs i within), sym (get_or-remove_above xs i x k after within) ∙ there)
     ]
 
 -- what was there is left, or is what was taken out
@@ -65,8 +64,7 @@ pub passes_filter : {X : Type 0} (test : X → Bool) (xs : List X) (x : X) → t
 passes_filter test [] x pass (k, within, there) = absurd (omega (arith, within))
 passes_filter test (y ∷ ys) x pass (zero, within, there) =
     let front : test y ≡ true = subst (λ z. test z ≡ true) (sym there) pass in
-    subst (λ b. Contains (cond b (y ∷ filter test ys) (filter test ys)) x) (sym front)
-    (zero, omega arith, there)
+    rw front (zero, omega arith, there)
 passes_filter test (y ∷ ys) x pass (suc k, within, there) =
     with_front (test y) y (filter test ys) x (passes_filter test ys x pass (k, omega (arith, within), there))
 

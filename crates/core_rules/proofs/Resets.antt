@@ -1,19 +1,17 @@
 -- Which tiles a merge resets, that none is where no stroke dies, and which deltas are refused.
 use Rattle.std.proofs.Common.{◌≡◌, ℕ, ◌+◌, ◌≤◌, max, List, [], ◌∷◌, refl, ap, subst, arith, inl, inr}
-use Rattle.std.specs.Prelude.{Contains}
 use Rattle.grid_core.specs.declared.pixel.Pixel.{Pixel}
-use Rattle.stroke_lattice.specs.State.{State, AreCompatible}
+use Rattle.stroke_lattice.specs.{State.State, Change.Turnover, Change.IsChange}
 use Rattle.stroke_lattice.proofs.Joins.{one_join, compatible_join}
-use Rattle.stroke_lattice.specs.Change.{Turnover, IsChange}
 use Rattle.marker_tiles.specs.Marker.{IsMarker}
 use Rattle.marker_tiles.proofs.Levels.{one_marker}
 use Rattle.core_rules.specs.Work.{Core, domain, tiling, mask_at, image_at, IsTile, work_at}
-use Rattle.border_queues.specs.TileWork.{TileWork}
 use Rattle.core_rules.specs.Hits.{IsInTile, HoldsOne, LosesStroke, AreLinked, LeadFrom, IsHit}
 use Rattle.core_rules.specs.declared.error.CoreError.{CoreError}
 use Rattle.core_rules.specs.declared.error.CoreError.TheVariants.{OutOfImage, Conflict, GenerationsSpent, Memory}
 use Rattle.core_rules.specs.declared.error.CoreError.TheVariants.{BadSide}
-use Rattle.core_rules.specs.Merge.{IsMerged, HasSpent, IsRefused, IsAcceptable}
+use Rattle.core_rules.specs.Merge.{IsMerged, IsRefused, IsAcceptable}
+use Rattle.border_queues.specs.TileWork.{TileWork}
 use Rattle.core_rules.proofs.Quiet.{none_in_nothing}
 
 module _ (before after : Core) (delta : State) (turnover : Turnover) (merged : IsMerged before delta turnover after)
@@ -45,11 +43,9 @@ module _ (before after : Core) (delta : State) (turnover : Turnover) (merged : I
 none_leads : (before : Core) (after : State) (turnover : Turnover) → IsChange before.state after turnover
     → turnover.dead ≡ [] → (list : List ℕ) (t : ℕ)
     → LeadFrom (HoldsOne (tiling before) (LosesStroke before.state after))
-    (AreLinked (tiling before) before.image before.conn) list t
-    → ⊥
+    (AreLinked (tiling before) before.image before.conn) list t → ⊥
 none_leads before after turnover change none [] t (p, in_tile, loses) =
-    none_in_nothing loses.tag (subst (λ tags. Contains tags loses.tag) none
-    ((change.dead loses.tag).1 ((loses.seed, loses.was), loses.is_dead)))
+    none_in_nothing loses.tag (rw none at ((change.dead loses.tag).1 ((loses.seed, loses.was), loses.is_dead)))
 none_leads before after turnover change none (u ∷ list) t (lead, linked) =
     none_leads before after turnover change none list u lead
 
@@ -68,9 +64,7 @@ merged_is_acceptable before after delta turnover merged = record {
   unspent = λ spent.
       let same : spent.joined ≡ after.state =
       one_join before.state delta spent.joined after.state spent.join merged.join in
-      let below = merged.unspent spent.t (subst (λ s. IsHit before s spent.t) same spent.hit) in
-      let top = spent.spent in
-      omega (arith, below, top);
+      omega (arith, merged.unspent spent.t (subst (λ s. IsHit before s spent.t) same spent.hit), spent.spent);
 }
 
 pub refused_is_not_acceptable : (core : Core) (delta : State) (why : CoreError) → IsRefused core delta why
@@ -85,33 +79,20 @@ refused_is_not_acceptable core delta BadSide refused acceptable = refused
 same_tag : (a b : ℕ) → a ≤ b → b ≤ a → a ≡ b
 same_tag a b low high = omega arith
 
-spent_is_compatible : (core : Core) (delta : State) → HasSpent core delta → AreCompatible core.state delta
-spent_is_compatible core delta spent = compatible_join core.state delta spent.joined spent.join
-
 pub one_refusal : (core : Core) (delta : State) (why other : CoreError) → IsRefused core delta why
     → IsRefused core delta other → why ≡ other
-one_refusal core delta (OutOfImage t) (OutOfImage u) (outside, least) (other, least_other) =
-    ap OutOfImage (same_tag t u (least u other) (least_other t outside))
-one_refusal core delta (OutOfImage t) (Conflict u) ((seed, has, unfit), least) (fits, clash) =
-    absurd (unfit (fits t seed has))
-one_refusal core delta (OutOfImage t) GenerationsSpent ((seed, has, unfit), least) (fits, spent) =
-    absurd (unfit (fits t seed has))
-one_refusal core delta (Conflict t) (OutOfImage u) (fits, clash) ((seed, has, unfit), least) =
-    absurd (unfit (fits u seed has))
-one_refusal core delta (Conflict t) (Conflict u) (fits, (clash, least)) (again, (other, least_other)) =
-    ap Conflict (same_tag t u (least u other) (least_other t clash))
-one_refusal core delta (Conflict t) GenerationsSpent (fits, (clash, least)) (again, spent) =
-    absurd (spent_is_compatible core delta spent t clash)
-one_refusal core delta GenerationsSpent (OutOfImage u) (fits, spent) ((seed, has, unfit), least) =
-    absurd (unfit (fits u seed has))
-one_refusal core delta GenerationsSpent (Conflict u) (fits, spent) (again, (clash, least)) =
-    absurd (spent_is_compatible core delta spent u clash)
-one_refusal core delta GenerationsSpent GenerationsSpent first second = refl
 one_refusal core delta Memory other first second = absurd first
 one_refusal core delta BadSide other first second = absurd first
-one_refusal core delta (OutOfImage t) Memory first second = absurd second
-one_refusal core delta (OutOfImage t) BadSide first second = absurd second
-one_refusal core delta (Conflict t) Memory first second = absurd second
-one_refusal core delta (Conflict t) BadSide first second = absurd second
-one_refusal core delta GenerationsSpent Memory first second = absurd second
-one_refusal core delta GenerationsSpent BadSide first second = absurd second
+one_refusal core delta _ Memory first second = absurd second
+one_refusal core delta _ BadSide first second = absurd second
+one_refusal core delta (OutOfImage t) (OutOfImage u) (outside, least) (other, least_other) =
+    ap OutOfImage (same_tag t u (least u other) (least_other t outside))
+one_refusal core delta (Conflict t) (Conflict u) (fits, (clash, least)) (again, (other, least_other)) =
+    ap Conflict (same_tag t u (least u other) (least_other t clash))
+one_refusal core delta GenerationsSpent GenerationsSpent first second = refl
+one_refusal core delta (OutOfImage t) _ ((seed, has, unfit), least) second = absurd (unfit (second.0 t seed has))
+one_refusal core delta _ (OutOfImage u) first ((seed, has, unfit), least) = absurd (unfit (first.0 u seed has))
+one_refusal core delta (Conflict t) GenerationsSpent (fits, (clash, least)) (again, spent) =
+    absurd (compatible_join core.state delta spent.joined spent.join t clash)
+one_refusal core delta GenerationsSpent (Conflict u) (fits, spent) (again, (clash, least)) =
+    absurd (compatible_join core.state delta spent.joined spent.join u clash)

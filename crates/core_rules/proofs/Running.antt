@@ -1,16 +1,12 @@
 -- Lists of events.
 use Rattle.std.proofs.Common.{List, [], ◌∷◌, ◌++◌, sym, subst}
 use Rattle.border_queues.specs.Laws.{EdgesAreOpen}
-use Rattle.core_rules.specs.Work.{Core}
-use Rattle.core_rules.specs.Events.{Event, Answer, Happens, Merge, Take, GiveBack, Abandon, Hand}
-use Rattle.core_rules.specs.Events.{OfMerge, OfTake, OfGiveBack, OfAbandon, OfHand}
-use Rattle.core_rules.specs.Runs.{Entry, IsRun, tickets_out, IsWorkedOff, IsSettling, IsSettled}
-use Rattle.core_rules.specs.Runs.{IsCutShort, abandoned}
-use Rattle.core_rules.specs.Invariant.{IsSound}
-use Rattle.core_rules.proofs.Handing.{hand_keeps_sound}
+use Rattle.core_rules.specs.{Work.Core, Invariant.IsSound}
+use Rattle.core_rules.specs.Events.{Event, Answer, Happens, Merge, Take, GiveBack, Abandon, Hand, OfMerge, OfTake}
+use Rattle.core_rules.specs.Events.{OfGiveBack, OfAbandon, OfHand}
+use Rattle.core_rules.specs.Runs.{Entry, IsRun, tickets_out, IsWorkedOff, IsSettling, IsSettled, IsCutShort, abandoned}
+use Rattle.core_rules.proofs.{Handing.hand_keeps_sound, Joining.give_back_keeps_sound, Merging.merge_keeps_sound}
 use Rattle.core_rules.proofs.Taking.{take_keeps_sound, abandon_keeps_sound}
-use Rattle.core_rules.proofs.Joining.{give_back_keeps_sound}
-use Rattle.core_rules.proofs.Merging.{merge_keeps_sound}
 
 pub event_keeps_sound : EdgesAreOpen → (before after : Core) (event : Event) (answer : Answer) → IsSound before
     → Happens before event answer after → IsSound after
@@ -57,6 +53,5 @@ settled_is_run before after log settled = settling_is_run before after log settl
 -- what was done until want of memory is a list of events too
 pub cut_short_is_run : (before after : Core) (log : List Entry) → IsCutShort before log after → IsRun before log after
 cut_short_is_run before after log cut =
-    subst (λ es. IsRun before es after) (sym cut.parts)
-    (run_append before cut.reached after cut.done (abandoned cut.in_hand)
+    rw cut.parts (run_append before cut.reached after cut.done (abandoned cut.in_hand)
     (settling_is_run before cut.reached cut.done cut.settling) cut.drops)

@@ -1,29 +1,24 @@
 -- Schedules: their steps make a list of events, and the strokes at the end are the join of what was accepted.
 use Rattle.std.proofs.Common.{◌≡◌, ℕ, ◌+◌, List, [], ◌∷◌, ◌++◌, length, refl, sym, ◌∙◌, ap, subst, inl, inr}
-use Rattle.std.proofs.Common.{append_assoc}
-use Rattle.std.proofs.Common.{arith}
+use Rattle.std.proofs.Common.{append_assoc, arith, true, false, Some, None, slice_get}
 use Rattle.std.proofs.lemmas.List.{length-append}
-use Rattle.std.specs.Prelude.{true, false, Some, None, slice_get}
 use Rattle.stroke_lattice.specs.State.{State, IsJoinOf}
 use Rattle.stroke_lattice.proofs.Joins.{longer_from_join}
-use Rattle.tile_generations.specs.declared.ticket.Ticket.{Ticket}
 use Rattle.tile_generations.specs.Jobs.{Swept}
-use Rattle.core_rules.specs.declared.step.Step.{Step}
-use Rattle.core_rules.specs.declared.step.Step.TheVariants as steps
+use Rattle.core_rules.specs.{declared.step.Step.Step, Work.Core, Runs.Entry, Runs.IsRun}
 use Rattle.core_rules.specs.declared.answers.Back.TheVariants.{Joined, Again, Stale, Stranger}
 use Rattle.core_rules.specs.declared.answers.Handed.TheVariants.{Raised, Same, Stale as Old, Nothing}
-use Rattle.core_rules.specs.Work.{Core}
-use Rattle.core_rules.specs.Events.{Event, Answer, Happens, Merge, Take, GiveBack, Abandon, Hand}
-use Rattle.core_rules.specs.Events.{OfMerge, OfTake, OfGiveBack, OfAbandon, OfHand}
-use Rattle.core_rules.specs.Runs.{Entry, IsRun}
+use Rattle.core_rules.specs.Events.{Event, Answer, Happens, Merge, Take, GiveBack, Abandon, Hand, OfMerge, OfTake}
+use Rattle.core_rules.specs.Events.{OfGiveBack, OfAbandon, OfHand}
 use Rattle.core_rules.specs.Schedule.{Progress, started, passed, IsEventOf, IsOfResult, IsStep, AreSteps, AreEditsAt}
+use Rattle.core_rules.specs.Counting.{merges_of}
 use Rattle.core_rules.proofs.Running.{run_append}
+use Rattle.core_rules.specs.declared.step.Step.TheVariants as steps
 
 -- one more event at the end
 run_push : (a b c : Core) (log : List Entry) (event : Event) (answer : Answer) → IsRun a log b
     → Happens b event answer c → IsRun a (log ++ (event, answer) ∷ []) c
-run_push a b c log event answer run happens =
-    run_append a b c log ((event, answer) ∷ []) run (c, happens, refl)
+run_push a b c log event answer run happens = run_append a b c log ((event, answer) ∷ []) run (c, happens, refl)
 
 -- the events so far are a run from the start to the core as it is
 abbrev pub IsReached : Core → Progress → Type 0
@@ -43,21 +38,17 @@ result_reaches start a b j event reached (inl (swept, there, is_event)) =
     event_reaches start a b (event swept) reached is_event
 result_reaches start a b j event reached (inr (none, same)) = passed_reaches start a b reached same
 
-step_reaches : (start : Core) (step : Step) (a b : Progress) → IsReached start a → IsStep step a b
-    → IsReached start b
+step_reaches : (start : Core) (step : Step) (a b : Progress) → IsReached start a → IsStep step a b → IsReached start b
 step_reaches start (steps.Edit delta) a b reached (inl (turnover, happens, same)) =
-    subst (IsReached start) (sym same)
-    (run_push start a.core b.core a.log (Merge delta) (OfMerge turnover) reached happens)
-step_reaches start (steps.Edit delta) a b reached (inr (why, refused, same)) =
-    subst (IsReached start) (sym same) reached
+    rw same (run_push start a.core b.core a.log (Merge delta) (OfMerge turnover) reached happens)
+step_reaches start (steps.Edit delta) a b reached (inr (why, refused, same)) = rw same reached
 step_reaches start (steps.Take t) a b reached (job, more, happens, added, same) =
     subst (IsReached start) (sym same) (run_push start a.core b.core a.log (Take t) (OfTake job) reached happens)
 step_reaches start (steps.Return j) a b reached is_step =
     result_reaches start a b j (λ swept. GiveBack swept) reached is_step
 step_reaches start (steps.Abandon j) a b reached is_step =
     result_reaches start a b j (λ swept. Abandon swept.job.ticket) reached is_step
-step_reaches start (steps.Hand t place) a b reached is_step =
-    event_reaches start a b (Hand t place) reached is_step
+step_reaches start (steps.Hand t place) a b reached is_step = event_reaches start a b (Hand t place) reached is_step
 
 steps_reach : (start : Core) (steps : List Step) (a b : Progress) → IsReached start a → AreSteps steps a b
     → IsReached start b
@@ -72,66 +63,41 @@ schedule_is_run start steps end are_steps = steps_reach start steps (started sta
 -- ---- the strokes
 
 -- an event that is no merge keeps the strokes
-give_back_keeps : (before after : Core) (swept : Swept) (answer : Answer)
-    → Happens before (GiveBack swept) answer after → after.state ≡ before.state
-give_back_keeps before after swept (OfGiveBack Joined) (is_swept, (known, out, unchanged, joined)) =
-    ap (λ (c : Core). c.state) joined.rest
-give_back_keeps before after swept (OfGiveBack Again) (is_swept, (known, out, risen, joined)) =
-    ap (λ (c : Core). c.state) joined.rest
-give_back_keeps before after swept (OfGiveBack Stale) (is_swept, (known, not_out, same)) =
-    ap (λ (c : Core). c.state) same
-give_back_keeps before after swept (OfGiveBack Stranger) (is_swept, (why, same)) = ap (λ (c : Core). c.state) same
-give_back_keeps before after swept _ happens = absurd happens
-
-take_keeps : (before after : Core) (t : ℕ) (answer : Answer) → Happens before (Take t) answer after
-    → after.state ≡ before.state
-take_keeps before after t (OfTake (Some job)) (ready, next, same) = ap (λ (c : Core). c.state) same
-take_keeps before after t (OfTake None) (unready, same) = ap (λ (c : Core). c.state) same
-take_keeps before after t _ happens = absurd happens
-
-abandon_keeps : (before after : Core) (ticket : Ticket) (answer : Answer) → Happens before (Abandon ticket) answer after
-    → after.state ≡ before.state
-abandon_keeps before after ticket (OfAbandon true) (out, same) = ap (λ (c : Core). c.state) same
-abandon_keeps before after ticket (OfAbandon false) (not_out, same) = ap (λ (c : Core). c.state) same
-abandon_keeps before after ticket _ happens = absurd happens
-
-hand_keeps : (before after : Core) (t place : ℕ) (answer : Answer) → Happens before (Hand t place) answer after
-    → after.state ≡ before.state
-hand_keeps before after t place (OfHand Nothing) (none, same) = ap (λ (c : Core). c.state) same
-hand_keeps before after t place (OfHand Old) (hint, there, old, same) = ap (λ (c : Core). c.state) same
-hand_keeps before after t place (OfHand Raised) (hint, there, present, above, same) = ap (λ (c : Core). c.state) same
-hand_keeps before after t place (OfHand Same) (hint, there, present, enough, same) = ap (λ (c : Core). c.state) same
-hand_keeps before after t place _ happens = absurd happens
+event_keeps : (before after : Core) (event : Event) (answer : Answer) → merges_of ((event, answer) ∷ []) ≡ 0
+    → Happens before event answer after → after.state ≡ before.state
+event_keeps before after (Merge delta) answer none happens = absurd (omega (arith, none))
+event_keeps before after (Take t) (OfTake (Some job)) none happens = ap (λ (c : Core). c.state) happens.2
+event_keeps before after (Take t) (OfTake None) none happens = ap (λ (c : Core). c.state) happens.1
+event_keeps before after (GiveBack swept) (OfGiveBack Joined) none happens = ap (λ (c : Core). c.state) happens.1.3.rest
+event_keeps before after (GiveBack swept) (OfGiveBack Again) none happens = ap (λ (c : Core). c.state) happens.1.3.rest
+event_keeps before after (GiveBack swept) (OfGiveBack Stale) none happens = ap (λ (c : Core). c.state) happens.1.2
+event_keeps before after (GiveBack swept) (OfGiveBack Stranger) none happens = ap (λ (c : Core). c.state) happens.1.1
+event_keeps before after (Abandon ticket) (OfAbandon true) none happens = ap (λ (c : Core). c.state) happens.1
+event_keeps before after (Abandon ticket) (OfAbandon false) none happens = ap (λ (c : Core). c.state) happens.1
+event_keeps before after (Hand t place) (OfHand Nothing) none happens = ap (λ (c : Core). c.state) happens.1
+event_keeps before after (Hand t place) (OfHand Old) none happens = ap (λ (c : Core). c.state) happens.3
+event_keeps before after (Hand t place) (OfHand Raised) none happens = ap (λ (c : Core). c.state) happens.4
+event_keeps before after (Hand t place) (OfHand Same) none happens = ap (λ (c : Core). c.state) happens.4
+event_keeps before after _ _ none happens = absurd happens
 
 -- the strokes are the join of those at the start and of the deltas that were accepted
 abbrev pub IsJoined : State → Progress → Type 0
 IsJoined start a = IsJoinOf (start ∷ a.merged) a.core.state
 
-same_strokes : (start : State) (a b : Progress) → IsJoined start a → b.merged ≡ a.merged
-    → b.core.state ≡ a.core.state → IsJoined start b
-same_strokes start a b joined same_merged same_state =
-    subst (λ deltas. IsJoinOf (start ∷ deltas) b.core.state) (sym same_merged)
-    (subst (IsJoinOf (start ∷ a.merged)) (sym same_state) joined)
-
 step_joins : (start : State) (step : Step) (a b : Progress) → IsJoined start a → IsStep step a b → IsJoined start b
 step_joins start (steps.Edit delta) a b joined (inl (turnover, merged, same)) =
-    subst (IsJoined start) (sym same)
-    (longer_from_join (start ∷ a.merged) a.core.state delta b.core.state joined merged.join)
-step_joins start (steps.Edit delta) a b joined (inr (why, refused, same)) = subst (IsJoined start) (sym same) joined
+    rw same (longer_from_join (start ∷ a.merged) a.core.state delta b.core.state joined merged.join)
+step_joins start (steps.Edit delta) a b joined (inr (why, refused, same)) = rw same joined
 step_joins start (steps.Take t) a b joined (job, more, happens, added, same) =
-    same_strokes start a b joined (ap (λ (c : Progress). c.merged) same)
-    (take_keeps a.core b.core t (OfTake job) happens)
+    rw (same, event_keeps a.core b.core (Take t) (OfTake job) refl happens) joined
 step_joins start (steps.Return j) a b joined (inl (swept, there, (answer, happens, same))) =
-    same_strokes start a b joined (ap (λ (c : Progress). c.merged) same)
-    (give_back_keeps a.core b.core swept answer happens)
-step_joins start (steps.Return j) a b joined (inr (none, same)) = subst (IsJoined start) (sym same) joined
+    rw (same, event_keeps a.core b.core (GiveBack swept) answer refl happens) joined
+step_joins start (steps.Return j) a b joined (inr (none, same)) = rw same joined
 step_joins start (steps.Abandon j) a b joined (inl (swept, there, (answer, happens, same))) =
-    same_strokes start a b joined (ap (λ (c : Progress). c.merged) same)
-    (abandon_keeps a.core b.core swept.job.ticket answer happens)
-step_joins start (steps.Abandon j) a b joined (inr (none, same)) = subst (IsJoined start) (sym same) joined
+    rw (same, event_keeps a.core b.core (Abandon swept.job.ticket) answer refl happens) joined
+step_joins start (steps.Abandon j) a b joined (inr (none, same)) = rw same joined
 step_joins start (steps.Hand t place) a b joined (answer, happens, same) =
-    same_strokes start a b joined (ap (λ (c : Progress). c.merged) same)
-    (hand_keeps a.core b.core t place answer happens)
+    rw (same, event_keeps a.core b.core (Hand t place) answer refl happens) joined
 
 steps_join : (start : State) (steps : List Step) (a b : Progress) → IsJoined start a → AreSteps steps a b
     → IsJoined start b
@@ -176,11 +142,8 @@ other_step : (all front : List Step) (step : Step) (a b : Progress) → IsCounte
 other_step all front step a b counted next same_numbers same_deltas = record {
   count =
       let long : length (front ++ step ∷ []) ≡ length front + 1 = length-append front (step ∷ []) in
-      let was = counted.count in
-      omega (arith, long, was, next);
-  edits =
-      subst (λ numbers. AreEditsAt all numbers b.merged) (sym same_numbers)
-      (subst (AreEditsAt all a.accepted) (sym same_deltas) counted.edits);
+      omega (arith, long, counted.count, next);
+  edits = rw (same_numbers, same_deltas) counted.edits;
 }
 
 pub step_counts : (all front rest : List Step) (step : Step) (a b : Progress) → all ≡ front ++ step ∷ rest
@@ -189,42 +152,32 @@ step_counts all front rest (steps.Edit delta) a b parts counted (inl (turnover, 
   count =
       let long : length (front ++ steps.Edit delta ∷ []) ≡ length front + 1 =
       length-append front (steps.Edit delta ∷ []) in
-      let was = counted.count in
       let next : b.count ≡ a.count + 1 = ap (λ (c : Progress). c.count) same in
-      omega (arith, long, was, next);
+      omega (arith, long, counted.count, next);
   edits =
       let there : slice_get all a.count ≡ Some (steps.Edit delta) =
       ap (slice_get all) counted.count ∙ ap (λ steps. slice_get steps (length front)) parts
       ∙ step_at front rest (steps.Edit delta) in
-      subst (λ (c : Progress). AreEditsAt all c.accepted c.merged) (sym same)
-      (edits_push all a.accepted a.merged a.count delta counted.edits there);
+      rw same (edits_push all a.accepted a.merged a.count delta counted.edits there);
 }
 step_counts all front rest (steps.Edit delta) a b parts counted (inr (why, refused, same)) =
-    other_step all front (steps.Edit delta) a b counted (ap (λ (c : Progress). c.count) same)
-    (ap (λ (c : Progress). c.accepted) same) (ap (λ (c : Progress). c.merged) same)
+    rw same (other_step all front (steps.Edit delta) a _ counted refl refl refl)
 step_counts all front rest (steps.Take t) a b parts counted (job, more, happens, added, same) =
-    other_step all front (steps.Take t) a b counted (ap (λ (c : Progress). c.count) same)
-    (ap (λ (c : Progress). c.accepted) same) (ap (λ (c : Progress). c.merged) same)
+    rw same (other_step all front (steps.Take t) a _ counted refl refl refl)
 step_counts all front rest (steps.Return j) a b parts counted (inl (swept, there, (answer, happens, same))) =
-    other_step all front (steps.Return j) a b counted (ap (λ (c : Progress). c.count) same)
-    (ap (λ (c : Progress). c.accepted) same) (ap (λ (c : Progress). c.merged) same)
+    rw same (other_step all front (steps.Return j) a _ counted refl refl refl)
 step_counts all front rest (steps.Return j) a b parts counted (inr (none, same)) =
-    other_step all front (steps.Return j) a b counted (ap (λ (c : Progress). c.count) same)
-    (ap (λ (c : Progress). c.accepted) same) (ap (λ (c : Progress). c.merged) same)
+    rw same (other_step all front (steps.Return j) a _ counted refl refl refl)
 step_counts all front rest (steps.Abandon j) a b parts counted (inl (swept, there, (answer, happens, same))) =
-    other_step all front (steps.Abandon j) a b counted (ap (λ (c : Progress). c.count) same)
-    (ap (λ (c : Progress). c.accepted) same) (ap (λ (c : Progress). c.merged) same)
+    rw same (other_step all front (steps.Abandon j) a _ counted refl refl refl)
 step_counts all front rest (steps.Abandon j) a b parts counted (inr (none, same)) =
-    other_step all front (steps.Abandon j) a b counted (ap (λ (c : Progress). c.count) same)
-    (ap (λ (c : Progress). c.accepted) same) (ap (λ (c : Progress). c.merged) same)
+    rw same (other_step all front (steps.Abandon j) a _ counted refl refl refl)
 step_counts all front rest (steps.Hand t place) a b parts counted (answer, happens, same) =
-    other_step all front (steps.Hand t place) a b counted (ap (λ (c : Progress). c.count) same)
-    (ap (λ (c : Progress). c.accepted) same) (ap (λ (c : Progress). c.merged) same)
+    rw same (other_step all front (steps.Hand t place) a _ counted refl refl refl)
 
 steps_count : (all front rest : List Step) (a b : Progress) → all ≡ front ++ rest → IsCounted all front a
     → AreSteps rest a b → AreEditsAt all b.accepted b.merged
-steps_count all front [] a b parts counted same =
-    subst (λ (c : Progress). AreEditsAt all c.accepted c.merged) (sym same) counted.edits
+steps_count all front [] a b parts counted same = rw same counted.edits
 steps_count all front (step ∷ rest) a b parts counted (next, is_step, are_steps) =
     steps_count all (front ++ step ∷ []) rest next b (parts ∙ sym (append_assoc front (step ∷ []) rest))
     (step_counts all front rest step a next parts counted is_step) are_steps

@@ -1,99 +1,54 @@
 -- An event has one answer, and leads to one core.
-use Rattle.std.proofs.Common.{◌≡◌, ℕ, ◌<◌, ◌≤◌, Bool, true, false, max, List, ◌∷◌, refl, sym, ◌∙◌, ap, subst}
-use Rattle.std.proofs.Common.{arith}
-use Rattle.std.proofs.Common.{inl, inr, ◌⊎◌}
-use Rattle.std.specs.Prelude.{IsTrue, Some, None, Option}
-use Rattle.std.specs.List.{AllByRecursion}
-use Rattle.std.proofs.lemmas.Bool.{cases_eq}
-use Rattle.std.proofs.lemmas.List.{ext_get_or}
-use Rattle.grid_core.specs.declared.pixel.Pixel.{Pixel}
-use Rattle.grid_core.specs.declared.rect.Rect.{Rect}
-use Rattle.grid_core.specs.Raster.{Raster, IsInside, value_at}
-use Rattle.grid_core.specs.Path.{Inside}
-use Rattle.grid_core.specs.Rects.{IsInRect}
-use Rattle.grid_core.specs.Tiles.{tile_of}
-use Rattle.grid_core.proofs.Cells.{equal_images}
-use Rattle.grid_core.proofs.Tilings.{each_pixel_in_one_tile}
-use Rattle.stroke_lattice.specs.State.{State}
-use Rattle.stroke_lattice.specs.Change.{Turnover, IsChange, AreRising}
+use Rattle.std.proofs.Common.{◌≡◌, ℕ, ◌<◌, Bool, true, false, max, List, refl, sym, ◌∙◌, ap, subst, arith, inl, inr}
+use Rattle.std.proofs.Common.{◌⊎◌, IsTrue, Some, None, Option, Contains, ◌↔◌}
+use Rattle.core_rules.specs.{Image.IsOfSize, Invariant.IsShaped, declared.answers.Back.Back}
+use Rattle.core_rules.specs.{declared.answers.Handed.Handed, Image.IsPart, Hits.IsInTile, Hits.TouchesHit, Merge.IsKept}
+use Rattle.core_rules.specs.{Merge.HasRisen, Merge.IsMerged, Hints.IsPresent, Hints.IsHanded, Hints.without_hint}
+use Rattle.core_rules.specs.{Hints.raised, Invariant.IsSound}
+use Rattle.std.proofs.{lemmas.Bool.cases_eq, lemmas.List.ext_get_or}
+use Rattle.grid_core.specs.{declared.pixel.Pixel.Pixel, declared.rect.Rect.Rect, Raster.Raster, Raster.IsInside}
+use Rattle.grid_core.specs.{Raster.value_at, Path.Inside, Rects.IsInRect, Tiles.tile_of}
+use Rattle.grid_core.proofs.{Cells.equal_images, Tilings.each_pixel_in_one_tile}
+use Rattle.stroke_lattice.specs.{State.State, Change.Turnover, Change.IsChange, Change.AreRising}
 use Rattle.stroke_lattice.proofs.Joins.{one_join}
 use Rattle.marker_tiles.proofs.Levels.{one_marker}
 use Rattle.marker_tiles.specs.Marker.{IsMarker}
-use Rattle.border_queues.specs.declared.hint.Hint.{Hint}
-use Rattle.border_queues.specs.OpenEdges.{open_edges}
-use Rattle.tile_generations.specs.declared.ticket.Ticket.{Ticket}
-use Rattle.tile_generations.specs.Jobs.{Job, Swept}
-use Rattle.core_rules.specs.declared.answers.Back.{Back}
-use Rattle.core_rules.specs.declared.answers.Back.TheVariants as back
-use Rattle.core_rules.specs.declared.answers.Handed.{Handed}
-use Rattle.core_rules.specs.declared.answers.Handed.TheVariants as handed
-use Rattle.core_rules.specs.Image.{IsPart}
+use Rattle.border_queues.specs.{OpenEdges.open_edges, TileWork.idle, TileWork.received}
+use Rattle.tile_generations.specs.{declared.ticket.Ticket.Ticket, Jobs.Job, Jobs.Swept}
 use Rattle.core_rules.specs.Work.{Core, domain, tiling, mask_at, image_at, IsTile, work_at}
-use Rattle.border_queues.specs.TileWork.{idle, received}
-use Rattle.core_rules.specs.Hits.{IsInTile, IsHit, TouchesHit}
-use Rattle.core_rules.specs.Merge.{IsKept, HasRisen, IsMerged}
-use Rattle.core_rules.specs.Sweeps.{tile_rect, IsNextJob, IsTaken, IsKnown, IsOut, IsUnchanged, HasOnlyRisen, IsJoined}
-use Rattle.core_rules.specs.Sweeps.{IsGivenBack, IsAbandoned, sender_of, hints_of, hints_for}
-use Rattle.core_rules.specs.Hints.{IsPresent, IsHanded, without_hint, raised}
-use Rattle.core_rules.specs.Events.{Event, Answer, Happens, Merge, Take, GiveBack, Abandon, Hand}
-use Rattle.core_rules.specs.Events.{OfMerge, OfTake, OfGiveBack, OfAbandon, OfHand}
-use Rattle.core_rules.specs.Invariant.{IsSound}
-use Rattle.core_rules.proofs.Cores.{inside_image}
-use Rattle.core_rules.proofs.Joining.{from_image, in_rect_size}
-use Rattle.core_rules.proofs.Ordered.{one_ordered, less_one_way}
+use Rattle.core_rules.specs.Sweeps.{tile_rect, IsNextJob, IsTaken, IsKnown, IsJoined, IsGivenBack, IsAbandoned}
+use Rattle.core_rules.specs.Sweeps.{sender_of, hints_of, hints_for}
+use Rattle.core_rules.specs.Events.{Event, Answer, Happens, Merge, Take, GiveBack, Abandon, Hand, OfMerge, OfTake}
+use Rattle.core_rules.specs.Events.{OfGiveBack, OfAbandon, OfHand}
+use Rattle.core_rules.proofs.{Cores.inside_image, Cores.tile_of_pixel, Joining.from_image, Joining.in_rect_size}
+use Rattle.core_rules.proofs.{Ordered.one_ordered, Ordered.less_one_way}
+use Rattle.core_rules.specs.declared.answers.Back.TheVariants as back
+use Rattle.core_rules.specs.declared.answers.Handed.TheVariants as handed
 
 -- ---- hand
 
-same_hint : (a b : Hint) → Some a ≡ Some b → a ≡ b
-same_hint a b e = cc
-
-no_hint : (a : Hint) → None ≡ Some a → ⊥
-no_hint a e = absurd cc
-
 one_hand : (core a b : Core) (t place : ℕ) (x y : Handed) → IsHanded core t place x a → IsHanded core t place y b
     → (x ≡ y) × (a ≡ b)
-one_hand core a b t place handed.Nothing handed.Nothing (none, same) (none_too, same_too) = (refl, same ∙ sym same_too)
-one_hand core a b t place handed.Stale handed.Stale (h, there, old, same) (k, there_too, old_too, same_too) =
-    (refl, same ∙ sym same_too)
-one_hand core a b t place handed.Same handed.Same (h, there, present, low, same)
-    (k, there_too, too, low_too, same_too) =
-    (refl, same ∙ sym same_too)
-one_hand core a b t place handed.Raised handed.Raised (h, there, present, above, same)
-    (k, there_too, too, above_too, same_too) =
-    let hint = same_hint h k (sym there ∙ there_too) in
-    (refl, same ∙ ap (raised (without_hint core t place)) hint ∙ sym same_too)
-one_hand core a b t place handed.Nothing handed.Stale first second =
-    absurd (no_hint second.0 (sym first.0 ∙ second.1))
-one_hand core a b t place handed.Nothing handed.Same first second = absurd (no_hint second.0 (sym first.0 ∙ second.1))
-one_hand core a b t place handed.Nothing handed.Raised first second =
-    absurd (no_hint second.0 (sym first.0 ∙ second.1))
-one_hand core a b t place handed.Stale handed.Nothing first second = absurd (no_hint first.0 (sym second.0 ∙ first.1))
-one_hand core a b t place handed.Same handed.Nothing first second = absurd (no_hint first.0 (sym second.0 ∙ first.1))
-one_hand core a b t place handed.Raised handed.Nothing first second = absurd (no_hint first.0 (sym second.0 ∙ first.1))
-one_hand core a b t place handed.Stale handed.Same first second =
-    let hint = same_hint second.0 first.0 (sym second.1 ∙ first.1) in
+one_hand core a b t place handed.Nothing handed.Nothing first second = (refl, first.1 ∙ sym second.1)
+one_hand core a b t place handed.Stale handed.Stale first second = (refl, first.3 ∙ sym second.3)
+one_hand core a b t place handed.Same handed.Same first second = (refl, first.4 ∙ sym second.4)
+one_hand core a b t place handed.Raised handed.Raised first second =
+    let hint : first.0 ≡ second.0 = cc in
+    (refl, first.4 ∙ ap (raised (without_hint core t place)) hint ∙ sym second.4)
+one_hand core a b t place handed.Nothing _ first second = absurd cc
+one_hand core a b t place _ handed.Nothing first second = absurd cc
+one_hand core a b t place handed.Stale _ first second =
+    let hint : second.0 ≡ first.0 = cc in
     absurd (first.2 (subst (IsPresent core) hint second.2))
-one_hand core a b t place handed.Stale handed.Raised first second =
-    let hint = same_hint second.0 first.0 (sym second.1 ∙ first.1) in
-    absurd (first.2 (subst (IsPresent core) hint second.2))
-one_hand core a b t place handed.Same handed.Stale first second =
-    let hint = same_hint first.0 second.0 (sym first.1 ∙ second.1) in
-    absurd (second.2 (subst (IsPresent core) hint first.2))
-one_hand core a b t place handed.Raised handed.Stale first second =
-    let hint = same_hint first.0 second.0 (sym first.1 ∙ second.1) in
+one_hand core a b t place _ handed.Stale first second =
+    let hint : first.0 ≡ second.0 = cc in
     absurd (second.2 (subst (IsPresent core) hint first.2))
 one_hand core a b t place handed.Same handed.Raised first second =
-    let hint = same_hint first.0 second.0 (sym first.1 ∙ second.1) in
-    let low : second.0.value ≤ image_at core second.0.to_pixel =
-    subst (λ (h : Hint). h.value ≤ image_at core h.to_pixel) hint first.3 in
-    let above = second.3 in
-    absurd (omega (arith, low, above))
+    let hint : first.0 ≡ second.0 = cc in
+    absurd (omega (arith, rw hint at first.3, second.3))
 one_hand core a b t place handed.Raised handed.Same first second =
-    let hint = same_hint second.0 first.0 (sym second.1 ∙ first.1) in
-    let low : first.0.value ≤ image_at core first.0.to_pixel =
-    subst (λ (h : Hint). h.value ≤ image_at core h.to_pixel) hint second.3 in
-    let above = first.3 in
-    absurd (omega (arith, low, above))
+    let hint : second.0 ≡ first.0 = cc in
+    absurd (omega (arith, rw hint at second.3, first.3))
 
 -- ---- take and abandon
 
@@ -102,9 +57,8 @@ same_part : (rect : Rect) (whole r s : Raster) → IsPart rect whole r → IsPar
 same_part rect whole r s part_r part_s =
     equal_images r s part_r.filled part_s.filled (part_r.width ∙ sym part_s.width) (part_r.height ∙ sym part_s.height)
     (λ p inside.
-    let width = part_r.width in
-    let height = part_r.height in
-    let within : IsInside rect.w rect.h p = (omega (arith, inside.0, width), omega (arith, inside.1, height)) in
+    let within : IsInside rect.w rect.h p =
+    (omega (arith, inside.0, part_r.width), omega (arith, inside.1, part_r.height)) in
     part_r.values p within ∙ sym (part_s.values p within))
 
 same_job : (core : Core) (t : ℕ) (j k : Job) → IsNextJob core t j → IsNextJob core t k → j ≡ k
@@ -139,6 +93,13 @@ same_core core a b rest_a rest_b image tiles =
     λ i. record core { image = image i; tiles = tiles i } in
     rest_a ∙ middle ∙ sym rest_b
 
+-- images as large as a core's are one where they are alike in its domain
+same_image : (core : Core) (r s : Raster) → IsShaped core → IsOfSize core.image r → IsOfSize core.image s
+    → ((p : Pixel) → Inside (domain core) p → value_at r p ≡ value_at s p) → r ≡ s
+same_image core r s shape size_r size_s same =
+    equal_images r s size_r.filled size_s.filled (size_r.width ∙ sym size_s.width) (size_r.height ∙ sym size_s.height)
+    (λ p inside. same p (omega (arith, inside.0, inside.1, size_r.width, size_r.height, shape.image)))
+
 module _ (core a b : Core) (swept : Swept) (sound : IsSound core) (known : IsKnown core swept.job)
     (join_a : IsJoined core swept a) (join_b : IsJoined core swept b) where
   joined_value : (p : Pixel) → Inside (domain core) p → image_at a p ≡ image_at b p
@@ -149,23 +110,15 @@ module _ (core a b : Core) (swept : Swept) (sound : IsSound core) (known : IsKno
         subst (λ (r : Pixel). image_at a r ≡ image_at b r) is
         (join_a.image.within q within ∙ sym (join_b.image.within q within))
     | inr other ↦
-        let count = sound.shape.tiles in
         let in_one = each_pixel_in_one_tile (tiling core) p sound.shape.tiled inside in
         let outside : IsInRect (tile_rect core swept.job.ticket.tile) p → ⊥ = λ found.
-        other ((in_one.1 swept.job.ticket.tile (omega (arith, known.is_tile, count))).0 found) in
+        other ((in_one.1 swept.job.ticket.tile (omega (arith, known.is_tile, sound.shape.tiles))).0 found) in
         let at = inside_image core p sound.shape inside in
         join_a.image.beyond p at outside ∙ sym (join_b.image.beyond p at outside)
   ]
 
   joined_image : a.image ≡ b.image
-  joined_image =
-      let size_a = join_a.image.size in
-      let size_b = join_b.image.size in
-      equal_images a.image b.image size_a.filled size_b.filled (size_a.width ∙ sym size_b.width)
-      (size_a.height ∙ sym size_b.height) (λ p inside.
-      let width = size_a.width ∙ sound.shape.image.width in
-      let height = size_a.height ∙ sound.shape.image.height in
-      joined_value p (omega (arith, inside.0, width), omega (arith, inside.1, height)))
+  joined_image = same_image core a.image b.image sound.shape join_a.image.size join_b.image.size joined_value
 
   -- the hints are those of the same image
   joined_hints : hints_of core a swept.job.ticket.tile ≡ hints_of core b swept.job.ticket.tile
@@ -176,8 +129,7 @@ module _ (core a b : Core) (swept : Swept) (sound : IsSound core) (known : IsKno
   joined_tiles = ext_get_or idle a.tiles b.tiles (join_a.count ∙ sym join_b.count) (λ t within.
       let is_tile : IsTile core t = subst (λ n. t < n) join_a.count within in
       elim (cases_eq t swept.job.ticket.tile) [
-        | inl here ↦
-            subst (λ u. work_at a u ≡ work_at b u) (sym here) (join_a.own ∙ sym join_b.own)
+        | inl here ↦ subst (λ u. work_at a u ≡ work_at b u) (sym here) (join_a.own ∙ sym join_b.own)
         | inr other ↦
             join_a.others t is_tile other
             ∙ ap (λ hints. received (work_at core t) (hints_for core t hints)) joined_hints
@@ -187,25 +139,6 @@ module _ (core a b : Core) (swept : Swept) (sound : IsSound core) (known : IsKno
   joined_core : a ≡ b
   joined_core = same_core core a b join_a.rest join_b.rest joined_image joined_tiles
 
-clean_and_dirty : (b : Bool) → b ≡ false → b ≡ true → ⊥
-clean_and_dirty true clean dirty = absurd cc
-clean_and_dirty false clean dirty = absurd cc
-
--- a result that was joined is no stranger
-no_stranger : (core : Core) (job : Job) → IsKnown core job → IsOut core job.ticket
-    → (IsUnchanged core job ⊎ HasOnlyRisen core job)
-    → ((IsKnown core job → ⊥)
-    ⊎ (IsKnown core job × IsOut core job.ticket × (IsUnchanged core job → ⊥) × (HasOnlyRisen core job → ⊥))) → ⊥
-no_stranger core job known out fits (inl unknown) = unknown known
-no_stranger core job known out (inl unchanged) (inr (known_too, out_too, changed, fallen)) = changed unchanged
-no_stranger core job known out (inr risen) (inr (known_too, out_too, changed, fallen)) = fallen risen
-
-stale_is_no_stranger : (core : Core) (job : Job) → IsKnown core job → (IsOut core job.ticket → ⊥)
-    → ((IsKnown core job → ⊥)
-    ⊎ (IsKnown core job × IsOut core job.ticket × (IsUnchanged core job → ⊥) × (HasOnlyRisen core job → ⊥))) → ⊥
-stale_is_no_stranger core job known not_out (inl unknown) = unknown known
-stale_is_no_stranger core job known not_out (inr (known_too, out, changed, fallen)) = not_out out
-
 one_give_back : (core a b : Core) (swept : Swept) (x y : Back) → IsSound core → IsGivenBack core swept x a
     → IsGivenBack core swept y b → (x ≡ y) × (a ≡ b)
 one_give_back core a b swept back.Joined back.Joined sound first second =
@@ -214,26 +147,22 @@ one_give_back core a b swept back.Again back.Again sound first second =
     (refl, joined_core core a b swept sound first.0 first.3 second.3)
 one_give_back core a b swept back.Stale back.Stale sound first second = (refl, first.2 ∙ sym second.2)
 one_give_back core a b swept back.Stranger back.Stranger sound first second = (refl, first.1 ∙ sym second.1)
-one_give_back core a b swept back.Joined back.Again sound first second =
-    absurd (clean_and_dirty (work_at core swept.job.ticket.tile).dirty first.2.clean second.2.dirty)
-one_give_back core a b swept back.Again back.Joined sound first second =
-    absurd (clean_and_dirty (work_at core swept.job.ticket.tile).dirty second.2.clean first.2.dirty)
-one_give_back core a b swept back.Joined back.Stale sound first second = absurd (second.1 first.1)
-one_give_back core a b swept back.Again back.Stale sound first second = absurd (second.1 first.1)
-one_give_back core a b swept back.Stale back.Joined sound first second = absurd (first.1 second.1)
-one_give_back core a b swept back.Stale back.Again sound first second = absurd (first.1 second.1)
-one_give_back core a b swept back.Joined back.Stranger sound first second =
-    absurd (no_stranger core swept.job first.0 first.1 (inl first.2) second.0)
-one_give_back core a b swept back.Again back.Stranger sound first second =
-    absurd (no_stranger core swept.job first.0 first.1 (inr first.2) second.0)
-one_give_back core a b swept back.Stranger back.Joined sound first second =
-    absurd (no_stranger core swept.job second.0 second.1 (inl second.2) first.0)
-one_give_back core a b swept back.Stranger back.Again sound first second =
-    absurd (no_stranger core swept.job second.0 second.1 (inr second.2) first.0)
+one_give_back core a b swept back.Joined back.Again sound first second = absurd (cc (first.2.clean, second.2.dirty))
+one_give_back core a b swept back.Again back.Joined sound first second = absurd (cc (first.2.dirty, second.2.clean))
 one_give_back core a b swept back.Stale back.Stranger sound first second =
-    absurd (stale_is_no_stranger core swept.job first.0 first.1 second.0)
+    absurd (elim second.0 [ inl unknown ↦ unknown first.0 | inr unfit ↦ first.1 unfit.1 ])
 one_give_back core a b swept back.Stranger back.Stale sound first second =
-    absurd (stale_is_no_stranger core swept.job second.0 second.1 first.0)
+    absurd (elim first.0 [ inl unknown ↦ unknown second.0 | inr unfit ↦ second.1 unfit.1 ])
+one_give_back core a b swept back.Stale _ sound first second = absurd (first.1 second.1)
+one_give_back core a b swept _ back.Stale sound first second = absurd (second.1 first.1)
+one_give_back core a b swept back.Joined back.Stranger sound first second =
+    absurd (elim second.0 [ inl unknown ↦ unknown first.0 | inr unfit ↦ unfit.2 first.2 ])
+one_give_back core a b swept back.Stranger back.Joined sound first second =
+    absurd (elim first.0 [ inl unknown ↦ unknown second.0 | inr unfit ↦ unfit.2 second.2 ])
+one_give_back core a b swept back.Again back.Stranger sound first second =
+    absurd (elim second.0 [ inl unknown ↦ unknown first.0 | inr unfit ↦ unfit.3 first.2 ])
+one_give_back core a b swept back.Stranger back.Again sound first second =
+    absurd (elim first.0 [ inl unknown ↦ unknown second.0 | inr unfit ↦ unfit.3 second.2 ])
 
 -- ---- merge
 
@@ -243,25 +172,27 @@ same_bit false false f g = refl
 same_bit true false f g = sym (f refl)
 same_bit false true f g = g refl
 
-rising_parts : (tag : ℕ) (rest : List ℕ) → AreRising (tag ∷ rest)
-    → AllByRecursion (λ other. tag < other) rest × AreRising rest
-rising_parts tag rest order = order
+-- rising lists with the same tags are one
+same_tags : (xs ys : List ℕ) → AreRising xs → AreRising ys → ((tag : ℕ) → Contains xs tag ↔ Contains ys tag) → xs ≡ ys
+same_tags = one_ordered (λ (m n : ℕ). m < n) AreRising less_one_way (λ tag rest order. order)
 
 same_turnover : (before after : State) (x y : Turnover) → IsChange before after x → IsChange before after y → x ≡ y
 same_turnover before after x y change_x change_y =
-    let born : x.born ≡ y.born =
-    one_ordered (λ (m n : ℕ). m < n) AreRising less_one_way rising_parts x.born y.born change_x.born_rise
-    change_y.born_rise (λ tag. (
+    let born : x.born ≡ y.born = same_tags x.born y.born change_x.born_rise change_y.born_rise (λ tag. (
       λ there. (change_y.born tag).1 ((change_x.born tag).0 there),
       λ there. (change_x.born tag).1 ((change_y.born tag).0 there),
     )) in
-    let dead : x.dead ≡ y.dead =
-    one_ordered (λ (m n : ℕ). m < n) AreRising less_one_way rising_parts x.dead y.dead change_x.dead_rise
-    change_y.dead_rise (λ tag. (
+    let dead : x.dead ≡ y.dead = same_tags x.dead y.dead change_x.dead_rise change_y.dead_rise (λ tag. (
       λ there. (change_y.dead tag).1 ((change_x.dead tag).0 there),
       λ there. (change_x.dead tag).1 ((change_y.dead tag).0 there),
     )) in
     λ i. record { born = born i; dead = dead i }
+
+-- what makes a tile dirty in a merged core makes it dirty in another with the same strokes and the same image
+dirty_too : (core a b : Core) (t : ℕ) → a.state ≡ b.state → a.image ≡ b.image
+    → IsTrue (work_at core t).dirty ⊎ HasRisen (tiling core) t core.image a.image ⊎ TouchesHit core a.state t
+    → IsTrue (work_at core t).dirty ⊎ HasRisen (tiling core) t core.image b.image ⊎ TouchesHit core b.state t
+dirty_too core a b t state image why = rw (state, image) at why
 
 module _ (core a b : Core) (delta : State) (x y : Turnover) (sound : IsSound core)
     (merged_a : IsMerged core delta x a) (merged_b : IsMerged core delta y b) where
@@ -273,84 +204,39 @@ module _ (core a b : Core) (delta : State) (x y : Turnover) (sound : IsSound cor
       same_turnover core.state b.state x y (subst (λ s. IsChange core.state s x) merged_state merged_a.change)
       merged_b.change
 
-  hit_both : (t : ℕ) → IsHit core a.state t → IsHit core b.state t
-  hit_both t hit = subst (λ s. IsHit core s t) merged_state hit
-
-  hit_back : (t : ℕ) → IsHit core b.state t → IsHit core a.state t
-  hit_back t hit = subst (λ s. IsHit core s t) (sym merged_state) hit
-
   merged_marker : (p : Pixel) → Inside (domain core) p → merged_a.marker p ≡ merged_b.marker p
   merged_marker =
       one_marker (domain core) (mask_at core) b.state merged_a.marker merged_b.marker
       (subst (λ s. IsMarker (domain core) (mask_at core) s merged_a.marker) merged_state merged_a.is_marker)
       merged_b.is_marker
 
-  tile_there : (p : Pixel) → Inside (domain core) p → IsTile core (tile_of (tiling core) p)
-  tile_there p inside =
-      let in_one = (each_pixel_in_one_tile (tiling core) p sound.shape.tiled inside).0 in
-      let count = sound.shape.tiles in
-      omega (arith, in_one, count)
-
   merged_value : (p : Pixel) → Inside (domain core) p → image_at a p ≡ image_at b p
   merged_value p inside =
       let t = tile_of (tiling core) p in
       let in_tile : IsInTile (tiling core) (tile_of (tiling core) p) p = record { inside = inside; tile = refl } in
       let marker = merged_marker p inside in
-      elim (merged_a.each t (tile_there p inside)) [
-        | inl (hit_a, reset_a) ↦ elim (merged_b.each t (tile_there p inside)) [
+      elim (merged_a.each t (tile_of_pixel core p sound.shape inside)) [
+        | inl (hit_a, reset_a) ↦ elim (merged_b.each t (tile_of_pixel core p sound.shape inside)) [
           | inl (hit_b, reset_b) ↦ reset_a.image p in_tile ∙ marker ∙ sym (reset_b.image p in_tile)
-          | inr (spared_b, kept_b) ↦ absurd (spared_b (hit_both t hit_a))
+          | inr (spared_b, kept_b) ↦ absurd (spared_b (rw merged_state at hit_a))
         ]
-        | inr (spared_a, kept_a) ↦ elim (merged_b.each t (tile_there p inside)) [
-          | inl (hit_b, reset_b) ↦ absurd (spared_a (hit_back t hit_b))
+        | inr (spared_a, kept_a) ↦ elim (merged_b.each t (tile_of_pixel core p sound.shape inside)) [
+          | inl (hit_b, reset_b) ↦ absurd (spared_a (rw (← merged_state) at hit_b))
           | inr (spared_b, kept_b) ↦
               kept_a.image p in_tile ∙ ap (λ m. max (image_at core p) m) marker ∙ sym (kept_b.image p in_tile)
         ]
       ]
 
   merged_image : a.image ≡ b.image
-  merged_image =
-      let size_a = merged_a.size in
-      let size_b = merged_b.size in
-      equal_images a.image b.image size_a.filled size_b.filled (size_a.width ∙ sym size_b.width)
-      (size_a.height ∙ sym size_b.height) (λ p inside.
-      let width = size_a.width ∙ sound.shape.image.width in
-      let height = size_a.height ∙ sound.shape.image.height in
-      merged_value p (omega (arith, inside.0, width), omega (arith, inside.1, height)))
+  merged_image = same_image core a.image b.image sound.shape merged_a.size merged_b.size merged_value
 
-  risen_both : (t : ℕ) → HasRisen (tiling core) t core.image a.image → HasRisen (tiling core) t core.image b.image
-  risen_both t risen =
-      let same = merged_value risen.p risen.in_tile.inside in
-      let rose = risen.rose in
-      record { p = risen.p; in_tile = risen.in_tile; rose = omega (arith, rose, same) }
-
-  risen_back : (t : ℕ) → HasRisen (tiling core) t core.image b.image → HasRisen (tiling core) t core.image a.image
-  risen_back t risen =
-      let same = merged_value risen.p risen.in_tile.inside in
-      let rose = risen.rose in
-      record { p = risen.p; in_tile = risen.in_tile; rose = omega (arith, rose, same) }
-
-  dirty_both : (t : ℕ)
-      → IsTrue (work_at core t).dirty ⊎ HasRisen (tiling core) t core.image a.image ⊎ TouchesHit core a.state t
-      → IsTrue (work_at core t).dirty ⊎ HasRisen (tiling core) t core.image b.image ⊎ TouchesHit core b.state t
-  dirty_both t (inl dirty) = inl dirty
-  dirty_both t (inr (inl risen)) = inr (inl (risen_both t risen))
-  dirty_both t (inr (inr touches)) = inr (inr (subst (λ s. TouchesHit core s t) merged_state touches))
-
-  dirty_back : (t : ℕ)
-      → IsTrue (work_at core t).dirty ⊎ HasRisen (tiling core) t core.image b.image ⊎ TouchesHit core b.state t
-      → IsTrue (work_at core t).dirty ⊎ HasRisen (tiling core) t core.image a.image ⊎ TouchesHit core a.state t
-  dirty_back t (inl dirty) = inl dirty
-  dirty_back t (inr (inl risen)) = inr (inl (risen_back t risen))
-  dirty_back t (inr (inr touches)) = inr (inr (subst (λ s. TouchesHit core s t) (sym merged_state) touches))
-
-  kept_work : (t : ℕ) → IsKept core merged_a.marker a t → IsKept core merged_b.marker b t
-      → work_at a t ≡ work_at b t
+  kept_work : (t : ℕ) → IsKept core merged_a.marker a t → IsKept core merged_b.marker b t → work_at a t ≡ work_at b t
   kept_work t kept_a kept_b =
       let dirty : (work_at a t).dirty ≡ (work_at b t).dirty =
       same_bit (work_at a t).dirty (work_at b t).dirty
-      (λ is_dirty. kept_b.dirty.1 (dirty_both t (kept_a.dirty.0 is_dirty)))
-      (λ is_dirty. kept_a.dirty.1 (dirty_back t (kept_b.dirty.0 is_dirty))) in
+      (λ is_dirty. kept_b.dirty.1 (dirty_too core a b t merged_state merged_image (kept_a.dirty.0 is_dirty)))
+      (λ is_dirty.
+      kept_a.dirty.1 (dirty_too core b a t (sym merged_state) (sym merged_image) (kept_b.dirty.0 is_dirty))) in
       kept_a.work ∙ ap (λ d. record (work_at core t) { dirty = d }) dirty ∙ sym kept_b.work
 
   merged_tiles : a.tiles ≡ b.tiles
@@ -359,10 +245,10 @@ module _ (core a b : Core) (delta : State) (x y : Turnover) (sound : IsSound cor
       elim (merged_a.each t is_tile) [
         | inl (hit_a, reset_a) ↦ elim (merged_b.each t is_tile) [
           | inl (hit_b, reset_b) ↦ reset_a.work ∙ sym reset_b.work
-          | inr (spared_b, kept_b) ↦ absurd (spared_b (hit_both t hit_a))
+          | inr (spared_b, kept_b) ↦ absurd (spared_b (rw merged_state at hit_a))
         ]
         | inr (spared_a, kept_a) ↦ elim (merged_b.each t is_tile) [
-          | inl (hit_b, reset_b) ↦ absurd (spared_a (hit_back t hit_b))
+          | inl (hit_b, reset_b) ↦ absurd (spared_a (rw (← merged_state) at hit_b))
           | inr (spared_b, kept_b) ↦ kept_work t kept_a kept_b
         ]
       ])
@@ -390,9 +276,4 @@ one_successor core a b (Abandon ticket) (OfAbandon x) (OfAbandon y) sound first 
     let (answer, same) = one_abandon core a b ticket x y first second in (ap OfAbandon answer, same)
 one_successor core a b (Hand t place) (OfHand x) (OfHand y) sound first second =
     let (answer, same) = one_hand core a b t place x y first second in (ap OfHand answer, same)
-one_successor core a b (Merge delta) (OfMerge x) _ sound first second = absurd second
-one_successor core a b (Take t) (OfTake x) _ sound first second = absurd second
-one_successor core a b (GiveBack swept) (OfGiveBack x) _ sound first second = absurd second
-one_successor core a b (Abandon ticket) (OfAbandon x) _ sound first second = absurd second
-one_successor core a b (Hand t place) (OfHand x) _ sound first second = absurd second
-one_successor core a b _ _ y sound first second = absurd first
+one_successor core a b _ _ _ sound first second = absurd (assumption (first, second))

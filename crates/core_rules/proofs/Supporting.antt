@@ -1,13 +1,10 @@
 -- Supported images: what raises them keeps them supported.
 use Rattle.std.proofs.Common.{◌≡◌, ℕ, ◌≤◌, min, List, [], ◌∷◌, sym, subst, arith, inl, inr}
-use Rattle.std.specs.List.{AllByRecursion}
 use Rattle.std.proofs.lemmas.Bool.{cases_lt}
-use Rattle.grid_core.specs.declared.conn.Conn.{Conn}
+use Rattle.std.specs.List.{AllByRecursion}
+use Rattle.grid_core.specs.{declared.conn.Conn.Conn, declared.pixel.Pixel.Pixel, declared.rect.Rect.Rect}
+use Rattle.grid_core.specs.{Rects.in_image, Neighbours.AreNeighbours}
 use Rattle.grid_core.specs.declared.conn.Conn.TheVariants.{Four, Eight}
-use Rattle.grid_core.specs.declared.pixel.Pixel.{Pixel}
-use Rattle.grid_core.specs.declared.rect.Rect.{Rect}
-use Rattle.grid_core.specs.Rects.{in_image}
-use Rattle.grid_core.specs.Neighbours.{AreNeighbours}
 use Rattle.grid_core.specs.Path.{Domain, Inside, IsPath, end_of, Reaches}
 use Rattle.grid_core.specs.Reconstruction.{IsReconstruction, IsLawful, IsClosed}
 use Rattle.grid_core.proofs.Pixels.{AreNeighbours-sym, same_pixel_or_not}
@@ -52,8 +49,7 @@ raise_is_supported d mask marker old new p q supported inside_p inside_q beside 
       reaches_by_step d new marker q p (new q) inside_q (AreNeighbours-sym d.conn p q beside) (omega arith) lower,
     ) in
     λ r inside. elim (same_pixel_or_not r q) [
-      | inl same ↦
-          subst (λ s. (marker s ≤ new s) × (new s ≤ mask s) × Reaches d new marker s (new s)) (sym same) at_q
+      | inl same ↦ subst (λ s. (marker s ≤ new s) × (new s ≤ mask s) × Reaches d new marker s (new s)) (sym same) at_q
       | inr other ↦
           let stays : new r ≡ old r = others r inside other in
           let reach = reaches_above d old new marker rises r (old r) (supported r inside).2 in (
@@ -107,16 +103,13 @@ module _ (d local : Domain) (rect : Rect) (marker old new mask base pixels : Pix
       → Reaches d new marker (in_image rect p) k
   part_reaches k p [] path all end =
       let there = inside p path in
-      let here = below p path in
       reaches_above d old new marker rises (in_image rect p) k
-      (reaches_lower d old marker (in_image rect p) (old (in_image rect p)) k (omega (arith, end, here))
+      (reaches_lower d old marker (in_image rect p) (old (in_image rect p)) k (omega (arith, end, below p path))
       (supports (in_image rect p) there))
   part_reaches k p (q ∷ rest) path all end =
       let inside_p : Inside local p = path.0 in
-      let reached : k ≤ pixels p =
-      reach_at_most local mask base pixels recon p k inside_p (q ∷ rest, path, all, end) in
+      let reached : k ≤ pixels p = reach_at_most local mask base pixels recon p k inside_p (q ∷ rest, path, all, end) in
       let beside : AreNeighbours d.conn (in_image rect p) (in_image rect q) =
       neighbours_in_image d.conn rect p q (subst (λ conn. AreNeighbours conn p q) same path.1) in
-      let higher = more p inside_p in
       reaches_by_step d new marker (in_image rect p) (in_image rect q) k (inside p inside_p) beside
-      (omega (arith, reached, higher)) (part_reaches k q rest path.2 all.1 end)
+      (omega (arith, reached, more p inside_p)) (part_reaches k q rest path.2 all.1 end)

@@ -1,16 +1,12 @@
 -- Taking a tile and abandoning a job keep a core sound.
-use Rattle.std.proofs.Common.{◌≡◌, ℕ, ◌+◌, ◌%◌, ◌^◌, Bool, true, false, refl, sym, subst, arith, inl, inr, ◌⊎◌}
-use Rattle.std.specs.Prelude.{◌≢◌, Contains, Option, Some, None, IsTrue}
-use Rattle.std.proofs.lemmas.Bool.{cases_eq}
-use Rattle.std.proofs.lemmas.List.{length-set}
-use Rattle.grid_core.specs.declared.pixel.Pixel.{Pixel}
-use Rattle.grid_core.specs.Tiles.{tile_of}
-use Rattle.tile_generations.specs.declared.ticket.Ticket.{Ticket}
-use Rattle.tile_generations.specs.Jobs.{Job}
+use Rattle.std.proofs.Common.{◌≡◌, ℕ, ◌+◌, ◌%◌, ◌^◌, Bool, true, false, refl, sym, subst, arith, inl, inr, ◌⊎◌, ◌≢◌}
+use Rattle.std.proofs.Common.{Contains, Option, Some, None, IsTrue}
+use Rattle.std.proofs.{lemmas.Bool.cases_eq, lemmas.List.length-set}
+use Rattle.grid_core.specs.{declared.pixel.Pixel.Pixel, Tiles.tile_of}
+use Rattle.tile_generations.specs.{declared.ticket.Ticket.Ticket, Jobs.Job}
 use Rattle.core_rules.specs.Work.{Core, tiling, IsTile, work_at, with_work}
+use Rattle.core_rules.specs.{Sweeps.IsTaken, Sweeps.IsAbandoned, Invariant.HasWork, Invariant.IsSound}
 use Rattle.border_queues.specs.TileWork.{TileWork}
-use Rattle.core_rules.specs.Sweeps.{IsTaken, IsAbandoned}
-use Rattle.core_rules.specs.Invariant.{HasWork, IsSound}
 use Rattle.core_rules.proofs.Cores.{work_there, work_elsewhere, field_kept, IsRise, sound_after, told_after, changed}
 
 -- the core with other marks at one tile
@@ -19,8 +15,7 @@ marks core t dirty out = with_work core t (record (work_at core t) { dirty = dir
 
 module _ (before : Core) (sound : IsSound before) (t : ℕ) (is_tile : IsTile before t) (dirty : Bool) (out : Option ℕ)
     (serial : ℕ) (marked : IsTrue dirty ⊎ (out ≢ None)) where
-  marks_rise : IsRise before before.image
-      (marks before t dirty out).tiles
+  marks_rise : IsRise before before.image (marks before t dirty out).tiles
   marks_rise = record {
     rises = λ p inside. omega arith;
     count = length-set before.tiles t (record (work_at before t) { dirty = dirty; out = out });
@@ -29,46 +24,36 @@ module _ (before : Core) (sound : IsSound before) (t : ℕ) (is_tile : IsTile be
         is_tile refl u;
   }
 
-  same_inbox : (u : ℕ)
-      → (work_at (marks before t dirty out) u).inbox
-      ≡ (work_at before u).inbox
+  same_inbox : (u : ℕ) → (work_at (marks before t dirty out) u).inbox ≡ (work_at before u).inbox
   same_inbox u =
       field_kept before t (record (work_at before t) { dirty = dirty; out = out }) (λ (w : TileWork). w.inbox) is_tile
       refl u
 
   -- the tile itself has work, by that mark
-  works_there : (p q : Pixel) → tile_of (tiling before) p ≡ t
-      → HasWork (marks before t dirty out) p q
+  works_there : (p q : Pixel) → tile_of (tiling before) p ≡ t → HasWork (marks before t dirty out) p q
   works_there p q here =
       let work = record (work_at before t) { dirty = dirty; out = out } in
       let there = work_there before t work is_tile in
       elim marked [
-        | inl is_dirty ↦
-            inl (subst (λ v. IsTrue (work_at (with_work before t work) v).dirty) (sym here)
-            (subst (λ (w : TileWork). IsTrue w.dirty) (sym there) is_dirty))
-        | inr is_out ↦
-            inr (inl (subst (λ v. (work_at (with_work before t work) v).out ≢ None) (sym here)
-            (subst (λ (w : TileWork). w.out ≢ None) (sym there) is_out)))
+        | inl is_dirty ↦ inl (rw (here, there) is_dirty)
+        | inr is_out ↦ inr (inl (rw (here, there) is_out))
       ]
 
   works_elsewhere : (p q : Pixel) → tile_of (tiling before) p ≢ t → HasWork before p q
       → HasWork (marks before t dirty out) p q
   works_elsewhere p q other (inl is_dirty) =
       let work = record (work_at before t) { dirty = dirty; out = out } in
-      inl (subst (λ (w : TileWork). IsTrue w.dirty)
-      (sym (work_elsewhere before t (tile_of (tiling before) p) work other)) is_dirty)
+      inl (rw (work_elsewhere before t (tile_of (tiling before) p) work other) is_dirty)
   works_elsewhere p q other (inr (inl is_out)) =
       let work = record (work_at before t) { dirty = dirty; out = out } in
-      inr (inl (subst (λ (w : TileWork). w.out ≢ None)
-      (sym (work_elsewhere before t (tile_of (tiling before) p) work other)) is_out))
+      inr (inl (rw (work_elsewhere before t (tile_of (tiling before) p) work other) is_out))
   works_elsewhere p q other (inr (inr told)) =
       let work = record (work_at before t) { dirty = dirty; out = out } in
       inr (inr (told_after before before.image (with_work before t work).tiles before.serial marks_rise p q refl told
       (subst (λ hs. Contains hs told.hint) (sym (same_inbox (tile_of (tiling before) q))) told.waits)))
 
   -- marks do not ask for the serial
-  other_serial : (p q : Pixel)
-      → HasWork (marks before t dirty out) p q
+  other_serial : (p q : Pixel) → HasWork (marks before t dirty out) p q
       → HasWork (changed before before.image (marks before t dirty out).tiles serial) p q
   other_serial p q (inl is_dirty) = inl is_dirty
   other_serial p q (inr (inl is_out)) = inr (inl is_out)

@@ -1,10 +1,10 @@
 -- The codes of refusals, and what a refusal of the strokes' state is to a core.
 use Rattle.std.specs.Prelude.{ℕ, List, codes}
 use Rattle.stroke_lattice.specs.declared.error.StateError.{StateError}
-use Rattle.stroke_lattice.specs.declared.error.StateError.TheVariants as state
 use Rattle.core_rules.specs.declared.error.CoreError.{CoreError}
 use Rattle.core_rules.specs.declared.error.CoreError.TheVariants.{OutOfImage, Conflict, GenerationsSpent, Memory}
 use Rattle.core_rules.specs.declared.error.CoreError.TheVariants.{BadSide}
+use Rattle.stroke_lattice.specs.declared.error.StateError.TheVariants as state
 
 abbrev pub code_of : CoreError → List ℕ
 code_of (OutOfImage tag) = codes "C1"

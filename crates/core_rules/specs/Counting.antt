@@ -1,12 +1,9 @@
 -- How much work there is for a core, and how much of it a run takes.
 use Rattle.std.specs.Prelude.{ℕ, ◌+◌, ◌≤◌, List, [], ◌∷◌, count_by, is_some}
-use Rattle.grid_core.specs.declared.pixel.Pixel.{Pixel}
+use Rattle.grid_core.specs.{declared.pixel.Pixel.Pixel, Owed.IsOwed}
 use Rattle.marker_tiles.specs.Marker.{IsMarker}
-use Rattle.grid_core.specs.Owed.{IsOwed}
 use Rattle.border_queues.specs.TileWork.{dirty_count}
-use Rattle.core_rules.specs.Work.{Core, domain, mask_at, image_at}
-use Rattle.core_rules.specs.Events.{Merge}
-use Rattle.core_rules.specs.Runs.{Entry}
+use Rattle.core_rules.specs.{Work.Core, Work.domain, Work.mask_at, Work.image_at, Events.Merge, Runs.Entry}
 
 -- how many tiles are dirty, those of which a job is out among them
 abbrev pub dirty_tiles : Core → ℕ

@@ -1,15 +1,9 @@
 -- The event table: what each event of a core answers, and what the core is afterwards.
 use Rattle.std.specs.Prelude.{ℕ, Bool, Option}
-use Rattle.stroke_lattice.specs.State.{State}
-use Rattle.stroke_lattice.specs.Change.{Turnover}
-use Rattle.tile_generations.specs.declared.ticket.Ticket.{Ticket}
-use Rattle.tile_generations.specs.Jobs.{Job, Swept, IsSwept}
-use Rattle.core_rules.specs.declared.answers.Back.{Back}
-use Rattle.core_rules.specs.declared.answers.Handed.{Handed}
-use Rattle.core_rules.specs.Work.{Core}
-use Rattle.core_rules.specs.Merge.{IsMerged}
-use Rattle.core_rules.specs.Sweeps.{IsTaken, IsGivenBack, IsAbandoned}
-use Rattle.core_rules.specs.Hints.{IsHanded}
+use Rattle.stroke_lattice.specs.{State.State, Change.Turnover}
+use Rattle.tile_generations.specs.{declared.ticket.Ticket.Ticket, Jobs.Job, Jobs.Swept, Jobs.IsSwept}
+use Rattle.core_rules.specs.{declared.answers.Back.Back, declared.answers.Handed.Handed, Work.Core, Merge.IsMerged}
+use Rattle.core_rules.specs.{Sweeps.IsTaken, Sweeps.IsGivenBack, Sweeps.IsAbandoned, Hints.IsHanded}
 
 -- what can happen to a core: a delta is merged, a tile is taken, a swept tile is given back, a job is abandoned, and
 -- the hint at a place of a tile's inbox is handed over

@@ -1,10 +1,9 @@
 -- Hints that are handed to their pixels.
 use Rattle.std.specs.Prelude.{◌≡◌, ℕ, ◌<◌, ◌≤◌, true, Option, Some, None, slice_get, remove}
-use Rattle.grid_core.specs.Raster.{with_value}
+use Rattle.grid_core.specs.{Raster.with_value, Tiles.tile_of}
 use Rattle.border_queues.specs.declared.hint.Hint.{Hint}
 use Rattle.core_rules.specs.declared.answers.Handed.{Handed}
 use Rattle.core_rules.specs.declared.answers.Handed.TheVariants.{Raised, Same, Stale, Nothing}
-use Rattle.grid_core.specs.Tiles.{tile_of}
 use Rattle.core_rules.specs.Work.{Core, tiling, image_at, IsTile, work_at, with_work}
 
 -- the hint that waits at this place of the tile's inbox, if there is one

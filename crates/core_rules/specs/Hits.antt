@@ -1,10 +1,7 @@
 -- Which tiles a withdrawal resets.
 use Rattle.std.specs.Prelude.{◌≡◌, ℕ, ◌<◌, List, [], ◌∷◌, IsTrue}
-use Rattle.grid_core.specs.declared.conn.Conn.{Conn}
-use Rattle.grid_core.specs.declared.pixel.Pixel.{Pixel}
-use Rattle.grid_core.specs.Raster.{Raster, IsInside, value_at}
-use Rattle.grid_core.specs.Neighbours.{AreNeighbours}
-use Rattle.grid_core.specs.Tiles.{Tiles, tile_of, AreTouching}
+use Rattle.grid_core.specs.{declared.conn.Conn.Conn, declared.pixel.Pixel.Pixel, Raster.Raster, Raster.IsInside}
+use Rattle.grid_core.specs.{Raster.value_at, Neighbours.AreNeighbours, Tiles.Tiles, Tiles.tile_of, Tiles.AreTouching}
 use Rattle.stroke_core.specs.Seed.{Seed, covers}
 use Rattle.stroke_lattice.specs.State.{State, IsLive, IsLiveTag}
 use Rattle.core_rules.specs.Work.{Core, tiling, IsTile}

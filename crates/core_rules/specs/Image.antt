@@ -1,10 +1,8 @@
 -- Images on the way to the reconstruction, and the parts of an image that are images by themselves. What they are
 -- stands in `specs/Reconstruction.antt`, `Raster.antt` and `Rects.antt` of `grid_core`.
 use Rattle.std.specs.Prelude.{◌≡◌, max}
-use Rattle.grid_core.specs.declared.pixel.Pixel.{Pixel}
-use Rattle.grid_core.specs.declared.rect.Rect.{Rect}
+use Rattle.grid_core.specs.{declared.pixel.Pixel.Pixel, declared.rect.Rect.Rect, Rects.IsInRect, Rects.in_image}
 use Rattle.grid_core.specs.Raster.{Raster, IsInside, value_at}
-use Rattle.grid_core.specs.Rects.{IsInRect, in_image}
 pub use Rattle.grid_core.specs.Raster.{IsOfSize}
 pub use Rattle.grid_core.specs.Rects.{IsPart, IsAtMostPart}
 pub use Rattle.grid_core.specs.Reconstruction.{IsOpen, IsSupported}

@@ -1,12 +1,9 @@
 -- A tile that is swept in place.
 use Rattle.std.specs.Prelude.{◌≡◌, ◌≢◌, ℕ, ◌+◌, ◌%◌, ◌^◌, false, length}
-use Rattle.grid_core.specs.declared.pixel.Pixel.{Pixel}
-use Rattle.grid_core.specs.Raster.{IsInside}
-use Rattle.grid_core.specs.Reconstruction.{IsReconstruction}
+use Rattle.grid_core.specs.{declared.pixel.Pixel.Pixel, Raster.IsInside, Reconstruction.IsReconstruction}
 use Rattle.grid_core.specs.Rects.{IsInRect, domain_in, part}
-use Rattle.core_rules.specs.Image.{IsOfSize}
+use Rattle.core_rules.specs.{Image.IsOfSize, Sweeps.tile_rect, Sweeps.hints_of, Sweeps.hints_for}
 use Rattle.core_rules.specs.Work.{Core, mask_at, image_at, IsTile, work_at}
-use Rattle.core_rules.specs.Sweeps.{tile_rect, hints_of, hints_for}
 use Rattle.border_queues.specs.TileWork.{received}
 
 -- the image of the tile became the reconstruction of its mask, the tile is no longer dirty, and the hints of its open

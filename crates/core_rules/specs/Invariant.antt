@@ -1,18 +1,14 @@
 -- What every core keeps.
 use Rattle.std.specs.Prelude.{◌≡◌, ◌≢◌, ℕ, ◌≤◌, ◌⊎◌, min, length, IsTrue, None, Contains}
-use Rattle.grid_core.specs.declared.pixel.Pixel.{Pixel}
-use Rattle.grid_core.specs.Raster.{IsFilled}
-use Rattle.grid_core.specs.Neighbours.{AreNeighbours}
+use Rattle.grid_core.specs.{declared.pixel.Pixel.Pixel, Raster.IsFilled, Neighbours.AreNeighbours}
 use Rattle.grid_core.specs.Reconstruction.{IsLawful, IsReconstruction}
+use Rattle.grid_core.specs.Tiles.{IsTiled, tile_of, count_of}
 use Rattle.stroke_lattice.specs.State.{StateFits}
 use Rattle.marker_tiles.specs.Marker.{IsMarker}
 use Rattle.border_queues.specs.declared.hint.Hint.{Hint}
 use Rattle.tile_generations.specs.Generations.{max_generation}
-use Rattle.core_rules.specs.Image.{IsSupported, IsOpen, IsOfSize}
-use Rattle.grid_core.specs.Tiles.{IsTiled, tile_of, count_of}
+use Rattle.core_rules.specs.{Image.IsSupported, Image.IsOpen, Image.IsOfSize, Hits.IsInTile, Hints.IsPresent}
 use Rattle.core_rules.specs.Work.{Core, domain, tiling, mask_at, image_at, IsTile, work_at}
-use Rattle.core_rules.specs.Hits.{IsInTile}
-use Rattle.core_rules.specs.Hints.{IsPresent}
 
 -- the sizes fit together, each stroke fits the mask, and no generation is too great
 pub record IsShaped (core : Core) : Type 0 where

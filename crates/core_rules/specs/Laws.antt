@@ -1,38 +1,24 @@
 -- The laws of one replica's core, as statements. Public functions have them as their contracts.
-use Rattle.std.specs.Prelude.{◌≡◌, ℕ, ◌+◌, ◌≤◌, Bool, max, List, [], ◌∷◌, ◌++◌, length, Option}
-use Rattle.std.specs.Prelude.{Some, None}
-use Rattle.grid_core.specs.declared.pixel.Pixel.{Pixel}
-use Rattle.grid_core.specs.declared.conn.Conn.{Conn}
-use Rattle.grid_core.specs.Raster.{Raster, IsFilled}
-use Rattle.grid_core.specs.Path.{Domain}
-use Rattle.grid_core.specs.Tiles.{IsTiled}
+use Rattle.std.specs.Prelude.{◌≡◌, ℕ, ◌+◌, ◌≤◌, Bool, max, List, [], ◌∷◌, ◌++◌, length, Option, Some, None}
+use Rattle.grid_core.specs.{declared.pixel.Pixel.Pixel, declared.conn.Conn.Conn, Raster.Raster, Raster.IsFilled}
+use Rattle.grid_core.specs.{Path.Domain, Tiles.IsTiled, Reconstruction.IsLawful}
 use Rattle.marker_tiles.specs.Marker.{IsMarker}
-use Rattle.tile_generations.specs.Generations.{max_generation}
-use Rattle.core_rules.specs.declared.step.Step.{Step}
-use Rattle.grid_core.specs.Reconstruction.{IsLawful}
-use Rattle.core_rules.specs.Image.{IsSupported}
-use Rattle.core_rules.specs.declared.answers.Back.{Back}
-use Rattle.core_rules.specs.declared.answers.Handed.{Handed}
-use Rattle.core_rules.specs.Work.{Core, domain, tiling, mask_at, image_at, IsTile, work_at, IsQuiet}
-use Rattle.core_rules.specs.Opening.{opened}
-use Rattle.core_rules.specs.Hits.{IsInTile, IsHit}
-use Rattle.tile_generations.specs.declared.ticket.Ticket.{Ticket}
+use Rattle.tile_generations.specs.{Generations.max_generation, declared.ticket.Ticket.Ticket}
 use Rattle.tile_generations.specs.Jobs.{Job, Swept, IsSwept}
-use Rattle.stroke_lattice.specs.State.{State, IsJoinOf}
-use Rattle.stroke_lattice.specs.Change.{Turnover, IsChange}
+use Rattle.core_rules.specs.{declared.step.Step.Step, Image.IsSupported, declared.answers.Back.Back}
+use Rattle.core_rules.specs.{declared.answers.Handed.Handed, Opening.opened, Hits.IsInTile, Hits.IsHit}
+use Rattle.core_rules.specs.{declared.error.CoreError.CoreError, Sweeps.IsTaken, Sweeps.IsGivenBack, Sweeps.IsAbandoned}
+use Rattle.core_rules.specs.{Hints.IsHanded, declared.answers.Back.TheVariants.Joined, InPlace.IsSweptInPlace}
+use Rattle.core_rules.specs.{Shown.IsPassedOver, Shown.ShowsTheSame, Invariant.IsSound, Invariant.HasLawfulImage}
+use Rattle.core_rules.specs.{Invariant.HasReconstruction}
+use Rattle.core_rules.specs.Work.{Core, domain, tiling, mask_at, image_at, IsTile, work_at, IsQuiet}
 use Rattle.core_rules.specs.Merge.{IsMerged, IsRefused, IsAcceptable, AreTaken}
-use Rattle.core_rules.specs.declared.error.CoreError.{CoreError}
-use Rattle.core_rules.specs.Sweeps.{IsTaken, IsGivenBack, IsAbandoned}
-use Rattle.core_rules.specs.Hints.{IsHanded}
 use Rattle.core_rules.specs.Events.{Event, Answer, Happens, Take, GiveBack, OfTake, OfGiveBack}
-use Rattle.core_rules.specs.declared.answers.Back.TheVariants.{Joined}
-use Rattle.core_rules.specs.InPlace.{IsSweptInPlace}
 use Rattle.core_rules.specs.Runs.{Entry, IsRun, IsNext, IsWorkedOff, IsSettled, IsCutShort, jobs_of, abandons_of}
 use Rattle.core_rules.specs.Runs.{IsSettling, NoneOut, IsDirty, tickets_out}
-use Rattle.core_rules.specs.Shown.{IsPassedOver, ShowsTheSame}
 use Rattle.core_rules.specs.Schedule.{Progress, started, AreSteps, AreEditsAt}
 use Rattle.core_rules.specs.Counting.{Owes, merges_of, IsWithinWork, tiles_out}
-use Rattle.core_rules.specs.Invariant.{IsSound, HasLawfulImage, HasReconstruction}
+use Rattle.stroke_lattice.specs.{State.State, State.IsJoinOf, Change.Turnover, Change.IsChange}
 
 -- a supported image is lawful
 abbrev pub SupportedIsLawful : Type 0

@@ -1,19 +1,16 @@
 -- What a core becomes where it takes a delta, and why it refuses one.
 use Rattle.std.specs.Prelude.{◌≡◌, ℕ, ◌<◌, ◌⊎◌, ◌↔◌, max, length, IsTrue, List, [], ◌∷◌}
-use Rattle.grid_core.specs.declared.pixel.Pixel.{Pixel}
-use Rattle.grid_core.specs.Raster.{Raster, value_at}
-use Rattle.grid_core.specs.Tiles.{Tiles}
+use Rattle.grid_core.specs.{declared.pixel.Pixel.Pixel, Raster.Raster, Raster.value_at, Tiles.Tiles}
 use Rattle.stroke_lattice.specs.State.{State, StateFits, IsJoin, AreCompatible, IsLeastOutside, IsLeastClash}
 use Rattle.stroke_lattice.specs.Change.{Turnover, IsChange}
 use Rattle.marker_tiles.specs.Marker.{IsMarker}
 use Rattle.tile_generations.specs.Generations.{max_generation}
-use Rattle.core_rules.specs.declared.error.CoreError.{CoreError}
+use Rattle.core_rules.specs.{declared.error.CoreError.CoreError, Image.IsOfSize}
 use Rattle.core_rules.specs.declared.error.CoreError.TheVariants.{OutOfImage, Conflict, GenerationsSpent, Memory}
 use Rattle.core_rules.specs.declared.error.CoreError.TheVariants.{BadSide}
-use Rattle.core_rules.specs.Image.{IsOfSize}
-use Rattle.border_queues.specs.TileWork.{TileWork, reset_work}
 use Rattle.core_rules.specs.Work.{Core, domain, tiling, mask_at, image_at, IsTile, work_at}
 use Rattle.core_rules.specs.Hits.{IsInTile, IsHit, TouchesHit}
+use Rattle.border_queues.specs.TileWork.{TileWork, reset_work}
 
 -- the tile is reset: its work is that of a reset tile, and its pixels have the marker's values
 pub record IsReset (tiles : Tiles) (marker : Pixel → ℕ) (new : Raster) (before after : TileWork) (t : ℕ)

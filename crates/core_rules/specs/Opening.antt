@@ -1,8 +1,6 @@
 -- A core as it is opened.
 use Rattle.std.specs.Prelude.{ℕ, length, replicate}
-use Rattle.grid_core.specs.declared.conn.Conn.{Conn}
-use Rattle.grid_core.specs.Raster.{Raster}
-use Rattle.grid_core.specs.Tiles.{Tiles, count_of}
+use Rattle.grid_core.specs.{declared.conn.Conn.Conn, Raster.Raster, Tiles.Tiles, Tiles.count_of}
 use Rattle.stroke_lattice.specs.State.{nothing}
 use Rattle.border_queues.specs.TileWork.{fresh}
 use Rattle.core_rules.specs.Work.{Core}

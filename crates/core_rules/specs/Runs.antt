@@ -1,12 +1,10 @@
 -- Lists of events, and the one by which a core settles.
-use Rattle.std.specs.Prelude.{◌≡◌, ◌≢◌, ℕ, ◌+◌, ◌≤◌, true, List, [], ◌∷◌, ◌++◌, map, length, IsTrue, Contains}
-use Rattle.std.specs.Prelude.{Option, Some, None, option_map, option_to_list}
-use Rattle.tile_generations.specs.declared.ticket.Ticket.{Ticket}
-use Rattle.tile_generations.specs.Jobs.{Job}
+use Rattle.std.specs.Prelude.{◌≡◌, ◌≢◌, ℕ, ◌+◌, ◌≤◌, true, List, [], ◌∷◌, ◌++◌, map, length, IsTrue, Contains, Option}
+use Rattle.std.specs.Prelude.{Some, None, option_map, option_to_list}
+use Rattle.tile_generations.specs.{declared.ticket.Ticket.Ticket, Jobs.Job}
 use Rattle.border_queues.specs.TileWork.{TileWork, IsLeast}
 use Rattle.core_rules.specs.Work.{Core, IsTile, work_at, IsQuiet}
-use Rattle.core_rules.specs.Image.{IsPart}
-use Rattle.core_rules.specs.Sweeps.{tile_rect, IsOut}
+use Rattle.core_rules.specs.{Image.IsPart, Sweeps.tile_rect, Sweeps.IsOut}
 use Rattle.core_rules.specs.Events.{Event, Answer, Happens, Take, GiveBack, Abandon, Hand, OfTake, OfAbandon}
 
 -- an event, and what it answered

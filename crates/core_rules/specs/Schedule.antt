@@ -1,16 +1,11 @@
 -- Schedules: lists of steps, of which each takes, gives back, abandons, hands over or edits.
 use Rattle.std.specs.Prelude.{◌≡◌, ℕ, ◌+◌, ◌<◌, ◌≤◌, ◌⊎◌, List, [], ◌∷◌, ◌++◌, length, Option, Some, None, slice_get}
-use Rattle.stroke_lattice.specs.State.{State}
-use Rattle.stroke_lattice.specs.Change.{Turnover}
+use Rattle.stroke_lattice.specs.{State.State, Change.Turnover}
 use Rattle.tile_generations.specs.Jobs.{Job, Swept, IsSwept}
-use Rattle.core_rules.specs.declared.error.CoreError.{CoreError}
-use Rattle.core_rules.specs.declared.step.Step.{Step}
-use Rattle.core_rules.specs.declared.step.Step.TheVariants as steps
-use Rattle.core_rules.specs.Work.{Core}
-use Rattle.core_rules.specs.Merge.{IsRefused, IsAcceptable}
-use Rattle.core_rules.specs.Sweeps.{IsReady}
+use Rattle.core_rules.specs.{declared.error.CoreError.CoreError, declared.step.Step.Step, Work.Core, Merge.IsRefused}
+use Rattle.core_rules.specs.{Merge.IsAcceptable, Sweeps.IsReady, Runs.Entry, Runs.jobs_of, Runs.abandons_of}
 use Rattle.core_rules.specs.Events.{Event, Answer, Happens, Merge, Take, GiveBack, Abandon, Hand, OfMerge, OfTake}
-use Rattle.core_rules.specs.Runs.{Entry, jobs_of, abandons_of}
+use Rattle.core_rules.specs.declared.step.Step.TheVariants as steps
 
 -- how far a schedule has come: the number of steps, the core, the results so far, the events, the numbers of the edits
 -- that were accepted, with their deltas, and of those that were refused, with the reasons

@@ -1,9 +1,8 @@
 -- Which tiles show what they showed.
 use Rattle.std.specs.Prelude.{◌≡◌, ℕ, List}
 use Rattle.grid_core.specs.declared.pixel.Pixel.{Pixel}
-use Rattle.core_rules.specs.Work.{Core, tiling, image_at}
-use Rattle.core_rules.specs.Hits.{IsInTile}
-use Rattle.core_rules.specs.Runs.{Entry, IsDirty, IsTakenIn}
+use Rattle.core_rules.specs.{Work.Core, Work.tiling, Work.image_at, Hits.IsInTile, Runs.Entry, Runs.IsDirty}
+use Rattle.core_rules.specs.{Runs.IsTakenIn}
 
 -- each pixel of the tile has the value that it had
 abbrev pub ShowsTheSame : Core → Core → ℕ → Type 0

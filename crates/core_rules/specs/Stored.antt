@@ -1,16 +1,12 @@
 -- A core is stored as the parts of its record.
 use Rattle.std.specs.Prelude.{ℕ, Bool, List, Option, refl}
 use Rattle.std.specs.Coded.{Coded, code_by, coded×, coded_ℕ, coded_bool, coded_list, coded_option}
-use Rattle.grid_core.specs.declared.conn.Conn.{Conn}
-use Rattle.grid_core.specs.declared.pixel.Pixel.{Pixel}
-use Rattle.grid_core.specs.Raster.{Raster}
+use Rattle.grid_core.specs.{declared.conn.Conn.Conn, declared.pixel.Pixel.Pixel, Raster.Raster}
 use Rattle.grid_core.specs.Stored.{raster_code, conn_code}
 use Rattle.stroke_core.specs.Seed.{Seed}
-use Rattle.stroke_lattice.specs.State.{State}
-use Rattle.stroke_lattice.specs.Stored.{state_code}
-use Rattle.border_queues.specs.declared.hint.Hint.{Hint}
+use Rattle.stroke_lattice.specs.{State.State, Stored.state_code}
+use Rattle.border_queues.specs.{declared.hint.Hint.Hint, TileWork.TileWork}
 use Rattle.core_rules.specs.Work.{Core}
-use Rattle.border_queues.specs.TileWork.{TileWork}
 
 abbrev pub pixel_code : Coded Pixel
 pixel_code = code_by (ℕ × ℕ) (coded× coded_ℕ coded_ℕ) (λ p. (p.x, p.y)) (λ p. record { x = p.0; y = p.1 }) (λ _. refl)

@@ -1,16 +1,11 @@
 -- Jobs that are taken, and swept tiles that are given back.
-use Rattle.std.specs.Prelude.{◌≡◌, ◌≢◌, ℕ, ◌+◌, ◌%◌, ◌^◌, ◌≤◌, ◌⊎◌, Bool, true, false, List, length}
-use Rattle.std.specs.Prelude.{Option, Some, None}
-use Rattle.grid_core.specs.declared.rect.Rect.{Rect}
-use Rattle.border_queues.specs.declared.hint.Hint.{Hint}
-use Rattle.border_queues.specs.OpenEdges.{Sender, open_edges}
-use Rattle.tile_generations.specs.declared.ticket.Ticket.{Ticket}
-use Rattle.tile_generations.specs.Jobs.{Job, Swept}
-use Rattle.core_rules.specs.declared.answers.Back.{Back}
+use Rattle.std.specs.Prelude.{◌≡◌, ◌≢◌, ℕ, ◌+◌, ◌%◌, ◌^◌, ◌≤◌, ◌⊎◌, Bool, true, false, List, length, Option, Some, None}
+use Rattle.grid_core.specs.{declared.rect.Rect.Rect, Tiles.rect_of}
+use Rattle.border_queues.specs.{declared.hint.Hint.Hint, OpenEdges.Sender, OpenEdges.open_edges, TileWork.received}
+use Rattle.border_queues.specs.{TileWork.hints_at}
+use Rattle.tile_generations.specs.{declared.ticket.Ticket.Ticket, Jobs.Job, Jobs.Swept}
+use Rattle.core_rules.specs.{declared.answers.Back.Back, Image.IsPart, Image.IsAtMostPart, Image.IsJoinedWith}
 use Rattle.core_rules.specs.declared.answers.Back.TheVariants.{Joined, Again, Stale, Stranger}
-use Rattle.core_rules.specs.Image.{IsPart, IsAtMostPart, IsJoinedWith}
-use Rattle.grid_core.specs.Tiles.{rect_of}
-use Rattle.border_queues.specs.TileWork.{received, hints_at}
 use Rattle.core_rules.specs.Work.{Core, tiling, mask_at, image_at, IsTile, work_at, with_work}
 
 -- the rectangle of a tile of the core

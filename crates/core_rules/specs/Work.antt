@@ -1,12 +1,9 @@
 -- One replica's core as plain data: mask, strokes and image, and the work that is left at each tile.
 use Rattle.std.specs.Prelude.{ℕ, ◌<◌, List, length, slice_set}
-use Rattle.grid_core.specs.declared.conn.Conn.{Conn}
-use Rattle.grid_core.specs.declared.pixel.Pixel.{Pixel}
-use Rattle.grid_core.specs.Raster.{Raster, value_at}
-use Rattle.grid_core.specs.Path.{Domain, domain_of}
+use Rattle.grid_core.specs.{declared.conn.Conn.Conn, declared.pixel.Pixel.Pixel, Raster.Raster, Raster.value_at}
+use Rattle.grid_core.specs.{Path.Domain, Path.domain_of, Tiles.Tiles}
 use Rattle.stroke_lattice.specs.State.{State}
 use Rattle.border_queues.specs.TileWork.{TileWork, work_of, IsIdle}
-use Rattle.grid_core.specs.Tiles.{Tiles}
 
 -- a core: the mask, which pixels are neighbours, the side of the tiles, the strokes, the image so far, the work at
 -- each tile, and the serial of the next job

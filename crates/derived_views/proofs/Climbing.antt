@@ -1,17 +1,14 @@
 -- The regional maxima are where the image less 1, grown inside the image, stays lower than it. A pixel of value 0 lies
 -- on one only where the whole image has that value.
-use Rattle.std.proofs.Common.{◌≡◌, ℕ, ◌<◌, ◌≤◌, Bool, true, false, List, [], ◌∷◌, ◌++◌, refl, sym, subst, arith}
-use Rattle.std.proofs.Common.{inl, inr}
-use Rattle.std.specs.List.{AllByRecursion}
+use Rattle.std.proofs.Common.{◌≡◌, ℕ, ◌<◌, ◌≤◌, Bool, true, false, List, [], ◌∷◌, ◌++◌, refl, sym, subst, arith, inl}
+use Rattle.std.proofs.Common.{inr}
 use Rattle.std.proofs.lemmas.Bool.{cases_lt}
-use Rattle.grid_core.specs.declared.pixel.Pixel.{Pixel}
-use Rattle.grid_core.specs.Neighbours.{AreNeighbours}
+use Rattle.std.specs.List.{AllByRecursion}
+use Rattle.grid_core.specs.{declared.pixel.Pixel.Pixel, Neighbours.AreNeighbours, Reconstruction.IsReconstruction}
 use Rattle.grid_core.specs.Path.{Domain, Inside, IsPath, end_of, Reaches}
-use Rattle.grid_core.specs.Reconstruction.{IsReconstruction}
 use Rattle.grid_core.proofs.Reach.{IsPath-inside, reaches_within_mask}
-use Rattle.derived_views.specs.HMaxima.{less}
+use Rattle.derived_views.specs.{HMaxima.less, Rasters.MarksLower}
 use Rattle.derived_views.specs.Plateaus.{IsOnPlateau, IsRegionalMaximum, IsRegionalMaxima}
-use Rattle.derived_views.specs.Rasters.{MarksLower}
 use Rattle.derived_views.proofs.Paths.{along_path, at_end, everywhere, path_on, all_on, end_on, path_between}
 
 -- a path leads from the pixel along pixels of one level to a pixel beside a higher one

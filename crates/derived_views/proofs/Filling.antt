@@ -1,12 +1,10 @@
 -- The holes of an image are filled by growing its complement from the border.
 use Rattle.std.proofs.Common.{◌≡◌, ℕ, zero, suc, ◌-◌, ◌<◌, ◌≤◌, ◌⊎◌, [], ◌∷◌, refl, sym, subst, arith, inl, inr}
 use Rattle.std.proofs.lemmas.Bool.{cases_lt}
-use Rattle.grid_core.specs.declared.pixel.Pixel.{Pixel}
+use Rattle.grid_core.specs.{declared.pixel.Pixel.Pixel, Reconstruction.IsReconstruction, Raster.IsOnBorder}
 use Rattle.grid_core.specs.Path.{Domain, Inside, end_of, Reaches}
-use Rattle.grid_core.specs.Reconstruction.{IsReconstruction}
 use Rattle.grid_core.proofs.Reach.{IsPath-ends_inside}
 use Rattle.derived_views.specs.Holes.{Escapes, IsFill}
-use Rattle.grid_core.specs.Raster.{IsOnBorder}
 use Rattle.derived_views.proofs.Paths.{along_path, at_end, pixel_at, left_is_neighbour}
 
 -- a pixel escapes to the left at a level that no value exceeds

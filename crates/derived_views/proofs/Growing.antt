@@ -1,25 +1,17 @@
 -- The views of images of values, by growing.
-use Rattle.std.proofs.Common.{◌≡◌, ℕ, ◌+◌, ◌-◌, ◌*◌, ◌<◌, ◌≤◌, Bool, true, false, List, get_or, length, map}
-use Rattle.std.proofs.Common.{sym, ap, subst, ◌∙◌, arith, inl, inr}
-use Rattle.std.specs.Prelude.{slice_index, EachIndex}
+use Rattle.std.proofs.Common.{◌≡◌, ℕ, ◌+◌, ◌-◌, ◌*◌, ◌<◌, ◌≤◌, Bool, true, false, List, get_or, length, map, sym, ap}
+use Rattle.std.proofs.Common.{subst, ◌∙◌, arith, inl, inr, slice_index, EachIndex}
 use Rattle.std.proofs.Math.Nat.{zero-sub}
-use Rattle.std.proofs.Math.ListN as lists
-use Rattle.grid_core.specs.declared.conn.Conn.{Conn}
-use Rattle.grid_core.specs.declared.pixel.Pixel.{Pixel}
-use Rattle.grid_core.specs.Path.{domain_of}
-use Rattle.grid_core.specs.Raster.{Raster, IsInside, IsFilled, IsImageSize, IsOnBorder, index_of}
-use Rattle.grid_core.specs.Raster.{max_level, value_at}
+use Rattle.grid_core.specs.{declared.conn.Conn.Conn, declared.pixel.Pixel.Pixel, Path.domain_of}
 use Rattle.grid_core.specs.Reconstruction.{IsReconstruction}
+use Rattle.grid_core.specs.Raster.{Raster, IsInside, IsFilled, IsImageSize, IsOnBorder, index_of, max_level, value_at}
 use Rattle.grid_core.proofs.Cells.{index_of-within, pixel_of, index_of-pixel_of, pixel_of-inside}
 use Rattle.pgm_codec.specs.Graymap.{Graymap, IsGraymap}
-use Rattle.derived_views.specs.HMaxima.{IsHMaxima, less}
-use Rattle.derived_views.specs.Holes.{IsFill}
-use Rattle.derived_views.specs.Plateaus.{IsRegionalMaxima}
-use Rattle.derived_views.specs.Rasters.{mapped, complement_of, AgreeAt, IsPartOfBorder}
-use Rattle.derived_views.specs.Rasters.{MarksLower, IsWhereLower}
-use Rattle.derived_views.proofs.Filling.{fill_by_growing}
-use Rattle.derived_views.proofs.Climbing.{maxima_by_growing}
+use Rattle.derived_views.specs.{HMaxima.IsHMaxima, HMaxima.less, Holes.IsFill, Plateaus.IsRegionalMaxima}
+use Rattle.derived_views.specs.Rasters.{mapped, complement_of, AgreeAt, IsPartOfBorder, MarksLower, IsWhereLower}
+use Rattle.derived_views.proofs.{Filling.fill_by_growing, Climbing.maxima_by_growing}
 use Rattle.derived_views.proofs.Rasters.{mapped_value, value_within}
+use Rattle.std.proofs.Math.ListN as lists
 
 -- the same cells at an equal width
 at_width : (cells : List ℕ) (v w : ℕ) (p : Pixel) → v ≡ w
@@ -32,39 +24,19 @@ less_value h r p =
     subst (λ z. get_or (map (λ v. v - h) r.cells) (index_of r.width p) z ≡ get_or r.cells (index_of r.width p) 0 - h)
     (zero-sub h) (lists.get_or-map (λ v. v - h) r.cells (index_of r.width p) 0)
 
-pub h_maxima_of : (conn : Conn) (h : ℕ) (image lowered grown : Raster) → lowered ≡ mapped (λ v. v - h) image
-    → IsReconstruction (domain_of image conn) (value_at image) (value_at lowered) (value_at grown)
+-- what grows in an image from the image less h, where the image is read again for each step
+pub h_maxima_from : (conn : Conn) (h : ℕ) (image from mask lowered grown : Raster) → from ≡ image → mask ≡ image
+    → lowered ≡ mapped (λ v. v - h) from
+    → IsReconstruction (domain_of mask conn) (value_at mask) (value_at lowered) (value_at grown)
     → IsHMaxima (domain_of image conn) h (value_at image) (value_at grown)
-h_maxima_of conn h image lowered grown low recon =
+h_maxima_from conn h image from mask lowered grown is_from is_mask low recon =
     let same : (p : Pixel) → value_at lowered p ≡ less h (value_at image) p =
-    λ p. ap (λ (r : Raster). value_at r p) low ∙ less_value h image p
-    in
+    λ p. ap (λ (r : Raster). value_at r p) (low ∙ ap (λ (r : Raster). mapped (λ v. v - h) r) is_from)
+    ∙ less_value h image p in
     subst (λ (marker : Pixel → ℕ). IsReconstruction (domain_of image conn) (value_at image) marker (value_at grown))
-    (λ i p. same p i) recon
-
--- the fill of an image, by its complement, the border of that, what grows from it, and the complement of this
-pub fill_of : (conn : Conn) (top : ℕ) (image border grown turned : Raster) → IsFilled image → IsFilled turned
-    → EachIndex image.cells (λ k. slice_index image.cells k ≤ top)
-    → IsPartOfBorder (complement_of top image) border
-    → ((p : Pixel) → IsInside image.width image.height p → IsOnBorder image.width image.height p
-    → AgreeAt (complement_of top image) border p)
-    → grown.width ≡ image.width → turned.width ≡ image.width → turned.height ≡ image.height
-    → EachIndex turned.cells (λ k. slice_index turned.cells k ≡ top - slice_index grown.cells k)
-    → IsReconstruction (domain_of image conn) (value_at (complement_of top image)) (value_at border) (value_at grown)
-    → IsFill (domain_of image conn) (value_at image) (value_at turned)
-fill_of conn top image border grown turned filled turned_filled bound part whole grown_width width height back recon =
-    fill_by_growing (domain_of image conn) (value_at image) (value_at (complement_of top image)) (value_at border) top
-    (λ q inside. value_within image top bound filled q inside)
-    (λ q inside. mapped_value (λ v. top - v) image q filled inside) part.values whole (value_at grown)
-    (value_at turned) recon
-    (λ q inside.
-    let inside_turned : IsInside turned.width turned.height q =
-    (omega (arith, inside.0, width), omega (arith, inside.1, height))
-    in
-    let within : index_of turned.width q < length turned.cells = index_of-within turned q turned_filled inside_turned in
-    let here = back (index_of turned.width q) within in
-    let lower = at_width grown.cells turned.width grown.width q (width ∙ sym grown_width) in
-    omega (arith, here, lower))
+    (λ i p. same p i)
+    (subst (λ (m : Raster). IsReconstruction (domain_of m conn) (value_at m) (value_at lowered) (value_at grown))
+    is_mask recon)
 
 -- the regional maxima of an image, by what grows in it from the image less 1
 pub maxima_of : (conn : Conn) (all : Bool) (image grown maxima : Raster) → IsFilled image
@@ -114,7 +86,7 @@ maxima_within conn image maxima filled width height are k within =
       | inr none ↦ omega (arith, none.1, place)
     ]
 
--- the same, of images that are equal to these
+-- the fill of an image, by its complement, the border of that, what grows from it, and the complement of this
 pub fill_from : (conn : Conn) (top : ℕ) (image mask border grown turned : Raster) → mask ≡ complement_of top image
     → IsFilled image → IsFilled turned
     → EachIndex image.cells (λ k. slice_index image.cells k ≤ top)
@@ -127,18 +99,21 @@ pub fill_from : (conn : Conn) (top : ℕ) (image mask border grown turned : Rast
     → IsFill (domain_of image conn) (value_at image) (value_at turned)
 fill_from conn top image mask border grown turned is_mask filled turned_filled bound part whole wide width high height
     back recon =
-    let its_part = subst (λ (m : Raster). IsPartOfBorder m border) is_mask part in
-    let its_whole = subst (λ (m : Raster). (p : Pixel) → IsInside m.width m.height p
-    → IsOnBorder m.width m.height p → AgreeAt m border p) is_mask whole
-    in
-    let its_recon =
-    subst (λ (m : Raster). IsReconstruction (domain_of m conn) (value_at m) (value_at border) (value_at grown)) is_mask
-    recon
-    in
-    let grown_width = wide ∙ its_part.width in
-    let grown_height = high ∙ its_part.height in
-    fill_of conn top image border grown turned filled turned_filled bound its_part its_whole grown_width
-    (width ∙ grown_width) (height ∙ grown_height) back its_recon
+    let its_width : mask.width ≡ image.width = ap (λ (m : Raster). m.width) is_mask in
+    let its_height : mask.height ≡ image.height = ap (λ (m : Raster). m.height) is_mask in
+    subst (λ d. IsFill d (value_at image) (value_at turned)) (ap (λ (m : Raster). domain_of m conn) is_mask)
+    (fill_by_growing (domain_of mask conn) (value_at image) (value_at mask) (value_at border) top
+    (λ q inside. value_within image top bound filled q (rw (← its_width, ← its_height) inside))
+    (λ q inside. ap (λ (m : Raster). value_at m q) is_mask
+    ∙ mapped_value (λ v. top - v) image q filled (rw (← its_width, ← its_height) inside))
+    part.values whole (value_at grown) (value_at turned) recon
+    (λ q inside.
+    let inside_turned : IsInside turned.width turned.height q =
+    (omega (arith, inside.0, wide, width, part.width), omega (arith, inside.1, high, height, part.height)) in
+    let within : index_of turned.width q < length turned.cells = index_of-within turned q turned_filled inside_turned in
+    let here = back (index_of turned.width q) within in
+    let lower = at_width grown.cells turned.width grown.width q width in
+    omega (arith, here, lower)))
 
 -- an image of the size of another, with values up to a maxval
 pub graymap_from : (image : Graymap) (made : Raster) (maxval : ℕ) → IsGraymap image → 0 < maxval → maxval ≤ max_level
@@ -157,16 +132,7 @@ graymap_from image made maxval is some within width height filled bound = record
   samples_within = bound;
 }
 
-pub h_maxima_from : (conn : Conn) (h : ℕ) (image from mask lowered grown : Raster) → from ≡ image → mask ≡ image
-    → lowered ≡ mapped (λ v. v - h) from
-    → IsReconstruction (domain_of mask conn) (value_at mask) (value_at lowered) (value_at grown)
-    → IsHMaxima (domain_of image conn) h (value_at image) (value_at grown)
-h_maxima_from conn h image from mask lowered grown is_from is_mask low recon =
-    h_maxima_of conn h image lowered grown (low ∙ ap (λ (r : Raster). mapped (λ v. v - h) r) is_from)
-    (subst (λ (m : Raster). IsReconstruction (domain_of m conn) (value_at m) (value_at lowered) (value_at grown))
-    is_mask recon)
-
--- the same for the regional maxima, where the image is read again for each step
+-- the same for the regional maxima
 pub maxima_from : (conn : Conn) (all : Bool) (image from mask other : Raster) (values : List ℕ)
     (lowered grown maxima : Raster) → from ≡ image → mask ≡ image → other ≡ image → values ≡ image.cells
     → lowered ≡ mapped (λ v. v - 1) from → IsFilled image

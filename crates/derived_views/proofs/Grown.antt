@@ -1,9 +1,7 @@
 -- An image that was grown on a mask from a marker of a state is shown.
 use Rattle.std.proofs.Common.{◌≡◌, ℕ, sym, subst}
-use Rattle.grid_core.specs.declared.conn.Conn.{Conn}
+use Rattle.grid_core.specs.{declared.conn.Conn.Conn, Path.domain_of, Reconstruction.IsReconstruction}
 use Rattle.grid_core.specs.Raster.{Raster, IsFilled, IsBelow, value_at}
-use Rattle.grid_core.specs.Path.{domain_of}
-use Rattle.grid_core.specs.Reconstruction.{IsReconstruction}
 use Rattle.pgm_codec.specs.Graymap.{Graymap}
 use Rattle.stroke_lattice.specs.State.{State}
 use Rattle.marker_tiles.specs.Marker.{IsMarker}

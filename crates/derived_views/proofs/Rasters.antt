@@ -1,6 +1,5 @@
 -- Images with a function of each value.
-use Rattle.std.proofs.Common.{◌≡◌, ◌∙◌, ℕ, ◌≤◌, ◌-◌, ◌*◌, ap, arith, length, map, sym}
-use Rattle.std.specs.Prelude.{slice_index, EachIndex}
+use Rattle.std.proofs.Common.{◌≡◌, ◌∙◌, ℕ, ◌≤◌, ◌-◌, ◌*◌, ap, arith, length, map, sym, slice_index, EachIndex}
 use Rattle.std.proofs.lemmas.List.{ext_get_or, get_or-map, length-map}
 use Rattle.grid_core.specs.declared.pixel.Pixel.{Pixel}
 use Rattle.grid_core.specs.Raster.{Raster, IsInside, IsFilled, index_of, value_at}

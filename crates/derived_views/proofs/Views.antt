@@ -1,10 +1,7 @@
 -- Each view is one image, and what a regional maximum is in other words.
-use Rattle.std.proofs.Common.{◌≡◌, ℕ, ◌≤◌, ◌∙◌, sym, arith, inl, inr}
-use Rattle.std.specs.Prelude.{◌↔◌}
+use Rattle.std.proofs.Common.{◌≡◌, ℕ, ◌≤◌, ◌∙◌, sym, arith, inl, inr, ◌↔◌}
 use Rattle.std.proofs.lemmas.Bool.{cases_lt}
-use Rattle.grid_core.specs.declared.pixel.Pixel.{Pixel}
-use Rattle.grid_core.specs.Neighbours.{AreNeighbours}
-use Rattle.grid_core.specs.Path.{Domain, Inside}
+use Rattle.grid_core.specs.{declared.pixel.Pixel.Pixel, Neighbours.AreNeighbours, Path.Domain, Path.Inside}
 use Rattle.derived_views.specs.Holes.{IsFill}
 use Rattle.derived_views.specs.Plateaus.{IsOnPlateau, IsRegionalMaximum, IsRegionalMaxima}
 use Rattle.derived_views.proofs.Climbing.{plateau_on, plateau_value}

@@ -1,8 +1,6 @@
 -- The h-maxima of an image (Vincent 1993): each dome loses up to h at its top.
 use Rattle.std.specs.Prelude.{ℕ, ◌-◌}
-use Rattle.grid_core.specs.declared.pixel.Pixel.{Pixel}
-use Rattle.grid_core.specs.Path.{Domain}
-use Rattle.grid_core.specs.Reconstruction.{IsReconstruction}
+use Rattle.grid_core.specs.{declared.pixel.Pixel.Pixel, Path.Domain, Reconstruction.IsReconstruction}
 
 -- each value less h, and 0 where it is less than h
 abbrev pub less : ℕ → (Pixel → ℕ) → Pixel → ℕ

@@ -1,10 +1,8 @@
 -- An image whose holes are filled (Soille, "Morphological Image Analysis"): each pixel is raised to the least level at
 -- which it escapes to the border of the image.
-use Rattle.std.specs.Prelude.{ℕ, ◌<◌, ◌≤◌, List, ◌∷◌}
-use Rattle.std.specs.List.{AllByRecursion}
-use Rattle.grid_core.specs.declared.pixel.Pixel.{Pixel}
+use Rattle.std.specs.{Prelude.ℕ, Prelude.◌<◌, Prelude.◌≤◌, Prelude.List, Prelude.◌∷◌, List.AllByRecursion}
+use Rattle.grid_core.specs.{declared.pixel.Pixel.Pixel, Raster.IsOnBorder}
 use Rattle.grid_core.specs.Path.{Domain, Inside, IsPath, end_of}
-use Rattle.grid_core.specs.Raster.{IsOnBorder}
 
 -- the pixel escapes at level k: a path leads from it to a pixel on the border, and every value on it is at most k
 abbrev pub Escapes : Domain → (Pixel → ℕ) → Pixel → ℕ → Type 0

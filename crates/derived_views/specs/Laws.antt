@@ -1,8 +1,6 @@
 -- Laws of the views, as statements. Public functions have them as their contracts.
 use Rattle.std.specs.Prelude.{◌≡◌, ◌≤◌, ◌↔◌, ℕ}
-use Rattle.grid_core.specs.declared.pixel.Pixel.{Pixel}
-use Rattle.grid_core.specs.Neighbours.{AreNeighbours}
-use Rattle.grid_core.specs.Path.{Domain, Inside}
+use Rattle.grid_core.specs.{declared.pixel.Pixel.Pixel, Neighbours.AreNeighbours, Path.Domain, Path.Inside}
 use Rattle.derived_views.specs.Holes.{IsFill}
 use Rattle.derived_views.specs.Plateaus.{IsOnPlateau, IsRegionalMaximum, IsRegionalMaxima}
 

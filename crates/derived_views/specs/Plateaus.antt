@@ -1,8 +1,6 @@
 -- The regional maxima of an image (Vincent 1993): the plateaus that strictly lower pixels surround.
-use Rattle.std.specs.Prelude.{◌≡◌, ℕ, ◌<◌, ◌⊎◌, List, ◌∷◌}
-use Rattle.std.specs.List.{AllByRecursion}
-use Rattle.grid_core.specs.declared.pixel.Pixel.{Pixel}
-use Rattle.grid_core.specs.Neighbours.{AreNeighbours}
+use Rattle.std.specs.{Prelude.◌≡◌, Prelude.ℕ, Prelude.◌<◌, Prelude.◌⊎◌, Prelude.List, Prelude.◌∷◌, List.AllByRecursion}
+use Rattle.grid_core.specs.{declared.pixel.Pixel.Pixel, Neighbours.AreNeighbours}
 use Rattle.grid_core.specs.Path.{Domain, Inside, IsPath, end_of}
 
 -- q lies on the plateau of p: a path leads from p to q, and every value on it is that at p

@@ -1,10 +1,7 @@
 -- What a state shows on a mask.
 use Rattle.std.specs.Prelude.{◌≡◌, ℕ}
-use Rattle.grid_core.specs.declared.conn.Conn.{Conn}
-use Rattle.grid_core.specs.declared.pixel.Pixel.{Pixel}
-use Rattle.grid_core.specs.Raster.{IsFilled, value_at}
-use Rattle.grid_core.specs.Path.{domain_of}
-use Rattle.grid_core.specs.Reconstruction.{IsReconstruction}
+use Rattle.grid_core.specs.{declared.conn.Conn.Conn, declared.pixel.Pixel.Pixel, Raster.IsFilled, Raster.value_at}
+use Rattle.grid_core.specs.{Path.domain_of, Reconstruction.IsReconstruction}
 use Rattle.pgm_codec.specs.Graymap.{Graymap}
 use Rattle.stroke_lattice.specs.State.{State}
 use Rattle.marker_tiles.specs.Marker.{IsMarker}

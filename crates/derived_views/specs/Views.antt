@@ -1,7 +1,6 @@
 -- What each view of an image is, whichever values it shows.
 use Rattle.std.specs.Prelude.{◌≡◌, ℕ}
-use Rattle.grid_core.specs.declared.pixel.Pixel.{Pixel}
-use Rattle.grid_core.specs.Raster.{value_at}
+use Rattle.grid_core.specs.{declared.pixel.Pixel.Pixel, Raster.value_at}
 use Rattle.pgm_codec.specs.Graymap.{Graymap, IsGraymap}
 
 -- an image of the same width and height, of this maxval, whose values show those of the first in this way

@@ -1,18 +1,13 @@
 -- The windows round runs and discs.
 use Rattle.std.proofs.Common.{◌≡◌, ℕ, ◌+◌, ◌-◌, ◌*◌, ◌<◌, ◌≤◌, ◌⊎◌, inl, inr, Bool, true, false, List, length, get_or}
-use Rattle.std.proofs.Common.{take, sym, ap, ◌∙◌, arith}
-use Rattle.std.specs.Prelude.{◌||◌, IsTrue}
+use Rattle.std.proofs.Common.{take, sym, ap, ◌∙◌, arith, ◌||◌, IsTrue}
+use Rattle.std.proofs.{Math.Nat.mul-le-mul, lemmas.Bool.cases_lt, lemmas.Bool.Decides.nat_tests}
+use Rattle.std.proofs.{lemmas.List.Folds.list_any_more}
 use Rattle.std.specs.List.{list_any}
-use Rattle.std.proofs.Math.Nat.{mul-le-mul}
-use Rattle.std.proofs.lemmas.Bool.{cases_lt}
-use Rattle.std.proofs.lemmas.Bool.Decides.{nat_tests}
-use Rattle.std.proofs.lemmas.List.Folds.{list_any_more}
-use Rattle.grid_core.specs.declared.pixel.Pixel.{Pixel}
-use Rattle.grid_core.specs.Neighbours.{apart}
+use Rattle.grid_core.specs.{declared.pixel.Pixel.Pixel, Neighbours.apart}
 use Rattle.grid_core.proofs.Common.{either}
 use Rattle.stroke_core.specs.Seed.{disc_covers}
-use Rattle.marker_tiles.specs.declared.window.Window.{Window}
-use Rattle.marker_tiles.specs.Painting.{in_window}
+use Rattle.marker_tiles.specs.{declared.window.Window.Window, Painting.in_window}
 
 pub square_le : (a b : ℕ) → a ≤ b → a * a ≤ b * b
 square_le a b h = mul-le-mul h h

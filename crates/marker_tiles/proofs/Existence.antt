@@ -1,21 +1,16 @@
 -- Each state has a greatest level at each pixel, and so a marker.
-use Rattle.std.proofs.Common.{◌≡◌, ℕ, ◌≤◌, ◌⊎◌, inl, inr, Bool, true, false, min, max, List, [], ◌∷◌, Option}
-use Rattle.std.proofs.Common.{Some, None, refl, ap, subst, ◌∙◌, sym, arith}
-use Rattle.std.specs.Prelude.{is_some}
-use Rattle.std.specs.List.{list_any}
-use Rattle.std.specs.Ordering.{nat_cmp, eq_by_cmp}
-use Rattle.std.specs.FinMap as map
-use Rattle.std.specs.FinSet as set
-use Rattle.std.proofs.lemmas.Bool.{cases_lt}
-use Rattle.std.proofs.lemmas.Bool.Decides.{nat_tests}
-use Rattle.grid_core.specs.declared.pixel.Pixel.{Pixel}
-use Rattle.grid_core.specs.Path.{Domain}
+use Rattle.std.proofs.Common.{◌≡◌, ℕ, ◌≤◌, ◌⊎◌, inl, inr, Bool, true, false, min, max, List, [], ◌∷◌, Option, Some}
+use Rattle.std.proofs.Common.{None, refl, ap, subst, ◌∙◌, sym, arith, is_some, nat_cmp}
+use Rattle.std.proofs.{lemmas.Bool.cases_lt, lemmas.Bool.Decides.nat_tests}
+use Rattle.std.specs.{List.list_any, Ordering.eq_by_cmp}
+use Rattle.grid_core.specs.{declared.pixel.Pixel.Pixel, Path.Domain}
 use Rattle.grid_core.proofs.Common.{either, not_true}
 use Rattle.stroke_core.specs.Seed.{Seed, covers}
 use Rattle.stroke_lattice.specs.State.{State, HasStroke}
-use Rattle.marker_tiles.specs.Marker.{IsMarkedAt, IsTopLevel, IsMarker}
-use Rattle.marker_tiles.specs.UnderTags.{level_at}
+use Rattle.marker_tiles.specs.{Marker.IsMarkedAt, Marker.IsTopLevel, Marker.IsMarker, UnderTags.level_at}
 use Rattle.marker_tiles.proofs.Levels.{level_or_none, level_where}
+use Rattle.std.specs.FinMap as map
+use Rattle.std.specs.FinSet as set
 
 -- the level at the pixel of what a tag has, where it is not withdrawn
 abbrev pub level_of : Option Seed → Bool → Pixel → ℕ

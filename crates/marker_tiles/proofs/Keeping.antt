@@ -1,29 +1,23 @@
 -- The marker of a state, from that of the state before and from what changed.
-use Rattle.std.proofs.Common.{◌≡◌, ℕ, ◌≤◌, ◌⊎◌, inl, inr, Bool, true, false, min, max, List, [], ◌∷◌, refl, sym}
-use Rattle.std.proofs.Common.{ap, subst, ◌∙◌, arith, Option, Some, None}
-use Rattle.std.specs.Prelude.{Contains, IsTrue, if◌then◌else◌}
-use Rattle.std.specs.FinMap as map
-use Rattle.std.specs.FinSet as set
-use Rattle.grid_core.specs.declared.pixel.Pixel.{Pixel}
-use Rattle.grid_core.specs.declared.conn.Conn.TheVariants.{Four}
-use Rattle.grid_core.specs.Path.{domain_of}
+use Rattle.std.proofs.Common.{◌≡◌, ℕ, ◌≤◌, ◌⊎◌, inl, inr, Bool, true, false, min, max, List, [], ◌∷◌, refl, sym, ap}
+use Rattle.std.proofs.Common.{subst, ◌∙◌, arith, Option, Some, None, Contains, IsTrue, if◌then◌else◌}
+use Rattle.grid_core.specs.{declared.pixel.Pixel.Pixel, declared.conn.Conn.TheVariants.Four, Path.domain_of}
+use Rattle.grid_core.specs.{Tiles.Tiles}
 use Rattle.grid_core.specs.Raster.{Raster, IsInside, IsSized, value_at, IsOfSize}
-use Rattle.grid_core.specs.Tiles.{Tiles}
 use Rattle.grid_core.proofs.Cells.{each_pixel_below}
+use Rattle.grid_core.proofs.Common.{first, later, first_or_later, not_in_empty, or_left, or_right, true_or_false}
+use Rattle.grid_core.proofs.Common.{true_or_not}
 use Rattle.stroke_core.specs.Seed.{Seed, covers}
 use Rattle.stroke_lattice.specs.State.{State, HasStroke, IsLiveTag, IsBelow}
 use Rattle.stroke_lattice.specs.Change.{Turnover, IsChange}
-use Rattle.marker_tiles.specs.declared.window.Window.{Window}
-use Rattle.marker_tiles.specs.Kept.{IsMarkerOf, HasGrown}
-use Rattle.marker_tiles.specs.Marker.{IsMarkedAt, IsTopLevel}
-use Rattle.marker_tiles.specs.InOrder.{IsInOrder}
-use Rattle.marker_tiles.specs.Painting.{in_some}
-use Rattle.marker_tiles.specs.UnderTags.{level_if, covers_if, level_of_some, some_covers}
-use Rattle.marker_tiles.specs.UnderTags.{IsBlankOn, IsRaisedBy, IsClearedOf, IsRaisedByLive}
+use Rattle.marker_tiles.specs.{declared.window.Window.Window, Kept.IsMarkerOf, Kept.HasGrown, Marker.IsMarkedAt}
+use Rattle.marker_tiles.specs.{Marker.IsTopLevel, InOrder.IsInOrder, Painting.in_some}
+use Rattle.marker_tiles.specs.UnderTags.{level_if, covers_if, level_of_some, some_covers, IsBlankOn, IsRaisedBy}
+use Rattle.marker_tiles.specs.UnderTags.{IsClearedOf, IsRaisedByLive}
 use Rattle.marker_tiles.proofs.Existence.{top_at, has_top}
 use Rattle.marker_tiles.proofs.Levels.{level_or_none, level_where, marker_within}
-use Rattle.grid_core.proofs.Common.{first, later, first_or_later, not_in_empty, or_left, or_right}
-use Rattle.grid_core.proofs.Common.{true_or_false, true_or_not}
+use Rattle.std.specs.FinMap as map
+use Rattle.std.specs.FinSet as set
 
 -- ---- tags and their strokes
 

@@ -1,14 +1,11 @@
 -- The greatest level at a pixel.
-use Rattle.std.proofs.Common.{◌≡◌, ℕ, ◌≤◌, ◌⊎◌, ◌↔◌, inl, inr, Bool, true, false, min, max, List, [], ◌∷◌}
-use Rattle.std.proofs.Common.{◌++◌, refl, ap, ◌∙◌, sym, arith}
-use Rattle.std.specs.Prelude.{Contains, IsTrue, if◌then◌else◌}
+use Rattle.std.proofs.Common.{◌≡◌, ℕ, ◌≤◌, ◌⊎◌, ◌↔◌, inl, inr, Bool, true, false, min, max, List, [], ◌∷◌, ◌++◌, refl}
+use Rattle.std.proofs.Common.{ap, ◌∙◌, sym, arith, Contains, IsTrue, if◌then◌else◌}
 use Rattle.std.proofs.lemmas.Bool.{cases_lt}
-use Rattle.grid_core.specs.declared.pixel.Pixel.{Pixel}
-use Rattle.grid_core.specs.Path.{Domain, Inside}
+use Rattle.grid_core.specs.{declared.pixel.Pixel.Pixel, Path.Domain, Path.Inside}
 use Rattle.stroke_core.specs.Seed.{Seed, covers}
 use Rattle.stroke_lattice.specs.State.{State, IsLive}
-use Rattle.marker_tiles.specs.Marker.{IsTopLevel, IsMarker}
-use Rattle.marker_tiles.specs.UnderTags.{level_at}
+use Rattle.marker_tiles.specs.{Marker.IsTopLevel, Marker.IsMarker, UnderTags.level_at}
 use Rattle.grid_core.proofs.Common.{first, later, first_or_later, not_in_empty}
 
 -- ---- it is one number, and so the marker is one

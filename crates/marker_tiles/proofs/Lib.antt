@@ -1,5 +1,7 @@
 -- The lemmas of this crate.
+
 pub mod BlockLevels
+pub mod CellSpans
 pub mod Enclosing
 pub mod Existence
 pub mod Keeping

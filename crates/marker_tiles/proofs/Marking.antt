@@ -1,19 +1,13 @@
 -- The live strokes of a state painted one after the other.
-use Rattle.std.proofs.Common.{◌≡◌, ℕ, Bool, true, false, min, max, List, [], ◌∷◌, ◌++◌, refl, sym, ap, subst, ◌∙◌}
-use Rattle.std.proofs.Common.{append_assoc, append-nil, arith}
-use Rattle.std.specs.Prelude.{◌&&◌, ◌||◌, IsTrue, if◌then◌else◌}
-use Rattle.grid_core.specs.declared.pixel.Pixel.{Pixel}
-use Rattle.grid_core.specs.declared.conn.Conn.{Conn}
-use Rattle.grid_core.specs.Path.{domain_of}
+use Rattle.std.proofs.Common.{◌≡◌, ℕ, Bool, true, false, min, max, List, ◌∷◌, ◌++◌, refl, sym, ap, subst, ◌∙◌, []}
+use Rattle.std.proofs.Common.{append_assoc, append-nil, arith, ◌&&◌, ◌||◌, IsTrue, if◌then◌else◌}
+use Rattle.grid_core.specs.{declared.pixel.Pixel.Pixel, declared.conn.Conn.Conn, Path.domain_of}
 use Rattle.grid_core.specs.Raster.{Raster, IsInside, IsBelow, value_at, IsOfSize}
 use Rattle.grid_core.proofs.Cells.{each_pixel_below}
 use Rattle.stroke_core.specs.Seed.{covers}
-use Rattle.stroke_lattice.specs.State.{State}
-use Rattle.stroke_lattice.specs.Walks.{AreLive}
-use Rattle.marker_tiles.specs.declared.brush.Brush.{Brush}
-use Rattle.marker_tiles.specs.declared.brush.Brush.TheVariants.{Raise}
-use Rattle.marker_tiles.specs.declared.window.Window.{Window}
-use Rattle.marker_tiles.specs.Marker.{IsMarker}
+use Rattle.stroke_lattice.specs.{State.State, Walks.AreLive}
+use Rattle.marker_tiles.specs.{declared.brush.Brush.Brush, declared.brush.Brush.TheVariants.Raise}
+use Rattle.marker_tiles.specs.{declared.window.Window.Window, Marker.IsMarker}
 use Rattle.marker_tiles.specs.Painting.{IsPaintedBy, brushed_if, in_window, in_some}
 use Rattle.marker_tiles.specs.UnderTags.{IsBlankOn, IsRaisedByLive}
 use Rattle.marker_tiles.proofs.Levels.{Entry, top_level, top_level-push, top_of_live}
@@ -28,10 +22,6 @@ pub record IsUnderWay (s : State) (ws : List Window) (mask old image : Raster) (
       ≡ max (value_at old p) (min (value_at mask p) (if in_some ws p then top_level done p else 0))
   pub live : AreLive s (done ++ left)
 
-if_same : (b : Bool) → ◌≡◌ {A = ℕ} (if b then 0 else 0) 0
-if_same true = refl
-if_same false = refl
-
 -- a level more within the windows
 more_within : (a b : Bool) (limit old top level more : ℕ) → more ≡ max top (if b then level else 0)
     → brushed_if (a && b) (Raise level) limit (max old (min limit (if a then top else 0)))
@@ -40,16 +30,16 @@ more_within true b limit old top level more is =
     raised_to_level b limit level (max old (min limit top)) ∙ (omega (arith, is))
 more_within false b limit old top level more is = refl
 
-module _ (s : State) (ws : List Window) (mask old image : Raster) (left rest : List Entry) (entry : Entry)
+module _ {s : State} {ws : List Window} {mask old image : Raster} {left rest : List Entry} {entry : Entry}
     (way : IsUnderWay s ws mask old image left) (next : left ≡ entry ∷ rest) where
   live_then : AreLive s (way.done ++ entry ∷ rest)
   live_then = subst (λ es. AreLive s (way.done ++ es)) next way.live
 
   -- it is painted, and one less is left
-  pub under_way_next : (new : Raster) (brush : Brush) → brush ≡ Raise entry.1.level
+  pub under_way_next : {new : Raster} {brush : Brush} → brush ≡ Raise entry.1.level
       → IsPaintedBy (λ p. in_some ws p && covers entry.1 p) brush mask image new
       → IsUnderWay s ws mask old new rest
-  under_way_next new brush brush_is painted = record {
+  under_way_next brush_is painted = record {
     done = way.done ++ entry ∷ [];
     size = painted.size;
     values = λ p inside.
@@ -63,9 +53,9 @@ module _ (s : State) (ws : List Window) (mask old image : Raster) (left rest : L
   }
 
 -- where none is left, all are painted
-pub under_way_end : (s : State) (ws : List Window) (mask old image : Raster) (left : List Entry)
+pub under_way_end : {s : State} {ws : List Window} {mask old image : Raster} {left : List Entry}
     → IsUnderWay s ws mask old image left → left ≡ [] → IsRaisedByLive s ws mask old image
-under_way_end s ws mask old image left way end =
+under_way_end {s} way end =
     let live : AreLive s way.done =
     subst (AreLive s) (append-nil way.done) (subst (λ es. AreLive s (way.done ++ es)) end way.live) in
     record {

@@ -1,20 +1,17 @@
 -- Strokes under tags painted one after the other.
-use Rattle.std.proofs.Common.{◌≡◌, ℕ, ◌+◌, ◌<◌, Bool, true, false, min, max, List, [], ◌∷◌, ◌++◌, length, get_or}
-use Rattle.std.proofs.Common.{take, refl, sym, ap, ◌∙◌, arith, Option, Some, None}
-use Rattle.std.specs.Prelude.{◌&&◌, IsTrue, if◌then◌else◌}
-use Rattle.std.specs.Borrow.{Bor}
-use Rattle.std.specs.FinMap as map
-use Rattle.std.specs.Option.{option_copied}
+use Rattle.std.proofs.Common.{◌≡◌, ℕ, ◌+◌, ◌<◌, Bool, true, false, min, max, List, ◌∷◌, ◌++◌, length, get_or, take, []}
+use Rattle.std.proofs.Common.{refl, sym, ap, ◌∙◌, arith, Option, Some, None, ◌&&◌, IsTrue, if◌then◌else◌, Bor}
+use Rattle.std.proofs.Common.{option_copied}
 use Rattle.std.proofs.lemmas.List.{take_more}
 use Rattle.grid_core.specs.declared.pixel.Pixel.{Pixel}
-use Rattle.grid_core.specs.Raster.{Raster, IsInside, value_at, IsOfSize}
+use Rattle.grid_core.specs.Raster.{Raster, IsInside, value_at}
 use Rattle.stroke_core.specs.Seed.{Seed, covers}
 use Rattle.stroke_lattice.specs.State.{State}
-use Rattle.marker_tiles.specs.declared.brush.Brush.{Brush}
-use Rattle.marker_tiles.specs.declared.brush.Brush.TheVariants.{Raise}
+use Rattle.marker_tiles.specs.{declared.brush.Brush.Brush, declared.brush.Brush.TheVariants.Raise}
 use Rattle.marker_tiles.specs.declared.window.Window.{Window}
 use Rattle.marker_tiles.specs.Painting.{IsPaintedBy, brushed_if, in_window}
 use Rattle.marker_tiles.specs.UnderTags.{level_at, level_if, level_of_some, IsRaisedBy}
+use Rattle.std.specs.FinMap as map
 
 -- a reference that is not there leads to nothing
 pub nothing_there : (o : Option (Bor Seed)) → ((x : Bor Seed) → o ≡ Some x → ⊥) → option_copied o ≡ None
@@ -46,10 +43,7 @@ level_of_more s tags i tag p within read =
     ∙ level_of_some-push s (take i tags) (get_or tags i tag) p
     ∙ ap (λ t. max (level_of_some s (take i tags) p) (level_if (map.get s.strokes t) p)) (sym read)
 
-pub raised_none : (s : State) (mask old : Raster) → IsOfSize mask old → IsRaisedBy s [] mask old old
-raised_none s mask old size = record { size = size; values = λ p inside. omega arith }
-
-module _ (s : State) (tags : List ℕ) (i tag : ℕ) (mask old middle : Raster) (within : i < length tags)
+module _ {s : State} (tags : List ℕ) {i tag : ℕ} {mask old middle : Raster} (within : i < length tags)
     (read : tag ≡ get_or tags i tag) (so_far : IsRaisedBy s (take i tags) mask old middle) where
   raised_value : (p : Pixel) (level value : ℕ) → IsInside mask.width mask.height p
       → level ≡ level_if (map.get s.strokes tag) p
@@ -61,12 +55,12 @@ module _ (s : State) (tags : List ℕ) (i tag : ℕ) (mask old middle : Raster) 
       omega (arith, before, more, level_is, value_is)
 
   -- one stroke more is painted
-  pub raised_next : (new : Raster) (whole : Window) (seed : Seed) (brush : Brush) → brush ≡ Raise seed.level
+  pub raised_next : {new : Raster} (whole : Window) {seed : Seed} {brush : Brush} → brush ≡ Raise seed.level
       → ((p : Pixel) → IsInside mask.width mask.height p → IsTrue (in_window whole p))
       → map.get s.strokes tag ≡ Some seed
       → IsPaintedBy (λ p. in_window whole p && covers seed p) brush mask middle new
       → IsRaisedBy s (take (i + 1) tags) mask old new
-  raised_next new whole seed brush brush_is all has painted = record {
+  raised_next {new} whole {seed} brush_is all has painted = record {
     size = painted.size;
     values = λ p inside.
         raised_value p (level_at seed p) (value_at new p) inside (sym (ap (λ o. level_if o p) has))

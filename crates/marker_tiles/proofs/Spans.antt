@@ -1,16 +1,12 @@
 -- The spans of a stroke that have pixels in a window.
 use Rattle.std.proofs.Common.{◌≡◌, ℕ, zero, suc, ◌+◌, ◌<◌, ◌≤◌, ◌⊎◌, inl, inr, Bool, true, false, List, [], ◌∷◌, length}
-use Rattle.std.proofs.Common.{take, Some, refl, ap, subst, ◌∙◌, arith}
-use Rattle.std.specs.Prelude.{◌||◌, ◌&&◌, slice_get}
-use Rattle.std.specs.List.{list_any, AllWithin}
-use Rattle.std.proofs.lemmas.Bool.Decides.{nat_tests}
-use Rattle.std.proofs.lemmas.List.Folds.{list_any_more}
+use Rattle.std.proofs.Common.{take, Some, refl, ap, subst, ◌∙◌, arith, ◌||◌, ◌&&◌, slice_get}
+use Rattle.std.proofs.{lemmas.Bool.Decides.nat_tests, lemmas.List.Folds.list_any_more}
 use Rattle.std.proofs.lemmas.Option.{slice_get_within, get_or_from_slice_get}
+use Rattle.std.specs.List.{list_any, AllWithin}
 use Rattle.grid_core.specs.declared.pixel.Pixel.{Pixel}
-use Rattle.stroke_core.specs.declared.span.Span.{Span}
-use Rattle.stroke_core.specs.Spans.{span_has}
-use Rattle.marker_tiles.specs.declared.window.Window.{Window}
-use Rattle.marker_tiles.specs.Painting.{in_window}
+use Rattle.stroke_core.specs.{declared.span.Span.Span, Spans.span_has}
+use Rattle.marker_tiles.specs.{declared.window.Window.Window, Painting.in_window}
 
 -- the window has the pixel, and so has one of the spans
 abbrev pub span_of_some : Window → List Span → Pixel → Bool

@@ -4,8 +4,7 @@ use Rattle.std.specs.Prelude.{◌≡◌, ℕ, ◌+◌, ◌*◌, ◌/◌, ◌<◌
 use Rattle.grid_core.specs.declared.pixel.Pixel.{Pixel}
 use Rattle.grid_core.specs.Raster.{Raster, IsInside, IsOfSize, value_at}
 use Rattle.stroke_core.specs.Seed.{disc_covers}
-use Rattle.marker_tiles.specs.declared.blocks.Blocks.{Blocks}
-use Rattle.marker_tiles.specs.declared.window.Window.{Window}
+use Rattle.marker_tiles.specs.{declared.blocks.Blocks.Blocks, declared.window.Window.Window}
 
 -- the number of the block in this column and this row of blocks
 abbrev pub block_at : ℕ → ℕ → ℕ

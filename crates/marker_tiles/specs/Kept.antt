@@ -1,11 +1,7 @@
 -- A marker that is kept up to date while the state changes.
 use Rattle.std.specs.Prelude.{◌≡◌}
-use Rattle.grid_core.specs.declared.conn.Conn.{Conn}
-use Rattle.grid_core.specs.Path.{domain_of}
-use Rattle.grid_core.specs.Raster.{Raster, value_at}
-use Rattle.grid_core.specs.Tiles.{Tiles}
-use Rattle.stroke_lattice.specs.State.{State, IsBelow, nothing}
-use Rattle.stroke_lattice.specs.Change.{Turnover, IsChange}
+use Rattle.grid_core.specs.{declared.conn.Conn.Conn, Path.domain_of, Raster.Raster, Raster.value_at, Tiles.Tiles}
+use Rattle.stroke_lattice.specs.{State.State, State.IsBelow, State.nothing, Change.Turnover, Change.IsChange}
 use Rattle.marker_tiles.specs.Marker.{IsMarker}
 
 -- a mask, the marker that is kept for it, and how both are cut into tiles

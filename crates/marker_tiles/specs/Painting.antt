@@ -1,13 +1,12 @@
 -- What is painted on an image: runs and the rows of a disc, span by span, within a window. Private functions have it
 -- in their contracts.
-use Rattle.std.specs.Prelude.{◌≡◌, ℕ, ◌≤◌, ◌==◌, ◌&&◌, Bool, min, max, nat_le, nat_lt, if◌then◌else◌}
-use Rattle.std.specs.Prelude.{◌<◌, List, slice_index, EachIndex, IsTrue}
+use Rattle.std.specs.Prelude.{◌≡◌, ℕ, ◌≤◌, ◌==◌, ◌&&◌, Bool, min, max, nat_le, nat_lt, if◌then◌else◌, ◌<◌, List}
+use Rattle.std.specs.Prelude.{slice_index, EachIndex, IsTrue}
 use Rattle.std.specs.List.{list_any, AllByRecursion}
 use Rattle.grid_core.specs.declared.pixel.Pixel.{Pixel}
 use Rattle.grid_core.specs.Raster.{Raster, IsInside, IsOfSize, value_at}
-use Rattle.marker_tiles.specs.declared.brush.Brush.{Brush}
+use Rattle.marker_tiles.specs.{declared.brush.Brush.Brush, declared.window.Window.Window}
 use Rattle.marker_tiles.specs.declared.brush.Brush.TheVariants.{Raise, Clear}
-use Rattle.marker_tiles.specs.declared.window.Window.{Window}
 
 -- the pixel lies on this row, from the first column up to the end, which is left out
 abbrev pub is_between : ℕ → ℕ → ℕ → Pixel → Bool

@@ -1,15 +1,13 @@
 -- The strokes that stand under some tags of a state, live or not, and what painting or clearing them leaves. All but
 -- `IsBlankOn` stands in contracts of private functions.
 use Rattle.std.specs.Prelude.{◌≡◌, ℕ, Bool, false, min, max, if◌then◌else◌, List, [], ◌∷◌, Option, Some, None}
-use Rattle.std.specs.FinMap as map
 use Rattle.std.specs.List.{list_any}
 use Rattle.grid_core.specs.declared.pixel.Pixel.{Pixel}
 use Rattle.grid_core.specs.Raster.{Raster, IsInside, value_at, IsOfSize}
 use Rattle.stroke_core.specs.Seed.{Seed, covers}
 use Rattle.stroke_lattice.specs.State.{State}
-use Rattle.marker_tiles.specs.declared.window.Window.{Window}
-use Rattle.marker_tiles.specs.Marker.{IsTopLevel}
-use Rattle.marker_tiles.specs.Painting.{in_some}
+use Rattle.marker_tiles.specs.{declared.window.Window.Window, Marker.IsTopLevel, Painting.in_some}
+use Rattle.std.specs.FinMap as map
 
 -- the level of the seed where it covers the pixel, else 0
 abbrev pub level_at : Seed → Pixel → ℕ

@@ -1,18 +1,15 @@
 -- Lists of events that grow by one.
-use Rattle.std.proofs.Common.{◌≡◌, ◌∙◌, ◌∷◌, ◌++◌, ◌+◌, ◌<◌, [], ℕ, List, length, get_or, take, drop}
-use Rattle.std.proofs.Common.{suc, refl, sym, subst, ap, arith, inl, inr}
-use Rattle.std.specs.Prelude.{◌≢◌}
+use Rattle.std.proofs.Common.{◌≡◌, ◌∙◌, ◌∷◌, ◌++◌, ◌+◌, ◌<◌, [], ℕ, List, length, get_or, take, drop, suc, refl, sym}
+use Rattle.std.proofs.Common.{subst, ap, arith, inl, inr, ◌≢◌}
 use Rattle.std.proofs.Math.Seq.{drop-cons}
-use Rattle.std.proofs.lemmas.List.{append-nil, take_more, take-append-drop, length-take-le}
+use Rattle.std.proofs.lemmas.List.{take_more, take-append-drop, length-take-le}
 use Rattle.stroke_lattice.specs.State.{State}
-use Rattle.core_rules.specs.declared.error.CoreError.TheVariants as core_errors
-use Rattle.replica_world.specs.declared.error.WorldError.{WorldError}
-use Rattle.replica_world.specs.declared.error.WorldError.TheVariants as errors
-use Rattle.replica_world.specs.declared.event.Event.{Event}
-use Rattle.replica_world.specs.declared.event.Event.TheVariants as events
-use Rattle.replica_world.specs.World.{World}
+use Rattle.replica_world.specs.{declared.error.WorldError.WorldError, declared.event.Event.Event, World.World}
 use Rattle.replica_world.specs.Events.{IsNamed, Carries, IsDone, IsTurnedDown, IsCutOff, IsRefusal}
-use Rattle.replica_world.specs.Runs.{Refusal, AreEvents, IsRun, IsStopped, IsOnward}
+use Rattle.replica_world.specs.Runs.{Refusal, AreEvents, IsStopped, IsOnward}
+use Rattle.core_rules.specs.declared.error.CoreError.TheVariants as core_errors
+use Rattle.replica_world.specs.declared.error.WorldError.TheVariants as errors
+use Rattle.replica_world.specs.declared.event.Event.TheVariants as events
 
 -- ---- packets that come to replicas
 
@@ -38,11 +35,7 @@ not_delivered before after r k delta why named carries (inr (memory, (within, ac
 never_memory : (world : World) (event : Event) → IsTurnedDown world event (errors.Core core_errors.Memory) → ⊥
 never_memory world (events.Edit r delta) (within, refused) = refused
 never_memory world (events.Deliver r k) (within, (delta, carries, refused)) = refused
-never_memory world (events.Send r part) refused = refused
-never_memory world (events.Take r t) refused = refused
-never_memory world (events.Return r j) refused = refused
-never_memory world (events.Abandon r j) refused = refused
-never_memory world (events.Hand r t i) refused = refused
+never_memory world _ refused = refused
 
 -- an event that is refused for want of memory was cut off
 pub cut_off : (before after : World) (event : Event) (why : WorldError) → IsRefusal before event why after
@@ -56,15 +49,6 @@ abbrev with_steps : ℕ → World → World
 with_steps n w = record w { steps = n }
 
 -- ---- one event
-
--- an event that came to pass lists nothing
-pub came_to_pass : (before after : World) (event : Event) (n : ℕ) (refusals : List Refusal)
-    → IsDone before event after → IsOnward event n before refusals after refusals
-came_to_pass before after event n refusals done = record {
-  listed = [];
-  are_events = inl (after, done, (refl, refl));
-  more_is = sym (append-nil refusals);
-}
 
 -- an event that was refused, and not for want of memory, is listed
 pub was_listed : (before after : World) (event : Event) (n : ℕ) (why : WorldError) (refusals more : List Refusal)
@@ -121,15 +105,6 @@ one_more_run start now after all n event refusals more so_far within there onwar
           (events_push (take n all) (event ∷ []) start now after 0 n refusals onward.listed count so_far.are_events
           onward.are_events));
     }
-
-pub whole_run : (start now after : World) (all : List Event) (n : ℕ) (refusals : List Refusal)
-    → HaveRun start all n now refusals → take n all ≡ all → after ≡ record now { steps = length all }
-    → IsRun start all refusals after
-whole_run start now after all n refusals so_far whole kept = record {
-  reached = now;
-  are_events = subst (λ done. AreEvents 0 done start refusals now) whole so_far.are_events;
-  after_is = kept;
-}
 
 pub run_stops : (start now left after : World) (all : List Event) (n : ℕ) (event : Event) (why : WorldError)
     (refusals : List Refusal) → HaveRun start all n now refusals → n < length all → event ≡ get_or all n event

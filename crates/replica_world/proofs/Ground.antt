@@ -1,12 +1,10 @@
 -- Events keep the mask of a core, and which pixels are neighbours.
-use Rattle.std.proofs.Common.{◌≡◌, ◌∙◌, ℕ, true, false, ap, refl}
-use Rattle.std.specs.Prelude.{Some, None}
-use Rattle.tile_generations.specs.Jobs.{Swept}
+use Rattle.std.proofs.Common.{◌≡◌, ◌∙◌, ℕ, true, false, ap, refl, Some, None}
 use Rattle.core_rules.specs.declared.answers.Back.TheVariants.{Joined, Again, Stale, Stranger}
 use Rattle.core_rules.specs.declared.answers.Handed.TheVariants.{Raised, Same, Stale as Old, Nothing}
 use Rattle.core_rules.specs.Work.{Core}
-use Rattle.core_rules.specs.Events.{Event, Answer, Happens, Merge, Take, GiveBack, Abandon, Hand}
-use Rattle.core_rules.specs.Events.{OfMerge, OfTake, OfGiveBack, OfAbandon, OfHand}
+use Rattle.core_rules.specs.Events.{Event, Answer, Happens, Merge, Take, GiveBack, Abandon, Hand, OfMerge, OfTake}
+use Rattle.core_rules.specs.Events.{OfGiveBack, OfAbandon, OfHand}
 
 -- both cores have the same mask, and the same pixels are neighbours in both
 pub record HaveSameGround (before after : Core) : Type 0 where
@@ -21,36 +19,27 @@ same_but before after other same mask conn =
     let the_conn = ap (λ (c : Core). c.conn) same in
     record { mask = the_mask ∙ mask; conn = the_conn ∙ conn }
 
-give_back_on : (before after : Core) (swept : Swept) (answer : Answer)
-    → Happens before (GiveBack swept) answer after → HaveSameGround before after
-give_back_on before after swept (OfGiveBack Joined) (is_swept, (known, out, unchanged, joined)) =
-    same_but before after _ joined.rest refl refl
-give_back_on before after swept (OfGiveBack Again) (is_swept, (known, out, risen, joined)) =
-    same_but before after _ joined.rest refl refl
-give_back_on before after swept (OfGiveBack Stale) (is_swept, (known, not_out, same)) =
-    same_but before after _ same refl refl
-give_back_on before after swept (OfGiveBack Stranger) (is_swept, (why, same)) = same_but before after _ same refl refl
-give_back_on before after swept _ happens = absurd happens
-
-hand_on : (before after : Core) (t place : ℕ) (answer : Answer) → Happens before (Hand t place) answer after
-    → HaveSameGround before after
-hand_on before after t place (OfHand Nothing) (none, same) = same_but before after _ same refl refl
-hand_on before after t place (OfHand Old) (hint, there, old, same) = same_but before after _ same refl refl
-hand_on before after t place (OfHand Raised) (hint, there, present, above, same) =
-    same_but before after _ same refl refl
-hand_on before after t place (OfHand Same) (hint, there, present, enough, same) =
-    same_but before after _ same refl refl
-hand_on before after t place _ happens = absurd happens
-
 pub happens_on : (before after : Core) (event : Event) (answer : Answer) → Happens before event answer after
     → HaveSameGround before after
 happens_on before after (Merge delta) (OfMerge turnover) merged = same_but before after _ merged.rest refl refl
 happens_on before after (Take t) (OfTake (Some job)) (ready, next, same) = same_but before after _ same refl refl
 happens_on before after (Take t) (OfTake None) (unready, same) = same_but before after _ same refl refl
-happens_on before after (GiveBack swept) answer happens = give_back_on before after swept answer happens
+happens_on before after (GiveBack swept) (OfGiveBack Joined) (is_swept, (known, out, unchanged, joined)) =
+    same_but before after _ joined.rest refl refl
+happens_on before after (GiveBack swept) (OfGiveBack Again) (is_swept, (known, out, risen, joined)) =
+    same_but before after _ joined.rest refl refl
+happens_on before after (GiveBack swept) (OfGiveBack Stale) (is_swept, (known, not_out, same)) =
+    same_but before after _ same refl refl
+happens_on before after (GiveBack swept) (OfGiveBack Stranger) (is_swept, (why, same)) =
+    same_but before after _ same refl refl
 happens_on before after (Abandon ticket) (OfAbandon true) (out, same) = same_but before after _ same refl refl
 happens_on before after (Abandon ticket) (OfAbandon false) (not_out, same) = same_but before after _ same refl refl
-happens_on before after (Hand t place) answer happens = hand_on before after t place answer happens
+happens_on before after (Hand t place) (OfHand Nothing) (none, same) = same_but before after _ same refl refl
+happens_on before after (Hand t place) (OfHand Old) (hint, there, old, same) = same_but before after _ same refl refl
+happens_on before after (Hand t place) (OfHand Raised) (hint, there, present, above, same) =
+    same_but before after _ same refl refl
+happens_on before after (Hand t place) (OfHand Same) (hint, there, present, enough, same) =
+    same_but before after _ same refl refl
 happens_on before after _ _ happens = absurd happens
 
 -- another serial

@@ -1,15 +1,11 @@
 -- Hints that were there, or were not.
-use Rattle.std.proofs.Common.{◌≡◌, ◌<◌, ◌∙◌, ℕ, length, refl, sym, subst, ap, arith, inl, inr}
-use Rattle.std.specs.Prelude.{Option, Some, None}
-use Rattle.std.proofs.lemmas.Bool.{cases_lt}
-use Rattle.std.proofs.lemmas.List.{get_or_past}
+use Rattle.std.proofs.Common.{◌≡◌, ◌<◌, ℕ, length, refl, subst, ap, arith, inl, inr, Some, None}
+use Rattle.std.proofs.{lemmas.Bool.cases_lt, lemmas.List.get_or_past}
 use Rattle.std.proofs.lemmas.Option.{slice_get_within, slice_get_cases}
-use Rattle.border_queues.specs.declared.hint.Hint.{Hint}
-use Rattle.core_rules.specs.declared.answers.Handed.{Handed}
+use Rattle.border_queues.specs.{declared.hint.Hint.Hint, TileWork.TileWork, TileWork.idle}
+use Rattle.core_rules.specs.{declared.answers.Handed.Handed, Hints.IsHanded, Hints.hint_at}
 use Rattle.core_rules.specs.declared.answers.Handed.TheVariants.{Raised, Same, Stale, Nothing}
 use Rattle.core_rules.specs.Work.{Core, IsTile, work_at}
-use Rattle.border_queues.specs.TileWork.{TileWork, idle}
-use Rattle.core_rules.specs.Hints.{IsHanded, hint_at}
 
 -- a tile with a hint is one of the image
 is_tile : (core : Core) (t i : ℕ) → i < length (work_at core t).inbox → IsTile core t
@@ -34,21 +30,13 @@ hint_was_there before after t i Raised (hint, there, present, above, same) some 
 hint_was_there before after t i Same (hint, there, present, enough, same) some = hint_within before t i hint there
 hint_was_there before after t i Stale (hint, there, old, same) some = hint_within before t i hint there
 
--- what is there is not missing
-abbrev IsMissing : Option Hint → Type 0
-IsMissing None = Unit {0}
-IsMissing (Some hint) = ⊥
-
-none_or_some : (o : Option Hint) (hint : Hint) → o ≡ Some hint → o ≡ None → ⊥
-none_or_some o hint there none = subst IsMissing (sym none ∙ there) tt
-
 -- where nothing was handed over, there was no such hint
 pub no_hint_there : (before after : Core) (t i : ℕ) (handed : Handed) → IsHanded before t i handed after
     → handed ≡ Nothing → i < length (work_at before t).inbox → ⊥
 no_hint_there before after t i handed given nothing within =
     let none : hint_at before t i ≡ None = (subst (λ h. IsHanded before t i h after) nothing given).0 in
     elim (slice_get_cases (work_at before t).inbox i).1 [
-      | inl (hint, inside, there, is) ↦ none_or_some (hint_at before t i) hint there none
+      | inl (hint, inside, there, is) ↦ absurd (cc (there, none))
       | inr (past, missing) ↦ omega (arith, within, past)
     ]
 

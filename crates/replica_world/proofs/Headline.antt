@@ -1,19 +1,13 @@
 -- Replicas that took the same in content agree.
 use Rattle.std.proofs.Common.{◌≡◌, ◌∙◌, ◌↔◌, ℕ, sym, subst, ap}
-use Rattle.grid_core.specs.declared.conn.Conn.{Conn}
-use Rattle.grid_core.specs.declared.pixel.Pixel.{Pixel}
-use Rattle.grid_core.specs.Raster.{Raster, IsInside, value_at}
-use Rattle.grid_core.specs.Laws.{AtMostOneReconstruction}
-use Rattle.grid_core.specs.RasterLaws.{EqualPixelsEqualImages}
-use Rattle.grid_core.specs.Path.{Domain, domain_of}
-use Rattle.grid_core.specs.Reconstruction.{IsReconstruction}
+use Rattle.grid_core.specs.{declared.conn.Conn.Conn, declared.pixel.Pixel.Pixel, Raster.Raster, Raster.IsInside}
+use Rattle.grid_core.specs.{Raster.value_at, Laws.AtMostOneReconstruction, RasterLaws.EqualPixelsEqualImages}
+use Rattle.grid_core.specs.{Path.Domain, Path.domain_of, Reconstruction.IsReconstruction}
 use Rattle.stroke_core.specs.Seed.{Seed}
 use Rattle.stroke_lattice.specs.State.{State, HasStroke, HasTombstone}
-use Rattle.marker_tiles.specs.Marker.{IsMarker}
-use Rattle.marker_tiles.specs.Laws.{EveryStateHasAMarker}
+use Rattle.marker_tiles.specs.{Marker.IsMarker, Laws.EveryStateHasAMarker}
 use Rattle.core_rules.specs.Work.{IsQuiet}
-use Rattle.replica_world.specs.World.{Replica, World}
-use Rattle.replica_world.specs.Headline.{IsFaithful, HaveSameContent}
+use Rattle.replica_world.specs.{World.Replica, World.World, Headline.IsFaithful, Headline.HaveSameContent}
 
 -- states with the same contents are equal
 abbrev pub ContentsDecide : Type 0

@@ -4,7 +4,6 @@ pub mod Worlds
 pub mod Handing
 pub mod Headline
 pub mod Events
-pub mod Results
 pub mod Reading
 pub mod Sending
 pub mod Outcomes

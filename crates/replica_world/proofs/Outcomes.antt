@@ -1,20 +1,15 @@
 -- An event comes to pass, or is refused for one reason.
-use Rattle.std.proofs.Common.{◌≡◌, ◌∙◌, ℕ, List, refl, sym, subst, ap}
-use Rattle.std.specs.Prelude.{Option, Some, None}
+use Rattle.std.proofs.Common.{◌≡◌, ℕ, List, refl, subst, ap}
 use Rattle.std.proofs.lemmas.Option.{slice_get_within}
-use Rattle.stroke_lattice.specs.State.{State}
-use Rattle.stroke_lattice.specs.Pieces.{pieces_of}
-use Rattle.spd_codec.specs.declared.frame.Frame.{Frame}
-use Rattle.spd_codec.specs.Spelling.{Spells, max_bytes}
-use Rattle.core_rules.specs.declared.error.CoreError.{CoreError}
-use Rattle.core_rules.specs.Merge.{IsRefused}
+use Rattle.stroke_lattice.specs.{State.State, Pieces.pieces_of}
+use Rattle.spd_codec.specs.{declared.frame.Frame.Frame, Spelling.Spells, Spelling.max_bytes}
+use Rattle.core_rules.specs.{declared.error.CoreError.CoreError, Merge.IsRefused}
 use Rattle.core_rules.specs.Laws.{MergedIsAcceptable, RefusedIsNotAcceptable, OneRefusal}
-use Rattle.replica_world.specs.declared.error.WorldError.{WorldError}
-use Rattle.replica_world.specs.declared.error.WorldError.TheVariants as errors
-use Rattle.replica_world.specs.declared.event.Event.{Event}
-use Rattle.replica_world.specs.declared.event.Event.TheVariants as events
+use Rattle.replica_world.specs.{declared.error.WorldError.WorldError, declared.event.Event.Event}
 use Rattle.replica_world.specs.World.{World, core_at}
 use Rattle.replica_world.specs.Events.{IsNamed, Carries, IsDone, IsCoreRefusal, IsTurnedDown}
+use Rattle.replica_world.specs.declared.error.WorldError.TheVariants as errors
+use Rattle.replica_world.specs.declared.event.Event.TheVariants as events
 
 pub done_named : (before after : World) (event : Event) → IsDone before event after → IsNamed before event
 done_named before after (events.Edit r delta) (within, taken) = within
@@ -34,11 +29,7 @@ refusal_named : (world : World) (event : Event) (why : CoreError) → IsCoreRefu
 refusal_named world (events.Edit r delta) why (within, refused) = within
 refusal_named world (events.Deliver r k) why (within, (delta, (packet, there, spelled), refused)) =
     (within, slice_get_within world.packets k packet there)
-refusal_named world (events.Send r part) why refused = absurd refused
-refusal_named world (events.Take r t) why refused = absurd refused
-refusal_named world (events.Return r j) why refused = absurd refused
-refusal_named world (events.Abandon r j) why refused = absurd refused
-refusal_named world (events.Hand r t i) why refused = absurd refused
+refusal_named world _ why refused = absurd refused
 
 -- ---- what a packet carries
 
@@ -47,13 +38,9 @@ abbrev pub OneFrame : Type 0
 OneFrame =
     (bytes : List ℕ) (a b : Frame) → Spells bytes a.conn a.print a.delta → Spells bytes b.conn b.print b.delta → a ≡ b
 
-abbrev bytes_or : List ℕ → Option (List ℕ) → List ℕ
-bytes_or other None = other
-bytes_or other (Some bytes) = bytes
-
 one_delta : OneFrame → (world : World) (k : ℕ) (a b : State) → Carries world k a → Carries world k b → a ≡ b
 one_delta law world k a b (first, there, spells_a) (second, here, spells_b) =
-    let same : first ≡ second = ap (bytes_or first) (sym there ∙ here) in
+    let same : first ≡ second = cc in
     let from_a =
     subst (λ (bytes : List ℕ). Spells bytes world.conn world.print a) same spells_a in
     ap (λ (f : Frame). f.delta)
@@ -74,11 +61,7 @@ done_not_turned_down one merged unfit before after (events.Deliver r k) (errors.
     let equal = one_delta one before k other delta carried carries in
     unfit (core_at before r) delta why (subst (λ d. IsRefused (core_at before r) d why) equal refused)
     (merged (core_at before r) core delta turnover happens)
-done_not_turned_down one merged unfit before after (events.Send r part) (errors.Core why) done refused = refused
-done_not_turned_down one merged unfit before after (events.Take r t) (errors.Core why) done refused = refused
-done_not_turned_down one merged unfit before after (events.Return r j) (errors.Core why) done refused = refused
-done_not_turned_down one merged unfit before after (events.Abandon r j) (errors.Core why) done refused = refused
-done_not_turned_down one merged unfit before after (events.Hand r t i) (errors.Core why) done refused = refused
+done_not_turned_down one merged unfit before after _ (errors.Core why) done refused = refused
 
 one_core_refusal : OneFrame → OneRefusal → (world : World) (event : Event) (why other : CoreError)
     → IsCoreRefusal world event why → IsCoreRefusal world event other → why ≡ other
@@ -88,11 +71,7 @@ one_core_refusal one law world (events.Deliver r k) why other (within, (a, carri
     (here, (b, carried, again)) =
     let equal = one_delta one world k a b carries carried in
     law (core_at world r) b why other (subst (λ d. IsRefused (core_at world r) d why) equal refused) again
-one_core_refusal one law world (events.Send r part) why other refused again = absurd refused
-one_core_refusal one law world (events.Take r t) why other refused again = absurd refused
-one_core_refusal one law world (events.Return r j) why other refused again = absurd refused
-one_core_refusal one law world (events.Abandon r j) why other refused again = absurd refused
-one_core_refusal one law world (events.Hand r t i) why other refused again = absurd refused
+one_core_refusal one law world _ why other refused again = absurd refused
 
 pub one_reason : OneFrame → OneRefusal → (world : World) (event : Event) (why other : WorldError)
     → IsTurnedDown world event why → IsTurnedDown world event other → why ≡ other

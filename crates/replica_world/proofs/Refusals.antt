@@ -1,15 +1,11 @@
 -- What a core's refusal is to its replica, and to its world.
-use Rattle.std.proofs.Common.{◌≡◌, ◌⊎◌, ℕ, subst, sym, ap, inl, inr}
+use Rattle.std.proofs.Common.{◌≡◌, ◌⊎◌, ℕ, subst, ap, inl, inr}
 use Rattle.stroke_lattice.specs.State.{State}
-use Rattle.core_rules.specs.declared.error.CoreError.{CoreError}
+use Rattle.core_rules.specs.{declared.error.CoreError.CoreError, Work.Core, Merge.IsRefused, Merge.IsAcceptable}
+use Rattle.replica_world.specs.{World.World, World.IsReplica, World.core_at, Events.IsRefusal}
 use Rattle.core_rules.specs.declared.error.CoreError.TheVariants as errors
-use Rattle.core_rules.specs.Work.{Core}
-use Rattle.core_rules.specs.Merge.{IsRefused, IsAcceptable}
-use Rattle.std.specs.Prelude.{Result, Ok, Err, IfErr, IsErrAnd}
 use Rattle.replica_world.specs.declared.error.WorldError.TheVariants as world_errors
 use Rattle.replica_world.specs.declared.event.Event.TheVariants as events
-use Rattle.replica_world.specs.World.{World, IsReplica, core_at}
-use Rattle.replica_world.specs.Events.{IsRefusal}
 
 -- the same core refuses the delta, or memory ran out where it would take it
 pub not_taken : (core same : Core) (delta : State) (why : CoreError) → core ≡ same
@@ -17,12 +13,6 @@ pub not_taken : (core same : Core) (delta : State) (why : CoreError) → core �
     → IsRefused same delta why ⊎ ((why ≡ errors.Memory) × IsAcceptable same delta)
 not_taken core same delta why equal answer =
     subst (λ k. IsRefused k delta why ⊎ ((why ≡ errors.Memory) × IsAcceptable k delta)) equal answer
-
--- what a function returns where it fails with this error
-pub err_is : {T E : Type 0} (P : E → Type 0) (result : Result T E) (e : E) → IsErrAnd result (λ x. x ≡ e) → P e
-    → IfErr result P
-err_is P (Ok x) e is holds = tt
-err_is P (Err x) e is holds = subst P (sym is) holds
 
 -- an edit that the core refuses, or within which memory ran out
 pub edit_refused : (world after : World) (r : ℕ) (delta : State) (why : CoreError) → IsReplica world r

@@ -1,21 +1,13 @@
 -- What becomes of a world when one of its replicas becomes another.
 use Rattle.std.proofs.Common.{◌≡◌, ◌∙◌, ◌∷◌, ◌++◌, ◌<◌, ◌≤◌, [], ℕ, List, get_or, set, length, refl, sym, subst, ap}
-use Rattle.std.proofs.Common.{suc, zero}
-use Rattle.std.specs.Prelude.{All, Option}
-use Rattle.std.proofs.lemmas.List.{length-set, set-get_or}
-use Rattle.std.proofs.lemmas.List.Elements.{All-set}
-use Rattle.std.proofs.lemmas.Option.{slice_get_read, get_or_from_slice_get}
-use Rattle.grid_core.specs.declared.conn.Conn.{Conn}
-use Rattle.grid_core.specs.Raster.{Raster}
-use Rattle.stroke_lattice.specs.State.{State}
-use Rattle.stroke_lattice.specs.Change.{Turnover}
+use Rattle.std.proofs.Common.{suc, zero, All, Option}
+use Rattle.std.proofs.{lemmas.List.length-set, lemmas.List.set-get_or, lemmas.List.Elements.All-set}
+use Rattle.std.proofs.{lemmas.Option.slice_get_read, lemmas.Option.get_or_from_slice_get}
+use Rattle.grid_core.specs.{declared.conn.Conn.Conn, Raster.Raster}
+use Rattle.stroke_lattice.specs.{State.State, Change.Turnover}
 use Rattle.tile_generations.specs.Jobs.{Job, Swept}
-use Rattle.core_rules.specs.Work.{Core}
-use Rattle.core_rules.specs.Merge.{IsMerged}
-use Rattle.core_rules.specs.Sweeps.{IsTaken}
-use Rattle.core_rules.specs.Events.{Event as CoreEvent, Answer, Happens, Merge, Take}
-use Rattle.core_rules.specs.Events.{OfMerge, OfTake}
-use Rattle.core_rules.specs.Schedule.{IsAdded}
+use Rattle.core_rules.specs.{Work.Core, Merge.IsMerged, Sweeps.IsTaken, Schedule.IsAdded}
+use Rattle.core_rules.specs.Events.{Event as CoreEvent, Answer, Happens, Merge, Take, OfMerge, OfTake}
 use Rattle.replica_world.specs.World.{Replica, World, nobody, core_at, with_replica, with_core}
 use Rattle.replica_world.specs.Events.{IsTakenIn, MovesCore, IsTakenAndSwept}
 use Rattle.replica_world.specs.Stored.{IsStored, IsOn, mask_of, world_of}
@@ -33,8 +25,8 @@ mask_of_set [] r new same = refl
 mask_of_set (first ∷ rs) zero new same = same
 mask_of_set (first ∷ rs) (suc r) new same = refl
 
-module _ (conn : Conn) (print : List ℕ) (rs : List Replica) (ps : List (List ℕ)) (r : ℕ) (old : Replica)
-    (within : r < length rs) (read : old ≡ get_or rs r old) (stored : IsStored conn print rs ps) where
+module _ {conn : Conn} {print : List ℕ} {rs : List Replica} {ps : List (List ℕ)} {old : Replica} (r : ℕ)
+    (stored : IsStored conn print rs ps) (within : r < length rs) (read : old ≡ get_or rs r old) where
   -- the replica of this number
   pub is_old : get_or rs r nobody ≡ old
   is_old = read_at rs r old nobody within read

@@ -1,24 +1,18 @@
 -- What each event does to a world, and why one is refused.
 use Rattle.std.specs.Prelude.{◌≡◌, ℕ, ◌<◌, ◌⊎◌, List, [], ◌∷◌, ◌++◌, length, Option, Some, slice_get}
-use Rattle.stroke_lattice.specs.State.{State}
-use Rattle.stroke_lattice.specs.Change.{Turnover}
-use Rattle.stroke_lattice.specs.Pieces.{pieces_of}
+use Rattle.stroke_lattice.specs.{State.State, Change.Turnover, Pieces.pieces_of}
 use Rattle.spd_codec.specs.declared.version.Version.TheVariants.{Second}
 use Rattle.spd_codec.specs.Spelling.{frame_text, Spells, max_bytes}
 use Rattle.tile_generations.specs.Jobs.{Job, Swept}
-use Rattle.core_rules.specs.declared.error.CoreError.{CoreError}
-use Rattle.core_rules.specs.declared.error.CoreError.TheVariants as core_errors
-use Rattle.core_rules.specs.Work.{Core, IsTile, work_at}
-use Rattle.core_rules.specs.Merge.{IsRefused, IsAcceptable}
-use Rattle.core_rules.specs.Sweeps.{IsReady, IsTaken}
-use Rattle.core_rules.specs.Events.{Event as CoreEvent, Answer, Happens, Merge, Take, GiveBack, Abandon, Hand}
-use Rattle.core_rules.specs.Events.{OfMerge, OfTake}
-use Rattle.core_rules.specs.Schedule.{IsAdded}
-use Rattle.replica_world.specs.declared.error.WorldError.{WorldError}
-use Rattle.replica_world.specs.declared.error.WorldError.TheVariants as errors
-use Rattle.replica_world.specs.declared.event.Event.{Event}
-use Rattle.replica_world.specs.declared.event.Event.TheVariants as events
+use Rattle.core_rules.specs.{declared.error.CoreError.CoreError, Work.Core, Work.IsTile, Work.work_at, Merge.IsRefused}
+use Rattle.core_rules.specs.{Merge.IsAcceptable, Sweeps.IsReady, Sweeps.IsTaken, Schedule.IsAdded}
+use Rattle.core_rules.specs.Events.{Event as CoreEvent, Answer, Happens, Merge, Take, GiveBack, Abandon, Hand, OfMerge}
+use Rattle.core_rules.specs.Events.{OfTake}
+use Rattle.replica_world.specs.{declared.error.WorldError.WorldError, declared.event.Event.Event}
 use Rattle.replica_world.specs.World.{World, IsReplica, core_at, with_core, with_taken}
+use Rattle.core_rules.specs.declared.error.CoreError.TheVariants as core_errors
+use Rattle.replica_world.specs.declared.error.WorldError.TheVariants as errors
+use Rattle.replica_world.specs.declared.event.Event.TheVariants as events
 
 -- ---- what an event names
 

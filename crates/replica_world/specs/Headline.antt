@@ -3,8 +3,7 @@ use Rattle.std.specs.Prelude.{◌≡◌, ℕ, ◌↔◌, List}
 use Rattle.grid_core.specs.Raster.{IsSized, IsBelow}
 use Rattle.stroke_core.specs.Seed.{Seed}
 use Rattle.stroke_lattice.specs.State.{State, SomeHasStroke, SomeHasTombstone, IsJoinOf}
-use Rattle.core_rules.specs.Work.{IsQuiet}
-use Rattle.core_rules.specs.Invariant.{HasLawfulImage, HasReconstruction}
+use Rattle.core_rules.specs.{Work.IsQuiet, Invariant.HasLawfulImage, Invariant.HasReconstruction}
 use Rattle.replica_world.specs.World.{Replica, World}
 
 -- a replica of this world shows what it took: its strokes are the join of the deltas that it took; its image lies

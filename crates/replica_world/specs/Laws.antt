@@ -1,8 +1,6 @@
 -- The laws of events, as statements. Public functions have them as their contracts.
 use Rattle.std.specs.Prelude.{◌≡◌}
-use Rattle.replica_world.specs.declared.error.WorldError.{WorldError}
-use Rattle.replica_world.specs.declared.event.Event.{Event}
-use Rattle.replica_world.specs.World.{World}
+use Rattle.replica_world.specs.{declared.error.WorldError.WorldError, declared.event.Event.Event, World.World}
 use Rattle.replica_world.specs.Events.{IsNamed, IsDone, IsTurnedDown}
 
 -- each number of an event that comes to pass names something

@@ -1,7 +1,6 @@
 -- A world as it is opened.
 use Rattle.std.specs.Prelude.{ℕ, List, [], replicate}
-use Rattle.grid_core.specs.declared.conn.Conn.{Conn}
-use Rattle.grid_core.specs.Raster.{Raster}
+use Rattle.grid_core.specs.{declared.conn.Conn.Conn, Raster.Raster}
 use Rattle.core_rules.specs.Opening.{opened}
 use Rattle.replica_world.specs.World.{Replica, World}
 

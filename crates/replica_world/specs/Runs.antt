@@ -1,11 +1,9 @@
 -- Lists of events, one after another.
 use Rattle.std.specs.Prelude.{◌≡◌, ℕ, ◌+◌, ◌≤◌, ◌⊎◌, List, [], ◌∷◌, ◌++◌, length}
-use Rattle.core_rules.specs.declared.error.CoreError.TheVariants as core_errors
-use Rattle.replica_world.specs.declared.error.WorldError.{WorldError}
-use Rattle.replica_world.specs.declared.error.WorldError.TheVariants as errors
-use Rattle.replica_world.specs.declared.event.Event.{Event}
-use Rattle.replica_world.specs.World.{World}
+use Rattle.replica_world.specs.{declared.error.WorldError.WorldError, declared.event.Event.Event, World.World}
 use Rattle.replica_world.specs.Events.{IsDone, IsTurnedDown, IsCutOff}
+use Rattle.core_rules.specs.declared.error.CoreError.TheVariants as core_errors
+use Rattle.replica_world.specs.declared.error.WorldError.TheVariants as errors
 
 -- a refusal: the number of the event in its list, counted from 0, and the reason
 abbrev pub Refusal : Type 0

@@ -2,15 +2,11 @@
 -- world's looks hand it out.
 use Rattle.std.specs.Prelude.{◌≡◌, ℕ, ◌≤◌, List, [], ◌∷◌, length, All, refl}
 use Rattle.std.specs.Coded.{Coded, code_by, coded×, coded_ℕ, coded_list}
-use Rattle.grid_core.specs.declared.conn.Conn.{Conn}
-use Rattle.grid_core.specs.Raster.{Raster}
-use Rattle.grid_core.specs.Stored.{raster_code, conn_code}
+use Rattle.grid_core.specs.{declared.conn.Conn.Conn, Raster.Raster, Stored.raster_code, Stored.conn_code}
 use Rattle.stroke_core.specs.Seed.{Seed}
-use Rattle.stroke_lattice.specs.State.{State}
-use Rattle.stroke_lattice.specs.Stored.{state_code}
+use Rattle.stroke_lattice.specs.{State.State, Stored.state_code}
 use Rattle.tile_generations.specs.Jobs.{Swept}
-use Rattle.core_rules.specs.Work.{Core}
-use Rattle.core_rules.specs.Stored.{core_code}
+use Rattle.core_rules.specs.{Work.Core, Stored.core_code}
 use Rattle.spd_codec.specs.Spelling.{Spells}
 use Rattle.replica_world.specs.World.{Replica, World, no_pixels}
 

@@ -1,13 +1,10 @@
 -- A world of replicas as plain data: the replicas, the packets that were sent, and the results of the jobs that were
 -- taken.
 use Rattle.std.specs.Prelude.{ℕ, ◌<◌, ◌++◌, List, [], ◌∷◌, length, slice_index_or, slice_set}
-use Rattle.grid_core.specs.declared.conn.Conn.{Conn}
-use Rattle.grid_core.specs.declared.conn.Conn.TheVariants.{Four}
-use Rattle.grid_core.specs.Raster.{Raster}
+use Rattle.grid_core.specs.{declared.conn.Conn.Conn, declared.conn.Conn.TheVariants.Four, Raster.Raster}
 use Rattle.stroke_lattice.specs.State.{State}
 use Rattle.tile_generations.specs.Jobs.{Swept}
-use Rattle.core_rules.specs.Work.{Core}
-use Rattle.core_rules.specs.Opening.{opened}
+use Rattle.core_rules.specs.{Work.Core, Opening.opened}
 
 -- a replica: its core, and the deltas that it took, one after another
 pub record Replica : Type 0 where

@@ -28,6 +28,7 @@ pub fn equal_images_where_quiet()
 }
 
 /// Each number of an event that comes to pass names something.
+#[tactic(auto, using(crate::proofs::Outcomes::done_named))]
 pub fn done_is_named()
     ensures { DoneIsNamed }
 {}

@@ -1,7 +1,6 @@
 //! One replica: a core, and what it took.
 
-ghost use Rattle.std.specs.Prelude.{◌≡◌, ◌<◌, [], ◌∷◌, ◌++◌, IfOk, IfErr, OnOk, OnErr};
-ghost use Rattle.std.specs.Prelude.{vec_len, vec_capacity};
+ghost use Rattle.std.specs.Prelude.{◌≡◌, ◌<◌, [], ◌∷◌, ◌++◌, IfOk, IfErr, OnOk, OnErr, vec_len, vec_capacity};
 ghost use Rattle.stroke_lattice.specs.Change.{Turnover};
 ghost use Rattle.stroke_lattice.specs.State.{IsJoinOf};
 ghost use Rattle.tile_generations.specs.Jobs.{Swept as Result, IsSwept};

@@ -1,47 +1,33 @@
 -- Bounds outside which nothing open begins stay so where they follow each change of the image.
-use Rattle.std.proofs.Common.{◌≡◌, ℕ, ◌<◌, ◌≤◌, ◌⊎◌, false, true, Bool, List, [], length, replicate, set, arith}
-use Rattle.std.proofs.Common.{inl, inr}
-use Rattle.std.proofs.Common.{refl, subst, sym, ◌∙◌}
-use Rattle.std.specs.Prelude.{◌≢◌, Contains}
+use Rattle.std.proofs.Common.{◌≡◌, ℕ, ◌<◌, ◌≤◌, ◌⊎◌, false, true, Bool, List, [], length, replicate, set, arith, inl}
+use Rattle.std.proofs.Common.{inr, refl, subst, sym, ◌∙◌, ◌≢◌, Contains}
 use Rattle.std.proofs.lemmas.Bool.{cases_eq, cases_lt, false≢true}
 use Rattle.std.proofs.lemmas.List.{get_or-replicate, get_or-set_same, get_or-set_other, length-set, length-replicate}
-use Rattle.grid_core.specs.declared.bounds.Bounds.{Bounds}
-use Rattle.grid_core.specs.declared.conn.Conn.{Conn}
-use Rattle.grid_core.specs.declared.pixel.Pixel.{Pixel}
-use Rattle.grid_core.specs.declared.rect.Rect.{Rect}
+use Rattle.grid_core.specs.{declared.bounds.Bounds.Bounds, declared.conn.Conn.Conn, declared.pixel.Pixel.Pixel}
+use Rattle.grid_core.specs.{declared.rect.Rect.Rect, Rects.IsInRect, Rects.in_image, Path.Inside}
 use Rattle.grid_core.specs.Bounds.{IsInBounds, LieIn, bounds_at, bounds_of, joined, no_bounds}
 use Rattle.grid_core.specs.Raster.{Raster, IsFilled, IsInside, index_of, value_at, with_value}
-use Rattle.grid_core.specs.Rects.{IsInRect, in_image}
 use Rattle.grid_core.specs.Tiles.{Tiles, IsTiled, count_of, rect_of, tile_of}
-use Rattle.grid_core.proofs.Cells.{index_of-within, set_is_read, set_keeps_others}
-use Rattle.grid_core.proofs.Pixels.{same_pixel_or_not}
-use Rattle.grid_core.proofs.Tilings.{each_pixel_in_one_tile, tile_pixels, tiles_lie_inside}
-use Rattle.grid_core.specs.Path.{Inside}
+use Rattle.grid_core.proofs.{Cells.index_of-within, Cells.set_is_read, Cells.set_keeps_others, Pixels.same_pixel_or_not}
+use Rattle.grid_core.proofs.{Tilings.each_pixel_in_one_tile, Tilings.tile_pixels, Tilings.tiles_lie_inside}
 use Rattle.tile_work.proofs.OpenBoundsWidened.{widened_by_none, widened_twice}
-use Rattle.tile_resets.specs.Renewing.{AreMarkedReset, AreResetsWithin, AreRisesWithin, IsLowBeyond}
-use Rattle.tile_resets.specs.Renewing.{IsRaisedByTags}
+use Rattle.tile_work.specs.Renewing.{AreMarkedReset, AreResetsWithin, AreRisesWithin, IsLowBeyond, IsRaisedByTags}
 use Rattle.tile_work.specs.TileSet.{Has}
 use Rattle.tile_work.specs.OpenBounds.{AreWidened, IsWithinItsBounds, LieInTiles, bounds_for}
-use Rattle.reset_core.specs.Bounding.{FollowChange}
-use Rattle.border_queues.specs.OpenEdges.{EdgesBeginIn, sender_by}
+use Rattle.reset_core.specs.Bounding.{FollowChange, AreBounded}
+use Rattle.border_queues.specs.{OpenEdges.EdgesBeginIn, OpenEdges.sender_by, TileWork.TileWork, TileWork.work_of}
 use Rattle.raster_sweeps.specs.OpenBounds.{OpenPairsBeginIn, RiseWithin}
 use Rattle.core_rules.proofs.Supporting.{neighbours_in_image}
-use Rattle.core_rules.specs.Sweeps.{tile_rect}
+use Rattle.core_rules.specs.{Sweeps.tile_rect, Opening.blank, Invariant.IsSound, Runs.HasHints, Runs.NoneOut}
 use Rattle.core_rules.specs.Image.{IsJoinedWith, IsOfSize, IsOpen}
-use Rattle.core_rules.specs.Opening.{blank}
-use Rattle.stroke_lattice.specs.State.{State}
 use Rattle.core_rules.specs.Work.{Core, domain, tiling, mask_at, image_at, IsTile}
-use Rattle.core_rules.specs.Invariant.{IsSound}
-use Rattle.core_rules.specs.Runs.{HasHints, NoneOut}
-use Rattle.border_queues.specs.TileWork.{TileWork, work_of}
-use Rattle.reset_core.specs.Bounding.{AreBounded}
+use Rattle.stroke_lattice.specs.State.{State}
 
 -- ---- the table
 
 -- one tile's bounds are widened
 pub widened_at : (tiles : Tiles) (table : List Bounds) (t : ℕ) (bounds : Bounds) → t < length table
-    → LieIn bounds (rect_of tiles t)
-    → AreWidened tiles table (set table t (joined (bounds_for table t) bounds))
+    → LieIn bounds (rect_of tiles t) → AreWidened tiles table (set table t (joined (bounds_for table t) bounds))
 widened_at tiles table t bounds within lies =
     let new : List Bounds = set table t (joined (bounds_for table t) bounds) in
     let here : bounds_for new t ≡ joined (bounds_for table t) bounds =
@@ -51,30 +37,19 @@ widened_at tiles table t bounds within lies =
       kept = λ u p within_u there. elim (cases_eq u t) [
         | inl same ↦
             let was : IsInBounds (bounds_for table t) p = subst (λ n. IsInBounds (bounds_for table n) p) same there in
-            subst (λ n. IsInBounds (bounds_for new n) p) (sym same) (subst (λ b. IsInBounds b p) (sym here) (
-              omega (arith, was.0),
-              omega (arith, was.1),
-              omega (arith, was.2),
-              omega (arith, was.3),
-            ))
-        | inr other ↦
-            subst (λ b. IsInBounds b p)
-            (sym (get_or-set_other table t u (joined (bounds_for table t) bounds) no_bounds other)) there
+            rw (same, here) (omega (arith, was.0), omega (arith, was.1), omega (arith, was.2), omega (arith, was.3))
+        | inr other ↦ rw (get_or-set_other table t u (joined (bounds_for table t) bounds) no_bounds other) there
       ];
       lie = λ u within_u lay. elim (cases_eq u t) [
         | inl same ↦
-            let was : LieIn (bounds_for table t) (rect_of tiles t) =
-            subst (λ n. LieIn (bounds_for table n) (rect_of tiles n)) same lay in
-            subst (λ n. LieIn (bounds_for new n) (rect_of tiles n)) (sym same)
-            (subst (λ b. LieIn b (rect_of tiles t)) (sym here) (
+            let was : LieIn (bounds_for table t) (rect_of tiles t) = rw same at lay in
+            rw (same, here) (
               omega (arith, was.0, lies.0),
               omega (arith, was.1, lies.1),
               omega (arith, was.2, lies.2),
               omega (arith, was.3, lies.3),
-            ))
-        | inr other ↦
-            subst (λ b. LieIn b (rect_of tiles u))
-            (sym (get_or-set_other table t u (joined (bounds_for table t) bounds) no_bounds other)) lay
+            )
+        | inr other ↦ rw (get_or-set_other table t u (joined (bounds_for table t) bounds) no_bounds other) lay
       ];
     }
 
@@ -91,14 +66,12 @@ follow_same tiles conn image table = record {
 
 -- one change comes after another
 pub follow_twice : (tiles : Tiles) (conn : Conn) (a b c : Raster) (old middle new : List Bounds) → IsTiled tiles
-    → length old ≡ count_of tiles
-    → FollowChange tiles conn a b old middle → FollowChange tiles conn b c middle new
+    → length old ≡ count_of tiles → FollowChange tiles conn a b old middle → FollowChange tiles conn b c middle new
     → FollowChange tiles conn a c old new
 follow_twice tiles conn a b c old middle new tiled count first second =
     let keeps : (p : Pixel) → IsInside tiles.width tiles.height p → IsWithinItsBounds tiles middle p
     → IsWithinItsBounds tiles new p =
-    λ p inside there.
-    second.widened.kept (tile_of tiles p) p
+    λ p inside there. second.widened.kept (tile_of tiles p) p
     (omega (arith, (each_pixel_in_one_tile tiles p tiled inside).0, count, first.widened.count)) there in
     record {
       widened = widened_twice tiles old middle new first.widened second.widened;
@@ -177,8 +150,7 @@ none_bounded core count tiled same black =
 module _ (tiles : Tiles) (conn : Conn) (image : Raster) (table : List Bounds) (q : Pixel) (value t : ℕ)
     (tiled : IsTiled tiles) (count : length table ≡ count_of tiles) (filled : IsFilled image)
     (width : image.width ≡ tiles.width) (height : image.height ≡ tiles.height)
-    (inside : IsInside tiles.width tiles.height q) (home : tile_of tiles q ≡ t)
-    (rose : value_at image q < value) where
+    (inside : IsInside tiles.width tiles.height q) (home : tile_of tiles q ≡ t) (rose : value_at image q < value) where
   inside_image : (p : Pixel) → IsInside tiles.width tiles.height p → IsInside image.width image.height p
   inside_image p there = (omega (arith, there.0, width), omega (arith, there.1, height))
 
@@ -218,18 +190,14 @@ module _ (tiles : Tiles) (conn : Conn) (image : Raster) (table : List Bounds) (q
         widened = widened_at tiles table t at within at_lies;
         risen = λ p there more. elim (only_rise p there) [
           | inl same ↦
-              subst (λ r. IsWithinItsBounds tiles new r) (sym same)
-              (subst (λ n. IsInBounds (bounds_for new n) q) (sym home)
-              (subst (λ b. IsInBounds b q) (sym here)
-              (omega arith, omega (arith, inside.0), omega arith, omega (arith, inside.1))))
+              rw (same, home, here) (omega arith, omega (arith, inside.0), omega arith, omega (arith, inside.1))
           | inr stays ↦ absurd (omega (arith, more, stays))
         ];
         fallen = λ p r there there_r near fell. elim (only_rise r there_r) [
           | inl same ↦
               let now : value_at (with_value image q value) q ≡ value =
               set_is_read image q value filled (inside_image q inside) in
-              let less : value_at (with_value image q value) q < value_at image q =
-              subst (λ n. value_at (with_value image q value) n < value_at image n) same fell in
+              let less : value_at (with_value image q value) q < value_at image q = rw same at fell in
               absurd (omega (arith, less, now, rose))
           | inr stays ↦ absurd (omega (arith, fell, stays))
         ];
@@ -268,12 +236,9 @@ pub low_after_resets : (tiles : Tiles) (marks : List Bool) (s : State) (tags : L
     → length work ≡ count_of tiles → AreMarkedReset tiles marks marker old new work after
     → IsLowBeyond s tags marker old → IsLowBeyond s tags marker new
 low_after_resets tiles marks s tags marker old new work after tiled width height count reset low p inside out =
-    let columns = reset.size.width in
-    let rows = reset.size.height in
-    let was : IsInside old.width old.height p = (omega (arith, inside.0, columns), omega (arith, inside.1, rows)) in
+    let was : IsInside old.width old.height p = omega (arith, reset.size.width, reset.size.height) in
     let within : IsInside tiles.width tiles.height p = (omega (arith, was.0, width), omega (arith, was.1, height)) in
-    elim (reset.each (tile_of tiles p)
-    (omega (arith, (each_pixel_in_one_tile tiles p tiled within).0, count))) [
+    elim (reset.each (tile_of tiles p) (omega (arith, (each_pixel_in_one_tile tiles p tiled within).0, count))) [
       | inl marked ↦ omega (arith, marked.1.image p (record { inside = within; tile = refl }))
       | inr kept ↦
           let same = kept.1.values p (record { inside = within; tile = refl }) in
@@ -282,8 +247,7 @@ low_after_resets tiles marks s tags marker old new work after tiled width height
 
 -- where strokes are born the image falls nowhere
 pub births_rise : (tiles : Tiles) (tags : List ℕ) (state : State) (marker old new : Raster) (work after : List TileWork)
-    → old.width ≡ tiles.width → old.height ≡ tiles.height
-    → IsRaisedByTags tiles tags state marker old new work after
+    → old.width ≡ tiles.width → old.height ≡ tiles.height → IsRaisedByTags tiles tags state marker old new work after
     → (p : Pixel) → IsInside tiles.width tiles.height p → value_at old p ≤ value_at new p
 births_rise tiles tags state marker old new work after width height raised p inside =
     elim (cases_lt (value_at new p) (value_at old p)) [
@@ -329,31 +293,24 @@ follow_tile tiles conn old new table t tiled count within lay rises beyond =
         kept = λ u p within_u was. elim (cases_eq u t) [
           | inl same ↦
               let lies : LieIn (bounds_for table t) rect = lay t there in
-              let inside : IsInBounds (bounds_for table t) p =
-              subst (λ n. IsInBounds (bounds_for table n) p) same was in
+              let inside : IsInBounds (bounds_for table t) p = rw same at was in
               subst (λ n. IsInBounds (bounds_for after n) p) (sym same) (subst (λ b. IsInBounds b p) (sym here) (
                 omega (arith, inside.0, lies.0),
                 omega (arith, inside.1, lies.1),
                 omega (arith, inside.2, lies.2),
                 omega (arith, inside.3, lies.3),
               ))
-          | inr other ↦
-              subst (λ b. IsInBounds b p) (sym (get_or-set_other table t u (bounds_of rect) no_bounds other)) was
+          | inr other ↦ rw (get_or-set_other table t u (bounds_of rect) no_bounds other) was
         ];
         lie = λ u within_u was. elim (cases_eq u t) [
-          | inl same ↦
-              subst (λ n. LieIn (bounds_for after n) (rect_of tiles n)) (sym same)
-              (subst (λ b. LieIn b rect) (sym here) (omega arith, omega arith, omega arith, omega arith))
-          | inr other ↦
-              subst (λ b. LieIn b (rect_of tiles u)) (sym (get_or-set_other table t u (bounds_of rect) no_bounds other))
-              was
+          | inl same ↦ rw (same, here) (omega arith, omega arith, omega arith, omega arith)
+          | inr other ↦ rw (get_or-set_other table t u (bounds_of rect) no_bounds other) was
         ];
       };
       risen = λ p inside rose. elim (cases_eq (tile_of tiles p) t) [
         | inl same ↦
             let found : IsInRect rect p = ((each_pixel_in_one_tile tiles p tiled inside).1 t within).1 same in
-            subst (λ n. IsInBounds (bounds_for after n) p) (sym same)
-            (subst (λ b. IsInBounds b p) (sym here) (found.0, found.1, found.2, found.3))
+            rw (same, here) (found.0, found.1, found.2, found.3)
         | inr other ↦ absurd (omega (arith, rose, beyond p inside other))
       ];
       fallen = λ p q inside_p inside_q near fell. absurd (omega (arith, fell, rises q inside_q));
@@ -367,17 +324,14 @@ pub follow_join : (tiles : Tiles) (conn : Conn) (old new : Raster) (table : List
 follow_join tiles conn old new table t piece tiled count within lay width height joined =
     let beyond : (p : Pixel) → IsInside tiles.width tiles.height p → tile_of tiles p ≢ t
     → value_at new p ≡ value_at old p =
-    λ p inside other.
-    joined.beyond p (omega (arith, inside.0, width), omega (arith, inside.1, height))
+    λ p inside other. joined.beyond p (omega (arith, inside.0, width), omega (arith, inside.1, height))
     (λ found. other (((each_pixel_in_one_tile tiles p tiled inside).1 t within).0 found)) in
-    follow_tile tiles conn old new table t tiled count within lay
-    (λ p inside. elim (cases_eq (tile_of tiles p) t) [
+    follow_tile tiles conn old new table t tiled count within lay (λ p inside. elim (cases_eq (tile_of tiles p) t) [
       | inl same ↦
           let r = (tile_pixels tiles t p tiled within).0 (inside, same) in
           subst (λ q. value_at old q ≤ value_at new q) r.2 (omega (arith, joined.within r.0 r.1))
       | inr other ↦ omega (arith, beyond p inside other)
-    ])
-    beyond
+    ]) beyond
 
 -- ---- a tile that is swept in place
 
@@ -389,8 +343,7 @@ begins_in_tile core table t tiled bounded within p q wide =
     let rect : Rect = tile_rect core t in
     let from = (tile_pixels (tiling core) t (in_image rect p) tiled within).1 (p, wide.from_inside, refl) in
     let to = (tile_pixels (tiling core) t (in_image rect q) tiled within).1 (q, wide.to_inside, refl) in
-    subst (λ n. IsInBounds (bounds_for table n) (in_image rect p)) from.1
-    (bounded.begin (in_image rect p) (in_image rect q) (record {
+    rw from.1 at (bounded.begin (in_image rect p) (in_image rect q) (record {
       from_inside = from.0;
       to_inside = to.0;
       beside = neighbours_in_image core.conn rect p q wide.beside;
@@ -411,12 +364,9 @@ edges_begin core table t generation grown area tiled size bounded within beyond 
       | inr changed ↦ rise p in_rect (inr changed)
       | inl stays ↦
           let other : value_at grown q ≡ image_at core q =
-          beyond q
-          (omega (arith, edge.to_inside.0, size.width), omega (arith, edge.to_inside.1, size.height))
-          (λ found.
+          beyond q (omega (arith, edge.to_inside.0, size.width), omega (arith, edge.to_inside.1, size.height)) (λ found.
           edge.to_other (((each_pixel_in_one_tile (tiling core) q tiled edge.to_inside).1 t within).0 found)) in
-          rise p in_rect (inl (subst (λ n. IsInBounds (bounds_for table n) p) edge.from_tile
-          (bounded.begin p q (record {
+          rise p in_rect (inl (rw edge.from_tile at (bounded.begin p q (record {
             from_inside = edge.from_inside;
             to_inside = edge.to_inside;
             beside = edge.beside;
@@ -425,8 +375,7 @@ edges_begin core table t generation grown area tiled size bounded within beyond 
     ]
 
 module _ (before : Core) (t : ℕ) (grown image : Raster) (rows : List TileWork) (serial : ℕ) (table told : List Bounds)
-    (sound : IsSound before)
-    (done : IsSound (record before { image = image; tiles = rows; serial = serial }))
+    (sound : IsSound before) (done : IsSound (record before { image = image; tiles = rows; serial = serial }))
     (bounded : AreBounded before table) (within : t < count_of (tiling before))
     (beyond : (p : Pixel) → IsInside before.image.width before.image.height p
     → (IsInRect (rect_of (tiling before) t) p → ⊥) → value_at grown p ≡ image_at before p)
@@ -452,8 +401,7 @@ module _ (before : Core) (t : ℕ) (grown image : Raster) (rows : List TileWork)
       → tile_of (tiling before) p ≡ t → ⊥
   none_begins p q wide home =
       elim (done.work p q wide) [
-        | inl dirty ↦
-            false≢true (sym clean ∙ subst (λ n. (work_of rows n).dirty ≡ true) home dirty)
+        | inl dirty ↦ false≢true (sym clean ∙ subst (λ n. (work_of rows n).dirty ≡ true) home dirty)
         | inr rest ↦ elim rest [
           | inl out ↦ out (none_out (tile_of (tiling before) p) (is_tile p wide.from_inside))
           | inr hint ↦
@@ -478,8 +426,7 @@ module _ (before : Core) (t : ℕ) (grown image : Raster) (rows : List TileWork)
           | inr high ↦
               let shape = sound.shape.image in
               let own : value_at grown p ≡ image_at before p =
-              beyond p
-              (omega (arith, wide.from_inside.0, shape.width), omega (arith, wide.from_inside.1, shape.height))
+              beyond p (omega (arith, wide.from_inside.0, shape.width), omega (arith, wide.from_inside.1, shape.height))
               (λ found.
               away (((each_pixel_in_one_tile (tiling before) p tiled wide.from_inside).1 t within).0 found)) in
               let was : IsWithinItsBounds (tiling before) table p =
@@ -504,13 +451,10 @@ module _ (before : Core) (t : ℕ) (grown image : Raster) (rows : List TileWork)
         let was : u < length (set table t no_bounds) = omega (arith, there, follow.widened.count) in
         follow.widened.lie u was (elim (cases_eq u t) [
           | inl same ↦
-              subst (λ n. LieIn (bounds_for (set table t no_bounds) n) (rect_of (tiling before) n)) (sym same)
-              (subst (λ b. LieIn b (rect_of (tiling before) t))
-              (sym (get_or-set_same table t no_bounds no_bounds (omega (arith, within, bounded.count))))
-              (none_lie (tiling before) t tiled within))
+              rw (same, get_or-set_same table t no_bounds no_bounds (omega (arith, within, bounded.count)))
+              (none_lie (tiling before) t tiled within)
           | inr other ↦
-              subst (λ b. LieIn b (rect_of (tiling before) u))
-              (sym (get_or-set_other table t u no_bounds no_bounds other))
+              rw (get_or-set_other table t u no_bounds no_bounds other)
               (bounded.lie u (omega (arith, was, length-set table t no_bounds)))
         ]);
     begin = λ p q wide. elim (cases_eq (tile_of (tiling before) p) t) [

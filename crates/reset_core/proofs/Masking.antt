@@ -1,14 +1,9 @@
 -- The masks that jobs share.
 use Rattle.std.proofs.Common.{◌≡◌, ℕ, ◌+◌, Some, None, slice_index_or, sym, ◌∙◌, ap, subst, arith}
-use Rattle.grid_core.specs.declared.pixel.Pixel.{Pixel}
-use Rattle.grid_core.specs.declared.rect.Rect.{Rect}
-use Rattle.grid_core.specs.Raster.{Raster, value_at}
-use Rattle.grid_core.specs.Rects.{IsPart, RectFits, in_image}
-use Rattle.grid_core.specs.Tiles.{Tiles, rect_of}
-use Rattle.core_rules.specs.Sweeps.{tile_rect}
-use Rattle.core_rules.specs.Work.{Core}
-use Rattle.reset_core.specs.declared.replica.Core.TheInside.{Inside as Parts}
-use Rattle.reset_core.specs.Replica.{core_of, IsStored}
+use Rattle.grid_core.specs.{declared.pixel.Pixel.Pixel, declared.rect.Rect.Rect, Raster.Raster, Raster.value_at}
+use Rattle.grid_core.specs.{Rects.IsPart, Rects.RectFits, Rects.in_image, Tiles.Tiles, Tiles.rect_of}
+use Rattle.core_rules.specs.{Sweeps.tile_rect, Work.Core}
+use Rattle.reset_core.specs.{declared.replica.Core.TheInside.Inside as Parts, Replica.core_of, Replica.IsStored}
 use Rattle.reset_core.proofs.Storing.{same_tiling}
 
 -- a mask that was cut out is that of its tile

@@ -1,65 +1,44 @@
 -- A merge, one step after the other: from what each call did follows what the merge did.
-use Rattle.std.proofs.Common.{◌≡◌, ℕ, ◌<◌, ◌≤◌, max, false, Bool, List, [], ◌∷◌, length, replicate, refl, sym, ◌∙◌}
-use Rattle.std.proofs.Common.{ap, subst, arith, inl, inr, ◌⊎◌}
-use Rattle.std.specs.Prelude.{IsTrue, IsErrOf, Err}
+use Rattle.std.proofs.Common.{◌≡◌, ℕ, ◌<◌, ◌≤◌, max, false, Bool, List, [], ◌∷◌, length, replicate, refl, sym, ◌∙◌, ap}
+use Rattle.std.proofs.Common.{subst, arith, inl, inr, ◌⊎◌, IsTrue, IsErrOf, Err}
 use Rattle.std.proofs.lemmas.Bool.{cases_lt, cases_eq}
-use Rattle.grid_core.specs.declared.pixel.Pixel.{Pixel}
-use Rattle.grid_core.specs.Raster.{Raster, IsInside, value_at}
-use Rattle.grid_core.specs.Path.{Inside}
-use Rattle.grid_core.specs.Tiles.{Tiles, count_of}
+use Rattle.grid_core.specs.{declared.pixel.Pixel.Pixel, Raster.Raster, Raster.IsInside, Raster.value_at, Path.Inside}
+use Rattle.grid_core.specs.{Tiles.Tiles, Tiles.count_of}
 use Rattle.stroke_lattice.specs.State.{State, StateFits, AreCompatible, IsJoin, IsLive, IsLiveTag}
-use Rattle.grid_core.specs.declared.conn.Conn.{Conn}
 use Rattle.stroke_lattice.specs.Change.{Turnover}
-use Rattle.stroke_lattice.proofs.Joins.{one_seed, join_is_union}
-use Rattle.stroke_lattice.proofs.Joining.{joined}
-use Rattle.marker_tiles.specs.Marker.{IsMarker, IsMarkedAt}
-use Rattle.marker_tiles.specs.Kept.{IsMarkerOf}
+use Rattle.stroke_lattice.proofs.{Joins.one_seed, Joins.join_is_union, Joining.joined}
+use Rattle.marker_tiles.specs.{Marker.IsMarker, Marker.IsMarkedAt}
 use Rattle.tile_generations.specs.Generations.{max_generation}
-use Rattle.core_rules.specs.declared.error.CoreError.{CoreError}
-use Rattle.core_rules.specs.declared.error.CoreError.TheVariants.{GenerationsSpent}
+use Rattle.core_rules.specs.{declared.error.CoreError.CoreError, declared.error.CoreError.TheVariants.GenerationsSpent}
+use Rattle.core_rules.specs.Invariant.{IsSound}
 use Rattle.core_rules.specs.Work.{Core, domain, tiling, mask_at, image_at, IsTile, work_at}
-use Rattle.border_queues.specs.TileWork.{TileWork, work_of}
 use Rattle.core_rules.specs.Hits.{HoldsOne, LosesStroke, AreLinked, LeadFrom, IsHit, TouchesHit}
 use Rattle.core_rules.specs.Merge.{HasRisen, IsReset, IsKept, IsMerged, IsRefused, IsAcceptable}
-use Rattle.core_rules.specs.Invariant.{IsSound}
-use Rattle.tile_work.specs.TileSet.{Has}
-use Rattle.tile_resets.specs.Renewing.{IsTileKept, TouchesMarked, IsUnder}
-use Rattle.tile_resets.specs.Renewing.{AreMarkedReset, IsRaisedByTags}
-use Rattle.reset_core.specs.Bounding.{AreBounded}
-use Rattle.reset_core.proofs.Bounding.{bounded_like, bounded_still}
-use Rattle.reset_core.specs.declared.replica.Core.TheInside.{Inside as Parts}
-use Rattle.tile_generations.specs.CutMasks.{AreTileMasks}
+use Rattle.border_queues.specs.TileWork.{TileWork, work_of}
+use Rattle.tile_work.specs.{TileSet.Has, Marks.AreHits}
+use Rattle.tile_work.specs.Renewing.{IsTileKept, TouchesMarked, IsUnder, AreMarkedReset, IsRaisedByTags}
+use Rattle.reset_core.specs.{Bounding.AreBounded, declared.replica.Core.TheInside.Inside as Parts}
 use Rattle.reset_core.specs.Replica.{core_of, IsStored}
 use Rattle.reset_core.specs.MergeSteps.{IsMarked, HasSpentMark, IsGrown, IsRenewed}
-use Rattle.tile_resets.specs.Marks.{AreHits}
-use Rattle.reset_core.proofs.Storing.{empty_still}
-use Rattle.tile_resets.proofs.RenewingResets.{reset_stays}
-use Rattle.core_rules.proofs.Cores.{tile_of_pixel_is_tile}
-use Rattle.core_rules.proofs.Merging.{merge_keeps_sound}
-use Rattle.core_rules.proofs.Resets.{one_refusal}
+use Rattle.reset_core.proofs.{Bounding.bounded_like, Bounding.bounded_still, Storing.empty_still}
+use Rattle.tile_work.proofs.RenewingResets.{reset_stays}
+use Rattle.core_rules.proofs.{Cores.tile_of_pixel_is_tile, Merging.merge_keeps_sound, Resets.one_refusal}
 
 -- ---- tiles that are hit
 
 hit_is_tile : (core : Core) (after : State) (list : List ℕ) (t : ℕ) → IsSound core
     → LeadFrom (HoldsOne (tiling core) (LosesStroke core.state after)) (AreLinked (tiling core) core.image core.conn)
-    list t
-    → IsTile core t
+    list t → IsTile core t
 hit_is_tile core after [] t sound (p, in_tile, loses) = tile_of_pixel_is_tile core t p sound.shape in_tile
 hit_is_tile core after (u ∷ list) t sound (lead, linked) = tile_of_pixel_is_tile core t linked.q sound.shape linked.to
 
 module _ (core : Core) (delta : State) (marks : List Bool) (sound : IsSound core) (marked : IsMarked core delta marks)
   where
     marked_is_tile : (t : ℕ) → Has marks t → IsTile core t
-    marked_is_tile t has =
-        let count = marked.count in
-        let tiles = sound.shape.tiles in
-        omega (arith, has.0, count, tiles)
+    marked_is_tile t has = omega (arith, has.0, marked.count, sound.shape.tiles)
 
     is_mark : (t : ℕ) → IsTile core t → t < length marks
-    is_mark t is_tile =
-        let count = marked.count in
-        let tiles = sound.shape.tiles in
-        omega (arith, is_tile, count, tiles)
+    is_mark t is_tile = omega (arith, is_tile, marked.count, sound.shape.tiles)
 
     pub hit_is_marked : (after : State) → IsJoin core.state delta after → (t : ℕ) → IsHit core after t → Has marks t
     hit_is_marked after join t hit =
@@ -73,9 +52,7 @@ module _ (core : Core) (delta : State) (marks : List Bool) (sound : IsSound core
         → (work_at core t).generation < max_generation
     marked_are_unspent none t has = elim (cases_lt (work_at core t).generation max_generation) [
       | inl below ↦ below
-      | inr above ↦
-          let bound = sound.shape.generations t (marked_is_tile t has) in
-          absurd (none (t, has, omega (arith, above, bound)))
+      | inr above ↦ absurd (none (t, has, omega (arith, above, sound.shape.generations t (marked_is_tile t has))))
     ]
 
     -- ---- refusals
@@ -139,12 +116,11 @@ module _ (before : Core) (delta : State) (turnover : Turnover) (state : State) (
         | inl none ↦ omega (arith, none)
         | inr is_marked ↦ elim (cases_lt top new_top) [
           | inl above ↦ absurd (was_marked p new_top is_marked out
-              (λ was. let greatest = is_top.greatest new_top was in omega (arith, greatest, above)))
+              (λ was. omega (arith, is_top.greatest new_top was, above)))
           | inr at_most ↦ at_most
         ]
       ] in
-      let supported = (sound.supported p inside).0 in
-      omega (arith, low, value, new_value, supported)
+      omega (arith, low, value, new_value, (sound.supported p inside).0)
 
 -- the core with other strokes, another image and other work
 abbrev pub renewed_core : Core → State → Raster → List TileWork → Core
@@ -161,9 +137,7 @@ module _ (before : Core) (delta : State) (turnover : Turnover) (marks : List Boo
 
   in_middle : (p : Pixel) → Inside (domain before) p → IsInside middle.width middle.height p
   in_middle p inside =
-      let width = reset.size.width ∙ sound.shape.image.width in
-      let height = reset.size.height ∙ sound.shape.image.height in
-      (omega (arith, width, inside.0), omega (arith, height, inside.1))
+      omega (arith, reset.size.width ∙ sound.shape.image.width, reset.size.height ∙ sound.shape.image.height)
 
   -- ---- the image
 
@@ -175,9 +149,8 @@ module _ (before : Core) (delta : State) (turnover : Turnover) (marks : List Boo
     | inr differ ↦
         let out : IsUnder state turnover.born p → ⊥ =
         λ under. differ (raised.values.under p (in_middle p inside) under ∙ ap (λ v. max v (value_at marker p)) same) in
-        let stays = raised.values.beyond p (in_middle p inside) out in
-        let low = marker_below_image before delta turnover state marker sound grown p inside out in
-        omega (arith, stays, same, low)
+        let kept = raised.values.beyond p (in_middle p inside) out in
+        omega (arith, kept, same, marker_below_image before delta turnover state marker sound grown p inside out)
   ]
 
   -- a pixel of a tile that is reset
@@ -187,9 +160,7 @@ module _ (before : Core) (delta : State) (turnover : Turnover) (marks : List Boo
     | inl equal ↦ equal
     | inr differ ↦
         let out : IsUnder state turnover.born p → ⊥ =
-        λ under.
-        let is_raised = raised.values.under p (in_middle p inside) under in
-        differ (omega (arith, is_raised, same)) in
+        λ under. differ (omega (arith, raised.values.under p (in_middle p inside) under, same)) in
         raised.values.beyond p (in_middle p inside) out ∙ same
   ]
 
@@ -211,7 +182,7 @@ module _ (before : Core) (delta : State) (turnover : Turnover) (marks : List Boo
   }
 
   row_is_tile : (t : ℕ) → IsTile before t → t < length between
-  row_is_tile t is_tile = let count = reset.count in omega (arith, is_tile, count)
+  row_is_tile t is_tile = omega (arith, is_tile, reset.count)
 
   -- a tile that is reset
   tile_reset : (t : ℕ) → IsTile before t
@@ -230,19 +201,16 @@ module _ (before : Core) (delta : State) (turnover : Turnover) (marks : List Boo
     where
       risen : HasRisen (tiling before) t middle new → HasRisen (tiling before) t before.image new
       risen rises =
-          let same = kept.values rises.p rises.in_tile in
           let rose = rises.rose in
-          record { p = rises.p; in_tile = rises.in_tile; rose = omega (arith, same, rose) }
+          record { p = rises.p; in_tile = rises.in_tile; rose = omega (arith, kept.values rises.p rises.in_tile, rose) }
 
       has_risen : HasRisen (tiling before) t before.image new → HasRisen (tiling before) t middle new
       has_risen rises =
-          let same = kept.values rises.p rises.in_tile in
           let rose = rises.rose in
-          record { p = rises.p; in_tile = rises.in_tile; rose = omega (arith, same, rose) }
+          record { p = rises.p; in_tile = rises.in_tile; rose = omega (arith, kept.values rises.p rises.in_tile, rose) }
 
       why_dirty : IsTrue (work_of after t).dirty
-          → IsTrue (work_at before t).dirty ⊎ HasRisen (tiling before) t before.image new
-          ⊎ TouchesHit before state t
+          → IsTrue (work_at before t).dirty ⊎ HasRisen (tiling before) t before.image new ⊎ TouchesHit before state t
       why_dirty dirty = elim ((raised.dirty t (row_is_tile t is_tile)).dirty.0 dirty) [
         | inl was ↦ elim (kept.work.dirty.0 was) [
           | inl old ↦ inl old
@@ -267,8 +235,7 @@ module _ (before : Core) (delta : State) (turnover : Turnover) (marks : List Boo
         image = λ p in_tile. raised_value p in_tile.inside (kept.values p in_tile);
       }
 
-  each_tile : (t : ℕ) → IsTile before t
-      → (IsHit before state t
+  each_tile : (t : ℕ) → IsTile before t → (IsHit before state t
       × IsReset (tiling before) (value_at marker) new (work_of before.tiles t) (work_of after t) t)
       ⊎ ((IsHit before state t → ⊥) × IsKept before (value_at marker) (renewed_core before state new after) t)
   each_tile t is_tile = elim (reset.each t is_tile) [
@@ -314,13 +281,15 @@ join_fits core delta state sound fits join tag seed has =
 module _ (before after : Parts) (delta : State) (turnover : Turnover) (stored : IsStored before)
     (renewed : IsRenewed before delta turnover after) where
   same_core : renewed_core (core_of before) after.state after.image after.work ≡ core_of after
-  same_core =
-      let core = renewed_core (core_of before) after.state after.image after.work in
-      ap (λ (m : Raster). record core { mask = m }) (sym renewed.mask)
-      ∙ ap (λ (t : Tiles). record core { mask = after.markers.mask; side = t.side }) (sym renewed.tiling_is)
-      ∙ ap (λ (conn : Conn). record core { mask = after.markers.mask; side = after.markers.tiling.side; conn = conn })
-      (sym renewed.conn)
-      ∙ ap (λ n. record (core_of after) { serial = n }) (sym renewed.serial)
+  same_core = λ i. record {
+    mask = sym renewed.mask i;
+    conn = sym renewed.conn i;
+    side = (sym renewed.tiling_is i).side;
+    state = after.state;
+    image = after.image;
+    tiles = after.work;
+    serial = sym renewed.serial i;
+  }
 
   pub renewed_is_merged : IsMerged (core_of before) delta turnover (core_of after)
   renewed_is_merged =
@@ -341,13 +310,8 @@ module _ (before after : Parts) (delta : State) (turnover : Turnover) (stored : 
         }) after.state after.work (core_of before).serial after.bounds
         (bounded_still (core_of before) after.image before.bounds after.bounds stored.sound.shape.tiled stored.bounded
         renewed.bounds));
-    marks =
-        subst (λ (m : Raster). IsMarkerOf m after.state after.markers.marker) (sym renewed.mask)
-        renewed.grown.marker_is;
-    masks =
-        subst (λ (m : Raster). AreTileMasks m after.markers.tiling after.masks) (sym renewed.mask)
-        (subst (λ (t : Tiles). AreTileMasks before.markers.mask t after.masks) (sym renewed.tiling_is)
-        (subst (AreTileMasks before.markers.mask before.markers.tiling) (sym renewed.masks) stored.masks));
+    marks = rw renewed.mask renewed.grown.marker_is;
+    masks = rw (renewed.mask, renewed.tiling_is, renewed.masks) stored.masks;
     no_marks =
         renewed.cleared
         ∙ ap (λ n. replicate n false) (renewed.marked.count ∙ sym stored.sound.shape.tiles ∙ sym same_count);
@@ -371,17 +335,13 @@ module _ (tiles known : Tiles) (tiles_are : tiles ≡ known) (marker new_marker 
     (marker_is : marker ≡ new_marker) where
   pub marked_are_reset : (marks : List Bool) (old new : Raster) (work after : List TileWork)
       → AreMarkedReset tiles marks marker old new work after → AreMarkedReset known marks new_marker old new work after
-  marked_are_reset marks old new work after reset =
-      subst (λ (ts : Tiles). AreMarkedReset ts marks new_marker old new work after) tiles_are
-      (subst (λ (m : Raster). AreMarkedReset tiles marks m old new work after) marker_is reset)
+  marked_are_reset marks old new work after reset = rw (marker_is, tiles_are) at reset
 
   pub births_are_raised : (turnover : Turnover) (state : State) (old new : Raster) (work after : List TileWork)
       (born : List ℕ) → born ≡ turnover.born → IsRaisedByTags tiles born state marker old new work after
       → IsRaisedByTags known turnover.born state new_marker old new work after
   births_are_raised turnover state old new work after born born_is raised =
-      subst (λ (ts : Tiles). IsRaisedByTags ts turnover.born state new_marker old new work after) tiles_are
-      (subst (λ (m : Raster). IsRaisedByTags tiles turnover.born state m old new work after) marker_is
-      (subst (λ (tags : List ℕ). IsRaisedByTags tiles tags state marker old new work after) born_is raised))
+      rw (born_is, marker_is, tiles_are) at raised
 
 -- a refusal is the answer to each refusal
 pub exactly_this : {T : Type 0} (core : Core) (delta : State) (why : CoreError) → IsRefused core delta why

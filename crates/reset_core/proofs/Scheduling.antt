@@ -1,49 +1,37 @@
 -- Schedules: what each step leads to, and how one goes after another.
-use Rattle.std.proofs.Common.{◌≡◌, ℕ, ◌+◌, ◌<◌, ◌≤◌, Bool, true, false, List, [], ◌∷◌, ◌++◌, length, take, drop}
-use Rattle.std.proofs.Common.{suc, get_or, set, refl, sym, subst, ap, ◌∙◌, arith, inl, inr}
-use Rattle.std.specs.Prelude.{◌⊎◌, ◌≢◌, Option, Some, None, Result, Ok, Err, OnOk, OnErr, slice_get}
-use Rattle.std.specs.Borrow.{Bor}
-use Rattle.std.specs.Slice.{IsItemAt}
-use Rattle.std.proofs.lemmas.Option.{slice_get_past, slice_get_read}
-use Rattle.std.proofs.Math.Seq.{drop-cons}
+use Rattle.std.proofs.Common.{◌≡◌, ℕ, ◌+◌, ◌<◌, ◌≤◌, Bool, true, false, List, [], ◌∷◌, ◌++◌, length, take, drop, suc}
+use Rattle.std.proofs.Common.{get_or, set, refl, sym, subst, ap, ◌∙◌, arith, inl, inr, ◌⊎◌, ◌≢◌, Option, Some, None}
+use Rattle.std.proofs.Common.{Result, Ok, Err, OnOk, OnErr, slice_get, Bor}
+use Rattle.std.proofs.{lemmas.Option.slice_get_past, lemmas.Option.slice_get_read, Math.Seq.drop-cons}
 use Rattle.std.proofs.lemmas.List.{append-nil, length_push, take_more, take-append-drop, length-set, set-set}
 use Rattle.std.proofs.lemmas.List.{set-get_or}
-use Rattle.stroke_lattice.specs.State.{State}
-use Rattle.stroke_lattice.specs.Change.{Turnover}
-use Rattle.tile_generations.specs.declared.ticket.Ticket.{Ticket}
-use Rattle.tile_generations.specs.Jobs.{Job, Swept, IsSwept}
-use Rattle.core_rules.specs.declared.error.CoreError.{CoreError}
-use Rattle.core_rules.specs.declared.error.CoreError.TheVariants as errors
-use Rattle.core_rules.specs.declared.answers.Back.{Back}
-use Rattle.core_rules.specs.declared.answers.Handed.{Handed}
-use Rattle.core_rules.specs.declared.step.Step.{Step}
-use Rattle.core_rules.specs.declared.step.Step.TheVariants as steps
-use Rattle.core_rules.specs.Work.{Core, work_at, with_work}
-use Rattle.border_queues.specs.TileWork.{TileWork, idle}
-use Rattle.core_rules.specs.Merge.{IsMerged, IsRefused, IsAcceptable}
+use Rattle.std.specs.Slice.{IsItemAt}
+use Rattle.stroke_lattice.specs.{State.State, Change.Turnover}
+use Rattle.tile_generations.specs.{declared.ticket.Ticket.Ticket, Jobs.Job, Jobs.Swept, Jobs.IsSwept}
+use Rattle.core_rules.specs.{declared.error.CoreError.CoreError, declared.answers.Back.Back}
+use Rattle.core_rules.specs.{declared.answers.Handed.Handed, declared.step.Step.Step, Work.Core, Work.work_at}
+use Rattle.core_rules.specs.{Work.with_work, Merge.IsMerged, Merge.IsRefused, Merge.IsAcceptable, Hints.IsHanded}
+use Rattle.core_rules.specs.{Runs.Entry, Runs.jobs_of, Runs.abandons_of, Counting.IsWithinWork}
+use Rattle.core_rules.specs.{Laws.ScheduleIsWithinWork, Invariant.IsSound}
 use Rattle.core_rules.specs.Sweeps.{IsTaken, IsGivenBack, IsAbandoned, IsReady, IsOut, taken}
-use Rattle.core_rules.specs.Hints.{IsHanded}
-use Rattle.core_rules.specs.Events.{Event, Answer, Happens, Merge, Take, GiveBack, Abandon, Hand}
-use Rattle.core_rules.specs.Events.{OfMerge, OfTake, OfGiveBack, OfAbandon, OfHand}
-use Rattle.core_rules.specs.Runs.{Entry, jobs_of, abandons_of}
-use Rattle.core_rules.specs.Counting.{IsWithinWork}
-use Rattle.core_rules.specs.Laws.{ScheduleIsWithinWork}
-use Rattle.core_rules.specs.Invariant.{IsSound}
-use Rattle.core_rules.specs.Schedule.{Progress, Ran, started, passed, after_event, IsStep, AreSteps, ran_of}
-use Rattle.core_rules.specs.Schedule.{IsStopped, IsCutOff, edits_of}
+use Rattle.core_rules.specs.Events.{Event, Answer, Happens, Merge, Take, GiveBack, Abandon, Hand, OfMerge, OfTake}
+use Rattle.core_rules.specs.Events.{OfGiveBack, OfAbandon, OfHand}
+use Rattle.core_rules.specs.Schedule.{Progress, Ran, started, passed, after_event, IsStep, AreSteps, ran_of, IsStopped}
+use Rattle.core_rules.specs.Schedule.{IsCutOff, edits_of}
+use Rattle.border_queues.specs.TileWork.{TileWork, idle}
 use Rattle.reset_core.specs.declared.replica.scheduling.Tally.{Tally}
 use Rattle.reset_core.specs.Scheduling.{Kept, Agrees, LeadsOn, HaveRunSoFar, HasRoom}
 use Rattle.core_rules.proofs.Cores.{work_there}
 use Rattle.reset_core.proofs.Settling.{jobs_append}
+use Rattle.core_rules.specs.declared.error.CoreError.TheVariants as errors
+use Rattle.core_rules.specs.declared.step.Step.TheVariants as steps
 
 -- ---- one more step
 
 abandons_push : (log : List Entry) (entry : Entry)
     → abandons_of (log ++ entry ∷ []) ≡ abandons_of log + abandons_of (entry ∷ [])
 abandons_push [] entry = omega arith
-abandons_push ((Abandon ticket, OfAbandon true) ∷ log) entry =
-    let rest = abandons_push log entry in
-    omega (arith, rest)
+abandons_push ((Abandon ticket, OfAbandon true) ∷ log) entry = omega (arith, abandons_push log entry)
 abandons_push (first ∷ log) entry = abandons_push log entry
 
 -- a step that adds nothing
@@ -67,43 +55,22 @@ agrees_after : (a b : Progress) (before after : Core) (kept more : Kept) (n : �
     → b.refused ≡ more.refused → Agrees after more (n + 1) b
 agrees_after a b before after kept more n entry so_far count core log results jobs abandons accepted refused = record {
   core_is = core;
-  count_is = let was = so_far.count_is in omega (arith, was, count);
+  count_is = omega (arith, so_far.count_is, count);
   results_are = results;
-  jobs_are =
-      let now = ap jobs_of log in
-      let one_more = jobs_append a.log (entry ∷ []) in
-      let was = so_far.jobs_are in
-      omega (arith, now, one_more, was, jobs);
-  abandons_are =
-      let now = ap abandons_of log in
-      let one_more = abandons_push a.log entry in
-      let was = so_far.abandons_are in
-      omega (arith, now, one_more, was, abandons);
+  jobs_are = omega (arith, ap jobs_of log, jobs_append a.log (entry ∷ []), so_far.jobs_are, jobs);
+  abandons_are = omega (arith, ap abandons_of log, abandons_push a.log entry, so_far.abandons_are, abandons);
   accepted_are = accepted;
   refused_are = refused;
 }
 
--- an event that adds no result, and is no edit
-event_agrees : (a : Progress) (before after : Core) (kept more : Kept) (n : ℕ) (event : Event) (answer : Answer)
-    → Agrees before kept n a → jobs_of ((event, answer) ∷ []) ≡ 0
-    → more ≡ record kept { abandons = kept.abandons + abandons_of ((event, answer) ∷ []) }
-    → Agrees after more (n + 1) (after_event a after event answer)
-event_agrees a before after kept more n event answer so_far no_job same =
-    let adds : Kept = record kept { abandons = kept.abandons + abandons_of ((event, answer) ∷ []) } in
-    subst (λ (k : Kept). Agrees after k (n + 1) (after_event a after event answer)) (sym same)
-    (agrees_after a (after_event a after event answer) before after kept adds n (event, answer) so_far refl refl refl
-    so_far.results_are (omega (arith, no_job)) refl so_far.accepted_are so_far.refused_are)
-
 -- the same event at the core of a schedule that agrees
 happens_there : (a : Progress) (before after : Core) (kept : Kept) (n : ℕ) (event : Event) (answer : Answer)
     → Agrees before kept n a → Happens before event answer after → Happens a.core event answer after
-happens_there a before after kept n event answer so_far happens =
-    subst (λ (core : Core). Happens core event answer after) (sym so_far.core_is) happens
+happens_there a before after kept n event answer so_far happens = rw so_far.core_is happens
 
 result_there : (a : Progress) (now : Core) (kept : Kept) (n place : ℕ) (result : Option Swept) → Agrees now kept n a
     → slice_get kept.results place ≡ result → slice_get a.results place ≡ result
-result_there a now kept n place result so_far there =
-    ap (λ results. slice_get results place) so_far.results_are ∙ there
+result_there a now kept n place result so_far there = ap (λ results. slice_get results place) so_far.results_are ∙ there
 
 -- ---- what a look-up gives
 
@@ -140,10 +107,6 @@ on_ok_at_err {T} {E} P r e same = subst (λ (s : Result T E). OnOk s P) (sym sam
 pub on_ok_map2 : {T E P Q S : Type 0} (r : Result T E) → OnOk r P → OnOk r Q → (P → Q → S) → OnOk r S
 on_ok_map2 (Ok x) first second map = map first second
 on_ok_map2 (Err e) first second map = tt
-
-pub on_err_map : {T E P Q : Type 0} (r : Result T E) → OnErr r P → (P → Q) → OnErr r Q
-on_err_map (Ok x) holds map = tt
-on_err_map (Err e) holds map = map holds
 
 -- ---- edits
 
@@ -195,9 +158,7 @@ pub edit_turned_down : (n : ℕ) (delta : State) (before after : Core) (kept mor
     → after ≡ before → more ≡ record kept { refused = kept.refused ++ (n, why) ∷ [] }
     → LeadsOn (steps.Edit delta) n before kept after more
 edit_turned_down n delta before after kept more why (inl refused) other same_core same =
-    subst (λ (core : Core). LeadsOn (steps.Edit delta) n before kept core more) (sym same_core)
-    (subst (λ (k : Kept). LeadsOn (steps.Edit delta) n before kept before k) (sym same)
-    (edit_refused n delta before kept why refused))
+    rw (same_core, same) (edit_refused n delta before kept why refused)
 edit_turned_down n delta before after kept more why (inr (memory, acceptable)) other same_core same =
     absurd (other memory)
 
@@ -205,8 +166,7 @@ edit_turned_down n delta before after kept more why (inr (memory, acceptable)) o
 pub edit_cut_off : (delta : State) (before : Core) (why : CoreError)
     → IsRefused before delta why ⊎ ((why ≡ errors.Memory) × IsAcceptable before delta) → why ≡ errors.Memory
     → IsAcceptable before delta
-edit_cut_off delta before why (inl refused) memory =
-    absurd (subst (IsRefused before delta) memory refused)
+edit_cut_off delta before why (inl refused) memory = absurd (subst (IsRefused before delta) memory refused)
 edit_cut_off delta before why (inr (is, acceptable)) memory = acceptable
 
 -- ---- takes
@@ -233,8 +193,7 @@ take_gives_job n t before after kept job swept is_taken is_swept same = record {
   next = λ a so_far.
       let event = Take t in
       let answer = OfTake (Some job) in
-      let b : Progress = record (after_event a after event answer) { results = a.results ++ swept ∷ [] } in
-      let longer = length_push kept.results swept in (
+      let b : Progress = record (after_event a after event answer) { results = a.results ++ swept ∷ [] } in (
         b,
         (
           Some job,
@@ -244,8 +203,8 @@ take_gives_job n t before after kept job swept is_taken is_swept same = record {
           refl,
         ),
         agrees_after a b before after kept (record kept { results = kept.results ++ swept ∷ [] }) n (event, answer)
-            so_far refl refl refl (ap (λ rs. rs ++ swept ∷ []) so_far.results_are) (omega (arith, longer)) (omega arith)
-            so_far.accepted_are so_far.refused_are,
+            so_far refl refl refl (ap (λ rs. rs ++ swept ∷ []) so_far.results_are)
+            (omega (arith, length_push kept.results swept)) (omega arith) so_far.accepted_are so_far.refused_are,
       );
 }
 
@@ -351,8 +310,7 @@ same_work : (before : Core) (t : ℕ) (work : TileWork) → work ≡ work_at bef
     → with_work (taken before t) t work ≡ record before { serial = (taken before t).serial }
 same_work before t work same =
     let tiles : set (taken before t).tiles t work ≡ before.tiles =
-    set-set before.tiles t (work_out before t) work ∙ ap (set before.tiles t) same
-    ∙ set-get_or before.tiles t idle in
+    set-set before.tiles t (work_out before t) work ∙ ap (set before.tiles t) same ∙ set-get_or before.tiles t idle in
     let with_tiles : List TileWork → Core = λ works. record (taken before t) { tiles = works } in
     ap with_tiles tiles
 
@@ -385,8 +343,7 @@ taken_and_abandoned before mid after t job ticket true (ready, next, same_mid) s
     let with_serial : ℕ → Core = λ serial. record before { serial = serial } in
     restored ∙ ap with_serial (sym (ap (λ (core : Core). core.serial) restored))
 taken_and_abandoned before mid after t job ticket false (ready, next, same_mid) same (not_out, same_after) =
-    absurd (not_out (subst (λ (core : Core). IsOut core ticket) (sym same_mid)
-    (subst (IsOut (taken before t)) (sym (same ∙ next.ticket)) (taken_is_out before t ready))))
+    absurd (not_out (rw (same_mid, same ∙ next.ticket) (taken_is_out before t ready)))
 
 -- ---- step after step
 
@@ -423,27 +380,23 @@ one_more_run start all n now after kept more step so_far within there leads few 
     take_more all n step within ∙ ap (λ s. take n all ++ s ∷ []) (sym there) in
     record {
       reached = next.0;
-      are_steps =
-          subst (λ front. AreSteps front (started start) next.0) (sym front)
-          (steps_push (take n all) step (started start) so_far.reached next.0 so_far.are_steps next.1);
+      are_steps = rw front (steps_push (take n all) step (started start) so_far.reached next.0 so_far.are_steps next.1);
       agrees = next.2;
-      few = let was = so_far.few in omega (arith, was, few);
+      few = omega (arith, so_far.few, few);
     }
 
-account : (now : Core) (kept : Kept) (n : ℕ) (a : Progress) → Agrees now kept n a
-    → ran_of a ≡ record {
-      jobs = length kept.results;
-      abandons = kept.abandons;
-      accepted = kept.accepted;
-      refused = kept.refused;
-    }
-account now kept n a agrees =
-    let ran : ℕ → ℕ → List ℕ → List (ℕ × CoreError) → Ran = λ jobs abandons accepted refused.
-    record { jobs = jobs; abandons = abandons; accepted = accepted; refused = refused } in
-    ap (λ jobs. ran jobs (abandons_of a.log) a.accepted a.refused) agrees.jobs_are
-    ∙ ap (λ abandons. ran (length kept.results) abandons a.accepted a.refused) agrees.abandons_are
-    ∙ ap (λ numbers. ran (length kept.results) kept.abandons numbers a.refused) agrees.accepted_are
-    ∙ ap (ran (length kept.results) kept.abandons kept.accepted) agrees.refused_are
+account : (now : Core) (kept : Kept) (n : ℕ) (a : Progress) → Agrees now kept n a → ran_of a ≡ record {
+  jobs = length kept.results;
+  abandons = kept.abandons;
+  accepted = kept.accepted;
+  refused = kept.refused;
+}
+account now kept n a agrees = λ i. record {
+  jobs = agrees.jobs_are i;
+  abandons = agrees.abandons_are i;
+  accepted = agrees.accepted_are i;
+  refused = agrees.refused_are i;
+}
 
 pub all_run : (start : Core) (all : List Step) (n : ℕ) (now : Core) (kept : Kept) (ran : Ran)
     → HaveRunSoFar start all n now kept → take n all ≡ all
@@ -474,8 +427,7 @@ next_is all n step within there =
 -- memory ran out within the next step
 pub run_stops : (start : Core) (all : List Step) (n : ℕ) (now after : Core) (kept : Kept) (step : Step)
     → HaveRunSoFar start all n now kept → n < length all → step ≡ get_or all n step
-    → IsCutOff now kept.results step after
-    → IsStopped start all after
+    → IsCutOff now kept.results step after → IsStopped start all after
 run_stops start all n now after kept step so_far within there cut =
     let reached = so_far.reached in
     let rest : drop n all ≡ step ∷ drop (n + 1) all = next_is all n step within there in
@@ -486,9 +438,7 @@ run_stops start all n now after kept step so_far within there cut =
       parts = sym (take-append-drop n all) ∙ ap (λ left. take n all ++ left) rest;
       reached = reached;
       are_steps = so_far.are_steps;
-      cut_off =
-          subst (λ (core : Core). IsCutOff core reached.results step after) (sym so_far.agrees.core_is)
-          (subst (λ results. IsCutOff now results step after) (sym so_far.agrees.results_are) cut);
+      cut_off = rw (so_far.agrees.core_is, so_far.agrees.results_are) cut;
     })
 
 -- ---- places for edits
@@ -521,5 +471,4 @@ pub run_within_work : ScheduleIsWithinWork → (start now : Core) (all : List St
 run_within_work law start now all ran sound (end, are_steps, same, core_is) none =
     let none_accepted : end.accepted ≡ [] = sym (ap (λ (r : Ran). r.accepted) same) ∙ none in
     let within = law start all end sound are_steps none_accepted in
-    subst (λ (r : Ran). IsWithinWork start now r.jobs r.abandons) (sym same)
-    (subst (λ c. IsWithinWork start c (ran_of end).jobs (ran_of end).abandons) (sym core_is) within)
+    rw (same, core_is) within

@@ -1,71 +1,53 @@
 -- Settling: jobs that are abandoned, hints that are handed over, and tiles that are swept, one after another.
-use Rattle.std.proofs.Common.{◌≡◌, ℕ, zero, suc, ◌+◌, ◌-◌, ◌*◌, ◌<◌, ◌≤◌, true, List, [], ◌∷◌, ◌++◌, length}
-use Rattle.std.proofs.Common.{refl, sym, ap, ◌∙◌, subst, arith, set, get_or, IsTrue}
-use Rattle.std.specs.Prelude.{◌≢◌, IsSome, Bool, false, Option, option_map, option_to_list, Some, None, remove}
-use Rattle.std.specs.Prelude.{slice_get, if◌then◌else◌, Contains, ◌↔◌, Result, Ok, Err, IfOk}
-use Rattle.std.proofs.Common.{inr}
-use Rattle.std.specs.List.{All}
-use Rattle.border_queues.specs.declared.hint.Hint.{Hint}
-use Rattle.grid_core.specs.Tiles.{tile_of}
-use Rattle.core_rules.specs.Invariant.{IsSound}
-use Rattle.core_rules.proofs.Removals.{taken_was_there}
-use Rattle.std.proofs.lemmas.Nat.{mul-le}
+use Rattle.std.proofs.Common.{◌≡◌, ℕ, zero, suc, ◌+◌, ◌-◌, ◌*◌, ◌<◌, ◌≤◌, true, List, [], ◌∷◌, ◌++◌, length, refl, sym}
+use Rattle.std.proofs.Common.{ap, ◌∙◌, subst, arith, set, get_or, IsTrue, ◌≢◌, IsSome, Bool, false, Option, option_map}
+use Rattle.std.proofs.Common.{option_to_list, Some, None, slice_get, if◌then◌else◌, Contains, ◌↔◌, Result, Ok, Err}
+use Rattle.std.proofs.Common.{IfOk, inr, All}
+use Rattle.std.proofs.{lemmas.Nat.mul-le, lemmas.List.Edits.length-remove}
 use Rattle.std.proofs.lemmas.List.{append-nil, append_assoc, length-append, length-set, map-append}
-use Rattle.std.proofs.lemmas.List.Edits.{length-remove}
 use Rattle.std.proofs.lemmas.List.Sums.{sum_by-set, sum_by-le}
+use Rattle.border_queues.specs.{declared.hint.Hint.Hint, TileWork.TileWork, TileWork.idle, TileWork.IsLeast}
+use Rattle.grid_core.specs.Tiles.{tile_of, IsTiled, count_of, columns_of, rows_of}
 use Rattle.grid_core.specs.Raster.{IsSized, max_level}
-use Rattle.grid_core.specs.Tiles.{IsTiled, count_of, columns_of, rows_of}
-use Rattle.grid_core.proofs.Spans.{spans-le}
-use Rattle.tile_generations.specs.declared.ticket.Ticket.{Ticket}
-use Rattle.core_rules.specs.declared.answers.Handed.{Handed}
+use Rattle.core_rules.specs.{Invariant.IsSound, declared.answers.Handed.Handed, Sweeps.IsAbandoned, Shown.ShowsTheSame}
 use Rattle.core_rules.specs.declared.answers.Handed.TheVariants.{Raised, Same, Stale, Nothing}
 use Rattle.core_rules.specs.Work.{Core, tiling, IsTile, work_at, with_work, IsQuiet}
-use Rattle.border_queues.specs.TileWork.{TileWork, idle, IsLeast}
-use Rattle.core_rules.specs.Sweeps.{IsAbandoned}
 use Rattle.core_rules.specs.Hints.{hint_at, without_hint, raised, IsHanded}
-use Rattle.core_rules.specs.Events.{Merge, Take, GiveBack, Abandon, Hand}
-use Rattle.core_rules.specs.Events.{OfTake, OfAbandon, OfHand}
+use Rattle.core_rules.specs.Events.{Take, GiveBack, Abandon, Hand, OfTake, OfAbandon, OfHand}
 use Rattle.core_rules.specs.Runs.{IsSettled, IsCutShort, Entry, IsRun, IsWorkedOff, NoneOut, HasHints, IsDirty}
 use Rattle.core_rules.specs.Runs.{IsSettling, IsTakenIn, jobs_of, tiles_taken, abandons_of, abandoned, tickets_out}
 use Rattle.core_rules.specs.Counting.{IsWithinWork, Owes}
 use Rattle.core_rules.specs.Laws.{SettlingIsWithinWork, SettlingSoFarIsWithinWork, OneJobOutATile}
 use Rattle.core_rules.specs.Laws.{SettlingChangesFewTiles, CutShortChangesFewTiles}
-use Rattle.core_rules.specs.Shown.{ShowsTheSame}
-use Rattle.tile_work.specs.TileSet.{Has, HasGained}
-use Rattle.tile_work.specs.WorkTable.{HasJobOut}
+use Rattle.core_rules.proofs.{Removals.taken_was_there, Cores.field_kept, Handing.left, Running.run_append}
+use Rattle.core_rules.proofs.{InPlaceSweeps.work_goes_on, Leaving.taken_append, Leaving.none_taken_abandoned}
+use Rattle.grid_core.proofs.Spans.{spans-le}
+use Rattle.tile_generations.specs.declared.ticket.Ticket.{Ticket}
+use Rattle.tile_work.specs.{TileSet.Has, TileSet.HasGained, WorkTable.HasJobOut}
 use Rattle.tile_work.proofs.TileSetUnions.{HasGained-one, HasGained-none}
-use Rattle.reset_core.specs.Telling.{burden}
+use Rattle.reset_core.specs.{Telling.burden, Answers.IsSlice, Answers.IsSliceCutShort}
 use Rattle.reset_core.specs.Settling.{waiting_count, AreAbandoned, IsFirstHandedOver, IsOneWorkedOff, AreHanded}
 use Rattle.reset_core.specs.Settling.{IsAllWorkedOff, AreWorkedOff, AreWorkedOffWithin}
-use Rattle.reset_core.specs.Answers.{IsSlice, IsSliceCutShort}
-use Rattle.core_rules.proofs.Cores.{field_kept}
 use Rattle.reset_core.proofs.Sweeping.{let_go}
-use Rattle.core_rules.proofs.Running.{run_append}
-use Rattle.core_rules.proofs.InPlaceSweeps.{work_goes_on}
-use Rattle.core_rules.proofs.Leaving.{taken_append, none_taken_abandoned}
 
 -- ---- counts of lists of events
 
 -- as many takes gave jobs as tiles were taken
 pub jobs_are_taken : (log : List Entry) → jobs_of log ≡ length (tiles_taken log)
 jobs_are_taken [] = refl
-jobs_are_taken ((Take t, OfTake (Some job)) ∷ log) = let rest = jobs_are_taken log in omega (arith, rest)
+jobs_are_taken ((Take t, OfTake (Some job)) ∷ log) = omega (arith, jobs_are_taken log)
 jobs_are_taken (entry ∷ log) = jobs_are_taken log
 
 pub jobs_append : (first second : List Entry) → jobs_of (first ++ second) ≡ jobs_of first + jobs_of second
 jobs_append first second =
-    let all = jobs_are_taken (first ++ second) ∙ ap length (taken_append first second) in
     let long = length-append (tiles_taken first) (tiles_taken second) in
-    let one = jobs_are_taken first in
-    let other = jobs_are_taken second in
-    omega (arith, all, long, one, other)
+    let all = jobs_are_taken (first ++ second) ∙ ap length (taken_append first second) in
+    omega (arith, all, long, jobs_are_taken first, jobs_are_taken second)
 
 pub abandons_append : (tickets : List Ticket) (second : List Entry)
     → abandons_of (abandoned tickets ++ second) ≡ length tickets + abandons_of second
 abandons_append [] second = omega arith
-abandons_append (ticket ∷ tickets) second =
-    let rest = abandons_append tickets second in
-    omega (arith, rest)
+abandons_append (ticket ∷ tickets) second = omega (arith, abandons_append tickets second)
 
 -- working off abandons nothing
 pub none_abandoned : (before after : Core) (log : List Entry) → IsWorkedOff before log after → abandons_of log ≡ 0
@@ -76,16 +58,14 @@ none_abandoned before after ((Hand t place, answer) ∷ log) (is_next, (next, ha
     none_abandoned next after log rest
 none_abandoned before after ((Take t, answer) ∷ log) (is_next, (next, happens, rest)) =
     none_abandoned next after log rest
-none_abandoned before after ((Abandon ticket, answer) ∷ log) (is_next, more) = absurd is_next
-none_abandoned before after ((Merge delta, answer) ∷ log) (is_next, more) = absurd is_next
+none_abandoned before after ((_, answer) ∷ log) (is_next, more) = absurd is_next
 
 -- ---- jobs that are abandoned
 
 -- the first tile that is out has the first ticket, and without it the others are left
 pub first_ticket : (k : ℕ) (works : List TileWork) (t serial : ℕ) → t < length works
     → (get_or works t idle).out ≡ Some serial → ((u : ℕ) → u < t → (get_or works u idle).out ≡ None)
-    → tickets_out k works
-    ≡ record { tile = k + t; generation = (get_or works t idle).generation; serial = serial }
+    → tickets_out k works ≡ record { tile = k + t; generation = (get_or works t idle).generation; serial = serial }
     ∷ tickets_out k (set works t (let_go (get_or works t idle)))
 first_ticket k [] t serial within out first = absurd (omega (arith, within))
 first_ticket k (work ∷ works) zero serial within out first =
@@ -132,8 +112,7 @@ module _ (core : Core) (t : ℕ) (least : IsLeast (HasJobOut core.tiles) t) wher
     out_of : (o : Option ℕ) → (work_at core u).out ≡ o → (work_at core u).out ≡ None
     out_of None same = same
     out_of (Some serial) same =
-        let within = least.0.0 in
-        let later = least.1 u (omega (arith, before, within), some_out serial (work_at core u).out same)
+        let later = least.1 u (omega (arith, before, least.0.0), some_out serial (work_at core u).out same)
         in absurd (omega (arith, before, later))
 
   pub first_abandoned : (ticket : Ticket)
@@ -167,10 +146,7 @@ one_more_abandoned before now next abandons ticket so_far first happens = record
   parts =
       so_far.parts ∙ ap (λ l. so_far.done ++ l) first
       ∙ sym (append_assoc so_far.done (ticket ∷ []) (tickets_out 0 next.tiles));
-  count =
-      let long = length-append so_far.done (ticket ∷ []) in
-      let count = so_far.count in
-      omega (arith, long, count);
+  count = omega (arith, length-append so_far.done (ticket ∷ []), so_far.count);
 }
 
 -- where no ticket is left, all jobs are abandoned
@@ -188,25 +164,21 @@ all_abandoned before now abandons so_far none =
 module _ (before : Core) (t : ℕ) (first : IsLeast (HasHints before) t) (none_out : NoneOut before) where
   fewer_without : waiting_count (without_hint before t 0).tiles < waiting_count before.tiles
   fewer_without =
-      let work : TileWork = record (work_at before t) { inbox = remove (work_at before t).inbox 0 } in
-      let moved = sum_by-set (λ (w : TileWork). length w.inbox) before.tiles t work idle first.0.0 in
       let some : 0 < length (work_at before t).inbox = some_length (work_at before t).inbox first.0.1 in
-      let less = length-remove (work_at before t).inbox 0 some in
-      omega (arith, moved, less) where
+      let moved = sum_by-set (λ (w : TileWork). length w.inbox) before.tiles t (left before t 0) idle first.0.0 in
+      omega (arith, moved, length-remove (work_at before t).inbox 0 some) where
         some_length : (hints : List Hint) → hints ≢ [] → 0 < length hints
         some_length [] some = absurd (some refl)
         some_length (hint ∷ hints) some = omega arith
 
   count_without : length (without_hint before t 0).tiles ≡ length before.tiles
   count_without =
-      let work : TileWork = record (work_at before t) { inbox = remove (work_at before t).inbox 0 } in
-      length-set before.tiles t work
+      length-set before.tiles t (left before t 0)
 
   none_out_without : NoneOut (without_hint before t 0)
   none_out_without u within =
-      let work : TileWork = record (work_at before t) { inbox = remove (work_at before t).inbox 0 } in
-      let count = length-set before.tiles t work in
-      field_kept before t work (λ (w : TileWork). w.out) first.0.0 refl u ∙ none_out u (omega (arith, within, count))
+      field_kept before t (left before t 0) (λ (w : TileWork). w.out) first.0.0 refl u
+      ∙ none_out u (omega (arith, within, count_without))
 
   from_without : (handed : Handed) (after : Core) → IsHanded before t 0 handed after
       → after ≡ without_hint before t 0 → IsFirstHandedOver before after
@@ -216,8 +188,7 @@ module _ (before : Core) (t : ℕ) (first : IsLeast (HasHints before) t) (none_o
     first = first;
     happens = happens;
     none_out = subst NoneOut (sym same) none_out_without;
-    fewer =
-        subst (λ (core : Core). waiting_count core.tiles < waiting_count before.tiles) (sym same) fewer_without;
+    fewer = rw same fewer_without;
     count = ap (λ (core : Core). length core.tiles) same ∙ count_without;
     tiling = ap tiling same;
   }
@@ -225,11 +196,8 @@ module _ (before : Core) (t : ℕ) (first : IsLeast (HasHints before) t) (none_o
   module _ (sound : IsSound before) (hint : Hint) (there : hint_at before t 0 ≡ Some hint) where
     home_is_tile : IsTile (without_hint before t 0) (tile_of (tiling before) hint.to_pixel)
     home_is_tile =
-        let work : TileWork = record (work_at before t) { inbox = remove (work_at before t).inbox 0 } in
-        let count = length-set before.tiles t work in
         let home = (sound.hints t hint first.0.0 (taken_was_there (work_at before t).inbox 0 hint there)).to.tile in
-        let within = first.0.0 in
-        omega (arith, count, home, within)
+        omega (arith, count_without, home, first.0.0)
 
     from_raised : (after : Core) → IsHanded before t 0 Raised after
         → after ≡ raised (without_hint before t 0) hint → IsFirstHandedOver before after
@@ -249,11 +217,8 @@ module _ (before : Core) (t : ℕ) (first : IsLeast (HasHints before) t) (none_o
               ∙ none_out_without u (omega (arith, within, count)));
           fewer =
               let moved = sum_by-set (λ (w : TileWork). length w.inbox) lost.tiles home work idle home_is_tile in
-              let less = fewer_without in
-              subst (λ (core : Core). waiting_count core.tiles < waiting_count before.tiles) (sym same)
-              (omega (arith, moved, less));
-          count =
-              ap (λ (core : Core). length core.tiles) same ∙ length-set lost.tiles home work ∙ count_without;
+              rw same (omega (arith, moved, fewer_without));
+          count = ap (λ (core : Core). length core.tiles) same ∙ length-set lost.tiles home work ∙ count_without;
           tiling = ap tiling same;
         }
 
@@ -269,8 +234,7 @@ module _ (before : Core) (t : ℕ) (first : IsLeast (HasHints before) t) (none_o
   pub first_handed : IsSound before → (handed : Handed) (after : Core) → IsHanded before t 0 handed after
       → IsFirstHandedOver before after
   first_handed sound Nothing after (none, same) = absurd (none_there none)
-  first_handed sound Stale after (hint, there, absent, same) =
-      from_without Stale after (hint, there, absent, same) same
+  first_handed sound Stale after (hint, there, absent, same) = from_without Stale after (hint, there, absent, same) same
   first_handed sound Same after (hint, there, present, low, same) =
       from_without Same after (hint, there, present, low, same) same
   first_handed sound Raised after (hint, there, present, above, same) =
@@ -305,10 +269,8 @@ one_more_swept before old now tiles jobs t next so_far one same within =
       log = so_far.log ++ one.log;
       works = work_goes_on before now next so_far.log one.log so_far.works one.works;
       jobs_are =
-          let all = jobs_append so_far.log one.log in
-          let one_job = jobs_are_taken one.log ∙ ap length one.one_taken in
           let count = so_far.jobs_are in
-          omega (arith, all, one_job, count);
+          omega (arith, jobs_append so_far.log one.log, jobs_are_taken one.log ∙ ap length one.one_taken, count);
       swept =
           subst (λ (ts : List ℕ). HasGained old (Contains ts) (set tiles t true)) (sym taken)
           (HasGained-one old tiles (tiles_taken so_far.log) t within so_far.swept);
@@ -316,7 +278,7 @@ one_more_swept before old now tiles jobs t next so_far one same within =
       none_out = one.none_out;
       no_hints = one.no_hints;
       tiling = same ∙ so_far.tiling;
-      spent = let spent = so_far.spent in let less = one.less in omega (arith, spent, less);
+      spent = omega (arith, so_far.spent, one.less);
     }
 
 -- no tile is swept yet
@@ -343,17 +305,14 @@ bounded_burden core sized tiled count =
     (All-of {P = λ v. max_level - v ≤ max_level} (λ v. omega arith) core.image.cells) in
     let rows = sum_by-le (λ (work : TileWork). if work.dirty then 1 else 0) 1 core.tiles
     (All-of {P = λ work. (if work.dirty then 1 else 0) ≤ 1} (λ (work : TileWork). at_most_one work.dirty) core.tiles) in
-    let filled = sized.filled in
-    let few = sized.size.pixels_within in
     let side = tiled.tile_side.at_least in
     let columns : columns_of t ≤ t.width = spans-le t.width t.side (omega (arith, side)) in
     let lines : rows_of t ≤ t.height = spans-le t.height t.side (omega (arith, side)) in
     let tiles : count_of t ≤ t.width * t.height = mul-le (columns_of t) (rows_of t) t.width t.height columns lines in
-    let most = tiled.size.pixels_within in
-    let total : length core.image.cells ≤ 67108864 = omega (arith, filled, few) in
+    let total : length core.image.cells ≤ 67108864 = omega (arith, sized.filled, sized.size.pixels_within) in
     let all : length core.image.cells * max_level ≤ 67108864 * max_level =
     mul-le (length core.image.cells) max_level 67108864 max_level total (omega arith) in
-    omega (arith, cells, rows, all, tiles, most, count) where
+    omega (arith, cells, rows, all, tiles, tiled.size.pixels_within, count) where
       at_most_one : (b : Bool) → (if b then 1 else 0) ≤ 1
       at_most_one true = omega arith
       at_most_one false = omega arith
@@ -379,32 +338,6 @@ quiet_from core none_out no_hints clean t within = record {
 
 -- ---- settling
 
--- where memory is wanted before a tile is swept, the jobs that were out are abandoned, and the hints handed over
-pub cut_before_sweeps : (before cleared handed after : Core)
-    → IsRun before (abandoned (tickets_out 0 before.tiles)) cleared
-    → ((log : List Entry) × IsWorkedOff cleared log handed × (tiles_taken log ≡ [])) → NoneOut handed
-    → ((t : ℕ) × IsDirty handed t) → after ≡ handed
-    → (log : List Entry) × IsCutShort before log after × (tiles_taken log ≡ [])
-cut_before_sweeps before cleared handed after clears (hints, hands, none_taken) none_out dirty same =
-    let tickets = abandoned (tickets_out 0 before.tiles) in
-    let cut : IsCutShort before (tickets ++ hints) handed = record {
-      reached = handed;
-      done = tickets ++ hints;
-      in_hand = [];
-      settling = record { cleared = cleared; work = hints; clears = clears; works = hands; parts = refl };
-      drops = refl;
-      at_most_one = omega arith;
-      none_out = none_out;
-      some_dirty = dirty;
-      parts = sym (append-nil (tickets ++ hints));
-    } in (
-      tickets ++ hints,
-      subst (IsCutShort before (tickets ++ hints)) (sym same) cut,
-      taken_append tickets hints
-          ∙ ap (λ (ts : List ℕ). ts ++ tiles_taken hints) (none_taken_abandoned (tickets_out 0 before.tiles))
-          ∙ none_taken,
-    )
-
 -- nothing is abandoned at a quiet core
 none_abandoned_where_quiet : (core after : Core) (tickets : List Ticket) → IsQuiet core
     → IsRun core (abandoned tickets) after → after ≡ core
@@ -426,58 +359,11 @@ none_worked_where_quiet core after ((Hand t place, answer) ∷ log) quiet ((none
 none_worked_where_quiet core after ((Take t, answer) ∷ log) quiet ((none_out, no_hints, least), rest) =
     let e : true ≡ false = sym least.0.1 ∙ (quiet t least.0.0).clean in
     absurd cc
-none_worked_where_quiet core after ((Merge delta, answer) ∷ log) quiet (is_next, rest) = absurd is_next
-none_worked_where_quiet core after ((Abandon ticket, answer) ∷ log) quiet (is_next, rest) = absurd is_next
-
--- so a tile that is dirty once that is done was not one of a quiet core
-pub some_work_before : (before cleared handed : Core) → IsRun before (abandoned (tickets_out 0 before.tiles)) cleared
-    → ((log : List Entry) × IsWorkedOff cleared log handed × (tiles_taken log ≡ [])) → ((t : ℕ) × IsDirty handed t)
-    → IsQuiet before → ⊥
-some_work_before before cleared handed clears (hints, hands, none_taken) (t, dirty) quiet =
-    let same_cleared = none_abandoned_where_quiet before cleared (tickets_out 0 before.tiles) quiet clears in
-    let same : handed ≡ before =
-    none_worked_where_quiet cleared handed hints (subst IsQuiet (sym same_cleared) quiet) hands ∙ same_cleared in
-    let was : IsDirty before t = subst (λ (core : Core). IsDirty core t) same dirty in
-    let e : true ≡ false = sym was.1 ∙ (quiet t was.0).clean in
-    absurd cc
-
--- jobs that are abandoned, hints that are handed over and tiles that are swept are settling; it takes the tiles that
--- are swept
-pub settling_by : (before cleared handed after : Core) (abandons : ℕ)
-    → IsRun before (abandoned (tickets_out 0 before.tiles)) cleared → abandons ≡ length (tickets_out 0 before.tiles)
-    → ((log : List Entry) × IsWorkedOff cleared log handed × (tiles_taken log ≡ [])) → (sweeps : List Entry)
-    → IsWorkedOff handed sweeps after
-    → (log : List Entry) × IsSettling before log after × (tiles_taken sweeps ≡ tiles_taken log)
-    × (abandons ≡ abandons_of log)
-settling_by before cleared handed after abandons clears count (hints, hands, none_taken) sweeps works =
-    let tickets = tickets_out 0 before.tiles in
-    let work = hints ++ sweeps in
-    let works_off = work_goes_on cleared handed after hints sweeps hands works in
-    let dropped = abandons_append tickets work in
-    let no_more = none_abandoned cleared after work works_off in
-    let taken : tiles_taken (abandoned tickets ++ work) ≡ tiles_taken sweeps =
-    taken_append (abandoned tickets) work ∙ ap (λ (ts : List ℕ). ts ++ tiles_taken work) (none_taken_abandoned tickets)
-    ∙ taken_append hints sweeps ∙ ap (λ (ts : List ℕ). ts ++ tiles_taken sweeps) none_taken in (
-      abandoned tickets ++ work,
-      record { cleared = cleared; work = work; clears = clears; works = works_off; parts = refl },
-      sym taken,
-      omega (arith, dropped, no_more, count),
-    )
+none_worked_where_quiet core after ((_, answer) ∷ log) quiet (is_next, rest) = absurd is_next
 
 -- logs that take the same tiles take as many jobs
 same_jobs : (one other : List Entry) → tiles_taken one ≡ tiles_taken other → jobs_of one ≡ jobs_of other
 same_jobs one other same = jobs_are_taken one ∙ ap length same ∙ sym (jobs_are_taken other)
-
--- until the core is quiet
-pub settled_by : (before cleared handed after : Core) (jobs abandons : ℕ)
-    → IsRun before (abandoned (tickets_out 0 before.tiles)) cleared → abandons ≡ length (tickets_out 0 before.tiles)
-    → ((log : List Entry) × IsWorkedOff cleared log handed × (tiles_taken log ≡ []))
-    → ((log : List Entry) × IsWorkedOff handed log after × (jobs_of log ≡ jobs)) → IsQuiet after
-    → (log : List Entry) × IsSettled before log after × (jobs ≡ jobs_of log) × (abandons ≡ abandons_of log)
-settled_by before cleared handed after jobs abandons clears count hints (sweeps, works, swept) quiet =
-    let (log, settling, taken, dropped) =
-    settling_by before cleared handed after abandons clears count hints sweeps works in
-    (log, record { settling = settling; quiet = quiet }, sym swept ∙ same_jobs sweeps log taken, dropped)
 
 -- where so many jobs may be taken as never are, no work is left
 pub all_worked_off : {E : Type 0} (limit : ℕ) (handed after : Core) (old new : List Bool) (result : Result ℕ E)
@@ -490,34 +376,103 @@ all_worked_off limit handed after old new (Ok jobs) within few unlimited = recor
 }
 all_worked_off limit handed after old new (Err e) within few unlimited = tt
 
--- a slice of settling
-pub slice_by : SettlingSoFarIsWithinWork → OneJobOutATile → (before cleared handed after : Core) (old new : List Bool)
-    (limit jobs abandons : ℕ) (is_quiet : Bool) → IsSound before
-    → IsRun before (abandoned (tickets_out 0 before.tiles)) cleared → abandons ≡ length (tickets_out 0 before.tiles)
-    → ((log : List Entry) × IsWorkedOff cleared log handed × (tiles_taken log ≡ []))
-    → AreWorkedOffWithin limit handed old after new jobs → IsTrue is_quiet ↔ IsQuiet after
-    → IsSlice before old limit
-    (record { count = record { jobs = jobs; abandons = abandons }; is_quiet = is_quiet }) after new
-slice_by law one_a_tile before cleared handed after old new limit jobs abandons is_quiet sound clears count hints within
-    quiet =
-    let off = within.off in
-    let (log, settling, taken, dropped) =
-    settling_by before cleared handed after abandons clears count hints off.log off.works in
-    let swept : jobs ≡ jobs_of log = sym off.jobs_are ∙ same_jobs off.log log taken in
-    record {
-      log = log;
-      settling = settling;
-      jobs_are = swept;
-      abandons_are = dropped;
-      swept = subst (λ (ts : List ℕ). HasGained old (Contains ts) new) taken off.swept;
-      at_most = within.at_most;
-      to_the_end = within.to_the_end;
-      quiet = quiet;
-      bound =
-          subst (λ n. IsWithinWork before after n abandons) (sym swept)
-          (subst (λ n. IsWithinWork before after (jobs_of log) n) (sym dropped) (law before after log sound settling));
-      each_out = count ∙ one_a_tile before;
-    }
+-- jobs that are abandoned, and hints that are handed over then
+module _ (before cleared handed : Core) (clears : IsRun before (abandoned (tickets_out 0 before.tiles)) cleared)
+    (hands : AreHanded cleared handed) where
+  abbrev tickets : List Ticket
+  tickets = tickets_out 0 before.tiles
+
+  -- where memory is wanted before a tile is swept, they are all that was done
+  pub cut_before_sweeps : (after : Core) → ((t : ℕ) × IsDirty handed t) → after ≡ handed
+      → (log : List Entry) × IsCutShort before log after × (tiles_taken log ≡ [])
+  cut_before_sweeps after dirty same =
+      let cut : IsCutShort before (abandoned tickets ++ hands.log) handed = record {
+        reached = handed;
+        done = abandoned tickets ++ hands.log;
+        in_hand = [];
+        settling = record { cleared = cleared; work = hands.log; clears = clears; works = hands.works; parts = refl };
+        drops = refl;
+        at_most_one = omega arith;
+        none_out = hands.none_out;
+        some_dirty = dirty;
+        parts = sym (append-nil (abandoned tickets ++ hands.log));
+      } in (
+        abandoned tickets ++ hands.log,
+        rw same cut,
+        taken_append (abandoned tickets) hands.log
+            ∙ ap (λ (ts : List ℕ). ts ++ tiles_taken hands.log) (none_taken_abandoned tickets) ∙ hands.none_taken,
+      )
+
+  -- and the set of the tiles that were swept is as it was
+  pub slice_cut_short : (after : Core) (old new : List Bool) → ((t : ℕ) × IsDirty handed t) → after ≡ handed
+      → new ≡ old → IsSliceCutShort before old after new
+  slice_cut_short after old new dirty same same_set =
+      let (log, cut, taken) = cut_before_sweeps after dirty same in (
+        log,
+        cut,
+        subst (λ (tiles : List Bool). HasGained old (IsTakenIn log) tiles) (sym same_set)
+            (subst (λ (ts : List ℕ). HasGained old (Contains ts) old) (sym taken) (HasGained-none old)),
+      )
+
+  -- a tile that is dirty once that is done was not one of a quiet core
+  pub some_work_before : ((t : ℕ) × IsDirty handed t) → IsQuiet before → ⊥
+  some_work_before (t, dirty) quiet =
+      let same_cleared = none_abandoned_where_quiet before cleared tickets quiet clears in
+      let same : handed ≡ before =
+      none_worked_where_quiet cleared handed hands.log (rw same_cleared quiet) hands.works ∙ same_cleared in
+      let was : IsDirty before t = rw same at dirty in
+      let e : true ≡ false = sym was.1 ∙ (quiet t was.0).clean in
+      absurd cc
+
+  -- with tiles that are swept then they are settling; it takes the tiles that are swept
+  pub settling_by : (after : Core) (abandons : ℕ) → abandons ≡ length tickets → (sweeps : List Entry)
+      → IsWorkedOff handed sweeps after → (log : List Entry) × IsSettling before log after
+      × (tiles_taken sweeps ≡ tiles_taken log) × (abandons ≡ abandons_of log)
+  settling_by after abandons count sweeps works =
+      let work = hands.log ++ sweeps in
+      let works_off = work_goes_on cleared handed after hands.log sweeps hands.works works in
+      let taken : tiles_taken (abandoned tickets ++ work) ≡ tiles_taken sweeps =
+      taken_append (abandoned tickets) work
+      ∙ ap (λ (ts : List ℕ). ts ++ tiles_taken work) (none_taken_abandoned tickets) ∙ taken_append hands.log sweeps
+      ∙ ap (λ (ts : List ℕ). ts ++ tiles_taken sweeps) hands.none_taken in (
+        abandoned tickets ++ work,
+        record { cleared = cleared; work = work; clears = clears; works = works_off; parts = refl },
+        sym taken,
+        omega (arith, abandons_append tickets work, none_abandoned cleared after work works_off, count),
+      )
+
+  -- until the core is quiet
+  pub settled_by : (after : Core) (jobs abandons : ℕ) → abandons ≡ length tickets
+      → ((log : List Entry) × IsWorkedOff handed log after × (jobs_of log ≡ jobs)) → IsQuiet after
+      → (log : List Entry) × IsSettled before log after × (jobs ≡ jobs_of log) × (abandons ≡ abandons_of log)
+  settled_by after jobs abandons count (sweeps, works, swept) quiet =
+      let (log, settling, taken, dropped) = settling_by after abandons count sweeps works in
+      (log, record { settling = settling; quiet = quiet }, sym swept ∙ same_jobs sweeps log taken, dropped)
+
+  -- a slice of settling
+  pub slice_by : SettlingSoFarIsWithinWork → OneJobOutATile → (after : Core) (old new : List Bool)
+      (limit jobs abandons : ℕ) (is_quiet : Bool) → IsSound before → abandons ≡ length tickets
+      → AreWorkedOffWithin limit handed old after new jobs → IsTrue is_quiet ↔ IsQuiet after → IsSlice before old limit
+      (record { count = record { jobs = jobs; abandons = abandons }; is_quiet = is_quiet }) after new
+  slice_by law one_a_tile after old new limit jobs abandons is_quiet sound count within quiet =
+      let off = within.off in
+      let (log, settling, taken, dropped) = settling_by after abandons count off.log off.works in
+      let swept : jobs ≡ jobs_of log = sym off.jobs_are ∙ same_jobs off.log log taken in
+      record {
+        log = log;
+        settling = settling;
+        jobs_are = swept;
+        abandons_are = dropped;
+        swept = subst (λ (ts : List ℕ). HasGained old (Contains ts) new) taken off.swept;
+        at_most = within.at_most;
+        to_the_end = within.to_the_end;
+        quiet = quiet;
+        bound =
+            subst (λ n. IsWithinWork before after n abandons) (sym swept)
+            (subst (λ n. IsWithinWork before after (jobs_of log) n) (sym dropped)
+            (law before after log sound settling));
+        each_out = count ∙ one_a_tile before;
+      }
 
 -- a tile that is neither in the new set nor dirty shows what it showed, and so it does where memory was wanting
 pub slice_shows : SettlingChangesFewTiles → (before after : Core) (old new : List Bool) (log : List Entry)
@@ -534,27 +489,11 @@ cut_short_shows law before after old new sound (log, cut, gained) t absent clean
     law before after log sound cut t
     (record { untaken = λ taken. absent ((gained.each t).1 (inr taken)); clean = clean })
 
--- where memory is wanted before a tile is swept, the set is as it was
-pub slice_cut_short : (before cleared handed after : Core) (old new : List Bool)
-    → IsRun before (abandoned (tickets_out 0 before.tiles)) cleared
-    → ((log : List Entry) × IsWorkedOff cleared log handed × (tiles_taken log ≡ [])) → NoneOut handed
-    → ((t : ℕ) × IsDirty handed t) → after ≡ handed → new ≡ old → IsSliceCutShort before old after new
-slice_cut_short before cleared handed after old new clears hints none_out dirty same same_set =
-    let (log, cut, taken) = cut_before_sweeps before cleared handed after clears hints none_out dirty same in (
-      log,
-      cut,
-      subst (λ (tiles : List Bool). HasGained old (IsTakenIn log) tiles) (sym same_set)
-          (subst (λ (ts : List ℕ). HasGained old (Contains ts) old) (sym taken) (HasGained-none old)),
-    )
-
 -- ---- the bound on the work
 
 pub settled_within_work : SettlingIsWithinWork → (before after : Core) (jobs abandons : ℕ) → IsSound before
     → ((log : List Entry) × IsSettled before log after × (jobs ≡ jobs_of log) × (abandons ≡ abandons_of log))
     → IsWithinWork before after jobs abandons × Owes after 0
 settled_within_work law before after jobs abandons sound (log, settled, same_jobs, same_abandons) =
-    let (within, nothing_owed) = law before after log sound settled in (
-      subst (λ n. IsWithinWork before after n abandons) (sym same_jobs)
-          (subst (λ n. IsWithinWork before after (jobs_of log) n) (sym same_abandons) within),
-      nothing_owed,
-    )
+    let (within, nothing_owed) = law before after log sound settled in
+    (rw (same_jobs, same_abandons) within, nothing_owed)

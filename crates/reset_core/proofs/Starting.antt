@@ -1,51 +1,35 @@
 -- A core that begins with strokes: it is sound, can be stored, and shows what one shows that took them and was settled.
 use Rattle.std.proofs.Common.{◌≡◌, ℕ, ◌≤◌, List, [], ◌∷◌, length, replicate, false, None, refl, sym, ◌∙◌, ap, subst}
-use Rattle.std.proofs.Common.{arith}
-use Rattle.std.specs.Prelude.{Some, true, Contains}
-use Rattle.std.specs.List.{AllByRecursion}
+use Rattle.std.proofs.Common.{arith, Some, true, Contains}
 use Rattle.std.proofs.lemmas.List.{length-replicate}
-use Rattle.grid_core.specs.declared.conn.Conn.{Conn}
-use Rattle.grid_core.specs.declared.pixel.Pixel.{Pixel}
-use Rattle.grid_core.specs.Bounds.{no_bounds}
-use Rattle.grid_core.specs.Path.{Domain, Inside, IsPath, domain_of, end_of}
-use Rattle.grid_core.specs.Raster.{Raster, IsFilled, IsOfSize, value_at}
-use Rattle.grid_core.specs.Reconstruction.{IsOpen, IsReconstruction, IsSupported}
-use Rattle.grid_core.specs.Tiles.{Tiles, IsTiled, count_of}
-use Rattle.grid_core.proofs.Cells.{equal_images}
-use Rattle.grid_core.proofs.Images.{one_reconstruction, reconstruction_is_closed}
-use Rattle.grid_core.proofs.Reach.{reaches_here, reaches_within_mask}
+use Rattle.std.specs.List.{AllByRecursion}
+use Rattle.grid_core.specs.{declared.conn.Conn.Conn, declared.pixel.Pixel.Pixel, Bounds.no_bounds, Path.Domain}
+use Rattle.grid_core.specs.{Path.Inside, Path.IsPath, Path.domain_of, Path.end_of, Raster.Raster, Raster.IsFilled}
+use Rattle.grid_core.specs.{Raster.IsOfSize, Raster.value_at, Reconstruction.IsOpen, Reconstruction.IsReconstruction}
+use Rattle.grid_core.specs.{Reconstruction.IsSupported, Tiles.Tiles, Tiles.IsTiled, Tiles.count_of}
+use Rattle.grid_core.proofs.{Cells.equal_images, Images.one_reconstruction, Images.reconstruction_is_closed}
+use Rattle.grid_core.proofs.{Reach.reaches_here, Reach.reaches_within_mask}
 use Rattle.stroke_lattice.specs.State.{State, StateFits, HasStroke, IsBelow, IsJoin, AreCompatible, nothing}
 use Rattle.stroke_lattice.proofs.Joins.{below_itself, nothing_has_no_stroke, nothing_has_no_tombstone, same_state}
-use Rattle.marker_tiles.specs.Kept.{Kept, IsMarkerOf}
-use Rattle.marker_tiles.specs.Marker.{IsMarker}
+use Rattle.marker_tiles.specs.{Kept.Kept, Kept.IsMarkerOf, Marker.IsMarker}
 use Rattle.raster_sweeps.specs.Regrowth.{IsRegrown}
-use Rattle.tile_generations.specs.Generations.{max_generation}
-use Rattle.tile_generations.specs.declared.ticket.Ticket.{Ticket}
-use Rattle.tile_generations.specs.Jobs.{Swept}
-use Rattle.border_queues.specs.Laws.{EdgesAreOpen}
-use Rattle.border_queues.specs.TileWork.{fresh}
+use Rattle.tile_generations.specs.{Generations.max_generation, declared.ticket.Ticket.Ticket, Jobs.Swept}
+use Rattle.border_queues.specs.{Laws.EdgesAreOpen, TileWork.fresh}
 use Rattle.core_rules.specs.declared.answers.Back.TheVariants.{Joined, Again, Stale, Stranger}
 use Rattle.core_rules.specs.declared.answers.Handed.TheVariants.{Raised, Same, Stale as Old, Nothing}
-use Rattle.core_rules.specs.Events.{Event, Answer, Happens, Merge, Take, GiveBack, Abandon, Hand}
-use Rattle.core_rules.specs.Events.{OfTake, OfGiveBack, OfHand}
-use Rattle.core_rules.specs.Invariant.{IsSound, HasReconstruction}
-use Rattle.core_rules.specs.Opening.{opened}
+use Rattle.core_rules.specs.Events.{Event, Answer, Happens, Merge, Take, GiveBack, Abandon, Hand, OfTake, OfGiveBack}
+use Rattle.core_rules.specs.Events.{OfHand}
+use Rattle.core_rules.specs.{Invariant.IsSound, Invariant.HasReconstruction, Opening.opened, Hints.raised}
+use Rattle.core_rules.specs.{Hints.without_hint, Sweeps.IsJoined, Sweeps.taken}
 use Rattle.core_rules.specs.Runs.{Entry, IsNext, IsRun, IsSettled, IsWorkedOff, abandoned, tickets_out}
-use Rattle.core_rules.specs.Hints.{raised, without_hint}
-use Rattle.core_rules.specs.Sweeps.{IsJoined, taken}
 use Rattle.core_rules.specs.Work.{Core, domain, image_at, mask_at, tiling, with_work, work_at}
-use Rattle.core_rules.proofs.Merging.{merge_keeps_sound}
-use Rattle.core_rules.proofs.Opening.{opened_is_quiet, opened_is_sound}
-use Rattle.core_rules.proofs.Quiet.{none_in_nothing, quiet_is_reconstruction}
-use Rattle.core_rules.proofs.Running.{run_keeps_sound, settled_is_run}
-use Rattle.core_rules.proofs.Supporting.{reach_at_most}
-use Rattle.reset_core.specs.Starting.{BegunIsAsSettled, IsBeginningOf, IsBegunWith}
-use Rattle.reset_core.specs.Bounding.{AreBounded}
-use Rattle.reset_core.specs.declared.replica.Core.TheInside.{Inside as Parts}
-use Rattle.reset_core.specs.Replica.{IsStored, begun, core_of, with_image}
-use Rattle.reset_core.specs.declared.replica.Beginning.{Beginning}
-use Rattle.reset_core.proofs.Bounding.{closed_bounded}
-use Rattle.reset_core.proofs.StartingTiles.{settled_tiles}
+use Rattle.core_rules.proofs.{Merging.merge_keeps_sound, Opening.opened_is_quiet, Opening.opened_is_sound}
+use Rattle.core_rules.proofs.{Quiet.none_in_nothing, Quiet.quiet_is_reconstruction, Running.run_keeps_sound}
+use Rattle.core_rules.proofs.{Running.settled_is_run, Supporting.reach_at_most}
+use Rattle.reset_core.specs.{Starting.BegunIsAsSettled, Starting.IsBeginningOf, Starting.IsBegunWith}
+use Rattle.reset_core.specs.{Bounding.AreBounded, declared.replica.Core.TheInside.Inside as Parts, Replica.IsStored}
+use Rattle.reset_core.specs.{Replica.begun, Replica.core_of, Replica.with_image, declared.replica.Beginning.Beginning}
+use Rattle.reset_core.proofs.{Bounding.closed_bounded, StartingTiles.settled_tiles}
 use Rattle.reset_core.proofs.Storing.{none_cut, same_tiling}
 
 -- ---- the reconstruction is supported

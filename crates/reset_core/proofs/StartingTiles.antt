@@ -1,31 +1,24 @@
 -- The tiles of a core that took strokes first and was settled: no work is left, and they are in the generation in which
 -- they were opened.
-use Rattle.std.proofs.Common.{◌≡◌, ℕ, ◌<◌, List, [], ◌∷◌, length, refl, sym, ◌∙◌, ap, subst, arith, inl, inr}
-use Rattle.std.specs.Prelude.{Some, None, true, false, remove}
+use Rattle.std.proofs.Common.{◌≡◌, ℕ, ◌<◌, List, [], ◌∷◌, length, refl, sym, ◌∙◌, ap, subst, arith, inl, inr, Some}
+use Rattle.std.proofs.Common.{None, true, false, remove}
 use Rattle.std.proofs.lemmas.Bool.{cases_eq, cases_lt}
 use Rattle.std.proofs.lemmas.List.{ext_get_or, get_or_past, get_or-replicate, length-replicate, length-set, set_past}
-use Rattle.grid_core.specs.declared.conn.Conn.{Conn}
-use Rattle.grid_core.specs.Raster.{Raster}
-use Rattle.grid_core.specs.Tiles.{Tiles, count_of, tile_of}
-use Rattle.stroke_lattice.specs.State.{State, nothing}
-use Rattle.stroke_lattice.specs.Change.{Turnover}
+use Rattle.grid_core.specs.{declared.conn.Conn.Conn, Raster.Raster, Tiles.Tiles, Tiles.count_of, Tiles.tile_of}
+use Rattle.stroke_lattice.specs.{State.State, State.nothing, Change.Turnover}
 use Rattle.stroke_lattice.proofs.Joins.{nothing_has_no_stroke}
-use Rattle.tile_generations.specs.declared.ticket.Ticket.{Ticket}
-use Rattle.tile_generations.specs.Jobs.{Swept}
+use Rattle.tile_generations.specs.{declared.ticket.Ticket.Ticket, Jobs.Swept}
 use Rattle.border_queues.specs.TileWork.{TileWork, IsIdle, fresh, idle, work_of}
 use Rattle.core_rules.specs.declared.answers.Back.TheVariants.{Joined, Again, Stale, Stranger}
 use Rattle.core_rules.specs.declared.answers.Handed.TheVariants.{Raised, Same, Stale as Old, Nothing}
-use Rattle.core_rules.specs.Events.{Event, Answer, Happens, Merge, Take, GiveBack, Abandon, Hand}
-use Rattle.core_rules.specs.Events.{OfTake, OfGiveBack, OfHand}
-use Rattle.core_rules.specs.Hints.{raised, without_hint}
+use Rattle.core_rules.specs.Events.{Event, Answer, Happens, Merge, Take, GiveBack, Abandon, Hand, OfTake, OfGiveBack}
+use Rattle.core_rules.specs.Events.{OfHand}
+use Rattle.core_rules.specs.{Hints.raised, Hints.without_hint, Merge.IsMerged, Opening.opened, Sweeps.IsJoined}
+use Rattle.core_rules.specs.{Sweeps.taken}
 use Rattle.core_rules.specs.Hits.{AreLinked, HoldsOne, LeadFrom, LosesStroke}
-use Rattle.core_rules.specs.Merge.{IsMerged}
-use Rattle.core_rules.specs.Opening.{opened}
 use Rattle.core_rules.specs.Runs.{Entry, IsNext, IsRun, IsSettled, IsWorkedOff, abandoned, tickets_out}
-use Rattle.core_rules.specs.Sweeps.{IsJoined, taken}
 use Rattle.core_rules.specs.Work.{Core, tiling, with_work, work_at}
-use Rattle.core_rules.proofs.Cores.{field_kept}
-use Rattle.core_rules.proofs.Resets.{others_stay}
+use Rattle.core_rules.proofs.{Cores.field_kept, Resets.others_stay}
 
 -- ---- generations that stay
 

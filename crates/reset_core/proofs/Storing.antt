@@ -1,51 +1,32 @@
 -- Cores as they are stored: what an event leaves as it is, and what it changes.
 use Rattle.std.proofs.Common.{◌≡◌, ℕ, ◌<◌, ◌≤◌, true, false, List, length, replicate, set, refl, sym, ◌∙◌, ap, subst}
-use Rattle.std.proofs.Common.{arith}
-use Rattle.grid_core.specs.declared.bounds.Bounds.{Bounds}
-use Rattle.grid_core.specs.Bounds.{bounds_at, joined, no_bounds}
-use Rattle.tile_work.specs.OpenBounds.{bounds_for}
-use Rattle.reset_core.specs.Bounding.{AreBounded}
-use Rattle.reset_core.proofs.Bounding.{blank_is_black, bounded_still, follow_rise, none_bounded}
-use Rattle.std.specs.Prelude.{Bool, Option, None, Some, slice_set, slice_index_or, remove}
-use Rattle.std.proofs.Common.{inl, inr}
+use Rattle.std.proofs.Common.{arith, Bool, None, Some, slice_set, slice_index_or, inl, inr}
 use Rattle.std.proofs.lemmas.Bool.{cases_lt}
-use Rattle.tile_generations.specs.CutMasks.{AreTileMasks}
 use Rattle.std.proofs.lemmas.List.{get_or-replicate, get_or_past, length-set, length-replicate}
-use Rattle.grid_core.specs.Raster.{IsFilled}
-use Rattle.grid_core.specs.Tiles.{Tiles, IsTiled, count_of}
-use Rattle.stroke_lattice.specs.State.{State, nothing}
-use Rattle.tile_generations.specs.Generations.{max_generation}
-use Rattle.core_rules.specs.Opening.{blank, opened}
-use Rattle.border_queues.specs.TileWork.{fresh, TileWork}
-use Rattle.core_rules.proofs.Opening.{opened_is_sound}
-use Rattle.grid_core.specs.Raster.{Raster, IsInside, IsBelow, with_value}
-use Rattle.grid_core.specs.Tiles.{tile_of}
-use Rattle.grid_core.proofs.Cells.{each_pixel_below}
-use Rattle.border_queues.specs.declared.hint.Hint.{Hint}
-use Rattle.marker_tiles.specs.Kept.{Kept, IsMarkerOf}
-use Rattle.core_rules.specs.declared.answers.Handed.{Handed}
-use Rattle.core_rules.specs.declared.answers.Handed.TheVariants.{Raised}
-use Rattle.core_rules.specs.Work.{Core, tiling, image_at, IsTile, work_at, with_work}
-use Rattle.core_rules.specs.Hits.{IsInTile}
-use Rattle.core_rules.specs.Hints.{hint_at, IsPresent, without_hint, raised, IsHanded}
-use Rattle.core_rules.specs.Invariant.{IsSound}
-use Rattle.reset_core.specs.declared.replica.Core.TheInside.{Inside as Parts}
+use Rattle.grid_core.specs.{declared.bounds.Bounds.Bounds, Bounds.bounds_at, Bounds.joined, Bounds.no_bounds}
+use Rattle.grid_core.specs.Raster.{IsFilled, Raster, IsInside, IsBelow, with_value}
+use Rattle.grid_core.specs.Tiles.{Tiles, IsTiled, count_of, tile_of}
+use Rattle.tile_work.specs.OpenBounds.{bounds_for}
+use Rattle.reset_core.specs.{Bounding.AreBounded, declared.replica.Core.TheInside.Inside as Parts}
 use Rattle.reset_core.specs.Replica.{core_of, IsEmptySet, IsStored}
-use Rattle.core_rules.proofs.Cores.{inside_image}
-use Rattle.tile_generations.specs.declared.ticket.Ticket.{Ticket}
-use Rattle.core_rules.specs.Sweeps.{IsAbandoned}
-use Rattle.core_rules.proofs.Handing.{hint_of_tile, hand_keeps_sound}
-use Rattle.core_rules.proofs.Taking.{abandon_keeps_sound}
-use Rattle.core_rules.proofs.Removals.{taken_was_there}
+use Rattle.reset_core.proofs.Bounding.{blank_is_black, bounded_still, follow_rise, none_bounded}
+use Rattle.tile_generations.specs.{CutMasks.AreTileMasks, Generations.max_generation, declared.ticket.Ticket.Ticket}
+use Rattle.stroke_lattice.specs.State.{nothing}
+use Rattle.core_rules.specs.{Opening.blank, Opening.opened, declared.answers.Handed.Handed}
+use Rattle.core_rules.specs.{declared.answers.Handed.TheVariants.Raised, Hits.IsInTile, Hints.hint_at, Hints.IsPresent}
+use Rattle.core_rules.specs.{Hints.without_hint, Hints.raised, Hints.IsHanded, Invariant.IsSound, Sweeps.IsAbandoned}
+use Rattle.core_rules.specs.Work.{Core, tiling, image_at, IsTile, work_at, with_work}
+use Rattle.border_queues.specs.{TileWork.fresh, TileWork.TileWork, declared.hint.Hint.Hint}
+use Rattle.core_rules.proofs.{Opening.opened_is_sound, Cores.inside_image, Handing.hint_of_tile, Handing.left}
+use Rattle.core_rules.proofs.{Handing.hand_keeps_sound, Taking.abandon_keeps_sound, Removals.taken_was_there}
+use Rattle.grid_core.proofs.Cells.{each_pixel_below}
+use Rattle.marker_tiles.specs.Kept.{Kept, IsMarkerOf}
 
 -- the image of a sound core is nowhere above its mask
 pub image_below_mask : (core : Core) → IsSound core → IsBelow core.image core.mask
 image_below_mask core sound =
     each_pixel_below core.image core.mask sound.shape.image.filled sound.shape.image.width sound.shape.image.height
-    (λ p inside.
-    let width = sound.shape.image.width in
-    let height = sound.shape.image.height in
-    (sound.supported p (omega (arith, width, inside.0), omega (arith, height, inside.1))).1)
+    (λ p inside. (sound.supported p (omega (arith, sound.shape.image.width, sound.shape.image.height))).1)
 
 -- the tiles of a kept marker are those of its mask
 pub same_tiling : (kept : Kept) → kept.tiling.width ≡ kept.mask.width → kept.tiling.height ≡ kept.mask.height
@@ -62,9 +43,7 @@ empty_still old new set count empty = empty ∙ ap (λ n. replicate n false) (sy
 -- an event that changes image, work, bounds and serial alone leaves a stored core where it leaves a sound one, and
 -- nothing open outside the bounds
 pub stored_still : (old : Parts) (image : Raster) (work : List TileWork) (bounds : List Bounds) (serial : ℕ)
-    → IsStored old
-    → length work ≡ length old.work
-    → AreBounded (record (core_of old) { image = image }) bounds
+    → IsStored old → length work ≡ length old.work → AreBounded (record (core_of old) { image = image }) bounds
     → IsSound (core_of (record old { image = image; work = work; bounds = bounds; serial = serial }))
     → IsStored (record old { image = image; work = work; bounds = bounds; serial = serial })
 stored_still old image work bounds serial stored count bounded sound = record {
@@ -103,15 +82,11 @@ module _ (parts : Parts) (stored : IsStored parts) (t i : ℕ) (hint : Hint)
   goes_inside = inside_image (core_of parts) hint.to_pixel stored.sound.shape goes_to_tile.inside
 
   -- the hint leaves its inbox, and nothing else happens
-  pub lost_is_stored : (handed : Handed)
-      → IsHanded (core_of parts) t i handed (without_hint (core_of parts) t i)
+  pub lost_is_stored : (handed : Handed) → IsHanded (core_of parts) t i handed (without_hint (core_of parts) t i)
       → IsStored (record parts { work = (without_hint (core_of parts) t i).tiles })
   lost_is_stored handed happens =
       stored_still parts parts.image (without_hint (core_of parts) t i).tiles parts.bounds parts.serial stored
-      (length-set parts.work t (record (work_at (core_of parts) t) {
-        inbox = remove (work_at (core_of parts) t).inbox i;
-      }))
-      stored.bounded
+      (length-set parts.work t (left (core_of parts) t i)) stored.bounded
       (hand_keeps_sound (core_of parts) (without_hint (core_of parts) t i) t i handed stored.sound happens)
 
   -- the hint leaves its inbox, its pixel is raised, and its tile is dirty
@@ -120,27 +95,27 @@ module _ (parts : Parts) (stored : IsStored parts) (t i : ℕ) (hint : Hint)
     pub raised_happens : IsHanded (core_of parts) t i Raised (raised (without_hint (core_of parts) t i) hint)
     raised_happens = (hint, there, present, above, refl)
 
+    -- the image and the bounds afterwards
+    abbrev image : Raster
+    image = with_value parts.image hint.to_pixel hint.value
+
+    abbrev bounds : List Bounds
+    bounds = set parts.bounds t (joined (bounds_for parts.bounds t) (joined no_bounds (bounds_at hint.to_pixel)))
+
     pub raised_is_stored : IsStored (record parts {
-      image = with_value parts.image hint.to_pixel hint.value;
+      image = image;
       work = (raised (without_hint (core_of parts) t i) hint).tiles;
-      bounds = set parts.bounds t (joined (bounds_for parts.bounds t) (joined no_bounds (bounds_at hint.to_pixel)));
+      bounds = bounds;
     })
     raised_is_stored =
         let home = tile_of (tiling (core_of parts)) hint.to_pixel in
         let lost = without_hint (core_of parts) t i in
-        let tiles = tiling (core_of parts) in
         let shape = stored.sound.shape in
-        stored_still parts (with_value parts.image hint.to_pixel hint.value) (raised lost hint).tiles
-        (set parts.bounds t (joined (bounds_for parts.bounds t) (joined no_bounds (bounds_at hint.to_pixel))))
-        parts.serial stored
+        stored_still parts image (raised lost hint).tiles bounds parts.serial stored
         (length-set lost.tiles home (record (work_at lost home) { dirty = true })
-        ∙ length-set parts.work t (record (work_at (core_of parts) t) {
-          inbox = remove (work_at (core_of parts) t).inbox i;
-        }))
-        (bounded_still (core_of parts) (with_value parts.image hint.to_pixel hint.value) parts.bounds
-        (set parts.bounds t (joined (bounds_for parts.bounds t) (joined no_bounds (bounds_at hint.to_pixel))))
-        shape.tiled stored.bounded
-        (follow_rise tiles parts.conn parts.image parts.bounds hint.to_pixel hint.value t shape.tiled
+        ∙ length-set parts.work t (left (core_of parts) t i))
+        (bounded_still (core_of parts) image parts.bounds bounds shape.tiled stored.bounded
+        (follow_rise (tiling (core_of parts)) parts.conn parts.image parts.bounds hint.to_pixel hint.value t shape.tiled
         stored.bounded.count shape.image.filled shape.image.width shape.image.height goes_to_tile.inside
         goes_to_tile.tile above))
         (hand_keeps_sound (core_of parts) (raised lost hint) t i Raised stored.sound raised_happens)
@@ -166,39 +141,23 @@ none_cut mask tiles width height = record {
       absurd cc;
 }
 
--- a stored core stays one where masks are cut out
-pub cut_is_stored : (parts : Parts) (masks : List (Option Raster)) → IsStored parts
-    → AreTileMasks parts.markers.mask parts.markers.tiling masks → IsStored (record parts { masks = masks })
-cut_is_stored parts masks stored are = record {
-  sound = stored.sound;
-  bounded = stored.bounded;
-  marks = stored.marks;
-  masks = are;
-  no_marks = stored.no_marks;
-  none_queued = stored.none_queued;
-}
-
 -- ---- opening
 
 -- what a core is opened as
 pub is_opened : (parts : Parts) (mask : Raster) (side first : ℕ) → parts.markers.mask ≡ mask
     → parts.markers.tiling.side ≡ side → parts.state ≡ nothing → parts.image ≡ blank mask
-    → parts.work
-    ≡ replicate (count_of (record { width = mask.width; height = mask.height; side = side })) (fresh first)
+    → parts.work ≡ replicate (count_of (record { width = mask.width; height = mask.height; side = side })) (fresh first)
     → parts.serial ≡ 0 → core_of parts ≡ opened mask parts.conn side first
 is_opened parts mask side first same_mask same_side state image work serial =
-    ap (λ (m : Raster). record (core_of parts) { mask = m }) same_mask
-    ∙ ap (λ s. record (core_of parts) { mask = mask; side = s }) same_side
-    ∙ ap (λ (s : State). record (core_of parts) { mask = mask; side = side; state = s }) state
-    ∙ ap (λ (i : Raster). record (core_of parts) { mask = mask; side = side; state = nothing; image = i }) image
-    ∙ ap (λ (w : List TileWork). record (core_of parts) {
-      mask = mask;
-      side = side;
-      state = nothing;
-      image = blank mask;
-      tiles = w;
-    }) work
-    ∙ ap (λ n. record (opened mask parts.conn side first) { serial = n }) serial
+    λ i. record {
+      mask = same_mask i;
+      conn = parts.conn;
+      side = same_side i;
+      state = state i;
+      image = image i;
+      tiles = work i;
+      serial = serial i;
+    }
 
 pub opened_is_stored : (parts : Parts) (mask : Raster) (side first : ℕ) → IsFilled mask
     → IsTiled (record { width = mask.width; height = mask.height; side = side }) → first ≤ max_generation
@@ -208,28 +167,19 @@ pub opened_is_stored : (parts : Parts) (mask : Raster) (side first : ℕ) → Is
     → parts.bounds ≡ replicate (count_of (record { width = mask.width; height = mask.height; side = side })) no_bounds
     → parts.masks ≡ replicate (count_of (record { width = mask.width; height = mask.height; side = side })) None
     → parts.markers.mask ≡ mask
-    → parts.markers.tiling ≡ record { width = mask.width; height = mask.height; side = side }
-    → IsStored parts
-opened_is_stored parts mask side first filled tiled bound is_open marks no_marks none_queued
-    bounds_are masks_are same_mask
-    same_tiles =
+    → parts.markers.tiling ≡ record { width = mask.width; height = mask.height; side = side } → IsStored parts
+opened_is_stored parts mask side first filled tiled bound is_open marks no_marks none_queued bounds_are masks_are
+    same_mask same_tiles =
     let tiling : Tiles = record { width = mask.width; height = mask.height; side = side } in
     let count : length parts.work ≡ count_of tiling =
     ap (λ (core : Core). length core.tiles) is_open ∙ length-replicate (count_of tiling) (fresh first) in
     record {
       sound = subst IsSound (sym is_open) (opened_is_sound mask parts.conn side first filled tiled bound);
       bounded =
-          subst (λ core. AreBounded core parts.bounds) (sym is_open)
-          (subst (AreBounded (opened mask parts.conn side first)) (sym bounds_are)
-          (none_bounded (opened mask parts.conn side first) (count_of tiling) tiled refl
-          (λ p inside. blank_is_black mask p filled inside)));
-      marks =
-          subst (λ s. IsMarkerOf parts.markers.mask s parts.markers.marker)
-          (sym (ap (λ (core : Core). core.state) is_open)) marks;
-      masks =
-          subst (λ (m : Raster). AreTileMasks m parts.markers.tiling parts.masks) (sym same_mask)
-          (subst (λ (t : Tiles). AreTileMasks mask t parts.masks) (sym same_tiles)
-          (subst (AreTileMasks mask tiling) (sym masks_are) (none_cut mask tiling refl refl)));
+          rw (is_open, bounds_are) (none_bounded (opened mask parts.conn side first) (count_of tiling) tiled refl
+          (λ p inside. blank_is_black mask p filled inside));
+      marks = rw (ap (λ (core : Core). core.state) is_open) marks;
+      masks = rw (same_mask, same_tiles, masks_are) (none_cut mask tiling refl refl);
       no_marks = no_marks ∙ ap (λ n. replicate n false) (sym count);
       none_queued = none_queued ∙ ap (λ n. replicate n false) (sym count);
     }

@@ -1,46 +1,31 @@
 -- Taking a tile, giving it back and abandoning a job, as the stored core does them.
-use Rattle.std.proofs.Common.{◌≡◌, ℕ, ◌+◌, ◌%◌, ◌^◌, ◌<◌, ◌≤◌, Bool, true, false, List, [], ◌∷◌, ◌++◌, length}
-use Rattle.std.proofs.Common.{refl, sym, ◌∙◌, ap, subst, arith, inl, inr, ◌⊎◌}
-use Rattle.std.specs.Prelude.{◌==◌, Contains, Some, None, filter, map, if◌then◌else◌}
-use Rattle.std.specs.Prelude.{slice_index_or, slice_set, All}
-use Rattle.std.proofs.lemmas.Bool.{eqb-true}
-use Rattle.std.proofs.lemmas.Bool.Decides.{eqb_tells}
+use Rattle.std.proofs.Common.{◌≡◌, ℕ, ◌+◌, ◌%◌, ◌^◌, ◌<◌, Bool, true, false, List, [], ◌∷◌, ◌++◌, length, refl, sym}
+use Rattle.std.proofs.Common.{◌∙◌, ap, subst, arith, inl, inr, ◌⊎◌, ◌==◌, Contains, Some, None, filter, if◌then◌else◌}
+use Rattle.std.proofs.Common.{slice_index_or, slice_set, All}
+use Rattle.std.proofs.{lemmas.Bool.eqb-true, lemmas.Bool.Decides.eqb_tells}
 use Rattle.std.proofs.lemmas.List.{length-set, get_or-set_same, get_or-set_other, append-nil}
 use Rattle.std.proofs.lemmas.List.Elements.{Contains-get_or, All-contains}
-use Rattle.grid_core.specs.declared.pixel.Pixel.{Pixel}
-use Rattle.grid_core.specs.declared.rect.Rect.{Rect}
-use Rattle.grid_core.specs.Raster.{Raster, IsInside, IsBelow, value_at}
-use Rattle.grid_core.specs.Path.{Inside, domain_of}
-use Rattle.grid_core.specs.Rects.{in_image}
-use Rattle.grid_core.specs.Tiles.{Tiles, IsTiled, AreTouching, count_of, tile_of}
-use Rattle.grid_core.proofs.Cells.{each_pixel_below, below_at_each_pixel}
-use Rattle.grid_core.proofs.Reach.{reaches_here}
-use Rattle.grid_core.proofs.Pixels.{same_pixel}
+use Rattle.grid_core.specs.{declared.pixel.Pixel.Pixel, declared.rect.Rect.Rect, Raster.Raster, Raster.IsInside}
+use Rattle.grid_core.specs.{Raster.IsBelow, Raster.value_at, Path.Inside, Rects.in_image, Tiles.Tiles, Tiles.IsTiled}
+use Rattle.grid_core.specs.{Tiles.count_of, Tiles.tile_of, Bounds.bounds_of}
+use Rattle.grid_core.proofs.{Cells.each_pixel_below, Pixels.same_pixel}
 use Rattle.grid_core.proofs.Tilings.{each_pixel_in_one_tile, tile_pixels, neighbours_lie_in_touching_tiles}
-use Rattle.border_queues.specs.declared.hint.Hint.{Hint}
-use Rattle.border_queues.specs.OpenEdges.{Sender, hint_to, open_edges, from_corner, with_tile}
-use Rattle.border_queues.specs.Laws.{EdgesAreOpen, SameImageSameEdges}
-use Rattle.tile_generations.specs.declared.ticket.Ticket.{Ticket}
-use Rattle.tile_generations.specs.Jobs.{Job, Swept, IsSwept}
-use Rattle.core_rules.specs.declared.answers.Back.TheVariants.{Joined, Again}
-use Rattle.core_rules.specs.Image.{IsPart, IsJoinedWith}
-use Rattle.core_rules.specs.Work.{Core, domain, tiling, image_at, IsTile, work_at}
+use Rattle.border_queues.specs.{declared.hint.Hint.Hint, Laws.EdgesAreOpen, Laws.SameImageSameEdges}
+use Rattle.border_queues.specs.OpenEdges.{Sender, open_edges, from_corner, with_tile}
 use Rattle.border_queues.specs.TileWork.{TileWork, idle, received}
+use Rattle.tile_generations.specs.{declared.ticket.Ticket.Ticket, Jobs.Job, Jobs.Swept, Jobs.IsSwept}
+use Rattle.core_rules.specs.{declared.answers.Back.TheVariants.Joined, declared.answers.Back.TheVariants.Again}
+use Rattle.core_rules.specs.{Image.IsPart, Image.IsJoinedWith, Invariant.IsSound}
+use Rattle.core_rules.specs.Work.{Core, domain, tiling, image_at, IsTile, work_at}
 use Rattle.core_rules.specs.Sweeps.{tile_rect, IsReady, IsNextJob, IsOut, IsKnown, IsUnchanged, HasOnlyRisen, sender_of}
 use Rattle.core_rules.specs.Sweeps.{hints_of, IsJoined}
-use Rattle.core_rules.specs.Invariant.{IsSound}
 use Rattle.core_rules.specs.Laws.{TakeKeepsSound, AbandonKeepsSound, GiveBackKeepsSound}
-use Rattle.reset_core.specs.Parts.{IsBelowPiece, IsRaisedPart}
+use Rattle.reset_core.specs.{Parts.IsBelowPiece, Parts.IsRaisedPart, declared.replica.Core.TheInside.Inside as Parts}
+use Rattle.reset_core.specs.{Replica.core_of, Replica.IsStored, Bounding.FollowChange}
 use Rattle.tile_work.specs.WorkTable.{IsToTouching, AreReceived}
-use Rattle.reset_core.specs.declared.replica.Core.TheInside.{Inside as Parts}
-use Rattle.reset_core.specs.Replica.{core_of, IsStored}
-use Rattle.grid_core.specs.Bounds.{bounds_of}
-use Rattle.reset_core.specs.Bounding.{FollowChange}
-use Rattle.reset_core.proofs.Bounding.{bounded_still, follow_join}
-use Rattle.reset_core.proofs.Storing.{stored_still}
-use Rattle.core_rules.proofs.Cores.{inside_image}
-use Rattle.core_rules.proofs.Supporting.{reach_at_most}
-use Rattle.core_rules.proofs.Removals.{passed_was_there, passed_test, from_map}
+use Rattle.reset_core.proofs.{Bounding.bounded_still, Bounding.follow_join, Storing.stored_still, TellingOrder.told_by}
+use Rattle.core_rules.proofs.{Cores.inside_image, Joining.base_at_most, Joining.local}
+use Rattle.core_rules.proofs.Removals.{passed_was_there, passed_test}
 
 -- ---- what is stored
 
@@ -63,8 +48,7 @@ taken_is_stored keeps parts core t job work view stored ready next is =
     let old = core_of parts in
     let change = gone_out (slice_index_or parts.work t idle) parts.serial in
     stored_still parts parts.image work parts.bounds serial stored (ap length is ∙ length-set parts.work t change)
-    stored.bounded
-    (keeps old (core_of (record parts { work = work; serial = serial })) t (Some job) stored.sound (
+    stored.bounded (keeps old (core_of (record parts { work = work; serial = serial })) t (Some job) stored.sound (
       subst (λ c. IsReady c t) (sym view) ready,
       subst (λ c. IsNextJob c t job) (sym view) next,
       λ i. record old { tiles = is i; serial = serial },
@@ -90,8 +74,7 @@ abandoned_is_stored keeps parts core ticket work view stored out is =
 pub base_is_below : (core : Core) (t : ℕ) (base mask : Raster) → IsSound core → IsTile core t
     → IsPart (tile_rect core t) core.image base → IsPart (tile_rect core t) core.mask mask → IsBelow base mask
 base_is_below core t base mask sound is_tile of_image of_mask =
-    let count = sound.shape.tiles in
-    let within : t < count_of (tiling core) = omega (arith, is_tile, count) in
+    let within : t < count_of (tiling core) = omega (arith, is_tile, sound.shape.tiles) in
     let width = of_image.width in
     let height = of_image.height in
     each_pixel_below base mask of_image.filled (width ∙ sym of_mask.width) (height ∙ sym of_mask.height) (λ p inside.
@@ -99,42 +82,25 @@ base_is_below core t base mask sound is_tile of_image of_mask =
     (omega (arith, inside.0, width), omega (arith, inside.1, height)) in
     let there = (tile_pixels (tiling core) t (in_image (tile_rect core t) p) sound.shape.tiled within).1
     (p, in_rect, refl) in
-    let below = (sound.supported (in_image (tile_rect core t) p) there.0).1 in
-    let image = of_image.values p in_rect in
-    let limit = of_mask.values p in_rect in
-    omega (arith, below, image, limit))
+    let low = (sound.supported (in_image (tile_rect core t) p) there.0).1 in
+    omega (arith, low, of_image.values p in_rect, of_mask.values p in_rect))
 
 -- ---- hints
 
 -- hints of a tile's open edges are for tiles that touch it
-edge_touches : EdgesAreOpen → (s : Sender) → IsTiled s.tiles → s.tile < count_of s.tiles → (hint : Hint)
-    → Contains (open_edges s) hint → IsToTouching s.tiles s.tile hint
-edge_touches edges_open s tiled within hint there =
-    let (pairs, are_hints) = edges_open s tiled within in
-    let make : Pixel × Pixel → Hint = λ a. hint_to s (s.image a.0) a.1 in
-    let listed : Contains (map make pairs) hint = subst (λ hs. Contains hs hint) are_hints.hints there in
-    let (pair, held, is) = from_map make pairs hint (hint.to_pixel, hint.to_pixel) listed in
-    let edge = (are_hints.edges pair.0 pair.1).0 held in
-    subst (λ (h : Hint). IsToTouching s.tiles s.tile h) is (record {
-      inside = edge.to_inside;
-      touching = elim (neighbours_lie_in_touching_tiles s.tiles s.conn pair.0 pair.1 tiled edge.from_inside
-          edge.to_inside edge.beside) [
-            | inl one ↦ absurd (edge.to_other (sym one ∙ edge.from_tile))
-            | inr touching ↦ subst (λ t. AreTouching s.tiles t (tile_of s.tiles pair.1)) edge.from_tile touching
-          ];
-    })
-
 pub edges_touch : EdgesAreOpen → (s : Sender) → IsTiled s.tiles → s.tile < count_of s.tiles
     → All (IsToTouching s.tiles s.tile) (open_edges s)
 edges_touch edges_open s tiled within k d below =
-    let hints = open_edges s in
-    edge_touches edges_open s tiled within (slice_index_or hints k d) (Contains-get_or hints k d below)
+    let there = Contains-get_or (open_edges s) k d below in
+    let told = told_by edges_open neighbours_lie_in_touching_tiles each_pixel_in_one_tile s tiled within
+    (slice_index_or (open_edges s) k d) there in
+    record { inside = told.inside; touching = told.touching }
 
 module _ (core after : Core) (t : ℕ) (pixels raised : Raster) (sound : IsSound core) (is_tile : IsTile core t)
     (is_raised : IsRaisedPart (tile_rect core t) core.image pixels raised)
     (joined : IsJoinedWith (tile_rect core t) pixels core.image after.image) where
   tile_within : t < count_of (tiling core)
-  tile_within = let count = sound.shape.tiles in omega (arith, is_tile, count)
+  tile_within = omega (arith, is_tile, sound.shape.tiles)
 
   -- the raised part on the tile and the old image elsewhere are the image afterwards
   with_raised : (p : Pixel) → Inside (domain core) p
@@ -149,20 +115,16 @@ module _ (core after : Core) (t : ℕ) (pixels raised : Raster) (sound : IsSound
             let near : IsInside rect.w rect.h (from_corner rect p) = (omega (arith, found), omega (arith, found)) in
             let back : in_image rect (from_corner rect p) ≡ p =
             same_pixel (in_image rect (from_corner rect p)) p (omega (arith, found)) (omega (arith, found)) in
-            ap (λ b. if b then there else image_at core p) passes
-            ∙ is_raised.values (from_corner rect p) near
-            ∙ sym (joined.within (from_corner rect p) near)
-            ∙ ap (λ (q : Pixel). image_at after q) back
+            ap (λ b. if b then there else image_at core p) passes ∙ is_raised.values (from_corner rect p) near
+            ∙ sym (joined.within (from_corner rect p) near) ∙ ap (λ (q : Pixel). image_at after q) back
         | inr (fails, other) ↦
             ap (λ b. if b then there else image_at core p) fails
             ∙ sym (joined.beyond p (inside_image core p sound.shape inside) (λ found. other (in_one.0 found)))
       ]
 
-  pub hints_once_joined : SameImageSameEdges
-      → open_edges (record (sender_of core t) {
-        image = with_tile (tiling core) t (value_at raised) (image_at core);
-      })
-      ≡ hints_of core after t
+  pub hints_once_joined : SameImageSameEdges → open_edges (record (sender_of core t) {
+    image = with_tile (tiling core) t (value_at raised) (image_at core);
+  }) ≡ hints_of core after t
   hints_once_joined same_edges =
       same_edges (record (sender_of core t) { image = with_tile (tiling core) t (value_at raised) (image_at core) })
       (image_at after) sound.shape.tiled tile_within with_raised
@@ -173,20 +135,8 @@ module _ (core after : Core) (t : ℕ) (pixels raised : Raster) (sound : IsSound
 pub swept_is_above : (core : Core) (swept : Swept) → IsSwept swept → IsKnown core swept.job
     → IsUnchanged core swept.job → IsBelowPiece (tile_rect core swept.job.ticket.tile) core.image swept.pixels
 swept_is_above core swept is_swept known unchanged p inside =
-    let d = domain_of swept.job.mask swept.job.conn in
-    let width = known.mask.width in
-    let height = known.mask.height in
-    let within : Inside d p = (omega (arith, inside.0, width), omega (arith, inside.1, height)) in
-    let across = is_swept.job.below.width in
-    let down = is_swept.job.below.height in
-    let base_below = below_at_each_pixel swept.job.base swept.job.mask is_swept.job.filled is_swept.job.below p
-    (omega (arith, within.0, across), omega (arith, within.1, down)) in
-    let base = value_at swept.job.base in
-    let least : base p ≤ value_at swept.pixels p =
-    reach_at_most d (value_at swept.job.mask) base (value_at swept.pixels) is_swept.is_reconstruction p (base p) within
-    (reaches_here d (value_at swept.job.mask) base p (base p) within base_below (omega arith)) in
-    let same = unchanged.base.values p inside in
-    omega (arith, least, same)
+    let within : Inside (local swept) p = omega (arith, known.mask.width, known.mask.height) in
+    omega (arith, base_at_most swept is_swept p within, unchanged.base.values p inside)
 
 -- so that is the part of the image, as it is raised
 pub swept_is_raised : (core : Core) (swept : Swept) (held : Raster) → held ≡ swept.pixels → IsSwept swept
@@ -197,9 +147,7 @@ swept_is_raised core swept held held_is is_swept known unchanged =
       width = is_swept.width ∙ known.mask.width;
       height = is_swept.height ∙ known.mask.height;
       filled = is_swept.filled;
-      values = λ p inside.
-          let above = swept_is_above core swept is_swept known unchanged p inside in
-          omega (arith, above);
+      values = λ p inside. omega (arith, swept_is_above core swept is_swept known unchanged p inside);
     })
 
 -- and a stored image is nowhere above it there
@@ -239,12 +187,10 @@ module _ (core : Core) (swept : Swept) (image : Raster) (told done : List TileWo
       ≡ record (work_at core swept.job.ticket.tile) { out = None }
   joined_own =
       let t = swept.job.ticket.tile in
-      let count = receive.count in
       let own = filter (λ hint. tile_of (tiling core) hint.to_pixel == t) hints in
       ap (λ ts. slice_index_or ts t idle) done_is
-      ∙ get_or-set_same told t (come_back (slice_index_or told t idle)) idle (omega (arith, is_tile, count))
-      ∙ ap come_back (receive.each t is_tile)
-      ∙ ap (λ hs. come_back (received (work_at core t) hs)) none_own
+      ∙ get_or-set_same told t (come_back (slice_index_or told t idle)) idle (omega (arith, is_tile, receive.count))
+      ∙ ap come_back (receive.each t is_tile) ∙ ap (λ hs. come_back (received (work_at core t) hs)) none_own
       ∙ ap (λ hs. record (work_at core t) { out = None; inbox = hs }) (append-nil (work_at core t).inbox)
 
   pub is_joined : IsJoined core swept (record core { image = image; tiles = done })
@@ -253,10 +199,8 @@ module _ (core : Core) (swept : Swept) (image : Raster) (told done : List TileWo
       let change = come_back (slice_index_or told t idle) in record {
         image = joined;
         own = joined_own;
-        others = λ u within other.
-            ap (λ ts. slice_index_or ts u idle) done_is
-            ∙ get_or-set_other told t u change idle other
-            ∙ receive.each u within
+        others = λ u within other. ap (λ ts. slice_index_or ts u idle) done_is
+            ∙ get_or-set_other told t u change idle other ∙ receive.each u within
             ∙ ap
             (λ hs. received (work_at core u) (filter (λ hint. tile_of (tiling core) hint.to_pixel == u) hs)) hints_are;
         count = ap length done_is ∙ length-set told t change ∙ receive.count;
@@ -275,8 +219,7 @@ join_keeps_sound keeps before after swept sound is_swept known out (inr risen) j
 -- ---- the parts of a stored core
 
 module _ (parts : Parts) (core : Core) (tiles : Tiles) (view : core_of parts ≡ core)
-    (tiles_are : tiles ≡ parts.markers.tiling)
-    (width : parts.markers.tiling.width ≡ parts.markers.mask.width)
+    (tiles_are : tiles ≡ parts.markers.tiling) (width : parts.markers.tiling.width ≡ parts.markers.mask.width)
     (height : parts.markers.tiling.height ≡ parts.markers.mask.height) where
   stored_tiling : tiles ≡ tiling (core_of parts)
   stored_tiling = tiles_are ∙ (λ i. record { width = width i; height = height i; side = parts.markers.tiling.side })
@@ -287,18 +230,14 @@ module _ (parts : Parts) (core : Core) (tiles : Tiles) (view : core_of parts ≡
   -- the hints that a walk along the tile's border gave
   pub told_are_edges : (t tile generation : ℕ) (mask raised : Raster) (before told : List Hint)
       → mask ≡ parts.markers.mask → tile ≡ t → generation ≡ (slice_index_or parts.work tile idle).generation
-      → before ≡ []
-      → told
-      ≡ before ++ open_edges (record {
+      → before ≡ [] → told ≡ before ++ open_edges (record {
         tiles = tiles;
         conn = parts.conn;
         mask = value_at mask;
         image = with_tile tiles tile (value_at raised) (value_at parts.image);
         tile = tile;
         generation = generation;
-      })
-      → told
-      ≡ open_edges (record (sender_of core t) {
+      }) → told ≡ open_edges (record (sender_of core t) {
         image = with_tile (tiling core) t (value_at raised) (image_at core);
       })
   told_are_edges t tile generation mask raised before told mask_is tile_is generation_is none told_is =
@@ -323,15 +262,6 @@ module _ (parts : Parts) (core : Core) (tiles : Tiles) (view : core_of parts ≡
       } in
       told_is ∙ ap (λ hs. hs ++ open_edges one) none ∙ ap open_edges stored ∙ ap (λ c. open_edges (sender c)) view
 
--- the part of a stored image, as it is raised
-pub stored_raised : (parts : Parts) (core : Core) (t tile : ℕ) (rect : Rect) (pixels held raised : Raster)
-    → core_of parts ≡ core → tile ≡ t → rect ≡ tile_rect core tile → held ≡ pixels
-    → IsRaisedPart rect parts.image held raised → IsRaisedPart (tile_rect core t) core.image pixels raised
-stored_raised parts core t tile rect pixels held raised view tile_is rect_is pixels_are raise =
-    subst (λ r. IsRaisedPart r core.image pixels raised) (rect_is ∙ ap (tile_rect core) tile_is)
-    (subst (λ q. IsRaisedPart rect core.image q raised) pixels_are
-    (subst (λ (c : Core). IsRaisedPart rect c.image held raised) view raise))
-
 module _ (parts : Parts) (core : Core) (swept : Swept) (tiles : Tiles) (tile : ℕ) (rect : Rect) (pixels image : Raster)
     (told done : List TileWork) (hints slice : List Hint) (view : core_of parts ≡ core)
     (tiles_are : tiles ≡ tiling core)
@@ -342,8 +272,7 @@ module _ (parts : Parts) (core : Core) (swept : Swept) (tiles : Tiles) (tile : �
     (done_is : done ≡ slice_set told tile (come_back (slice_index_or told tile idle)))
     (hints_are : (after : Core)
     → IsJoinedWith (tile_rect core swept.job.ticket.tile) swept.pixels core.image after.image
-    → hints ≡ hints_of core after swept.job.ticket.tile)
-    (is_tile : IsTile core swept.job.ticket.tile) where
+    → hints ≡ hints_of core after swept.job.ticket.tile) (is_tile : IsTile core swept.job.ticket.tile) where
   stored_joined : IsJoined core swept (record core { image = image; tiles = done })
   stored_joined =
       let t = swept.job.ticket.tile in
@@ -380,14 +309,11 @@ module _ (parts : Parts) (core : Core) (swept : Swept) (tiles : Tiles) (tile : �
       ) in
       let follow : FollowChange (tiling (core_of parts)) parts.conn parts.image image parts.bounds
       (slice_set parts.bounds tile (bounds_of rect)) =
-      subst (λ r. FollowChange (tiling (core_of parts)) parts.conn parts.image image parts.bounds
-      (slice_set parts.bounds tile (bounds_of r))) (sym rect_at)
-      (follow_join (tiling (core_of parts)) parts.conn parts.image image parts.bounds tile pixels shape.tiled
+      rw rect_at (follow_join (tiling (core_of parts)) parts.conn parts.image image parts.bounds tile pixels shape.tiled
       stored.bounded.count within stored.bounded.lie shape.image.width shape.image.height
       (subst (λ r. IsJoinedWith r pixels parts.image image) rect_at raise)) in
       stored_still parts image done (slice_set parts.bounds tile (bounds_of rect)) parts.serial stored
       (ap length done_is ∙ length-set told tile change ∙ receive.count)
       (bounded_still (core_of parts) image parts.bounds (slice_set parts.bounds tile (bounds_of rect)) shape.tiled
-      stored.bounded follow)
-      (join_keeps_sound keeps core (core_of (record parts { image = image; work = done })) swept
+      stored.bounded follow) (join_keeps_sound keeps core (core_of (record parts { image = image; work = done })) swept
       (subst IsSound view stored.sound) is_swept known out base parts_joined)

@@ -1,10 +1,7 @@
 -- Rows of images compared and raised one after the other.
-use Rattle.std.proofs.Common.{◌≡◌, ℕ, ◌+◌, ◌-◌, ◌*◌, ◌<◌, ◌≤◌, max, List, length, get_or}
-use Rattle.std.proofs.Common.{sym, ap, subst, ◌∙◌, arith, inl, inr}
-use Rattle.std.proofs.lemmas.Nat.{mul-add-lt}
-use Rattle.std.proofs.lemmas.Bool.{cases_lt}
-use Rattle.grid_core.specs.declared.pixel.Pixel.{Pixel}
-use Rattle.grid_core.specs.declared.rect.Rect.{Rect}
+use Rattle.std.proofs.Common.{◌≡◌, ℕ, ◌+◌, ◌-◌, ◌*◌, ◌<◌, ◌≤◌, max, List, length, get_or, sym, ap, ◌∙◌, arith, inl, inr}
+use Rattle.std.proofs.{lemmas.Nat.mul-add-lt, lemmas.Bool.cases_lt}
+use Rattle.grid_core.specs.{declared.pixel.Pixel.Pixel, declared.rect.Rect.Rect}
 use Rattle.grid_core.specs.Raster.{Raster, IsInside, index_of, value_at}
 use Rattle.grid_core.specs.Rects.{RectFits, IsRowOf, AreCellsChanged, in_image}
 use Rattle.core_rules.specs.Image.{IsJoinedWith}
@@ -27,19 +24,14 @@ module _ (R : ℕ → ℕ → Type 0) (width : ℕ) (f g : Pixel → ℕ) (y : �
     | inl before ↦ so_far p column before
     | inr not_before ↦
         let here : y ≡ p.y = omega arith in
-        let count = row_a.long in
-        subst (λ v. R (f (record { x = p.x; y = v })) (g (record { x = p.x; y = v }))) here
-        (subst (λ v. R v (g (record { x = p.x; y = y }))) (row_a.values p.x column)
-        (subst (λ v. R (get_or a p.x 0) v) (row_b.values p.x column) (related p.x (omega (arith, count, column)))))
+        rw (row_b.values p.x column, row_a.values p.x column, here) at
+        (related p.x (omega (arith, row_a.long, column)))
   ]
 
   pub related_row : (rows : ℕ) → AreAlike R width f g rows → y < rows → AreRelated R a b
   related_row rows alike within k below =
-      let count = row_a.long in
-      let column : k < width = omega (arith, count, below) in
-      subst (λ v. R v (get_or b k 0)) (sym (row_a.values k column))
-      (subst (λ v. R (f (record { x = k; y = y })) v) (sym (row_b.values k column))
-      (alike (record { x = k; y = y }) column within))
+      let column : k < width = omega (arith, row_a.long, below) in
+      rw (row_a.values k column, row_b.values k column) (alike (record { x = k; y = y }) column within)
 
 -- ---- cells raised
 
@@ -54,8 +46,7 @@ module _ (start : ℕ) (values : List ℕ) (old new : Raster)
   beside_raised p within beside = at_new p ∙ elim (cases_lt (index_of old.width p) start) [
     | inl before ↦ raised.before (index_of old.width p) before
     | inr from ↦ elim (cases_lt (index_of old.width p) (start + length values)) [
-      | inl here ↦
-          absurd (beside (index_of old.width p - start) (omega (arith, from, here)) (omega (arith, from)))
+      | inl here ↦ absurd (beside (index_of old.width p - start) (omega (arith, from, here)) (omega (arith, from)))
       | inr past ↦ raised.after (index_of old.width p) past within
     ]
   ]
@@ -64,8 +55,7 @@ module _ (start : ℕ) (values : List ℕ) (old new : Raster)
       → value_at new p ≡ max (value_at old p) (get_or values k 0)
   value_raised p k within place =
       let back : start + k - start ≡ k = omega arith in
-      at_new p ∙ subst (λ i. get_or new.cells i 0 ≡ max (get_or old.cells i 0) (get_or values k 0)) place
-      (raised.inside (start + k) (omega arith) (omega (arith, within))
+      at_new p ∙ rw place at (raised.inside (start + k) (omega arith) (omega (arith, within))
       ∙ ap (λ i. max (get_or old.cells (start + k) 0) (get_or values i 0)) back)
 
 -- ---- rows of a rectangle raised
@@ -76,18 +66,13 @@ pub row_below : (rect : Rect) (piece old mid : Raster) (y start : ℕ) (row : Li
     → start ≡ (rect.y + y) * mid.width + rect.x → IsJoinedWith (record rect { h = y }) piece old mid
     → IsBelowPiece rect old piece → (k : ℕ) → k < length row → get_or mid.cells (start + k) 0 ≤ get_or row k 0
 row_below rect piece old mid y start row fits below is_row start_is so_far above k within =
-    let count = is_row.long in
-    let columns = fits.columns in
-    let rows = fits.rows in
     let p : Pixel = record { x = k; y = y } in
     let q = in_image rect p in
-    let column : k < rect.w = omega (arith, count, within) in
-    let inside : IsInside old.width old.height q = (omega (arith, column, columns), omega (arith, below, rows)) in
+    let column : k < rect.w = omega (arith, is_row.long, within) in
+    let inside : IsInside old.width old.height q = omega (arith, fits.columns, fits.rows) in
     let place : start + k ≡ index_of mid.width q = omega (arith, start_is) in
-    let was : value_at mid q ≡ value_at old q =
-    so_far.beyond q inside (λ found. let late = found.3 in omega (arith, late)) in
-    subst (λ i. get_or mid.cells i 0 ≤ get_or row k 0) (sym place)
-    (omega (arith, was, above p (column, below), is_row.values k column))
+    let was : value_at mid q ≡ value_at old q = so_far.beyond q inside (λ found. omega (arith, found.3)) in
+    rw place (omega (arith, was, above p (column, below), is_row.values k column))
 
 module _ (rect : Rect) (piece old mid new : Raster) (y start : ℕ) (row : List ℕ)
     (fits : RectFits old.width old.height rect) (below : y < rect.h)
@@ -97,13 +82,9 @@ module _ (rect : Rect) (piece old mid new : Raster) (y start : ℕ) (row : List 
   -- the place of a pixel of the image
   place_within : (q : Pixel) → IsInside old.width old.height q → index_of mid.width q < length mid.cells
   place_within q inside =
-      let width = so_far.size.width in
-      let height = so_far.size.height in
-      let filled = so_far.size.filled in
-      let below_end : q.y < mid.height = omega (arith, inside.1, height) in
-      let across : q.x < mid.width = omega (arith, inside.0, width) in
-      let place = mul-add-lt q.y mid.width q.x mid.height below_end across in
-      omega (arith, place, filled)
+      let below_end : q.y < mid.height = omega (arith, inside.1, so_far.size.height) in
+      let across : q.x < mid.width = omega (arith, inside.0, so_far.size.width) in
+      omega (arith, mul-add-lt q.y mid.width q.x mid.height below_end across, so_far.size.filled)
 
   -- the pixels that are not on this row of the rectangle keep their values
   off_row : (q : Pixel) → IsInside old.width old.height q
@@ -111,17 +92,15 @@ module _ (rect : Rect) (piece old mid new : Raster) (y start : ℕ) (row : List 
   off_row q inside off =
       let width = so_far.size.width in
       let count = is_row.long in
-      let columns = fits.columns in
       beside_raised start row mid new raised q (place_within q inside) (λ k within same.
       elim (cases_lt q.y (rect.y + y)) [
         | inl above ↦
-            let place = mul-add-lt q.y mid.width q.x (rect.y + y) above (omega (arith, inside.0, width)) in
-            omega (arith, place, same, start_is)
+            let before_row = mul-add-lt q.y mid.width q.x (rect.y + y) above (omega (arith, inside.0, width)) in
+            omega (arith, before_row, same, start_is)
         | inr not_above ↦ elim (cases_lt (rect.y + y) q.y) [
           | inl under ↦
-              let column : rect.x + k < mid.width = omega (arith, within, count, columns, width) in
-              let place = mul-add-lt (rect.y + y) mid.width (rect.x + k) q.y under column in
-              omega (arith, place, same, start_is)
+              let column : rect.x + k < mid.width = omega (arith, within, count, fits.columns, width) in
+              omega (arith, mul-add-lt (rect.y + y) mid.width (rect.x + k) q.y under column, same, start_is)
           | inr not_under ↦
               let here : q.y ≡ rect.y + y = omega (arith, not_above, not_under) in
               let line : q.y * mid.width ≡ (rect.y + y) * mid.width = ap (λ n. n * mid.width) here in
@@ -133,11 +112,8 @@ module _ (rect : Rect) (piece old mid new : Raster) (y start : ℕ) (row : List 
   -- a row more
   pub joined_more : IsJoinedWith (record rect { h = y + 1 }) piece old new
   joined_more =
-      let columns = fits.columns in
-      let rows = fits.rows in
-      let count = is_row.long in
       let inside_old : (p : Pixel) → IsInside rect.w (y + 1) p → IsInside old.width old.height (in_image rect p) =
-      λ p inside. (omega (arith, inside.0, columns), omega (arith, inside.1, below, rows)) in
+      λ p inside. (omega (arith, inside.0, fits.columns), omega (arith, inside.1, below, fits.rows)) in
       record {
         size = record {
           width = raised.width ∙ so_far.size.width;
@@ -156,16 +132,14 @@ module _ (rect : Rect) (piece old mid new : Raster) (y start : ℕ) (row : List 
               ap (λ n. (rect.y + n) * mid.width) here in
               let place : start + p.x ≡ index_of mid.width (in_image rect p) = omega (arith, start_is, line) in
               let raise = value_raised start row mid new raised (in_image rect p) p.x
-              (omega (arith, count, inside.0)) place in
+              (omega (arith, is_row.long, inside.0)) place in
               let was : value_at mid (in_image rect p) ≡ value_at old (in_image rect p) =
               so_far.beyond (in_image rect p) (inside_old p inside) (λ found. omega (arith, found.3, here)) in
               let value : get_or row p.x 0 ≡ value_at piece p =
               is_row.values p.x inside.0 ∙ ap (λ n. value_at piece (record { x = p.x; y = n })) (sym here) in
-              raise ∙ ap (λ v. max v (get_or row p.x 0)) was
-              ∙ ap (λ v. max (value_at old (in_image rect p)) v) value
+              raise ∙ ap (λ v. max v (get_or row p.x 0)) was ∙ ap (λ v. max (value_at old (in_image rect p)) v) value
         ];
         beyond = λ q inside outside.
             off_row q inside (λ from to same. outside (from, to, omega (arith, same), omega (arith, same)))
-            ∙ so_far.beyond q inside
-            (λ found. outside (found.0, found.1, found.2, let last = found.3 in omega (arith, last)));
+            ∙ so_far.beyond q inside (λ found. outside (found.0, found.1, found.2, omega (arith, found.3)));
       }

@@ -1,19 +1,16 @@
 -- Cores whose tiles are told hints that stand in no inbox yet, and the events by which these are handed over.
 use Rattle.std.proofs.Common.{◌≡◌, ℕ, zero, suc, ◌+◌, ◌<◌, ◌≤◌, true, cond, List, [], ◌∷◌, ◌++◌, length, get_or, refl}
-use Rattle.std.proofs.Common.{sym, ap, ◌∙◌, subst, arith, inl, inr, set, add-zero, zero-add}
-use Rattle.std.specs.Prelude.{Some, Contains, remove, slice_get}
+use Rattle.std.proofs.Common.{sym, ap, ◌∙◌, subst, arith, inl, inr, set, add-zero, zero-add, Some, Contains, remove}
+use Rattle.std.proofs.Common.{slice_get}
 use Rattle.std.proofs.lemmas.Bool.{cases_lt, cases_eq, eq-eqb, ne_eqb}
 use Rattle.std.proofs.lemmas.List.{length-set, append-nil, ext_get_or}
-use Rattle.grid_core.specs.Raster.{with_value}
-use Rattle.grid_core.specs.Tiles.{Tiles, tile_of}
-use Rattle.border_queues.specs.declared.hint.Hint.{Hint}
+use Rattle.grid_core.specs.{Raster.with_value, Tiles.Tiles, Tiles.tile_of}
+use Rattle.border_queues.specs.{declared.hint.Hint.Hint, TileWork.TileWork, TileWork.idle, TileWork.received}
 use Rattle.grid_core.proofs.Common.{here, later, first_or_later}
-use Rattle.core_rules.specs.declared.answers.Handed.TheVariants.{Raised, Same}
+use Rattle.core_rules.specs.{declared.answers.Handed.TheVariants.Raised, declared.answers.Handed.TheVariants.Same}
+use Rattle.core_rules.specs.{Sweeps.hints_for, Events.Hand, Events.OfHand}
 use Rattle.core_rules.specs.Work.{Core, tiling, image_at, IsTile, work_at}
-use Rattle.border_queues.specs.TileWork.{TileWork, idle, received}
-use Rattle.core_rules.specs.Sweeps.{hints_for}
 use Rattle.core_rules.specs.Hints.{hint_at, IsPresent, without_hint, raised, IsHanded}
-use Rattle.core_rules.specs.Events.{Hand, OfHand}
 use Rattle.core_rules.specs.Runs.{Entry, tiles_taken, NoneOut, IsNext, IsWorkedOff}
 use Rattle.reset_core.specs.Telling.{ImageAndWork, image_and_work, risen_by, all_handed, hints_in, AreInTileOrder}
 use Rattle.core_rules.proofs.Cores.{work_there, work_elsewhere, field_kept}
@@ -24,8 +21,7 @@ use Rattle.reset_core.proofs.TellingHands.{hint_rises, hint_stays}
 -- the work at each tile, the first tile having this number, once the hints for its pixels have come
 abbrev pub told_rows : Tiles → List Hint → ℕ → List TileWork → List TileWork
 told_rows tiles hints t [] = []
-told_rows tiles hints t (work ∷ works) =
-    received work (hints_in tiles hints t) ∷ told_rows tiles hints (t + 1) works
+told_rows tiles hints t (work ∷ works) = received work (hints_in tiles hints t) ∷ told_rows tiles hints (t + 1) works
 
 -- the core once each tile has got the hints for its pixels
 abbrev pub telling : Core → List Hint → Core
@@ -109,8 +105,7 @@ first_removed work hint hints empty =
 
 -- without its first hint, a core that tells hints tells the others
 without_first : (core : Core) (hint : Hint) (rest : List Hint) (u : ℕ) → tile_of (tiling core) hint.to_pixel ≡ u
-    → IsTile core u → (work_at core u).inbox ≡ []
-    → without_hint (telling core (hint ∷ rest)) u 0 ≡ telling core rest
+    → IsTile core u → (work_at core u).inbox ≡ [] → without_hint (telling core (hint ∷ rest)) u 0 ≡ telling core rest
 without_first core hint rest u here is_tile empty =
     let v = telling core (hint ∷ rest) in
     let work : TileWork = record (work_at v u) { inbox = remove (work_at v u).inbox 0 } in
@@ -119,8 +114,7 @@ without_first core hint rest u here is_tile empty =
     let count : length (set v.tiles u work) ≡ length (telling core rest).tiles =
     set_count ∙ sym (telling_count core rest) in
     let at_u : work ≡ received (work_at core u) (hints_for core u rest) =
-    ap (λ (w : TileWork). record w { inbox = remove w.inbox 0 })
-    (telling_work core (hint ∷ rest) u is_tile
+    ap (λ (w : TileWork). record w { inbox = remove w.inbox 0 }) (telling_work core (hint ∷ rest) u is_tile
     ∙ ap (received (work_at core u)) (first_for_its_tile (tiling core) hint rest u here))
     ∙ first_removed (work_at core u) hint (hints_for core u rest) empty in
     let is_tile_still : IsTile v u = subst (λ n. u < n) (sym (telling_count core (hint ∷ rest))) is_tile in
@@ -128,9 +122,7 @@ without_first core hint rest u here is_tile empty =
     (ext_get_or idle (set v.tiles u work) (telling core rest).tiles count (λ t within.
     let within_core : IsTile core t = subst (λ n. t < n) set_count within in
     elim (cases_eq t u) [
-      | inl same ↦
-          subst (λ n. get_or (set v.tiles u work) n idle ≡ work_at (telling core rest) n) (sym same)
-          (work_there v u work is_tile_still ∙ at_u ∙ sym (telling_work core rest u is_tile))
+      | inl same ↦ rw same (work_there v u work is_tile_still ∙ at_u ∙ sym (telling_work core rest u is_tile))
       | inr other ↦
           work_elsewhere v u t work other ∙ telling_work core (hint ∷ rest) t within_core
           ∙ ap (received (work_at core t))
@@ -170,8 +162,7 @@ raised_telling core hint rest is_tile =
     let within_core : IsTile core t = subst (λ n. t < n) set_count within in
     elim (cases_eq t u) [
       | inl same ↦
-          subst (λ n. get_or (set v.tiles u work) n idle ≡ work_at (telling after rest) n) (sym same)
-          (work_there v u work is_tile_still ∙ at_u
+          rw same (work_there v u work is_tile_still ∙ at_u
           ∙ ap (λ w. received w (hints_for core u rest)) (sym (work_there core u dirty is_tile))
           ∙ sym (telling_work after rest u (after_tile u is_tile)))
       | inr other ↦
@@ -191,69 +182,68 @@ pub record AreToldAt (core : Core) (hints : List Hint) : Type 0 where
   pub order : AreInTileOrder (tiling core) hints
 
 module _ (core : Core) (hint : Hint) (rest : List Hint) (told : AreToldAt core (hint ∷ rest)) where
-  home_is_tile : IsTile core (tile_of (tiling core) hint.to_pixel)
+  -- the tile of the first hint, and the core that tells all of them
+  abbrev home : ℕ
+  home = tile_of (tiling core) hint.to_pixel
+
+  abbrev full : Core
+  full = telling core (hint ∷ rest)
+
+  home_is_tile : IsTile core home
   home_is_tile = told.to_tile hint (here hint rest hint refl)
 
-  first_work : work_at (telling core (hint ∷ rest)) (tile_of (tiling core) hint.to_pixel)
-      ≡ received (work_at core (tile_of (tiling core) hint.to_pixel))
-      (hint ∷ hints_for core (tile_of (tiling core) hint.to_pixel) rest)
+  first_work : work_at full home ≡ received (work_at core home) (hint ∷ hints_for core home rest)
   first_work =
-      let u = tile_of (tiling core) hint.to_pixel in
-      telling_work core (hint ∷ rest) u home_is_tile
-      ∙ ap (received (work_at core u)) (first_for_its_tile (tiling core) hint rest u refl)
+      telling_work core (hint ∷ rest) home home_is_tile
+      ∙ ap (received (work_at core home)) (first_for_its_tile (tiling core) hint rest home refl)
 
-  first_inbox : (work_at (telling core (hint ∷ rest)) (tile_of (tiling core) hint.to_pixel)).inbox
-      ≡ hint ∷ hints_for core (tile_of (tiling core) hint.to_pixel) rest
+  first_inbox : (work_at full home).inbox ≡ hint ∷ hints_for core home rest
   first_inbox =
-      let u = tile_of (tiling core) hint.to_pixel in
       ap (λ (w : TileWork). w.inbox) first_work
-      ∙ ap (λ inbox. inbox ++ hint ∷ hints_for core u rest) (told.none_wait u home_is_tile)
+      ∙ ap (λ inbox. inbox ++ hint ∷ hints_for core home rest) (told.none_wait home home_is_tile)
 
-  is_tile_still : (t : ℕ) → IsTile core t → IsTile (telling core (hint ∷ rest)) t
+  is_tile_still : (t : ℕ) → IsTile core t → IsTile full t
   is_tile_still t within = subst (λ n. t < n) (sym (telling_count core (hint ∷ rest))) within
 
-  was_tile : (t : ℕ) → IsTile (telling core (hint ∷ rest)) t → IsTile core t
+  was_tile : (t : ℕ) → IsTile full t → IsTile core t
   was_tile t within = subst (λ n. t < n) (telling_count core (hint ∷ rest)) within
 
   -- no hint is for a tile before that of the first
-  none_before : (t : ℕ) → t < tile_of (tiling core) hint.to_pixel → hints_for core t (hint ∷ rest) ≡ []
+  none_before : (t : ℕ) → t < home → hints_for core t (hint ∷ rest) ≡ []
   none_before t less = none_for (tiling core) (hint ∷ rest) t (λ later there same.
       elim (first_or_later hint rest later there) [
         | inl first ↦
-            let e : tile_of (tiling core) hint.to_pixel ≡ tile_of (tiling core) later.to_pixel =
+            let e : home ≡ tile_of (tiling core) later.to_pixel =
             ap (λ (h : Hint). tile_of (tiling core) h.to_pixel) first in
             omega (arith, e, same, less)
         | inr behind ↦ omega (arith, told.order.0 later behind, same, less)
       ])
 
-  pub first_is_next : IsNext (telling core (hint ∷ rest)) (Hand (tile_of (tiling core) hint.to_pixel) 0)
-  first_is_next =
-      let u = tile_of (tiling core) hint.to_pixel in
-      let v = telling core (hint ∷ rest) in (
-        λ t within.
-            ap (λ (w : TileWork). w.out) (telling_work core (hint ∷ rest) t (was_tile t within))
-            ∙ told.none_out t (was_tile t within),
-        (
-          (
-            is_tile_still u home_is_tile,
-            λ none. let no : hint ∷ hints_for core u rest ≡ [] = sym first_inbox ∙ none in absurd cc,
-          ),
-          λ t waits. elim (cases_lt t u) [
-            | inl less ↦
-                let within = was_tile t waits.0 in
-                absurd (waits.1 (ap (λ (w : TileWork). w.inbox) (telling_work core (hint ∷ rest) t within)
-                ∙ ap (λ hs. (work_at core t).inbox ++ hs) (none_before t less)
-                ∙ append-nil (work_at core t).inbox ∙ told.none_wait t within))
-            | inr more ↦ more
-          ],
-        ),
-        refl,
-      )
+  pub first_is_next : IsNext full (Hand home 0)
+  first_is_next = (
+    λ t within. ap (λ (w : TileWork). w.out) (telling_work core (hint ∷ rest) t (was_tile t within))
+        ∙ told.none_out t (was_tile t within),
+    (
+      (
+        is_tile_still home home_is_tile,
+        λ none. let no : hint ∷ hints_for core home rest ≡ [] = sym first_inbox ∙ none in absurd cc,
+      ),
+      λ t waits. elim (cases_lt t home) [
+        | inl less ↦
+            let within = was_tile t waits.0 in
+            absurd (waits.1 (ap (λ (w : TileWork). w.inbox) (telling_work core (hint ∷ rest) t within)
+            ∙ ap (λ hs. (work_at core t).inbox ++ hs) (none_before t less)
+            ∙ append-nil (work_at core t).inbox ∙ told.none_wait t within))
+        | inr more ↦ more
+      ],
+    ),
+    refl,
+  )
 
-  first_is_there : hint_at (telling core (hint ∷ rest)) (tile_of (tiling core) hint.to_pixel) 0 ≡ Some hint
+  first_is_there : hint_at full home 0 ≡ Some hint
   first_is_there = ap (λ hs. slice_get hs 0) first_inbox
 
-  first_present : IsPresent (telling core (hint ∷ rest)) hint
+  first_present : IsPresent full hint
   first_present =
       let there = told.present hint (here hint rest hint refl) in
       record {
@@ -263,18 +253,13 @@ module _ (core : Core) (hint : Hint) (rest : List Hint) (told : AreToldAt core (
             ∙ there.generation;
       }
 
-  first_left_out : without_hint (telling core (hint ∷ rest)) (tile_of (tiling core) hint.to_pixel) 0
-      ≡ telling core rest
-  first_left_out =
-      let u = tile_of (tiling core) hint.to_pixel in
-      without_first core hint rest u refl home_is_tile (told.none_wait u home_is_tile)
+  first_left_out : without_hint full home 0 ≡ telling core rest
+  first_left_out = without_first core hint rest home refl home_is_tile (told.none_wait home home_is_tile)
 
-  pub hand_stays : hint.value ≤ image_at core hint.to_pixel
-      → IsHanded (telling core (hint ∷ rest)) (tile_of (tiling core) hint.to_pixel) 0 Same (telling core rest)
+  pub hand_stays : hint.value ≤ image_at core hint.to_pixel → IsHanded full home 0 Same (telling core rest)
   hand_stays enough = (hint, first_is_there, first_present, enough, sym first_left_out)
 
-  pub hand_rises : image_at core hint.to_pixel < hint.value
-      → IsHanded (telling core (hint ∷ rest)) (tile_of (tiling core) hint.to_pixel) 0 Raised
+  pub hand_rises : image_at core hint.to_pixel < hint.value → IsHanded full home 0 Raised
       (telling (risen_core core hint) rest)
   hand_rises above = (
     hint,
@@ -295,27 +280,24 @@ module _ (core : Core) (hint : Hint) (rest : List Hint) (told : AreToldAt core (
 
   pub told_after : AreToldAt (risen_core core hint) rest
   told_after =
-      let u = tile_of (tiling core) hint.to_pixel in
-      let dirty : TileWork = record (work_at core u) { dirty = true } in
-      let count : length (risen_core core hint).tiles ≡ length core.tiles = length-set core.tiles u dirty in
+      let dirty : TileWork = record (work_at core home) { dirty = true } in
+      let count : length (risen_core core hint).tiles ≡ length core.tiles = length-set core.tiles home dirty in
       let was : (t : ℕ) → IsTile (risen_core core hint) t → IsTile core t =
       λ t within. subst (λ n. t < n) count within in
       let still : (t : ℕ) → IsTile core t → IsTile (risen_core core hint) t =
       λ t within. subst (λ n. t < n) (sym count) within in
       record {
         none_out = λ t within.
-            field_kept core u dirty (λ (w : TileWork). w.out) home_is_tile refl t ∙ told.none_out t (was t within);
-        none_wait = λ t within.
-            field_kept core u dirty (λ (w : TileWork). w.inbox) home_is_tile refl t
+            field_kept core home dirty (λ (w : TileWork). w.out) home_is_tile refl t ∙ told.none_out t (was t within);
+        none_wait = λ t within. field_kept core home dirty (λ (w : TileWork). w.inbox) home_is_tile refl t
             ∙ told.none_wait t (was t within);
-        to_tile = λ h there.
-            still (tile_of (tiling core) h.to_pixel) (told.to_tile h (later hint rest h there));
+        to_tile = λ h there. still (tile_of (tiling core) h.to_pixel) (told.to_tile h (later hint rest h there));
         present = λ h there.
             let before = told.present h (later hint rest h there) in
             record {
               is_tile = still h.from before.is_tile;
               generation =
-                  field_kept core u dirty (λ (w : TileWork). w.generation) home_is_tile refl h.from
+                  field_kept core home dirty (λ (w : TileWork). w.generation) home_is_tile refl h.from
                   ∙ before.generation;
             };
         order = told.order.1;

@@ -1,23 +1,18 @@
 -- Hints that are handed over, one after another.
 use Rattle.std.proofs.Common.{◌≡◌, ℕ, ◌+◌, ◌*◌, ◌<◌, ◌≤◌, true, cond, List, [], ◌∷◌, ◌++◌, length, get_or, take, refl}
-use Rattle.std.proofs.Common.{sym, ap, ◌∙◌, subst, arith, inl, inr}
-use Rattle.std.specs.Prelude.{◌==◌, if◌then◌else◌, slice_index_or, slice_set, Contains}
-use Rattle.std.specs.List.{flat_map}
-use Rattle.std.proofs.lemmas.Nat.{mul-add-lt}
-use Rattle.std.proofs.lemmas.Bool.{cases_lt, lt-ltb, le-ltb, eq-eqb, ne_eqb}
-use Rattle.std.proofs.lemmas.List.{get_or-set_other, length-set, append-nil}
+use Rattle.std.proofs.Common.{sym, ap, ◌∙◌, subst, arith, inl, inr, ◌==◌, if◌then◌else◌, slice_index_or, slice_set}
+use Rattle.std.proofs.Common.{Contains, flat_map}
+use Rattle.std.proofs.{lemmas.Nat.mul-add-lt, lemmas.Grind.flat_map-append, lemmas.List.Sums.sum_by-set}
+use Rattle.std.proofs.lemmas.Bool.{cases_lt, lt-ltb, le-ltb, eq-eqb}
+use Rattle.std.proofs.lemmas.List.{get_or-set_other, length-set, append-nil, take_more}
 use Rattle.std.proofs.lemmas.List.Elements.{Contains-append_left, Contains-append_right, filter-append}
-use Rattle.std.proofs.lemmas.Grind.{flat_map-append}
-use Rattle.std.proofs.lemmas.List.{take_more}
-use Rattle.std.proofs.lemmas.List.Sums.{sum_by-set}
 use Rattle.grid_core.specs.Raster.{Raster, IsInside, IsFilled, index_of, max_level, value_at, with_value}
 use Rattle.grid_core.specs.Tiles.{Tiles, tile_of}
-use Rattle.border_queues.specs.declared.hint.Hint.{Hint}
-use Rattle.border_queues.specs.OpenEdges.{IsOnTiling}
-use Rattle.grid_core.proofs.Headroom.{headroom_set}
+use Rattle.border_queues.specs.{declared.hint.Hint.Hint, OpenEdges.IsOnTiling}
 use Rattle.border_queues.specs.TileWork.{TileWork, idle, dirty_count}
-use Rattle.reset_core.specs.Telling.{ImageAndWork, burden_of, risen_by, handed, all_handed, hints_in}
-use Rattle.reset_core.specs.Telling.{AreHandedOver, AreOfTiles, IsHandOver}
+use Rattle.grid_core.proofs.Headroom.{headroom_set}
+use Rattle.reset_core.specs.Telling.{ImageAndWork, burden_of, risen_by, handed, all_handed, hints_in, AreHandedOver}
+use Rattle.reset_core.specs.Telling.{AreOfTiles, IsHandOver}
 
 -- ---- one hint
 
@@ -34,13 +29,7 @@ hint_stays tiles hint s enough =
 -- a hint is one of the hints for its own tile
 hint_for_its_tile : (tiles : Tiles) (hint : Hint) (t : ℕ) → tile_of tiles hint.to_pixel ≡ t
     → hints_in tiles (hint ∷ []) t ≡ hint ∷ []
-hint_for_its_tile tiles hint t here =
-    ap (λ b. cond b (hint ∷ []) []) (eq-eqb (tile_of tiles hint.to_pixel) t here)
-
-hint_for_another : (tiles : Tiles) (hint : Hint) (t : ℕ) → (tile_of tiles hint.to_pixel ≡ t → ⊥)
-    → hints_in tiles (hint ∷ []) t ≡ []
-hint_for_another tiles hint t other =
-    ap (λ b. cond b (hint ∷ []) []) (ne_eqb (tile_of tiles hint.to_pixel) t other)
+hint_for_its_tile tiles hint t here = ap (λ b. cond b (hint ∷ []) []) (eq-eqb (tile_of tiles hint.to_pixel) t here)
 
 -- a cell that rises takes more from the headroom than a tile that becomes dirty adds
 risen_burden : (tiles : Tiles) (hint : Hint) (s : ImageAndWork)
@@ -51,10 +40,9 @@ risen_burden tiles hint s within is_tile above top =
     let t = tile_of tiles hint.to_pixel in
     let count : TileWork → ℕ = λ work. if work.dirty then 1 else 0 in
     let work = slice_index_or s.rows t idle in
-    let less = headroom_set s.image.cells (index_of s.image.width hint.to_pixel) hint.value within above top in
     let more : dirty_count (slice_set s.rows t (record work { dirty = true })) + count work ≡ dirty_count s.rows + 1 =
     sum_by-set count s.rows t (record work { dirty = true }) idle is_tile in
-    omega (arith, less, more)
+    omega (arith, headroom_set s.image.cells (index_of s.image.width hint.to_pixel) hint.value within above top, more)
 
 pub one_rises : (tiles : Tiles) (hint : Hint) (t : ℕ) (s : ImageAndWork) → IsOnTiling tiles s.image → IsFilled s.image
     → IsInside tiles.width tiles.height hint.to_pixel → t < length s.rows → tile_of tiles hint.to_pixel ≡ t
@@ -99,23 +87,6 @@ none_handed tiles s = record {
   burden = omega arith;
 }
 
-pub one_stays : (tiles : Tiles) (hint : Hint) (t : ℕ) (s : ImageAndWork) → tile_of tiles hint.to_pixel ≡ t
-    → hint.value ≤ value_at s.image hint.to_pixel → AreHandedOver tiles (hints_in tiles (hint ∷ []) t) s s
-one_stays tiles hint t s here enough =
-    subst (λ hints. AreHandedOver tiles hints s s) (sym (hint_for_its_tile tiles hint t here)) (record {
-      result = hint_stays tiles hint s enough;
-      width = refl;
-      height = refl;
-      cells = refl;
-      count = refl;
-      burden = omega arith;
-    })
-
-pub one_elsewhere : (tiles : Tiles) (hint : Hint) (t : ℕ) (s : ImageAndWork) → (tile_of tiles hint.to_pixel ≡ t → ⊥)
-    → AreHandedOver tiles (hints_in tiles (hint ∷ []) t) s s
-one_elsewhere tiles hint t s other =
-    subst (λ hints. AreHandedOver tiles hints s s) (sym (hint_for_another tiles hint t other)) (none_handed tiles s)
-
 -- ---- many hints
 
 all_handed-append : (tiles : Tiles) (xs ys : List Hint) (s : ImageAndWork)
@@ -131,7 +102,7 @@ handed_more tiles xs ys a b c first second = record {
   height = second.height ∙ first.height;
   cells = second.cells ∙ first.cells;
   count = second.count ∙ first.count;
-  burden = let less = first.burden in let more = second.burden in omega (arith, less, more);
+  burden = omega (arith, first.burden, second.burden);
 }
 
 -- the image is still cut into the tiles
@@ -172,8 +143,7 @@ tile_handed_next tiles hints ts i a b c within first second =
     let more : flat_map f (take (i + 1) ts) ≡ flat_map f (take i ts) ++ f (get_or ts i 0) =
     ap (flat_map f) (take_more ts i 0 within) ∙ flat_map-append f (take i ts) (get_or ts i 0 ∷ [])
     ∙ ap (λ hs. flat_map f (take i ts) ++ hs) last in
-    subst (λ hs. AreHandedOver tiles hs a c) (sym more)
-    (handed_more tiles (flat_map f (take i ts)) (f (get_or ts i 0)) a b c first second)
+    rw more (handed_more tiles (flat_map f (take i ts)) (f (get_or ts i 0)) a b c first second)
 
 -- a tile for which there is no hint keeps its work
 pub work_elsewhere_stays : (tiles : Tiles) (hints : List Hint) (s : ImageAndWork) (t : ℕ)

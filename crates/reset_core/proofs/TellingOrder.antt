@@ -1,20 +1,15 @@
 -- The hints of a tile's open edges, in the order of the tiles that they are for.
-use Rattle.std.proofs.Common.{◌≡◌, ℕ, suc, ◌<◌, ◌≤◌, List, [], ◌∷◌, ◌++◌, map, refl, sym, ap, ◌∙◌, subst, arith}
-use Rattle.std.proofs.Common.{inl, inr, ◌⊎◌}
-use Rattle.std.specs.Prelude.{◌==◌, Contains}
-use Rattle.std.specs.List.{flat_map, AllPairs}
-use Rattle.std.specs.List.Sorted.{IsStrictlyIncreasing}
+use Rattle.std.proofs.Common.{◌≡◌, ℕ, suc, ◌<◌, ◌≤◌, List, [], ◌∷◌, ◌++◌, map, refl, sym, ap, ◌∙◌, subst, arith, inl}
+use Rattle.std.proofs.Common.{inr, ◌⊎◌, ◌==◌, Contains, flat_map, AllPairs}
 use Rattle.std.proofs.lemmas.Bool.{cases_eq, eqb-true}
-use Rattle.std.proofs.lemmas.List.{append-nil}
-use Rattle.std.proofs.lemmas.List.Kept.{AllPairs-from_increasing}
+use Rattle.std.proofs.{lemmas.List.append-nil, lemmas.List.Kept.AllPairs-from_increasing}
 use Rattle.std.proofs.lemmas.List.Elements.{Contains-append_cases, filter-append}
-use Rattle.grid_core.specs.declared.pixel.Pixel.{Pixel}
-use Rattle.grid_core.specs.Raster.{IsInside}
+use Rattle.std.specs.List.Sorted.{IsStrictlyIncreasing}
+use Rattle.grid_core.specs.{declared.pixel.Pixel.Pixel, Raster.IsInside}
 use Rattle.grid_core.specs.Tiles.{Tiles, IsTiled, AreTouching, tile_of, count_of}
 use Rattle.grid_core.specs.TileLaws.{EachPixelInOneTile, NeighboursLieInTouchingTiles}
-use Rattle.border_queues.specs.declared.hint.Hint.{Hint}
+use Rattle.border_queues.specs.{declared.hint.Hint.Hint, Laws.EdgesAreOpen}
 use Rattle.border_queues.specs.OpenEdges.{Sender, hint_to, open_edges}
-use Rattle.border_queues.specs.Laws.{EdgesAreOpen}
 use Rattle.grid_core.proofs.Common.{here, later, first_or_later, in_flat_map, not_in_empty}
 use Rattle.reset_core.specs.Telling.{hints_in, AreInTileOrder, AreByTile}
 use Rattle.core_rules.proofs.Removals.{passed_was_there, passed_test, from_map}
@@ -48,9 +43,7 @@ told_by edges_open touch in_one s tiled is_tile hint there =
       generation = sym (ap (λ (h : Hint). h.from_generation) is);
       inside = subst (IsInside s.tiles.width s.tiles.height) to edge.to_inside;
       touching = subst (λ (p : Pixel). AreTouching s.tiles s.tile (tile_of s.tiles p)) to touching;
-      is_tile =
-          subst (λ (p : Pixel). tile_of s.tiles p < count_of s.tiles) to
-          (in_one s.tiles pair.1 tiled edge.to_inside).0;
+      is_tile = rw to at (in_one s.tiles pair.1 tiled edge.to_inside).0;
     }
 
 -- ---- hints, tile by tile
@@ -63,8 +56,7 @@ Rises (u ∷ us) = ((v : ℕ) → Contains us v → u < v) × Rises us
 pairs_rise : (us : List ℕ) → AllPairs (λ x y. x < y) us → Rises us
 pairs_rise [] pairs = tt
 pairs_rise (u ∷ us) pairs = (
-  λ v there.
-      subst (λ n. u < n) there.2 (pairs 0 (suc there.0) v (omega arith) (omega (arith, there.1))),
+  λ v there. subst (λ n. u < n) there.2 (pairs 0 (suc there.0) v (omega arith) (omega (arith, there.1))),
   pairs_rise us (λ i j d less within. pairs (suc i) (suc j) d (omega (arith, less)) (omega (arith, within))),
 )
 
@@ -101,8 +93,7 @@ module _ (tiles : Tiles) (hints : List Hint) where
       none_for tiles (by_tiles tiles hints us) t (λ hint there same.
       absent (subst (λ n. Contains us n) same (from_tile us hint there).0))
 
-  part_of : (u : ℕ) (us : List ℕ) (t : ℕ)
-      → hints_in tiles (by_tiles tiles hints (u ∷ us)) t
+  part_of : (u : ℕ) (us : List ℕ) (t : ℕ) → hints_in tiles (by_tiles tiles hints (u ∷ us)) t
       ≡ hints_in tiles (hints_in tiles hints u) t ++ hints_in tiles (by_tiles tiles hints us) t
   part_of u us t =
       filter-append (λ (h : Hint). tile_of tiles h.to_pixel == t) (hints_in tiles hints u) (by_tiles tiles hints us)
@@ -117,12 +108,11 @@ module _ (tiles : Tiles) (hints : List Hint) where
 
   -- a tile of the list has its part, and another one none
   each_part : (us : List ℕ) → Rises us → (t : ℕ)
-      → (Contains us t × (hints_in tiles (by_tiles tiles hints us) t ≡ hints_in tiles hints t))
-      ⊎ (Contains us t → ⊥)
+      → (Contains us t × (hints_in tiles (by_tiles tiles hints us) t ≡ hints_in tiles hints t)) ⊎ (Contains us t → ⊥)
   each_part [] rises t = inr (not_in_empty t)
   each_part (u ∷ us) rises t = elim (cases_eq u t) [
     | inl same ↦
-        let none : Contains us t → ⊥ = λ there. let more = rises.0 t there in omega (arith, more, same) in
+        let none : Contains us t → ⊥ = λ there. omega (arith, rises.0 t there, same) in
         let first : hints_in tiles (hints_in tiles hints u) t ≡ hints_in tiles hints t =
         ap (λ n. hints_in tiles (hints_in tiles hints n) t) same ∙ own_part t in
         inl (
@@ -143,16 +133,15 @@ module _ (tiles : Tiles) (hints : List Hint) where
     ]
   ]
 
-  in_order_append : (u : ℕ) (xs ys : List Hint)
-      → ((hint : Hint) → Contains xs hint → tile_of tiles hint.to_pixel ≡ u)
+  in_order_append : (u : ℕ) (xs ys : List Hint) → ((hint : Hint) → Contains xs hint → tile_of tiles hint.to_pixel ≡ u)
       → ((hint : Hint) → Contains ys hint → u ≤ tile_of tiles hint.to_pixel) → AreInTileOrder tiles ys
       → AreInTileOrder tiles (xs ++ ys)
   in_order_append u [] ys at_u from_u order = order
   in_order_append u (x ∷ xs) ys at_u from_u order =
       let first = at_u x (here x xs x refl) in (
         λ hint there. elim (Contains-append_cases xs ys hint there) [
-          | inl in_xs ↦ let same = at_u hint (later x xs hint in_xs) in omega (arith, first, same)
-          | inr in_ys ↦ let more = from_u hint in_ys in omega (arith, first, more)
+          | inl in_xs ↦ omega (arith, first, at_u hint (later x xs hint in_xs))
+          | inr in_ys ↦ omega (arith, first, from_u hint in_ys)
         ],
         in_order_append u xs ys (λ hint there. at_u hint (later x xs hint there)) from_u order,
       )
@@ -160,10 +149,8 @@ module _ (tiles : Tiles) (hints : List Hint) where
   in_order : (us : List ℕ) → Rises us → AreInTileOrder tiles (by_tiles tiles hints us)
   in_order [] rises = tt
   in_order (u ∷ us) rises =
-      in_order_append u (hints_in tiles hints u) (by_tiles tiles hints us) (in_tile tiles hints u)
-      (λ hint there.
-      let more = rises.0 (tile_of tiles hint.to_pixel) (from_tile us hint there).0 in omega (arith, more))
-      (in_order us rises.1)
+      in_order_append u (hints_in tiles hints u) (by_tiles tiles hints us) (in_tile tiles hints u) (λ hint there.
+      omega (arith, rises.0 (tile_of tiles hint.to_pixel) (from_tile us hint there).0)) (in_order us rises.1)
 
   -- where each hint is for a tile of the list
   pub are_by_tile : (us : List ℕ) → IsStrictlyIncreasing us
@@ -175,14 +162,9 @@ module _ (tiles : Tiles) (hints : List Hint) where
         same = λ t within. elim (each_part us rises t) [
           | inl found ↦ found.1
           | inr absent ↦
-              none_elsewhere us t absent
-              ∙ sym (none_for tiles hints t (λ hint there same.
+              none_elsewhere us t absent ∙ sym (none_for tiles hints t (λ hint there same.
               absent (subst (λ n. Contains us n) same (to hint there))))
         ];
         order = in_order us rises;
         those = λ hint there. (from_tile us hint there).1;
       }
-
--- no hint at all
-pub none_by_tile : (tiles : Tiles) → AreByTile tiles [] []
-none_by_tile tiles = record { same = λ t within. refl; order = tt; those = λ hint there. there }

@@ -1,49 +1,33 @@
 -- A tile that is swept in place, with its hints handed over at once: the events that have the same effect.
 use Rattle.std.proofs.Common.{◌≡◌, ℕ, ◌+◌, ◌*◌, ◌%◌, ◌^◌, ◌<◌, ◌≤◌, false, List, [], ◌∷◌, ◌++◌, length, set, refl, sym}
-use Rattle.std.proofs.Common.{ap, ◌∙◌, subst, arith, inl, inr}
-use Rattle.std.specs.Prelude.{◌≢◌, Some, Contains, if◌then◌else◌}
-use Rattle.std.proofs.lemmas.Bool.{cases_eq}
+use Rattle.std.proofs.Common.{ap, ◌∙◌, subst, arith, inl, inr, ◌≢◌, Some, Contains, if◌then◌else◌}
+use Rattle.std.proofs.{lemmas.Bool.cases_eq, lemmas.List.Sums.sum_by-set}
 use Rattle.std.proofs.lemmas.List.{length-set, append-nil}
-use Rattle.std.proofs.lemmas.List.Sums.{sum_by-set}
-use Rattle.grid_core.specs.declared.pixel.Pixel.{Pixel}
+use Rattle.grid_core.specs.{declared.pixel.Pixel.Pixel, Path.Inside, Reconstruction.IsReconstruction, Rects.IsInRect}
+use Rattle.grid_core.specs.{Rects.domain_in, Rects.part, Tiles.tile_of, Tiles.count_of}
 use Rattle.grid_core.specs.Raster.{Raster, IsInside, IsBelow, value_at, headroom}
-use Rattle.grid_core.specs.Path.{Inside}
-use Rattle.grid_core.specs.Reconstruction.{IsReconstruction}
-use Rattle.grid_core.specs.Rects.{IsInRect, in_image, domain_in, part}
-use Rattle.grid_core.specs.Tiles.{tile_of, count_of}
-use Rattle.grid_core.proofs.Cells.{each_pixel_below}
-use Rattle.grid_core.proofs.Reach.{reaches_here}
+use Rattle.grid_core.proofs.{Cells.each_pixel_below, Headroom.headroom_falls}
 use Rattle.grid_core.proofs.Tilings.{each_pixel_in_one_tile, tile_pixels, neighbours_lie_in_touching_tiles}
-use Rattle.border_queues.specs.declared.hint.Hint.{Hint}
-use Rattle.border_queues.specs.Laws.{EdgesAreOpen}
-use Rattle.grid_core.proofs.Headroom.{headroom_falls}
-use Rattle.core_rules.specs.declared.answers.Back.TheVariants.{Joined}
-use Rattle.core_rules.specs.Image.{IsOfSize}
-use Rattle.core_rules.specs.Work.{Core, domain, tiling, mask_at, image_at, IsTile, work_at}
+use Rattle.border_queues.specs.{declared.hint.Hint.Hint, Laws.EdgesAreOpen}
 use Rattle.border_queues.specs.TileWork.{TileWork, idle, received, dirty_count}
+use Rattle.core_rules.specs.{declared.answers.Back.TheVariants.Joined, Image.IsOfSize, InPlace.IsSweptInPlace}
+use Rattle.core_rules.specs.{Runs.Entry, Runs.IsNext, Runs.IsWorkedOff, Invariant.IsSound}
+use Rattle.core_rules.specs.Work.{Core, domain, tiling, mask_at, image_at, IsTile, work_at}
 use Rattle.core_rules.specs.Sweeps.{tile_rect, sender_of, hints_of, hints_for}
-use Rattle.core_rules.specs.InPlace.{IsSweptInPlace}
 use Rattle.core_rules.specs.Events.{Take, GiveBack, OfTake, OfGiveBack}
-use Rattle.core_rules.specs.Runs.{Entry, IsNext, IsWorkedOff}
-use Rattle.core_rules.specs.Invariant.{IsSound}
-use Rattle.reset_core.specs.declared.replica.Core.TheInside.{Inside as Parts}
-use Rattle.reset_core.specs.Telling.{ImageAndWork, image_and_work, burden, burden_of, AreByTile}
-use Rattle.reset_core.specs.Telling.{AreTold}
+use Rattle.reset_core.specs.{declared.replica.Core.TheInside.Inside as Parts, Settling.IsOneWorkedOff}
+use Rattle.reset_core.specs.Telling.{ImageAndWork, image_and_work, burden, burden_of, AreByTile, AreTold}
 use Rattle.core_rules.proofs.Cores.{work_there, work_elsewhere, field_kept}
-use Rattle.core_rules.proofs.Supporting.{reach_at_most}
-use Rattle.core_rules.proofs.Running.{run_keeps_sound}
-use Rattle.core_rules.proofs.InPlaceSweeps.{in_place_is_worked_off, work_goes_on}
-use Rattle.core_rules.proofs.Running.{worked_is_run}
-use Rattle.reset_core.proofs.Telling.{telling, telling_count, telling_work, telling_same, none_for}
-use Rattle.reset_core.specs.Settling.{IsOneWorkedOff}
-use Rattle.reset_core.proofs.Telling.{with_image_and_work, AreToldAt, HandsOver, hands_over}
+use Rattle.core_rules.proofs.Running.{run_keeps_sound, worked_is_run}
+use Rattle.core_rules.proofs.InPlaceSweeps.{in_place_is_worked_off, next_is_ready, risen, work_goes_on}
+use Rattle.reset_core.proofs.Telling.{telling, telling_count, telling_work, telling_same, none_for, with_image_and_work}
+use Rattle.reset_core.proofs.Telling.{AreToldAt, HandsOver, hands_over}
 use Rattle.reset_core.proofs.TellingOrder.{IsToldBy, told_by}
 
 -- the image has grown in the tile: there it is the reconstruction, and elsewhere it is as it was
 pub record IsGrownAt (before : Core) (t : ℕ) (image : Raster) : Type 0 where
   pub size : IsOfSize before.image image
-  pub grown :
-      IsReconstruction (domain_in (tile_rect before t) before.conn) (part (tile_rect before t) (mask_at before))
+  pub grown : IsReconstruction (domain_in (tile_rect before t) before.conn) (part (tile_rect before t) (mask_at before))
       (part (tile_rect before t) (image_at before)) (part (tile_rect before t) (value_at image))
   pub beyond : (p : Pixel) → IsInside before.image.width before.image.height p
       → (IsInRect (tile_rect before t) p → ⊥) → value_at image p ≡ image_at before p
@@ -66,82 +50,71 @@ empty_inbox (hint ∷ hints) full = absurd (full (λ same. absurd cc))
 
 module _ (edges_open : EdgesAreOpen) (before : Core) (t : ℕ) (sound : IsSound before)
     (next : IsNext before (Take t)) (image : Raster) (grown : IsGrownAt before t image) where
+  -- the core once the tile is swept, and the hints that it tells
+  abbrev middle : Core
+  middle = grown_core before t image
+
+  abbrev hints : List Hint
+  hints = hints_of before middle t
+
   is_tile : IsTile before t
   is_tile = next.2.0.0
 
   within : t < count_of (tiling before)
-  within = let count = sound.shape.tiles in omega (arith, is_tile, count)
+  within = omega (arith, is_tile, sound.shape.tiles)
 
-  count : length (grown_core before t image).tiles ≡ length before.tiles
+  count : length middle.tiles ≡ length before.tiles
   count = length-set before.tiles t (clean before t)
 
-  told_hint : (hint : Hint) → Contains (hints_of before (grown_core before t image) t) hint
+  told_hint : (hint : Hint) → Contains hints hint
       → IsToldBy (record (sender_of before t) { image = value_at image }) hint
   told_hint =
       told_by edges_open neighbours_lie_in_touching_tiles each_pixel_in_one_tile
       (record (sender_of before t) { image = value_at image }) sound.shape.tiled within
 
-  none_for_itself : hints_for before t (hints_of before (grown_core before t image) t) ≡ []
+  none_for_itself : hints_for before t hints ≡ []
   none_for_itself =
-      none_for (tiling before) (hints_of before (grown_core before t image) t) t (λ hint there same.
-      (told_hint hint there).touching.other (sym same))
+      none_for (tiling before) hints t (λ hint there same. (told_hint hint there).touching.other (sym same))
 
   -- ---- the sweep
 
-  own : work_at (telling (grown_core before t image) (hints_of before (grown_core before t image) t)) t
-      ≡ clean before t
+  own : work_at (telling middle hints) t ≡ clean before t
   own =
-      let after = grown_core before t image in
-      let told = hints_of before after t in
-      telling_work after told t (subst (λ n. t < n) (sym count) is_tile)
-      ∙ ap (λ w. received w (hints_for before t told)) (work_there before t (clean before t) is_tile)
+      telling_work middle hints t (subst (λ n. t < n) (sym count) is_tile)
+      ∙ ap (λ w. received w (hints_for before t hints)) (work_there before t (clean before t) is_tile)
       ∙ ap (received (clean before t)) none_for_itself
       ∙ ap (λ hs. record (clean before t) { inbox = hs }) (append-nil (work_at before t).inbox)
 
-  in_place : IsSweptInPlace before t (telling (grown_core before t image)
-      (hints_of before (grown_core before t image) t))
-  in_place =
-      let after = grown_core before t image in
-      let told = hints_of before after t in
-      record {
-        size = grown.size;
-        grown = grown.grown;
-        beyond = grown.beyond;
-        own = own;
-        others = λ u tile other.
-            telling_work after told u (subst (λ n. u < n) (sym count) tile)
-            ∙ ap (λ w. received w (hints_for before u told)) (work_elsewhere before t u (clean before t) other);
-        count = telling_count after told ∙ count;
-        rest = refl;
-      }
+  in_place : IsSweptInPlace before t (telling middle hints)
+  in_place = record {
+    size = grown.size;
+    grown = grown.grown;
+    beyond = grown.beyond;
+    own = own;
+    others = λ u tile other. telling_work middle hints u (subst (λ n. u < n) (sym count) tile)
+        ∙ ap (λ w. received w (hints_for before u hints)) (work_elsewhere before t u (clean before t) other);
+    count = telling_count middle hints ∙ count;
+    rest = refl;
+  }
 
   -- ---- the hints
 
-  module _ (by_tile : List Hint)
-      (sorted : AreByTile (tiling before) (hints_of before (grown_core before t image) t) by_tile) where
-    told_at : AreToldAt (grown_core before t image) by_tile
+  module _ (by_tile : List Hint) (sorted : AreByTile (tiling before) hints by_tile) where
+    told_at : AreToldAt middle by_tile
     told_at =
-        let after = grown_core before t image in
-        let was : (u : ℕ) → IsTile after u → IsTile before u = λ u tile. subst (λ n. u < n) count tile in
+        let was : (u : ℕ) → IsTile middle u → IsTile before u = λ u tile. subst (λ n. u < n) count tile in
         record {
           none_out = λ u tile.
               field_kept before t (clean before t) (λ (w : TileWork). w.out) is_tile refl u ∙ next.0 u (was u tile);
-          none_wait = λ u tile.
-              field_kept before t (clean before t) (λ (w : TileWork). w.inbox) is_tile refl u
+          none_wait = λ u tile. field_kept before t (clean before t) (λ (w : TileWork). w.inbox) is_tile refl u
               ∙ empty_inbox (work_at before u).inbox (λ some. next.1 u (was u tile, some));
           to_tile = λ hint there.
               let told = (told_hint hint (sorted.those hint there)).is_tile in
-              let tiles = sound.shape.tiles in
-              let same = count in
-              omega (arith, told, tiles, same);
+              omega (arith, told, sound.shape.tiles, count);
           present = λ hint there.
               let told = told_hint hint (sorted.those hint there) in
               record {
-                is_tile =
-                    let from = told.from in
-                    let same = count in
-                    let tile = is_tile in
-                    omega (arith, from, same, tile);
+                is_tile = omega (arith, told.from, count, is_tile);
                 generation =
                     field_kept before t (clean before t) (λ (w : TileWork). w.generation) is_tile refl hint.from
                     ∙ ap (λ n. (work_at before n).generation) told.from ∙ sym told.generation;
@@ -149,33 +122,16 @@ module _ (edges_open : EdgesAreOpen) (before : Core) (t : ℕ) (sound : IsSound 
           order = sorted.order;
         }
 
-    same_told : telling (grown_core before t image) (hints_of before (grown_core before t image) t)
-        ≡ telling (grown_core before t image) by_tile
+    same_told : telling middle hints ≡ telling middle by_tile
     same_told =
-        telling_same (grown_core before t image) (hints_of before (grown_core before t image) t) by_tile (λ u tile.
-        let tiles = sound.shape.tiles in
-        let same = count in
-        sym (sorted.same u (omega (arith, tile, tiles, same))))
+        telling_same middle hints by_tile (λ u tile.
+        sym (sorted.same u (omega (arith, tile, sound.shape.tiles, count))))
 
   -- ---- how much is left to do
 
   inside_domain : (p : Pixel) → IsInside before.image.width before.image.height p → Inside (domain before) p
   inside_domain p inside =
-      let width = sound.shape.image.width in
-      let height = sound.shape.image.height in
-      (omega (arith, inside.0, width), omega (arith, inside.1, height))
-
-  risen : (p : Pixel) → IsInside (tile_rect before t).w (tile_rect before t).h p
-      → image_at before (in_image (tile_rect before t) p) ≤ value_at image (in_image (tile_rect before t) p)
-  risen p inside =
-      let r = in_image (tile_rect before t) p in
-      let d = domain_in (tile_rect before t) before.conn in
-      let in_domain = ((tile_pixels (tiling before) t r sound.shape.tiled within).1 (p, inside, refl)).0 in
-      let below = (sound.supported r in_domain).1 in
-      reach_at_most d (part (tile_rect before t) (mask_at before)) (part (tile_rect before t) (image_at before))
-      (part (tile_rect before t) (value_at image)) grown.grown p (image_at before r) inside
-      (reaches_here d (part (tile_rect before t) (mask_at before)) (part (tile_rect before t) (image_at before)) p
-      (image_at before r) inside below (omega arith))
+      (omega (arith, inside.0, sound.shape.image.width), omega (arith, inside.1, sound.shape.image.height))
 
   pub rises : (p : Pixel) → IsInside before.image.width before.image.height p → image_at before p ≤ value_at image p
   rises p inside =
@@ -183,7 +139,9 @@ module _ (edges_open : EdgesAreOpen) (before : Core) (t : ℕ) (sound : IsSound 
       elim (cases_eq (tile_of (tiling before) p) t) [
         | inl here ↦
             let (q, inside_q, is) = (tile_pixels (tiling before) t p sound.shape.tiled within).0 (in_domain, here) in
-            subst (λ (r : Pixel). image_at before r ≤ value_at image r) is (risen q inside_q)
+            let ready = next_is_ready before t next in
+            subst (λ (r : Pixel). image_at before r ≤ value_at image r) is
+            (risen before (telling middle hints) t sound ready in_place q inside_q)
         | inr other ↦
             let same = grown.beyond p inside (λ in_rect.
             other (((each_pixel_in_one_tile (tiling before) p sound.shape.tiled in_domain).1 t within).0 in_rect)) in
@@ -210,8 +168,8 @@ module _ (edges_open : EdgesAreOpen) (before : Core) (t : ℕ) (sound : IsSound 
       ≡ dirty_count before.tiles + 0 = sum_by-set count_one before.tiles t (clean before t) idle is_tile in
       omega (arith, dirty, change)
 
-  less_burden : burden_of (image_and_work (grown_core before t image)) < burden before
-  less_burden = let room = less_headroom in let fewer = fewer_dirty in omega (arith, room, fewer)
+  less_burden : burden_of (image_and_work middle) < burden before
+  less_burden = omega (arith, less_headroom, fewer_dirty)
 
 -- one tile is worked off, and the core is sound
 pub one_step : EdgesAreOpen → (before : Core) (t : ℕ) → IsSound before → IsNext before (Take t) → (image : Raster)
@@ -225,21 +183,18 @@ one_step edges_open before t sound next image grown s told =
     let hints = hints_of before middle t in
     let final = with_image_and_work middle s in
     let off : HandsOver (telling middle told.by_tile) final =
-    subst (λ r. HandsOver (telling middle told.by_tile) (with_image_and_work middle r)) told.over.result
-    (hands_over middle told.by_tile
+    rw told.over.result at (hands_over middle told.by_tile
     (told_at edges_open before t sound next image grown told.by_tile told.sorted)) in
     let (swept, sweeps) =
     in_place_is_worked_off before (telling middle hints) t sound next
     (in_place edges_open before t sound next image grown) in
     let sweep : List Entry = (Take t, OfTake (Some swept.job)) ∷ (GiveBack swept, OfGiveBack Joined) ∷ [] in
     let hands : IsWorkedOff (telling middle hints) off.log final =
-    subst (λ c. IsWorkedOff c off.log final)
-    (sym (same_told edges_open before t sound next image grown told.by_tile told.sorted)) off.works in
+    rw (same_told edges_open before t sound next image grown told.by_tile told.sorted) off.works in
     let works : IsWorkedOff before (sweep ++ off.log) final =
     work_goes_on before (telling middle hints) final sweep off.log sweeps hands in
     let less : burden_of (image_and_work middle) < burden before =
-    less_burden edges_open before t sound next image grown in
-    let kept = told.over.burden in (
+    less_burden edges_open before t sound next image grown in (
       record {
         log = sweep ++ off.log;
         works = works;
@@ -247,7 +202,7 @@ one_step edges_open before t sound next image grown s told =
         count = told.over.count ∙ length-set before.tiles t (clean before t);
         none_out = off.none_out;
         no_hints = λ u waits. waits.1 (off.none_wait u waits.0);
-        less = omega (arith, less, kept);
+        less = omega (arith, less, told.over.burden);
       },
       run_keeps_sound edges_open before final (sweep ++ off.log) sound
           (worked_is_run before final (sweep ++ off.log) works),
@@ -257,5 +212,4 @@ one_step edges_open before t sound next image grown s told =
 
 -- the parts with this image and work, and the next serial
 abbrev pub worked_parts : Parts → ImageAndWork → Parts
-worked_parts parts s =
-    record parts { image = s.image; work = s.rows; serial = (parts.serial + 1) % 2 ^ 64 }
+worked_parts parts s = record parts { image = s.image; work = s.rows; serial = (parts.serial + 1) % 2 ^ 64 }

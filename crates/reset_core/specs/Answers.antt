@@ -1,24 +1,17 @@
 -- What the core's methods answer. Public functions have these words in their contracts.
 use Rattle.std.specs.Prelude.{◌≡◌, ◌⊎◌, ◌↔◌, ℕ, ◌<◌, ◌≤◌, Bool, List, IsTrue}
-use Rattle.grid_core.specs.declared.conn.Conn.{Conn}
-use Rattle.grid_core.specs.Raster.{Raster, IsSized, IsBelow}
-use Rattle.grid_core.specs.Tiles.{IsTileSide}
+use Rattle.grid_core.specs.{declared.conn.Conn.Conn, Raster.Raster, Raster.IsSized, Raster.IsBelow, Tiles.IsTileSide}
 use Rattle.stroke_lattice.specs.State.{State}
 use Rattle.tile_generations.specs.Jobs.{Job}
-use Rattle.core_rules.specs.declared.error.CoreError.{CoreError}
-use Rattle.core_rules.specs.declared.error.CoreError.TheVariants as errors
-use Rattle.core_rules.specs.declared.step.Step.{Step}
-use Rattle.core_rules.specs.Work.{Core, IsQuiet}
-use Rattle.core_rules.specs.Opening.{opened}
-use Rattle.core_rules.specs.Invariant.{HasLawfulImage, HasReconstruction}
-use Rattle.core_rules.specs.Merge.{IsRefused, IsAcceptable}
+use Rattle.core_rules.specs.{declared.error.CoreError.CoreError, declared.step.Step.Step, Work.Core, Work.IsQuiet}
+use Rattle.core_rules.specs.{Opening.opened, Invariant.HasLawfulImage, Invariant.HasReconstruction, Merge.IsRefused}
+use Rattle.core_rules.specs.{Merge.IsAcceptable, Counting.IsWithinWork, Counting.Owes, Counting.tiles_out}
 use Rattle.core_rules.specs.Sweeps.{IsKnown, IsOut, IsUnchanged, HasOnlyRisen}
 use Rattle.core_rules.specs.Runs.{Entry, IsSettling, IsSettled, IsCutShort, IsTakenIn, jobs_of, abandons_of}
 use Rattle.core_rules.specs.Schedule.{Progress, Ran, AreSteps, started, ran_of}
-use Rattle.core_rules.specs.Counting.{IsWithinWork, Owes, tiles_out}
 use Rattle.tile_work.specs.TileSet.{HasGained}
-use Rattle.reset_core.specs.declared.replica.settling.Count.{Count}
-use Rattle.reset_core.specs.declared.replica.settling.Slice.{Slice}
+use Rattle.reset_core.specs.{declared.replica.settling.Count.Count, declared.replica.settling.Slice.Slice}
+use Rattle.core_rules.specs.declared.error.CoreError.TheVariants as errors
 
 -- the core is one of this mask before anything happened, and its side is one that tiles may have
 abbrev pub IsOpened : Raster → Conn → ℕ → ℕ → Core → Type 0

@@ -1,14 +1,10 @@
 -- Bounds outside which nothing open begins. Only private functions have these words in their contracts.
 use Rattle.std.specs.Prelude.{◌≡◌, ◌<◌, List, length}
-use Rattle.grid_core.specs.declared.bounds.Bounds.{Bounds}
-use Rattle.grid_core.specs.declared.conn.Conn.{Conn}
-use Rattle.grid_core.specs.declared.pixel.Pixel.{Pixel}
-use Rattle.grid_core.specs.Neighbours.{AreNeighbours}
+use Rattle.grid_core.specs.{declared.bounds.Bounds.Bounds, declared.conn.Conn.Conn, declared.pixel.Pixel.Pixel}
+use Rattle.grid_core.specs.{Neighbours.AreNeighbours, Tiles.Tiles, Tiles.count_of}
 use Rattle.grid_core.specs.Raster.{Raster, IsInside, value_at}
-use Rattle.grid_core.specs.Tiles.{Tiles, count_of}
 use Rattle.tile_work.specs.OpenBounds.{AreWidened, IsWithinItsBounds, LieInTiles}
-use Rattle.core_rules.specs.Image.{IsOpen}
-use Rattle.core_rules.specs.Work.{Core, domain, tiling, mask_at, image_at}
+use Rattle.core_rules.specs.{Image.IsOpen, Work.Core, Work.domain, Work.tiling, Work.mask_at, Work.image_at}
 
 -- there are bounds for each tile, which lie in it; and nothing open begins outside them: an open pair, to a pixel of
 -- the same tile or of another, begins within the bounds of the tile of its first pixel

@@ -35,5 +35,4 @@ pub mod Parts
 pub mod Sweeping
 pub mod MergeSteps
 pub mod Scheduling
-pub mod Blanks
 pub mod Starting

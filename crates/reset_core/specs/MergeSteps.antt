@@ -1,20 +1,15 @@
 -- What a merge has done to the parts of a core, one call after the other.
 use Rattle.std.specs.Prelude.{◌≡◌, ◌<◌, ℕ, Bool, false, List, length, replicate}
-use Rattle.grid_core.specs.Raster.{Raster}
-use Rattle.grid_core.specs.Tiles.{Tiles, count_of}
+use Rattle.grid_core.specs.{Raster.Raster, Tiles.Tiles, Tiles.count_of}
 use Rattle.stroke_lattice.specs.State.{State, StateFits, AreCompatible, IsJoin}
 use Rattle.stroke_lattice.specs.Change.{Turnover, IsChange}
 use Rattle.marker_tiles.specs.Kept.{Kept, HasGrown, IsMarkerOf}
 use Rattle.tile_generations.specs.Generations.{max_generation}
 use Rattle.core_rules.specs.Work.{Core, tiling, work_at}
-use Rattle.border_queues.specs.OpenEdges.{IsOnTiling}
-use Rattle.border_queues.specs.TileWork.{TileWork, work_of}
-use Rattle.tile_resets.specs.Marks.{AreHits}
-use Rattle.reset_core.specs.Bounding.{FollowChange}
-use Rattle.tile_work.specs.TileSet.{Has}
-use Rattle.reset_core.specs.declared.replica.Core.TheInside.{Inside as Parts}
-use Rattle.reset_core.specs.Replica.{core_of}
-use Rattle.tile_resets.specs.Renewing.{AreMarkedReset, IsRaisedByTags, IsLowBeyond}
+use Rattle.border_queues.specs.{OpenEdges.IsOnTiling, TileWork.TileWork, TileWork.work_of}
+use Rattle.tile_work.specs.{Marks.AreHits, TileSet.Has}
+use Rattle.tile_work.specs.Renewing.{AreMarkedReset, IsRaisedByTags, IsLowBeyond}
+use Rattle.reset_core.specs.{Bounding.FollowChange, declared.replica.Core.TheInside.Inside as Parts, Replica.core_of}
 
 -- the delta fits the core, and its hits are marked
 pub record IsMarked (core : Core) (delta : State) (marks : List Bool) : Type 0 where

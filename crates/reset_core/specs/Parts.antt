@@ -1,9 +1,7 @@
 -- Parts of images that are raised.
 use Rattle.std.specs.Prelude.{◌≡◌, ◌≤◌, ℕ, ◌-◌, max, List, slice_index}
-use Rattle.grid_core.specs.declared.pixel.Pixel.{Pixel}
-use Rattle.grid_core.specs.declared.rect.Rect.{Rect}
+use Rattle.grid_core.specs.{declared.pixel.Pixel.Pixel, declared.rect.Rect.Rect, Rects.RectFits, Rects.in_image}
 use Rattle.grid_core.specs.Raster.{Raster, IsInside, IsFilled, value_at}
-use Rattle.grid_core.specs.Rects.{RectFits, in_image}
 
 -- the rectangle lies in the whole image, and the piece has its size
 pub record IsPieceFor (rect : Rect) (whole piece : Raster) : Type 0 where

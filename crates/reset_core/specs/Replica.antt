@@ -1,19 +1,14 @@
 -- Which core the parts of a stored one are, and what is true of each stored core. Private functions cite it; the
 -- clauses of the core's looks hand it out.
 use Rattle.std.specs.Prelude.{◌≡◌, ℕ, Bool, false, List, length, replicate, None}
-use Rattle.grid_core.specs.declared.conn.Conn.{Conn}
-use Rattle.grid_core.specs.Raster.{Raster}
+use Rattle.grid_core.specs.{declared.conn.Conn.Conn, Raster.Raster, Bounds.no_bounds}
 use Rattle.stroke_lattice.specs.State.{State, nothing}
 use Rattle.marker_tiles.specs.Kept.{Kept, IsMarkerOf}
-use Rattle.core_rules.specs.Work.{Core}
-use Rattle.core_rules.specs.Opening.{blank}
+use Rattle.core_rules.specs.{Work.Core, Opening.blank, Invariant.IsSound}
 use Rattle.border_queues.specs.TileWork.{TileWork, fresh}
-use Rattle.core_rules.specs.Invariant.{IsSound}
-use Rattle.grid_core.specs.Bounds.{no_bounds}
 use Rattle.tile_generations.specs.CutMasks.{AreTileMasks}
-use Rattle.reset_core.specs.Bounding.{AreBounded}
-use Rattle.reset_core.specs.declared.replica.Core.TheInside.{Inside as Parts}
-use Rattle.reset_core.specs.declared.replica.Beginning.{Beginning}
+use Rattle.reset_core.specs.{Bounding.AreBounded, declared.replica.Core.TheInside.Inside as Parts}
+use Rattle.reset_core.specs.{declared.replica.Beginning.Beginning}
 
 -- the core that is stored as these parts
 abbrev pub core_of : Parts → Core

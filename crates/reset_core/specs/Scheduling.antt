@@ -1,12 +1,10 @@
 -- What is kept while a schedule runs. Only private functions have these words in their contracts.
 use Rattle.std.specs.Prelude.{◌≡◌, ℕ, ◌+◌, ◌≤◌, List, [], ◌∷◌, ◌++◌, length, take, vec_len, vec_capacity}
 use Rattle.tile_generations.specs.Jobs.{Swept}
-use Rattle.core_rules.specs.declared.error.CoreError.{CoreError}
-use Rattle.reset_core.specs.declared.replica.scheduling.Tally.{Tally}
-use Rattle.core_rules.specs.declared.step.Step.{Step}
-use Rattle.core_rules.specs.Work.{Core}
+use Rattle.core_rules.specs.{declared.error.CoreError.CoreError, declared.step.Step.Step, Work.Core}
 use Rattle.core_rules.specs.Runs.{jobs_of, abandons_of}
 use Rattle.core_rules.specs.Schedule.{Progress, Ran, started, IsStep, AreSteps}
+use Rattle.reset_core.specs.declared.replica.scheduling.Tally.{Tally}
 
 -- what is kept of a schedule so far, beside the core: the results, the number of jobs that were abandoned, and the
 -- numbers of the edits that were accepted and refused

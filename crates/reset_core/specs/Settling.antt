@@ -1,14 +1,10 @@
 -- The steps of settling. Only private functions have these words in their contracts.
-use Rattle.std.specs.Prelude.{◌≡◌, ℕ, ◌+◌, ◌<◌, ◌≤◌, ◌⊎◌, Bool, true, false, List, [], ◌∷◌, ◌++◌, length}
-use Rattle.std.specs.List.{sum_by}
+use Rattle.std.specs.Prelude.{◌≡◌, ℕ, ◌+◌, ◌<◌, ◌≤◌, ◌⊎◌, Bool, true, false, List, [], ◌∷◌, ◌++◌, length, sum_by}
 use Rattle.tile_generations.specs.declared.ticket.Ticket.{Ticket}
-use Rattle.core_rules.specs.declared.answers.Handed.{Handed}
-use Rattle.core_rules.specs.Work.{Core, IsQuiet, tiling}
+use Rattle.core_rules.specs.{declared.answers.Handed.Handed, Work.Core, Work.IsQuiet, Work.tiling, Sweeps.IsAbandoned}
+use Rattle.core_rules.specs.{Hints.IsHanded, Runs.Entry, Runs.IsRun, Runs.IsWorkedOff, Runs.NoneOut, Runs.HasHints}
+use Rattle.core_rules.specs.{Runs.IsTakenIn, Runs.abandoned, Runs.tickets_out, Runs.jobs_of, Runs.tiles_taken}
 use Rattle.border_queues.specs.TileWork.{TileWork, IsLeast}
-use Rattle.core_rules.specs.Sweeps.{IsAbandoned}
-use Rattle.core_rules.specs.Hints.{IsHanded}
-use Rattle.core_rules.specs.Runs.{Entry, IsRun, IsWorkedOff, NoneOut, HasHints, IsTakenIn, abandoned, tickets_out}
-use Rattle.core_rules.specs.Runs.{jobs_of, tiles_taken}
 use Rattle.tile_work.specs.TileSet.{HasGained}
 use Rattle.reset_core.specs.Telling.{burden}
 

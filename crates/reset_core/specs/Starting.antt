@@ -1,20 +1,14 @@
 -- A core that begins with strokes and tombstones, and what a core shows that was opened, took them and was settled.
 use Rattle.std.specs.Prelude.{◌≡◌, ℕ, ◌≤◌, List}
-use Rattle.grid_core.specs.declared.conn.Conn.{Conn}
-use Rattle.grid_core.specs.Raster.{Raster, IsFilled}
+use Rattle.grid_core.specs.{declared.conn.Conn.Conn, Raster.Raster, Raster.IsFilled}
 use Rattle.grid_core.specs.Tiles.{IsTiled, IsTileSide, count_of}
-use Rattle.stroke_lattice.specs.State.{State}
-use Rattle.stroke_lattice.specs.Change.{Turnover}
+use Rattle.stroke_lattice.specs.{State.State, Change.Turnover}
 use Rattle.marker_tiles.specs.Kept.{Kept, IsMarkerOf}
 use Rattle.tile_generations.specs.Generations.{max_generation}
 use Rattle.raster_sweeps.specs.Regrowth.{IsRegrown}
-use Rattle.core_rules.specs.Work.{Core, IsQuiet}
-use Rattle.core_rules.specs.Opening.{opened}
-use Rattle.core_rules.specs.Invariant.{IsSound, HasReconstruction}
-use Rattle.core_rules.specs.Merge.{IsMerged}
-use Rattle.core_rules.specs.Runs.{Entry, IsSettled}
-use Rattle.reset_core.specs.declared.replica.Beginning.{Beginning}
-use Rattle.reset_core.specs.Replica.{with_image}
+use Rattle.core_rules.specs.{Work.Core, Work.IsQuiet, Opening.opened, Invariant.IsSound, Invariant.HasReconstruction}
+use Rattle.core_rules.specs.{Merge.IsMerged, Runs.Entry, Runs.IsSettled}
+use Rattle.reset_core.specs.{declared.replica.Beginning.Beginning, Replica.with_image}
 
 -- the core is one of this mask before anything happened, but that it has these strokes and, as its image, the
 -- reconstruction of the mask from their marker: it is sound, no work is left, and its side is one that tiles may have

@@ -4,10 +4,8 @@ use Rattle.std.specs.Prelude.{◌≡◌, ◌⊎◌, List, All}
 use Rattle.border_queues.specs.declared.hint.Hint.{Hint}
 use Rattle.tile_generations.specs.Jobs.{Job, Swept}
 use Rattle.tile_work.specs.WorkTable.{IsToTouching}
-use Rattle.core_rules.specs.declared.answers.Back.{Back}
+use Rattle.core_rules.specs.{declared.answers.Back.Back, Image.IsJoinedWith, Work.Core, Work.tiling}
 use Rattle.core_rules.specs.declared.answers.Back.TheVariants.{Joined, Again, Stale, Stranger}
-use Rattle.core_rules.specs.Image.{IsJoinedWith}
-use Rattle.core_rules.specs.Work.{Core, tiling}
 use Rattle.core_rules.specs.Sweeps.{IsKnown, IsOut, IsUnchanged, HasOnlyRisen, hints_of, tile_rect}
 
 -- the line of the table that the job's swept tile falls under

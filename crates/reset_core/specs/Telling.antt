@@ -1,12 +1,11 @@
 -- Hints that are handed over as soon as they are told, and how much work a core can still have.
-use Rattle.std.specs.Prelude.{◌≡◌, ℕ, ◌+◌, ◌≤◌, ◌==◌, true, nat_lt, if◌then◌else◌, List, [], ◌∷◌, length, filter}
-use Rattle.std.specs.Prelude.{◌<◌, slice_index_or, slice_set, Contains}
+use Rattle.std.specs.Prelude.{◌≡◌, ℕ, ◌+◌, ◌≤◌, ◌==◌, true, nat_lt, if◌then◌else◌, List, [], ◌∷◌, length, filter, ◌<◌}
+use Rattle.std.specs.Prelude.{slice_index_or, slice_set, Contains}
 use Rattle.grid_core.specs.Raster.{Raster, IsFilled, headroom, value_at, with_value}
 use Rattle.grid_core.specs.Tiles.{Tiles, IsTiled, tile_of, count_of}
-use Rattle.border_queues.specs.declared.hint.Hint.{Hint}
-use Rattle.core_rules.specs.Work.{Core}
-use Rattle.border_queues.specs.OpenEdges.{IsOnTiling}
+use Rattle.border_queues.specs.{declared.hint.Hint.Hint, OpenEdges.IsOnTiling}
 use Rattle.border_queues.specs.TileWork.{TileWork, idle, dirty_count}
+use Rattle.core_rules.specs.Work.{Core}
 use Rattle.tile_work.specs.WorkTable.{IsToInside}
 
 -- ---- how much work a core can still have

@@ -16,20 +16,20 @@
 //!
 //! A core can begin with strokes ([`Core::over_state`]): its image is grown at once, and no work is left at it. It
 //! shows what one shows that was opened, merged the strokes and settled ([`begun_is_as_settled`]). The memory for that
-//! can be made while the mask is read ([`Blanks`]).
+//! can be made while the mask is read ([`Blanks`](raster_sweeps::Blanks)).
 //!
 //! What a core is, what can happen to it and what each event answers is one table, in the crate `core_rules`, which the
 //! contracts here cite; [`laws`] are that crate's.
 //!
 //! In the code, `replica` has the core, with a module below it for each kind of event and one for cores that begin with
 //! strokes, and `parts` has pieces of an image.
-//! They stand on the crates `tile_work` (the work at each tile) and `tile_resets` (which tiles a withdrawal resets, and
-//! what a merge does to image and work).
+//! They stand on the crate `tile_work`: the work at each tile, which tiles a withdrawal resets, and what a merge does
+//! to image and work.
 
 mod parts;
 mod replica;
 
 pub use core_rules::{Back, CoreError, Handed, Step, laws};
 pub use grid_core::TILE_SIDE;
-pub use replica::{Blanks, Core, Count, Ran, RefusedMask, Slice, begun_is_as_settled};
+pub use replica::{Core, Count, Ran, RefusedMask, Slice, begun_is_as_settled};
 pub use tile_work::TileSet;

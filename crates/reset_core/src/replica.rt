@@ -27,7 +27,6 @@ use stroke_lattice::{State, StateError};
 use tile_generations::{Ticket, TileMasks};
 use tile_work::{OpenBounds, TileSet, WorkTable};
 
-mod blanks;
 mod handing;
 mod in_place;
 mod judging;
@@ -37,7 +36,6 @@ mod settling;
 mod starting;
 mod sweeping;
 
-pub use blanks::Blanks;
 pub use scheduling::Ran;
 pub use settling::{Count, Slice};
 pub use starting::begun_is_as_settled;

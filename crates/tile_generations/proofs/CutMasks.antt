@@ -1,13 +1,10 @@
 -- Masks of tiles, some of which were cut out.
-use Rattle.std.proofs.Common.{◌≡◌, ℕ, ◌<◌, inl, inr, List, Option, Some, None, map, length, set, sym, ◌∙◌, ap}
-use Rattle.std.proofs.Common.{subst, slice_index_or}
+use Rattle.std.proofs.Common.{◌≡◌, ℕ, ◌<◌, inl, inr, List, Option, Some, None, map, length, set, sym, ◌∙◌, ap, subst}
+use Rattle.std.proofs.Common.{slice_index_or}
 use Rattle.std.proofs.lemmas.Bool.{cases_eq}
 use Rattle.std.proofs.lemmas.List.{get_or-map, get_or-set_same, get_or-set_other, length-map, length-set, map-set}
-use Rattle.std.specs.Arc.{arc_value}
-use Rattle.std.specs.declared.sync.Arc.{Arc}
-use Rattle.grid_core.specs.Raster.{Raster}
-use Rattle.grid_core.specs.Rects.{IsPart}
-use Rattle.grid_core.specs.Tiles.{Tiles, count_of, rect_of}
+use Rattle.std.specs.{Arc.arc_value, declared.sync.Arc.Arc}
+use Rattle.grid_core.specs.{Raster.Raster, Rects.IsPart, Tiles.Tiles, Tiles.count_of, Tiles.rect_of}
 use Rattle.tile_generations.specs.CutMasks.{AreTileMasks, cut_mask}
 
 -- the mask at a place, as contracts see it

@@ -1,9 +1,7 @@
 -- What a sweep and a copy give is swept.
 use Rattle.std.proofs.Common.{◌≡◌, sym, subst, ◌∙◌, ap}
-use Rattle.grid_core.specs.declared.conn.Conn.{Conn}
+use Rattle.grid_core.specs.{declared.conn.Conn.Conn, Path.domain_of, Reconstruction.IsReconstruction}
 use Rattle.grid_core.specs.Raster.{Raster, IsFilled, value_at}
-use Rattle.grid_core.specs.Path.{domain_of}
-use Rattle.grid_core.specs.Reconstruction.{IsReconstruction}
 use Rattle.tile_generations.specs.Jobs.{Job, Swept, IsJob, IsSwept}
 
 -- a job with the reconstruction of its mask from its base

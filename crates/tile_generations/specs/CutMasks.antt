@@ -1,10 +1,7 @@
 -- The masks of tiles, each as an image by itself.
 use Rattle.std.specs.Prelude.{◌≡◌, ℕ, List, length, Option, Some, None, slice_index_or}
-use Rattle.std.specs.Arc.{arc_value}
-use Rattle.std.specs.declared.sync.Arc.{Arc}
-use Rattle.grid_core.specs.Raster.{Raster}
-use Rattle.grid_core.specs.Rects.{IsPart}
-use Rattle.grid_core.specs.Tiles.{Tiles, count_of, rect_of}
+use Rattle.std.specs.{Arc.arc_value, declared.sync.Arc.Arc}
+use Rattle.grid_core.specs.{Raster.Raster, Rects.IsPart, Tiles.Tiles, Tiles.count_of, Tiles.rect_of}
 
 -- the mask of a tile, where it was cut out
 abbrev pub cut_mask : {Z : Type 0} → Option (Arc Raster Z) → Option Raster

@@ -1,9 +1,7 @@
 -- Jobs on tiles and swept tiles, as plain data.
 use Rattle.std.specs.Prelude.{◌≡◌}
-use Rattle.grid_core.specs.declared.conn.Conn.{Conn}
+use Rattle.grid_core.specs.{declared.conn.Conn.Conn, Path.domain_of, Reconstruction.IsReconstruction}
 use Rattle.grid_core.specs.Raster.{Raster, IsFilled, IsSized, IsBelow, value_at}
-use Rattle.grid_core.specs.Path.{domain_of}
-use Rattle.grid_core.specs.Reconstruction.{IsReconstruction}
 use Rattle.tile_generations.specs.declared.ticket.Ticket.{Ticket}
 
 -- what a hand needs to sweep a tile: its ticket, the connectivity, and the tile's pixels and mask, each as an

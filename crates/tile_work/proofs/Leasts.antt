@@ -1,9 +1,7 @@
 -- Numbers of which something holds, from one on: the least of them, by what it is to be one.
-use Rattle.std.proofs.Common.{ℕ, Bool, List, arith}
-use Rattle.std.specs.Prelude.{Option, Some, None, MatchOption}
+use Rattle.std.proofs.Common.{ℕ, Bool, List, arith, Option, Some, None, MatchOption}
 use Rattle.border_queues.specs.TileWork.{IsLeast}
-use Rattle.tile_work.specs.Least.{IsLeastFrom}
-use Rattle.tile_work.specs.TileSet.{Has, HasNoneFrom, IsFirstFrom}
+use Rattle.tile_work.specs.{Least.IsLeastFrom, TileSet.Has, TileSet.HasNoneFrom, TileSet.IsFirstFrom}
 
 -- what holds of the same numbers has the same least one
 pub least_alike : (P Q : ℕ → Type 0) → ((n : ℕ) → P n → Q n) → ((n : ℕ) → Q n → P n) → (from : ℕ) (answer : Option ℕ)

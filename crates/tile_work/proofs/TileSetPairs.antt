@@ -1,13 +1,11 @@
 -- Two sets of tiles at once: the first tile that is in the one and not in the other.
-use Rattle.std.proofs.Common.{◌≡◌, ℕ, ◌+◌, ◌-◌, ◌*◌, ◌/◌, ◌%◌, ◌^◌, ◌<◌, ◌≤◌, Bool, List, get_or, min}
-use Rattle.std.proofs.Common.{bit_and, w64, sym, ap, subst, ◌∙◌, inl, inr, arith}
-use Rattle.std.proofs.lemmas.Bool.{cases_eq, cases_lt}
+use Rattle.std.proofs.Common.{◌≡◌, ℕ, ◌+◌, ◌-◌, ◌*◌, ◌/◌, ◌%◌, ◌^◌, ◌<◌, ◌≤◌, Bool, List, get_or, min, bit_and, w64}
+use Rattle.std.proofs.Common.{sym, ap, subst, ◌∙◌, inl, inr, arith}
+use Rattle.std.proofs.{lemmas.Bool.cases_eq, lemmas.List.get_or_default}
 use Rattle.std.proofs.lemmas.Nat.Bits.{bit_at-lt, bit_at_and, bit_at_not}
-use Rattle.std.proofs.lemmas.List.{get_or_default}
 use Rattle.std.specs.Int.{bit_at, bit_not}
 use Rattle.border_queues.specs.TileWork.{IsLeast}
-use Rattle.tile_work.specs.TileSet.{Has, HasNoneFrom, IsFirstFrom, bit_of, tiles_of, AreZeroFrom, IsLowestFrom}
-use Rattle.tile_work.specs.TileSet.{IsSummed}
+use Rattle.tile_work.specs.TileSet.{Has, bit_of, tiles_of, AreZeroFrom, IsLowestFrom, IsSummed}
 use Rattle.tile_work.proofs.TileSetWords.{Has-bit, Has-from_bit, length-tiles}
 
 -- the tile is in the one set and not in the other
@@ -113,38 +111,3 @@ module _ (count count' : ℕ) (words summary words' summary' : List ℕ) (sound 
 -- no tile from `start` up to `from` is in the one set alone
 abbrev pub AreNoneUntil : List Bool → List Bool → ℕ → ℕ → Type 0
 AreNoneUntil one other start from = (t : ℕ) → start ≤ t → t < from → IsInOneAlone one other t → ⊥
-
-module _ (one other : List Bool) (start from : ℕ) (none : AreNoneUntil one other start from) where
-  pub none_left : HasNoneFrom one from → (t : ℕ) → start ≤ t → IsInOneAlone one other t → ⊥
-  none_left past t le is =
-      elim (cases_lt t from) [ inl before ↦ none t le before is | inr after ↦ past t after is.0 ]
-
-  module _ (tile : ℕ) (first : IsFirstFrom one from tile) where
-    pub first_left : (left : ℕ) → start ≤ from → IsLeast (λ t. (tile ≤ t) × IsInOneOfWord one other tile t) left
-        → IsLeast (λ t. (start ≤ t) × IsInOneAlone one other t) left
-    first_left left late least =
-        let here = least.0.0 in
-        let word = least.0.1.0 in
-        let later = first.from in (
-          (omega (arith, late, later, here), (least.0.1.1, least.0.1.2)),
-          λ u (le, is).
-              elim (cases_lt u from) [
-                | inl before ↦ absurd (none u le before is)
-                | inr after ↦
-                    let at_least = first.first u after is.0 in
-                    elim (cases_eq (u / 64) (tile / 64)) [
-                      | inl same ↦ least.1 u (at_least, (same, is.0, is.1))
-                      | inr apart ↦ omega (arith, at_least, apart, word)
-                    ]
-              ],
-        )
-
-    pub none_further : ((t : ℕ) → tile ≤ t → IsInOneOfWord one other tile t → ⊥) → (next : ℕ)
-        → next ≤ tile / 64 * 64 + 64 → AreNoneUntil one other start next
-    none_further none_here next most t le before is =
-        elim (cases_lt t from) [
-          | inl early ↦ none t le early is
-          | inr after ↦
-              let at_least = first.first t after is.0 in
-              none_here t at_least (omega (arith, at_least, before, most), is.0, is.1)
-        ]

@@ -1,15 +1,12 @@
 -- Sets of tiles that are united word by word.
-use Rattle.std.proofs.Common.{◌≡◌, ℕ, ◌+◌, ◌/◌, ◌%◌, ◌<◌, Bool, true, List, [], ◌∷◌, ◌++◌, length, get_or, set, max}
-use Rattle.std.proofs.Common.{refl, sym, ap}
-use Rattle.std.proofs.Common.{subst, ◌∙◌, inl, inr, ◌⊎◌, arith}
-use Rattle.std.specs.Prelude.{◌↔◌, Contains}
-use Rattle.std.proofs.lemmas.Bool.{cases_eq, cases_lt}
-use Rattle.std.proofs.lemmas.Nat.{le_or_l, le_or_r}
-use Rattle.std.proofs.lemmas.Nat.Bits.{bit_at-lt, bit_at_or}
+use Rattle.std.proofs.Common.{◌≡◌, ℕ, ◌+◌, ◌/◌, ◌%◌, ◌<◌, Bool, true, List, ◌∷◌, ◌++◌, length, get_or, set, max, refl}
+use Rattle.std.proofs.Common.{sym, ap, subst, ◌∙◌, inl, inr, ◌⊎◌, arith, ◌↔◌, Contains, length-set, []}
+use Rattle.std.proofs.{lemmas.Bool.cases_eq, lemmas.Bool.cases_lt, lemmas.Nat.le_or_l, lemmas.Nat.le_or_r}
+use Rattle.std.proofs.{lemmas.Nat.Bits.bit_at-lt, lemmas.Nat.Bits.bit_at_or}
 use Rattle.std.proofs.lemmas.List.Elements.{Contains-append_left, Contains-push, Contains-push_cases}
 use Rattle.std.specs.Int.{bit_at}
 use Rattle.tile_work.specs.TileSet.{Has, HasGained, bit_of, tiles_of, AreUnited, IsSummed}
-use Rattle.tile_work.proofs.TileSets.{length-written, Has-insert, Has-kept, Has-before}
+use Rattle.tile_work.proofs.TileSets.{put_has}
 use Rattle.tile_work.proofs.TileSetWords.{Has-bit, Has-from_bit, length-tiles, none_past, word_within}
 
 module _ (old others new : List ℕ) (count : length others ≡ length old) (united : AreUnited old others new) where
@@ -147,28 +144,23 @@ HasGained-like old new P Q same gained = record {
 pub HasGained-one : (old now : List Bool) (tiles : List ℕ) (t : ℕ) → t < length now → HasGained old (Contains tiles) now
     → HasGained old (Contains (tiles ++ t ∷ [])) (set now t true)
 HasGained-one old now tiles t within gained =
-    let kept : (u : ℕ) → Has now u → Has (set now t true) u = λ u has.
-    elim (cases_eq u t) [
-      | inl same ↦ subst (Has (set now t true)) (sym same) (Has-insert now t within)
-      | inr apart ↦ Has-kept now t true u apart has
-    ] in
     record {
-      count = length-written now t true ∙ gained.count;
+      count = length-set now t true ∙ gained.count;
       each = λ u. (
-        λ has. elim (cases_eq u t) [
-          | inl same ↦ inr (subst (Contains (tiles ++ t ∷ [])) (sym same) (Contains-push tiles t))
-          | inr apart ↦ elim ((gained.each u).0 (Has-before now t true u apart has)) [
+        λ has. elim ((put_has now t within u).0 has) [
+          | inl before ↦ elim ((gained.each u).0 before) [
             | inl was ↦ inl was
             | inr came ↦ inr (Contains-append_left tiles (t ∷ []) u came)
           ]
+          | inr same ↦ inr (subst (Contains (tiles ++ t ∷ [])) (sym same) (Contains-push tiles t))
         ],
-        λ has. elim has [
-          | inl was ↦ kept u ((gained.each u).1 (inl was))
+        λ has. (put_has now t within u).1 (elim has [
+          | inl was ↦ inl ((gained.each u).1 (inl was))
           | inr came ↦ elim (Contains-push_cases tiles t u came) [
-            | inl earlier ↦ kept u ((gained.each u).1 (inr earlier))
-            | inr same ↦ subst (Has (set now t true)) same (Has-insert now t within)
+            | inl earlier ↦ inl ((gained.each u).1 (inr earlier))
+            | inr same ↦ inr (sym same)
           ]
-        ],
+        ]),
       );
     }
 

@@ -1,14 +1,13 @@
 -- Words of bits: what a write of one bit does, where the lowest bit stands, and what the summary says.
 use Rattle.std.proofs.Common.{◌≡◌, ◌≢◌, ℕ, ◌+◌, ◌-◌, ◌*◌, ◌/◌, ◌%◌, ◌^◌, ◌<◌, ◌≤◌, Bool, false, List, length, get_or}
 use Rattle.std.proofs.Common.{set, replicate, bit_and, bit_or, w64, sym, ap, subst, ◌∙◌, inl, inr, arith, length-set}
-use Rattle.std.proofs.Common.{get_or-set_same, get_or-set_other}
+use Rattle.std.proofs.Common.{get_or-set_same, get_or-set_other, ◌==◌}
 use Rattle.std.proofs.lemmas.Bool.{cases_eq, cases_lt, eqb-true, eq-eqb}
 use Rattle.std.proofs.lemmas.Nat.{shr-shr}
 use Rattle.std.proofs.lemmas.Nat.Bits.{bit_at-zero, bit_at-lt, bit_at_above, bit_at-trailing_zeros, bit_at_set_same}
 use Rattle.std.proofs.lemmas.Nat.Bits.{bit_at_set_other, bit_at_clear_same, bit_at_clear_other}
 use Rattle.std.proofs.lemmas.List.{get_or_past, get_or_default, get_or-replicate, length-replicate, ext_get_or}
 use Rattle.std.proofs.lemmas.List.FromFn.{length-map-range_with_len, get_or-map-range_with_len}
-use Rattle.std.specs.Bool.{◌==◌}
 use Rattle.std.specs.Int.{bit_at, bit_not, trailing_zeros}
 use Rattle.tile_work.specs.TileSet.{Has, HasNoneFrom, IsFirstFrom, bit_of, tiles_of, IsLowestFrom, IsWritten, IsSummed}
 
@@ -152,13 +151,6 @@ some_in_word words place set =
 -- there is no place past the last word
 pub none_past : (words : List ℕ) (place : ℕ) → length words ≤ place / 64 → bit_of words place ≡ 0
 none_past words place past = none_in_zero words place (get_or_past words (place / 64) 0 past)
-
-pub within_words : (words : List ℕ) (place : ℕ) → bit_of words place ≡ 1 → place < 64 * length words
-within_words words place set =
-    elim (cases_lt (place / 64) (length words)) [
-      | inl within ↦ omega arith
-      | inr past ↦ absurd (omega (arith, none_past words place past))
-    ]
 
 pub bit_of-replicate : (count place : ℕ) → bit_of (replicate count 0) place ≡ 0
 bit_of-replicate count place =

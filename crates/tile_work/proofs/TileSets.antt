@@ -1,86 +1,74 @@
--- Sets of tiles: what is read after a write, and how many tiles there are.
-use Rattle.std.proofs.Common.{◌≡◌, ◌≢◌, ℕ, zero, suc, ◌+◌, ◌<◌, ◌≤◌, Bool, true, false, cond, List, [], ◌∷◌, length}
-use Rattle.std.proofs.Common.{get_or, set, replicate, refl, sym, ap, ◌∙◌, arith, length-set, get_or-set_same}
-use Rattle.std.proofs.Common.{get_or-set_other}
-use Rattle.std.proofs.lemmas.Bool.{both_ways}
-use Rattle.std.proofs.lemmas.List.Sums.{sum_by-set, count_by-le-length}
-use Rattle.std.proofs.lemmas.List.{set-get_or}
-use Rattle.tile_work.specs.TileSet.{Has, HasNoneFrom, members}
+-- Sets of tiles: what is in them, also once a tile is put in or taken out.
+use Rattle.std.proofs.Common.{◌≡◌, ℕ, ◌<◌, ◌⊎◌, inl, inr, Bool, true, false, List, length, get_or, set, replicate, ap}
+use Rattle.std.proofs.Common.{sym, ◌∙◌, subst, ◌↔◌}
+use Rattle.std.proofs.lemmas.Bool.{cases_eq, cases_lt, cases_Bool}
+use Rattle.std.proofs.lemmas.List.{get_or-set_same, get_or-set_other, get_or_past, get_or-replicate, ext_get_or}
+use Rattle.std.proofs.Math.ListN.{length-replicate}
+use Rattle.tile_work.specs.TileSet.{Has}
 
--- ---- what is read after a write
+-- ---- what is in a set
 
-pub length-written : (tiles : List Bool) (t : ℕ) (b : Bool) → length (set tiles t b) ≡ length tiles
-length-written tiles t b = length-set tiles t b
+not_both : (b : Bool) → b ≡ true → b ≡ false → ⊥
+not_both b held gone = let e : true ≡ false = sym held ∙ gone in cc
 
-pub read_same : (tiles : List Bool) (t : ℕ) (b : Bool) → t < length tiles → get_or (set tiles t b) t false ≡ b
-read_same tiles t b within = get_or-set_same tiles t b false within
+-- what is read as true is there
+pub is_there : (xs : List Bool) (t : ℕ) → get_or xs t false ≡ true → Has xs t
+is_there xs t held = elim (cases_lt t (length xs)) [
+  | inl within ↦ (within, held)
+  | inr past ↦ absurd (not_both (get_or xs t false) held (get_or_past xs t false past))
+]
 
-pub read_other : (tiles : List Bool) (t : ℕ) (b : Bool) (u : ℕ) → u ≢ t
-    → get_or (set tiles t b) u false ≡ get_or tiles u false
-read_other tiles t b u apart = get_or-set_other tiles t u b false apart
+pub cases_has : (xs : List Bool) (t : ℕ) → Has xs t ⊎ (Has xs t → ⊥)
+cases_has xs t = elim (cases_Bool (get_or xs t false)) [
+  | inl held ↦ inl (is_there xs t held)
+  | inr gone ↦ inr (λ has. not_both (get_or xs t false) has.1 gone)
+]
 
--- a tile that was put in is in the set
-pub Has-insert : (tiles : List Bool) (t : ℕ) → t < length tiles → Has (set tiles t true) t
-Has-insert tiles t within = (omega (arith, length-set tiles t true), read_same tiles t true within)
+pub not_has_false : (xs : List Bool) (t : ℕ) → (Has xs t → ⊥) → get_or xs t false ≡ false
+not_has_false xs t none = elim (cases_Bool (get_or xs t false)) [
+  | inl held ↦ absurd (none (is_there xs t held))
+  | inr gone ↦ gone
+]
 
--- a tile that was taken out is not
-pub Has-remove : (tiles : List Bool) (t : ℕ) → Has (set tiles t false) t → ⊥
-Has-remove tiles t has =
-    let within : t < length tiles = omega (arith, length-set tiles t false) in
-    both_ways _ (read_same tiles t false within) has.1
+pub replicate_has_none : (n t : ℕ) → Has (replicate n false) t → ⊥
+replicate_has_none n t has =
+    let within : t < n = subst (λ m. t < m) (length-replicate n false) has.0 in
+    not_both (get_or (replicate n false) t false) has.1 (get_or-replicate n t false false within)
 
--- a write leaves each other tile where it was
-pub Has-kept : (tiles : List Bool) (t : ℕ) (b : Bool) (u : ℕ) → u ≢ t → Has tiles u → Has (set tiles t b) u
-Has-kept tiles t b u apart has = (omega (arith, length-set tiles t b), read_other tiles t b u apart ∙ has.1)
+-- a set with no tile is the empty one
+pub none_is_replicate : (xs : List Bool) (n : ℕ) → length xs ≡ n → ((t : ℕ) → Has xs t → ⊥) → xs ≡ replicate n false
+none_is_replicate xs n long none =
+    let same : length xs ≡ length (replicate n false) = long ∙ sym (length-replicate n false) in
+    ext_get_or false xs (replicate n false) same (λ t within.
+    let below : t < n = subst (λ m. t < m) long within in
+    not_has_false xs t (none t) ∙ sym (get_or-replicate n t false false below))
 
-pub Has-before : (tiles : List Bool) (t : ℕ) (b : Bool) (u : ℕ) → u ≢ t → Has (set tiles t b) u → Has tiles u
-Has-before tiles t b u apart has =
-    (omega (arith, length-set tiles t b), sym (read_other tiles t b u apart) ∙ has.1)
+-- ---- one tile put in or taken out
 
--- no tile is in the empty set
-pub Has-empty : (count t : ℕ) → Has (replicate count false) t → ⊥
-Has-empty zero t has = absurd (omega arith)
-Has-empty (suc count) zero has = both_ways false refl has.1
-Has-empty (suc count) (suc t) has = Has-empty count t (omega arith, has.1)
+module _ (xs : List Bool) (i : ℕ) (within : i < length xs) where
+  pub put_has : (t : ℕ) → Has (set xs i true) t ↔ (Has xs t ⊎ (t ≡ i))
+  put_has t = (
+    λ has. elim (cases_eq t i) [
+      | inl same ↦ inr same
+      | inr other ↦ inl (is_there xs t (sym (get_or-set_other xs i t true false other) ∙ has.1))
+    ],
+    λ either. elim either [
+      | inl has ↦ elim (cases_eq t i) [
+        | inl same ↦ is_there (set xs i true) t (ap (λ j. get_or (set xs i true) j false) same
+            ∙ get_or-set_same xs i true false within)
+        | inr other ↦ is_there (set xs i true) t (get_or-set_other xs i t true false other ∙ has.1)
+      ]
+      | inr same ↦ is_there (set xs i true) t (ap (λ j. get_or (set xs i true) j false) same
+          ∙ get_or-set_same xs i true false within)
+    ],
+  )
 
--- ---- how many tiles there are
-
-pub members-le-length : (tiles : List Bool) → members tiles ≤ length tiles
-members-le-length tiles = count_by-le-length (λ present. present) tiles
-
-members-set : (tiles : List Bool) (t : ℕ) (b : Bool) → t < length tiles
-    → members (set tiles t b) + cond (get_or tiles t false) 1 0 ≡ members tiles + cond b 1 0
-members-set tiles t b within = sum_by-set (λ present. cond present 1 0) tiles t b false within
-
--- a tile that was absent adds 1
-pub members-insert : (tiles : List Bool) (t : ℕ) → t < length tiles → get_or tiles t false ≡ false
-    → members (set tiles t true) ≡ members tiles + 1
-members-insert tiles t within absent =
-    omega (arith, members-set tiles t true within, ap {B = ℕ} (λ b. cond b 1 0) absent)
-
--- a tile that was present takes 1 away
-pub members-remove : (tiles : List Bool) (t : ℕ) → Has tiles t → members (set tiles t false) + 1 ≡ members tiles
-members-remove tiles t has =
-    omega (arith, members-set tiles t false has.0, ap {B = ℕ} (λ b. cond b 1 0) has.1)
-
--- to put in a tile that is there, or to take out one that is not, changes nothing
-pub set-same : (tiles : List Bool) (t : ℕ) → set tiles t (get_or tiles t false) ≡ tiles
-set-same tiles t = set-get_or tiles t false
-
-pub members-empty : (count : ℕ) → members (replicate count false) ≡ 0
-members-empty zero = refl
-members-empty (suc count) = members-empty count
-
--- a set with a tile has a member
-pub members-pos : (tiles : List Bool) (t : ℕ) → Has tiles t → 0 < members tiles
-members-pos tiles t has = omega (arith, members-remove tiles t has)
-
--- a set has no tile just where it has no member
-pub HasNoneFrom-members : (tiles : List Bool) → members tiles ≡ 0 → HasNoneFrom tiles 0
-HasNoneFrom-members tiles none t _ has = omega (arith, members-pos tiles t has)
-
-pub members-none : (tiles : List Bool) → HasNoneFrom tiles 0 → members tiles ≡ 0
-members-none [] none = refl
-members-none (true ∷ tiles) none = absurd (none 0 (omega arith) (omega arith, refl))
-members-none (false ∷ tiles) none =
-    members-none tiles (λ t _ has. none (suc t) (omega arith) (omega arith, has.1))
+  pub taken_has : (t : ℕ) → Has (set xs i false) t ↔ (Has xs t × (t ≡ i → ⊥))
+  taken_has t = (
+    λ has. elim (cases_eq t i) [
+      | inl same ↦ absurd (not_both (get_or (set xs i false) t false) has.1
+          (ap (λ j. get_or (set xs i false) j false) same ∙ get_or-set_same xs i false false within))
+      | inr other ↦ (is_there xs t (sym (get_or-set_other xs i t false false other) ∙ has.1), other)
+    ],
+    λ both. is_there (set xs i false) t (get_or-set_other xs i t false false both.1 ∙ both.0.1),
+  )

@@ -1,51 +1,22 @@
 -- Hints that come to the rows of a table: the room that they need, and the work once they have come.
-use Rattle.std.proofs.Common.{◌≡◌, ℕ, ◌+◌, ◌<◌, ◌≤◌, Bool, true, false, cond, List, [], ◌∷◌, ◌++◌}
-use Rattle.std.proofs.Common.{map, length, get_or, set, take, drop, refl, sym, ◌∙◌, ap, subst, arith, inl, inr, ◌⊎◌}
-use Rattle.std.specs.Prelude.{Result, Ok, Err, OnOk, is_err}
-use Rattle.std.specs.Prelude.{◌↔◌, ◌==◌, is_some, All, Contains, slice_index}
-use Rattle.std.proofs.lemmas.Bool.{cases_eq, eq-eqb, ne_eqb, eqb-true}
-use Rattle.std.proofs.lemmas.List.{append-nil, append_assoc, length-set, length-map, get_or-map, get_or-set_same}
-use Rattle.std.proofs.lemmas.List.{get_or-set_other, set-get_or, map-set, ext_get_or, get_or_default}
-use Rattle.std.proofs.lemmas.List.{take_all, drop_more, take_at}
-use Rattle.std.proofs.lemmas.List.Elements.{filter_more, All-filter, filter_passes, All-head}
-use Rattle.std.proofs.lemmas.List.Filters.{length-filter_more}
+use Rattle.std.proofs.Common.{◌≡◌, ℕ, ◌+◌, ◌<◌, ◌≤◌, Bool, true, false, cond, List, ◌∷◌, ◌++◌, map, length, get_or, set}
+use Rattle.std.proofs.Common.{take, drop, refl, sym, ◌∙◌, ap, subst, arith, inl, inr, ◌⊎◌, Result, Ok, Err, OnOk, []}
+use Rattle.std.proofs.Common.{is_err, ◌↔◌, ◌==◌, is_some, All, Contains, slice_index}
+use Rattle.std.proofs.lemmas.Bool.{cases_eq, eq-eqb, eqb-true}
+use Rattle.std.proofs.lemmas.List.{length-map, get_or-map, get_or-set_same, get_or-set_other, set-get_or, map-set}
+use Rattle.std.proofs.lemmas.List.{ext_get_or, get_or_default, take_at}
+use Rattle.std.proofs.lemmas.List.Elements.{All-filter, filter_passes, All-head}
 use Rattle.std.proofs.lemmas.List.Sums.{length-filter, count_by-le-length}
 use Rattle.tile_generations.specs.Generations.{max_generation}
 use Rattle.grid_core.specs.Tiles.{Tiles, AreTouching, count_of, tile_of}
 use Rattle.border_queues.specs.declared.hint.Hint.{Hint}
-use Rattle.tile_work.specs.declared.work_table.row.TileRow.{TileRow}
 use Rattle.border_queues.specs.TileWork.{TileWork, idle, received, work_of, hints_at}
-use Rattle.tile_work.specs.WorkTable.{IsToTouching, AreReceived, as_work}
-use Rattle.tile_work.specs.WorkTable.{works_of, rooms_of, is_some_hint, dirty_bits, waiting_bits, AreInStep}
+use Rattle.tile_work.specs.declared.work_table.row.TileRow.{TileRow}
+use Rattle.tile_work.specs.WorkTable.{IsToTouching, AreReceived, as_work, works_of, rooms_of, is_some_hint, dirty_bits}
+use Rattle.tile_work.specs.WorkTable.{waiting_bits, AreInStep}
 use Rattle.tile_work.proofs.WorkTables.{row_with_inbox}
 
--- ---- hints of a tile, one after another
-
-module _ (tiles : Tiles) (t : ℕ) (hints : List Hint) (i : ℕ) (hint : Hint) (within : i < length hints)
-    (is : hint ≡ get_or hints i hint) where
-  pub hints_more : hints_at tiles t (take (i + 1) hints)
-      ≡ hints_at tiles t (take i hints) ++ cond (tile_of tiles hint.to_pixel == t) (hint ∷ []) []
-  hints_more =
-      filter_more (λ (h : Hint). tile_of tiles h.to_pixel == t) hints i hint within
-      ∙ ap (λ (h : Hint). hints_at tiles t (take i hints) ++ cond (tile_of tiles h.to_pixel == t) (h ∷ []) []) (sym is)
-
-  pub count_more : length (hints_at tiles t (take (i + 1) hints))
-      ≡ length (hints_at tiles t (take i hints)) + cond (tile_of tiles hint.to_pixel == t) 1 0
-  count_more =
-      length-filter_more (λ (h : Hint). tile_of tiles h.to_pixel == t) hints i hint within
-      ∙ ap (λ (h : Hint). length (hints_at tiles t (take i hints)) + cond (tile_of tiles h.to_pixel == t) 1 0) (sym is)
-
-  count_first : (test : Bool) (rest : List Hint)
-      → length (cond test (hint ∷ rest) rest) ≡ cond test 1 0 + length rest
-  count_first true rest = omega arith
-  count_first false rest = omega arith
-
-  pub count_rest : length (hints_at tiles t (drop i hints))
-      ≡ cond (tile_of tiles hint.to_pixel == t) 1 0 + length (hints_at tiles t (drop (i + 1) hints))
-  count_rest =
-      ap (λ hs. length (hints_at tiles t hs))
-      (drop_more hints i hint within ∙ ap (λ h. h ∷ drop (i + 1) hints) (sym is))
-      ∙ count_first (tile_of tiles hint.to_pixel == t) (hints_at tiles t (drop (i + 1) hints))
+-- ---- hints of a tile
 
 -- there are at most as many as there are hints
 pub count_at_most : (tiles : Tiles) (t : ℕ) (hints : List Hint) → length (hints_at tiles t hints) ≤ length hints
@@ -146,77 +117,6 @@ room_for_all tiles from hints touching counts rooms to_touching members counted 
           subst (λ u. length (hints_at tiles u hints) ≤ slice_index rooms u) at_place (omega (arith, count, room))
     ]
 
--- ---- the work once hints have come
-
-pub received_none : (tiles : Tiles) (works : List TileWork) → AreReceived tiles [] works works
-received_none tiles works = record {
-  count = refl;
-  each = λ t within. sym (ap (λ hs. record (work_of works t) { inbox = hs }) (append-nil (work_of works t).inbox));
-}
-
-received_twice : (work : TileWork) (first second : List Hint)
-    → received (received work first) second ≡ received work (first ++ second)
-received_twice work first second = ap (λ hs. record work { inbox = hs }) (append_assoc work.inbox first second)
-
-pub received_nothing : (work : TileWork) → received work [] ≡ work
-received_nothing work = ap (λ hs. record work { inbox = hs }) (append-nil work.inbox)
-
--- one more hint comes to its tile
-module _ (tiles : Tiles) (hints : List Hint) (i : ℕ) (hint : Hint) (within : i < length hints)
-    (is : hint ≡ get_or hints i hint) (old now : List TileWork) (before : AreReceived tiles (take i hints) old now)
-    (in_table : tile_of tiles hint.to_pixel < length old) where
-  one_there : work_of (set now (tile_of tiles hint.to_pixel)
-      (received (work_of now (tile_of tiles hint.to_pixel)) (hint ∷ []))) (tile_of tiles hint.to_pixel)
-      ≡ received (work_of old (tile_of tiles hint.to_pixel))
-      (hints_at tiles (tile_of tiles hint.to_pixel) (take (i + 1) hints))
-  one_there =
-      let to = tile_of tiles hint.to_pixel in
-      let count = before.count in
-      let there : to < length now = omega (arith, count, in_table) in
-      let came = hints_at tiles to (take i hints) in
-      let more : hints_at tiles to (take (i + 1) hints) ≡ came ++ hint ∷ [] =
-      hints_more tiles to hints i hint within is ∙ ap (λ b. came ++ cond b (hint ∷ []) []) (eq-eqb to to refl) in
-      get_or-set_same now to (received (work_of now to) (hint ∷ [])) idle there
-      ∙ ap (λ w. received w (hint ∷ [])) (before.each to in_table)
-      ∙ received_twice (work_of old to) came (hint ∷ [])
-      ∙ ap (received (work_of old to)) (sym more)
-
-  none_elsewhere : (t : ℕ) → t < length old → (t ≡ tile_of tiles hint.to_pixel → ⊥)
-      → work_of (set now (tile_of tiles hint.to_pixel)
-      (received (work_of now (tile_of tiles hint.to_pixel)) (hint ∷ []))) t
-      ≡ received (work_of old t) (hints_at tiles t (take (i + 1) hints))
-  none_elsewhere t there other =
-      let to = tile_of tiles hint.to_pixel in
-      let came = hints_at tiles t (take i hints) in
-      let no_more : hints_at tiles t (take (i + 1) hints) ≡ came =
-      hints_more tiles t hints i hint within is
-      ∙ ap (λ b. came ++ cond b (hint ∷ []) []) (ne_eqb to t (λ e. other (sym e)))
-      ∙ append-nil came in
-      get_or-set_other now to t (received (work_of now to) (hint ∷ [])) idle other
-      ∙ before.each t there
-      ∙ ap (received (work_of old t)) (sym no_more)
-
-  pub received_more : AreReceived tiles (take (i + 1) hints) old
-      (set now (tile_of tiles hint.to_pixel) (received (work_of now (tile_of tiles hint.to_pixel)) (hint ∷ [])))
-  received_more =
-      let to = tile_of tiles hint.to_pixel in
-      let after = set now to (received (work_of now to) (hint ∷ [])) in
-      record {
-        count = length-set now to (received (work_of now to) (hint ∷ [])) ∙ before.count;
-        each = λ t there. elim (cases_eq t to) [
-          | inl here ↦
-              subst (λ u. work_of after u ≡ received (work_of old u) (hints_at tiles u (take (i + 1) hints)))
-              (sym here) one_there
-          | inr other ↦ none_elsewhere t there other
-        ];
-      }
-
--- each of the hints has come
-pub received_all : (tiles : Tiles) (hints : List Hint) (i : ℕ) (old now : List TileWork) → length hints ≤ i
-    → AreReceived tiles (take i hints) old now → AreReceived tiles hints old now
-received_all tiles hints i old now end received =
-    subst (λ hs. AreReceived tiles hs old now) (take_all i hints end) received
-
 -- ---- one hint is put into the inbox of its row
 
 module _ (rows : List TileRow) (t : ℕ) (row new : TileRow) (hint : Hint) (within : t < length rows)
@@ -285,46 +185,6 @@ pub record IsDelivery (tiles : Tiles) (hints : List Hint) (i : ℕ) (first now :
   pub came : AreReceived tiles (take i hints) (works_of first) (works_of now)
   pub in_step : waiting ≡ waiting_bits (works_of now)
   pub room : (t : ℕ) → t < length now → length (hints_at tiles t (drop i hints)) ≤ slice_index (rooms_of now) t
-
-module _ {tiles : Tiles} {hints : List Hint} {i : ℕ} {first now : List TileRow} {waiting : List Bool}
-    (delivery : IsDelivery tiles hints i first now waiting) (hint : Hint) (within : i < length hints)
-    (is : hint ≡ get_or hints i hint) where
-  -- there is room for the next hint
-  pub room_for_next : tile_of tiles hint.to_pixel < length now
-      → 0 < slice_index (rooms_of now) (tile_of tiles hint.to_pixel)
-  room_for_next there =
-      let to = tile_of tiles hint.to_pixel in
-      let room = delivery.room to there in
-      let count = count_rest tiles to hints i hint within is in
-      let bit : cond (to == to) 1 0 ≡ (let one : ℕ = 1 in one) = ap (λ b. cond b 1 0) (eq-eqb to to refl) in
-      omega (arith, room, count, bit)
-
-  pub goes_on : (after : List TileRow) (waiting_after : List Bool) → tile_of tiles hint.to_pixel < length now
-      → works_of after ≡ set (works_of now) (tile_of tiles hint.to_pixel)
-      (received (work_of (works_of now) (tile_of tiles hint.to_pixel)) (hint ∷ []))
-      → ((t : ℕ) → slice_index (rooms_of now) t
-      ≤ slice_index (rooms_of after) t + cond (tile_of tiles hint.to_pixel == t) 1 0)
-      → waiting_after ≡ waiting_bits (works_of after) → IsDelivery tiles hints (i + 1) first after waiting_after
-  goes_on after waiting_after there put kept in_step =
-      let now_count = length-map now as_work in
-      let after_count = length-map after as_work in
-      let first_count = delivery.came.count in
-      let same_count : length (works_of after) ≡ length (works_of now) =
-      ap length put ∙ length-set (works_of now) _ _ in
-      let in_table : tile_of tiles hint.to_pixel < length (works_of first) =
-      omega (arith, there, now_count, first_count) in
-      record {
-        came =
-            subst (AreReceived tiles (take (i + 1) hints) (works_of first)) (sym put)
-            (received_more tiles hints i hint within is (works_of first) (works_of now) delivery.came in_table);
-        in_step = in_step;
-        room = λ t in_after.
-            let in_now : t < length now = omega (arith, in_after, same_count, now_count, after_count) in
-            let room = delivery.room t in_now in
-            let left = kept t in
-            let count = count_rest tiles t hints i hint within is in
-            omega (arith, room, left, count);
-      }
 
 -- what is known of an answer that is no error
 pub ok_part : {T E : Type 0} (answer : Result T E) (P : Type 0) → is_err answer ≡ false → OnOk answer P → P

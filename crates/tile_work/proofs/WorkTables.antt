@@ -1,20 +1,17 @@
 -- The rows of a table and its sets stay in step where one row changes, and the sets say what is left.
-use Rattle.std.proofs.Common.{◌≡◌, ◌≢◌, ℕ, zero, suc, ◌<◌, ◌≤◌, Bool, true, false, List, [], ◌∷◌}
-use Rattle.std.proofs.Common.{map, length, get_or, set}
-use Rattle.std.proofs.Common.{replicate, refl, sym, ◌∙◌, ap, subst, arith, inl, inr}
-use Rattle.std.specs.Prelude.{◌↔◌, Option, Some, None, MatchOption, is_some, IsTrue, not}
+use Rattle.std.proofs.Common.{◌≡◌, ◌≢◌, ℕ, zero, suc, ◌<◌, ◌≤◌, Bool, true, false, List, ◌∷◌, map, length, get_or, set}
+use Rattle.std.proofs.Common.{replicate, refl, sym, ◌∙◌, ap, subst, arith, inl, inr, ◌↔◌, Option, Some, None, []}
+use Rattle.std.proofs.Common.{MatchOption, is_some, IsTrue, not}
 use Rattle.std.proofs.lemmas.Bool.{cases_eq}
 use Rattle.std.proofs.lemmas.List.{length-set, length-map, get_or-map, get_or-set_same, get_or-set_other, map-set}
 use Rattle.std.proofs.lemmas.List.{set-get_or, length-replicate, get_or-replicate}
 use Rattle.border_queues.specs.declared.hint.Hint.{Hint}
-use Rattle.tile_generations.specs.Generations.{max_generation}
-use Rattle.tile_work.specs.declared.work_table.row.TileRow.{TileRow}
-use Rattle.tile_work.specs.declared.work_table.WorkTable.TheInside.{Inside}
-use Rattle.tile_work.specs.TileSet.{Has, HasNoneFrom, IsFirstFrom}
 use Rattle.border_queues.specs.TileWork.{TileWork, idle, IsIdle, fresh, IsLeast, work_of}
-use Rattle.tile_work.specs.Least.{IsLeastFrom}
-use Rattle.tile_work.specs.WorkTable.{IsDirtyTile, HasJobOut, HasHintsAt, CanBeTaken, as_work, works_of}
-use Rattle.tile_work.specs.WorkTable.{is_some_hint, dirty_bits, out_bits, waiting_bits, AreInStep}
+use Rattle.tile_generations.specs.Generations.{max_generation}
+use Rattle.tile_work.specs.{declared.work_table.row.TileRow.TileRow, declared.work_table.WorkTable.TheInside.Inside}
+use Rattle.tile_work.specs.{TileSet.Has, TileSet.HasNoneFrom, TileSet.IsFirstFrom, Least.IsLeastFrom}
+use Rattle.tile_work.specs.WorkTable.{IsDirtyTile, HasJobOut, HasHintsAt, CanBeTaken, as_work, works_of, is_some_hint}
+use Rattle.tile_work.specs.WorkTable.{dirty_bits, out_bits, waiting_bits, AreInStep}
 use Rattle.tile_work.proofs.Leasts.{least_alike, least_of_all, least_of_set}
 
 -- ---- one row changes
@@ -273,18 +270,9 @@ idle_when works clean none_out empty t within = record {
   empty = empty_when (work_of works t).inbox (λ some. empty t (within, some));
 }
 
-module _ (works : List TileWork) (quiet : (t : ℕ) → t < length works → IsIdle (work_of works t)) where
-  pub none_dirty : (t : ℕ) → IsDirtyTile works t → ⊥
-  none_dirty t dirty = let no = (quiet t dirty.0).clean in let yes = dirty.1 in absurd cc
-
-  pub none_out : (t : ℕ) → HasJobOut works t → ⊥
-  none_out t out =
-      let no : is_some (work_of works t).out ≡ false = ap is_some (quiet t out.0).none_out in
-      let yes = out.1 in
-      absurd cc
-
-  pub none_waiting : (t : ℕ) → HasHintsAt works t → ⊥
-  none_waiting t some = some.1 (quiet t some.0).empty
+none_waiting : (works : List TileWork) → ((t : ℕ) → t < length works → IsIdle (work_of works t)) → (t : ℕ)
+    → HasHintsAt works t → ⊥
+none_waiting works quiet t some = some.1 (quiet t some.0).empty
 
 none_of : (first : Option ℕ) (P : Type 0) (Q : ℕ → Type 0) → MatchOption first P Q → is_some first ≡ false → P
 none_of None P Q holds none = holds

@@ -3,7 +3,12 @@ pub use Rattle.grid_core.specs.Bounds
 pub use Rattle.grid_core.specs.Tiles
 pub use Rattle.border_queues.specs.OpenEdges
 pub use Rattle.border_queues.specs.TileWork
+pub use Rattle.core_rules.specs.Hits
+pub use Rattle.core_rules.specs.Merge
 pub mod Least
 pub mod OpenBounds
 pub mod TileSet
 pub mod WorkTable
+pub mod Linking
+pub mod Marks
+pub mod Renewing

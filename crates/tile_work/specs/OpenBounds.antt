@@ -1,9 +1,7 @@
 -- For each tile bounds outside which nothing open begins.
 use Rattle.std.specs.Prelude.{◌≡◌, ℕ, ◌<◌, List, length, slice_index_or}
-use Rattle.grid_core.specs.declared.bounds.Bounds.{Bounds}
-use Rattle.grid_core.specs.declared.pixel.Pixel.{Pixel}
-use Rattle.grid_core.specs.Bounds.{IsInBounds, LieIn, no_bounds}
-use Rattle.grid_core.specs.Tiles.{Tiles, rect_of, tile_of}
+use Rattle.grid_core.specs.{declared.bounds.Bounds.Bounds, declared.pixel.Pixel.Pixel, Bounds.IsInBounds, Bounds.LieIn}
+use Rattle.grid_core.specs.{Bounds.no_bounds, Tiles.Tiles, Tiles.rect_of, Tiles.tile_of}
 
 -- the bounds of a tile
 abbrev pub bounds_for : List Bounds → ℕ → Bounds

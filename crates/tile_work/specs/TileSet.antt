@@ -1,8 +1,7 @@
 -- Sets of the tiles of an image: for each tile, by its number, whether it is in the set.
-use Rattle.std.specs.Prelude.{◌≡◌, ◌≢◌, ℕ, ◌+◌, ◌/◌, ◌%◌, ◌<◌, ◌≤◌, Bool, false, IsTrue, ◌==◌, List, length, map}
-use Rattle.std.specs.Prelude.{◌↔◌, ◌⊎◌, slice_index, slice_index_or, count_by, bit_or, EachIndex}
-use Rattle.std.specs.List.{range_with_len}
-use Rattle.std.specs.Int.{bit_at}
+use Rattle.std.specs.Prelude.{◌≡◌, ◌≢◌, ℕ, ◌+◌, ◌/◌, ◌%◌, ◌<◌, ◌≤◌, Bool, false, IsTrue, ◌==◌, List, length, map, ◌↔◌}
+use Rattle.std.specs.Prelude.{◌⊎◌, slice_index, slice_index_or, bit_or, EachIndex}
+use Rattle.std.specs.{List.range_with_len, Int.bit_at}
 
 -- the tile is in the set
 abbrev pub Has : List Bool → ℕ → Type 0
@@ -22,10 +21,6 @@ pub record IsFirstFrom (set : List Bool) (start t : ℕ) : Type 0 where
 pub record HasGained (old : List Bool) (P : ℕ → Type 0) (new : List Bool) : Type 0 where
   pub count : length new ≡ length old
   pub each : (t : ℕ) → Has new t ↔ (Has old t ⊎ P t)
-
--- how many tiles are in the set
-abbrev pub members : List Bool → ℕ
-members set = count_by (λ present. present) set
 
 -- ---- words of bits
 

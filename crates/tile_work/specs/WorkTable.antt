@@ -1,12 +1,11 @@
 -- The work that is left at each tile as the table of a core stores it, and what the table answers.
 use Rattle.std.specs.Prelude.{◌≡◌, ◌≢◌, ℕ, ◌+◌, ◌<◌, ◌≤◌, ◌==◌, Bool, true, false, if◌then◌else◌, List, [], ◌∷◌, map}
 use Rattle.std.specs.Prelude.{is_some, length, remove, slice_index, slice_set, IsTrue, IsSome, Some, None}
-use Rattle.grid_core.specs.Raster.{IsInside}
-use Rattle.grid_core.specs.Tiles.{Tiles, AreTouching, tile_of}
+use Rattle.grid_core.specs.{Raster.IsInside, Tiles.Tiles, Tiles.AreTouching, Tiles.tile_of}
 use Rattle.border_queues.specs.declared.hint.Hint.{Hint}
+use Rattle.border_queues.specs.TileWork.{TileWork, work_of, received, hints_at}
 use Rattle.tile_generations.specs.Generations.{max_generation}
 use Rattle.tile_work.specs.declared.work_table.row.TileRow.{TileRow}
-use Rattle.border_queues.specs.TileWork.{TileWork, work_of, received, hints_at}
 
 -- the tile is dirty
 abbrev pub IsDirtyTile : List TileWork → ℕ → Type 0

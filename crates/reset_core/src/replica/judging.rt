@@ -6,7 +6,7 @@ ghost use Rattle.core_rules.specs.Merge.{IsRefused, IsAcceptable};
 use super::Core;
 use core_rules::CoreError;
 use stroke_lattice::Delta;
-use tile_resets::{is_one_spent, mark_hits};
+use tile_work::{is_one_spent, mark_hits};
 
 impl Core {
     /// Says whether the core takes a delta, want of memory aside. It takes no memory, and the core stays as it is.

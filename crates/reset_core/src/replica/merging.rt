@@ -15,8 +15,9 @@ use grid_core::Grid;
 use marker_tiles::Markers;
 use std::alloc::Global;
 use stroke_lattice::{Change, Delta, State};
-use tile_resets::{is_one_spent, mark_hits, raise_to_marker, reset_marked};
-use tile_work::{OpenBounds, TileSet, WorkTable};
+use tile_work::{
+    OpenBounds, TileSet, WorkTable, is_one_spent, mark_hits, raise_to_marker, reset_marked,
+};
 
 impl Core {
     /// Merges a delta: the strokes become the join, the tiles that a withdrawal hits are reset, and the image is raised

@@ -1,6 +1,6 @@
 //! Cores that begin with strokes and tombstones.
 
-ghost use Rattle.std.specs.Prelude.{◌≡◌, ◌≤◌, length, IfOk, IfErr, IfSome, OnOk};
+ghost use Rattle.std.specs.Prelude.{◌≡◌, ◌≤◌, IfOk, IfErr, IfSome, OnOk};
 ghost use Rattle.grid_core.specs.Raster.{IsFilled, IsOfSize};
 ghost use Rattle.stroke_lattice.specs.State.{StateFits, nothing};
 ghost use Rattle.marker_tiles.specs.Kept.{IsMarkerOf};
@@ -9,15 +9,14 @@ ghost use Rattle.core_rules.specs.declared.error.CoreError.TheVariants as errors
 ghost use Rattle.tile_generations.specs.Generations.{max_generation};
 ghost use Rattle.raster_sweeps.specs.Regrowth.{IsRegrown};
 ghost use Rattle.reset_core.specs.Answers.{IsNotOpened};
-ghost use Rattle.reset_core.specs.Blanks.{AreBlank, AreBlanks};
 ghost use Rattle.reset_core.specs.Starting.{BegunIsAsSettled, IsBeginningOf, IsBegunWith};
 
-use super::{Beginning, Blanks, Core, RefusedMask, tiling_of};
+use super::{Beginning, Core, RefusedMask, tiling_of};
 use border_queues::laws::edges_are_open;
 use core_rules::CoreError;
 use grid_core::{Conn, Grid, Memory, is_tile_side};
 use marker_tiles::Markers;
-use raster_sweeps::Grower;
+use raster_sweeps::{Blanks, Grower};
 use std::alloc::Global;
 use stroke_lattice::{State, StateError};
 
@@ -35,21 +34,20 @@ impl Core {
     /// at it, and it shows what a core shows that was opened, merged them and settled ([`begun_is_as_settled`]).
     ///
     /// Each stroke, live or not, has to fit the mask, as [`State::outside`] tells. The mask is taken over, without a
-    /// copy, and the state is copied. Marker and image take the memory of the blanks, where there are some and they are
-    /// as many as the mask has pixels.
+    /// copy, and the state is copied. Marker and image take memory of the blanks, where these have it for two images of
+    /// the mask's size.
     ///
     /// Errors: C5 where the side is less than 8 or more than 256, else C4, with the mask handed back.
     pub fn over_state<G: Grower>(
         grower: &G,
         alloc: Global,
         mask: Grid,
-        blanks: Option<Blanks>,
+        blanks: &mut Blanks,
         conn: Conn,
         side: u32,
         first: u64,
         state: &State,
     ) -> Result<Core, RefusedMask>
-        requires blank { AreBlanks blanks }
         requires first { first ≤ max_generation }
         requires fits { StateFits mask.width mask.height state.now }
         ensures begun { IfOk result (IsBegunWith mask conn side first state.now) }
@@ -61,51 +59,44 @@ impl Core {
                 why: CoreError::BadSide,
             });
         }
-        let Some(blanks) = blanks_for(grower, alloc, &mask, blanks) else {
+        let Some((marker, image)) = blank_images(grower, alloc, &mask, blanks) else {
             return Err(RefusedMask {
                 mask,
                 why: CoreError::Memory,
             });
         };
         let tiling = tiling_of(&mask, side);
-        let (marker, image) = grids_of(&mask, blanks);
         let markers = Markers::over_blank(mask, marker, tiling);
         begin(grower, alloc, markers, image, conn, first, state)
     }
 }
 
-// The blanks, where they are as many as the mask has pixels, or others that are; none where memory is wanting.
-fn blanks_for<G: Grower>(
+// Two images of zeros of the mask's size, in memory of the blanks or, where they have too little, in other. None where
+// memory is wanting.
+fn blank_images<G: Grower>(
     grower: &G,
     alloc: Global,
     mask: &Grid,
-    blanks: Option<Blanks>,
-) -> Option<Blanks>
-    requires { AreBlanks blanks }
-    ensures { IfSome result (AreBlank (length mask.now.cells)) }
+    blanks: &mut Blanks,
+) -> Option<(Grid, Grid)>
+    ensures { IfSome result (λ both. IsBlankOn mask.now both.0 × IsBlankOn mask.now both.1) }
 {
-    let count = mask.cells().len();
-    if let Some(made) = blanks {
-        if made.marker.len() == count {
-            return Some(made);
-        }
+    if let Some(both) = two_of(blanks, mask) {
+        return Some(both);
     }
-    Blanks::beside(grower, alloc, count, || ()).1
+    let ((), mut made) = Blanks::beside(grower, alloc, 2, mask.cells().len(), || ());
+    two_of(&mut made, mask)
 }
 
-// Two images of zeros, of the mask's size.
-fn grids_of(mask: &Grid, blanks: Blanks) -> (Grid, Grid)
-    requires { AreBlank (length mask.now.cells) blanks }
-    ensures blank { IsBlankOn mask.now result.0 }
-    ensures size { IsOfSize mask.now result.1 }
+// Two images of zeros of the mask's size, in memory of the blanks, where they have so much.
+fn two_of(blanks: &mut Blanks, mask: &Grid) -> Option<(Grid, Grid)>
+    ensures { IfSome result (λ both. IsBlankOn mask.now both.0 × IsBlankOn mask.now both.1) }
 {
     // For its clause alone: the mask has as many cells as its sides say.
     let _cells = mask.cells();
-    let Blanks { marker, image } = blanks;
-    (
-        Grid::from_cells(mask.width(), mask.height(), marker),
-        Grid::from_cells(mask.width(), mask.height(), image),
-    )
+    let marker = blanks.take(mask)?;
+    let image = blanks.take(mask)?;
+    Some((marker, image))
 }
 
 // The core that begins with a state, over markers that have no stroke yet, with its image in the memory of another one.

@@ -1,6 +1,6 @@
-use Rattle.std.proofs.Common.{◌≡◌, ◌*◌, replicate, subst, sym, rules}
+use Rattle.std.proofs.Common.{◌≡◌, ◌*◌, replicate, subst, sym, rules, inl, inr}
 use Rattle.derived_views.specs.Rasters.{IsPartOfBorder}
-use Rattle.derived_views.proofs.Borders.{whole_border, zeros_part}
+use Rattle.derived_views.proofs.Borders.{zeros_part, copies_both}
 use Rattle.derived_views.proofs.holes.border_of.Goals as goal
 
 pub copy_columns-requires : goal.copy_columns-requires
@@ -16,7 +16,9 @@ copy_columns-requires c =
 pub returns : goal.returns
 returns c = record {
   part = c.copy_rows.ensures.part;
-  border =
-      whole_border c.args.grid.now c.copy_columns.new.border c.copy_rows.new.border c.copy_columns.ensures.copied
-      c.copy_rows.ensures.kept c.copy_rows.ensures.copied;
+  border = λ p inside on.
+      (copies_both c.copy_columns.ensures c.copy_rows.ensures).copied p inside (elim on [
+        | inl left ↦ inl (inl left)
+        | inr rest ↦ elim rest [ inl right ↦ inl (inr right) | inr row ↦ inr row ]
+      ]);
 }

@@ -1,36 +1,26 @@
-use Rattle.std.proofs.Common.{◌≡◌, ◌+◌, ◌-◌, ◌<◌, arith, refl}
-use Rattle.derived_views.proofs.Borders.{columns_more}
+use Rattle.std.proofs.Common.{◌≡◌, ◌+◌, ◌-◌, arith, inl, inr}
 use Rattle.derived_views.proofs.holes.copy_columns.Goals as goal
+use Rattle.std.proofs.lemmas.Bool.{cases_lt}
+use Rattle.grid_core.proofs.Pixels.{same_pixel}
+use Rattle.derived_views.proofs.Borders.{copies_both, copies_some}
 
 pub loop-y-preserved : goal.loop-y-preserved
 loop-y-preserved c =
-    let image = c.args.grid.now in
-    let last = c.width-last.result - 1 in
-    let width : last + 1 ≡ image.width = omega (arith, c.width-last.ensures.value, c.width-last.ensures.sized.size) in
-    let below : c.loop-y.y < image.height =
-    omega (arith, c.loop-y-test.true, c.loop-y.auto.y-end, c.height-y-end.ensures.value)
-    in
-    let some : 0 < image.width = omega (arith, width) in
-    let end : last < image.width = omega (arith, width) in
-    let first = c.copy_pixel.ensures in
-    let second = c.copy_pixel-in-loop-y.ensures in
-    record {
-      part = second.part;
-      kept = λ p inside agrees.
-          second.kept p inside (first.kept p inside (c.loop-y.invariant.kept p inside agrees));
-      columns =
-          columns_more image c.loop-y.border c.copy_pixel.new.border c.copy_pixel-in-loop-y.new.border last c.loop-y.y
-          width first.kept second.kept (first.copied _ (some, below) refl)
-          (second.copied _ (end, below) refl) c.loop-y.invariant.columns;
-    }
+    let width : c.width-last.result - 1 + 1 ≡ c.args.grid.now.width =
+    omega (arith, c.width-last.ensures.value, c.width-last.ensures.sized.size) in
+    copies_some (copies_both (copies_both c.loop-y.invariant c.copy_pixel.ensures) c.copy_pixel-in-loop-y.ensures)
+    (λ p _ (below, side).
+    elim (cases_lt p.y c.loop-y.y) [
+      | inl earlier ↦ inl (inl (earlier, side))
+      | inr here ↦ elim side [
+        | inl left ↦ inl (inr (same_pixel p _ left (omega (arith, here, below))))
+        | inr right ↦ inr (same_pixel p _ (omega (arith, right, width)) (omega (arith, here, below)))
+      ]
+    ])
 
 pub returns : goal.returns
-returns c = record {
-  part = c.loop-y.invariant.part;
-  kept = c.loop-y.invariant.kept;
-  copied = λ p inside side.
-      let row : p.y < c.loop-y.y =
-      omega (arith, inside.1, c.loop-y-test.false, c.loop-y.auto.y-end, c.height-y-end.ensures.value)
-      in
-      c.loop-y.invariant.columns p inside row side;
-}
+returns c =
+    copies_some c.loop-y.invariant (λ p inside side. (
+      omega (arith, inside.1, c.loop-y-test.false, c.loop-y.auto.y-end, c.height-y-end.ensures.value),
+      side,
+    ))

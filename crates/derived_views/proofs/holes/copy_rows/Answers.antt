@@ -1,38 +1,26 @@
-use Rattle.std.proofs.Common.{◌≡◌, ◌+◌, ◌-◌, ◌<◌, arith, refl}
-use Rattle.derived_views.proofs.Borders.{rows_more}
+use Rattle.std.proofs.Common.{◌≡◌, ◌+◌, ◌-◌, arith, inl, inr}
 use Rattle.derived_views.proofs.holes.copy_rows.Goals as goal
+use Rattle.std.proofs.lemmas.Bool.{cases_lt}
+use Rattle.grid_core.proofs.Pixels.{same_pixel}
+use Rattle.derived_views.proofs.Borders.{copies_both, copies_some}
 
 pub loop-x-preserved : goal.loop-x-preserved
 loop-x-preserved c =
-    let image = c.args.grid.now in
-    let last = c.height-last.result - 1 in
-    let height : last + 1 ≡ image.height =
-    omega (arith, c.height-last.ensures.value, c.height-last.ensures.sized.size)
-    in
-    let below : c.loop-x.x < image.width =
-    omega (arith, c.loop-x-test.true, c.loop-x.auto.x-end, c.width-x-end.ensures.value)
-    in
-    let some : 0 < image.height = omega (arith, height) in
-    let end : last < image.height = omega (arith, height) in
-    let first = c.copy_pixel.ensures in
-    let second = c.copy_pixel-in-loop-x.ensures in
-    record {
-      part = second.part;
-      kept = λ p inside agrees.
-          second.kept p inside (first.kept p inside (c.loop-x.invariant.kept p inside agrees));
-      rows =
-          rows_more image c.loop-x.border c.copy_pixel.new.border c.copy_pixel-in-loop-x.new.border last c.loop-x.x
-          height first.kept second.kept (first.copied _ (below, some) refl)
-          (second.copied _ (below, end) refl) c.loop-x.invariant.rows;
-    }
+    let height : c.height-last.result - 1 + 1 ≡ c.args.grid.now.height =
+    omega (arith, c.height-last.ensures.value, c.height-last.ensures.sized.size) in
+    copies_some (copies_both (copies_both c.loop-x.invariant c.copy_pixel.ensures) c.copy_pixel-in-loop-x.ensures)
+    (λ p _ (before, side).
+    elim (cases_lt p.x c.loop-x.x) [
+      | inl earlier ↦ inl (inl (earlier, side))
+      | inr here ↦ elim side [
+        | inl top ↦ inl (inr (same_pixel p _ (omega (arith, here, before)) top))
+        | inr bottom ↦ inr (same_pixel p _ (omega (arith, here, before)) (omega (arith, bottom, height)))
+      ]
+    ])
 
 pub returns : goal.returns
-returns c = record {
-  part = c.loop-x.invariant.part;
-  kept = c.loop-x.invariant.kept;
-  copied = λ p inside side.
-      let column : p.x < c.loop-x.x =
-      omega (arith, inside.0, c.loop-x-test.false, c.loop-x.auto.x-end, c.width-x-end.ensures.value)
-      in
-      c.loop-x.invariant.rows p inside column side;
-}
+returns c =
+    copies_some c.loop-x.invariant (λ p inside side. (
+      omega (arith, inside.0, c.loop-x-test.false, c.loop-x.auto.x-end, c.width-x-end.ensures.value),
+      side,
+    ))

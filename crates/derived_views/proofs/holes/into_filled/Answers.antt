@@ -1,13 +1,8 @@
-use Rattle.std.proofs.Common.{◌≡◌, ◌≤◌, ◌∙◌, ap, sym, subst, arith, rules}
-use Rattle.std.specs.Prelude.{slice_index, EachIndex}
-use Rattle.grid_core.specs.Path.{domain_of}
-use Rattle.grid_core.specs.Raster.{IsFilled, value_at}
+use Rattle.std.proofs.Common.{◌≡◌, ◌≤◌, ◌∙◌, ap, sym, subst, arith, rules, slice_index, EachIndex}
+use Rattle.grid_core.specs.{Path.domain_of, Raster.IsFilled, Raster.value_at}
 use Rattle.pgm_codec.specs.Graymap.{Graymap}
-use Rattle.derived_views.specs.Holes.{IsFill}
-use Rattle.derived_views.specs.Rasters.{complement_of}
-use Rattle.derived_views.proofs.Borders.{border_below}
-use Rattle.derived_views.proofs.Growing.{fill_from, graymap_from}
-use Rattle.derived_views.proofs.Rasters.{complement_is}
+use Rattle.derived_views.specs.{Holes.IsFill, Rasters.complement_of}
+use Rattle.derived_views.proofs.{Borders.border_below, Growing.fill_from, Growing.graymap_from, Rasters.complement_is}
 use Rattle.derived_views.proofs.holes.into_filled.Goals as goal
 
 pub grow-requires : goal.grow-requires

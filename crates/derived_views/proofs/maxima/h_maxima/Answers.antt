@@ -1,6 +1,5 @@
 use Rattle.std.proofs.Common.{sym, subst, rules}
-use Rattle.grid_core.specs.Path.{domain_of}
-use Rattle.grid_core.specs.Raster.{value_at}
+use Rattle.grid_core.specs.{Path.domain_of, Raster.value_at}
 use Rattle.pgm_codec.specs.Graymap.{Graymap}
 use Rattle.derived_views.specs.HMaxima.{IsHMaxima}
 use Rattle.derived_views.proofs.Growing.{h_maxima_from}

@@ -1,6 +1,5 @@
 use Rattle.std.proofs.Common.{◌∙◌, ap, sym, subst, arith, rules}
-use Rattle.grid_core.specs.Path.{domain_of}
-use Rattle.grid_core.specs.Raster.{value_at}
+use Rattle.grid_core.specs.{Path.domain_of, Raster.value_at}
 use Rattle.pgm_codec.specs.Graymap.{Graymap}
 use Rattle.derived_views.specs.Plateaus.{IsRegionalMaxima}
 use Rattle.derived_views.proofs.Growing.{graymap_from, maxima_from, maxima_within}

@@ -1,5 +1,4 @@
-use Rattle.std.proofs.Common.{◌+◌, ◌*◌, ◌≤◌, arith}
-use Rattle.std.proofs.lemmas.Bool.Decides.{nat_tests}
+use Rattle.std.proofs.{Common.◌+◌, Common.◌*◌, Common.◌≤◌, Common.arith, lemmas.Bool.Decides.nat_tests}
 use Rattle.marker_tiles.proofs.BlockLevels.{square_covered}
 use Rattle.marker_tiles.proofs.blocks.has_square.Goals as goal
 

@@ -1,15 +1,10 @@
 use Rattle.std.proofs.Common.{arith}
-use Rattle.std.specs.Prelude.{IsTrue}
-use Rattle.stroke_core.specs.Seed.{covers}
-use Rattle.marker_tiles.specs.Painting.{IncludesOn, in_window}
-use Rattle.marker_tiles.specs.UnderTags.{level_at}
-use Rattle.marker_tiles.proofs.BlockLevels.{stays_within}
-use Rattle.marker_tiles.proofs.ManyStrokes.{rows_before, rows_end}
+use Rattle.marker_tiles.proofs.{BlockLevels.stays_within, ManyStrokes.rows_before, ManyStrokes.rows_end}
 use Rattle.marker_tiles.proofs.many.raise_beyond.Goals as goal
 
 pub loop-row-init : goal.loop-row-init
 loop-row-init c = (
-  stays_within (level_at c.args.stroke.now) c.args.mask.now c.args.image.now c.requires.size,
+  stays_within c.requires.size,
   rows_before c.args.stroke.now c.cut_to-around.result c.args.mask.now c.args.image.now
       (λ p inside covered. c.cut_to-around.ensures.kept p inside (c.round.ensures p covered)) c.args.blocks.now.side
       c.requires.blocks.is_side.some,

@@ -1,9 +1,6 @@
-use Rattle.std.proofs.Common.{subst}
-use Rattle.std.specs.Prelude.{◌&&◌}
+use Rattle.std.proofs.Common.{subst, ◌&&◌}
 use Rattle.stroke_core.specs.Seed.{covers}
-use Rattle.marker_tiles.specs.declared.brush.Brush.{Brush}
-use Rattle.marker_tiles.specs.declared.window.Window.{Window}
-use Rattle.marker_tiles.specs.Blocks.{block_window}
+use Rattle.marker_tiles.specs.{declared.brush.Brush.Brush, declared.window.Window.Window, Blocks.block_window}
 use Rattle.marker_tiles.specs.Painting.{IsPaintedBy, in_window}
 use Rattle.marker_tiles.proofs.BlockLevels.{stroke_in_block}
 use Rattle.marker_tiles.proofs.many.raise_beyond_in_block.Goals as goal

@@ -1,13 +1,11 @@
-use Rattle.std.proofs.Common.{◌*◌, ◌<◌, arith}
+use Rattle.std.proofs.Common.{arith}
 use Rattle.grid_core.proofs.Spans.{span_begins}
-use Rattle.marker_tiles.specs.UnderTags.{level_at}
-use Rattle.marker_tiles.proofs.BlockLevels.{stays_within}
-use Rattle.marker_tiles.proofs.ManyStrokes.{columns_before, columns_end}
+use Rattle.marker_tiles.proofs.{BlockLevels.stays_within, ManyStrokes.columns_before, ManyStrokes.columns_end}
 use Rattle.marker_tiles.proofs.many.raise_beyond_in_row.Goals as goal
 
 pub loop-column-init : goal.loop-column-init
 loop-column-init c = (
-  stays_within (level_at c.args.stroke.now) c.args.mask.now c.args.image.now c.requires.size,
+  stays_within c.requires.size,
   columns_before c.args.stroke.now c.args.around c.args.mask.now c.args.image.now c.requires.around
       c.args.blocks.now.side c.requires.blocks.is_side.some c.args.row,
 )

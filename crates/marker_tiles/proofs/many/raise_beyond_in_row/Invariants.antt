@@ -1,6 +1,5 @@
 use Rattle.std.proofs.Common.{◌≡◌, ◌/◌, ◌<◌}
-use Rattle.marker_tiles.specs.Blocks.{IsRaisedWithin, HasLevelWhere}
-use Rattle.marker_tiles.specs.UnderTags.{level_at}
+use Rattle.marker_tiles.specs.{Blocks.IsRaisedWithin, Blocks.HasLevelWhere, UnderTags.level_at}
 use Rattle.marker_tiles.proofs.many.raise_beyond_in_row.Given as goal
 
 -- the blocks so far have the level of the stroke where it lies

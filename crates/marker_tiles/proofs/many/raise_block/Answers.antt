@@ -1,8 +1,7 @@
 use Rattle.std.proofs.Common.{subst}
-use Rattle.marker_tiles.specs.declared.brush.Brush.TheVariants.{Raise}
-use Rattle.marker_tiles.specs.declared.window.Window.{Window}
+use Rattle.marker_tiles.specs.{declared.brush.Brush.TheVariants.Raise, declared.window.Window.Window}
 use Rattle.marker_tiles.specs.Painting.{IsPaintedBy, in_window}
-use Rattle.marker_tiles.proofs.BlockLevels.{filled_within, filled_has, here, window}
+use Rattle.marker_tiles.proofs.BlockLevels.{filled_within, filled_has, window}
 use Rattle.marker_tiles.proofs.many.raise_block.Goals as goal
 
 pub returns-then-level-gt0-clause-raised : goal.returns-then-level-gt0-clause-raised

@@ -1,6 +1,5 @@
 use Rattle.std.proofs.Common.{take}
-use Rattle.marker_tiles.specs.Blocks.{IsRaisedWithin, HasLevel, level_in}
-use Rattle.marker_tiles.specs.UnderTags.{level_of_some}
+use Rattle.marker_tiles.specs.{Blocks.IsRaisedWithin, Blocks.HasLevel, Blocks.level_in, UnderTags.level_of_some}
 use Rattle.marker_tiles.proofs.many.raise_by_many.Given as goal
 
 -- the image has the levels of the blocks and those of the strokes under the tags so far, and has risen to no more

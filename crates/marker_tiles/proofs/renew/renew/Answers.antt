@@ -1,9 +1,7 @@
-use Rattle.std.proofs.Common.{List, length, ◌≡◌, sym, subst, arith}
-use Rattle.std.specs.Prelude.{IsTrue}
+use Rattle.std.proofs.Common.{List, length, ◌≡◌, sym, subst, arith, IsTrue}
 use Rattle.std.proofs.lemmas.Bool.Decides.{nat_tests}
 use Rattle.stroke_lattice.specs.Change.{Turnover}
-use Rattle.marker_tiles.specs.declared.window.Window.{Window}
-use Rattle.marker_tiles.specs.Painting.{in_some}
+use Rattle.marker_tiles.specs.{declared.window.Window.Window, Painting.in_some}
 use Rattle.marker_tiles.proofs.Keeping.{marks_where_none_died, marks_where_some_died}
 use Rattle.grid_core.proofs.Common.{no_length}
 use Rattle.marker_tiles.proofs.renew.renew.Goals as goal

@@ -1,7 +1,7 @@
 use Rattle.std.proofs.Common.{◌<◌, length, arith, inl, inr}
-use Rattle.std.specs.FinMap as map
 use Rattle.marker_tiles.specs.UnderTags.{covers_if}
 use Rattle.marker_tiles.proofs.Enclosing.{any_of_more}
+use Rattle.std.specs.FinMap as map
 use Rattle.marker_tiles.proofs.strokes.window_round_all.Goals as goal
 
 pub loop-tag-preserved : goal.loop-tag-preserved

@@ -1,8 +1,6 @@
-use Rattle.std.proofs.Common.{take}
-use Rattle.std.specs.Prelude.{IsTrue}
+use Rattle.std.proofs.Common.{take, IsTrue}
 use Rattle.grid_core.specs.declared.pixel.Pixel.{Pixel}
-use Rattle.marker_tiles.specs.Painting.{in_window}
-use Rattle.marker_tiles.specs.UnderTags.{some_covers}
+use Rattle.marker_tiles.specs.{Painting.in_window, UnderTags.some_covers}
 use Rattle.marker_tiles.proofs.strokes.window_round_all.Given as goal
 
 -- the window has the pixels of the strokes under the tags so far

@@ -1,9 +1,6 @@
-use Rattle.std.proofs.Common.{◌≡◌, length, take}
-use Rattle.std.specs.Prelude.{IsTrue}
-use Rattle.grid_core.specs.declared.pixel.Pixel.{Pixel}
-use Rattle.grid_core.specs.Raster.{IsInside}
-use Rattle.marker_tiles.specs.Painting.{WindowsFit, in_some}
-use Rattle.marker_tiles.specs.UnderTags.{some_covers}
+use Rattle.std.proofs.Common.{◌≡◌, length, take, IsTrue}
+use Rattle.grid_core.specs.{declared.pixel.Pixel.Pixel, Raster.IsInside}
+use Rattle.marker_tiles.specs.{Painting.WindowsFit, Painting.in_some, UnderTags.some_covers}
 use Rattle.marker_tiles.proofs.strokes.windows_round.Given as goal
 
 -- a window for each tag so far, with the pixels of their strokes

@@ -1,8 +1,6 @@
 -- What the tactics leave open of `is_at_most_part`.
-use Rattle.std.proofs.Common.{◌≡◌, ◌≤◌, refl, subst, arith}
-use Rattle.std.proofs.lemmas.Bool.{false≢true}
-use Rattle.grid_core.specs.Raster.{value_at}
-use Rattle.grid_core.specs.Rects.{IsRowOf, part}
+use Rattle.std.proofs.{Common.◌≡◌, Common.◌≤◌, Common.refl, Common.subst, Common.arith, lemmas.Bool.false≢true}
+use Rattle.grid_core.specs.{Raster.value_at, Rects.IsRowOf, Rects.part}
 use Rattle.reset_core.proofs.SweepingRows.{alike_more, related_row}
 use Rattle.reset_core.proofs.parts.is_at_most_part.Goals as goal
 

@@ -1,7 +1,6 @@
 -- What the loop of `is_part` keeps.
 use Rattle.std.proofs.Common.{◌≡◌}
-use Rattle.grid_core.specs.Raster.{value_at}
-use Rattle.grid_core.specs.Rects.{part}
+use Rattle.grid_core.specs.{Raster.value_at, Rects.part}
 use Rattle.reset_core.proofs.SweepingRows.{AreAlike}
 use Rattle.reset_core.proofs.parts.is_part.Given as goal
 

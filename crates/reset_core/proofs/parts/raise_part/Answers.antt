@@ -1,7 +1,6 @@
 -- What the tactics leave open of `raise_part`.
 use Rattle.std.proofs.Common.{◌≡◌, ◌+◌, ◌*◌, subst, sym, ap, ◌∙◌}
-use Rattle.grid_core.specs.Raster.{value_at}
-use Rattle.grid_core.specs.Rects.{IsRowOf}
+use Rattle.grid_core.specs.{Raster.value_at, Rects.IsRowOf}
 use Rattle.reset_core.proofs.SweepingRows.{row_below, joined_more}
 use Rattle.reset_core.proofs.parts.raise_part.Goals as goal
 

@@ -1,6 +1,5 @@
 use Rattle.std.proofs.Common.{take}
-use Rattle.marker_tiles.specs.Blocks.{AreNoted}
-use Rattle.marker_tiles.specs.UnderTags.{level_of_some}
+use Rattle.marker_tiles.specs.{Blocks.AreNoted, UnderTags.level_of_some}
 use Rattle.marker_tiles.proofs.blocks.Blocks.note.Given as goal
 
 -- at most the levels of the strokes under the tags so far were noted

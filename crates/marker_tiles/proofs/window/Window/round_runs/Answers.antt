@@ -1,7 +1,6 @@
 use Rattle.std.proofs.Common.{◌<◌, get_or, length, inl, inr, arith}
 use Rattle.std.proofs.lemmas.List.{get_or_default}
-use Rattle.stroke_core.specs.declared.run.Run.{Run}
-use Rattle.stroke_core.specs.Seed.{run_covers}
+use Rattle.stroke_core.specs.{declared.run.Run.Run, Seed.run_covers}
 use Rattle.marker_tiles.proofs.Enclosing.{any_of_more}
 use Rattle.marker_tiles.proofs.window.Window.round_runs.Goals as goal
 

@@ -1,5 +1,4 @@
-use Rattle.std.proofs.Common.{take}
-use Rattle.std.specs.Prelude.{IsTrue}
+use Rattle.std.proofs.Common.{take, IsTrue}
 use Rattle.std.specs.List.{list_any}
 use Rattle.grid_core.specs.declared.pixel.Pixel.{Pixel}
 use Rattle.stroke_core.specs.Seed.{run_covers}

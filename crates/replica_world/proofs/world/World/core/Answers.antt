@@ -1,8 +1,7 @@
 use Rattle.std.proofs.Common.{◌≡◌, ◌∙◌, sym, subst, ap}
 use Rattle.grid_core.specs.Raster.{IsSized, IsBelow}
 use Rattle.stroke_lattice.specs.State.{IsJoinOf}
-use Rattle.core_rules.specs.Work.{Core, IsQuiet}
-use Rattle.core_rules.specs.Invariant.{HasLawfulImage, HasReconstruction}
+use Rattle.core_rules.specs.{Work.Core, Work.IsQuiet, Invariant.HasLawfulImage, Invariant.HasReconstruction}
 use Rattle.replica_world.specs.World.{World, Replica, IsReplica, nobody, core_at, replica_at}
 use Rattle.replica_world.proofs.Worlds.{read_at}
 use Rattle.replica_world.proofs.world.World.core.Goals as goal

@@ -1,12 +1,9 @@
 use Rattle.std.proofs.Common.{◌∙◌, ◌<◌, [], List, ℕ, length, refl, sym, subst, ap}
 use Rattle.std.proofs.lemmas.Option.{slice_get_read}
 use Rattle.stroke_lattice.specs.State.{State}
-use Rattle.spd_codec.specs.declared.frame.Frame.{Frame}
-use Rattle.spd_codec.specs.Spelling.{Spells}
-use Rattle.replica_world.specs.World.{World}
-use Rattle.replica_world.specs.Events.{Carries}
-use Rattle.replica_world.proofs.Reading.{read_right}
-use Rattle.replica_world.proofs.Worlds.{read_at}
+use Rattle.spd_codec.specs.{declared.frame.Frame.Frame, Spelling.Spells}
+use Rattle.replica_world.specs.{World.World, Events.Carries}
+use Rattle.replica_world.proofs.{Reading.read_right, Worlds.read_at}
 use Rattle.replica_world.proofs.world.World.delta_of.Goals as goal
 
 pub returns-in-Ok-clause-spelled : goal.returns-in-Ok-clause-spelled

@@ -1,5 +1,4 @@
-use Rattle.std.proofs.Common.{◌≤◌, length}
-use Rattle.std.specs.Prelude.{vec_len, vec_capacity}
+use Rattle.std.proofs.Common.{◌≤◌, length, vec_len, vec_capacity}
 use Rattle.replica_world.proofs.Events.{HaveRun}
 use Rattle.replica_world.proofs.world.World.run.Given as goal
 

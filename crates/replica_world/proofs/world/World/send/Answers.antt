@@ -1,8 +1,6 @@
-use Rattle.std.proofs.Common.{◌≡◌, ◌<◌, ◌∙◌, List, length, refl, subst, ap, arith}
-use Rattle.std.specs.Prelude.{Some, slice_get}
+use Rattle.std.proofs.Common.{◌≡◌, ◌<◌, ◌∙◌, List, length, refl, subst, ap, arith, Some, slice_get}
 use Rattle.std.proofs.lemmas.Option.{slice_get_read}
-use Rattle.stroke_lattice.specs.State.{State}
-use Rattle.stroke_lattice.specs.Pieces.{pieces_of}
+use Rattle.stroke_lattice.specs.{State.State, Pieces.pieces_of}
 use Rattle.spd_codec.specs.Spelling.{max_bytes}
 use Rattle.core_rules.specs.Work.{Core}
 use Rattle.replica_world.proofs.world.World.send.Goals as goal

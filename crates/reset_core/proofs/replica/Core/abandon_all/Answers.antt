@@ -11,11 +11,8 @@ pub overflow_add-abandons : goal.overflow_add-abandons
 overflow_add-abandons c = elim c.abandon_first.ensures.first [
   | inl (found, (ticket, first, happens)) ↦
       let so_far = c.loop-abandons.invariant in
-      let all = ap length so_far.parts ∙ length-append so_far.done (tickets_out 0 c.loop-abandons.self.tiles) in
-      let left = ap length first in
-      let few = few_tickets 0 c.args.self.now.tiles in
-      let count = so_far.count in
-      omega (arith, all, left, few, count)
+      let long = ap length so_far.parts ∙ length-append so_far.done (tickets_out 0 c.loop-abandons.self.tiles) in
+      omega (arith, long, ap length first, few_tickets 0 c.args.self.now.tiles, so_far.count)
   | inr (missing, same, none, none_out) ↦
       let e : true ≡ false = sym c.loop-abandons-test.true ∙ missing in absurd cc
 ]

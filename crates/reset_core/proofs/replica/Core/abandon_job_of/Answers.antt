@@ -1,15 +1,11 @@
-use Rattle.std.proofs.Common.{◌≡◌, List, subst, true, false}
-use Rattle.std.specs.Prelude.{Some, None, slice_get}
-use Rattle.tile_generations.specs.declared.ticket.Ticket.{Ticket}
+use Rattle.std.proofs.Common.{◌≡◌, List, subst, Some, None, slice_get}
 use Rattle.tile_generations.specs.Jobs.{Swept}
-use Rattle.core_rules.specs.Sweeps.{IsAbandoned}
 use Rattle.reset_core.specs.Scheduling.{kept_of}
 use Rattle.reset_core.proofs.Scheduling.{no_item, item_there, no_result_to_abandon, job_abandoned, job_not_out}
 use Rattle.reset_core.proofs.replica.Core.abandon_job_of.Goals as goal
 
 pub returns-in_default-clause-step : goal.returns-in_default-clause-step
-returns-in_default-clause-step c = λ n.
-    no_result_to_abandon n c.args.place c.args.self.now (kept_of c.args.tally.now)
+returns-in_default-clause-step c = λ n. no_result_to_abandon n c.args.place c.args.self.now (kept_of c.args.tally.now)
     (subst (λ (results : List Swept). slice_get results c.args.place ≡ None) c.deref.ensures.value
     (no_item c.deref.result.now c.args.place c.get.result c.get.ensures.lookup c.in_default.not-Some))
 
@@ -20,8 +16,7 @@ returns-then-abandon-clause-step c = λ n.
     subst (λ (results : List Swept). slice_get results c.args.place ≡ Some swept) c.deref.ensures.value
     (item_there c.deref.result.now c.args.place c.get.result c.in-Some.swept c.get.ensures.lookup c.in-Some.is) in
     job_abandoned n c.args.place c.args.self.now c.abandon.new.self (kept_of c.args.tally.now) swept there
-    (subst (λ (ticket : Ticket). IsAbandoned c.args.self.now ticket true c.abandon.new.self) c.ticket-ticket.ensures
-    c.if-abandon.ensures)
+    (rw c.ticket-ticket.ensures at c.if-abandon.ensures)
 
 pub returns-else-abandon-clause-step : goal.returns-else-abandon-clause-step
 returns-else-abandon-clause-step c = λ n.
@@ -30,5 +25,4 @@ returns-else-abandon-clause-step c = λ n.
     subst (λ (results : List Swept). slice_get results c.args.place ≡ Some swept) c.deref.ensures.value
     (item_there c.deref.result.now c.args.place c.get.result c.in-Some.swept c.get.ensures.lookup c.in-Some.is) in
     job_not_out n c.args.place c.args.self.now c.abandon.new.self (kept_of c.args.tally.now) swept there
-    (subst (λ (ticket : Ticket). IsAbandoned c.args.self.now ticket false c.abandon.new.self) c.ticket-ticket.ensures
-    c.if-abandon.ensures)
+    (rw c.ticket-ticket.ensures at c.if-abandon.ensures)

@@ -1,7 +1,7 @@
 -- What the tactics leave open of `check`.
 use Rattle.std.proofs.Common.{◌≡◌, ◌∙◌, ap, subst}
 use Rattle.grid_core.specs.Tiles.{Tiles}
-use Rattle.stroke_lattice.specs.State.{StateFits, AreCompatible, IsLeastOutside, IsLeastClash}
+use Rattle.stroke_lattice.specs.State.{AreCompatible, IsLeastClash}
 use Rattle.core_rules.specs.Work.{Core}
 use Rattle.reset_core.proofs.replica.Core.check.Goals as goal
 
@@ -16,8 +16,7 @@ returns-in-Some-clause-refused c =
     let height : c.height.result ≡ core.mask.height =
     c.height.ensures.value ∙ ap (λ (t : Tiles). t.height) tiling.value ∙ tiling.height
     ∙ ap (λ (k : Core). k.mask.height) c.self.view_is in
-    subst (λ h. IsLeastOutside core.mask.width h delta c.in-Some.tag) height
-    (subst (λ w. IsLeastOutside w c.height.result delta c.in-Some.tag) width c.in-Some.ensures)
+    rw (width, height) at c.in-Some.ensures
 
 pub returns-in-Some-clash-clause-refused : goal.returns-in-Some-clash-clause-refused
 returns-in-Some-clash-clause-refused c =
@@ -30,8 +29,7 @@ returns-in-Some-clash-clause-refused c =
     let height : c.height.result ≡ core.mask.height =
     c.height.ensures.value ∙ ap (λ (t : Tiles). t.height) tiling.value ∙ tiling.height
     ∙ ap (λ (k : Core). k.mask.height) c.self.view_is in (
-      subst (λ h. StateFits core.mask.width h delta) height
-          (subst (λ w. StateFits w c.height.result delta) width c.in_default.ensures),
+      rw (width, height) at c.in_default.ensures,
       subst (λ (k : Core). IsLeastClash k.state delta c.in-Some-clash.tag) c.self.view_is c.in-Some-clash.ensures,
     )
 

@@ -1,7 +1,6 @@
-use Rattle.std.proofs.Common.{ℕ, List, ap, subst, sym}
+use Rattle.std.proofs.Common.{ℕ, List, ap}
 use Rattle.core_rules.specs.declared.error.CoreError.{CoreError}
-use Rattle.core_rules.specs.declared.step.Step.TheVariants as steps
-use Rattle.reset_core.specs.Scheduling.{Kept, kept_of, LeadsOn}
+use Rattle.reset_core.specs.Scheduling.{Kept, kept_of}
 use Rattle.reset_core.proofs.Scheduling.{edit_accepted, edit_turned_down, edit_cut_off}
 use Rattle.reset_core.proofs.replica.Core.edit.Goals as goal
 
@@ -9,9 +8,7 @@ pub returns-in-Ok-clause-step : goal.returns-in-Ok-clause-step
 returns-in-Ok-clause-step c =
     let kept : Kept = kept_of c.args.tally.now in
     let n = c.args.number in
-    subst (λ (numbers : List ℕ).
-    LeadsOn (steps.Edit c.args.delta.now) n c.args.self.now kept c.merge.new.self (record kept { accepted = numbers }))
-    (sym c.push_reserved.ensures.items)
+    rw c.push_reserved.ensures.items
     (edit_accepted n c.args.delta.now c.args.self.now c.merge.new.self kept c.in-Ok._change c.in-Ok.ensures.merged)
 
 pub returns-in-Memory-clause-err : goal.returns-in-Memory-clause-err

@@ -1,15 +1,12 @@
-use Rattle.std.proofs.Common.{◌≡◌, List, subst}
-use Rattle.std.specs.Prelude.{Some, None, slice_get}
+use Rattle.std.proofs.Common.{◌≡◌, List, subst, Some, None, slice_get}
 use Rattle.tile_generations.specs.Jobs.{Swept}
-use Rattle.core_rules.specs.Sweeps.{IsGivenBack}
 use Rattle.reset_core.specs.Scheduling.{kept_of}
 use Rattle.reset_core.proofs.Scheduling.{on_ok, on_ok_at_err, no_item, item_there, no_result_to_return, result_returned}
-use Rattle.reset_core.proofs.replica.Core.give_back_copy.Goals as goal
 use Rattle.reset_core.proofs.replica.Core.give_back_copy.Goals.{in-Ok, in-Err}
+use Rattle.reset_core.proofs.replica.Core.give_back_copy.Goals as goal
 
 pub returns-in_default-clause-step : goal.returns-in_default-clause-step
-returns-in_default-clause-step c = λ n.
-    no_result_to_return n c.args.place c.args.self.now (kept_of c.args.tally.now)
+returns-in_default-clause-step c = λ n. no_result_to_return n c.args.place c.args.self.now (kept_of c.args.tally.now)
     (subst (λ (results : List Swept). slice_get results c.args.place ≡ None) c.deref.ensures.value
     (no_item c.deref.result.now c.args.place c.get.result c.get.ensures.lookup c.in_default.not-Some))
 
@@ -23,8 +20,6 @@ returns-clause-step c =
       | in-Ok w ↦
           on_ok c.match-give_back.result (λ n.
           result_returned n c.args.place c.args.self.now c.give_back.new.self (kept_of c.args.tally.now) swept
-          w.in-Ok._back there c.pixels.ensures.swept
-          (subst (λ (result : Swept). IsGivenBack c.args.self.now result w.in-Ok._back c.give_back.new.self)
-          c.in_ok-copy.ensures w.in-Ok.ensures.given))
+          w.in-Ok._back there c.pixels.ensures.swept (rw c.in_ok-copy.ensures at w.in-Ok.ensures.given))
       | in-Err w ↦ on_ok_at_err _ c.match-give_back.result w.in-Err.why w.result-is
     ]

@@ -1,15 +1,14 @@
 -- What the tactics leave open of `hand`.
 use Rattle.std.proofs.Common.{◌≡◌, ◌<◌, ◌≤◌, true, false, List, refl, sym, ◌∙◌, ap, subst, IsTrue, slice_index_or}
 use Rattle.std.proofs.Common.{slice_set, set, arith}
-use Rattle.grid_core.specs.declared.bounds.Bounds.{Bounds}
+use Rattle.grid_core.specs.{declared.bounds.Bounds.Bounds, Raster.Raster, Raster.with_value}
 use Rattle.grid_core.specs.Bounds.{bounds_at, joined, no_bounds}
 use Rattle.tile_work.specs.OpenBounds.{bounds_for}
-use Rattle.grid_core.specs.Raster.{Raster, with_value}
-use Rattle.core_rules.specs.declared.answers.Handed.TheVariants.{Raised, Same, Stale}
+use Rattle.core_rules.specs.declared.answers.Handed.TheVariants.{Same, Stale}
 use Rattle.core_rules.specs.Work.{image_at, work_at, with_work}
+use Rattle.core_rules.specs.Hints.{IsPresent, without_hint, raised}
 use Rattle.border_queues.specs.TileWork.{TileWork, idle}
-use Rattle.core_rules.specs.Hints.{IsPresent, IsHanded, without_hint, raised}
-use Rattle.reset_core.specs.Replica.{core_of, IsStored}
+use Rattle.reset_core.specs.Replica.{core_of}
 use Rattle.reset_core.proofs.Storing.{goes_inside, goes_to_tile, lost_is_stored, raised_is_stored}
 use Rattle.reset_core.proofs.replica.Core.hand.Goals as goal
 
@@ -19,10 +18,8 @@ invariant_of-self c =
     let parts = c.self.inside in
     let there = sym c.hint.ensures ∙ c.in-Some.is in
     let absent : IsPresent (core_of parts) c.in-Some.hint → ⊥ =
-    subst (λ core. IsPresent core c.in-Some.hint → ⊥) (sym c.self.view_is)
-    (λ present. let yes : IsTrue false = c.if-not-present.ensures.1 present in absurd cc) in
-    subst (λ (work : List TileWork). IsStored (record parts { work = work })) (sym c.remove_hint.ensures)
-    (lost_is_stored parts c.self.invariant c.args.tile c.args.i c.in-Some.hint there Stale
+    rw c.self.view_is (λ present. let yes : IsTrue false = c.if-not-present.ensures.1 present in absurd cc) in
+    rw c.remove_hint.ensures (lost_is_stored parts c.self.invariant c.args.tile c.args.i c.in-Some.hint there Stale
     (c.in-Some.hint, there, absent, refl))
 
 -- src/replica/handing.rt:29:12
@@ -37,12 +34,10 @@ pub invariant_of-self-then-get-hint : goal.invariant_of-self-then-get-hint
 invariant_of-self-then-get-hint c =
     let parts = c.self.inside in
     let there = sym c.hint.ensures ∙ c.in-Some.is in
-    let present : IsPresent (core_of parts) c.in-Some.hint =
-    subst (λ core. IsPresent core c.in-Some.hint) (sym c.self.view_is) (c.if-not-present.ensures.0 refl) in
+    let present : IsPresent (core_of parts) c.in-Some.hint = rw c.self.view_is (c.if-not-present.ensures.0 refl) in
     let low : c.in-Some.hint.value ≤ image_at (core_of parts) c.in-Some.hint.to_pixel =
     subst (λ v. c.in-Some.hint.value ≤ v) c.get.ensures c.if-get-hint.true in
-    subst (λ (work : List TileWork). IsStored (record parts { work = work })) (sym c.remove_hint.ensures)
-    (lost_is_stored parts c.self.invariant c.args.tile c.args.i c.in-Some.hint there Same
+    rw c.remove_hint.ensures (lost_is_stored parts c.self.invariant c.args.tile c.args.i c.in-Some.hint there Same
     (c.in-Some.hint, there, present, low, refl))
 
 -- src/replica/handing.rt:32:9
@@ -57,64 +52,40 @@ pub invariant_of-self-2 : goal.invariant_of-self-2
 invariant_of-self-2 c =
     let parts = c.self.inside in
     let there = sym c.hint.ensures ∙ c.in-Some.is in
-    let present : IsPresent (core_of parts) c.in-Some.hint =
-    subst (λ core. IsPresent core c.in-Some.hint) (sym c.self.view_is) (c.if-not-present.ensures.0 refl) in
+    let present : IsPresent (core_of parts) c.in-Some.hint = rw c.self.view_is (c.if-not-present.ensures.0 refl) in
     let above : image_at (core_of parts) c.in-Some.hint.to_pixel < c.in-Some.hint.value =
     subst (λ v. v < c.in-Some.hint.value) c.get.ensures c.if-get-hint.false in
     let home = (goes_to_tile parts c.self.invariant c.args.tile c.args.i c.in-Some.hint there).tile in
     let work : c.mark_dirty.new.self
     ≡ (raised (without_hint (core_of parts) c.args.tile c.args.i) c.in-Some.hint).tiles =
-    c.mark_dirty.ensures
-    ∙ ap (λ (work : List TileWork). slice_set work c.args.tile
+    c.mark_dirty.ensures ∙ ap (λ (work : List TileWork). slice_set work c.args.tile
     (record (slice_index_or work c.args.tile idle) { dirty = true })) c.remove_hint.ensures
     ∙ ap (λ t. (with_work (without_hint (core_of parts) c.args.tile c.args.i) t
     (record (work_at (without_hint (core_of parts) c.args.tile c.args.i) t) { dirty = true })).tiles) (sym home) in
-    let bounds : c.widen.new.self
-    ≡ set parts.bounds c.args.tile
+    let bounds : c.widen.new.self ≡ set parts.bounds c.args.tile
     (joined (bounds_for parts.bounds c.args.tile) (joined no_bounds (bounds_at c.in-Some.hint.to_pixel))) =
     c.widen.ensures
     ∙ ap (λ (more : Bounds). set parts.bounds c.args.tile (joined (bounds_for parts.bounds c.args.tile) more))
     (c.including.ensures ∙ ap (λ (none : Bounds). joined none (bounds_at c.in-Some.hint.to_pixel)) c.none.ensures) in
-    subst (λ (table : List Bounds). IsStored (record parts {
-      image = c.set.new.self;
-      work = c.mark_dirty.new.self;
-      bounds = table;
-    })) (sym bounds)
-    (subst (λ (work : List TileWork). IsStored (record parts {
-      image = c.set.new.self;
-      work = work;
-      bounds = set parts.bounds c.args.tile
-          (joined (bounds_for parts.bounds c.args.tile) (joined no_bounds (bounds_at c.in-Some.hint.to_pixel)));
-    })) (sym work)
-    (subst (λ (image : Raster). IsStored (record parts {
-      image = image;
-      work = (raised (without_hint (core_of parts) c.args.tile c.args.i) c.in-Some.hint).tiles;
-      bounds = set parts.bounds c.args.tile
-          (joined (bounds_for parts.bounds c.args.tile) (joined no_bounds (bounds_at c.in-Some.hint.to_pixel)));
-    })) (sym c.set.ensures)
-    (raised_is_stored parts c.self.invariant c.args.tile c.args.i c.in-Some.hint there present above)))
+    rw (bounds, work, c.set.ensures)
+    (raised_is_stored parts c.self.invariant c.args.tile c.args.i c.in-Some.hint there present above)
 
 -- src/replica/handing.rt:14:5
 pub returns : goal.returns
 returns c =
     let parts = c.self.inside in
     let there = sym c.hint.ensures ∙ c.in-Some.is in
-    let present : IsPresent (core_of parts) c.in-Some.hint =
-    subst (λ core. IsPresent core c.in-Some.hint) (sym c.self.view_is) (c.if-not-present.ensures.0 refl) in
+    let present : IsPresent (core_of parts) c.in-Some.hint = rw c.self.view_is (c.if-not-present.ensures.0 refl) in
     let above : image_at (core_of parts) c.in-Some.hint.to_pixel < c.in-Some.hint.value =
     subst (λ v. v < c.in-Some.hint.value) c.get.ensures c.if-get-hint.false in
     let home = (goes_to_tile parts c.self.invariant c.args.tile c.args.i c.in-Some.hint there).tile in
     let work : c.mark_dirty.new.self
     ≡ (raised (without_hint (core_of parts) c.args.tile c.args.i) c.in-Some.hint).tiles =
-    c.mark_dirty.ensures
-    ∙ ap (λ (work : List TileWork). slice_set work c.args.tile
+    c.mark_dirty.ensures ∙ ap (λ (work : List TileWork). slice_set work c.args.tile
     (record (slice_index_or work c.args.tile idle) { dirty = true })) c.remove_hint.ensures
     ∙ ap (λ t. (with_work (without_hint (core_of parts) c.args.tile c.args.i) t
     (record (work_at (without_hint (core_of parts) c.args.tile c.args.i) t) { dirty = true })).tiles) (sym home) in
-    subst (λ core. IsHanded core c.args.tile c.args.i Raised (core_of (record parts {
-      image = c.set.new.self;
-      work = c.mark_dirty.new.self;
-    }))) c.self.view_is (
+    rw (← c.self.view_is) (
       c.in-Some.hint,
       there,
       present,

@@ -18,8 +18,7 @@ loop-smaller c = elim c.hand_first.ensures [
 
 pub loop-preserved : goal.loop-preserved
 loop-preserved c = elim c.hand_first.ensures [
-  | inl (found, first) ↦
-      one_more_handed c.args.self.now c.loop.self c.hand_first.new.self c.loop.invariant first
+  | inl (found, first) ↦ one_more_handed c.args.self.now c.loop.self c.hand_first.new.self c.loop.invariant first
   | inr (missing, same, none) ↦ let e : true ≡ false = sym c.loop-test.true ∙ missing in absurd cc
 ]
 

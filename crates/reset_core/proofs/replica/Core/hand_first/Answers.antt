@@ -1,8 +1,6 @@
 use Rattle.std.proofs.Common.{refl, subst, inl}
-use Rattle.core_rules.specs.Work.{Core}
-use Rattle.core_rules.specs.Runs.{HasHints}
+use Rattle.core_rules.specs.{Work.Core, Runs.HasHints, Invariant.IsSound}
 use Rattle.border_queues.specs.TileWork.{IsLeast}
-use Rattle.core_rules.specs.Invariant.{IsSound}
 use Rattle.reset_core.proofs.Settling.{first_handed}
 use Rattle.reset_core.proofs.replica.Core.hand_first.Goals as goal
 

@@ -2,8 +2,8 @@
 use Rattle.std.proofs.Common.{sym, subst}
 use Rattle.grid_core.specs.Rects.{IsPart}
 use Rattle.reset_core.proofs.Masking.{shared_part, all_fits, part_by_cut, cut_by_part}
-use Rattle.reset_core.proofs.replica.Core.has_mask.Goals as goal
 use Rattle.reset_core.proofs.replica.Core.has_mask.Goals.{In-Some}
+use Rattle.reset_core.proofs.replica.Core.has_mask.Goals as goal
 
 -- the mask that was cut out is the part of the mask in the tile's rectangle
 is_cut : (c : In-Some) → IsPart c.rect-rect.result c.args.self.now.mask c.in-Some.mask.now

@@ -1,15 +1,11 @@
 -- What the tactics leave open of `hints_by`.
-use Rattle.std.specs.Prelude.{All}
-use Rattle.std.proofs.Common.{◌∙◌, ◌<◌, ap, subst, sym, arith}
-use Rattle.grid_core.specs.Tiles.{count_of}
+use Rattle.std.proofs.Common.{◌∙◌, ◌<◌, ap, subst, arith}
+use Rattle.grid_core.specs.{Tiles.count_of, Raster.value_at}
 use Rattle.border_queues.specs.OpenEdges.{with_tile}
-use Rattle.grid_core.specs.Raster.{value_at}
 use Rattle.tile_generations.specs.declared.ticket.Ticket.{Ticket}
-use Rattle.core_rules.specs.Invariant.{IsSound}
-use Rattle.core_rules.specs.Sweeps.{sender_of}
-use Rattle.core_rules.specs.Work as work
-use Rattle.tile_work.specs.WorkTable.{IsToTouching}
+use Rattle.core_rules.specs.{Invariant.IsSound, Sweeps.sender_of}
 use Rattle.reset_core.proofs.Sweeping.{told_are_edges, hints_once_joined, edges_touch}
+use Rattle.core_rules.specs.Work as work
 use Rattle.reset_core.proofs.replica.Core.hints_by.Goals as goal
 
 pub returns-in-Ok : goal.returns-in-Ok
@@ -26,16 +22,13 @@ returns-in-Ok c =
     c.generation-generation.result c.mask-mask.result.now raised c.new-inbox.result.hints c.open_edges.new.out.hints
     c.mask-mask.ensures.value tile_is c.generation-generation.ensures.value c.new-inbox.ensures c.in-Ok.ensures.hints in
     let sound = subst IsSound c.self.view_is c.self.invariant.sound in
-    let count = sound.shape.tiles in
-    let within : t < count_of (work.tiling core) = omega (arith, c.requires.known.is_tile, count) in
+    let within : t < count_of (work.tiling core) = omega (arith, c.requires.known.is_tile, sound.shape.tiles) in
     record {
-      hints = λ after joined.
-          told
+      hints = λ after joined. told
           ∙ hints_once_joined core after t c.args.swept.now.pixels raised sound c.requires.known.is_tile
           c.requires.raised joined c.same_image_same_edges.ensures;
       touching =
-          subst (λ hs. All (IsToTouching (work.tiling core) t) hs) (sym told)
-          (edges_touch c.edges_are_open.ensures
+          rw told (edges_touch c.edges_are_open.ensures
           (record (sender_of core t) { image = with_tile (work.tiling core) t (value_at raised) (work.image_at core) })
           sound.shape.tiled within);
     }

@@ -1,12 +1,7 @@
 -- What the tactics leave open of `join`.
-use Rattle.std.specs.Prelude.{All}
-use Rattle.std.proofs.Common.{◌≡◌, List, slice_set, ap, subst, sym, ◌∙◌}
-use Rattle.grid_core.specs.declared.bounds.Bounds.{Bounds}
+use Rattle.std.proofs.Common.{◌≡◌, slice_set, ap, ◌∙◌}
 use Rattle.grid_core.specs.Bounds.{bounds_of}
-use Rattle.reset_core.specs.Replica.{IsStored}
-use Rattle.grid_core.specs.Tiles.{Tiles}
 use Rattle.tile_generations.specs.declared.ticket.Ticket.{Ticket}
-use Rattle.tile_work.specs.WorkTable.{IsToTouching}
 use Rattle.reset_core.proofs.Sweeping.{tiling_is, stored_below, parts_joined, joined_is_stored}
 use Rattle.reset_core.proofs.replica.Core.join.Goals as goal
 
@@ -20,9 +15,7 @@ receive-requires-clause-touching c =
     let tiles = tiling_is parts core c.tiling-tiling.result c.self.view_is tiling.value tiling.width tiling.height in
     let t = swept.job.ticket.tile in
     let hints = c.in_ok-hints.hints.hints in
-    subst (λ hs. All (IsToTouching c.tiling-tiling.result c.ticket-tile.result.tile) hs) (sym c.as_slice.ensures)
-    (subst (λ n. All (IsToTouching c.tiling-tiling.result n) hints) (sym tile_is)
-    (subst (λ (ts : Tiles). All (IsToTouching ts t) hints) (sym tiles) c.in_ok-hints.ensures.touching))
+    rw (c.as_slice.ensures, tile_is, tiles) c.in_ok-hints.ensures.touching
 
 pub raise_part-requires-clause-above : goal.raise_part-requires-clause-above
 raise_part-requires-clause-above c is_unchanged =
@@ -39,15 +32,9 @@ invariant_of-self-2 c =
     let tile_is = ap (λ (k : Ticket). k.tile) c.ticket-tile.ensures in
     let tiling = c.tiling-tiling.ensures in
     let tiles = tiling_is parts core c.tiling-tiling.result c.self.view_is tiling.value tiling.width tiling.height in
-    let bounds : c.set.new.self
-    ≡ slice_set parts.bounds c.ticket-tile.result.tile (bounds_of c.rect-rect.result) =
+    let bounds : c.set.new.self ≡ slice_set parts.bounds c.ticket-tile.result.tile (bounds_of c.rect-rect.result) =
     c.set.ensures ∙ ap (slice_set parts.bounds c.ticket-tile.result.tile) c.of.ensures in
-    subst (λ (table : List Bounds). IsStored (record parts {
-      image = c.raise_part.new.whole;
-      work = c.end_job.new.self;
-      bounds = table;
-    })) (sym bounds) (joined_is_stored parts core swept c.tiling-tiling.result c.ticket-tile.result.tile
-    c.rect-rect.result
+    rw bounds (joined_is_stored parts core swept c.tiling-tiling.result c.ticket-tile.result.tile c.rect-rect.result
     c.pixels.result.now c.raise_part.new.whole c.receive.new.self c.end_job.new.self c.in_ok-hints.hints.hints
     c.as_slice.result.now c.self.view_is tiles tile_is c.rect-rect.ensures.rect c.pixels.ensures.value
     c.raise_part.ensures c.in_ok-hints.ensures.touching c.as_slice.ensures c.in_ok-receive.ensures.ok c.end_job.ensures

@@ -1,15 +1,11 @@
 -- What the tactics leave open of `judge`.
 use Rattle.std.proofs.Common.{◌≡◌, true, false, refl, sym, ◌∙◌, subst}
-use Rattle.core_rules.specs.declared.error.CoreError.TheVariants as errors
-use Rattle.core_rules.specs.Work.{Core}
-use Rattle.core_rules.specs.Merge.{IsRefused, IsAcceptable}
-use Rattle.reset_core.specs.declared.replica.Core.TheInside.{Inside as Parts}
-use Rattle.reset_core.specs.Replica.{core_of}
-use Rattle.reset_core.specs.MergeSteps.{IsMarked}
+use Rattle.core_rules.specs.{Work.Core, Merge.IsRefused, Merge.IsAcceptable}
+use Rattle.reset_core.specs.{declared.replica.Core.TheInside.Inside as Parts, Replica.core_of, MergeSteps.IsMarked}
 use Rattle.reset_core.proofs.MergeSteps.{hits_are_marked, spent_is_refused, unspent_is_acceptable}
-use Rattle.reset_core.proofs.Sweeping.{tiling_is}
+use Rattle.reset_core.proofs.{Sweeping.tiling_is, replica.Core.judge.Goals.After-mark_hits}
+use Rattle.core_rules.specs.declared.error.CoreError.TheVariants as errors
 use Rattle.reset_core.proofs.replica.Core.judge.Goals as goal
-use Rattle.reset_core.proofs.replica.Core.judge.Goals.{After-mark_hits}
 
 -- the parts that the core was stored as
 abbrev parts_before : After-mark_hits → Parts

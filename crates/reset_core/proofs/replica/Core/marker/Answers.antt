@@ -1,10 +1,8 @@
 -- What the tactics leave open of `marker`.
-use Rattle.std.proofs.Common.{◌≡◌}
+use Rattle.std.proofs.Common.{◌≡◌, subst}
 use Rattle.marker_tiles.specs.Kept.{IsMarkerOf}
-use Rattle.core_rules.specs.Work.{tiling}
+use Rattle.core_rules.specs.Work.{tiling, Core}
 use Rattle.reset_core.specs.Replica.{core_of}
-use Rattle.std.proofs.Common.{subst}
-use Rattle.core_rules.specs.Work.{Core}
 use Rattle.reset_core.proofs.Storing.{same_tiling}
 use Rattle.reset_core.proofs.replica.Core.marker.Goals as goal
 

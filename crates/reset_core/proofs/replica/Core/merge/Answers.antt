@@ -2,24 +2,18 @@
 use Rattle.std.proofs.Common.{◌≡◌, true, false, refl, sym, ap, ◌∙◌, subst, inl, inr, replicate, arith}
 use Rattle.std.proofs.lemmas.Result.{err_from_is_err_and}
 use Rattle.grid_core.specs.Tiles.{count_of}
-use Rattle.marker_tiles.specs.Kept.{IsMarkerOf}
-use Rattle.core_rules.specs.declared.error.CoreError.TheVariants as errors
-use Rattle.core_rules.specs.Work.{Core, tiling}
-use Rattle.core_rules.specs.Merge.{IsMerged, IsRefused, IsAcceptable}
-use Rattle.reset_core.specs.Bounding.{FollowChange}
-use Rattle.reset_core.specs.declared.replica.Core.TheInside.{Inside as Parts}
-use Rattle.stroke_lattice.specs.State.{State}
-use Rattle.reset_core.specs.Replica.{core_of, IsStored}
-use Rattle.reset_core.proofs.Storing.{unmarked_is_stored}
-use Rattle.reset_core.specs.MergeSteps.{IsMarked, IsGrown, IsImageRenewed, IsRenewed}
-use Rattle.reset_core.proofs.MergeSteps.{hits_are_marked, join_fits, exactly_this}
-use Rattle.reset_core.proofs.MergeSteps.{spent_is_refused, unspent_is_acceptable, marked_are_unspent}
-use Rattle.reset_core.proofs.MergeSteps.{marker_below_image, renewed_is_merged, renewed_is_stored}
+use Rattle.core_rules.specs.{Work.Core, Work.tiling, Merge.IsMerged, Merge.IsRefused, Merge.IsAcceptable}
+use Rattle.reset_core.specs.{declared.replica.Core.TheInside.Inside as Parts}
+use Rattle.reset_core.specs.Replica.{core_of}
+use Rattle.reset_core.specs.MergeSteps.{IsMarked, IsGrown, IsRenewed}
+use Rattle.reset_core.proofs.{Storing.unmarked_is_stored, Sweeping.tiling_is}
+use Rattle.reset_core.proofs.MergeSteps.{hits_are_marked, join_fits, exactly_this, spent_is_refused}
+use Rattle.reset_core.proofs.MergeSteps.{unspent_is_acceptable, marked_are_unspent, marker_below_image}
+use Rattle.reset_core.proofs.MergeSteps.{renewed_is_merged, renewed_is_stored}
+use Rattle.reset_core.proofs.replica.Core.merge.Goals.{After-mark_hits, After-clear, After-renew, After-into}
 use Rattle.core_rules.proofs.Resets.{refused_is_not_acceptable}
-use Rattle.reset_core.proofs.Sweeping.{tiling_is}
+use Rattle.core_rules.specs.declared.error.CoreError.TheVariants as errors
 use Rattle.reset_core.proofs.replica.Core.merge.Goals as goal
-use Rattle.reset_core.proofs.replica.Core.merge.Goals.{After-mark_hits, After-clear}
-use Rattle.reset_core.proofs.replica.Core.merge.Goals.{After-renew, After-into}
 
 -- the parts that the core was stored as
 abbrev parts_before : After-mark_hits → Parts
@@ -68,8 +62,7 @@ is_acceptable c =
     (λ spent. let no : true ≡ false = sym (c.is_one_spent.ensures.1 spent) ∙ c.if-is_one_spent.false in cc))
 
 pub returns-in-Err-clause-refused : goal.returns-in-Err-clause-refused
-returns-in-Err-clause-refused c =
-    inr (c.into.ensures, is_acceptable c)
+returns-in-Err-clause-refused c = inr (c.into.ensures, is_acceptable c)
 
 pub returns-in-Err-clause-exactly : goal.returns-in-Err-clause-exactly
 returns-in-Err-clause-exactly c = λ e refused.
@@ -78,11 +71,7 @@ returns-in-Err-clause-exactly c = λ e refused.
 pub invariant_of-self-in-Err : goal.invariant_of-self-in-Err
 invariant_of-self-in-Err c =
     let at = (goal.at.returns-in-Err-clause-refused c).After-mark_hits in
-    subst (λ (s : State). IsStored (record c.self.inside {
-      state = s;
-      marks = c.clear-in-Err.new.self;
-      queue = c.mark_hits.new.queue;
-    })) (sym c.in-Err.ensures.err)
+    rw c.in-Err.ensures.err
     (unmarked_is_stored c.self.inside c.clear-in-Err.new.self c.mark_hits.new.queue c.self.invariant
     (c.clear-in-Err.ensures
     ∙ ap (λ n. replicate n false) ((is_marked at).count ∙ sym c.self.invariant.sound.shape.tiles))
@@ -156,19 +145,10 @@ is_renewed c =
       grown = record {
         join = c.in-Ok.ensures.join;
         change = c.in-Ok.ensures.change;
-        marker_is =
-            subst (λ mask. IsMarkerOf mask c.join.new.self c.renew.new.markers.marker)
-            c.renew.ensures.renewed.marker.mask
-            c.renew.ensures.renewed.marker.marker;
+        marker_is = rw c.renew.ensures.renewed.marker.mask at c.renew.ensures.renewed.marker.marker;
       };
-      image =
-          subst (λ tiles. IsImageRenewed tiles c.mark_hits.new.marks c.in-Ok.change c.join.new.self
-          c.renew.new.markers.marker c.self.inside.image c.renew.new.image c.self.inside.work c.renew.new.work)
-          (sym c.tiling-tiling.ensures.value ∙ tiles_are at) c.renew.ensures.renewed.image_is;
-      bounds =
-          subst (λ tiles. FollowChange tiles c.self.inside.conn c.self.inside.image c.renew.new.image
-          c.self.inside.bounds c.renew.new.bounds) (sym c.tiling-tiling.ensures.value ∙ tiles_are at)
-          (c.renew.ensures.bounds c.self.inside.conn);
+      image = rw (sym c.tiling-tiling.ensures.value ∙ tiles_are at) at c.renew.ensures.renewed.image_is;
+      bounds = rw (sym c.tiling-tiling.ensures.value ∙ tiles_are at) at (c.renew.ensures.bounds c.self.inside.conn);
       cleared = c.renew.ensures.renewed.marks_are;
       queue = c.mark_hits.ensures.queue;
       mask = c.renew.ensures.renewed.marker.mask;

@@ -1,10 +1,7 @@
 -- What the tactics leave open of `next_job`.
 use Rattle.std.proofs.Common.{ap, subst}
 use Rattle.std.specs.Arc.{arc_value}
-use Rattle.grid_core.specs.Raster.{Raster}
-use Rattle.core_rules.specs.Image.{IsPart}
-use Rattle.core_rules.specs.Invariant.{IsSound}
-use Rattle.core_rules.specs.Work.{Core}
+use Rattle.core_rules.specs.{Invariant.IsSound, Work.Core}
 use Rattle.reset_core.proofs.Sweeping.{base_is_below}
 use Rattle.reset_core.proofs.replica.Core.next_job.Goals as goal
 
@@ -15,6 +12,4 @@ new-requires c =
     let image = ap (λ (r : Core). r.image) c.self.view_is in
     let sound = subst IsSound c.self.view_is c.self.invariant.sound in
     base_is_below core c.args.tile c.in_ok-base.base (arc_value c.args.mask) sound c.requires.is_tile
-    (subst (λ r. IsPart r core.image c.in_ok-base.base) rect
-    (subst (λ (w : Raster). IsPart c.rect-rect.result w c.in_ok-base.base) image c.in_ok-base.ensures))
-    c.requires.mask
+    (rw (image, rect) at c.in_ok-base.ensures) c.requires.mask

@@ -1,8 +1,7 @@
 -- What the tactics leave open of `next_out`.
 use Rattle.std.proofs.Common.{subst}
 use Rattle.core_rules.specs.Work.{Core}
-use Rattle.tile_work.specs.Least.{IsLeastFrom}
-use Rattle.tile_work.specs.WorkTable.{HasJobOut}
+use Rattle.tile_work.specs.{Least.IsLeastFrom, WorkTable.HasJobOut}
 use Rattle.reset_core.proofs.replica.Core.next_out.Goals as goal
 
 pub returns : goal.returns

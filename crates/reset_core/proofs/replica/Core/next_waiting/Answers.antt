@@ -1,7 +1,6 @@
 -- What the tactics leave open of `next_waiting`.
 use Rattle.std.proofs.Common.{subst}
-use Rattle.core_rules.specs.Work.{Core}
-use Rattle.core_rules.specs.Runs.{HasHints}
+use Rattle.core_rules.specs.{Work.Core, Runs.HasHints}
 use Rattle.tile_work.specs.Least.{IsLeastFrom}
 use Rattle.reset_core.proofs.replica.Core.next_waiting.Goals as goal
 

@@ -1,10 +1,8 @@
 -- What the tactics leave open of `over`.
 use Rattle.std.proofs.Common.{refl, ◌∙◌, ap, subst, replicate, false, None}
-use Rattle.grid_core.specs.Tiles.{Tiles, IsTiled, count_of}
+use Rattle.grid_core.specs.{Tiles.Tiles, Tiles.IsTiled, Tiles.count_of, Bounds.no_bounds}
 use Rattle.border_queues.specs.TileWork.{fresh}
-use Rattle.reset_core.specs.declared.replica.Beginning.{Beginning}
-use Rattle.grid_core.specs.Bounds.{no_bounds}
-use Rattle.reset_core.specs.Replica.{begun}
+use Rattle.reset_core.specs.{declared.replica.Beginning.Beginning, Replica.begun}
 use Rattle.reset_core.proofs.Storing.{is_opened, opened_is_stored}
 use Rattle.reset_core.proofs.replica.Core.over.Goals as goal
 

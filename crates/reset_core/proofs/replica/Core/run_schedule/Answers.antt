@@ -8,9 +8,7 @@ use Rattle.reset_core.proofs.replica.Core.run_schedule.Goals as goal
 
 pub returns-in_err-tally-clause-stopped : goal.returns-in_err-tally-clause-stopped
 returns-in_err-tally-clause-stopped c =
-    let some = c.in_err-tally.ensures.some in
-    let count = c.count_edits.ensures in
-    on_err c.from_residual.result (inl (omega (arith, some, count), refl))
+    on_err c.from_residual.result (inl (omega (arith, c.in_err-tally.ensures.some, c.count_edits.ensures), refl))
 
 pub loop-i-init : goal.loop-i-init
 loop-i-init c =
@@ -20,18 +18,15 @@ loop-i-init c =
     )
 
 pub run_step-requires-clause-few : goal.run_step-requires-clause-few
-run_step-requires-clause-few c =
-    let few = c.loop-i.invariant.0.few in
-    omega (arith, few)
+run_step-requires-clause-few c = omega (arith, c.loop-i.invariant.0.few)
 
 pub run_step-requires-clause-room : goal.run_step-requires-clause-room
 run_step-requires-clause-room c =
     let all = c.args.steps.now in
     let i = c.loop-i.i in
     let step = c.index-steps-i.result in
-    let next = next_edits all i step (omega arith) c.index-steps-i.is in
     room_for_fewer c.loop-i.tally (edits_of (drop i all)) (edits_of (step ∷ [])) c.loop-i.invariant.1
-    (omega (arith, next))
+    (omega (arith, next_edits all i step (omega arith) c.index-steps-i.is))
 
 pub loop-i-preserved : goal.loop-i-preserved
 loop-i-preserved c =
@@ -42,8 +37,7 @@ loop-i-preserved c =
       one_more_run c.args.self.now all i c.loop-i.self c.run_step.new.self (kept_of c.loop-i.tally)
           (kept_of c.run_step.new.tally) step c.loop-i.invariant.0 (omega arith) c.index-steps-i.is
           c.in_ok-run_step.ensures.step c.run_step.ensures.keeps.few,
-      c.run_step.ensures.keeps.room (edits_of (drop (i + 1) all)) (subst (HasRoom c.loop-i.tally) next
-          c.loop-i.invariant.1),
+      c.run_step.ensures.keeps.room (edits_of (drop (i + 1) all)) (rw next at c.loop-i.invariant.1),
     )
 
 pub returns-in_err-run_step-clause-stopped : goal.returns-in_err-run_step-clause-stopped

@@ -12,30 +12,27 @@ sweep_all-requires c = record {
 pub returns-in_err-jobs-clause-cut_short : goal.returns-in_err-jobs-clause-cut_short
 returns-in_err-jobs-clause-cut_short c =
     let cleared = c.abandon_all-abandons in
-    let handed = c.hand_all.ensures.handed in
     let failed = c.in_err-jobs.ensures in
     let (log, cut, none_taken) =
-    cut_before_sweeps c.args.self.now cleared.new.self c.hand_all.new.self c.sweep_all.new.self cleared.ensures.clears
-    (handed.log, handed.works, handed.none_taken) handed.none_out failed.dirty failed.err in
+    cut_before_sweeps c.args.self.now cleared.new.self c.hand_all.new.self cleared.ensures.clears
+    c.hand_all.ensures.handed c.sweep_all.new.self failed.dirty failed.err in
     on_err c.from_residual.result (log, cut)
 
 pub returns-in_err-jobs-clause-some_work : goal.returns-in_err-jobs-clause-some_work
 returns-in_err-jobs-clause-some_work c =
     let cleared = c.abandon_all-abandons in
-    let handed = c.hand_all.ensures.handed in
     on_err c.from_residual.result
     (some_work_before c.args.self.now cleared.new.self c.hand_all.new.self cleared.ensures.clears
-    (handed.log, handed.works, handed.none_taken) c.in_err-jobs.ensures.dirty)
+    c.hand_all.ensures.handed c.in_err-jobs.ensures.dirty)
 
 pub returns-clause-settled : goal.returns-clause-settled
 returns-clause-settled c =
     let cleared = c.abandon_all-abandons in
-    let handed = c.hand_all.ensures.handed in
     let worked = c.in_ok-jobs in
     let settled =
-    settled_by c.args.self.now cleared.new.self c.hand_all.new.self c.sweep_all.new.self worked.jobs cleared.result
-    cleared.ensures.clears cleared.ensures.count (handed.log, handed.works, handed.none_taken)
-    worked.ensures.works.works worked.ensures.works.quiet in
+    settled_by c.args.self.now cleared.new.self c.hand_all.new.self cleared.ensures.clears c.hand_all.ensures.handed
+    c.sweep_all.new.self worked.jobs cleared.result cleared.ensures.count worked.ensures.works.works
+    worked.ensures.works.quiet in
     let within =
     settled_within_work c.settling_is_within_work.ensures c.args.self.now c.sweep_all.new.self worked.jobs
     cleared.result c.soundness.ensures settled in

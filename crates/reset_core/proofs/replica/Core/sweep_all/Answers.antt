@@ -1,6 +1,5 @@
 use Rattle.std.proofs.Common.{[], refl, subst, arith}
-use Rattle.core_rules.specs.Work.{Core}
-use Rattle.core_rules.specs.Runs.{IsDirty}
+use Rattle.core_rules.specs.{Work.Core, Runs.IsDirty}
 use Rattle.reset_core.proofs.Settling.{quiet_from, all_worked_off}
 use Rattle.reset_core.proofs.replica.Core.sweep_all.Goals as goal
 

@@ -1,7 +1,5 @@
-use Rattle.std.proofs.Common.{subst, arith}
-use Rattle.std.proofs.lemmas.Grind.{common_steps}
-use Rattle.core_rules.specs.Work.{Core}
-use Rattle.core_rules.specs.Runs.{IsDirty}
+use Rattle.std.proofs.{Common.subst, Common.arith, lemmas.Grind.common_steps}
+use Rattle.core_rules.specs.{Work.Core, Runs.IsDirty}
 use Rattle.reset_core.proofs.Settling.{quiet_from, none_swept}
 use Rattle.reset_core.proofs.replica.Core.sweep_within.Goals as goal
 

@@ -1,40 +1,29 @@
 -- What the tactics leave open of `work_off`.
-use Rattle.std.proofs.Common.{◌≡◌, ◌<◌, ◌≤◌, false, arith, slice_index_or, ℕ, List, length, set, get_or, ◌∙◌, sym}
-use Rattle.std.proofs.Common.{ap, subst}
-use Rattle.std.proofs.lemmas.List.{length-set}
-use Rattle.std.proofs.lemmas.Grind.{common_steps}
-use Rattle.grid_core.specs.declared.pixel.Pixel.{Pixel}
-use Rattle.grid_core.specs.declared.rect.Rect.{Rect}
-use Rattle.grid_core.specs.Raster.{Raster, IsInside, IsBelow, value_at}
-use Rattle.grid_core.specs.Reconstruction.{IsReconstruction}
-use Rattle.grid_core.specs.Rects.{IsInRect, domain_in, part}
-use Rattle.grid_core.specs.Tiles.{Tiles, count_of, rect_of}
+use Rattle.std.proofs.Common.{◌≡◌, ◌<◌, ◌≤◌, false, arith, slice_index_or, ℕ, List, length, set, get_or, ◌∙◌, sym, ap}
+use Rattle.std.proofs.Common.{subst}
+use Rattle.std.proofs.{lemmas.List.length-set, lemmas.Grind.common_steps}
+use Rattle.grid_core.specs.{declared.pixel.Pixel.Pixel, declared.rect.Rect.Rect, Reconstruction.IsReconstruction}
+use Rattle.grid_core.specs.{Rects.IsInRect, Rects.domain_in, Rects.part, Tiles.Tiles, Tiles.count_of, Tiles.rect_of}
+use Rattle.grid_core.specs.{Path.Inside, Bounds.no_bounds}
+use Rattle.grid_core.specs.Raster.{Raster, IsInside, value_at}
 use Rattle.grid_core.proofs.Tilings.{each_pixel_in_one_tile, neighbours_lie_in_touching_tiles}
-use Rattle.border_queues.specs.OpenEdges.{EdgesBeginIn, open_edges, sender_by}
-use Rattle.grid_core.specs.Path.{Inside}
-use Rattle.core_rules.specs.Work.{Core, domain, tiling, image_at, IsTile, work_at}
+use Rattle.border_queues.specs.OpenEdges.{open_edges}
 use Rattle.border_queues.specs.TileWork.{TileWork, idle, work_of}
-use Rattle.grid_core.specs.Bounds.{LieIn, no_bounds}
-use Rattle.raster_sweeps.specs.OpenBounds.{OpenPairsBeginIn, RiseWithin}
-use Rattle.tile_work.specs.OpenBounds.{bounds_for}
-use Rattle.reset_core.specs.Bounding.{FollowChange}
+use Rattle.core_rules.specs.Work.{Core, domain, tiling, image_at, IsTile, work_at}
 use Rattle.core_rules.specs.Sweeps.{tile_rect, hints_of, sender_of}
-use Rattle.core_rules.specs.Events.{Take}
-use Rattle.core_rules.specs.Runs.{IsNext}
-use Rattle.reset_core.specs.declared.replica.Core.TheInside.{Inside as Parts}
-use Rattle.reset_core.specs.Replica.{core_of}
-use Rattle.reset_core.specs.Bounding.{AreBounded}
+use Rattle.core_rules.specs.{Events.Take, Runs.IsNext, Invariant.IsSound}
+use Rattle.raster_sweeps.specs.OpenBounds.{RiseWithin}
+use Rattle.tile_work.specs.OpenBounds.{bounds_for}
+use Rattle.reset_core.specs.Bounding.{FollowChange, AreBounded}
+use Rattle.reset_core.specs.{declared.replica.Core.TheInside.Inside as Parts, Replica.core_of, Settling.IsOneWorkedOff}
 use Rattle.reset_core.specs.Telling.{ImageAndWork, image_and_work, all_handed, AreTold}
-use Rattle.reset_core.specs.Settling.{IsOneWorkedOff}
-use Rattle.core_rules.specs.Invariant.{IsSound}
 use Rattle.core_rules.proofs.Cores.{work_there}
 use Rattle.reset_core.proofs.Bounding.{begins_in_tile, edges_begin, swept_bounded}
 use Rattle.reset_core.proofs.Storing.{image_below_mask, stored_still}
-use Rattle.reset_core.proofs.TellingHands.{work_elsewhere_stays}
-use Rattle.reset_core.proofs.TellingOrder.{told_by}
+use Rattle.reset_core.proofs.{TellingHands.work_elsewhere_stays, TellingOrder.told_by}
 use Rattle.reset_core.proofs.TellingSweeps.{IsGrownAt, clean, grown_core, one_step, rises, worked_parts}
-use Rattle.reset_core.proofs.replica.Core.work_off.Goals as goal
 use Rattle.reset_core.proofs.replica.Core.work_off.Goals.{After-rect, After-tell}
+use Rattle.reset_core.proofs.replica.Core.work_off.Goals as goal
 
 -- ---- the core before
 
@@ -46,8 +35,7 @@ is_next_of c = subst (λ core. IsNext core (Take c.args.tile)) (sym c.self.view_
 
 tiling_of : (c : After-rect) → c.tiling-tiling.result ≡ tiling (core_of (stored c))
 tiling_of c =
-    c.tiling-tiling.ensures.value
-    ∙ (λ i. record {
+    c.tiling-tiling.ensures.value ∙ (λ i. record {
       width = c.tiling-tiling.ensures.width i;
       height = c.tiling-tiling.ensures.height i;
       side = c.self.inside.markers.tiling.side;
@@ -63,32 +51,22 @@ pub grow_from_bounds-area-requires-clause-grow : goal.grow_from_bounds-area-requ
 grow_from_bounds-area-requires-clause-grow c =
     let at = (goal.at.grow_from_bounds-area-requires-clause-grow c).After-rect in
     record {
-      below =
-          subst (IsBelow c.self.inside.image) (sym c.mask-mask.ensures.value)
-          (image_below_mask (core_of (stored at)) c.self.invariant.sound);
+      below = rw c.mask-mask.ensures.value (image_below_mask (core_of (stored at)) c.self.invariant.sound);
       fits = grind (arith, common_steps);
     }
 
 pub grow_from_bounds-area-requires-clause-bounds : goal.grow_from_bounds-area-requires-clause-bounds
 grow_from_bounds-area-requires-clause-bounds c =
     let at = (goal.at.grow_from_bounds-area-requires-clause-bounds c).After-rect in
-    subst (λ bounds. OpenPairsBeginIn c.self.inside.conn c.rect.result c.mask-mask.result.now c.self.inside.image
-    bounds)
-    (sym c.get.ensures)
-    (subst (λ rect. OpenPairsBeginIn c.self.inside.conn rect c.mask-mask.result.now c.self.inside.image
-    (bounds_for c.self.inside.bounds c.args.tile)) (sym (rect_of_tile at))
-    (subst (λ mask. OpenPairsBeginIn c.self.inside.conn (tile_rect (core_of (stored at)) c.args.tile) mask
-    c.self.inside.image (bounds_for c.self.inside.bounds c.args.tile)) (sym c.mask-mask.ensures.value)
+    rw (c.get.ensures, rect_of_tile at, c.mask-mask.ensures.value)
     (begins_in_tile (core_of (stored at)) c.self.inside.bounds c.args.tile c.self.invariant.sound.shape.tiled
-    c.self.invariant.bounded (is_tile_of at))))
+    c.self.invariant.bounded (is_tile_of at))
 
 pub grow_from_bounds-area-requires-clause-lie : goal.grow_from_bounds-area-requires-clause-lie
 grow_from_bounds-area-requires-clause-lie c =
     let at = (goal.at.grow_from_bounds-area-requires-clause-lie c).After-rect in
-    subst (λ bounds. LieIn bounds c.rect.result) (sym c.get.ensures)
-    (subst (LieIn (bounds_for c.self.inside.bounds c.args.tile)) (sym (rect_of_tile at))
-    (c.self.invariant.bounded.lie c.args.tile
-    (omega (arith, is_tile_of at, c.self.invariant.bounded.count))))
+    rw (c.get.ensures, rect_of_tile at) (c.self.invariant.bounded.lie c.args.tile
+    (omega (arith, is_tile_of at, c.self.invariant.bounded.count)))
 
 -- ---- the same, once the tile is swept
 
@@ -129,9 +107,7 @@ grown c =
           subst (λ rect. to_rect rect c.self.inside.markers.mask) (rect_is c)
           (subst (λ mask. to_rect c.rect.result mask) c.mask-mask.ensures.value
           c.grow_from_bounds-area.ensures.regrown.reconstruction);
-      beyond =
-          subst (λ rect. (p : Pixel) → IsInside old.width old.height p → (IsInRect rect p → ⊥)
-          → value_at new p ≡ value_at old p) (rect_is c) c.grow_from_bounds-area.ensures.regrown.patch.beyond;
+      beyond = rw (rect_is c) at c.grow_from_bounds-area.ensures.regrown.patch.beyond;
     }
 
 abbrev middle : After-tell → Core
@@ -149,8 +125,7 @@ cleaned c = c.mark_clean.ensures
 generation_is : (c : After-tell)
     → (get_or c.mark_clean.new.self c.args.tile idle).generation ≡ (work_at (before c) c.args.tile).generation
 generation_is c =
-    ap (λ rows. (get_or rows c.args.tile idle).generation) (cleaned c)
-    ∙ ap (λ (w : TileWork). w.generation)
+    ap (λ rows. (get_or rows c.args.tile idle).generation) (cleaned c) ∙ ap (λ (w : TileWork). w.generation)
     (work_there (before c) c.args.tile (clean (before c) c.args.tile) (is_tile c))
 
 told : (c : After-tell)
@@ -169,12 +144,7 @@ told c =
     let cleared = set c.self.inside.work c.args.tile (clean (before c) c.args.tile) in
     let mask = c.self.inside.markers.mask in
     let generation = (get_or c.mark_clean.new.self c.args.tile idle).generation in
-    subst (λ tiles. to tiles mask (work_at (before c) c.args.tile).generation cleared) (tiling_is c)
-    (subst (λ m. to c.tiling-tiling.result m (work_at (before c) c.args.tile).generation cleared)
-    c.mask-mask.ensures.value
-    (subst (λ g. to c.tiling-tiling.result c.mask-mask.result.now g cleared) (generation_is c)
-    (subst (λ rows. to c.tiling-tiling.result c.mask-mask.result.now generation rows) (cleaned c)
-    c.tell.ensures.hints)))
+    rw (generation_is c, cleaned c, c.mask-mask.ensures.value, tiling_is c) at c.tell.ensures.hints
 
 step : (c : After-tell) → IsOneWorkedOff (before c) c.args.tile (core_of (worked_parts (parts c) (reached c)))
     × IsSound (core_of (worked_parts (parts c) (reached c)))
@@ -189,19 +159,16 @@ clean_still c =
     let within : c.args.tile < count_of (tiling (before c)) = is_tile_of (early c) in
     let told_hints = told c in
     let kept : slice_index_or (all_handed (tiling (before c)) told_hints.by_tile (image_and_work (middle c))).rows
-    c.args.tile idle
-    ≡ slice_index_or (middle c).tiles c.args.tile idle =
+    c.args.tile idle ≡ slice_index_or (middle c).tiles c.args.tile idle =
     work_elsewhere_stays (tiling (before c)) told_hints.by_tile (image_and_work (middle c)) c.args.tile
     (λ hint there home.
     let by = told_by c.edges_are_open.ensures neighbours_lie_in_touching_tiles each_pixel_in_one_tile
     (record (sender_of (before c) c.args.tile) {
       image = value_at c.grow_from_bounds-area.new.image;
-    }) c.self.invariant.sound.shape.tiled within hint
-    (told_hints.sorted.those hint there) in
+    }) c.self.invariant.sound.shape.tiled within hint (told_hints.sorted.those hint there) in
     by.touching.other (sym home)) in
     ap (λ (s : ImageAndWork). (slice_index_or s.rows c.args.tile idle).dirty) (sym told_hints.over.result)
-    ∙ ap (λ (work : TileWork). work.dirty) kept
-    ∙ ap (λ (work : TileWork). work.dirty)
+    ∙ ap (λ (work : TileWork). work.dirty) kept ∙ ap (λ (work : TileWork). work.dirty)
     (work_there (before c) c.args.tile (clean (before c) c.args.tile) (is_tile c))
 
 never_falls : (c : After-tell) (p : Pixel) → Inside (domain (before c)) p
@@ -223,25 +190,17 @@ tell-requires-clause-area c =
     let beyond : (p : Pixel) → IsInside c.self.inside.image.width c.self.inside.image.height p
     → (IsInRect (tile_rect (core_of (stored at)) c.args.tile) p → ⊥)
     → value_at image p ≡ value_at c.self.inside.image p =
-    subst (λ rect. (p : Pixel) → IsInside c.self.inside.image.width c.self.inside.image.height p
-    → (IsInRect rect p → ⊥) → value_at image p ≡ value_at c.self.inside.image p) (rect_of_tile at) patch.beyond in
+    rw (rect_of_tile at) at patch.beyond in
     let rise : RiseWithin (tile_rect (core_of (stored at)) c.args.tile) c.self.inside.image image
     (bounds_for c.self.inside.bounds c.args.tile) area =
-    subst (λ rect. RiseWithin rect c.self.inside.image image (bounds_for c.self.inside.bounds c.args.tile) area)
-    (rect_of_tile at)
-    (subst (λ bounds. RiseWithin c.rect.result c.self.inside.image image bounds area) c.get.ensures
-    c.grow_from_bounds-area.ensures.rises) in
-    subst (λ (t : Tiles). EdgesBeginIn (sender_by t c.self.inside.conn (value_at c.mask-mask.result.now)
-    (value_at image) c.args.tile generation) area) (sym (tiling_of at))
-    (subst (λ (mask : Raster). EdgesBeginIn (sender_by tiles c.self.inside.conn (value_at mask) (value_at image)
-    c.args.tile generation) area) (sym c.mask-mask.ensures.value)
+    rw (c.get.ensures, rect_of_tile at) at c.grow_from_bounds-area.ensures.rises in
+    rw (tiling_of at, c.mask-mask.ensures.value)
     (edges_begin (core_of (stored at)) c.self.inside.bounds c.args.tile generation image area
     c.self.invariant.sound.shape.tiled c.self.invariant.sound.shape.image c.self.invariant.bounded (is_tile_of at)
-    beyond rise))
+    beyond rise)
 
 pub tell-requires-clause-lie : goal.tell-requires-clause-lie
-tell-requires-clause-lie c =
-    subst (LieIn c.grow_from_bounds-area.result) c.rect.ensures.value c.grow_from_bounds-area.ensures.lie
+tell-requires-clause-lie c = rw c.rect.ensures.value at c.grow_from_bounds-area.ensures.lie
 
 pub invariant_of-self : goal.invariant_of-self
 invariant_of-self c =
@@ -252,11 +211,8 @@ invariant_of-self c =
     let image = c.grow_from_bounds-area.new.image in
     let follow : FollowChange (tiling (before c)) c.self.inside.conn image c.tell.new.image
     (set c.self.inside.bounds c.args.tile no_bounds) c.tell.new.bounds =
-    subst (λ tiles. FollowChange tiles c.self.inside.conn image c.tell.new.image
-    (set c.self.inside.bounds c.args.tile no_bounds) c.tell.new.bounds) (tiling_is c)
-    (subst (λ table. FollowChange c.tiling-tiling.result c.self.inside.conn image c.tell.new.image table
-    c.tell.new.bounds) (c.set.ensures ∙ ap (set c.self.inside.bounds c.args.tile) c.none.ensures)
-    (c.tell.ensures.bounds c.self.inside.conn)) in
+    rw (c.set.ensures ∙ ap (set c.self.inside.bounds c.args.tile) c.none.ensures, tiling_is c) at
+    (c.tell.ensures.bounds c.self.inside.conn) in
     let bounded : AreBounded (core_of after) c.tell.new.bounds =
     swept_bounded (before c) c.args.tile image c.tell.new.image c.tell.new.work after.serial c.self.inside.bounds
     c.tell.new.bounds c.self.invariant.sound (step c).1 c.self.invariant.bounded (is_tile_of (early c))

@@ -1,10 +1,6 @@
-use Rattle.std.proofs.Common.{◌+◌, ◌≤◌, arith, Bool, List, subst, sym}
-use Rattle.border_queues.specs.OpenEdges.{room_for_edges}
-use Rattle.border_queues.specs.Waiting.{places}
-use Rattle.core_rules.specs.Work.{Core}
-use Rattle.core_rules.specs.Runs.{IsDirty}
-use Rattle.border_queues.specs.TileWork.{IsLeast}
-use Rattle.reset_core.specs.Settling.{AreWorkedOff}
+use Rattle.std.proofs.Common.{◌≤◌, arith, subst, sym}
+use Rattle.border_queues.specs.{OpenEdges.room_for_edges, Waiting.places, TileWork.IsLeast}
+use Rattle.core_rules.specs.{Work.Core, Runs.IsDirty}
 use Rattle.reset_core.proofs.Settling.{none_swept, one_more_swept, bounded_burden, quiet_from}
 use Rattle.reset_core.proofs.replica.Core.work_off_within.Goals as goal
 
@@ -30,27 +26,16 @@ pub insert-requires : goal.insert-requires
 insert-requires c =
     let least =
     subst (λ (core : Core). IsLeast (IsDirty core) c.in-Some.tile) c.self-in-loop-jobs.view_is c.in-Some.ensures in
-    let within = least.0.0 in
-    let tiles = c.loop-jobs.invariant.0.count in
-    let gained = c.loop-jobs.invariant.0.swept.count in
-    let count = c.requires.count in
-    omega (arith, within, tiles, gained, count)
+    omega (arith, least.0.0, c.loop-jobs.invariant.0.count, c.loop-jobs.invariant.0.swept.count, c.requires.count)
 
 pub loop-jobs-preserved : goal.loop-jobs-preserved
 loop-jobs-preserved c =
     let least =
     subst (λ (core : Core). IsLeast (IsDirty core) c.in-Some.tile) c.self-in-loop-jobs.view_is c.in-Some.ensures in
-    let within = least.0.0 in
-    let tiles = c.loop-jobs.invariant.0.count in
-    let gained = c.loop-jobs.invariant.0.swept.count in
-    let count = c.requires.count in (
-      subst
-          (λ (s : List Bool). AreWorkedOff c.args.self.now c.args.swept.now c.work_off.new.self s
-          (c.loop-jobs.jobs + 1))
-          (sym c.insert.ensures)
-          (one_more_swept c.args.self.now c.args.swept.now c.loop-jobs.self c.loop-jobs.swept c.loop-jobs.jobs
-          c.in-Some.tile c.work_off.new.self c.loop-jobs.invariant.0 c.work_off.ensures.worked.0
-          c.work_off.ensures.worked.1 (omega (arith, within, tiles, gained, count))),
+    let so_far = c.loop-jobs.invariant.0 in (
+      rw c.insert.ensures (one_more_swept c.args.self.now c.args.swept.now c.loop-jobs.self c.loop-jobs.swept
+          c.loop-jobs.jobs c.in-Some.tile c.work_off.new.self so_far c.work_off.ensures.worked.0
+          c.work_off.ensures.worked.1 (omega (arith, least.0.0, so_far.count, so_far.swept.count, c.requires.count))),
       subst (λ tiles. room_for_edges tiles ≤ places c.work_off.new.told) (sym c.work_off.ensures.worked.1)
           (omega (arith, c.loop-jobs.invariant.1, c.work_off.ensures.enough)),
     )
@@ -67,7 +52,5 @@ returns-in_default-clause-works c =
 
 pub returns-clause-few : goal.returns-clause-few
 returns-clause-few c =
-    let spent = c.loop-jobs.invariant.0.spent in
-    let most = bounded_burden c.args.self.now c.image.ensures.sized c.tiling.ensures.tiled c.tiling.ensures.count in
-    let end = c.loop-jobs-test.false in
-    omega (arith, spent, most, end)
+    let few = bounded_burden c.args.self.now c.image.ensures.sized c.tiling.ensures.tiled c.tiling.ensures.count in
+    omega (arith, c.loop-jobs.invariant.0.spent, few, c.loop-jobs-test.false)

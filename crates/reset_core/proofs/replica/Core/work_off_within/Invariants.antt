@@ -1,6 +1,5 @@
-use Rattle.border_queues.specs.Waiting.{places}
+use Rattle.border_queues.specs.{Waiting.places, OpenEdges.room_for_edges}
 use Rattle.std.proofs.Common.{◌≤◌}
-use Rattle.border_queues.specs.OpenEdges.{room_for_edges}
 use Rattle.core_rules.specs.Work.{tiling}
 use Rattle.reset_core.specs.Settling.{AreWorkedOff}
 use Rattle.reset_core.proofs.replica.Core.work_off_within.Given as goal

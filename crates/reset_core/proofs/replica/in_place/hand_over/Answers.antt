@@ -1,13 +1,9 @@
 use Rattle.std.proofs.Common.{◌≡◌, ◌<◌, ◌≤◌, [], ◌∷◌, ◌∙◌, ap, set, sym, subst, arith}
-use Rattle.grid_core.specs.declared.bounds.Bounds.{Bounds}
-use Rattle.grid_core.specs.Bounds.{bounds_at, joined, no_bounds}
-use Rattle.grid_core.specs.Raster.{Raster, max_level, value_at, with_value}
+use Rattle.grid_core.specs.{declared.bounds.Bounds.Bounds, Bounds.bounds_at, Bounds.joined, Bounds.no_bounds}
+use Rattle.grid_core.specs.{Raster.max_level, Raster.value_at, Tiles.tile_of}
 use Rattle.tile_work.specs.OpenBounds.{bounds_for}
-use Rattle.reset_core.specs.Bounding.{FollowChange}
-use Rattle.reset_core.proofs.Bounding.{follow_rise}
-use Rattle.grid_core.specs.Tiles.{tile_of}
-use Rattle.reset_core.specs.Telling.{ImageAndWork, hints_in, AreHandedOver}
-use Rattle.reset_core.proofs.TellingHands.{one_rises}
+use Rattle.reset_core.specs.{Telling.ImageAndWork, Telling.hints_in, Telling.AreHandedOver}
+use Rattle.reset_core.proofs.{Bounding.follow_rise, TellingHands.one_rises}
 use Rattle.reset_core.proofs.replica.in_place.hand_over.Goals as goal
 
 pub returns-then-get-hint-clause-handed : goal.returns-then-get-hint-clause-handed
@@ -32,15 +28,10 @@ returns-then-get-hint-clause-bounds c conn =
     let parts = c.requires.tile.parts in
     let here : tile_of tiles a.hint.to_pixel ≡ a.tile = c.requires.rect.0 (c.contains.ensures.0 c.if-contains.true) in
     let above : value_at a.image.now a.hint.to_pixel < a.hint.value = omega arith in
-    let told : c.widen.new.self
-    ≡ set a.bounds.now a.tile
+    let told : c.widen.new.self ≡ set a.bounds.now a.tile
     (joined (bounds_for a.bounds.now a.tile) (joined no_bounds (bounds_at a.hint.to_pixel))) =
-    c.widen.ensures
-    ∙ ap (λ (more : Bounds). set a.bounds.now a.tile (joined (bounds_for a.bounds.now a.tile) more))
+    c.widen.ensures ∙ ap (λ (more : Bounds). set a.bounds.now a.tile (joined (bounds_for a.bounds.now a.tile) more))
     (c.including.ensures ∙ ap (λ (none : Bounds). joined none (bounds_at a.hint.to_pixel)) c.none.ensures) in
-    subst (λ (image : Raster). FollowChange tiles conn a.image.now image a.bounds.now c.widen.new.self)
-    (sym c.set.ensures)
-    (subst (λ table. FollowChange tiles conn a.image.now (with_value a.image.now a.hint.to_pixel a.hint.value)
-    a.bounds.now table) (sym told)
+    rw (c.set.ensures, told)
     (follow_rise tiles conn a.image.now a.bounds.now a.hint.to_pixel a.hint.value a.tile parts.tiled
-    c.requires.bounds parts.filled parts.on_tiling.width parts.on_tiling.height c.requires.inside here above))
+    c.requires.bounds parts.filled parts.on_tiling.width parts.on_tiling.height c.requires.inside here above)

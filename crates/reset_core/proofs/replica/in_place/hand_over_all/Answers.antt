@@ -1,5 +1,4 @@
-use Rattle.std.proofs.Common.{◌∙◌, get_or, take, arith}
-use Rattle.std.specs.List.{flat_map}
+use Rattle.std.proofs.Common.{◌∙◌, get_or, take, arith, flat_map}
 use Rattle.std.proofs.lemmas.List.Elements.{Contains-get_or}
 use Rattle.reset_core.specs.Telling.{hints_in}
 use Rattle.grid_core.specs.declared.conn.Conn.TheVariants.{Four}
@@ -32,14 +31,13 @@ hand_over_in-requires-clause-tile c =
     let i = c.loop-tile.tile-index in
     let tiles = c.args.tiles.now in
     let within = c.requires.tiles (get_or tiles i 0) (Contains-get_or tiles i 0 c.loop-tile-test.true) in
-    let same = c.loop-tile.invariant.handed.count in
     record {
       parts =
           still_of_tiles c.args.tiling.now
           (flat_map (hints_in c.args.tiling.now c.args.hints.now) (take i c.args.tiles.now))
           c.args.image.now c.args.work.now c.loop-tile.image c.loop-tile.work c.loop-tile.invariant.handed
           c.requires.parts;
-      within = omega (arith, within, same);
+      within = omega (arith, within, c.loop-tile.invariant.handed.count);
     }
 
 pub hand_over_in-requires-clause-bounds : goal.hand_over_in-requires-clause-bounds

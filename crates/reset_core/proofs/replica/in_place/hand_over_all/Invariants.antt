@@ -1,9 +1,7 @@
 -- What the loop of `hand_over_all` keeps.
-use Rattle.std.proofs.Common.{take}
-use Rattle.std.specs.List.{flat_map}
-use Rattle.reset_core.specs.Telling.{hints_in, AreHandedOver}
+use Rattle.std.proofs.Common.{take, flat_map}
+use Rattle.reset_core.specs.{Telling.hints_in, Telling.AreHandedOver, Bounding.FollowChange}
 use Rattle.grid_core.specs.declared.conn.Conn.{Conn}
-use Rattle.reset_core.specs.Bounding.{FollowChange}
 use Rattle.reset_core.proofs.replica.in_place.hand_over_all.Given as goal
 
 -- the hints for the tiles so far have been handed over, and the bounds have followed

@@ -1,11 +1,8 @@
-use Rattle.std.proofs.Common.{◌∙◌, ◌≡◌, ◌<◌, get_or, take, sym, subst, arith}
-use Rattle.std.specs.Prelude.{◌↔◌}
+use Rattle.std.proofs.Common.{◌∙◌, ◌<◌, get_or, take, arith}
 use Rattle.std.proofs.lemmas.List.Elements.{Contains-get_or}
-use Rattle.grid_core.specs.Rects.{IsInRect}
-use Rattle.grid_core.specs.Tiles.{count_of, tile_of}
+use Rattle.grid_core.specs.{Tiles.count_of, declared.conn.Conn.TheVariants.Four}
 use Rattle.border_queues.specs.declared.hint.Hint.{Hint}
 use Rattle.reset_core.specs.Telling.{hints_in}
-use Rattle.grid_core.specs.declared.conn.Conn.TheVariants.{Four}
 use Rattle.reset_core.proofs.Bounding.{follow_same, follow_twice}
 use Rattle.reset_core.proofs.TellingHands.{handed_next, none_handed, still_of_tiles}
 use Rattle.reset_core.proofs.replica.in_place.hand_over_in.Goals as goal
@@ -43,16 +40,13 @@ hand_over-requires-clause-rect c =
     let i = c.loop-hint.hint-index in
     let hint = get_or c.args.hints.now i none in
     let inside = c.requires.inside hint (Contains-get_or c.args.hints.now i none c.loop-hint-test.true) in
-    let count = c.requires.tile.parts.count in
-    let tile = c.requires.tile.within in
-    let within : c.args.tile < count_of c.args.tiling.now = omega (arith, count, tile) in
+    let within : c.args.tile < count_of c.args.tiling.now =
+    omega (arith, c.requires.tile.parts.count, c.requires.tile.within) in
     let law = c.each_pixel_in_one_tile.ensures c.args.tiling.now hint.to_pixel c.requires.tile.parts.tiled inside in
-    subst (λ rect. IsInRect rect hint.to_pixel ↔ (tile_of c.args.tiling.now hint.to_pixel ≡ c.args.tile))
-    (sym c.rect-rect.ensures.value) (law.1 c.args.tile within)
+    rw c.rect-rect.ensures.value (law.1 c.args.tile within)
 
 pub hand_over-requires-clause-tile : goal.hand_over-requires-clause-tile
 hand_over-requires-clause-tile c =
-    let count = c.loop-hint.invariant.handed.count in
     let within = c.requires.tile.within in
     record {
       parts =
@@ -60,7 +54,7 @@ hand_over-requires-clause-tile c =
           (hints_in c.args.tiling.now (take c.loop-hint.hint-index c.args.hints.now) c.args.tile)
           c.args.image.now c.args.work.now c.loop-hint.image c.loop-hint.work c.loop-hint.invariant.handed
           c.requires.tile.parts;
-      within = omega (arith, count, within);
+      within = omega (arith, c.loop-hint.invariant.handed.count, within);
     }
 
 pub hand_over-requires-clause-bounds : goal.hand_over-requires-clause-bounds

@@ -1,8 +1,7 @@
 -- What the loop of `hand_over_in` keeps.
 use Rattle.std.proofs.Common.{take}
-use Rattle.reset_core.specs.Telling.{hints_in, AreHandedOver}
+use Rattle.reset_core.specs.{Telling.hints_in, Telling.AreHandedOver, Bounding.FollowChange}
 use Rattle.grid_core.specs.declared.conn.Conn.{Conn}
-use Rattle.reset_core.specs.Bounding.{FollowChange}
 use Rattle.reset_core.proofs.replica.in_place.hand_over_in.Given as goal
 
 -- the hints so far have been handed over, and the bounds have followed

@@ -1,15 +1,13 @@
-use Rattle.std.proofs.Common.{◌≡◌, ◌<◌, ◌≤◌, ◌++◌, ◌∙◌, sym, ap, subst, arith}
-use Rattle.std.specs.Prelude.{Result, Ok, Err, IsOk, OnOk, Contains}
-use Rattle.std.specs.List.{flat_map}
+use Rattle.std.proofs.Common.{◌≡◌, ◌<◌, ◌≤◌, ◌++◌, ◌∙◌, sym, ap, subst, arith, Result, Ok, Err, IsOk, OnOk, Contains}
+use Rattle.std.proofs.Common.{flat_map}
 use Rattle.std.specs.List.Sorted.{IsStrictlyIncreasing}
-use Rattle.grid_core.specs.Tiles.{count_of, tile_of}
-use Rattle.grid_core.specs.Raster.{value_at}
+use Rattle.grid_core.specs.{Tiles.count_of, Tiles.tile_of, Raster.value_at}
 use Rattle.border_queues.specs.declared.hint.Hint.{Hint}
 use Rattle.border_queues.specs.OpenEdges.{Sender, room_for_edges, open_edges}
 use Rattle.reset_core.specs.Telling.{ImageAndWork, hints_in, AreByTile, AreTold}
 use Rattle.reset_core.proofs.TellingOrder.{IsToldBy, told_by, are_by_tile}
-use Rattle.reset_core.proofs.replica.in_place.tell.Goals as goal
 use Rattle.reset_core.proofs.replica.in_place.tell.Goals.{After-as_slice-2}
+use Rattle.reset_core.proofs.replica.in_place.tell.Goals as goal
 
 of_ok : {A E : Type 0} (r : Result A E) (P : Type 0) → IsOk r → OnOk r P → P
 of_ok (Ok x) P ok holds = holds
@@ -27,9 +25,8 @@ sender c = record {
 
 hints_are_told : (c : After-as_slice-2) → c.as_slice-2.result.now ≡ open_edges (sender c)
 hints_are_told c =
-    let room = c.clear.ensures.room in
-    let wanted = c.requires.enough in
-    let enough : room_for_edges c.args.tiling.now ≤ c.clear.new.self.room = omega (arith, room, wanted) in
+    let enough : room_for_edges c.args.tiling.now ≤ c.clear.new.self.room =
+    omega (arith, c.clear.ensures.room, c.requires.enough) in
     c.as_slice-2.ensures
     ∙ of_ok c.open_edges_in.result (c.open_edges_in.new.out.hints ≡ c.clear.new.self.hints ++ open_edges (sender c))
     (c.open_edges_in.ensures.enough enough) c.open_edges_in.ensures.hints
@@ -37,14 +34,12 @@ hints_are_told c =
 
 told : (c : After-as_slice-2) (hint : Hint) → Contains c.as_slice-2.result.now hint → IsToldBy (sender c) hint
 told c hint there =
-    let count = c.requires.tile.parts.count in
-    let tile = c.requires.tile.within in
-    let within : c.args.tile < count_of c.args.tiling.now = omega (arith, count, tile) in
+    let within : c.args.tile < count_of c.args.tiling.now =
+    omega (arith, c.requires.tile.parts.count, c.requires.tile.within) in
     told_by c.edges_are_open.ensures c.neighbours_lie_in_touching_tiles.ensures c.each_pixel_in_one_tile.ensures
     (sender c) c.requires.tile.parts.tiled within hint (subst (λ hs. Contains hs hint) (hints_are_told c) there)
 
-sorted : (c : After-as_slice-2)
-    → AreByTile c.args.tiling.now c.as_slice-2.result.now
+sorted : (c : After-as_slice-2) → AreByTile c.args.tiling.now c.as_slice-2.result.now
     (flat_map (hints_in c.args.tiling.now c.as_slice-2.result.now) c.as_slice.result.now)
 sorted c =
     let tiles = c.as_slice.ensures.tiles in
@@ -52,16 +47,13 @@ sorted c =
     (subst IsStrictlyIncreasing (sym tiles) c.touching-touching.ensures.rising) (λ hint there.
     let goes = told c hint there in
     let t = tile_of c.args.tiling.now hint.to_pixel in
-    subst (λ ts. Contains ts t) (sym tiles)
-    ((c.touching-touching.ensures.members t).1 (goes.touching, goes.is_tile)))
+    rw tiles ((c.touching-touching.ensures.members t).1 (goes.touching, goes.is_tile)))
 
 pub hand_over_all-requires-clause-tiles : goal.hand_over_all-requires-clause-tiles
 hand_over_all-requires-clause-tiles c = λ tile there.
-    let count = c.requires.tile.parts.count in
     let touches = (c.touching-touching.ensures.members tile).0
     (subst (λ ts. Contains ts tile) c.as_slice.ensures.tiles there) in
-    let within = touches.1 in
-    omega (arith, count, within)
+    omega (arith, c.requires.tile.parts.count, touches.1)
 
 pub hand_over_all-requires-clause-inside : goal.hand_over_all-requires-clause-inside
 hand_over_all-requires-clause-inside c = λ hint there. (told c hint there).inside
@@ -76,6 +68,4 @@ returns-clause-hints c =
       sorted = sorted at;
       over = c.hand_over_all.ensures.handed;
     } in
-    subst (λ g. AreTold c.args.tiling.now (open_edges (record (sender at) { generation = g })) before after)
-    c.generation-generation.ensures.value
-    (subst (λ hs. AreTold c.args.tiling.now hs before after) (hints_are_told at) all)
+    rw (hints_are_told at, c.generation-generation.ensures.value) at all

@@ -1,12 +1,10 @@
 -- What the tactics leave open of `renew`.
-use Rattle.std.proofs.Common.{◌≡◌, ℕ, List, length, ap, ◌∙◌, rules, sym, subst}
-use Rattle.grid_core.specs.Raster.{Raster}
-use Rattle.grid_core.specs.Tiles.{Tiles, count_of}
+use Rattle.std.proofs.Common.{◌≡◌, length, ap, ◌∙◌, rules, sym, subst}
+use Rattle.grid_core.specs.{Raster.Raster, Tiles.Tiles, Tiles.count_of}
 use Rattle.marker_tiles.specs.Kept.{IsMarkerOf}
-use Rattle.tile_resets.specs.Renewing.{IsLowBeyond}
+use Rattle.tile_work.specs.Renewing.{IsLowBeyond}
 use Rattle.reset_core.specs.Bounding.{FollowChange}
 use Rattle.reset_core.proofs.Bounding.{births_rise, follow_resets, follow_rises, follow_twice, low_after_resets}
-use Rattle.stroke_lattice.specs.State.{StateFits}
 use Rattle.reset_core.proofs.MergeSteps.{marked_are_reset, births_are_raised}
 use Rattle.reset_core.proofs.replica.merging.renew.Goals as goal
 
@@ -15,8 +13,7 @@ raise_to_marker-requires-clause-fits c =
     let known = c.tiling-tiling.ensures in
     let width = ap (λ (t : Tiles). t.width) known.value ∙ known.width in
     let height = ap (λ (t : Tiles). t.height) known.value ∙ known.height in
-    subst (λ h. StateFits c.tiling-tiling.result.width h c.args.state.now) (sym height)
-    (subst (λ w. StateFits w c.args.markers.now.mask.height c.args.state.now) (sym width) c.requires.renew.fits)
+    rw (height, width) c.requires.renew.fits
 
 pub raise_to_marker-requires-clause-low : goal.raise_to_marker-requires-clause-low
 raise_to_marker-requires-clause-low c =
@@ -26,8 +23,7 @@ raise_to_marker-requires-clause-low c =
     let made = c.apply.new.self in
     let same = c.tiling-tiling.ensures.value in
     let count : length c.args.work.now ≡ count_of tiles = c.requires.renew.unspent.works ∙ ap count_of (sym same) in
-    let width : image.width ≡ tiles.width =
-    c.requires.renew.on_tiling.width ∙ ap (λ (t : Tiles). t.width) (sym same) in
+    let width : image.width ≡ tiles.width = c.requires.renew.on_tiling.width ∙ ap (λ (t : Tiles). t.width) (sym same) in
     let height : image.height ≡ tiles.height =
     c.requires.renew.on_tiling.height ∙ ap (λ (t : Tiles). t.height) (sym same) in
     let of_births : IsLowBeyond state c.args.change.now.born made.marker image =
@@ -35,9 +31,7 @@ raise_to_marker-requires-clause-low c =
     (subst (λ (mask : Raster). IsMarkerOf mask state made.marker) c.apply.ensures.mask c.apply.ensures.marks) in
     low_after_resets tiles c.args.marks.now state c.born.result.now c.marker-marker.result.now image
     c.reset_marked.new.image c.args.work.now c.reset_marked.new.work c.side.ensures.tiled width height count
-    c.reset_marked.ensures.reset
-    (subst (λ (m : Raster). IsLowBeyond state c.born.result.now m image) (sym c.marker-marker.ensures.value)
-    (subst (λ (tags : List ℕ). IsLowBeyond state tags made.marker image) (sym c.born.ensures) of_births))
+    c.reset_marked.ensures.reset (rw (c.marker-marker.ensures.value, c.born.ensures) of_births)
 
 pub returns-clause-renewed : goal.returns-clause-renewed
 returns-clause-renewed c =
@@ -84,6 +78,5 @@ returns-clause-bounds c conn =
     (births_rise tiles c.born.result.now c.args.state.now c.marker-marker.result.now middle new
     c.reset_marked.new.work c.raise_to_marker.new.work width height c.raise_to_marker.ensures.raised)
     c.raise_to_marker.ensures.bounds in
-    subst (λ (t : Tiles). FollowChange t conn old new c.args.bounds.now c.raise_to_marker.new.bounds) same
-    (follow_twice tiles conn old middle new c.args.bounds.now c.reset_marked.new.bounds
+    rw same at (follow_twice tiles conn old middle new c.args.bounds.now c.reset_marked.new.bounds
     c.raise_to_marker.new.bounds tiled count first second)

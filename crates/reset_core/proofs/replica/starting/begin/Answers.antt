@@ -1,10 +1,8 @@
 -- What the tactics leave open of `begin`.
 use Rattle.std.proofs.Common.{ap, subst, sym}
-use Rattle.grid_core.specs.Raster.{Raster}
-use Rattle.grid_core.specs.Tiles.{Tiles}
+use Rattle.grid_core.specs.{Raster.Raster, Tiles.Tiles}
 use Rattle.stroke_lattice.specs.State.{StateFits}
-use Rattle.reset_core.specs.Replica.{begun, core_of}
-use Rattle.reset_core.specs.Starting.{IsBegunWith}
+use Rattle.reset_core.specs.{Replica.begun, Replica.core_of, Starting.IsBegunWith}
 use Rattle.reset_core.proofs.Starting.{begun_is_stored, stored_is_begun}
 use Rattle.reset_core.proofs.replica.starting.begin.Goals as goal
 

@@ -1,10 +1,8 @@
 -- What the tactics leave open of `paint_and_grow`.
 use Rattle.std.proofs.Common.{◌≡◌, ◌∙◌, ap, refl, subst, sym}
-use Rattle.grid_core.specs.Raster.{Raster}
-use Rattle.grid_core.specs.Tiles.{IsTiled, count_of}
+use Rattle.grid_core.specs.{Raster.Raster, Tiles.IsTiled, Tiles.count_of}
 use Rattle.marker_tiles.specs.Kept.{IsMarkerOf}
-use Rattle.reset_core.specs.Replica.{with_image}
-use Rattle.reset_core.specs.Starting.{IsBeginningOf}
+use Rattle.reset_core.specs.{Replica.with_image, Starting.IsBeginningOf}
 use Rattle.reset_core.proofs.replica.starting.paint_and_grow.Goals as goal
 
 pub returns-clause-beginning : goal.returns-clause-beginning

@@ -1,8 +1,7 @@
 -- What the tactics leave open of `share`.
 use Rattle.std.proofs.Common.{◌<◌, Some, sym, ◌∙◌, ap, subst}
 use Rattle.std.specs.Arc.{arc_value}
-use Rattle.grid_core.specs.Rects.{IsPart}
-use Rattle.grid_core.specs.Tiles.{rect_of}
+use Rattle.grid_core.specs.{Rects.IsPart, Tiles.rect_of}
 use Rattle.tile_generations.specs.CutMasks.{cut_mask}
 use Rattle.tile_generations.proofs.CutMasks.{cut_at, stored_more}
 use Rattle.tile_generations.proofs.tile_masks.TileMasks.share.Goals as goal

@@ -1,7 +1,6 @@
 -- What the tactics leave open of `contains`.
 use Rattle.std.proofs.Common.{◌≡◌, sym, ◌∙◌, ap, ◌<◌, ◌/◌, ◌%◌, length, get_or, false, nat_eq, arith}
-use Rattle.std.proofs.lemmas.List.{get_or_default}
-use Rattle.std.proofs.lemmas.Nat.Bits.{shr_and_one}
+use Rattle.std.proofs.{lemmas.List.get_or_default, lemmas.Nat.Bits.shr_and_one}
 use Rattle.std.specs.Int.{bit_at}
 use Rattle.tile_work.proofs.TileSetWords.{below_count, tile_of}
 use Rattle.tile_work.proofs.tile_set.TileSet.contains.Goals as goal

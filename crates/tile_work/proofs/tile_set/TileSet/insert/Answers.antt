@@ -1,6 +1,5 @@
 -- What the tactics leave open of `insert`.
-use Rattle.std.proofs.Common.{◌/◌, arith}
-use Rattle.std.proofs.lemmas.List.{with_items_is}
+use Rattle.std.proofs.{Common.◌/◌, Common.arith, lemmas.List.with_items_is}
 use Rattle.tile_work.specs.TileSet.{IsWritten}
 use Rattle.tile_work.proofs.TileSetWords.{below_count, in_words, IsSummed-insert, tiles_of-written}
 use Rattle.tile_work.proofs.tile_set.TileSet.insert.Goals as goal

@@ -1,6 +1,5 @@
 -- What the tactics leave open of `insert_all`.
-use Rattle.std.proofs.Common.{◌≡◌, sym, ◌∙◌, arith}
-use Rattle.std.proofs.lemmas.List.{with_items_is}
+use Rattle.std.proofs.{Common.◌≡◌, Common.sym, Common.◌∙◌, Common.arith, lemmas.List.with_items_is}
 use Rattle.tile_work.specs.TileSet.{AreUnited}
 use Rattle.tile_work.proofs.TileSetWords.{count_is}
 use Rattle.tile_work.proofs.TileSetUnions.{same_words, same_summaries, IsSummed-united, HasGained-united}

@@ -1,9 +1,8 @@
 -- What the tactics leave open of `abandon`.
-use Rattle.std.proofs.Common.{true, refl}
-use Rattle.std.specs.Prelude.{None}
+use Rattle.std.proofs.Common.{true, refl, None}
 use Rattle.tile_work.proofs.WorkTables.{IsRowAt, row_changed, row_bounded, waiting_stays, stays_in_step}
-use Rattle.tile_work.proofs.work_table.WorkTable.abandon.Goals as goal
 use Rattle.tile_work.proofs.work_table.WorkTable.abandon.Goals.{After-remove}
+use Rattle.tile_work.proofs.work_table.WorkTable.abandon.Goals as goal
 
 row_at : (c : After-remove) → IsRowAt c.self.inside c.args.self.now c.args.tile c.index_mut-row.result.now
 row_at c = record {

@@ -1,9 +1,7 @@
 -- What the tactics leave open of `add_dirty`.
 use Rattle.std.proofs.Common.{sym, ◌∙◌}
-use Rattle.tile_work.specs.TileSet.{Has}
-use Rattle.tile_work.specs.WorkTable.{IsDirtyTile}
-use Rattle.tile_work.proofs.TileSetUnions.{HasGained-like}
-use Rattle.tile_work.proofs.WorkTables.{dirty_of_table, dirty_set_count}
+use Rattle.tile_work.specs.{TileSet.Has, WorkTable.IsDirtyTile}
+use Rattle.tile_work.proofs.{TileSetUnions.HasGained-like, WorkTables.dirty_of_table, WorkTables.dirty_set_count}
 use Rattle.tile_work.proofs.work_table.WorkTable.add_dirty.Goals as goal
 
 pub insert_all-requires : goal.insert_all-requires

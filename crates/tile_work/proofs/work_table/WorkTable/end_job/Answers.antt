@@ -1,9 +1,8 @@
 -- What the tactics leave open of `end_job`.
-use Rattle.std.proofs.Common.{refl}
-use Rattle.std.specs.Prelude.{None}
+use Rattle.std.proofs.Common.{refl, None}
 use Rattle.tile_work.proofs.WorkTables.{IsRowAt, row_changed, row_bounded, dirty_stays, waiting_stays, stays_in_step}
-use Rattle.tile_work.proofs.work_table.WorkTable.end_job.Goals as goal
 use Rattle.tile_work.proofs.work_table.WorkTable.end_job.Goals.{After-remove}
+use Rattle.tile_work.proofs.work_table.WorkTable.end_job.Goals as goal
 
 row_at : (c : After-remove) → IsRowAt c.self.inside c.args.self.now c.args.tile c.index_mut.result.now
 row_at c = record {

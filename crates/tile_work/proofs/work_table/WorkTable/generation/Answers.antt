@@ -1,7 +1,7 @@
 -- What the tactics leave open of `generation`.
 use Rattle.tile_work.proofs.WorkTables.{IsRowAt, row_bounded}
-use Rattle.tile_work.proofs.work_table.WorkTable.generation.Goals as goal
 use Rattle.tile_work.proofs.work_table.WorkTable.generation.Goals.{After-index}
+use Rattle.tile_work.proofs.work_table.WorkTable.generation.Goals as goal
 
 row_at : (c : After-index) → IsRowAt c.self.inside c.args.self.now c.args.tile c.index.result.now
 row_at c = record {

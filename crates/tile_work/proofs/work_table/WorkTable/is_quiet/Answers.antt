@@ -1,9 +1,8 @@
 -- What the tactics leave open of `is_quiet`.
-use Rattle.std.proofs.Common.{ap, ◌∙◌, sym}
-use Rattle.std.specs.Prelude.{not}
+use Rattle.std.proofs.Common.{ap, ◌∙◌, sym, not}
 use Rattle.tile_work.proofs.WorkTables.{quiet_without_hints}
-use Rattle.tile_work.proofs.work_table.WorkTable.is_quiet.Goals as goal
 use Rattle.tile_work.proofs.work_table.WorkTable.is_quiet.Goals.{then-is_none, else-is_none}
+use Rattle.tile_work.proofs.work_table.WorkTable.is_quiet.Goals as goal
 
 pub returns-then-is_none-2 : goal.returns-then-is_none-2
 returns-then-is_none-2 c = elim c.if-is_none.branch [

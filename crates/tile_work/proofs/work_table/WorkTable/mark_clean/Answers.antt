@@ -1,8 +1,8 @@
 -- What the tactics leave open of `mark_clean`.
 use Rattle.std.proofs.Common.{false, refl}
 use Rattle.tile_work.proofs.WorkTables.{IsRowAt, row_changed, row_bounded, out_stays, waiting_stays, stays_in_step}
-use Rattle.tile_work.proofs.work_table.WorkTable.mark_clean.Goals as goal
 use Rattle.tile_work.proofs.work_table.WorkTable.mark_clean.Goals.{After-remove}
+use Rattle.tile_work.proofs.work_table.WorkTable.mark_clean.Goals as goal
 
 row_at : (c : After-remove) → IsRowAt c.self.inside c.args.self.now c.args.tile c.index_mut.result.now
 row_at c = record {

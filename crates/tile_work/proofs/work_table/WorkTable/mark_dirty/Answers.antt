@@ -1,8 +1,8 @@
 -- What the tactics leave open of `mark_dirty`.
 use Rattle.std.proofs.Common.{true, refl}
 use Rattle.tile_work.proofs.WorkTables.{IsRowAt, row_changed, row_bounded, out_stays, waiting_stays, stays_in_step}
-use Rattle.tile_work.proofs.work_table.WorkTable.mark_dirty.Goals as goal
 use Rattle.tile_work.proofs.work_table.WorkTable.mark_dirty.Goals.{After-insert}
+use Rattle.tile_work.proofs.work_table.WorkTable.mark_dirty.Goals as goal
 
 row_at : (c : After-insert) → IsRowAt c.self.inside c.args.self.now c.args.tile c.index_mut.result.now
 row_at c = record {

@@ -1,15 +1,14 @@
 -- What the tactics leave open of `receive`.
-use Rattle.std.proofs.Common.{List, ◌≡◌, ◌<◌, ◌≤◌, get_or, length, subst, sym, ◌∙◌, ap, arith}
-use Rattle.std.specs.Prelude.{◌↔◌, Contains, slice_index}
-use Rattle.std.proofs.lemmas.List.{length-map}
-use Rattle.std.proofs.lemmas.List.Elements.{Contains-get_or}
+use Rattle.std.proofs.Common.{List, ◌≡◌, ◌<◌, ◌≤◌, get_or, length, subst, sym, ◌∙◌, ap, arith, ◌↔◌, Contains}
+use Rattle.std.proofs.Common.{slice_index}
+use Rattle.std.proofs.{lemmas.List.length-map, lemmas.List.Elements.Contains-get_or}
 use Rattle.grid_core.specs.Tiles.{AreTouching, count_of}
 use Rattle.tile_work.specs.WorkTable.{as_work, works_of, rooms_of, AreReceived, AreInStep}
-use Rattle.border_queues.specs.TileWork.{hints_at, TileWork}
 use Rattle.tile_work.specs.declared.work_table.row.TileRow.{TileRow}
+use Rattle.border_queues.specs.TileWork.{hints_at, TileWork}
 use Rattle.tile_work.proofs.WorkTableHints.{room_for_all, received_in_step, written_back}
-use Rattle.tile_work.proofs.work_table.WorkTable.receive.Goals as goal
 use Rattle.tile_work.proofs.work_table.WorkTable.receive.Goals.{After-deref_mut-2}
+use Rattle.tile_work.proofs.work_table.WorkTable.receive.Goals as goal
 
 pub make_room-requires-clause-tiles : goal.make_room-requires-clause-tiles
 make_room-requires-clause-tiles c = λ k d h.

@@ -1,14 +1,13 @@
 -- What the tactics leave open of `remove_hint`.
-use Rattle.std.proofs.Common.{ℕ, List, Bool, true, set, sym, ◌∙◌, ap, subst, length, ◌<◌, ◌≡◌, ◌≤◌}
-use Rattle.std.specs.Prelude.{is_some, remove}
+use Rattle.std.proofs.Common.{ℕ, List, Bool, true, set, sym, ◌∙◌, ap, subst, length, ◌<◌, ◌≡◌, ◌≤◌, is_some, remove}
 use Rattle.tile_generations.specs.Generations.{max_generation}
 use Rattle.border_queues.specs.TileWork.{TileWork, work_of}
 use Rattle.tile_work.specs.declared.work_table.row.TileRow.{TileRow}
 use Rattle.tile_work.specs.WorkTable.{AreInStep, works_of, is_some_hint}
 use Rattle.tile_work.proofs.WorkTables.{IsRowAt, row_bounded, row_changed, row_with_inbox, dirty_stays, out_stays}
 use Rattle.tile_work.proofs.WorkTables.{waiting_stays, stays_in_step, is_some_hint_at, there_is_some_hint, work_is}
-use Rattle.tile_work.proofs.work_table.WorkTable.remove_hint.Goals as goal
 use Rattle.tile_work.proofs.work_table.WorkTable.remove_hint.Goals.{After-remove_hint}
+use Rattle.tile_work.proofs.work_table.WorkTable.remove_hint.Goals as goal
 
 row_at : (c : After-remove_hint) → IsRowAt c.self.inside c.args.self.now c.args.tile c.index_mut.result.now
 row_at c = record {

@@ -3,8 +3,8 @@ use Rattle.std.proofs.Common.{◌<◌, refl, sym, subst, arith}
 use Rattle.tile_generations.specs.Generations.{max_generation}
 use Rattle.border_queues.specs.TileWork.{TileWork, reset_work}
 use Rattle.tile_work.proofs.WorkTables.{IsRowAt, work_is, row_changed, waiting_stays, stays_in_step}
-use Rattle.tile_work.proofs.work_table.WorkTable.reset.Goals as goal
 use Rattle.tile_work.proofs.work_table.WorkTable.reset.Goals.{After-remove}
+use Rattle.tile_work.proofs.work_table.WorkTable.reset.Goals as goal
 
 row_at : (c : After-remove) → IsRowAt c.self.inside c.args.self.now c.args.tile c.index_mut-row.result.now
 row_at c = record {

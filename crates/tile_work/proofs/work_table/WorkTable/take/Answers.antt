@@ -1,9 +1,8 @@
 -- What the tactics leave open of `take`.
-use Rattle.std.proofs.Common.{false, refl}
-use Rattle.std.specs.Prelude.{Some}
+use Rattle.std.proofs.Common.{false, refl, Some}
 use Rattle.tile_work.proofs.WorkTables.{IsRowAt, row_changed, row_bounded, waiting_stays, stays_in_step}
-use Rattle.tile_work.proofs.work_table.WorkTable.take.Goals as goal
 use Rattle.tile_work.proofs.work_table.WorkTable.take.Goals.{After-insert}
+use Rattle.tile_work.proofs.work_table.WorkTable.take.Goals as goal
 
 row_at : (c : After-insert) → IsRowAt c.self.inside c.args.self.now c.args.tile c.index_mut-row.result.now
 row_at c = record {

@@ -1,6 +1,5 @@
 -- What the loop of `count_at` keeps.
-use Rattle.std.proofs.Common.{◌≡◌, ℕ, ◌+◌, ◌<◌, ◌≤◌, length}
-use Rattle.std.specs.Prelude.{◌==◌, slice_index, if◌then◌else◌}
+use Rattle.std.proofs.Common.{◌≡◌, ℕ, ◌+◌, ◌<◌, ◌≤◌, length, ◌==◌, slice_index, if◌then◌else◌}
 use Rattle.tile_work.proofs.work_table.delivery.count_at.Given as goal
 
 abbrev pub invariant-loop-place : goal.invariant-loop-place

@@ -1,6 +1,5 @@
 -- What the loop of `counts_at` keeps.
-use Rattle.std.proofs.Common.{◌≡◌, ℕ, ◌<◌, length, take}
-use Rattle.std.specs.Prelude.{slice_index}
+use Rattle.std.proofs.Common.{◌≡◌, ℕ, ◌<◌, length, take, slice_index}
 use Rattle.border_queues.specs.TileWork.{hints_at}
 use Rattle.tile_work.proofs.work_table.delivery.counts_at.Given as goal
 

@@ -1,8 +1,6 @@
 -- What the tactics leave open of `make_room`.
-use Rattle.std.proofs.Common.{◌≡◌, ◌<◌, get_or, length, sym, ap, ◌∙◌, below_more, arith}
-use Rattle.std.specs.Prelude.{slice_index}
-use Rattle.tile_work.specs.declared.work_table.row.TileRow.{TileRow}
-use Rattle.tile_work.specs.WorkTable.{as_work}
+use Rattle.std.proofs.Common.{◌≡◌, ◌<◌, get_or, length, sym, ap, ◌∙◌, below_more, arith, slice_index}
+use Rattle.tile_work.specs.{declared.work_table.row.TileRow.TileRow, WorkTable.as_work}
 use Rattle.tile_work.proofs.WorkTableHints.{read_again, works_stay, room_there, room_kept, ok_part}
 use Rattle.tile_work.proofs.work_table.delivery.make_room.Goals as goal
 

@@ -1,6 +1,5 @@
 -- What the loop of `make_room` keeps.
-use Rattle.std.proofs.Common.{◌≡◌, ℕ, ◌<◌, ◌≤◌}
-use Rattle.std.specs.Prelude.{slice_index}
+use Rattle.std.proofs.Common.{◌≡◌, ℕ, ◌<◌, ◌≤◌, slice_index}
 use Rattle.tile_work.specs.WorkTable.{works_of, rooms_of}
 use Rattle.tile_work.proofs.work_table.delivery.make_room.Given as goal
 

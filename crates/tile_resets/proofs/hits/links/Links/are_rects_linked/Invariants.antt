@@ -1,8 +1,0 @@
--- What the loop of `are_rects_linked` keeps.
-use Rattle.tile_resets.specs.Marks.{SomeIn, IsLinkedInto}
-use Rattle.tile_resets.proofs.HittingRects.{rows_upto}
-use Rattle.tile_resets.proofs.hits.links.Links.are_rects_linked.Given as goal
-
--- none in the rows so far
-abbrev pub invariant-loop-i : goal.invariant-loop-i
-invariant-loop-i l = SomeIn (rows_upto l.near l.i) (IsLinkedInto l.self.image.now l.self.conn l.other) → ⊥

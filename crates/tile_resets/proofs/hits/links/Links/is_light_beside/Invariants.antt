@@ -1,8 +1,0 @@
--- What the loop of `is_light_beside` keeps.
-use Rattle.tile_resets.specs.Marks.{SomeIn, IsLightBeside}
-use Rattle.tile_resets.proofs.HittingRects.{rows_upto}
-use Rattle.tile_resets.proofs.hits.links.Links.is_light_beside.Given as goal
-
--- none in the rows so far
-abbrev pub invariant-loop-i : goal.invariant-loop-i
-invariant-loop-i l = SomeIn (rows_upto l.near l.i) (IsLightBeside l.self.image.now l.self.conn l.p) → ⊥
