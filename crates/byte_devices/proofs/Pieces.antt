@@ -1,7 +1,6 @@
 -- Lists that are taken piece by piece.
-use Rattle.std.proofs.Common.{◌≡◌, ℕ, ◌+◌, ◌-◌, ◌≤◌, List, ◌++◌}
-use Rattle.std.proofs.Common.{length, take, drop, sym, ap, ◌∙◌, append_assoc, take-append-drop, take-add}
-use Rattle.std.proofs.Common.{length-take-le, take_at, drop-drop}
+use Rattle.std.proofs.Common.{◌≡◌, ℕ, ◌+◌, ◌-◌, ◌≤◌, List, ◌++◌, length, take, drop, sym, ap, ◌∙◌, append_assoc}
+use Rattle.std.proofs.Common.{take-append-drop, take-add, length-take-le, take_at, drop-drop}
 use Rattle.std.proofs.lemmas.List.{take_rest}
 
 -- the first n of what is left go to those that are done

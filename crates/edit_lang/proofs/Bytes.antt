@@ -1,15 +1,11 @@
 -- Bytes above a bound, as those of digits, tags and words are.
-use Rattle.std.proofs.Common.{◌≡◌, ℕ, zero, suc, ◌<◌, ◌≤◌, Bool, true, false, eqb, cond}
-use Rattle.std.proofs.Common.{List, [], ◌∷◌, ◌++◌, length, All}
-use Rattle.std.proofs.Common.{get_or, refl, arith, decimal}
-use Rattle.std.specs.List.{AllByRecursion, list_all}
-use Rattle.std.specs.Char.{is_ascii_digit}
-use Rattle.std.specs.Int.{w128, to_be_bytes}
-use Rattle.std.specs.Str.Parse.{AllDigits}
-use Rattle.std.proofs.lemmas.Bool.Decides.{nat_tests}
-use Rattle.std.proofs.lemmas.Fmt.{decimal_is_IsNumeral}
+use Rattle.std.proofs.Common.{◌≡◌, ℕ, zero, suc, ◌<◌, ◌≤◌, Bool, true, false, eqb, cond, List, [], ◌∷◌, ◌++◌, length}
+use Rattle.std.proofs.Common.{All, get_or, refl, arith, decimal}
+use Rattle.std.proofs.{lemmas.Bool.Decides.nat_tests, lemmas.Fmt.decimal_is_IsNumeral}
+use Rattle.std.proofs.{lemmas.Str.Parse.digit_from_value}
 use Rattle.std.proofs.lemmas.List.Elements.{All-nil, All-cons, All-from_get_or, recursion_from_All}
-use Rattle.std.proofs.lemmas.Str.Parse.{digit_from_value}
+use Rattle.std.specs.{List.AllByRecursion, List.list_all, Char.is_ascii_digit, Int.w128, Int.to_be_bytes}
+use Rattle.std.specs.{Str.Parse.AllDigits}
 use Rattle.uuid.specs.Text.{lower, hex_digit, nibble, is_hyphen_place, digit_place}
 use Rattle.uuid.proofs.TextLemmas.{by_index_at, by_index_length}
 use Rattle.stroke_core.specs.Tag.{text_of}
@@ -53,17 +49,16 @@ digits_pass (c ∷ ds) d =
     let first : is_ascii_digit c ≡ true = grind (arith, nat_tests) in
     rw (first, digits_pass ds d.1) refl
 
--- no digit is a byte that is below all digits or above them
-pub digits_apart : (sign : ℕ) → ((c : ℕ) → 48 ≤ c → c ≤ 57 → eqb c sign ≡ false) → (ds : List ℕ) → AllDigits 10 ds
+-- no digit is a byte that is none
+digits_apart : (sign : ℕ) → is_ascii_digit sign ≡ false → (ds : List ℕ) → AllDigits 10 ds
     → All (λ b. eqb b sign ≡ false) ds
 digits_apart sign apart [] d = All-nil (λ b. eqb b sign ≡ false)
 digits_apart sign apart (c ∷ ds) d =
     let r = digit_from_value c d.0 in
-    All-cons (λ b. eqb b sign ≡ false) c ds (apart c (omega (arith, r)) (omega (arith, r)))
-    (digits_apart sign apart ds d.1)
+    All-cons (λ b. eqb b sign ≡ false) c ds (grind (arith, nat_tests)) (digits_apart sign apart ds d.1)
 
 -- nor is one of a number that is written
-pub decimal_apart : (sign n : ℕ) → ((c : ℕ) → 48 ≤ c → c ≤ 57 → eqb c sign ≡ false) → n ≤ 65535
+pub decimal_apart : (sign n : ℕ) → is_ascii_digit sign ≡ false → n ≤ 65535
     → All (λ b. eqb b sign ≡ false) (decimal n)
 decimal_apart sign n apart le = digits_apart sign apart (decimal n) (decimal_is_IsNumeral n (omega arith)).0.1
 

@@ -1,14 +1,14 @@
 -- How the first line of a text and the first word of a line are cut off.
 use Rattle.std.proofs.Common.{◌≡◌, ℕ, ◌+◌, ◌<◌, ◌≤◌, Bool, true, false, cond, eqb, ltb, List, [], ◌∷◌, ◌++◌, length}
 use Rattle.std.proofs.Common.{All, Option, Some, None, take, drop, get_or, map, refl, sym, ap, ◌∙◌, inl, inr}
-use Rattle.std.proofs.Common.{drop_of_length-le, arith}
-use Rattle.std.specs.List.{filter, slice_split, onto_first, position_or_len, before_first, after_first}
-use Rattle.std.specs.Str.Lines.{strip_carriage_return}
+use Rattle.std.proofs.Common.{drop_of_length-le, arith, filter}
 use Rattle.std.proofs.lemmas.Bool.{lt-ltb, le-ltb, cases_lt}
 use Rattle.std.proofs.lemmas.List.{take_all, length-take-le, drop_more}
 use Rattle.std.proofs.lemmas.List.Elements.{All-head, All-tail}
 use Rattle.std.proofs.lemmas.List.Splits.{slice_split_none, slice_split_first, slice_split-cons_yes}
 use Rattle.std.proofs.lemmas.List.Sums.{split_at_first, passes_at_first, position_or_len_is}
+use Rattle.std.specs.List.{slice_split, onto_first, position_or_len, before_first, after_first}
+use Rattle.std.specs.Str.Lines.{strip_carriage_return}
 use Rattle.edit_lang.proofs.Lists.{front_fails, all_fail}
 use Rattle.edit_lang.specs.Lines.{line_feed, cut_at, cut_lines, lines_of, is_blank, words_of}
 

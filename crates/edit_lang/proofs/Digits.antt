@@ -1,11 +1,9 @@
 -- Numbers in digits, read from the front.
 use Rattle.std.proofs.Common.{◌≡◌, ℕ, ◌<◌, ◌≤◌, Bool, true, false, cond, ◌&&◌, List, length, take, drop, Some, None}
 use Rattle.std.proofs.Common.{refl, ap, sym, ◌∙◌, drop_of_length-le, arith}
-use Rattle.std.specs.List.{list_all}
-use Rattle.std.specs.Char.{is_ascii_digit}
-use Rattle.std.specs.Str.Parse.{digits_value, digits_value_after}
 use Rattle.std.proofs.lemmas.Bool.{lt-ltb, le-ltb, le-leb, lt-leb, and_left, and_right}
 use Rattle.std.proofs.lemmas.List.{take_all}
+use Rattle.std.specs.{List.list_all, Char.is_ascii_digit, Str.Parse.digits_value, Str.Parse.digits_value_after}
 use Rattle.edit_lang.specs.Numbers.{is_number, number_of}
 
 pub no_number : (word : List ℕ) → is_number word ≡ false → None ≡ number_of word

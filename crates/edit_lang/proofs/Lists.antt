@@ -1,8 +1,7 @@
 -- Lists of numbers, up to the first element that passes a test.
 use Rattle.std.proofs.Common.{◌≡◌, ℕ, ◌≤◌, Bool, false, List, length, All, arith}
+use Rattle.std.proofs.{lemmas.List.Sums.fails_before_first, lemmas.Grind.common_steps}
 use Rattle.std.specs.List.{position_or_len, before_first}
-use Rattle.std.proofs.lemmas.List.Sums.{fails_before_first}
-use Rattle.std.proofs.lemmas.Grind.{common_steps}
 
 -- no element before the first that passes does
 pub front_fails : (p : ℕ → Bool) (xs : List ℕ) → All (λ x. p x ≡ false) (before_first p xs)

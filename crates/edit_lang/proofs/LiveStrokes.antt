@@ -1,22 +1,18 @@
 -- The live strokes of a state, and the join of their placements.
-use Rattle.std.proofs.Common.{◌≡◌, ℕ, Bool, true, false, not, cond, List, [], ◌∷◌, Option, Some, None, refl, ap}
-use Rattle.std.proofs.Common.{sym, ◌∙◌, inl, inr}
-use Rattle.std.specs.Prelude.{Contains}
-use Rattle.std.specs.declared.cmp.Ordering.TheVariants.{Equal}
-use Rattle.std.specs.FinMap as finmap
-use Rattle.std.specs.FinSet as set
+use Rattle.std.proofs.Common.{◌≡◌, ℕ, Bool, true, false, not, cond, List, [], ◌∷◌, Option, Some, None, refl, ap, sym}
+use Rattle.std.proofs.Common.{◌∙◌, inl, inr, Contains, Equal, nat_cmp}
 use Rattle.std.specs.List.{AllByRecursion}
-use Rattle.std.specs.Ordering.{nat_cmp}
 use Rattle.stroke_core.specs.Seed.{Seed}
-use Rattle.stroke_lattice.specs.State.{State, IsJoinOf, SomeHasStroke}
-use Rattle.stroke_lattice.specs.State.{SomeHasTombstone}
+use Rattle.stroke_lattice.specs.State.{State, IsJoinOf, SomeHasStroke, SomeHasTombstone}
 use Rattle.stroke_lattice.specs.Walks.{AreLive}
-use Rattle.stroke_lattice.proofs.Growing.{placed_has}
-use Rattle.stroke_lattice.proofs.Items.{strokes_walk, strokes_are}
-use Rattle.stroke_lattice.proofs.Joins.{nothing_has_no_tombstone, no_seed}
-use Rattle.stroke_lattice.proofs.Lists.{first_or_later, later, here, none_in_nil, all_from_members}
+use Rattle.stroke_lattice.proofs.{Growing.placed_has, Items.strokes_walk, Items.strokes_are}
+use Rattle.stroke_lattice.proofs.{Joins.nothing_has_no_tombstone, Joins.no_seed}
+use Rattle.grid_core.proofs.Common.{first_or_later, later, here, not_in_empty}
+use Rattle.stroke_lattice.proofs.Lists.{all_from_members}
 use Rattle.edit_lang.specs.Writing.{live_part, live_of, live_text, HasLiveAlone, IsHeld, LiveAreHeld, SpellsLive}
 use Rattle.edit_lang.proofs.WrittenLines.{deltas_of, placements_read}
+use Rattle.std.specs.FinMap as finmap
+use Rattle.std.specs.FinSet as set
 
 -- ---- the state of the live strokes
 
@@ -67,7 +63,7 @@ live_are s entries walk =
 
 some_from_member : (entries : List (ℕ × Seed)) (tag : ℕ) (seed : Seed) → Contains entries (tag, seed)
     → SomeHasStroke (deltas_of entries) tag seed
-some_from_member [] tag seed has = absurd (none_in_nil (tag, seed) has)
+some_from_member [] tag seed has = absurd (not_in_empty (tag, seed) has)
 some_from_member (entry ∷ entries) tag seed has = elim (first_or_later entry entries (tag, seed) has) [
   | inl e ↦ inl ((placed_has entry.0 tag entry.1 seed).1
       (sym (ap (λ (p : ℕ × Seed). p.0) e), sym (ap (λ (p : ℕ × Seed). p.1) e)))

@@ -1,14 +1,10 @@
 -- A line, and a text, has one meaning.
-use Rattle.std.proofs.Common.{◌≡◌, ℕ, ◌+◌, List, [], ◌∷◌, ◌++◌, Option, Some, None, Result, Ok, Err, refl, ap, sym}
-use Rattle.std.proofs.Common.{◌∙◌, ◌⊎◌, inl, inr}
-use Rattle.std.specs.Prelude.{option_to_list}
-use Rattle.stroke_core.specs.Seed.{Seed, IsRefusal}
-use Rattle.stroke_core.specs.Tag.{tag_of}
-use Rattle.stroke_core.specs.declared.error.StrokeError.{StrokeError}
+use Rattle.std.proofs.Common.{◌≡◌, ℕ, ◌+◌, List, [], ◌∷◌, ◌++◌, Option, Some, None, Result, Ok, Err, refl, ap, sym, ◌∙◌}
+use Rattle.std.proofs.Common.{◌⊎◌, inl, inr, option_to_list}
+use Rattle.stroke_core.specs.{Seed.Seed, Seed.IsRefusal, Tag.tag_of, declared.error.StrokeError.StrokeError}
 use Rattle.stroke_lattice.specs.State.{State, placed, withdrawn}
-use Rattle.edit_lang.specs.declared.error.EditError.{EditError}
+use Rattle.edit_lang.specs.{declared.error.EditError.EditError, Lines.words_of}
 use Rattle.edit_lang.specs.declared.error.EditError.TheVariants.{BadLine, BadTag, BadStroke}
-use Rattle.edit_lang.specs.Lines.{words_of}
 use Rattle.edit_lang.specs.Edit.{Edit, Nothing, Place, Withdraw, edit_of, SeedMeans, PlaceMeans, WithdrawMeans}
 use Rattle.edit_lang.specs.Edit.{EditMeans, LineMeans, LinesMean}
 use Rattle.edit_lang.proofs.Seeds.{not_refused, judged}

@@ -1,13 +1,10 @@
 -- The lines of a text, read one after the other.
 use Rattle.std.proofs.Common.{◌≡◌, ℕ, ◌+◌, List, [], ◌∷◌, ◌++◌, length, Option, Result, Ok, Err, refl, ap, ◌⊎◌, inl}
-use Rattle.std.proofs.Common.{inr, subst, append_assoc}
-use Rattle.std.specs.Prelude.{option_to_list}
+use Rattle.std.proofs.Common.{inr, subst, append_assoc, option_to_list}
 use Rattle.std.proofs.lemmas.List.{append-nil, nil_from_length}
 use Rattle.stroke_lattice.specs.State.{State}
-use Rattle.edit_lang.specs.declared.error.EditError.{EditError}
-use Rattle.edit_lang.specs.declared.error.EditError.TheVariants.{Memory}
-use Rattle.edit_lang.specs.Lines.{lines_of}
-use Rattle.edit_lang.specs.Edit.{LineMeans, LinesMean, IsFirstFault}
+use Rattle.edit_lang.specs.{declared.error.EditError.EditError, declared.error.EditError.TheVariants.Memory}
+use Rattle.edit_lang.specs.{Lines.lines_of, Edit.LineMeans, Edit.LinesMean, Edit.IsFirstFault}
 use Rattle.edit_lang.proofs.Cutting.{lines-nil}
 
 -- what lines mean, behind the states that the lines before them mean

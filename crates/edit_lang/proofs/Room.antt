@@ -1,15 +1,10 @@
 -- How many bytes what is written has.
-use Rattle.std.proofs.Common.{◌≡◌, ℕ, ◌+◌, ◌/◌, ◌%◌, ◌^◌, ◌<◌, ◌≤◌, List, [], ◌∷◌, ◌++◌, length, decimal}
-use Rattle.std.proofs.Common.{refl, sym, ap, ◌∙◌}
-use Rattle.std.proofs.Common.{arith, length-append}
-use Rattle.std.specs.List.{flat_map, sum_by}
+use Rattle.std.proofs.Common.{◌≡◌, ℕ, ◌+◌, ◌/◌, ◌%◌, ◌^◌, ◌<◌, ◌≤◌, List, [], ◌∷◌, ◌++◌, length, decimal, refl, sym, ap}
+use Rattle.std.proofs.Common.{◌∙◌, arith, length-append, flat_map, sum_by}
 use Rattle.std.proofs.lemmas.Fmt.{decimal_digit, decimal_step, length-decimal-le}
 use Rattle.std.proofs.lemmas.List.Sums.{sum_by-cons}
-use Rattle.stroke_core.specs.declared.run.Run.{Run}
-use Rattle.stroke_core.specs.Seed.{Seed, Runs}
-use Rattle.stroke_core.specs.Tag.{text_of}
-use Rattle.edit_lang.specs.Lines.{line_feed, blank}
-use Rattle.edit_lang.specs.Shapes.{comma}
+use Rattle.stroke_core.specs.{declared.run.Run.Run, Seed.Seed, Seed.Runs, Tag.text_of}
+use Rattle.edit_lang.specs.{Lines.line_feed, Lines.blank, Shapes.comma}
 use Rattle.edit_lang.specs.Writing.{run_text, shape_text, verb_of, placement_text}
 use Rattle.edit_lang.proofs.Bytes.{tag_length}
 

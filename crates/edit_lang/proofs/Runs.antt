@@ -2,11 +2,8 @@
 use Rattle.std.proofs.Common.{◌≡◌, ℕ, eqb, List, [], ◌∷◌, ◌++◌, Option, Some, None, refl, ap, sym, ◌∙◌, append_assoc}
 use Rattle.std.proofs.lemmas.List.Splits.{slice_split_none, slice_split_first}
 use Rattle.stroke_core.specs.declared.run.Run.{Run}
-use Rattle.edit_lang.specs.Lines.{cut_at}
-use Rattle.edit_lang.specs.Numbers.{◌>>=◌}
-use Rattle.edit_lang.specs.Shapes.{comma, run_of, runs_of, each_run}
-use Rattle.edit_lang.proofs.Lists.{all_fail}
-use Rattle.edit_lang.proofs.Cutting.{cut_found, cut_missed}
+use Rattle.edit_lang.specs.{Lines.cut_at, Numbers.◌>>=◌, Shapes.comma, Shapes.run_of, Shapes.runs_of, Shapes.each_run}
+use Rattle.edit_lang.proofs.{Lists.all_fail, Cutting.cut_found, Cutting.cut_missed}
 
 -- the runs read before, and those still to be read
 abbrev pub with_front : List Run → Option (List Run) → Option (List Run)

@@ -1,11 +1,10 @@
 -- A seed is canonical or refused, and not both.
 use Rattle.std.proofs.Common.{◌≡◌, ℕ, ◌+◌, ◌≤◌, List, [], ◌∷◌, length, arith, inl, inr, ◌⊎◌}
 use Rattle.std.proofs.lemmas.Bool.{cases_lt, cases_eq}
-use Rattle.stroke_core.specs.declared.run.Run.{Run}
-use Rattle.stroke_core.specs.declared.error.StrokeError.{StrokeError}
-use Rattle.stroke_core.specs.declared.error.StrokeError.TheVariants as reasons
+use Rattle.stroke_core.specs.{declared.run.Run.Run, declared.error.StrokeError.StrokeError}
 use Rattle.stroke_core.specs.Seed.{Seed, Shape, Runs, Disc, AreInOrder, IsBefore, AreOrdered, IsCanonical}
 use Rattle.stroke_core.specs.Seed.{IsCanonicalShape, IsRefusal, IsShapeRefusal}
+use Rattle.stroke_core.specs.declared.error.StrokeError.TheVariants as reasons
 
 -- a canonical shape is not refused
 shape_not_refused : (shape : Shape) (why : StrokeError) → IsCanonicalShape shape → IsShapeRefusal shape why → ⊥

@@ -1,18 +1,15 @@
 -- Lines that place and withdraw, read back.
-use Rattle.std.proofs.Common.{◌≡◌, ℕ, ◌+◌, ◌<◌, ◌≤◌, ◌^◌, Bool, true, false, ltb, ◌&&◌, List, [], ◌∷◌, ◌++◌, Option}
-use Rattle.std.proofs.Common.{Some, Ok, map, refl}
-use Rattle.std.proofs.Common.{ap, subst, sym, ◌∙◌, arith, inl, decimal, codes, append-nil}
-use Rattle.std.specs.List.{AllByRecursion, flat_map, join_by, list_all}
-use Rattle.std.proofs.lemmas.Bool.{ltb-true}
-use Rattle.std.specs.Prelude.{Result}
-use Rattle.std.proofs.lemmas.Fmt.{decimal_nonempty}
-use Rattle.stroke_core.specs.Seed.{Seed, Shape, Runs, Disc, IsCanonicalShape}
-use Rattle.stroke_core.specs.Tag.{text_of}
+use Rattle.std.proofs.Common.{◌≡◌, ℕ, ◌+◌, ◌<◌, ◌≤◌, ◌^◌, true, ltb, List, [], ◌∷◌, ◌++◌, Option, Some, Ok, map, refl}
+use Rattle.std.proofs.Common.{ap, subst, sym, ◌∙◌, arith, inl, decimal, codes, append-nil, flat_map, Result}
+use Rattle.std.proofs.{lemmas.Bool.ltb-true, lemmas.Fmt.decimal_nonempty}
+use Rattle.std.specs.List.{AllByRecursion, join_by, list_all}
+use Rattle.grid_core.proofs.Common.{both_true}
+use Rattle.stroke_core.specs.{Seed.Seed, Seed.Shape, Seed.Runs, Seed.Disc, Seed.IsCanonicalShape, Tag.text_of}
 use Rattle.stroke_core.proofs.TagLemmas.{tag_of-text_of}
 use Rattle.stroke_lattice.specs.State.{State, placed, withdrawn}
 use Rattle.stroke_lattice.specs.Pieces.{Item, Placed, Withdrawn}
-use Rattle.edit_lang.specs.declared.error.EditError.{EditError}
-use Rattle.edit_lang.specs.Lines.{blank, lines_of, words_of}
+use Rattle.edit_lang.specs.{declared.error.EditError.EditError, Lines.blank, Lines.lines_of, Lines.words_of}
+use Rattle.edit_lang.specs.{Lines.line_feed}
 use Rattle.edit_lang.specs.Edit.{Edit, Place, Withdraw, three_of, runs_edit, disc_edit, withdrawal, edit_named, edit_of}
 use Rattle.edit_lang.specs.Edit.{PlaceMeans, WithdrawMeans, EditMeans, LineMeans, LinesMean, EditSpells}
 use Rattle.edit_lang.specs.Writing.{verb_of, shape_text, placement_words, placement_text, withdrawal_words}
@@ -37,14 +34,10 @@ level_word n le = record {
   above = above_less 32 47 (decimal n) (omega arith) (decimal_above n le);
 }
 
-all_both : (a b : Bool) → (a && b) ≡ true → (a ≡ true) × (b ≡ true)
-all_both true b e = (refl, e)
-all_both false b e = absurd cc
-
 letters_above : (word : List ℕ) → list_all (λ b. ltb 32 b) word ≡ true → Above 32 word
 letters_above [] all = tt
 letters_above (b ∷ word) all =
-    let both = all_both (ltb 32 b) (list_all (λ c. ltb 32 c) word) all in
+    let both = both_true (ltb 32 b) (list_all (λ c. ltb 32 c) word) all in
     (ltb-true 32 b both.0, letters_above word both.1)
 
 verb_word : (shape : Shape) → IsWord (verb_of shape)
@@ -124,55 +117,42 @@ withdrawal_means n tag fits =
 
 -- ---- texts
 
--- a line in front of lines that mean states
-one_more : (n : ℕ) (line : List ℕ) (lines : List (List ℕ)) (first : State) (others : List State)
-    → LineMeans n line (Ok (Some first)) → LinesMean (n + 1) lines (Ok others)
-    → LinesMean n (line ∷ lines) (Ok (first ∷ others))
-one_more n line lines first others means rest = (Some first, others, means, rest, refl)
-
--- a placement that was written in front of a text
-placement_first : (n tag : ℕ) (seed : Seed) (rest : List ℕ) (others : List State) → IsHeld (tag, seed)
-    → LinesMean (n + 1) (lines_of rest) (Ok others)
-    → LinesMean n (lines_of (placement_text tag seed ++ rest)) (Ok (placed tag seed ∷ others))
-unfolding placement_text
-placement_first n tag seed rest others held means =
-    let above = line_above (verb_of seed.shape) (words_behind tag seed) (placement_are_words tag seed held) in
-    subst (λ (ls : List (List ℕ)). LinesMean n ls (Ok (placed tag seed ∷ others)))
-    (sym (line_read (placement_body tag seed) rest above))
-    (one_more n (placement_body tag seed) (lines_of rest) (placed tag seed) others
-    (placement_means n tag seed held) means)
-
--- a withdrawal that was written in front of a text
-withdrawal_first : (n tag : ℕ) (rest : List ℕ) (others : List State) → tag < 2 ^ 128
-    → LinesMean (n + 1) (lines_of rest) (Ok others)
-    → LinesMean n (lines_of (withdrawal_text tag ++ rest)) (Ok (withdrawn tag ∷ others))
-unfolding withdrawal_text
-withdrawal_first n tag rest others fits means =
-    let above = line_above (codes "withdraw") (text_of tag ∷ []) (withdrawal_are_words tag) in
-    subst (λ (ls : List (List ℕ)). LinesMean n ls (Ok (withdrawn tag ∷ others)))
-    (sym (line_read (withdrawal_body tag) rest above))
-    (one_more n (withdrawal_body tag) (lines_of rest) (withdrawn tag) others (withdrawal_means n tag fits) means)
+-- a line that means a state, in front of a text
+line_first : (n : ℕ) (body rest : List ℕ) (first : State) (others : List State) → Above 31 body
+    → LineMeans n body (Ok (Some first)) → LinesMean (n + 1) (lines_of rest) (Ok others)
+    → LinesMean n (lines_of ((body ++ line_feed ∷ []) ++ rest)) (Ok (first ∷ others))
+line_first n body rest first others above line means =
+    subst (λ (ls : List (List ℕ)). LinesMean n ls (Ok (first ∷ others))) (sym (line_read body rest above))
+    (Some first, others, line, means, refl)
 
 -- what was written of one, in front of a text
 item_first : (n : ℕ) (item : Item) (rest : List ℕ) (others : List State) → ItemIsHeld item
     → LinesMean (n + 1) (lines_of rest) (Ok others)
     → LinesMean n (lines_of (item_text item ++ rest)) (Ok (delta_of item ∷ others))
-item_first n (Placed tag seed) rest others held means = placement_first n tag seed rest others held means
-item_first n (Withdrawn tag) rest others held means = withdrawal_first n tag rest others held means
+unfolding placement_text withdrawal_text
+item_first n (Placed tag seed) rest others held means =
+    line_first n (placement_body tag seed) rest (placed tag seed) others
+    (line_above (verb_of seed.shape) (words_behind tag seed) (placement_are_words tag seed held))
+    (placement_means n tag seed held) means
+item_first n (Withdrawn tag) rest others held means =
+    line_first n (withdrawal_body tag) rest (withdrawn tag) others
+    (line_above (codes "withdraw") (text_of tag ∷ []) (withdrawal_are_words tag)) (withdrawal_means n tag held) means
 
 nothing_means : (n : ℕ) → LinesMean n (lines_of []) (Ok [])
 nothing_means n = subst (λ (ls : List (List ℕ)). LinesMean n ls (Ok [])) (sym lines-nil) refl
 
-items_read : (n : ℕ) (items : List Item) → AllByRecursion ItemIsHeld items
-    → LinesMean n (lines_of (flat_map item_text items)) (Ok (map delta_of items))
-items_read n [] held = nothing_means n
-items_read n (item ∷ items) held =
-    item_first n item (flat_map item_text items) (map delta_of items) held.0 (items_read (n + 1) items held.1)
+-- what was written of each
+each_read : {X : Type 0} (item : X → Item) (n : ℕ) (xs : List X) → AllByRecursion (λ x. ItemIsHeld (item x)) xs
+    → LinesMean n (lines_of (flat_map (λ x. item_text (item x)) xs)) (Ok (map (λ x. delta_of (item x)) xs))
+each_read item n [] held = nothing_means n
+each_read item n (x ∷ xs) held =
+    item_first n (item x) (flat_map (λ y. item_text (item y)) xs) (map (λ y. delta_of (item y)) xs) held.0
+    (each_read item (n + 1) xs held.1)
 
 -- what was written of strokes and withdrawals is read
 pub lines_read : (items : List Item) → AllByRecursion ItemIsHeld items
     → EditSpells (flat_map item_text items) (map delta_of items)
-lines_read items held = items_read 1 items held
+lines_read items held = each_read (λ (item : Item). item) 1 items held
 
 one_item : (item : Item) → ItemIsHeld item → EditSpells (item_text item) (delta_of item ∷ [])
 one_item item held =
@@ -192,14 +172,7 @@ withdrawal_text_read tag fits = one_item (Withdrawn tag) fits
 abbrev pub deltas_of : List (ℕ × Seed) → List State
 deltas_of entries = map (λ entry. placed entry.0 entry.1) entries
 
-entries_read : (n : ℕ) (entries : List (ℕ × Seed)) → AllByRecursion IsHeld entries
-    → LinesMean n (lines_of (flat_map (λ entry. placement_text entry.0 entry.1) entries)) (Ok (deltas_of entries))
-entries_read n [] held = nothing_means n
-entries_read n (entry ∷ entries) held =
-    placement_first n entry.0 entry.1 (flat_map (λ e. placement_text e.0 e.1) entries) (deltas_of entries) held.0
-    (entries_read (n + 1) entries held.1)
-
 -- placements that were written are read
 pub placements_read : (entries : List (ℕ × Seed)) → AllByRecursion IsHeld entries
     → EditSpells (flat_map (λ entry. placement_text entry.0 entry.1) entries) (deltas_of entries)
-placements_read entries held = entries_read 1 entries held
+placements_read entries held = each_read (λ (entry : ℕ × Seed). Placed entry.0 entry.1) 1 entries held

@@ -1,25 +1,15 @@
 -- Runs and discs that are written, read back.
-use Rattle.std.proofs.Common.{◌≡◌, ℕ, ◌<◌, ◌≤◌, false, eqb, List, [], ◌∷◌, ◌++◌, length, All, Some, map, refl}
-use Rattle.std.proofs.Common.{ap, ◌∙◌, arith, length-append, decimal}
+use Rattle.std.proofs.Common.{◌≡◌, ℕ, ◌<◌, ◌≤◌, false, eqb, List, [], ◌∷◌, ◌++◌, length, All, Some, map, refl, ap, ◌∙◌}
+use Rattle.std.proofs.Common.{arith, length-append, decimal}
+use Rattle.std.proofs.{lemmas.Bool.Decides.nat_tests, lemmas.Fmt.decimal_nonempty}
 use Rattle.std.specs.List.{AllByRecursion}
-use Rattle.std.proofs.lemmas.Bool.Decides.{nat_tests}
-use Rattle.std.proofs.lemmas.Fmt.{decimal_nonempty}
-use Rattle.stroke_core.specs.declared.run.Run.{Run}
-use Rattle.stroke_core.specs.Seed.{Shape, Runs, Disc, IsCanonicalShape}
-use Rattle.edit_lang.specs.Shapes.{plus, comma, dash, colon, run_between, run_of, each_run, runs_of}
-use Rattle.edit_lang.specs.Shapes.{disc_round, disc_of}
+use Rattle.stroke_core.specs.{declared.run.Run.Run, Seed.Shape, Seed.Runs, Seed.Disc, Seed.IsCanonicalShape}
+use Rattle.edit_lang.specs.Shapes.{plus, comma, dash, colon, run_between, run_of, each_run, runs_of, disc_round}
+use Rattle.edit_lang.specs.Shapes.{disc_of}
 use Rattle.edit_lang.specs.Writing.{run_text, shape_text, HasCoordinates, ShapeHasCoordinates}
+use Rattle.stroke_lattice.proofs.Lists.{each_weaker}
 use Rattle.edit_lang.proofs.Bytes.{Above, above_append, above_less, none_pass, decimal_above, decimal_apart}
 use Rattle.edit_lang.proofs.WrittenWords.{coordinate_read, cut_read, split_joined, joined_above, IsWord}
-
-no_colon : (c : ℕ) → 48 ≤ c → c ≤ 57 → eqb c colon ≡ false
-no_colon c low high = grind (arith, nat_tests)
-
-no_dash : (c : ℕ) → 48 ≤ c → c ≤ 57 → eqb c dash ≡ false
-no_dash c low high = grind (arith, nat_tests)
-
-no_plus : (c : ℕ) → 48 ≤ c → c ≤ 57 → eqb c plus ≡ false
-no_plus c low high = grind (arith, nat_tests)
 
 -- ---- runs
 
@@ -27,8 +17,8 @@ run_read : (run : Run) → HasCoordinates run → run_of (run_text run) ≡ Some
 unfolding run_of run_between
 run_read run fits =
     let row = cut_read colon (decimal run.y) (decimal run.x0 ++ dash ∷ decimal run.x1)
-    (decimal_apart colon run.y no_colon fits.y) refl in
-    let columns = cut_read dash (decimal run.x0) (decimal run.x1) (decimal_apart dash run.x0 no_dash fits.x0) refl in
+    (decimal_apart colon run.y refl fits.y) refl in
+    let columns = cut_read dash (decimal run.x0) (decimal run.x1) (decimal_apart dash run.x0 refl fits.x0) refl in
     rw (row, columns, coordinate_read run.y fits.y, coordinate_read run.x0 fits.x0, coordinate_read run.x1 fits.x1)
     refl
 
@@ -56,15 +46,13 @@ no_comma b above = grind (arith, nat_tests)
 
 no_commas : (runs : List Run) → AllByRecursion HasCoordinates runs
     → AllByRecursion (λ run. All (λ b. eqb b comma ≡ false) (run_text run)) runs
-no_commas [] fit = tt
-no_commas (run ∷ runs) fit =
-    (none_pass (λ b. eqb b comma) 44 no_comma (run_text run) (run_above run fit.0), no_commas runs fit.1)
+no_commas runs fit = each_weaker HasCoordinates (λ run. All (λ b. eqb b comma ≡ false) (run_text run))
+    (λ run fits. none_pass (λ b. eqb b comma) 44 no_comma (run_text run) (run_above run fits)) runs fit
 
 runs_above : (runs : List Run) → AllByRecursion HasCoordinates runs
     → AllByRecursion (λ run. Above 32 (run_text run)) runs
-runs_above [] fit = tt
-runs_above (run ∷ runs) fit =
-    (above_less 32 44 (run_text run) (omega arith) (run_above run fit.0), runs_above runs fit.1)
+runs_above runs fit = each_weaker HasCoordinates (λ run. Above 32 (run_text run))
+    (λ run fits. above_less 32 44 (run_text run) (omega arith) (run_above run fits)) runs fit
 
 -- runs that are written are read
 pub runs_read : (runs : List Run) → 0 < length runs → AllByRecursion HasCoordinates runs
@@ -81,8 +69,8 @@ runs_read (run ∷ runs) some fit =
 pub disc_read : (x y r : ℕ) → x ≤ 65535 → y ≤ 65535 → r ≤ 255 → disc_of (shape_text (Disc x y r)) ≡ Some (Disc x y r)
 unfolding disc_of disc_round
 disc_read x y r fits_x fits_y small =
-    let row = cut_read colon (decimal y) (decimal x ++ plus ∷ decimal r) (decimal_apart colon y no_colon fits_y) refl in
-    let column = cut_read plus (decimal x) (decimal r) (decimal_apart plus x no_plus fits_x) refl in
+    let row = cut_read colon (decimal y) (decimal x ++ plus ∷ decimal r) (decimal_apart colon y refl fits_y) refl in
+    let column = cut_read plus (decimal x) (decimal r) (decimal_apart plus x refl fits_x) refl in
     rw (row, column, coordinate_read y fits_y, coordinate_read x fits_x, coordinate_read r (omega arith)) refl
 
 -- ---- both

@@ -1,21 +1,19 @@
 -- Words and numbers that are written, read back.
 use Rattle.std.proofs.Common.{◌≡◌, ℕ, ◌+◌, ◌<◌, ◌≤◌, Bool, true, false, cond, eqb, ltb, List, [], ◌∷◌, ◌++◌, length}
 use Rattle.std.proofs.Common.{All, Some, None, map, take, drop, refl, sym, ap, ◌∙◌, arith, append_assoc, length-append}
-use Rattle.std.proofs.Common.{decimal}
-use Rattle.std.specs.List.{AllByRecursion, filter, join_by, slice_split, position_or_len}
-use Rattle.std.specs.Str.Lines.{strip_carriage_return}
-use Rattle.std.specs.Str.Parse.{digits_value}
+use Rattle.std.proofs.Common.{decimal, filter}
 use Rattle.std.proofs.lemmas.Bool.{cond-true, cond-false, lt-ltb, le-leb}
-use Rattle.std.proofs.lemmas.Bool.Decides.{nat_tests}
-use Rattle.std.proofs.lemmas.Fmt.{decimal_is_IsNumeral, length-decimal-le}
-use Rattle.std.proofs.lemmas.List.{append-nil, take_at, drop_at}
-use Rattle.std.proofs.lemmas.List.Elements.{All-head, All-tail}
-use Rattle.std.proofs.lemmas.List.Splits.{slice_split_none, slice_split_at}
+use Rattle.std.proofs.{lemmas.Bool.Decides.nat_tests, lemmas.Fmt.decimal_is_IsNumeral, lemmas.Fmt.length-decimal-le}
+use Rattle.std.proofs.{lemmas.List.Elements.All-head, lemmas.List.Elements.All-tail}
+use Rattle.std.proofs.{lemmas.List.Splits.slice_split_none, lemmas.List.Splits.slice_split_at}
+use Rattle.std.proofs.lemmas.List.{append-nil, take_at, drop_at, map-id}
+use Rattle.stroke_lattice.proofs.Lists.{each_weaker}
+use Rattle.std.specs.List.{AllByRecursion, join_by, slice_split, position_or_len}
+use Rattle.std.specs.{Str.Lines.strip_carriage_return, Str.Parse.digits_value}
 use Rattle.edit_lang.specs.Lines.{line_feed, blank, is_blank, cut_at, cut_lines, lines_of, words_of}
 use Rattle.edit_lang.specs.Numbers.{is_number, number_of, coordinate_of}
-use Rattle.edit_lang.proofs.Digits.{all_three}
+use Rattle.edit_lang.proofs.{Digits.all_three, Cutting.cut_lines_at}
 use Rattle.edit_lang.proofs.Bytes.{Above, above_append, above_less, none_pass, not_at, digits_pass}
-use Rattle.edit_lang.proofs.Cutting.{cut_lines_at}
 
 -- ---- numbers
 
@@ -93,15 +91,10 @@ kept_all (word ∷ words) each =
     cond-true (ltb 0 (length word)) _ _ (lt-ltb 0 (length word) each.0.some)
     ∙ ap (λ (ws : List (List ℕ)). word ∷ ws) (kept_all words each.1)
 
-same_words : (words : List (List ℕ)) → map (λ word. word) words ≡ words
-same_words [] = refl
-same_words (word ∷ words) = ap (λ (ws : List (List ℕ)). word ∷ ws) (same_words words)
-
 no_blanks : (words : List (List ℕ)) → AllByRecursion IsWord words
     → AllByRecursion (λ word. All (λ b. is_blank b ≡ false) word) words
-no_blanks [] each = tt
-no_blanks (word ∷ words) each =
-    (none_pass is_blank 32 not_blank word each.0.above, no_blanks words each.1)
+no_blanks words each = each_weaker IsWord (λ word. All (λ b. is_blank b ≡ false) word)
+    (λ word is. none_pass is_blank 32 not_blank word is.above) words each
 
 -- the words of a line that was written
 pub words_read : (word : List ℕ) (words : List (List ℕ)) → AllByRecursion IsWord (word ∷ words)
@@ -110,12 +103,12 @@ unfolding words_of
 words_read word words each =
     ap (filter (λ w. ltb 0 (length w)))
     (split_joined (λ w. w) is_blank blank refl word words (no_blanks (word ∷ words) each)
-    ∙ same_words (word ∷ words))
+    ∙ map-id (word ∷ words))
     ∙ kept_all (word ∷ words) each
 
 above_31 : (words : List (List ℕ)) → AllByRecursion IsWord words → AllByRecursion (λ w. Above 31 w) words
-above_31 [] each = tt
-above_31 (word ∷ words) each = (above_less 31 32 word (omega arith) each.0.above, above_31 words each.1)
+above_31 words each = each_weaker IsWord (λ w. Above 31 w)
+    (λ word is. above_less 31 32 word (omega arith) is.above) words each
 
 -- each byte of a line that was written is a blank or above
 pub line_above : (word : List ℕ) (words : List (List ℕ)) → AllByRecursion IsWord (word ∷ words)

@@ -1,18 +1,13 @@
 -- What an edit text means: a state for each of its edits, or the fault of its first faulty line.
-use Rattle.std.specs.Prelude.{◌≡◌, ℕ, ◌+◌, List, [], ◌∷◌, ◌++◌, ◌⊎◌, if◌then◌else◌, codes, nat_eq, Option, Some}
-use Rattle.std.specs.Prelude.{None, option_to_list, Result, Ok, Err, MatchResult}
+use Rattle.std.specs.Prelude.{◌≡◌, ℕ, ◌+◌, List, [], ◌∷◌, ◌++◌, ◌⊎◌, if◌then◌else◌, codes, nat_eq, Option, Some, None}
+use Rattle.std.specs.Prelude.{option_to_list, Result, Ok, Err, MatchResult, bytes_eq}
 use Rattle.std.specs.List.{starts_with}
-use Rattle.std.specs.Str.{bytes_eq}
 use Rattle.stroke_core.specs.Seed.{Seed, Runs, Disc, IsCanonical, IsRefusal}
-use Rattle.stroke_core.specs.declared.run.Run.{Run}
-use Rattle.stroke_core.specs.Tag.{tag_of}
-use Rattle.stroke_core.specs.declared.error.StrokeError.{StrokeError}
+use Rattle.stroke_core.specs.{declared.run.Run.Run, Tag.tag_of, declared.error.StrokeError.StrokeError}
 use Rattle.stroke_lattice.specs.State.{State, placed, withdrawn}
-use Rattle.edit_lang.specs.declared.error.EditError.{EditError}
+use Rattle.edit_lang.specs.{declared.error.EditError.EditError, Lines.lines_of, Lines.words_of, Numbers.number_of}
+use Rattle.edit_lang.specs.{Numbers.◌>>=◌, Shapes.runs_of, Shapes.disc_of}
 use Rattle.edit_lang.specs.declared.error.EditError.TheVariants.{BadLine, BadTag, BadStroke, Memory}
-use Rattle.edit_lang.specs.Lines.{lines_of, words_of}
-use Rattle.edit_lang.specs.Numbers.{◌>>=◌, number_of}
-use Rattle.edit_lang.specs.Shapes.{runs_of, disc_of}
 
 -- what a line asks for: nothing, a seed to be placed under a tag, or a tag to be withdrawn; the tag is a word,
 -- not read yet

@@ -1,8 +1,7 @@
 -- The lines of a text, the words of a line, and the parts of a word.
 use Rattle.std.specs.Prelude.{◌≡◌, ℕ, ◌+◌, Bool, List, [], ◌∷◌, ◌==◌, ◌||◌, if◌then◌else◌, length, map, filter, take}
 use Rattle.std.specs.Prelude.{drop, position, nat_lt, Option, option_map}
-use Rattle.std.specs.List.{slice_split, onto_first}
-use Rattle.std.specs.Str.Lines.{strip_carriage_return}
+use Rattle.std.specs.{List.slice_split, List.onto_first, Str.Lines.strip_carriage_return}
 
 -- the byte TAB
 abbrev pub tab : ℕ

@@ -1,10 +1,8 @@
 -- The runs and the disc that a word writes.
 use Rattle.std.specs.Prelude.{ℕ, List, [], ◌∷◌, ◌==◌, Option, Some}
 use Rattle.std.specs.List.{slice_split}
-use Rattle.stroke_core.specs.declared.run.Run.{Run}
-use Rattle.stroke_core.specs.Seed.{Shape, Disc}
-use Rattle.edit_lang.specs.Lines.{cut_at}
-use Rattle.edit_lang.specs.Numbers.{◌>>=◌, coordinate_of}
+use Rattle.stroke_core.specs.{declared.run.Run.Run, Seed.Shape, Seed.Disc}
+use Rattle.edit_lang.specs.{Lines.cut_at, Numbers.◌>>=◌, Numbers.coordinate_of}
 
 -- the byte of a plus sign
 abbrev pub plus : ℕ

@@ -1,18 +1,14 @@
 -- The lines that write strokes and withdrawals in the edit language, and what the lines of a state's live strokes mean.
-use Rattle.std.specs.Prelude.{ℕ, ◌<◌, ◌≤◌, ◌^◌, List, [], ◌∷◌, ◌++◌, ◌↔◌, map, not, codes}
-use Rattle.std.specs.Prelude.{decimal}
-use Rattle.std.specs.List.{AllByRecursion, flat_map, join_by}
-use Rattle.std.specs.FinMap as finmap
-use Rattle.std.specs.FinSet as set
-use Rattle.stroke_core.specs.declared.run.Run.{Run}
+use Rattle.std.specs.Prelude.{ℕ, ◌<◌, ◌≤◌, ◌^◌, List, [], ◌∷◌, ◌++◌, ◌↔◌, map, not, codes, decimal, flat_map}
+use Rattle.std.specs.List.{AllByRecursion, join_by}
+use Rattle.stroke_core.specs.{declared.run.Run.Run, Tag.text_of}
 use Rattle.stroke_core.specs.Seed.{Seed, Shape, Runs, Disc, IsCanonical}
-use Rattle.stroke_core.specs.Tag.{text_of}
 use Rattle.stroke_lattice.specs.State.{State, HasStroke, HasTombstone, IsLive, IsJoinOf, placed, withdrawn}
 use Rattle.stroke_lattice.specs.Pieces.{Item, Placed, Withdrawn, strokes_of}
-use Rattle.edit_lang.specs.Lines.{line_feed, blank}
-use Rattle.edit_lang.specs.Numbers.{max_coordinate}
+use Rattle.edit_lang.specs.{Lines.line_feed, Lines.blank, Numbers.max_coordinate, Edit.EditSpells}
 use Rattle.edit_lang.specs.Shapes.{plus, comma, dash, colon}
-use Rattle.edit_lang.specs.Edit.{EditSpells}
+use Rattle.std.specs.FinMap as finmap
+use Rattle.std.specs.FinSet as set
 
 -- ---- lines
 

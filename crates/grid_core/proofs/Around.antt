@@ -1,18 +1,14 @@
 -- The rows around a pixel hold its neighbours, and no other pixel.
 use Rattle.std.proofs.Common.{◌≡◌, ℕ, ◌+◌, ◌-◌, ◌<◌, ◌≤◌, Bool, true, false, List, [], ◌++◌, refl, ap, subst, arith}
-use Rattle.std.proofs.Common.{inl, inr, ◌⊎◌, rules}
-use Rattle.std.specs.Prelude.{◌&&◌, nat_lt, if◌then◌else◌, Contains}
+use Rattle.std.proofs.Common.{inl, inr, ◌⊎◌, rules, ◌&&◌, nat_lt, if◌then◌else◌, Contains}
 use Rattle.std.proofs.lemmas.Bool.{cases_lt, ltb-true, lt-ltb}
 use Rattle.std.proofs.lemmas.List.Elements.{Contains-append_left, Contains-append_right, Contains-append_cases}
 use Rattle.std.proofs.lemmas.List.Elements.{Contains-push_cases}
-use Rattle.grid_core.specs.declared.conn.Conn.{Conn}
+use Rattle.grid_core.specs.{declared.conn.Conn.Conn, declared.pixel.Pixel.Pixel, Raster.IsInside}
 use Rattle.grid_core.specs.declared.conn.Conn.TheVariants.{Four, Eight}
-use Rattle.grid_core.specs.declared.pixel.Pixel.{Pixel}
-use Rattle.grid_core.specs.Raster.{IsInside}
 use Rattle.grid_core.specs.Neighbours.{apart, AreNeighbours, IsInRasterOrder}
 use Rattle.grid_core.specs.Rows.{has_diagonals, pixel_if, row_around, rows_around}
-use Rattle.grid_core.proofs.Common.{both_true, true_and, not_in_empty}
-use Rattle.grid_core.proofs.Pixels.{same_pixel}
+use Rattle.grid_core.proofs.{Common.both_true, Common.true_and, Common.not_in_empty, Pixels.same_pixel}
 
 -- ---- one pixel, or none
 

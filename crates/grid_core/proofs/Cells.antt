@@ -1,7 +1,6 @@
 -- Each place among the cells of an image is the place of one pixel.
 use Rattle.std.proofs.Common.{◌≡◌, ℕ, zero, suc, ◌+◌, ◌*◌, ◌/◌, ◌%◌, ◌<◌, ◌≤◌, length, sym, ◌∙◌, ap, subst, zero-mul}
-use Rattle.std.proofs.Common.{arith}
-use Rattle.std.specs.Prelude.{◌≢◌, slice_index}
+use Rattle.std.proofs.Common.{arith, ◌≢◌, slice_index}
 use Rattle.std.proofs.Math.Nat.{mod-lt, mod-add-div'}
 use Rattle.std.proofs.lemmas.Nat.{mul-add-lt, same_from_place, div_below}
 use Rattle.std.proofs.lemmas.List.{get_or-set_same, get_or-set_other, ext_get_or}

@@ -1,9 +1,8 @@
 -- Cells that were lent to be changed are given back.
 use Rattle.std.proofs.Common.{◌≡◌, ℕ, List, ◌++◌, length, take, drop, sym, ap, ◌∙◌}
-use Rattle.std.specs.List.{refill}
 use Rattle.std.proofs.Math.Seq.{take-append_seam}
-use Rattle.grid_core.specs.Raster.{Raster}
-use Rattle.grid_core.specs.Lending.{with_cells}
+use Rattle.std.specs.List.{refill}
+use Rattle.grid_core.specs.{Raster.Raster, Lending.with_cells}
 
 pub cells_given_back : (r : Raster) (cells : List ℕ) → length cells ≡ length r.cells
     → with_cells r cells ≡ record { width = r.width; height = r.height; cells = cells }

@@ -1,16 +1,12 @@
 -- Each lawful image grows into a reconstruction: while a pixel can still raise a neighbour, let it.
 use Rattle.std.proofs.Common.{◌≡◌, ℕ, zero, suc, ◌+◌, ◌-◌, ◌<◌, ◌≤◌, min, refl, sym, subst, arith, inl, inr, ◌⊎◌}
 use Rattle.std.proofs.lemmas.Bool.{cases_lt, cases_eq}
-use Rattle.grid_core.specs.declared.conn.Conn.{Conn}
-use Rattle.grid_core.specs.declared.conn.Conn.TheVariants.{Four, Eight}
-use Rattle.grid_core.specs.declared.pixel.Pixel.{Pixel}
-use Rattle.grid_core.specs.Neighbours.{AreNeighbours, apart}
-use Rattle.grid_core.specs.Path.{Domain, Inside}
+use Rattle.grid_core.specs.{declared.conn.Conn.Conn, declared.conn.Conn.TheVariants.Four}
+use Rattle.grid_core.specs.{declared.conn.Conn.TheVariants.Eight, declared.pixel.Pixel.Pixel, Neighbours.AreNeighbours}
+use Rattle.grid_core.specs.{Neighbours.apart, Path.Domain, Path.Inside, Owed.sum_over}
 use Rattle.grid_core.specs.Reconstruction.{IsReconstruction, IsLawful, IsClosed}
-use Rattle.grid_core.proofs.Pixels.{same_pixel_or_not}
+use Rattle.grid_core.proofs.{Pixels.same_pixel_or_not, Sums.sum_over-less}
 use Rattle.grid_core.proofs.Images.{raise_is_lawful, closed_is_reconstruction}
-use Rattle.grid_core.specs.Owed.{sum_over}
-use Rattle.grid_core.proofs.Sums.{sum_over-less}
 
 -- ---- looking for a pixel
 

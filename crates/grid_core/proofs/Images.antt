@@ -1,7 +1,7 @@
 -- Raises, lawful images and the reconstruction.
 use Rattle.std.proofs.Common.{◌≡◌, ℕ, ◌≤◌, min, List, [], ◌∷◌, sym, subst, arith, inl, inr}
-use Rattle.std.specs.List.{AllByRecursion}
 use Rattle.std.proofs.lemmas.Bool.{cases_lt}
+use Rattle.std.specs.List.{AllByRecursion}
 use Rattle.grid_core.specs.declared.pixel.Pixel.{Pixel}
 use Rattle.grid_core.specs.Path.{Domain, Inside, IsPath, end_of, Reaches}
 use Rattle.grid_core.specs.Reconstruction.{IsReconstruction, IsLawful, IsClosed, IsRaise}

@@ -1,14 +1,10 @@
 -- What is owed to an image is one number, and each lawful image has it.
 use Rattle.std.proofs.Common.{◌≡◌, ℕ, ◌-◌, ◌<◌, ◌≤◌, refl, sym, ◌∙◌, subst, arith, inl, inr}
 use Rattle.std.proofs.lemmas.Bool.{cases_lt}
-use Rattle.grid_core.specs.declared.pixel.Pixel.{Pixel}
-use Rattle.grid_core.specs.Path.{Domain, Inside, Reaches}
-use Rattle.grid_core.specs.Reconstruction.{IsReconstruction, IsLawful}
-use Rattle.grid_core.proofs.Reach.{reaches_rises}
-use Rattle.grid_core.proofs.Images.{one_reconstruction, lies_between}
-use Rattle.grid_core.specs.Owed.{sum_over, IsOwed}
-use Rattle.grid_core.proofs.Sums.{sum_over-same, sum_over-zero, sum_over-less}
-use Rattle.grid_core.proofs.Growing.{reconstruction_of}
+use Rattle.grid_core.specs.{declared.pixel.Pixel.Pixel, Path.Domain, Path.Inside, Path.Reaches}
+use Rattle.grid_core.specs.{Reconstruction.IsReconstruction, Reconstruction.IsLawful, Owed.sum_over, Owed.IsOwed}
+use Rattle.grid_core.proofs.{Reach.reaches_rises, Images.one_reconstruction, Images.lies_between, Sums.sum_over-same}
+use Rattle.grid_core.proofs.{Sums.sum_over-zero, Sums.sum_over-less, Growing.reconstruction_of}
 
 pub one_owed : (d : Domain) (mask marker j : Pixel → ℕ) (n m : ℕ) → IsOwed d mask marker j n
     → IsOwed d mask marker j m → n ≡ m

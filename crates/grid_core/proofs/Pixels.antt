@@ -1,9 +1,8 @@
 -- Neighbours are neighbours both ways, and pixels are equal or not.
 use Rattle.std.proofs.Common.{◌≡◌, ◌≤◌, ap, arith, inl, inr, ◌⊎◌}
 use Rattle.std.proofs.lemmas.Bool.{cases_eq}
-use Rattle.grid_core.specs.declared.conn.Conn.{Conn}
+use Rattle.grid_core.specs.{declared.conn.Conn.Conn, declared.pixel.Pixel.Pixel}
 use Rattle.grid_core.specs.declared.conn.Conn.TheVariants.{Four, Eight}
-use Rattle.grid_core.specs.declared.pixel.Pixel.{Pixel}
 use Rattle.grid_core.specs.Neighbours.{apart, AreNeighbours}
 
 -- neighbours are neighbours both ways

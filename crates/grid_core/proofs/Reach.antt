@@ -1,8 +1,7 @@
 -- Paths are built at their front: a pixel reaches a level here, or by a step to a neighbour.
 use Rattle.std.proofs.Common.{ℕ, ◌≤◌, List, [], ◌∷◌, arith}
 use Rattle.std.specs.List.{AllByRecursion}
-use Rattle.grid_core.specs.declared.pixel.Pixel.{Pixel}
-use Rattle.grid_core.specs.Neighbours.{AreNeighbours}
+use Rattle.grid_core.specs.{declared.pixel.Pixel.Pixel, Neighbours.AreNeighbours}
 use Rattle.grid_core.specs.Path.{Domain, Inside, IsPath, end_of, Reaches}
 
 -- values at least k are at least each lower level

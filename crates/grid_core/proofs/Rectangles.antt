@@ -1,9 +1,6 @@
 -- The pixels of a rectangle, counted from its upper left corner.
-use Rattle.std.proofs.Common.{◌≡◌, ℕ, ◌-◌, ap, arith}
-use Rattle.std.specs.Prelude.{◌↔◌}
-use Rattle.grid_core.specs.declared.pixel.Pixel.{Pixel}
-use Rattle.grid_core.specs.declared.rect.Rect.{Rect}
-use Rattle.grid_core.specs.Raster.{IsInside}
+use Rattle.std.proofs.Common.{◌≡◌, ℕ, ◌-◌, ap, arith, ◌↔◌}
+use Rattle.grid_core.specs.{declared.pixel.Pixel.Pixel, declared.rect.Rect.Rect, Raster.IsInside}
 use Rattle.grid_core.specs.Rects.{IsInRect, RectFits, in_image}
 use Rattle.grid_core.proofs.Pixels.{same_pixel}
 

@@ -1,9 +1,7 @@
 -- Sums over numbers and over pixels.
 use Rattle.std.proofs.Common.{◌≡◌, ℕ, zero, suc, ◌<◌, ◌≤◌, subst, arith, inl, inr}
 use Rattle.std.proofs.lemmas.Bool.{cases_eq}
-use Rattle.grid_core.specs.declared.pixel.Pixel.{Pixel}
-use Rattle.grid_core.specs.Path.{Domain, Inside}
-use Rattle.grid_core.specs.Owed.{sum_below, sum_over}
+use Rattle.grid_core.specs.{declared.pixel.Pixel.Pixel, Path.Domain, Path.Inside, Owed.sum_below, Owed.sum_over}
 
 -- ---- over numbers
 

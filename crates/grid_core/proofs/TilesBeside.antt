@@ -1,19 +1,15 @@
 -- The tiles that touch a tile are the neighbours of its place among the tiles.
-use Rattle.std.proofs.Common.{◌≡◌, ℕ, zero, suc, ◌+◌, ◌*◌, ◌<◌, ◌≤◌, List, [], ◌∷◌, inl, inr, length, get_or, map}
-use Rattle.std.proofs.Common.{ap, sym, ◌∙◌, subst, arith, add-one}
-use Rattle.std.specs.Prelude.{◌↔◌, Contains}
-use Rattle.std.specs.List.Sorted.{IsStrictlyIncreasing}
-use Rattle.std.proofs.lemmas.Bool.{cases_lt}
+use Rattle.std.proofs.Common.{◌≡◌, ℕ, zero, suc, ◌+◌, ◌*◌, ◌<◌, ◌≤◌, List, [], ◌∷◌, inl, inr, length, get_or, map, ap}
+use Rattle.std.proofs.Common.{sym, ◌∙◌, subst, arith, add-one, ◌↔◌, Contains}
+use Rattle.std.proofs.{lemmas.Bool.cases_lt, lemmas.List.Elements.Contains-get_or}
 use Rattle.std.proofs.lemmas.Nat.{div-mul-add, mod-mul-add, mul-add-lt, mul-le}
 use Rattle.std.proofs.lemmas.List.{get_or-map, length-map}
-use Rattle.std.proofs.lemmas.List.Elements.{Contains-get_or}
-use Rattle.grid_core.specs.declared.conn.Conn.TheVariants.{Eight}
-use Rattle.grid_core.specs.declared.pixel.Pixel.{Pixel}
+use Rattle.std.specs.List.Sorted.{IsStrictlyIncreasing}
+use Rattle.grid_core.specs.{declared.conn.Conn.TheVariants.Eight, declared.pixel.Pixel.Pixel}
 use Rattle.grid_core.specs.Raster.{IsInside, index_of}
 use Rattle.grid_core.specs.Neighbours.{apart, AreNeighbours, IsBefore, IsInRasterOrder}
 use Rattle.grid_core.specs.Tiles.{Tiles, IsTiled, AreTouching, columns_of, rows_of, count_of, column_of, row_of}
-use Rattle.grid_core.proofs.Common.{in_map}
-use Rattle.grid_core.proofs.Tilings.{column_of-within, row_of-within, tile_at_place}
+use Rattle.grid_core.proofs.{Common.in_map, Tilings.column_of-within, Tilings.row_of-within, Tilings.tile_at_place}
 
 -- ---- images of lists
 

@@ -1,17 +1,12 @@
 -- Tiles: in which one a pixel lies, and which touch.
-use Rattle.std.proofs.Common.{◌≡◌, ℕ, ◌+◌, ◌-◌, ◌*◌, ◌/◌, ◌<◌, ◌≤◌, ◌⊎◌, inl, inr, ap, sym, ◌∙◌, subst, arith}
-use Rattle.std.specs.Prelude.{◌↔◌, min}
+use Rattle.std.proofs.Common.{◌≡◌, ℕ, ◌+◌, ◌-◌, ◌*◌, ◌/◌, ◌<◌, ◌≤◌, ◌⊎◌, inl, inr, ap, sym, ◌∙◌, subst, arith, ◌↔◌, min}
 use Rattle.std.proofs.lemmas.Bool.{cases_eq}
 use Rattle.std.proofs.lemmas.Nat.{div-add-mod', div_below, mod_below, mul-add-lt, div-mul-add, mod-mul-add}
-use Rattle.grid_core.specs.declared.conn.Conn.{Conn}
-use Rattle.grid_core.specs.declared.pixel.Pixel.{Pixel}
-use Rattle.grid_core.specs.Raster.{IsInside}
-use Rattle.grid_core.specs.Neighbours.{AreNeighbours}
-use Rattle.grid_core.specs.Rects.{IsInRect, RectFits, in_image}
+use Rattle.grid_core.specs.{declared.conn.Conn.Conn, declared.pixel.Pixel.Pixel, Raster.IsInside}
+use Rattle.grid_core.specs.{Neighbours.AreNeighbours, Rects.IsInRect, Rects.RectFits, Rects.in_image}
 use Rattle.grid_core.specs.Tiles.{Tiles, IsTiled, AreTouching, columns_of, rows_of, count_of, column_of, row_of}
 use Rattle.grid_core.specs.Tiles.{tile_of, rect_of}
-use Rattle.grid_core.proofs.Pixels.{near}
-use Rattle.grid_core.proofs.Rectangles.{rect_pixels_lie_in_rect, in_rect_inside}
+use Rattle.grid_core.proofs.{Pixels.near, Rectangles.rect_pixels_lie_in_rect, Rectangles.in_rect_inside}
 use Rattle.grid_core.proofs.Spans.{some_span, span_of-within, span_begins, in_span, span_from, near_spans}
 
 -- a tile's side is positive

@@ -1,8 +1,6 @@
 -- Bounding boxes of pixels.
 use Rattle.std.specs.Prelude.{◌+◌, ◌-◌, ◌<◌, ◌≤◌, ◌⊎◌, min, max}
-use Rattle.grid_core.specs.declared.bounds.Bounds.{Bounds}
-use Rattle.grid_core.specs.declared.pixel.Pixel.{Pixel}
-use Rattle.grid_core.specs.declared.rect.Rect.{Rect}
+use Rattle.grid_core.specs.{declared.bounds.Bounds.Bounds, declared.pixel.Pixel.Pixel, declared.rect.Rect.Rect}
 
 -- the pixel lies within the bounds
 abbrev pub IsInBounds : Bounds → Pixel → Type 0

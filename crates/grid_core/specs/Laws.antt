@@ -1,10 +1,8 @@
 -- The laws of reconstruction, as statements. Public functions have them as their contracts.
 use Rattle.std.specs.Prelude.{◌≡◌, ℕ, ◌≤◌, ◌↔◌}
-use Rattle.grid_core.specs.declared.pixel.Pixel.{Pixel}
-use Rattle.grid_core.specs.Neighbours.{AreNeighbours}
+use Rattle.grid_core.specs.{declared.pixel.Pixel.Pixel, Neighbours.AreNeighbours, Owed.IsOwed}
 use Rattle.grid_core.specs.Path.{Domain, Inside, Reaches}
 use Rattle.grid_core.specs.Reconstruction.{IsReconstruction, IsLawful, IsClosed, IsRaise}
-use Rattle.grid_core.specs.Owed.{IsOwed}
 
 -- a mask and a marker have at most one reconstruction
 abbrev pub AtMostOneReconstruction : Type 0

@@ -1,9 +1,7 @@
 -- What a grid is once its cells, lent to be changed in place, are given back.
-use Rattle.std.specs.Prelude.{◌≡◌, ℕ, List, length}
+use Rattle.std.specs.{Prelude.◌≡◌, Prelude.ℕ, Prelude.List, Prelude.length, List.refill}
 use Rattle.std.specs.Borrow.{Lends, MutBor, Fml, Array, u32}
-use Rattle.std.specs.List.{refill}
-use Rattle.grid_core.specs.Raster.{Raster}
-use Rattle.grid_core.specs.contracts.grid.Grid.{the_row}
+use Rattle.grid_core.specs.{Raster.Raster, contracts.grid.Grid.the_row}
 
 -- the image with other values and as many cells: too many values are cut, and too few filled up from its own
 abbrev pub with_cells : Raster → List ℕ → Raster

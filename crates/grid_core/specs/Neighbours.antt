@@ -1,9 +1,8 @@
 -- Which pixels are neighbours.
 use Rattle.std.specs.Prelude.{◌≡◌, ℕ, ◌+◌, ◌-◌, ◌<◌, ◌≤◌, ◌⊎◌, List, [], ◌∷◌}
 use Rattle.std.specs.List.{AllByRecursion}
-use Rattle.grid_core.specs.declared.conn.Conn.{Conn}
+use Rattle.grid_core.specs.{declared.conn.Conn.Conn, declared.pixel.Pixel.Pixel}
 use Rattle.grid_core.specs.declared.conn.Conn.TheVariants.{Four, Eight}
-use Rattle.grid_core.specs.declared.pixel.Pixel.{Pixel}
 
 -- how far two coordinates lie apart
 abbrev pub apart : ℕ → ℕ → ℕ

@@ -1,8 +1,6 @@
 -- How much an image still lacks of the reconstruction.
 use Rattle.std.specs.Prelude.{◌≡◌, ℕ, zero, suc, ◌+◌, ◌-◌}
-use Rattle.grid_core.specs.declared.pixel.Pixel.{Pixel}
-use Rattle.grid_core.specs.Path.{Domain}
-use Rattle.grid_core.specs.Reconstruction.{IsReconstruction}
+use Rattle.grid_core.specs.{declared.pixel.Pixel.Pixel, Path.Domain, Reconstruction.IsReconstruction}
 
 -- f 0 + f 1 + .. + f (n - 1)
 abbrev pub sum_below : (ℕ → ℕ) → ℕ → ℕ

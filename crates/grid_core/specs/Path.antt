@@ -1,10 +1,7 @@
 -- Paths of neighbouring pixels, and the levels that a pixel reaches along them.
-use Rattle.std.specs.Prelude.{ℕ, ◌≤◌, List, [], ◌∷◌}
-use Rattle.std.specs.List.{AllByRecursion}
-use Rattle.grid_core.specs.declared.conn.Conn.{Conn}
-use Rattle.grid_core.specs.declared.pixel.Pixel.{Pixel}
+use Rattle.std.specs.{Prelude.ℕ, Prelude.◌≤◌, Prelude.List, Prelude.[], Prelude.◌∷◌, List.AllByRecursion}
+use Rattle.grid_core.specs.{declared.conn.Conn.Conn, declared.pixel.Pixel.Pixel, Neighbours.AreNeighbours}
 use Rattle.grid_core.specs.Raster.{Raster, IsInside}
-use Rattle.grid_core.specs.Neighbours.{AreNeighbours}
 
 -- where images are defined: a rectangle of pixels, with its connectivity
 pub record Domain : Type 0 where

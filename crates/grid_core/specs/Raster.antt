@@ -1,6 +1,5 @@
 -- An image as plain data, and its values at pixels.
-use Rattle.std.specs.Prelude.{◌≡◌, ℕ, ◌+◌, ◌-◌, ◌*◌, ◌<◌, ◌≤◌, ◌⊎◌, List, length, slice_index, slice_set}
-use Rattle.std.specs.List.{sum_by}
+use Rattle.std.specs.Prelude.{◌≡◌, ℕ, ◌+◌, ◌-◌, ◌*◌, ◌<◌, ◌≤◌, ◌⊎◌, List, length, slice_index, slice_set, sum_by}
 use Rattle.grid_core.specs.declared.pixel.Pixel.{Pixel}
 
 -- an image: a width, a height, and the values row by row from the top, each row from the left

@@ -1,10 +1,8 @@
 -- Laws of images, as statements. Public functions have them as their contracts.
 use Rattle.std.specs.Prelude.{◌≡◌, ◌≢◌, ◌≤◌, ◌↔◌, ℕ, Contains}
-use Rattle.grid_core.specs.declared.conn.Conn.{Conn}
-use Rattle.grid_core.specs.declared.pixel.Pixel.{Pixel}
+use Rattle.grid_core.specs.{declared.conn.Conn.Conn, declared.pixel.Pixel.Pixel, Rows.rows_around}
 use Rattle.grid_core.specs.Raster.{Raster, IsInside, IsFilled, IsBelow, value_at, with_value}
 use Rattle.grid_core.specs.Neighbours.{AreNeighbours, IsInRasterOrder}
-use Rattle.grid_core.specs.Rows.{rows_around}
 
 -- a new value at a pixel is read back there
 abbrev pub SetIsRead : Type 0

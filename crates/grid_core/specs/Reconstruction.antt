@@ -1,8 +1,7 @@
 -- The reconstruction by dilation of a mask from a marker, by thresholds (Vincent 1993),
 -- and the images on the way to it.
 use Rattle.std.specs.Prelude.{◌≡◌, ℕ, ◌<◌, ◌≤◌, min, max}
-use Rattle.grid_core.specs.declared.pixel.Pixel.{Pixel}
-use Rattle.grid_core.specs.Neighbours.{AreNeighbours}
+use Rattle.grid_core.specs.{declared.pixel.Pixel.Pixel, Neighbours.AreNeighbours}
 use Rattle.grid_core.specs.Path.{Domain, Inside, Reaches}
 
 -- at each pixel the value is the greatest level that the pixel reaches

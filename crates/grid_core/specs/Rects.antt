@@ -1,10 +1,7 @@
 -- Rectangles of pixels, and the part of an image in one.
 use Rattle.std.specs.Prelude.{◌≡◌, ℕ, ◌+◌, ◌<◌, ◌≤◌, List, length, slice_index}
-use Rattle.grid_core.specs.declared.conn.Conn.{Conn}
-use Rattle.grid_core.specs.declared.pixel.Pixel.{Pixel}
-use Rattle.grid_core.specs.declared.rect.Rect.{Rect}
+use Rattle.grid_core.specs.{declared.conn.Conn.Conn, declared.pixel.Pixel.Pixel, declared.rect.Rect.Rect, Path.Domain}
 use Rattle.grid_core.specs.Raster.{Raster, IsInside, IsFilled, IsOfSize, value_at}
-use Rattle.grid_core.specs.Path.{Domain}
 
 -- the pixel lies in the rectangle
 abbrev pub IsInRect : Rect → Pixel → Type 0

@@ -1,11 +1,7 @@
 -- Laws of tiles and rectangles, as statements. Public functions have them as their contracts.
 use Rattle.std.specs.Prelude.{◌≡◌, ℕ, ◌<◌, ◌⊎◌, ◌↔◌}
-use Rattle.grid_core.specs.declared.conn.Conn.{Conn}
-use Rattle.grid_core.specs.declared.pixel.Pixel.{Pixel}
-use Rattle.grid_core.specs.declared.rect.Rect.{Rect}
-use Rattle.grid_core.specs.Raster.{IsInside}
-use Rattle.grid_core.specs.Neighbours.{AreNeighbours}
-use Rattle.grid_core.specs.Rects.{IsInRect, RectFits, in_image}
+use Rattle.grid_core.specs.{declared.conn.Conn.Conn, declared.pixel.Pixel.Pixel, declared.rect.Rect.Rect}
+use Rattle.grid_core.specs.{Raster.IsInside, Neighbours.AreNeighbours, Rects.IsInRect, Rects.RectFits, Rects.in_image}
 use Rattle.grid_core.specs.Tiles.{Tiles, IsTiled, AreTouching, count_of, tile_of, rect_of}
 
 -- each pixel of the image lies in the rectangle of its tile and of no other

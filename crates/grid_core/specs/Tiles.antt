@@ -1,10 +1,7 @@
 -- Images cut into square tiles, which are numbered row by row from 0.
 use Rattle.std.specs.Prelude.{◌≢◌, ℕ, ◌+◌, ◌-◌, ◌*◌, ◌/◌, ◌%◌, ◌≤◌, min}
 use Rattle.std.specs.Int.{div_ceil}
-use Rattle.grid_core.specs.declared.pixel.Pixel.{Pixel}
-use Rattle.grid_core.specs.declared.rect.Rect.{Rect}
-use Rattle.grid_core.specs.Raster.{IsImageSize}
-use Rattle.grid_core.specs.Neighbours.{apart}
+use Rattle.grid_core.specs.{declared.pixel.Pixel.Pixel, declared.rect.Rect.Rect, Raster.IsImageSize, Neighbours.apart}
 
 -- an image's width and height, and the side of its tiles
 pub record Tiles : Type 0 where

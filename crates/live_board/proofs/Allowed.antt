@@ -1,20 +1,14 @@
 -- What the keeper and a hand may ask a word to become.
 use Rattle.std.proofs.Common.{◌*◌, ◌+◌, ◌<◌, Contains, arith, min, slice_index, subst, sym, ℕ, ◌≡◌, ◌≤◌}
-use Rattle.grid_core.proofs.Pixels.{AreNeighbours-sym}
-use Rattle.grid_core.proofs.Reach.{reaches_by_step, reaches_here, reaches_lower}
-use Rattle.grid_core.specs.Raster.{Raster, value_at}
-use Rattle.grid_core.specs.declared.pixel.Pixel.{Pixel}
-use Rattle.live_board.proofs.Boards.{is_keeper}
-use Rattle.live_board.proofs.Places.{fact_is}
-use Rattle.live_board.specs.Seats.{IsBeside, planted_fact, raised_fact}
-use Rattle.live_board.specs.Steps.{IsAllowed, MayLift}
+use Rattle.grid_core.proofs.{Pixels.AreNeighbours-sym, Reach.reaches_by_step, Reach.reaches_here, Reach.reaches_lower}
+use Rattle.grid_core.specs.{Raster.Raster, Raster.value_at, declared.pixel.Pixel.Pixel}
+use Rattle.live_board.proofs.{Boards.is_keeper, Places.fact_is}
+use Rattle.live_board.specs.{Seats.IsBeside, Seats.planted_fact, Seats.raised_fact, Steps.IsAllowed, Steps.MayLift}
+use Rattle.live_board.specs.{declared.fact.Fact.Fact, declared.rule.Ground.Ground, declared.rule.SeatView.SeatView}
 use Rattle.live_board.specs.Words.{IsOn, Supports, domain, mask_of, number, place_of}
-use Rattle.live_board.specs.declared.fact.Fact.{Fact}
-use Rattle.live_board.specs.declared.rule.Ground.{Ground}
-use Rattle.live_board.specs.declared.rule.View.{View}
 
 -- the keeper may plant its marker
-pub may_plant : (base : Ground) (id : ℕ) (v : View) (p : Pixel) (n : ℕ) → id ≡ 0 → IsOn base p
+pub may_plant : (base : Ground) (id : ℕ) (v : SeatView) (p : Pixel) (n : ℕ) → id ≡ 0 → IsOn base p
     → value_at v.marker p ≤ value_at (mask_of base) p → value_at v.marker p < 65536
     → n ≡ number (planted_fact v p) → MayLift base id v p n
 may_plant base id v p n first on below small is s h at =
@@ -26,7 +20,7 @@ may_plant base id v p n first on below small is s h at =
     (omega (arith, mine.0), λ e. subst (λ (m : Raster). Supports base m p x) mine.1 reach)
 
 -- a hand may raise a neighbour of a pixel of which it knows a fact
-pub may_raise : (base : Ground) (id : ℕ) (v : View) (from : Fact) (q : Pixel) (n : ℕ) → Contains v.facts from
+pub may_raise : (base : Ground) (id : ℕ) (v : SeatView) (from : Fact) (q : Pixel) (n : ℕ) → Contains v.facts from
     → IsBeside base from.pixel q → n ≡ number (raised_fact base from q) → MayLift base id v q n
 may_raise base id v from q n known beside is s h at =
     let held = (h.seats id v at).facts from known in

@@ -1,34 +1,22 @@
 -- The image of a closed board, from the words that it left.
 use Rattle.std.proofs.Common.{Contains, ◌%◌, ◌*◌, ◌+◌, ◌/◌, ◌<◌, Bool, IsTrue, List, [], ap, arith, length-set, refl}
 use Rattle.std.proofs.Common.{slice_index, subst, subst₂, sym, ℕ, ◌↔◌, ◌∙◌, ◌∷◌, ◌≡◌, ◌≤◌}
-use Rattle.std.proofs.lemmas.Nat.{mul-add-lt}
 use Prim.Native.Nat.{suc, zero}
 use Rattle.atomic_table.specs.Table.{Seen, State}
 use Rattle.grid_core.proofs.Cells.{below_at_each_pixel, each_pixel_below, same_place, set_is_read, set_keeps_others}
-use Rattle.grid_core.proofs.Images.{closed_is_reconstruction}
-use Rattle.grid_core.proofs.Pixels.{same_pixel_or_not}
+use Rattle.grid_core.proofs.{Images.closed_is_reconstruction, Pixels.same_pixel_or_not}
 use Rattle.grid_core.proofs.Reach.{reaches_within_mask, reaches_zero}
 use Rattle.grid_core.specs.Raster.{IsBelow, IsFilled, IsInside, Raster, index_of, value_at, with_value}
-use Rattle.grid_core.specs.Reconstruction.{IsClosed, IsReconstruction}
-use Rattle.grid_core.specs.declared.pixel.Pixel.{Pixel}
-use Rattle.pgm_codec.specs.Graymap.{Graymap}
+use Rattle.grid_core.specs.{Reconstruction.IsClosed, declared.pixel.Pixel.Pixel}
 use lib.ListN.{get_elem?}
 use mathlib.Core.Logic.{dite, ⊎_elim}
 use mathlib.Core.Option.{some, some-injective, some-ne-none}
-use native.Mathlib.Decide.{dec_le, ℕ_discrete}
-use Rattle.live_board.proofs.Boards.{is_keeper}
-use Rattle.live_board.proofs.Places.{number_is, place_within, small_value}
-use Rattle.live_board.specs.Closing.{AreAllPlanted, IsImageOf}
-use Rattle.live_board.specs.Reading.{IsEnding, IsReadOff, IsValueIn}
-use Rattle.live_board.specs.Rule.{IsBacked, IsBoard}
-use Rattle.live_board.specs.Seats.{planted_fact}
+use native.Mathlib.Decide.{ℕ_discrete}
+use Rattle.live_board.proofs.{Boards.is_keeper, Places.number_is, Places.place_within, Places.small_value}
+use Rattle.live_board.specs.{Closing.IsImageOf, Rule.IsBacked, Rule.IsBoard, Seats.planted_fact}
+use Rattle.live_board.specs.{declared.fact.Fact.Fact, declared.rule.Ground.Ground, declared.rule.SeatView.SeatView}
+use Rattle.live_board.specs.Reading.{IsReadOff, IsValueIn}
 use Rattle.live_board.specs.Words.{IsOn, Supports, domain, mask_of, place_of, size_of}
-use Rattle.live_board.specs.declared.fact.Fact.{Fact}
-use Rattle.live_board.specs.declared.rule.Ground.{Ground}
-use Rattle.live_board.specs.declared.rule.View.{View}
-
-strictly : (a b : ℕ) → a < b + 1 → (a ≡ b → ⊥) → a < b
-strictly a b low ne = dite (dec_le (a + 1) b) (λ le. omega (arith, le)) (λ gt. absurd (ne (omega (arith, gt, low))))
 
 found_there : (l : List ℕ) (i n : ℕ) → get_elem? l i ≡ some n → slice_index l i ≡ n
 found_there [] i n e = absurd (some-ne-none n (sym e))
@@ -68,7 +56,7 @@ read_more base g words k n v p old new read on place at told is =
         → index_of (mask_of base).width q < k
     before q on_q low other = dite (ℕ_discrete (index_of (mask_of base).width q) k)
         (λ e. absurd (other (same_place (mask_of base).width (mask_of base).height p q on on_q (place ∙ sym e))))
-        (λ ne. strictly (index_of (mask_of base).width q) k low ne)
+        (λ ne. omega (arith, low, ne))
 
 pub value_reached : (base : Ground) (words : List ℕ) (g : ℕ) (m : Raster) (p : Pixel) (v : ℕ) → IsOn base p
     → IsBacked base words g m p → IsValueIn g (slice_index words (place_of base p)) v → Supports base m p v
@@ -79,25 +67,6 @@ value_reached base words g m p v on backed told =
     (sym (number_is p n) ∙ ap (λ (k : ℕ). k * 65536 + n % 65536) e)))
     (λ (other : n / 65536 ≡ g → ⊥). subst (Supports base m p) (sym (told.other other))
     (reaches_zero (domain base) (value_at (mask_of base)) (value_at m) p on))
-
--- the image is nowhere above the mask
-pub within_mask : (base : Ground) (s : State ℕ View) (h : IsBoard base s) (v : View) (image : Raster)
-    → get_elem? s.views 0 ≡ some v → IsReadOff base v.generation s.words (size_of base) image
-    → IsBelow image (mask_of base)
-within_mask base s h v image at read =
-    let mine = is_keeper s.views h.generation h.marker 0 v h.keeper at refl in
-    each_pixel_below image (mask_of base) read.filled read.width read.height (λ p inside.
-    let on : IsOn base p = (
-      subst (λ (w : ℕ). p.x < w) read.width inside.0,
-      subst (λ (z : ℕ). p.y < z) read.height inside.1,
-    ) in
-    let place : index_of (mask_of base).width p < size_of base =
-    (let below : p.y * (mask_of base).width + p.x < (mask_of base).width * (mask_of base).height =
-    mul-add-lt p.y (mask_of base).width p.x (mask_of base).height on.1 on.0 in omega (arith, below)) in
-    reaches_within_mask (domain base) (value_at (mask_of base)) (value_at h.marker) p (value_at image p)
-    (value_reached base s.words h.generation h.marker p (value_at image p) on (h.pixels p on)
-    (subst (λ (g : ℕ). IsValueIn g (slice_index s.words (place_of base p)) (value_at image p)) mine.0
-    (read.values p on place))))
 
 -- a word of the present generation that is no less than a number of it has no less a value
 value_above : (g n v least : ℕ) → least < 65536 → g * 65536 + least ≤ n → n < (g + 1) * 65536 → IsValueIn g n v
@@ -111,79 +80,81 @@ value_above g n v least small low high told =
     let is : v ≡ b = told.same same in
     omega arith
 
--- the last state of a table, read off, is the image of the board
-pub image_of : (base : Ground) (s : State ℕ View) (h : IsBoard base s) (v : View) (image : Raster) (made : Graymap)
-    (closed : Bool) → get_elem? s.views 0 ≡ some v → IsBelow v.marker (mask_of base) → IsFilled v.marker
-    → IsReadOff base v.generation s.words (size_of base) image → IsEnding base image made closed
-    → IsImageOf base v made closed
-image_of base s h v image made closed at below filled read ending = record {
-  width = ap (λ (r : Raster). r.width) ending.raster ∙ read.width;
-  height = ap (λ (r : Raster). r.height) ending.raster ∙ read.height;
-  maxval = ending.maxval;
-  reached = λ p on. subst (λ (r : Raster). Supports base v.marker p (value_at r p)) (sym ending.raster) (reached p on);
-  known = λ f known_f same.
-      subst (λ (r : Raster). f.value ≤ value_at r f.pixel) (sym ending.raster) (known f known_f same);
-  above = λ planted. subst (IsBelow v.marker) (sym ending.raster) (each_pixel_below v.marker image filled
-      (below.width ∙ sym read.width) (below.height ∙ sym read.height) (above planted));
-  closed_is = subst (λ (r : Raster). IsTrue closed ↔ IsClosed (domain base) mask (value_at r)) (sym ending.raster)
-      ending.closed_is;
-  grown = λ is under.
-      subst (λ (r : Raster). IsReconstruction (domain base) mask (value_at v.marker) (value_at r)) (sym ending.raster)
-      (closed_is_reconstruction (domain base) mask (value_at v.marker) (value_at image)
-      (λ p on. (
-        below_at_each_pixel v.marker image filled (subst (IsBelow v.marker) ending.raster under) p (inside p on),
-        reached p on,
-      )) (ending.closed_is.0 is));
-}
-  where
-    mask : Pixel → ℕ
-    mask = value_at (mask_of base)
-
-    mine : (v.generation ≡ h.generation) × (v.marker ≡ h.marker)
-    mine = is_keeper s.views h.generation h.marker 0 v h.keeper at refl
-
-    inside : (p : Pixel) → IsOn base p → IsInside v.marker.width v.marker.height p
-    inside p on =
-        (subst (λ (w : ℕ). p.x < w) (sym below.width) on.0, subst (λ (z : ℕ). p.y < z) (sym below.height) on.1)
-
-    value :
-        (p : Pixel) → IsOn base p → IsValueIn h.generation (slice_index s.words (place_of base p)) (value_at image p)
-    value p on = subst (λ (g : ℕ). IsValueIn g (slice_index s.words (place_of base p)) (value_at image p)) mine.0
-        (read.values p on (omega (arith, place_within base p on)))
-
-    reached : (p : Pixel) → IsOn base p → Supports base v.marker p (value_at image p)
-    reached p on = subst (λ (m : Raster). Supports base m p (value_at image p)) (sym mine.1)
-        (value_reached base s.words h.generation h.marker p (value_at image p) on (h.pixels p on) (value p on))
-
-    known : (f : Fact) → Contains v.facts f → f.generation ≡ v.generation → f.value ≤ value_at image f.pixel
-    known f known_f same =
-        let held = (h.seats 0 v at).facts f known_f in
-        let n : ℕ = slice_index s.words (place_of base f.pixel) in
-        value_above h.generation n (value_at image f.pixel) f.value held.small
-        (subst (λ (g : ℕ). g * 65536 + f.value ≤ n) (same ∙ mine.0) held.kept) (h.pixels f.pixel held.on).not_later
-        (value f.pixel held.on)
-
-    above : AreAllPlanted base v → (p : Pixel) → IsInside v.marker.width v.marker.height p
-        → value_at v.marker p ≤ value_at image p
-    above planted p within =
-        let on : IsOn base p =
-        (subst (λ (w : ℕ). p.x < w) below.width within.0, subst (λ (z : ℕ). p.y < z) below.height within.1) in
-        known (planted_fact v p) (planted p on) refl
-
 -- the last state of a table, whose seat 0 has the view, and the image that was read off its words
-pub record IsLast (base : Ground) (v : View) (image : Raster) : Type 0 where
-  pub state : State ℕ View
+pub record IsLast (base : Ground) (v : SeatView) (image : Raster) : Type 0 where
+  pub state : State ℕ SeatView
   pub board : IsBoard base state
   pub at : get_elem? state.views 0 ≡ some v
   pub read : IsReadOff base v.generation state.words (size_of base) image
 
-pub last_is : (key base : Ground) (id g : ℕ) (v : View) (words : List ℕ) (image : Raster) (s : State ℕ View)
+pub last_is : (key base : Ground) (id g : ℕ) (v : SeatView) (words : List ℕ) (image : Raster) (s : State ℕ SeatView)
     → key ≡ base → id ≡ 0 → v.generation ≡ g → Seen (IsBoard key) id v s → s.words ≡ words
     → IsReadOff base g words (size_of base) image → IsLast base v image
 last_is key base id g v words image s about first same seen are read = record {
   state = s;
-  board = subst (λ (k : Ground). IsBoard k s) about seen.0;
-  at = subst (λ (k : ℕ). get_elem? s.views k ≡ some v) first seen.1;
-  read = subst (λ (l : List ℕ). IsReadOff base v.generation l (size_of base) image) (sym are)
-      (subst (λ (k : ℕ). IsReadOff base k words (size_of base) image) (sym same) read);
+  board = rw about at seen.0;
+  at = rw first at seen.1;
+  read = rw (are, same) read;
 }
+
+module _ (base : Ground) (v : SeatView) (image : Raster) (last : IsLast base v image) where
+  mine : (v.generation ≡ last.board.generation) × (v.marker ≡ last.board.marker)
+  mine = is_keeper last.state.views last.board.generation last.board.marker 0 v last.board.keeper last.at refl
+
+  value : (p : Pixel) → IsOn base p
+      → IsValueIn last.board.generation (slice_index last.state.words (place_of base p)) (value_at image p)
+  value p on =
+      subst (λ (g : ℕ). IsValueIn g (slice_index last.state.words (place_of base p)) (value_at image p)) mine.0
+      (last.read.values p on (omega (arith, place_within base p on)))
+
+  reached : (p : Pixel) → IsOn base p → Supports base v.marker p (value_at image p)
+  reached p on =
+      subst (λ (m : Raster). Supports base m p (value_at image p)) (sym mine.1)
+      (value_reached base last.state.words last.board.generation last.board.marker p (value_at image p) on
+      (last.board.pixels p on) (value p on))
+
+  known : (f : Fact) → Contains v.facts f → f.generation ≡ v.generation → f.value ≤ value_at image f.pixel
+  known f known_f same =
+      let held = (last.board.seats 0 v last.at).facts f known_f in
+      let n : ℕ = slice_index last.state.words (place_of base f.pixel) in
+      value_above last.board.generation n (value_at image f.pixel) f.value held.small
+      (subst (λ (g : ℕ). g * 65536 + f.value ≤ n) (same ∙ mine.0) held.kept)
+      (last.board.pixels f.pixel held.on).not_later (value f.pixel held.on)
+
+  -- the image is nowhere above the mask
+  pub within_mask : IsBelow image (mask_of base)
+  within_mask = each_pixel_below image (mask_of base) last.read.filled last.read.width last.read.height (λ p inside.
+      let on : IsOn base p = (
+        subst (λ (w : ℕ). p.x < w) last.read.width inside.0,
+        subst (λ (z : ℕ). p.y < z) last.read.height inside.1,
+      ) in
+      reaches_within_mask (domain base) (value_at (mask_of base)) (value_at v.marker) p (value_at image p)
+      (reached p on))
+
+  -- and with the maxval of the mask it is the image of the board
+  pub image_of : (closed : Bool) → IsBelow v.marker (mask_of base) → IsFilled v.marker
+      → IsTrue closed ↔ IsClosed (domain base) (value_at (mask_of base)) (value_at image)
+      → IsImageOf base v (record { raster = image; maxval = base.mask.maxval }) closed
+  image_of closed below filled closed_is = record {
+    width = last.read.width;
+    height = last.read.height;
+    maxval = refl;
+    reached = reached;
+    known = known;
+    above = λ planted. each_pixel_below v.marker image filled (below.width ∙ sym last.read.width)
+        (below.height ∙ sym last.read.height)
+        (λ p within.
+        let on : IsOn base p =
+        (subst (λ (w : ℕ). p.x < w) below.width within.0, subst (λ (z : ℕ). p.y < z) below.height within.1) in
+        known (planted_fact v p) (planted p on) refl);
+    closed_is = closed_is;
+    grown = λ is under. closed_is_reconstruction (domain base) (value_at (mask_of base)) (value_at v.marker)
+        (value_at image)
+        (λ p on. (
+          below_at_each_pixel v.marker image filled under p (
+            subst (λ (w : ℕ). p.x < w) (sym below.width) on.0,
+            subst (λ (z : ℕ). p.y < z) (sym below.height) on.1,
+          ),
+          reached p on,
+        )) (closed_is.0 is);
+  }

@@ -1,6 +1,6 @@
 -- Pixels have words of their own, and a number is a generation and a value.
-use Rattle.std.proofs.Common.{◌%◌, ◌*◌, ◌+◌, ◌/◌, ◌<◌, List, ap, arith, div-add-mod', get_or-set_other}
-use Rattle.std.proofs.Common.{get_or-set_same, length, max, mod-lt, set, slice_index, sym, ℕ, ◌∙◌, ◌≡◌, ◌≢◌}
+use Rattle.std.proofs.Common.{◌%◌, ◌*◌, ◌+◌, ◌/◌, ◌<◌, List, ap, arith, div-add-mod', get_or-set_other, get_or-set_same}
+use Rattle.std.proofs.Common.{length, max, mod-lt, set, slice_index, sym, ℕ, ◌∙◌, ◌≡◌, ◌≢◌}
 use Rattle.std.proofs.lemmas.Nat.{div-mul-add, mod-mul-add, mul-add-lt}
 use Rattle.grid_core.proofs.Cells.{same_place}
 use Rattle.grid_core.specs.declared.pixel.Pixel.{Pixel}

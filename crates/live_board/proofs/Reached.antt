@@ -1,12 +1,10 @@
 -- What the rule of a board says to who reads it.
 use Rattle.std.proofs.Common.{◌*◌, ◌+◌, ◌/◌, Contains, ap, arith, refl, subst, subst₂, sym, ℕ, ◌∙◌, ◌≡◌}
-use Rattle.std.proofs.lemmas.List.Elements.{Contains-push}
-use Rattle.std.proofs.lemmas.Nat.{div-mul-add}
+use Rattle.std.proofs.{lemmas.List.Elements.Contains-push, lemmas.Nat.div-mul-add}
 use Rattle.grid_core.specs.Raster.{Raster}
 use Rattle.live_board.proofs.Boards.{is_keeper}
 use Rattle.live_board.specs.Laws.{KnownIsKept, KnownIsReached, LiveIsReached}
-use Rattle.live_board.specs.Words.{Supports}
-use Rattle.live_board.specs.declared.fact.Fact.{Fact}
+use Rattle.live_board.specs.{Words.Supports, declared.fact.Fact.Fact}
 
 pub known_is_kept : KnownIsKept
 known_is_kept base s keeper id v f have known = ((have.rule.seats id v have.seat_is).facts f known).kept

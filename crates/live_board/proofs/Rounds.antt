@@ -3,43 +3,36 @@ use Rattle.std.proofs.Common.{◌+◌, ◌++◌, ◌<◌, Bool, Contains, List, 
 use Rattle.std.proofs.Common.{length, refl, subst, sym, take, true, zero-le, ℕ, ◌↔◌, ◌∙◌, ◌∷◌, ◌≡◌, ◌≤◌}
 use Rattle.std.proofs.lemmas.List.Elements.{Contains-append_left, Contains-get_or}
 use Rattle.grid_core.specs.Neighbours.{AreNeighbours, IsInRasterOrder}
-use Rattle.grid_core.specs.Raster.{IsInside}
-use Rattle.grid_core.specs.declared.pixel.Pixel.{Pixel}
+use Rattle.grid_core.specs.{Raster.IsInside, declared.pixel.Pixel.Pixel}
 use lib.Seq.{take-suc}
 use Rattle.live_board.specs.Rounds.{AreAround, Goes, Raises, Visits, one_if, pixel_after}
-use Rattle.live_board.specs.Seats.{HasRaised, IsBeside, IsFactOf, raised_fact}
-use Rattle.live_board.specs.Words.{mask_of}
-use Rattle.live_board.specs.declared.fact.Fact.{Fact}
-use Rattle.live_board.specs.declared.rule.Ground.{Ground}
-use Rattle.live_board.specs.declared.rule.View.{View}
+use Rattle.live_board.specs.{Seats.HasRaised, Seats.IsBeside, Seats.IsFactOf, Seats.raised_fact, Words.mask_of}
+use Rattle.live_board.specs.{declared.fact.Fact.Fact, declared.rule.Ground.Ground, declared.rule.SeatView.SeatView}
 
 pub around_is : (base : Ground) (p : Pixel) (around : List Pixel) (w h : ℕ) → w ≡ (mask_of base).width
     → h ≡ (mask_of base).height
     → ((q : Pixel) → Contains around q ↔ (AreNeighbours base.conn p q × IsInside w h q)) → IsInRasterOrder around
     → AreAround base p around
 around_is base p around w h is_w is_h members order = record {
-  members = subst (λ (z : ℕ). (q : Pixel) → Contains around q
-      ↔ (AreNeighbours base.conn p q × IsInside z (mask_of base).height q)) is_w
-      (subst (λ (z : ℕ). (q : Pixel) → Contains around q ↔ (AreNeighbours base.conn p q × IsInside w z q)) is_h
-      members);
+  members = rw (← is_w, ← is_h) members;
   order = order;
 }
 
 -- a neighbour more
 pub raises_more : (base : Ground) (from : Fact) (qs : List Pixel) (q : Pixel) (count : ℕ) (rose : Bool)
-    (old middle new : View) → Raises base from qs count old middle → HasRaised base from q rose middle new
+    (old middle new : SeatView) → Raises base from qs count old middle → HasRaised base from q rose middle new
     → Raises base from (qs ++ q ∷ []) (count + one_if rose) old new
 raises_more base from [] q count rose old middle new done more = (
   rose,
   new,
   0,
-  subst (λ (v : View). HasRaised base from q rose v new) done.1 more,
+  subst (λ (v : SeatView). HasRaised base from q rose v new) done.1 more,
   (refl, refl),
   (let none_yet : count ≡ 0 = done.0 in omega arith),
 )
 raises_more base from (x ∷ qs) q count rose old middle new done more =
     let r : Bool = done.0 in
-    let after : View = done.1 in
+    let after : SeatView = done.1 in
     let rest : ℕ = done.2 in (
       r,
       after,
@@ -63,7 +56,7 @@ beside_at base p around near i d are e inside =
 
 -- what a spread's loop keeps, after one neighbour more
 pub spread_more : (base : Ground) (f : Fact) (near : List Pixel) (i count : ℕ) (rose : Bool) (d : Pixel)
-    (old middle new : View) → i < length near → count ≤ i → IsFactOf middle f
+    (old middle new : SeatView) → i < length near → count ≤ i → IsFactOf middle f
     → Raises base f (take i near) count old middle → HasRaised base f (get_or near i d) rose middle new
     → IsFactOf new f × (count + one_if rose ≤ i + 1) × Raises base f (take (i + 1) near) (count + one_if rose) old new
 spread_more base f near i count rose d old middle new inside low mine done more = (
@@ -79,7 +72,7 @@ spread_more base f near i count rose d old middle new inside low mine done more 
 )
 
 -- what a round's loop keeps, after one pixel more
-pub goes_more : (base : Ground) (k count here : ℕ) (p : Pixel) (started middle new : View) → p ≡ pixel_after base k
+pub goes_more : (base : Ground) (k count here : ℕ) (p : Pixel) (started middle new : SeatView) → p ≡ pixel_after base k
     → Goes base k count started middle → Visits base p here middle new → Goes base (k + 1) (count + here) started new
 goes_more base k count here p started middle new is done visit =
     subst (λ (z : ℕ). Goes base z (count + here) started new) (sym (add-one k))

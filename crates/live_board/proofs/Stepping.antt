@@ -1,29 +1,24 @@
 -- Each step keeps the rule of the board. `at` is that the seat has the view, `first` that it is the seat 0.
-use Rattle.std.proofs.Common.{◌%◌, ◌*◌, ◌+◌, ◌/◌, ◌<◌, Contains, List, [], ◌^◌, ap, arith, get_or-set_other}
+use Rattle.std.proofs.Common.{◌%◌, ◌*◌, ◌+◌, ◌/◌, ◌<◌, List, [], ◌^◌, ap, arith, get_or-set_other}
 use Rattle.std.proofs.Common.{get_or-set_same, le_of_eq, le_refl, length, length-set, max, mod-eq_of_lt, refl}
 use Rattle.std.proofs.Common.{replicate, set, slice_index, subst, sym, ℕ, ◌∙◌, ◌∷◌, ◌≡◌, ◌≢◌, ◌≤◌}
 use Rattle.std.proofs.lemmas.List.{get_or-replicate, length-replicate, set-get_or}
 use Rattle.std.proofs.lemmas.Nat.{div-mul-add}
-use Rattle.atomic_table.proofs.Lists.{at_longer, at_set, at_snoc}
+use Rattle.atomic_table.proofs.Lists.{at_longer}
 use Rattle.atomic_table.specs.Table.{Allows, Enters, Me, State, keeps, opening, step}
-use Rattle.grid_core.proofs.Pixels.{same_pixel_or_not}
-use Rattle.grid_core.proofs.Reach.{reaches_rises, reaches_zero}
-use Rattle.grid_core.specs.Raster.{Raster, value_at}
-use Rattle.grid_core.specs.declared.pixel.Pixel.{Pixel}
-use lib.ListN.{get_elem?}
+use Rattle.grid_core.proofs.{Pixels.same_pixel_or_not, Reach.reaches_rises, Reach.reaches_zero}
+use Rattle.grid_core.specs.{Raster.Raster, Raster.value_at, declared.pixel.Pixel.Pixel}
 use mathlib.Core.Logic.{dite, ⊎_elim}
-use mathlib.Core.Option.{none, some, some-ne-none}
+use mathlib.Core.Option.{none, some-ne-none}
 use native.Mathlib.Decide.{dec_le}
-use Rattle.live_board.proofs.Boards.{Up, is_keeper, keeper_now, moved, sits_more, sits_up, watched}
+use Rattle.live_board.proofs.Boards.{Up, each_push, each_set, is_keeper, keeper_now, moved, sits_more, sits_up, watched}
 use Rattle.live_board.proofs.Places.{number_is, place_after_0, place_differs, place_within, risen, risen_else}
 use Rattle.live_board.proofs.Places.{risen_here, small_value}
 use Rattle.live_board.specs.Rule.{IsBacked, IsBoard, IsHeld, Sits}
 use Rattle.live_board.specs.Steps.{Advances, IsAllowed, Learns, Lifts, MayLift, Reads, Rises}
 use Rattle.live_board.specs.Words.{IsOn, Supports, beginner, begun, blank, domain, fact_of, mask_of, max_generation}
 use Rattle.live_board.specs.Words.{number, place_of, size_of, taught, with_fact}
-use Rattle.live_board.specs.declared.fact.Fact.{Fact}
-use Rattle.live_board.specs.declared.rule.Ground.{Ground}
-use Rattle.live_board.specs.declared.rule.View.{View}
+use Rattle.live_board.specs.{declared.fact.Fact.Fact, declared.rule.Ground.Ground, declared.rule.SeatView.SeatView}
 
 -- ---- a fetch_max on the word of a pixel
 
@@ -80,10 +75,12 @@ risen_up base words p n on inside q on_q =
     (place_differs base p q on on_q other))))
     (same_pixel_or_not p q)
 
-pub lifts : (base : Ground) (slots id : ℕ) (v : View) (p : Pixel) (n : ℕ) → IsOn base p → MayLift base id v p n
-    → Allows (IsBoard base) slots id (v, []) (place_of base p) (λ k. max k n)
-    (Lifts p (step slots (place_of base p) n 0 none) (v, []))
-lifts base slots id v p n on may s h hs at lt =
+pub lifts : (base : Ground) (slots id : ℕ) (me : Me ℕ SeatView) (p : Pixel) (n : ℕ) → IsOn base p
+    → MayLift base id me.0 p n
+    → Allows (IsBoard base) slots id me (place_of base p) (λ k. max k n)
+    (Lifts p (step slots (place_of base p) n 0 none) me)
+lifts base slots id me p n on may s h hs at lt =
+    let v : SeatView = me.0 in
     let i : ℕ = place_of base p in
     let found : ℕ = slice_index s.words i in
     let inside : i < length s.words = subst (λ (z : ℕ). i < z) (sym h.wide) (place_within base p on) in
@@ -95,7 +92,7 @@ lifts base slots id v p n on may s h hs at lt =
     let held : IsHeld base after h.generation h.marker (fact_of p n) =
     record { on = on; small = small_value n; kept = omega (arith, here, is); reached = allowed.1 } in
     let old = sits_up base s.words after h.generation h.marker up v (h.seats id v at) in
-    let w : View = with_fact v i found (fact_of p n) in (
+    let w : SeatView = with_fact v i found (fact_of p n) in (
       w,
       keeps,
       tt,
@@ -108,10 +105,11 @@ lifts base slots id v p n on may s h hs at lt =
 
 -- ---- loads
 
-pub loads : (base : Ground) (slots id : ℕ) (v : View) (p : Pixel) → IsOn base p
-    → Allows (IsBoard base) slots id (v, []) (place_of base p) (λ k. k)
-    (Reads p (step slots (place_of base p) 0 0 none) (v, []))
-loads base slots id v p on s h hs at lt =
+pub loads : (base : Ground) (slots id : ℕ) (me : Me ℕ SeatView) (p : Pixel) → IsOn base p
+    → Allows (IsBoard base) slots id me (place_of base p) (λ k. k)
+    (Reads p (step slots (place_of base p) 0 0 none) me)
+loads base slots id me p on s h hs at lt =
+    let v : SeatView = me.0 in
     let i : ℕ = place_of base p in
     let n : ℕ = slice_index s.words i in
     let held : IsHeld base s.words h.generation h.marker (fact_of p n) = record {
@@ -136,15 +134,16 @@ loads base slots id v p on s h hs at lt =
     )
 
 -- the generation that stands in word 0
-in_head : (base : Ground) (s : State ℕ View) (h : IsBoard base s) → slice_index s.words 0 / 65536 ≡ h.generation
+in_head : (base : Ground) (s : State ℕ SeatView) (h : IsBoard base s) → slice_index s.words 0 / 65536 ≡ h.generation
 in_head base s h =
     let whole : slice_index s.words 0 ≡ h.generation * 65536 + 0 = omega (arith, h.head) in
     ap (λ (k : ℕ). k / 65536) whole ∙ div-mul-add h.generation 65536 0 (omega arith)
 
-pub learns : (base : Ground) (slots id : ℕ) (v : View)
-    → Allows (IsBoard base) slots id (v, []) 0 (λ k. k) (Learns (step slots 0 0 0 none) (v, []))
-learns base slots id v s h hs at lt =
-    let w : View = taught v (slice_index s.words 0) in
+pub learns : (base : Ground) (slots id : ℕ) (me : Me ℕ SeatView)
+    → Allows (IsBoard base) slots id me 0 (λ k. k) (Learns (step slots 0 0 0 none) me)
+learns base slots id me s h hs at lt =
+    let v : SeatView = me.0 in
+    let w : SeatView = taught v (slice_index s.words 0) in
     let same = in_head base s h in (
       w,
       keeps,
@@ -158,7 +157,7 @@ learns base slots id v s h hs at lt =
 pub enters : (base : Ground) (slots : ℕ)
     → Enters (IsBoard base) slots 0 (λ n w. Learns (step slots 0 0 0 none) (beginner base, []) n (w, []))
 enters base slots s h hs lt =
-    let w : View = taught (beginner base) (slice_index s.words 0) in
+    let w : SeatView = taught (beginner base) (slice_index s.words 0) in
     let same = in_head base s h in
     let new : Sits base s.words h.generation h.marker w =
     record {
@@ -174,8 +173,7 @@ enters base slots s h hs lt =
         head = h.head;
         within = h.within;
         pixels = h.pixels;
-        seats = λ j u e. ⊎_elim (h.seats j u) (λ (is : w ≡ u). subst (Sits base s.words h.generation h.marker) is new)
-            (at_snoc s.views w u j e);
+        seats = each_push (Sits base s.words h.generation h.marker) s.views w new h.seats;
       },
       refl,
     )
@@ -197,10 +195,11 @@ held_older base words after g m marker f backed same held =
     }
 
 -- the next generation
-pub begins : (base : Ground) (slots id : ℕ) (v : View) (marker : Raster) → id ≡ 0 → v.generation < max_generation
-    → Allows (IsBoard base) slots id (v, []) 0 (λ k. (k + 65536) % 2 ^ 64)
-    (Advances marker (step slots 0 65536 0 none) (v, []))
-begins base slots id v marker first room s h hs at lt =
+pub begins : (base : Ground) (slots id : ℕ) (me : Me ℕ SeatView) (marker : Raster) → id ≡ 0
+    → me.0.generation < max_generation
+    → Allows (IsBoard base) slots id me 0 (λ k. (k + 65536) % 2 ^ 64) (Advances marker (step slots 0 65536 0 none) me)
+begins base slots id me marker first room s h hs at lt =
+    let v : SeatView = me.0 in
     let g : ℕ = h.generation in
     let head : slice_index s.words 0 ≡ g * 65536 = h.head in
     let gen : v.generation ≡ g = (is_keeper s.views g h.marker id v h.keeper at first).0 in
@@ -211,7 +210,7 @@ begins base slots id v marker first room s h hs at lt =
     ∙ (let next : slice_index s.words 0 + 65536 ≡ (g + 1) * 65536 = omega arith in next) in
     let after : List ℕ = set s.words 0 n in
     let wide : length s.words ≡ size_of base + 1 = h.wide in
-    let w : View = begun v (slice_index s.words 0) (v.generation + 1) marker in
+    let w : SeatView = begun v (slice_index s.words 0) (v.generation + 1) marker in
     let stays : (p : Pixel) → slice_index after (place_of base p) ≡ slice_index s.words (place_of base p) =
     λ p. get_or-set_other s.words 0 (place_of base p) n 0 (λ e. place_after_0 base p (sym e)) in
     let older : (f : Fact) → IsHeld base s.words g h.marker f → IsHeld base after (g + 1) marker f =
@@ -230,22 +229,21 @@ begins base slots id v marker first room s h hs at lt =
             let old : slice_index s.words (place_of base p) < (g + 1) * 65536 = (h.pixels p on).not_later in
             let same : slice_index after (place_of base p) ≡ slice_index s.words (place_of base p) = stays p in
             record { not_later = omega arith; reached = λ y y_small e. absurd (omega (arith, e)) };
-        seats = λ j u e. ⊎_elim
-            (λ (x : (j ≡ id) × (w ≡ u)). subst (Sits base after (g + 1) marker) x.1
-            (record { not_later = omega arith; facts = λ f known. older f ((h.seats id v at).facts f known) }))
-            (λ (x : (j ≢ id) × (get_elem? s.views j ≡ some u)).
-            let low : u.generation ≤ g = (h.seats j u x.1).not_later in
-            record { not_later = omega arith; facts = λ f known. older f ((h.seats j u x.1).facts f known) })
-            (at_set s.views id j w u e);
+        seats = each_set (Sits base after (g + 1) marker) s.views id w
+            (record { not_later = omega arith; facts = λ f known. older f ((h.seats id v at).facts f known) })
+            (λ j u e.
+            let low : u.generation ≤ g = (h.seats j u e).not_later in
+            record { not_later = omega arith; facts = λ f known. older f ((h.seats j u e).facts f known) });
       },
       refl,
     )
 
 -- the marker rises
-pub rises : (base : Ground) (slots id : ℕ) (v : View) (marker : Raster) → id ≡ 0
-    → ((p : Pixel) → IsOn base p → value_at v.marker p ≤ value_at marker p)
-    → Allows (IsBoard base) slots id (v, []) 0 (λ k. (k + 0) % 2 ^ 64) (Rises marker (step slots 0 0 0 none) (v, []))
-rises base slots id v marker first above s h hs at lt =
+pub rises : (base : Ground) (slots id : ℕ) (me : Me ℕ SeatView) (marker : Raster) → id ≡ 0
+    → ((p : Pixel) → IsOn base p → value_at me.0.marker p ≤ value_at marker p)
+    → Allows (IsBoard base) slots id me 0 (λ k. (k + 0) % 2 ^ 64) (Rises marker (step slots 0 0 0 none) me)
+rises base slots id me marker first above s h hs at lt =
+    let v : SeatView = me.0 in
     let g : ℕ = h.generation in
     let mine = is_keeper s.views g h.marker id v h.keeper at first in
     let fits : slice_index s.words 0 + 0 < 2 ^ 64 = omega (arith, lt) in
@@ -254,14 +252,13 @@ rises base slots id v marker first above s h hs at lt =
     ∙ (let none_more : slice_index s.words 0 + 0 ≡ slice_index s.words 0 = omega arith in none_more) in
     let stays : set s.words 0 ((slice_index s.words 0 + 0) % 2 ^ 64) ≡ s.words =
     ap (λ (z : ℕ). set s.words 0 z) same ∙ set-get_or s.words 0 0 in
-    let w : View = begun v (slice_index s.words 0) v.generation marker in
+    let w : SeatView = begun v (slice_index s.words 0) v.generation marker in
     let higher : (p : Pixel) (k : ℕ) → Supports base h.marker p k → Supports base marker p k =
     reaches_rises (domain base) (value_at (mask_of base)) (value_at h.marker) (value_at marker)
     (λ p on. subst (λ (m : Raster). value_at m p ≤ value_at marker p) mine.1 (above p on)) in
-    let sits : (u : View) → Sits base s.words g h.marker u → (x : View) → x.generation ≡ u.generation
-    → x.facts ≡ u.facts → Sits base s.words g marker x = λ u old x gen facts. record {
-      not_later = subst (λ (z : ℕ). z ≤ g) (sym gen) old.not_later;
-      facts = λ f known. let held = old.facts f (subst (λ (l : List Fact). Contains l f) facts known) in
+    let sits : (u : SeatView) → Sits base s.words g h.marker u → Sits base s.words g marker u = λ u old. record {
+      not_later = old.not_later;
+      facts = λ f known. let held = old.facts f known in
           record {
             on = held.on;
             small = held.small;
@@ -269,6 +266,7 @@ rises base slots id v marker first above s h hs at lt =
             reached = λ e. higher f.pixel f.value (held.reached e);
           };
     } in
+    let own : Sits base s.words g marker v = sits v (h.seats id v at) in
     let keep : IsBoard base (record { words = s.words; homes = s.homes; views = set s.views id w }) = record {
       generation = g;
       marker = marker;
@@ -280,10 +278,8 @@ rises base slots id v marker first above s h hs at lt =
         not_later = (h.pixels p on).not_later;
         reached = λ y y_small e. higher p y ((h.pixels p on).reached y y_small e);
       };
-      seats = λ j u e. ⊎_elim
-          (λ (x : (j ≡ id) × (w ≡ u)). subst (Sits base s.words g marker) x.1 (sits v (h.seats id v at) w refl refl))
-          (λ (x : (j ≢ id) × (get_elem? s.views j ≡ some u)). sits u (h.seats j u x.1) u refl refl)
-          (at_set s.views id j w u e);
+      seats = each_set (Sits base s.words g marker) s.views id w
+          (record { not_later = own.not_later; facts = own.facts }) (λ j u e. sits u (h.seats j u e));
     } in (
       w,
       keeps,
@@ -312,64 +308,11 @@ opens base words within wide head empty =
         reached = λ y y_small e. let is : 0 ≡ y = omega (arith, e) in subst (Supports base marker p) is
             (reaches_zero (domain base) (value_at (mask_of base)) (value_at marker) p on);
       };
-      seats = λ j u e. ⊎_elim (λ (there : get_elem? [] j ≡ some u). absurd (some-ne-none u (sym there)))
-          (λ (is : beginner base ≡ u). subst (Sits base words base.first marker) is
-          (record {
-            not_later = le_refl base.first;
-            facts = λ f known. absurd (let past : known.0 < 0 = known.1 in omega arith);
-          })) (at_snoc [] (beginner base) u j e);
+      seats = each_push (Sits base words base.first marker) [] (beginner base) (record {
+        not_later = le_refl base.first;
+        facts = λ f known. absurd (let past : known.0 < 0 = known.1 in omega arith);
+      }) (λ j u there. absurd (some-ne-none u (sym there)));
     }
-
--- ---- the same, as calls need it: `about` is the board's ghost field, `bare` is IsBare.bare
-
-pub lifts_at : (q : Pixel) (key base : Ground) (slots id : ℕ) (me : Me ℕ View) (p : Pixel) (n word : ℕ)
-    → key ≡ base → me.1 ≡ [] → q ≡ p → word ≡ place_of base p → IsOn base p → MayLift base id me.0 p n
-    → Allows (IsBoard key) slots id me word (λ k. max k n) (Lifts q (step slots word n 0 none) me)
-lifts_at q key base slots id me p n word about bare same is on may =
-    let A : Ground → Pixel → ℕ → Me ℕ View → Type 0 =
-    λ k z i m. Allows (IsBoard k) slots id m i (λ x. max x n) (Lifts z (step slots i n 0 none) m) in
-    subst (λ (k : Ground). A k q word me) (sym about) (subst (λ (z : Pixel). A base z word me) (sym same)
-    (subst (λ (i : ℕ). A base p i me) (sym is)
-    (subst (λ (c : List (ℕ × ℕ)). A base p (place_of base p) (me.0, c)) (sym bare)
-    (lifts base slots id me.0 p n on may))))
-
-pub loads_at : (q : Pixel) (key base : Ground) (slots id : ℕ) (me : Me ℕ View) (p : Pixel) (word : ℕ)
-    → key ≡ base → me.1 ≡ [] → q ≡ p → word ≡ place_of base p → IsOn base p
-    → Allows (IsBoard key) slots id me word (λ k. k) (Reads q (step slots word 0 0 none) me)
-loads_at q key base slots id me p word about bare same is on =
-    let A : Ground → Pixel → ℕ → Me ℕ View → Type 0 =
-    λ k z i m. Allows (IsBoard k) slots id m i (λ x. x) (Reads z (step slots i 0 0 none) m) in
-    subst (λ (k : Ground). A k q word me) (sym about) (subst (λ (z : Pixel). A base z word me) (sym same)
-    (subst (λ (i : ℕ). A base p i me) (sym is)
-    (subst (λ (c : List (ℕ × ℕ)). A base p (place_of base p) (me.0, c)) (sym bare)
-    (loads base slots id me.0 p on))))
-
-pub learns_at : (key : Ground) (slots id : ℕ) (me : Me ℕ View) → me.1 ≡ []
-    → Allows (IsBoard key) slots id me 0 (λ k. k) (Learns (step slots 0 0 0 none) me)
-learns_at key slots id me bare =
-    let A : Me ℕ View → Type 0 =
-    λ m. Allows (IsBoard key) slots id m 0 (λ k. k) (Learns (step slots 0 0 0 none) m) in
-    subst (λ (c : List (ℕ × ℕ)). A (me.0, c)) (sym bare) (learns key slots id me.0)
-
-pub begins_at : (marker : Raster) (key : Ground) (slots id : ℕ) (me : Me ℕ View) → me.1 ≡ [] → id ≡ 0
-    → me.0.generation < max_generation
-    → Allows (IsBoard key) slots id me 0 (λ k. (k + 65536) % 2 ^ 64) (Advances marker (step slots 0 65536 0 none) me)
-begins_at marker key slots id me bare first room =
-    let A : Me ℕ View → Type 0 =
-    λ m. Allows (IsBoard key) slots id m 0 (λ k. (k + 65536) % 2 ^ 64)
-    (Advances marker (step slots 0 65536 0 none) m) in
-    subst (λ (c : List (ℕ × ℕ)). A (me.0, c)) (sym bare) (begins key slots id me.0 marker first room)
-
-pub rises_at : (bring marker : Raster) (key base : Ground) (slots id : ℕ) (me : Me ℕ View) → key ≡ base → me.1 ≡ []
-    → bring ≡ marker → id ≡ 0
-    → ((p : Pixel) → IsOn base p → value_at me.0.marker p ≤ value_at marker p)
-    → Allows (IsBoard key) slots id me 0 (λ k. (k + 0) % 2 ^ 64) (Rises bring (step slots 0 0 0 none) me)
-rises_at bring marker key base slots id me about bare brings first above =
-    let A : Ground → Raster → Me ℕ View → Type 0 =
-    λ k b m. Allows (IsBoard k) slots id m 0 (λ x. (x + 0) % 2 ^ 64) (Rises b (step slots 0 0 0 none) m) in
-    subst (λ (k : Ground). A k bring me) (sym about) (subst (λ (b : Raster). A base b me) (sym brings)
-    (subst (λ (c : List (ℕ × ℕ)). A base marker (me.0, c)) (sym bare)
-    (rises base slots id me.0 marker first above)))
 
 -- the words of a new board: the generation, and 0 for each pixel
 pub opens_at : (base : Ground) (words : List ℕ) (count : ℕ) → count ≡ size_of base

@@ -1,21 +1,17 @@
 -- What a board leaves when it is closed.
 use Rattle.std.specs.Prelude.{Bool, Contains, IsTrue, ◌↔◌, ◌≡◌, ◌≤◌}
-use Rattle.grid_core.specs.Raster.{IsBelow, value_at}
-use Rattle.grid_core.specs.Reconstruction.{IsClosed, IsReconstruction}
-use Rattle.grid_core.specs.declared.pixel.Pixel.{Pixel}
+use Rattle.grid_core.specs.{Raster.IsBelow, Raster.value_at, Reconstruction.IsClosed, Reconstruction.IsReconstruction}
+use Rattle.grid_core.specs.{declared.pixel.Pixel.Pixel}
 use Rattle.pgm_codec.specs.Graymap.{Graymap}
-use Rattle.live_board.specs.Seats.{planted_fact}
-use Rattle.live_board.specs.Words.{IsOn, Supports, domain, mask_of}
-use Rattle.live_board.specs.declared.fact.Fact.{Fact}
-use Rattle.live_board.specs.declared.rule.Ground.{Ground}
-use Rattle.live_board.specs.declared.rule.View.{View}
+use Rattle.live_board.specs.{Seats.planted_fact, Words.IsOn, Words.Supports, Words.domain, Words.mask_of}
+use Rattle.live_board.specs.{declared.fact.Fact.Fact, declared.rule.Ground.Ground, declared.rule.SeatView.SeatView}
 
 -- each pixel was planted since the keeper's marker or generation changed last
-abbrev pub AreAllPlanted : Ground → View → Type 0
+abbrev pub AreAllPlanted : Ground → SeatView → Type 0
 AreAllPlanted base keeper = (p : Pixel) → IsOn base p → Contains keeper.facts (planted_fact keeper p)
 
 -- the image is the reconstruction of the mask from the keeper's marker
-abbrev pub IsGrown : Ground → View → Graymap → Type 0
+abbrev pub IsGrown : Ground → SeatView → Graymap → Type 0
 IsGrown base keeper image =
     IsReconstruction (domain base) (value_at (mask_of base)) (value_at keeper.marker) (value_at image.raster)
 
@@ -23,7 +19,7 @@ IsGrown base keeper image =
 -- the keeper's marker, none is below what the keeper knows of it in its generation, and where each was planted none is
 -- below the marker. It is said whether a pixel can still raise another;
 -- where none can and none is below the marker, the image is the reconstruction
-pub record IsImageOf (base : Ground) (keeper : View) (image : Graymap) (closed : Bool) : Type 0 where
+pub record IsImageOf (base : Ground) (keeper : SeatView) (image : Graymap) (closed : Bool) : Type 0 where
   pub width : image.raster.width ≡ (mask_of base).width
   pub height : image.raster.height ≡ (mask_of base).height
   pub maxval : image.maxval ≡ base.mask.maxval

@@ -4,16 +4,12 @@ use Rattle.atomic_table.specs.Table.{State}
 use Rattle.grid_core.specs.declared.pixel.Pixel.{Pixel}
 use lib.ListN.{get_elem?}
 use mathlib.Core.Option.{some}
-use Rattle.live_board.specs.Rule.{IsBoard}
-use Rattle.live_board.specs.Seats.{HasPeeked}
+use Rattle.live_board.specs.{Rule.IsBoard, Seats.HasPeeked, declared.fact.Fact.Fact, declared.rule.Ground.Ground}
+use Rattle.live_board.specs.{declared.fact.Peek.TheVariants.Live, declared.rule.SeatView.SeatView}
 use Rattle.live_board.specs.Words.{Supports, number, place_of}
-use Rattle.live_board.specs.declared.fact.Fact.{Fact}
-use Rattle.live_board.specs.declared.fact.Peek.TheVariants.{Live}
-use Rattle.live_board.specs.declared.rule.Ground.{Ground}
-use Rattle.live_board.specs.declared.rule.View.{View}
 
 -- the board keeps its rule, and its keeper's seat and another one have these views
-pub record HaveViews (base : Ground) (s : State ℕ View) (keeper : View) (id : ℕ) (v : View) : Type 0 where
+pub record HaveViews (base : Ground) (s : State ℕ SeatView) (keeper : SeatView) (id : ℕ) (v : SeatView) : Type 0 where
   pub rule : IsBoard base s
   pub keeper_is : get_elem? s.views 0 ≡ some keeper
   pub seat_is : get_elem? s.views id ≡ some v
@@ -21,20 +17,21 @@ pub record HaveViews (base : Ground) (s : State ℕ View) (keeper : View) (id : 
 -- the word of a pixel is no less than a fact that a seat knows of it
 abbrev pub KnownIsKept : Type 0
 KnownIsKept =
-    (base : Ground) (s : State ℕ View) (keeper : View) (id : ℕ) (v : View) (f : Fact) → HaveViews base s keeper id v
-    → Contains v.facts f → number f ≤ slice_index s.words (place_of base f.pixel)
+    (base : Ground) (s : State ℕ SeatView) (keeper : SeatView) (id : ℕ) (v : SeatView) (f : Fact)
+    → HaveViews base s keeper id v → Contains v.facts f → number f ≤ slice_index s.words (place_of base f.pixel)
 
 -- where a known fact is of the keeper's generation, the pixel reaches its value from the keeper's marker
 abbrev pub KnownIsReached : Type 0
 KnownIsReached =
-    (base : Ground) (s : State ℕ View) (keeper : View) (id : ℕ) (v : View) (f : Fact) → HaveViews base s keeper id v
-    → Contains v.facts f → f.generation ≡ keeper.generation → Supports base keeper.marker f.pixel f.value
+    (base : Ground) (s : State ℕ SeatView) (keeper : SeatView) (id : ℕ) (v : SeatView) (f : Fact)
+    → HaveViews base s keeper id v → Contains v.facts f → f.generation ≡ keeper.generation
+    → Supports base keeper.marker f.pixel f.value
 
 -- as a peek that finds a live value ends, word 0 being what its last step found there, the pixel reaches the value from
 -- the keeper's marker
 abbrev pub LiveIsReached : Type 0
 LiveIsReached =
-    (base : Ground) (s : State ℕ View) (keeper : View) (id : ℕ) (old new : View) (p : Pixel) (value : ℕ)
+    (base : Ground) (s : State ℕ SeatView) (keeper : SeatView) (id : ℕ) (old new : SeatView) (p : Pixel) (value : ℕ)
     → HaveViews base s keeper id new → slice_index s.words 0 ≡ new.found → HasPeeked base p (Live value) old new
     → Supports base keeper.marker p value
 

@@ -3,12 +3,9 @@ use Rattle.std.specs.Prelude.{◌*◌, ◌<◌, All, [], length, ℕ, ◌≡◌,
 use Rattle.grid_core.specs.declared.conn.Conn.{Conn}
 use Rattle.pgm_codec.specs.Graymap.{Graymap}
 use Rattle.live_board.specs.Seats.{IsHandOf, IsKeeperOf, IsPeekOf, ground_of, hand_view, keeper_view, peek_view}
-use Rattle.live_board.specs.Words.{beginner, max_board}
-use Rattle.live_board.specs.declared.board.Board.{Board}
-use Rattle.live_board.specs.declared.hand.HandSeat.{HandSeat}
-use Rattle.live_board.specs.declared.opening.Opened.{Opened}
-use Rattle.live_board.specs.declared.peek.PeekSeat.{PeekSeat}
-use Rattle.live_board.specs.declared.rule.Ground.{Ground}
+use Rattle.live_board.specs.{Words.beginner, Words.max_board, declared.board.Board.Board}
+use Rattle.live_board.specs.{declared.hand.HandSeat.HandSeat, declared.opening.Opened.Opened}
+use Rattle.live_board.specs.{declared.peek.PeekSeat.PeekSeat, declared.rule.Ground.Ground}
 
 -- a board may have so many hands, or so many peeks
 abbrev pub IsCount : ℕ → Type 0

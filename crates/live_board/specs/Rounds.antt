@@ -1,15 +1,11 @@
 -- A round: each pixel is read once, in raster order, and where it has a value, each neighbour is raised once.
 use Rattle.std.specs.Prelude.{◌%◌, ◌+◌, ◌/◌, Bool, Contains, List, [], false, true, ℕ, ◌↔◌, ◌∷◌, ◌≡◌}
 use Prim.Native.Nat.{suc, zero}
-use Rattle.grid_core.specs.Neighbours.{AreNeighbours, IsInRasterOrder}
-use Rattle.grid_core.specs.declared.pixel.Pixel.{Pixel}
-use Rattle.live_board.specs.Seats.{HasRaised, HasRead, HasStarted}
-use Rattle.live_board.specs.Words.{IsOn, mask_of, size_of}
-use Rattle.live_board.specs.declared.fact.Fact.{Fact}
-use Rattle.live_board.specs.declared.fact.Seen.{Seen}
-use Rattle.live_board.specs.declared.fact.Seen.TheVariants.{Newer, Older, Value}
-use Rattle.live_board.specs.declared.rule.Ground.{Ground}
-use Rattle.live_board.specs.declared.rule.View.{View}
+use Rattle.grid_core.specs.{Neighbours.AreNeighbours, Neighbours.IsInRasterOrder, declared.pixel.Pixel.Pixel}
+use Rattle.live_board.specs.{Seats.HasRaised, Seats.HasRead, Seats.HasStarted, Words.IsOn, Words.mask_of, Words.size_of}
+use Rattle.live_board.specs.{declared.fact.Fact.Fact, declared.fact.Seen.Seen, declared.fact.Seen.TheVariants.Newer}
+use Rattle.live_board.specs.{declared.fact.Seen.TheVariants.Older, declared.fact.Seen.TheVariants.Value}
+use Rattle.live_board.specs.{declared.rule.Ground.Ground, declared.rule.SeatView.SeatView}
 
 -- 1 where it is true
 abbrev pub one_if : Bool → ℕ
@@ -17,10 +13,10 @@ one_if true = 1
 one_if false = 0
 
 -- the pixels are raised from the fact, one after another, and so many of them rose
-abbrev pub Raises : Ground → Fact → List Pixel → ℕ → View → View → Type 0
+abbrev pub Raises : Ground → Fact → List Pixel → ℕ → SeatView → SeatView → Type 0
 Raises base from [] count old new = (count ≡ 0) × (new ≡ old)
 Raises base from (q ∷ rest) count old new =
-    (rose : Bool) × (after : View) × (more : ℕ) × HasRaised base from q rose old after
+    (rose : Bool) × (after : SeatView) × (more : ℕ) × HasRaised base from q rose old after
     × Raises base from rest more after new × (count ≡ one_if rose + more)
 
 -- the neighbours of the pixel on the board, in raster order
@@ -29,16 +25,16 @@ pub record AreAround (base : Ground) (p : Pixel) (around : List Pixel) : Type 0 
   pub order : IsInRasterOrder around
 
 -- where a value was seen its neighbours are raised, else nothing is done
-abbrev pub Spreads : Ground → Seen → ℕ → View → View → Type 0
+abbrev pub Spreads : Ground → Seen → ℕ → SeatView → SeatView → Type 0
 Spreads base (Value f) count old new =
     (around : List Pixel) × AreAround base f.pixel around × Raises base f around count old new
 Spreads base Older count old new = (count ≡ 0) × (new ≡ old)
 Spreads base Newer count old new = (count ≡ 0) × (new ≡ old)
 
 -- the pixel is read and spreads, and so many neighbours rose
-pub record Visits (base : Ground) (p : Pixel) (count : ℕ) (old new : View) : Type 0 where
+pub record Visits (base : Ground) (p : Pixel) (count : ℕ) (old new : SeatView) : Type 0 where
   pub seen : Seen
-  pub after : View
+  pub after : SeatView
   pub read : HasRead base p seen old after
   pub spreads : Spreads base seen count after new
 
@@ -47,14 +43,14 @@ abbrev pub pixel_after : Ground → ℕ → Pixel
 pixel_after base k = record { x = k % (mask_of base).width; y = k / (mask_of base).width }
 
 -- the first pixels in raster order, so many of them, are visited
-abbrev pub Goes : Ground → ℕ → ℕ → View → View → Type 0
+abbrev pub Goes : Ground → ℕ → ℕ → SeatView → SeatView → Type 0
 Goes base zero count old new = (count ≡ 0) × (new ≡ old)
 Goes base (suc k) count old new =
-    (middle : View) × (before here : ℕ) × Goes base k before old middle
+    (middle : SeatView) × (before here : ℕ) × Goes base k before old middle
     × Visits base (pixel_after base k) here middle new × (count ≡ before + here)
 
 -- a round: the generation is learnt, and then all pixels are visited
-pub record IsRound (base : Ground) (count : ℕ) (old new : View) : Type 0 where
-  pub started : View
+pub record IsRound (base : Ground) (count : ℕ) (old new : SeatView) : Type 0 where
+  pub started : SeatView
   pub start : HasStarted old started
   pub goes : Goes base (size_of base) count started new

@@ -1,19 +1,17 @@
 -- The rule of a board. It holds between any two steps of any threads.
 use Rattle.std.specs.Prelude.{◌*◌, ◌+◌, ◌<◌, Contains, List, length, slice_index, ℕ, ◌≡◌, ◌≤◌}
 use Rattle.atomic_table.specs.Table.{State}
-use Rattle.grid_core.specs.Raster.{Raster}
-use Rattle.grid_core.specs.declared.pixel.Pixel.{Pixel}
+use Rattle.grid_core.specs.{Raster.Raster, declared.pixel.Pixel.Pixel}
 use lib.ListN.{get_elem?}
 use mathlib.Core.Option.{some}
 use Rattle.live_board.specs.Words.{IsOn, Supports, max_generation, number, place_of, size_of}
-use Rattle.live_board.specs.declared.fact.Fact.{Fact}
-use Rattle.live_board.specs.declared.rule.Ground.{Ground}
-use Rattle.live_board.specs.declared.rule.View.{View}
+use Rattle.live_board.specs.{declared.fact.Fact.Fact, declared.rule.Ground.Ground, declared.rule.SeatView.SeatView}
 
 -- the seat 0, which is the keeper's, has this generation and this marker
-abbrev pub IsKeptAt : List View → ℕ → Raster → Type 0
+abbrev pub IsKeptAt : List SeatView → ℕ → Raster → Type 0
 IsKeptAt views generation marker =
-    (keeper : View) × (get_elem? views 0 ≡ some keeper) × (keeper.generation ≡ generation) × (keeper.marker ≡ marker)
+    (keeper : SeatView) × (get_elem? views 0 ≡ some keeper) × (keeper.generation ≡ generation)
+    × (keeper.marker ≡ marker)
 
 -- a fact holds: the word of its pixel is no less, and where the fact is of the present generation, the pixel reaches
 -- its value from the marker
@@ -32,12 +30,12 @@ pub record IsBacked (base : Ground) (words : List ℕ) (generation : ℕ) (marke
       → Supports base marker p value
 
 -- a seat is of no later generation than the present one, and its facts hold
-pub record Sits (base : Ground) (words : List ℕ) (generation : ℕ) (marker : Raster) (v : View) : Type 0 where
+pub record Sits (base : Ground) (words : List ℕ) (generation : ℕ) (marker : Raster) (v : SeatView) : Type 0 where
   pub not_later : v.generation ≤ generation
   pub facts : (f : Fact) → Contains v.facts f → IsHeld base words generation marker f
 
 -- word 0 has the keeper's generation, each pixel's word is backed by the keeper's marker, and each seat's facts hold
-pub record IsBoard (base : Ground) (s : State ℕ View) : Type 0 where
+pub record IsBoard (base : Ground) (s : State ℕ SeatView) : Type 0 where
   pub generation : ℕ
   pub marker : Raster
   pub keeper : IsKeptAt s.views generation marker
@@ -45,4 +43,4 @@ pub record IsBoard (base : Ground) (s : State ℕ View) : Type 0 where
   pub head : slice_index s.words 0 ≡ generation * 65536
   pub within : generation ≤ max_generation
   pub pixels : (p : Pixel) → IsOn base p → IsBacked base s.words generation marker p
-  pub seats : (id : ℕ) (v : View) → get_elem? s.views id ≡ some v → Sits base s.words generation marker v
+  pub seats : (id : ℕ) (v : SeatView) → get_elem? s.views id ≡ some v → Sits base s.words generation marker v

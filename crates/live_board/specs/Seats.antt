@@ -1,21 +1,15 @@
 -- What contracts say of boards and their seats.
 use Rattle.std.specs.Prelude.{◌+◌, ◌++◌, ◌/◌, ◌<◌, Bool, Contains, IsTrue, List, [], min, ℕ, ◌↔◌, ◌∷◌, ◌≡◌, ◌≤◌}
 use Rattle.atomic_table.specs.Seated.{TableId}
-use Rattle.grid_core.specs.Neighbours.{AreNeighbours}
+use Rattle.grid_core.specs.{Neighbours.AreNeighbours, declared.pixel.Pixel.Pixel}
 use Rattle.grid_core.specs.Raster.{IsBelow, Raster, value_at}
-use Rattle.grid_core.specs.declared.pixel.Pixel.{Pixel}
 use Rattle.live_board.specs.Words.{IsOn, fact, mask_of, number, place_of}
-use Rattle.live_board.specs.declared.board.Board.{Board}
-use Rattle.live_board.specs.declared.fact.Fact.{Fact}
-use Rattle.live_board.specs.declared.fact.Peek.{Peek}
+use Rattle.live_board.specs.{declared.board.Board.Board, declared.fact.Fact.Fact, declared.fact.Peek.Peek}
+use Rattle.live_board.specs.{declared.fact.Seen.Seen, declared.hand.HandSeat.HandSeat}
+use Rattle.live_board.specs.{declared.keeper.KeeperSeat.KeeperSeat, declared.peek.PeekSeat.PeekSeat}
+use Rattle.live_board.specs.{declared.rule.Ground.Ground, declared.rule.SeatView.SeatView}
 use Rattle.live_board.specs.declared.fact.Peek.TheVariants.{Live, Moved}
-use Rattle.live_board.specs.declared.fact.Seen.{Seen}
 use Rattle.live_board.specs.declared.fact.Seen.TheVariants.{Newer, Older, Value}
-use Rattle.live_board.specs.declared.hand.HandSeat.{HandSeat}
-use Rattle.live_board.specs.declared.keeper.KeeperSeat.{KeeperSeat}
-use Rattle.live_board.specs.declared.peek.PeekSeat.{PeekSeat}
-use Rattle.live_board.specs.declared.rule.Ground.{Ground}
-use Rattle.live_board.specs.declared.rule.View.{View}
 
 -- the mask and the connectivity of a board, and which table it is
 abbrev pub ground_of : Board → Ground
@@ -25,13 +19,13 @@ abbrev pub table_of : Board → TableId
 table_of board = board.table.shared.table_id
 
 -- what the seats know
-abbrev pub keeper_view : KeeperSeat → View
+abbrev pub keeper_view : KeeperSeat → SeatView
 keeper_view keeper = keeper.seat.me.0
 
-abbrev pub hand_view : HandSeat → View
+abbrev pub hand_view : HandSeat → SeatView
 hand_view hand = hand.seat.me.0
 
-abbrev pub peek_view : PeekSeat → View
+abbrev pub peek_view : PeekSeat → SeatView
 peek_view peek = peek.seat.me.0
 
 -- the keeper's seat is of this board, and its marker is nowhere above the mask
@@ -47,28 +41,28 @@ abbrev pub IsPeekOf : Board → PeekSeat → Type 0
 IsPeekOf board peek = peek.seat.table_id ≡ table_of board
 
 -- the keeper is in this generation, with this marker, by a step on word 0. What it knew it still knows
-pub record HasBegun (generation : ℕ) (marker : Raster) (old new : View) : Type 0 where
+pub record HasBegun (generation : ℕ) (marker : Raster) (old new : SeatView) : Type 0 where
   pub generation_is : new.generation ≡ generation
   pub marker_is : new.marker ≡ marker
   pub facts : new.facts ≡ old.facts
   pub stepped : new.word ≡ 0
 
 -- the next generation began, or the marker rose in the same one
-abbrev pub HasAdvanced : Raster → View → View → Type 0
+abbrev pub HasAdvanced : Raster → SeatView → SeatView → Type 0
 HasAdvanced marker old new = HasBegun (old.generation + 1) marker old new
 
-abbrev pub HasRisen : Raster → View → View → Type 0
+abbrev pub HasRisen : Raster → SeatView → SeatView → Type 0
 HasRisen marker old new = HasBegun old.generation marker old new
 
 -- one more fact is known, from a step on its pixel's word
-pub record Adds (base : Ground) (f : Fact) (old new : View) : Type 0 where
+pub record Adds (base : Ground) (f : Fact) (old new : SeatView) : Type 0 where
   pub facts : new.facts ≡ old.facts ++ f ∷ []
   pub generation : new.generation ≡ old.generation
   pub marker : new.marker ≡ old.marker
   pub stepped : new.word ≡ place_of base f.pixel
 
 -- the pixel has the marker's value, in the keeper's generation
-abbrev pub planted_fact : View → Pixel → Fact
+abbrev pub planted_fact : SeatView → Pixel → Fact
 planted_fact keeper p = fact p keeper.generation (value_at keeper.marker p)
 
 -- the neighbour has the fact's value, as far as the mask lets it
@@ -76,13 +70,13 @@ abbrev pub raised_fact : Ground → Fact → Pixel → Fact
 raised_fact base from q = fact q from.generation (min from.value (value_at (mask_of base) q))
 
 -- the seat's generation is the one that its last step found in word 0. What it knew it still knows
-pub record HasStarted (old new : View) : Type 0 where
+pub record HasStarted (old new : SeatView) : Type 0 where
   pub generation : new.generation ≡ new.found / 65536
   pub facts : new.facts ≡ old.facts
   pub stepped : new.word ≡ 0
 
 -- a neighbour was raised: the seat knows that it has the value, and the answer is true where less was found there
-pub record HasRaised (base : Ground) (from : Fact) (q : Pixel) (rose : Bool) (old new : View) : Type 0 where
+pub record HasRaised (base : Ground) (from : Fact) (q : Pixel) (rose : Bool) (old new : SeatView) : Type 0 where
   pub adds : Adds base (raised_fact base from q) old new
   pub rose_is : IsTrue rose ↔ (new.found < number (raised_fact base from q))
 
@@ -103,7 +97,7 @@ pub record IsOf (p : Pixel) (loaded : Fact) : Type 0 where
   pub small : loaded.value < 65536
 
 -- a pixel was read: the seat knows the fact that was loaded
-pub record HasRead (base : Ground) (p : Pixel) (seen : Seen) (old new : View) : Type 0 where
+pub record HasRead (base : Ground) (p : Pixel) (seen : Seen) (old new : SeatView) : Type 0 where
   pub loaded : Fact
   pub of : IsOf p loaded
   pub adds : Adds base loaded old new
@@ -118,7 +112,7 @@ IsAnswer generation loaded Moved = loaded.generation ≡ generation → ⊥
 
 -- a pixel was peeked at by two steps: the first loaded a fact from its word, which the seat knows, and the last found a
 -- generation in word 0
-pub record HasPeeked (base : Ground) (p : Pixel) (answer : Peek) (old new : View) : Type 0 where
+pub record HasPeeked (base : Ground) (p : Pixel) (answer : Peek) (old new : SeatView) : Type 0 where
   pub loaded : Fact
   pub of : IsOf p loaded
   pub facts : new.facts ≡ old.facts ++ loaded ∷ []
@@ -130,7 +124,7 @@ pub record HasPeeked (base : Ground) (p : Pixel) (answer : Peek) (old new : View
   pub answer_is : IsAnswer new.generation loaded answer
 
 -- the fact is one that the hand knows, and it is of the hand's generation
-pub record IsFactOf (hand : View) (f : Fact) : Type 0 where
+pub record IsFactOf (hand : SeatView) (f : Fact) : Type 0 where
   pub known : Contains hand.facts f
   pub current : f.generation ≡ hand.generation
 

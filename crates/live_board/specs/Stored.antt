@@ -1,9 +1,6 @@
 -- The ground of a board is stored as the parts of its record.
-use Rattle.std.specs.Coded.{Coded, code_by, coded_ℕ, coded×}
-use Rattle.std.specs.Prelude.{refl, ℕ}
-use Rattle.grid_core.specs.Raster.{Raster}
-use Rattle.grid_core.specs.Stored.{conn_code, raster_code}
-use Rattle.grid_core.specs.declared.conn.Conn.{Conn}
+use Rattle.std.specs.{Coded.Coded, Coded.code_by, Coded.coded_ℕ, Coded.coded×, Prelude.refl, Prelude.ℕ}
+use Rattle.grid_core.specs.{Raster.Raster, Stored.conn_code, Stored.raster_code, declared.conn.Conn.Conn}
 use Rattle.pgm_codec.specs.Graymap.{Graymap}
 use Rattle.live_board.specs.declared.rule.Ground.{Ground}
 

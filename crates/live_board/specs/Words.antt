@@ -1,11 +1,8 @@
 -- The ground of a board, its words as facts, and what a seat knows.
 use Rattle.std.specs.Prelude.{◌%◌, ◌*◌, ◌+◌, ◌++◌, ◌/◌, [], replicate, ℕ, ◌∷◌}
-use Rattle.grid_core.specs.Path.{Domain, Reaches, domain_of}
+use Rattle.grid_core.specs.{Path.Domain, Path.Reaches, Path.domain_of, declared.pixel.Pixel.Pixel}
 use Rattle.grid_core.specs.Raster.{IsInside, Raster, index_of, value_at}
-use Rattle.grid_core.specs.declared.pixel.Pixel.{Pixel}
-use Rattle.live_board.specs.declared.fact.Fact.{Fact}
-use Rattle.live_board.specs.declared.rule.Ground.{Ground}
-use Rattle.live_board.specs.declared.rule.View.{View}
+use Rattle.live_board.specs.{declared.fact.Fact.Fact, declared.rule.Ground.Ground, declared.rule.SeatView.SeatView}
 
 -- the greatest generation, 2^48 - 1
 abbrev pub max_generation : ℕ
@@ -55,7 +52,7 @@ abbrev pub blank : Raster → Raster
 blank r = record { width = r.width; height = r.height; cells = replicate (r.width * r.height) 0 }
 
 -- the view of the keeper of a new board
-abbrev pub beginner : Ground → View
+abbrev pub beginner : Ground → SeatView
 beginner base = record {
   generation = base.first;
   marker = blank (mask_of base);
@@ -67,19 +64,19 @@ beginner base = record {
 }
 
 -- a seat's view after a step on a word, where it found a number
-abbrev pub after_step : View → ℕ → ℕ → View
+abbrev pub after_step : SeatView → ℕ → ℕ → SeatView
 after_step v word found = record v { word = word; found = found; earlier_word = v.word; earlier_found = v.found }
 
 -- the same, where it left a fact
-abbrev pub with_fact : View → ℕ → ℕ → Fact → View
+abbrev pub with_fact : SeatView → ℕ → ℕ → Fact → SeatView
 with_fact v word found f = record (after_step v word found) { facts = v.facts ++ f ∷ [] }
 
 -- a seat's view after a step on word 0 that taught it the generation found there
-abbrev pub taught : View → ℕ → View
+abbrev pub taught : SeatView → ℕ → SeatView
 taught v found = record (after_step v 0 found) { generation = found / 65536 }
 
 -- the keeper's view after a step on word 0 that brought a generation and a marker
-abbrev pub begun : View → ℕ → ℕ → Raster → View
+abbrev pub begun : SeatView → ℕ → ℕ → Raster → SeatView
 begun v found generation marker = record (after_step v 0 found) { generation = generation; marker = marker }
 
 -- what stands for a marker and for a pixel where none is picked

@@ -5,7 +5,7 @@ ghost use Rattle.std.specs.Prelude.{◌+◌, ◌≡◌, ◌≤◌};
 ghost use Rattle.live_board.specs.Stored.{ground_code};
 ghost use Rattle.live_board.specs.Words.{max_board, size_of};
 
-use crate::rule::{Ground, Law, View};
+use crate::rule::{Ground, Law, SeatView};
 use atomic_table::Table;
 use grid_core::{Conn, Grid, Neighbourhood, Pixel, neighbours};
 use std::alloc::Global;
@@ -16,7 +16,7 @@ pub const MAX_BOARD: u32 = 1 << 20;
 /// A word for each pixel of a mask, and one for the generation. Threads share it by `&`, each with a seat of its own.
 #[derive(Drop)]
 pub struct Board {
-    pub(crate) table: Table<u8, View, Ground, Law, Global>,
+    pub(crate) table: Table<u8, SeatView, Ground, Law, Global>,
     pub(crate) base: Ground,
     ghost about: { table.shared.key ≡ base } by { Coded-set ground_code _ _ },
     ghost small: { size_of base ≤ max_board },

@@ -5,7 +5,7 @@ ghost use Rattle.live_board.specs.Words.{max_generation};
 
 use crate::board::Board;
 use crate::fact::{Fact, LEVELS, Seen};
-use crate::rule::View;
+use crate::rule::SeatView;
 use crate::steps::{learn, lift, load};
 use atomic_table::Seat;
 use grid_core::Pixel;
@@ -14,7 +14,7 @@ use std::marker::Brand;
 /// The seat of a hand, which spreads values from pixel to pixel. It mostly goes to a thread of its own.
 #[derive(Drop)]
 pub struct HandSeat {
-    pub(crate) seat: Seat<u8, View>,
+    pub(crate) seat: Seat<u8, SeatView>,
     pub(crate) generation: u64,
     ghost same: { seat.me.0.generation ≡ generation },
     ghost bare: { seat.me.1 ≡ [] },

@@ -8,7 +8,7 @@ ghost use Rattle.live_board.specs.Words.{max_generation};
 use crate::board::Board;
 use crate::error::Spent;
 use crate::fact::LEVELS;
-use crate::rule::View;
+use crate::rule::SeatView;
 use crate::steps::{begin, lift, rise};
 use atomic_table::Seat;
 use grid_core::{Grid, Pixel};
@@ -20,7 +20,7 @@ const MAX_GENERATION: u64 = (1 << 48) - 1;
 /// The seat of the keeper, who brings markers. It is mostly in the thread that owns the strokes.
 #[derive(Drop)]
 pub struct KeeperSeat {
-    pub(crate) seat: Seat<u8, View>,
+    pub(crate) seat: Seat<u8, SeatView>,
     pub(crate) generation: u64,
     pub(crate) marker: Grid,
     ghost first: { seat.id ≡ 0 },

@@ -4,7 +4,7 @@ ghost use Rattle.std.specs.Prelude.{[], ◌≡◌};
 
 use crate::board::Board;
 use crate::fact::Peek;
-use crate::rule::View;
+use crate::rule::SeatView;
 use crate::steps::{learn, load};
 use atomic_table::Seat;
 use grid_core::Pixel;
@@ -13,7 +13,7 @@ use std::marker::Brand;
 /// The seat of who looks at single pixels, from any thread.
 #[derive(Drop)]
 pub struct PeekSeat {
-    pub(crate) seat: Seat<u8, View>,
+    pub(crate) seat: Seat<u8, SeatView>,
     ghost bare: { seat.me.1 ≡ [] },
 }
 

@@ -22,7 +22,7 @@ pub struct Ground {
 }
 
 /// What a seat knows. No value of it is made.
-pub struct View {
+pub struct SeatView {
     /// The generation: of the keeper the present one, of others the one that it learnt last.
     pub(crate) generation: u64,
     /// Of the keeper, the marker.
@@ -40,7 +40,7 @@ pub struct View {
 /// No word of the present generation is more than its pixel reaches.
 pub struct Law;
 
-impl TableRule<u8, View, Ground> for Law {
+impl TableRule<u8, SeatView, Ground> for Law {
     ghost holds = { IsBoard };
 
     ghost first = { beginner };
@@ -73,7 +73,7 @@ pub struct Lift<J> {
     at: PhantomData<J>,
 }
 
-impl<J: At> Play<u8, View> for Lift<J> {
+impl<J: At> Play<u8, SeatView> for Lift<J> {
     ghost then = { Lifts J.pixel };
 }
 
@@ -82,14 +82,14 @@ pub struct Read<J> {
     at: PhantomData<J>,
 }
 
-impl<J: At> Play<u8, View> for Read<J> {
+impl<J: At> Play<u8, SeatView> for Read<J> {
     ghost then = { Reads J.pixel };
 }
 
 /// Word 0 was loaded.
 pub struct Learn;
 
-impl Play<u8, View> for Learn {
+impl Play<u8, SeatView> for Learn {
     ghost then = { Learns };
 }
 
@@ -98,7 +98,7 @@ pub struct Advance<J> {
     brings: PhantomData<J>,
 }
 
-impl<J: Brings> Play<u8, View> for Advance<J> {
+impl<J: Brings> Play<u8, SeatView> for Advance<J> {
     ghost then = { Advances J.marker };
 }
 
@@ -107,6 +107,6 @@ pub struct Rise<J> {
     brings: PhantomData<J>,
 }
 
-impl<J: Brings> Play<u8, View> for Rise<J> {
+impl<J: Brings> Play<u8, SeatView> for Rise<J> {
     ghost then = { Rises J.marker };
 }

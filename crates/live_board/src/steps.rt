@@ -8,12 +8,17 @@ ghost use Rattle.live_board.specs.Words.{IsOn, begun, fact_of, max_generation, p
 
 use crate::board::Board;
 use crate::fact::LEVELS;
-use crate::rule::{Advance, At, Brings, Learn, Lift, Read, Rise, View};
+use crate::rule::{Advance, At, Brings, Learn, Lift, Read, Rise, SeatView};
 use atomic_table::Seat;
 use grid_core::{Grid, Pixel};
 
 // Makes the word of a pixel at least the number, and returns it as it was.
-pub(crate) fn lift<J: At>(board: &Board, seat: &mut Seat<u8, View>, pixel: Pixel, asked: u64) -> u64
+pub(crate) fn lift<J: At>(
+    board: &Board,
+    seat: &mut Seat<u8, SeatView>,
+    pixel: Pixel,
+    asked: u64,
+) -> u64
     requires at { J.pixel ≡ pixel }
     requires seat { IsBare (table_of board.now) seat.old }
     requires pixel { IsOn (ground_of board.now) pixel }
@@ -28,7 +33,7 @@ pub(crate) fn lift<J: At>(board: &Board, seat: &mut Seat<u8, View>, pixel: Pixel
 }
 
 // Loads the word of a pixel.
-pub(crate) fn load<J: At>(board: &Board, seat: &mut Seat<u8, View>, pixel: Pixel) -> u64
+pub(crate) fn load<J: At>(board: &Board, seat: &mut Seat<u8, SeatView>, pixel: Pixel) -> u64
     requires at { J.pixel ≡ pixel }
     requires seat { IsBare (table_of board.now) seat.old }
     requires pixel { IsOn (ground_of board.now) pixel }
@@ -43,7 +48,7 @@ pub(crate) fn load<J: At>(board: &Board, seat: &mut Seat<u8, View>, pixel: Pixel
 }
 
 // Loads word 0, and returns the generation.
-pub(crate) fn learn(board: &Board, seat: &mut Seat<u8, View>) -> u64
+pub(crate) fn learn(board: &Board, seat: &mut Seat<u8, SeatView>) -> u64
     requires seat { IsBare (table_of board.now) seat.old }
     ensures seat { IsBare (table_of board.now) seat.new }
     ensures id { seat.new.id ≡ seat.old.id }
@@ -54,7 +59,7 @@ pub(crate) fn learn(board: &Board, seat: &mut Seat<u8, View>) -> u64
 }
 
 // Begins the next generation, with this marker.
-pub(crate) fn begin<J: Brings>(board: &Board, seat: &mut Seat<u8, View>, marker: &Grid)
+pub(crate) fn begin<J: Brings>(board: &Board, seat: &mut Seat<u8, SeatView>, marker: &Grid)
     requires brings { J.marker ≡ marker.now }
     requires seat { IsBare (table_of board.now) seat.old }
     requires keeper { seat.old.id ≡ 0 }
@@ -70,7 +75,7 @@ pub(crate) fn begin<J: Brings>(board: &Board, seat: &mut Seat<u8, View>, marker:
 }
 
 // Brings a marker that is nowhere below the present one, in the same generation.
-pub(crate) fn rise<J: Brings>(board: &Board, seat: &mut Seat<u8, View>, marker: &Grid)
+pub(crate) fn rise<J: Brings>(board: &Board, seat: &mut Seat<u8, SeatView>, marker: &Grid)
     requires brings { J.marker ≡ marker.now }
     requires seat { IsBare (table_of board.now) seat.old }
     requires keeper { seat.old.id ≡ 0 }

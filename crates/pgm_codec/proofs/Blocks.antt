@@ -1,12 +1,9 @@
 -- A text put piece by piece.
 use Rattle.std.proofs.Common.{◌≡◌, ℕ, List, [], ◌++◌, Option, Result, Ok, Err, length, take, drop, sym, refl, ap, subst}
-use Rattle.std.proofs.Common.{◌∙◌, append_assoc, append-nil, take-append-drop, take_at}
-use Rattle.std.specs.List.{flat_map}
+use Rattle.std.proofs.Common.{◌∙◌, append_assoc, append-nil, take-append-drop, take_at, flat_map}
+use Rattle.std.proofs.{KnownBytes.Appends-trans, lemmas.Grind.flat_map-append}
 use Rattle.std.specs.Io.KnownBytes.{Appends}
-use Rattle.std.proofs.KnownBytes.{Appends-trans}
-use Rattle.std.proofs.lemmas.Grind.{flat_map-append}
-use Rattle.byte_devices.specs.Device.{SinkSeen, HasRisen}
-use Rattle.byte_devices.specs.Transfer.{AppendsFront, PutsAll}
+use Rattle.byte_devices.specs.{Device.SinkSeen, Device.HasRisen, Transfer.AppendsFront, Transfer.PutsAll}
 
 -- what is left, in two pieces
 two_pieces : (n : ℕ) (rest next behind : List ℕ) → next ≡ take n rest → behind ≡ drop n rest → rest ≡ next ++ behind

@@ -1,18 +1,14 @@
 -- Where a number stands first, behind a gap: what reading finds there, and that each text is of one of
 -- three kinds.
 use Rattle.std.proofs.Common.{◌≡◌, ℕ, ◌+◌, ◌*◌, ◌<◌, min, true, false, List, [], ◌∷◌, ◌++◌, Ok, Err, refl, sym, ap, ◌∙◌}
-use Rattle.std.proofs.Common.{arith, ◌⊎◌, inl, inr, append_assoc, subst}
-use Rattle.std.proofs.lemmas.List.{append-nil}
+use Rattle.std.proofs.Common.{arith, ◌⊎◌, inl, inr, append_assoc, subst, IsTrue}
+use Rattle.std.proofs.{lemmas.List.append-nil, lemmas.Str.Parse.digit_from_value}
 use Rattle.std.proofs.lemmas.Bool.{cond-true, cond-false, cases_Bool}
-use Rattle.std.proofs.lemmas.Str.Parse.{digit_from_value}
-use Rattle.std.specs.Char.{is_ascii_digit, digit_value}
-use Rattle.std.specs.List.{AllByRecursion, concat}
-use Rattle.std.specs.Prelude.{IsTrue}
+use Rattle.std.specs.{Char.is_ascii_digit, Char.digit_value, List.AllByRecursion, List.concat}
 use Rattle.std.specs.Str.Parse.{AllDigits, IsNumeral, digits_value, digits_value_after}
-use Rattle.pgm_codec.specs.declared.error.PgmError.{PgmError}
-use Rattle.pgm_codec.specs.declared.error.PgmError.TheVariants.{Truncated}
-use Rattle.pgm_codec.specs.declared.grammar.Place.{Place}
-use Rattle.pgm_codec.specs.declared.grammar.Place.TheVariants.{Header, Raster}
+use Rattle.pgm_codec.specs.{declared.error.PgmError.PgmError, declared.error.PgmError.TheVariants.Truncated}
+use Rattle.pgm_codec.specs.{declared.grammar.Section.Section}
+use Rattle.pgm_codec.specs.declared.grammar.Section.TheVariants.{Header, Raster}
 use Rattle.pgm_codec.specs.Spelling.{is_white, is_line_end, opens_comment, IsOpenComment, IsComment, IsWhitespace}
 use Rattle.pgm_codec.specs.Spelling.{IsGap, StartsNoDigit, StartsNumber}
 use Rattle.pgm_codec.specs.FirstFault.{EndsInGap, StartsOther, StartsStray}
@@ -33,18 +29,18 @@ pub digit_not_white : (b : ℕ) → is_ascii_digit b ≡ true → is_white b ≡
 digit_not_white b h = grind arith
 
 -- what begins a comment is no whitespace
-opens_not_white : (place : Place) (b : ℕ) → opens_comment place b ≡ true → is_white b ≡ false
+opens_not_white : (place : Section) (b : ℕ) → opens_comment place b ≡ true → is_white b ≡ false
 opens_not_white Header b h = grind arith
 opens_not_white Raster b h = absurd cc
 
 -- nor is a digit what begins a comment
-pub digit_opens_none : (place : Place) (b : ℕ) → is_ascii_digit b ≡ true → opens_comment place b ≡ false
+pub digit_opens_none : (place : Section) (b : ℕ) → is_ascii_digit b ≡ true → opens_comment place b ≡ false
 digit_opens_none Header b h = grind arith
 digit_opens_none Raster b h = refl
 
 -- ---- gaps
 
-module _ (place : Place) where
+module _ (place : Section) where
   -- the bytes of a comment that has no end yet are passed over
   words_passed : (words rest : List ℕ) → AllByRecursion (λ c. is_line_end c ≡ false) words
       → after_gap place true (words ++ rest) ≡ after_gap place true rest
@@ -135,27 +131,11 @@ module _ (place : Place) where
       → GapCases (piece ++ text)
   more_cases piece text p (inl (inl h)) = inl (inl (more_gap piece text p h))
   more_cases piece text p (inl (inr (gap, begun, is_gap, is_open, e))) =
-      inl (inr (
-        piece ++ gap,
-        begun,
-        more_gap piece gap p is_gap,
-        is_open,
-        ap (λ (t : List ℕ). piece ++ t) e
-            ∙ sym (append_assoc piece gap begun),
-      ))
+      let parts = ap (λ (t : List ℕ). piece ++ t) e ∙ sym (append_assoc piece gap begun) in
+      inl (inr (piece ++ gap, begun, more_gap piece gap p is_gap, is_open, parts))
   more_cases piece text p (inr (b, (gap, rest, is_gap, w, o, e))) =
-      inr (
-        b,
-        (
-          piece ++ gap,
-          rest,
-          more_gap piece gap p is_gap,
-          w,
-          o,
-          ap (λ (t : List ℕ). piece ++ t) e
-              ∙ sym (append_assoc piece gap (b ∷ rest)),
-        ),
-      )
+      let parts = ap (λ (t : List ℕ). piece ++ t) e ∙ sym (append_assoc piece gap (b ∷ rest)) in
+      inr (b, (piece ++ gap, rest, more_gap piece gap p is_gap, w, o, parts))
 
   comment_more : (b : ℕ) (text : List ℕ) → is_line_end b ≡ false → CommentCases text → CommentCases (b ∷ text)
   comment_more b text n (inl all) = inl (n, all)
@@ -214,14 +194,8 @@ abbrev DigitsFirst : List ℕ → Type 0
 DigitsFirst text = (ds rest : List ℕ) × AllDigits 10 ds × StartsNoDigit rest × (text ≡ ds ++ rest)
 
 digits_more : (b : ℕ) (text : List ℕ) → is_ascii_digit b ≡ true → DigitsFirst text → DigitsFirst (b ∷ text)
-digits_more b text d (ds, rest, all, ends, e) = (
-  b ∷ ds,
-  rest,
-  (digit_below b d, all),
-  ends,
-  ap
-      (λ (t : List ℕ). b ∷ t) e,
-)
+digits_more b text d (ds, rest, all, ends, e) =
+    (b ∷ ds, rest, (digit_below b d, all), ends, ap (λ (t : List ℕ). b ∷ t) e)
 
 digits_first : (text : List ℕ) → DigitsFirst text
 digits_first [] = ([], [], tt, tt, refl)
@@ -233,7 +207,7 @@ digits_first (b ∷ text) =
 
 -- ---- numbers
 
-module _ (place : Place) where
+module _ (place : Section) where
   numeral_read : (stray : PgmError) (ds rest : List ℕ) → IsNumeral 10 ds → StartsNoDigit rest
       → number_at stray (after_gap place false (ds ++ rest)) ≡ Ok (min (digits_value 10 ds) too_great, rest)
   unfolding number_at

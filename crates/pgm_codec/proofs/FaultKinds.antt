@@ -1,8 +1,7 @@
 -- Which faults a text can have: want of memory and a device's failure are none of them.
 use Rattle.std.proofs.Common.{◌≡◌, ℕ, List, Option, Some, inl, inr, arith}
-use Rattle.pgm_codec.specs.declared.error.PgmError.{PgmError}
+use Rattle.pgm_codec.specs.{declared.error.PgmError.PgmError, declared.grammar.Encoding.Encoding}
 use Rattle.pgm_codec.specs.declared.error.PgmError.TheVariants.{Memory, Device}
-use Rattle.pgm_codec.specs.declared.grammar.Encoding.{Encoding}
 use Rattle.pgm_codec.specs.declared.grammar.Encoding.TheVariants.{Plain, Raw}
 use Rattle.pgm_codec.specs.Spelling.{width_fault, height_fault, maxval_fault}
 use Rattle.pgm_codec.specs.FirstFault.{MagicFault, FieldFault, GoodFieldFault, SampleFault, EndFault, RasterFault}

@@ -1,18 +1,16 @@
 -- A header number and a sample: what reading finds is what stands there.
 use Rattle.std.proofs.Common.{◌≡◌, ℕ, ◌+◌, ◌*◌, ◌<◌, ◌≤◌, min, Bool, true, false, ◌⊎◌, List, [], ◌∷◌, Option, Some}
-use Rattle.std.proofs.Common.{None, Result, Ok, Err, refl, sym, ap, subst, ◌∙◌, arith, inl, inr}
-use Rattle.std.specs.Prelude.{nat_lt}
+use Rattle.std.proofs.Common.{None, Result, Ok, Err, refl, sym, ap, subst, ◌∙◌, arith, inl, inr, nat_lt}
 use Rattle.std.proofs.lemmas.Bool.{cond-true, cond-false, cases_Bool, cases_lt, lt-ltb, le-ltb}
 use Rattle.std.specs.Str.Parse.{digits_value}
 use Rattle.grid_core.specs.Raster.{max_level}
-use Rattle.pgm_codec.specs.declared.error.PgmError.{PgmError}
+use Rattle.pgm_codec.specs.{declared.error.PgmError.PgmError, declared.grammar.Encoding.Encoding}
 use Rattle.pgm_codec.specs.declared.error.PgmError.TheVariants.{BadHeader, Truncated, SampleRange, BadSample}
-use Rattle.pgm_codec.specs.declared.grammar.Encoding.{Encoding}
 use Rattle.pgm_codec.specs.declared.grammar.Encoding.TheVariants.{Plain, Raw}
-use Rattle.pgm_codec.specs.declared.grammar.Place.TheVariants.{Header, Raster}
+use Rattle.pgm_codec.specs.declared.grammar.Section.TheVariants.{Header, Raster}
 use Rattle.pgm_codec.specs.Spelling.{is_white, is_wide, StartsApart, StartsNumber, StartsBytes, StartsField}
 use Rattle.pgm_codec.specs.Spelling.{StartsGoodField, StartsSample, width_fault, height_fault, maxval_fault}
-use Rattle.pgm_codec.specs.FirstFault.{EndsInGap, StartsStray, FieldFault, GoodFieldFault, IsShort, SampleFault}
+use Rattle.pgm_codec.specs.FirstFault.{FieldFault, GoodFieldFault, IsShort, SampleFault}
 use Rattle.pgm_codec.specs.Reading.{◌>>=◌, field_end, field_at, judged, good_field_at, sample_end, bytes_at, within}
 use Rattle.pgm_codec.specs.Reading.{sample_at, too_great}
 use Rattle.pgm_codec.proofs.Decimals.{number_read, stray_read, gap_read, NumberCases, number_cases}
@@ -36,41 +34,22 @@ field_number : (text digits rest : List ℕ) → StartsNumber Header text digits
 unfolding field_at
 field_number text digits rest h = ap (λ (r : Found). r >>= field_end) (number_read Header BadHeader text digits rest h)
 
-end_white : (n b : ℕ) (rest : List ℕ) → is_white b ≡ true → field_end (n, b ∷ rest) ≡ found n rest
-unfolding field_end
-end_white n b rest w = cond-true (is_white b) (found n rest) (failed BadHeader) w
-
-end_other : (n b : ℕ) (rest : List ℕ) → is_white b ≡ false → field_end (n, b ∷ rest) ≡ failed BadHeader
-unfolding field_end
-end_other n b rest w = cond-false (is_white b) (found n rest) (failed BadHeader) w
-
-end_none : (n : ℕ) → field_end (n, []) ≡ failed Truncated
-unfolding field_end
-end_none n = refl
-
 -- a header number that stands there is read
 pub field_read : (text : List ℕ) (n : ℕ) (rest : List ℕ) → StartsField text n rest
     → field_at text ≡ found (min n too_great) rest
+unfolding field_end
 field_read text n rest (digits, b, h, w, e) =
-    field_number text digits (b ∷ rest) h ∙ end_white (min (digits_value 10 digits) too_great) b rest w
+    field_number text digits (b ∷ rest) h ∙ cond-true (is_white b) _ _ w
     ∙ ap (λ (k : ℕ). found (min k too_great) rest) (sym e)
-
-field_stray : (text : List ℕ) → StartsStray Header text → field_at text ≡ failed BadHeader
-unfolding field_at
-field_stray text h = ap (λ (r : Found). r >>= field_end) (stray_read Header BadHeader text h)
-
-field_gap : (text : List ℕ) → EndsInGap Header text → field_at text ≡ failed Truncated
-unfolding field_at
-field_gap text h = ap (λ (r : Found). r >>= field_end) (gap_read Header BadHeader text h)
 
 -- a fault of its spelling is answered
 pub field_fault_read : (text : List ℕ) (e : PgmError) → FieldFault text e → field_at text ≡ failed e
-field_fault_read text Truncated (inl h) = field_gap text h
+unfolding field_at field_end
+field_fault_read text Truncated (inl h) = ap (λ (r : Found). r >>= field_end) (gap_read Header BadHeader text h)
 field_fault_read text Truncated (inr (digits, h)) = field_number text digits [] h
-    ∙ end_none (min (digits_value 10 digits) too_great)
-field_fault_read text BadHeader (inl h) = field_stray text h
+field_fault_read text BadHeader (inl h) = ap (λ (r : Found). r >>= field_end) (stray_read Header BadHeader text h)
 field_fault_read text BadHeader (inr (digits, rest, b, h, w)) =
-    field_number text digits (b ∷ rest) h ∙ end_other (min (digits_value 10 digits) too_great) b rest w
+    field_number text digits (b ∷ rest) h ∙ cond-false (is_white b) _ _ w
 field_fault_read text _ h = absurd h
 
 -- what reading finds is there
@@ -78,24 +57,22 @@ abbrev pub IsField : List ℕ → Found → Type 0
 IsField text (Ok x) = (n : ℕ) × StartsField text n x.1 × (x.0 ≡ min n too_great)
 IsField text (Err e) = FieldFault text e
 
-field_by : (text : List ℕ) (r : Found) → field_at text ≡ r → IsField text r → IsField text (field_at text)
-field_by text r e h = subst (IsField text) (sym e) h
+field_fails : (text : List ℕ) (e : PgmError) → FieldFault text e → IsField text (field_at text)
+field_fails text e h = subst (IsField text) (sym (field_fault_read text e h)) h
 
 field_behind : (text digits rest : List ℕ) → StartsNumber Header text digits rest → IsField text (field_at text)
-field_behind text digits [] h = field_by text (failed Truncated) (field_fault_read text Truncated (inr (digits, h)))
-    (inr (digits, h))
+field_behind text digits [] h = field_fails text Truncated (inr (digits, h))
 field_behind text digits (b ∷ rest) h =
+    let n = digits_value 10 digits in
     elim (cases_Bool (is_white b)) [
-      | inl w ↦ field_by text (found (min (digits_value 10 digits) too_great) rest)
-          (field_read text (digits_value 10 digits) rest (digits, b, h, w, refl))
-          (digits_value 10 digits, (digits, b, h, w, refl), refl)
-      | inr w ↦ field_by text (failed BadHeader) (field_fault_read text BadHeader (inr (digits, rest, b, h, w)))
-          (inr (digits, rest, b, h, w))
+      | inl w ↦ subst (IsField text) (sym (field_read text n rest (digits, b, h, w, refl)))
+          (n, (digits, b, h, w, refl), refl)
+      | inr w ↦ field_fails text BadHeader (inr (digits, rest, b, h, w))
     ]
 
 field_from : (text : List ℕ) → NumberCases Header text → IsField text (field_at text)
-field_from text (inl h) = field_by text (failed Truncated) (field_gap text h) (inl h)
-field_from text (inr (inl h)) = field_by text (failed BadHeader) (field_stray text h) (inl h)
+field_from text (inl h) = field_fails text Truncated (inl h)
+field_from text (inr (inl h)) = field_fails text BadHeader (inl h)
 field_from text (inr (inr (digits, rest, h))) = field_behind text digits rest h
 
 -- what reading a header number says is so
@@ -109,14 +86,6 @@ pub record IsCapped (fault : ℕ → Option PgmError) : Type 0 where
   pub same : (n : ℕ) → fault (min n too_great) ≡ fault n
   pub small : (n : ℕ) → fault n ≡ None → n ≤ max_level
 
-judged_none : (o : Option PgmError) (n : ℕ) (rest : List ℕ) → o ≡ None → judged o (n, rest) ≡ found n rest
-judged_none None n rest e = refl
-judged_none (Some c) n rest e = absurd cc
-
-judged_some : (o : Option PgmError) (n : ℕ) (rest : List ℕ) (c : PgmError) → o ≡ Some c → judged o (n, rest) ≡ failed c
-judged_some None n rest c e = absurd cc
-judged_some (Some d) n rest c e = let same : d ≡ c = cc in ap failed same
-
 module _ (fault : ℕ → Option PgmError) (capped : IsCapped fault) where
   good_value : (text : List ℕ) (n : ℕ) (rest : List ℕ) → StartsField text n rest
       → good_field_at fault text ≡ judged (fault (min n too_great)) (min n too_great, rest)
@@ -128,40 +97,34 @@ module _ (fault : ℕ → Option PgmError) (capped : IsCapped fault) where
   good_read text n rest (h, e) =
       let small : n ≤ max_level = capped.small n e in
       let same : min n too_great ≡ n = omega arith in
-      good_value text n rest h ∙ judged_none (fault (min n too_great)) (min n too_great) rest (capped.same n ∙ e)
+      good_value text n rest h
+      ∙ ap (λ (o : Option PgmError). judged o (min n too_great, rest)) (capped.same n ∙ e)
       ∙ ap (λ (k : ℕ). found k rest) same
-
-  good_bad_value : (text : List ℕ) (n : ℕ) (rest : List ℕ) (c : PgmError) → StartsField text n rest → fault n ≡ Some c
-      → good_field_at fault text ≡ failed c
-  good_bad_value text n rest c h e = good_value text n rest h
-      ∙ judged_some (fault (min n too_great)) (min n too_great) rest c (capped.same n ∙ e)
-
-  good_bad_field : (text : List ℕ) (c : PgmError) → FieldFault text c → good_field_at fault text ≡ failed c
-  unfolding good_field_at
-  good_bad_field text c h = ap (λ (r : Found). r >>= λ x. judged (fault x.0) x) (field_fault_read text c h)
 
   pub good_fault_read : (text : List ℕ) (c : PgmError) → GoodFieldFault fault text c
       → good_field_at fault text ≡ failed c
-  good_fault_read text c (inl h) = good_bad_field text c h
-  good_fault_read text c (inr (n, rest, h, e)) = good_bad_value text n rest c h e
+  unfolding good_field_at
+  good_fault_read text c (inl h) = ap (λ (r : Found). r >>= λ x. judged (fault x.0) x) (field_fault_read text c h)
+  good_fault_read text c (inr (n, rest, h, e)) =
+      good_value text n rest h
+      ∙ ap (λ (o : Option PgmError). judged o (min n too_great, rest)) (capped.same n ∙ e)
 
   abbrev pub IsGoodField : List ℕ → Found → Type 0
   IsGoodField text (Ok x) = StartsGoodField fault text x.0 x.1
   IsGoodField text (Err e) = GoodFieldFault fault text e
 
-  good_by : (text : List ℕ) (r : Found) → good_field_at fault text ≡ r → IsGoodField text r
+  good_fails : (text : List ℕ) (c : PgmError) → GoodFieldFault fault text c
       → IsGoodField text (good_field_at fault text)
-  good_by text r e h = subst (IsGoodField text) (sym e) h
+  good_fails text c h = subst (IsGoodField text) (sym (good_fault_read text c h)) h
 
   good_judged : (text : List ℕ) (n : ℕ) (rest : List ℕ) (o : Option PgmError) → fault n ≡ o → StartsField text n rest
       → IsGoodField text (good_field_at fault text)
-  good_judged text n rest None e h = good_by text (found n rest) (good_read text n rest (h, e)) (h, e)
-  good_judged text n rest (Some c) e h = good_by text (failed c) (good_bad_value text n rest c h e)
-      (inr (n, rest, h, e))
+  good_judged text n rest None e h = subst (IsGoodField text) (sym (good_read text n rest (h, e))) (h, e)
+  good_judged text n rest (Some c) e h = good_fails text c (inr (n, rest, h, e))
 
   good_from : (text : List ℕ) (r : Found) → IsField text r → IsGoodField text (good_field_at fault text)
   good_from text (Ok x) (n, h, e) = good_judged text n x.1 (fault n) refl h
-  good_from text (Err c) h = good_by text (failed c) (good_bad_field text c h) (inl h)
+  good_from text (Err c) h = good_fails text c (inl h)
 
   pub good_found : (text : List ℕ) → IsGoodField text (good_field_at fault text)
   good_found text = good_from text (field_at text) (field_found text)
@@ -214,10 +177,6 @@ module _ (m : ℕ) (small : m ≤ max_level) where
   end_apart n [] h = refl
   end_apart n (b ∷ rest) h = cond-true (is_white b) (found n (b ∷ rest)) (failed BadSample) h
 
-  end_bad : (n b : ℕ) (rest : List ℕ) → is_white b ≡ false → sample_end (n, b ∷ rest) ≡ failed BadSample
-  unfolding sample_end
-  end_bad n b rest h = cond-false (is_white b) (found n (b ∷ rest)) (failed BadSample) h
-
   -- ---- raw
 
   bytes_read : (wide : Bool) (text : List ℕ) (s : ℕ) (rest : List ℕ) → StartsBytes wide text s rest
@@ -237,10 +196,6 @@ module _ (m : ℕ) (small : m ≤ max_level) where
       → sample_at Raw m text ≡ within m Ok (s, rest)
   unfolding sample_at
   raw_value_read text s rest h = ap (λ (r : Found). r >>= within m Ok) (bytes_read (is_wide m) text s rest h)
-
-  raw_short : (text : List ℕ) → IsShort (is_wide m) text → sample_at Raw m text ≡ failed Truncated
-  unfolding sample_at
-  raw_short text h = ap (λ (r : Found). r >>= within m Ok) (bytes_short (is_wide m) text h)
 
   -- a text begins with a raw value, or is too short for one
   bytes_cases : (wide : Bool) (text : List ℕ) → IsShort wide text
@@ -264,7 +219,7 @@ module _ (m : ℕ) (small : m ≤ max_level) where
   -- a fault of a sample is answered
   pub sample_fault_read : (k : Encoding) (text : List ℕ) (e : PgmError) → SampleFault k m text e
       → sample_at k m text ≡ failed e
-  unfolding sample_at
+  unfolding sample_at sample_end
   sample_fault_read Plain text Truncated h = ap (λ (r : Found). r >>= within m sample_end)
       (gap_read Raster BadSample text h)
   sample_fault_read Plain text SampleRange (digits, rest, h, great) =
@@ -272,8 +227,8 @@ module _ (m : ℕ) (small : m ≤ max_level) where
   sample_fault_read Plain text BadSample (inl h) = ap (λ (r : Found). r >>= within m sample_end)
       (stray_read Raster BadSample text h)
   sample_fault_read Plain text BadSample (inr (digits, rest, b, h, le, w)) =
-      plain_within text digits (b ∷ rest) h le ∙ end_bad (digits_value 10 digits) b rest w
-  sample_fault_read Raw text Truncated h = raw_short text h
+      plain_within text digits (b ∷ rest) h le ∙ cond-false (is_white b) _ _ w
+  sample_fault_read Raw text Truncated h = ap (λ (r : Found). r >>= within m Ok) (bytes_short (is_wide m) text h)
   sample_fault_read Raw text SampleRange (s, rest, h, great) = raw_value_read text s rest h ∙ over Ok s rest great
   sample_fault_read _ text _ h = absurd h
 

@@ -1,13 +1,11 @@
 -- The header of a written file stands first in it.
 use Rattle.std.proofs.Common.{◌≡◌, ℕ, ◌^◌, ◌<◌, true, false, List, [], ◌∷◌, ◌++◌, None, decimal, refl, sym, arith}
 use Rattle.std.proofs.Common.{append_assoc}
-use Rattle.std.specs.Char.{is_ascii_digit}
 use Rattle.std.proofs.lemmas.Fmt.{decimal_is_IsNumeral}
+use Rattle.std.specs.Char.{is_ascii_digit}
 use Rattle.grid_core.specs.Raster.{IsImageSize}
-use Rattle.pgm_codec.specs.declared.grammar.Encoding.{Encoding}
-use Rattle.pgm_codec.specs.Graymap.{Graymap, IsGraymap}
+use Rattle.pgm_codec.specs.{declared.grammar.Encoding.Encoding, Graymap.Graymap, Graymap.IsGraymap, Writing.file_header}
 use Rattle.pgm_codec.specs.Spelling.{is_white, StartsField, StartsHeader, width_fault, height_fault, maxval_fault}
-use Rattle.pgm_codec.specs.Writing.{file_header}
 
 -- a number without leading zeros and a whitespace byte are a header number
 number_stands : (n b : ℕ) (rest : List ℕ) → n < 2 ^ 64 → is_white b ≡ true → is_ascii_digit b ≡ false

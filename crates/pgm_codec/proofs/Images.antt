@@ -1,15 +1,12 @@
 -- A whole text: what reading finds is what the text spells, or its fault.
 use Rattle.std.proofs.Common.{◌≡◌, ℕ, ◌<◌, ◌≤◌, true, false, eqb, List, [], ◌∷◌, ◌++◌, length, take, Result, Ok, Err}
-use Rattle.std.proofs.Common.{refl, sym, ap, subst, ◌∙◌, ◌⊎◌, inl, inr, arith}
-use Rattle.std.specs.Prelude.{IfOk, IfErr}
-use Rattle.std.proofs.lemmas.List.{append-nil}
+use Rattle.std.proofs.Common.{refl, sym, ap, subst, ◌∙◌, ◌⊎◌, inl, inr, arith, IfOk, IfErr}
+use Rattle.std.proofs.lemmas.List.{append-nil, length-take}
 use Rattle.std.proofs.lemmas.Bool.{cond-true, cond-false, cases_Bool, eqb-true, eqb-false}
 use Rattle.grid_core.specs.Raster.{max_level}
-use Rattle.pgm_codec.specs.declared.error.PgmError.{PgmError}
+use Rattle.pgm_codec.specs.{declared.error.PgmError.PgmError, declared.grammar.Encoding.Encoding, Graymap.Graymap}
 use Rattle.pgm_codec.specs.declared.error.PgmError.TheVariants.{BadMagic, BadHeader, Truncated, Memory, Device}
-use Rattle.pgm_codec.specs.declared.grammar.Encoding.{Encoding}
 use Rattle.pgm_codec.specs.declared.grammar.Encoding.TheVariants.{Plain, Raw}
-use Rattle.pgm_codec.specs.Graymap.{Graymap}
 use Rattle.pgm_codec.specs.Spelling.{is_white, magic, StartsMagic, StartsGoodField, StartsHeader, PgmSpells}
 use Rattle.pgm_codec.specs.Spelling.{width_fault, height_fault, maxval_fault}
 use Rattle.pgm_codec.specs.FirstFault.{MagicFault, PgmFault, in_magic, in_width, in_height, in_maxval, in_raster}
@@ -31,18 +28,6 @@ unfolding magic_at
 magic_behind Plain rest = refl
 magic_behind Raw rest = refl
 
-magic_white : (k : Encoding) (b : ℕ) (rest : List ℕ) → is_white b ≡ true → magic_end k (b ∷ rest) ≡ Ok (k, rest)
-unfolding magic_end
-magic_white k b rest w = cond-true (is_white b) _ _ w
-
-magic_other : (k : Encoding) (b : ℕ) (rest : List ℕ) → is_white b ≡ false → magic_end k (b ∷ rest) ≡ Err BadHeader
-unfolding magic_end
-magic_other k b rest w = cond-false (is_white b) _ _ w
-
-magic_none : (k : Encoding) → magic_end k [] ≡ Err Truncated
-unfolding magic_end
-magic_none k = refl
-
 -- the first two bytes of a text: one of the magics and what is behind it, or none
 abbrev MagicCases : List ℕ → Type 0
 MagicCases text =
@@ -59,11 +44,8 @@ other_second a b rest n m Plain e = let p : b ≡ digit_two = cc in eqb-false b 
 other_second a b rest n m Raw e = let p : b ≡ digit_five = cc in eqb-false b digit_five m p
 
 too_few : (text : List ℕ) → length text < 2 → (k : Encoding) → take 2 text ≡ magic k → ⊥
-too_few [] lt Plain e = absurd cc
-too_few [] lt Raw e = absurd cc
-too_few (a ∷ []) lt Plain e = absurd cc
-too_few (a ∷ []) lt Raw e = absurd cc
-too_few (a ∷ b ∷ rest) lt k e = absurd (omega arith)
+too_few text lt Plain e = omega (arith, ap length e, length-take 2 text)
+too_few text lt Raw e = omega (arith, ap length e, length-take 2 text)
 
 magic_cases : (text : List ℕ) → MagicCases text
 unfolding magic_at
@@ -86,7 +68,8 @@ magic_cases (a ∷ b ∷ rest) =
 
 -- a magic that stands there is read
 pub magic_read : (text : List ℕ) (k : Encoding) (rest : List ℕ) → StartsMagic text k rest → magic_at text ≡ Ok (k, rest)
-magic_read text k rest (b, e, w) = ap magic_at e ∙ magic_behind k (b ∷ rest) ∙ magic_white k b rest w
+unfolding magic_end
+magic_read text k rest (b, e, w) = ap magic_at e ∙ magic_behind k (b ∷ rest) ∙ cond-true (is_white b) _ _ w
 
 take_magic : (k : Encoding) (rest : List ℕ) → take 2 (magic k ++ rest) ≡ magic k
 take_magic Plain rest = refl
@@ -99,9 +82,11 @@ magic_wrong text h (inr (none, e)) = e
 
 -- a fault of the magic is answered
 pub magic_fault_read : (text : List ℕ) (e : PgmError) → MagicFault text e → magic_at text ≡ Err e
+unfolding magic_end
 magic_fault_read text BadMagic h = magic_wrong text h (magic_cases text)
-magic_fault_read text Truncated (k, h) = ap magic_at (h ∙ sym (append-nil (magic k))) ∙ magic_behind k [] ∙ magic_none k
-magic_fault_read text BadHeader (k, b, rest, e, w) = ap magic_at e ∙ magic_behind k (b ∷ rest) ∙ magic_other k b rest w
+magic_fault_read text Truncated (k, h) = ap magic_at (h ∙ sym (append-nil (magic k))) ∙ magic_behind k []
+magic_fault_read text BadHeader (k, b, rest, e, w) = ap magic_at e ∙ magic_behind k (b ∷ rest) ∙ cond-false
+    (is_white b) _ _ w
 magic_fault_read text _ h = absurd h
 
 -- what reading a magic says of the text

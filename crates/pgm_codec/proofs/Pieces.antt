@@ -2,11 +2,8 @@
 use Rattle.std.proofs.Common.{◌≡◌, ℕ, List, Option, Some, None, IfSome, Result, Ok, Err, IfOk, IfErr, IsErrOf, ◌⊎◌, inl}
 use Rattle.std.proofs.Common.{inr, subst}
 use Rattle.byte_devices.specs.Transfer.{IsInputOf}
-use Rattle.pgm_codec.specs.declared.error.PgmError.{PgmError}
-use Rattle.pgm_codec.specs.declared.error.PgmError.TheVariants.{Memory}
-use Rattle.pgm_codec.specs.FirstFault.{PgmFault}
-use Rattle.pgm_codec.specs.Graymap.{Graymap}
-use Rattle.pgm_codec.specs.Spelling.{PgmSpells}
+use Rattle.pgm_codec.specs.{declared.error.PgmError.PgmError, declared.error.PgmError.TheVariants.Memory}
+use Rattle.pgm_codec.specs.{FirstFault.PgmFault, Graymap.Graymap, Spelling.PgmSpells}
 use Rattle.pgm_codec.specs.Transfer.{IsOfMemory, IsOfDevice, ReadsImage}
 
 -- what holds of the text holds of the known bytes, if they are the text

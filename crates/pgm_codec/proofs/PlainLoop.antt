@@ -1,12 +1,9 @@
 -- Lines and rows written one after the other.
 use Rattle.std.proofs.Common.{◌≡◌, ℕ, suc, ◌+◌, ◌-◌, ◌*◌, ◌^◌, ◌<◌, ◌≤◌, min, List, [], ◌∷◌, ◌++◌, length, take, drop}
-use Rattle.std.proofs.Common.{slice_index, eqb, false, decimal, sym, ap, ◌∙◌, arith, inl, inr, append_assoc}
-use Rattle.std.proofs.Common.{mul-suc}
-use Rattle.std.specs.List.{flat_map}
-use Rattle.std.proofs.lemmas.Bool.{cases_lt}
-use Rattle.std.proofs.lemmas.List.{append-nil, length-drop, drop_all, take_all}
-use Rattle.pgm_codec.specs.Graymap.{Graymap, IsGraymap}
-use Rattle.pgm_codec.specs.Spelling.{line_feed, blank}
+use Rattle.std.proofs.Common.{slice_index, eqb, false, decimal, sym, ap, ◌∙◌, arith, inl, inr, append_assoc, mul-suc}
+use Rattle.std.proofs.Common.{flat_map}
+use Rattle.std.proofs.{lemmas.Bool.cases_lt, lemmas.List.length-drop, lemmas.List.drop_all, lemmas.List.take_all}
+use Rattle.pgm_codec.specs.{Graymap.Graymap, Graymap.IsGraymap, Spelling.line_feed, Spelling.blank}
 use Rattle.pgm_codec.specs.PlainWriting.{parts, line_samples, lines_of, plain_line, plain_row}
 use Rattle.pgm_codec.proofs.WriteLoop.{one_more}
 
@@ -95,11 +92,6 @@ line_more n before after line rest left all some size front back put so_far =
     ∙ ap (λ (t : List ℕ). before ++ t) (sym (first_line rest some))
     ∙ so_far
 
--- behind the last line the whole is written
-pub lines_done : (out rest all : List ℕ) → length rest ≡ 0 → out ++ plain_row rest ≡ all → out ≡ all
-lines_done out [] all none e = sym (append-nil out) ∙ e
-lines_done out (s ∷ rest) all none e = absurd (omega arith)
-
 -- the rows from this one on
 abbrev pub rows_from : ℕ → ℕ → ℕ → List ℕ → List ℕ
 rows_from width height y rest = flat_map plain_row (parts width (height - y) rest)
@@ -118,13 +110,6 @@ row_more width height y before after row rest left all lt front back put so_far 
     ∙ ap (λ (t : List ℕ). before ++ (plain_row (take width rest) ++ rows_from width height (y + 1) t)) back
     ∙ ap (λ (k : ℕ). before ++ flat_map plain_row (parts width k rest)) (sym count)
     ∙ so_far
-
--- behind the last row the whole is written
-pub rows_done : (width height y : ℕ) (out rest all : List ℕ) → height ≤ y → out ++ rows_from width height y rest ≡ all
-    → out ≡ all
-rows_done width height y out rest all le e =
-    let none : height - y ≡ 0 = omega arith in
-    sym (append-nil out) ∙ ap (λ (k : ℕ). out ++ flat_map plain_row (parts width k rest)) (sym none) ∙ e
 
 -- what is left has a row, and what the rows behind it need
 pub row_left : (width height y len : ℕ) → y < height → len ≡ width * (height - y)

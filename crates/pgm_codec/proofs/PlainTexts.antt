@@ -1,19 +1,16 @@
 -- The plain text of an image spells it.
-use Rattle.std.proofs.Common.{◌≡◌, ℕ, zero, suc, ◌*◌, ◌<◌, ◌≤◌, true, false, List, [], ◌∷◌, ◌++◌}
-use Rattle.std.proofs.Common.{length, take, drop, slice_index, decimal, refl, sym, ap, subst, ◌∙◌, arith, inl}
-use Rattle.std.proofs.Common.{append_assoc, mul-zero, mul-suc}
-use Rattle.std.specs.Char.{is_ascii_digit}
-use Rattle.std.specs.List.{flat_map}
+use Rattle.std.proofs.Common.{◌≡◌, ℕ, zero, suc, ◌*◌, ◌<◌, ◌≤◌, true, false, List, [], ◌∷◌, ◌++◌, length, take, drop}
+use Rattle.std.proofs.Common.{slice_index, decimal, refl, sym, ap, subst, ◌∙◌, arith, inl, append_assoc, mul-zero}
+use Rattle.std.proofs.Common.{mul-suc, flat_map}
 use Rattle.std.proofs.lemmas.Fmt.{decimal_is_IsNumeral}
 use Rattle.std.proofs.lemmas.List.{append-nil, length-drop, length-take, take-append-drop, nil_from_length}
+use Rattle.std.specs.Char.{is_ascii_digit}
 use Rattle.grid_core.specs.Raster.{max_level}
-use Rattle.pgm_codec.specs.declared.grammar.Encoding.TheVariants.{Plain}
-use Rattle.pgm_codec.specs.declared.grammar.Place.TheVariants.{Raster}
+use Rattle.pgm_codec.specs.{declared.grammar.Encoding.TheVariants.Plain, declared.grammar.Section.TheVariants.Raster}
 use Rattle.pgm_codec.specs.Graymap.{Graymap, IsGraymap}
-use Rattle.pgm_codec.specs.Spelling.{line_feed, blank, is_white, IsGap, StartsSamples, PgmSpells}
+use Rattle.pgm_codec.specs.Spelling.{line_feed, blank, is_white, IsGap, StartsNumber, StartsSamples, PgmSpells}
 use Rattle.pgm_codec.specs.PlainWriting.{parts, line_samples, lines_of, plain_line, plain_row, plain_text}
-use Rattle.pgm_codec.proofs.Headers.{header_stands}
-use Rattle.pgm_codec.proofs.Images.{same_image}
+use Rattle.pgm_codec.proofs.{Headers.header_stands, Images.same_image}
 
 -- ---- samples with a whitespace byte behind each
 
@@ -104,31 +101,17 @@ samples_stand m small gap text [] is_gap e within =
 samples_stand m small gap text (s ∷ ss) is_gap (b, after, white, e, more) within =
     let first : s ≤ m = within 0 (omega arith) in
     let p = decimal_is_IsNumeral s (omega arith) in
+    let number : StartsNumber Raster (gap ++ text) (decimal s) (b ∷ after) = record {
+      gap = gap;
+      is_gap = is_gap;
+      numeral = p.0;
+      whole = white_no_digit b white;
+      parts = ap (λ (t : List ℕ). gap ++ t) e;
+    } in
     let (rest, behind, ends) =
     samples_stand m small (b ∷ []) after ss ((b ∷ []) ∷ [], (inl (b, white, refl), tt), refl) more
-    (λ k lt. within (suc k) (omega arith)) in (
-      rest,
-      (
-        b ∷ after,
-        (
-          (
-            decimal s,
-            record {
-              gap = gap;
-              is_gap = is_gap;
-              numeral = p.0;
-              whole = white_no_digit b white;
-              parts = ap (λ (t : List ℕ). gap ++ t) e;
-            },
-            white,
-            sym p.1,
-          ),
-          first,
-        ),
-        behind,
-      ),
-      ends,
-    )
+    (λ k lt. within (suc k) (omega arith)) in
+    (rest, (b ∷ after, ((decimal s, number, white, sym p.1), first), behind), ends)
 
 -- what is written spells the image
 pub plain_spells : (g : Graymap) → IsGraymap g → PgmSpells (plain_text g) g

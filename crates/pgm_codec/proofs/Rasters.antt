@@ -2,12 +2,10 @@
 use Rattle.std.proofs.Common.{◌≡◌, ℕ, zero, suc, ◌*◌, ◌<◌, ◌≤◌, List, [], ◌∷◌, length, Result, Ok, Err, refl, sym, ap}
 use Rattle.std.proofs.Common.{subst, ◌∙◌, arith, ◌⊎◌, inl, inr}
 use Rattle.grid_core.specs.Raster.{max_level}
-use Rattle.pgm_codec.specs.declared.error.PgmError.{PgmError}
-use Rattle.pgm_codec.specs.declared.error.PgmError.TheVariants.{Trailing}
-use Rattle.pgm_codec.specs.declared.grammar.Encoding.{Encoding}
+use Rattle.pgm_codec.specs.{declared.error.PgmError.PgmError, declared.error.PgmError.TheVariants.Trailing}
+use Rattle.pgm_codec.specs.{declared.grammar.Encoding.Encoding, declared.grammar.Section.TheVariants.Raster}
+use Rattle.pgm_codec.specs.{Graymap.Graymap}
 use Rattle.pgm_codec.specs.declared.grammar.Encoding.TheVariants.{Plain, Raw}
-use Rattle.pgm_codec.specs.declared.grammar.Place.TheVariants.{Raster}
-use Rattle.pgm_codec.specs.Graymap.{Graymap}
 use Rattle.pgm_codec.specs.Spelling.{IsGap, StartsSample, StartsSamples, IsEnd}
 use Rattle.pgm_codec.specs.FirstFault.{EndsInGap, SampleFault, EndFault, RasterFault}
 use Rattle.pgm_codec.specs.Reading.{◌>>=◌, sample_at, samples_at, nothing_at, end_at, raster_at}

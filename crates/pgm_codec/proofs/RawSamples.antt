@@ -1,25 +1,18 @@
 -- Raw samples: reading them one after the other finds the values that stand at their places.
 use Rattle.std.proofs.Common.{◌≡◌, ℕ, zero, suc, ◌+◌, ◌-◌, ◌*◌, ◌/◌, min, ◌<◌, ◌≤◌, Bool, true, false, List, [], ◌∷◌}
 use Rattle.std.proofs.Common.{length, drop, slice_index, Ok, Err, refl, sym, ap, subst, ◌∙◌, arith, All, length-drop}
-use Rattle.std.proofs.Common.{inl, inr}
-use Rattle.std.specs.Prelude.{nat_lt, map, take}
-use Rattle.std.specs.Int.{w16, from_be_bytes}
-use Rattle.std.specs.Simd.{first_chunks}
-use Rattle.std.specs.List.{AllByRecursion, list_any}
-use Rattle.std.proofs.lemmas.Bool.{cond-true, cond-false, cases_Bool, or_parts, or_cases, ltb-false}
+use Rattle.std.proofs.Common.{inl, inr, nat_lt, map, take, w16}
+use Rattle.std.proofs.lemmas.Bool.{cond-true, cond-false, cases_Bool, or_parts, ltb-false}
 use Rattle.std.proofs.lemmas.List.{append-nil, drop-drop, get_or-drop}
-use Rattle.std.proofs.lemmas.List.Elements.{All-from_recursion}
-use Rattle.std.proofs.Math.Nat.{suc-mul}
+use Rattle.std.proofs.{lemmas.List.Elements.All-from_recursion, Math.Nat.suc-mul}
+use Rattle.std.specs.{Int.from_be_bytes, Simd.first_chunks, List.AllByRecursion, List.list_any}
 use Rattle.grid_core.specs.Raster.{max_level}
 use Rattle.pgm_codec.specs.declared.error.PgmError.TheVariants.{SampleRange, Truncated}
-use Rattle.pgm_codec.specs.declared.grammar.Encoding.TheVariants.{Raw}
-use Rattle.pgm_codec.specs.Spelling.{is_wide}
-use Rattle.pgm_codec.specs.FirstFault.{IsShort}
+use Rattle.pgm_codec.specs.{declared.grammar.Encoding.TheVariants.Raw, Spelling.is_wide, FirstFault.IsShort}
 use Rattle.pgm_codec.specs.Reading.{◌>>=◌, bytes_at, within, sample_width, raw_value, AreRawValues, sample_at}
 use Rattle.pgm_codec.specs.Reading.{samples_at}
-use Rattle.pgm_codec.proofs.Fields.{Found, sample_fault_read}
+use Rattle.pgm_codec.proofs.{Fields.Found, Fields.sample_fault_read, SampleLoop.with_front}
 use Rattle.pgm_codec.proofs.Rasters.{Many, then_more, step_read, step_fails}
-use Rattle.pgm_codec.proofs.SampleLoop.{with_front}
 
 -- the first value of a text that is long enough
 first_value : (wide : Bool) (text : List ℕ) → sample_width wide ≤ length text
@@ -40,12 +33,7 @@ next_value false text k =
 next_value true text k =
     let e : suc k * 2 ≡ 2 + k * 2 = omega arith in
     let f : suc k * 2 + 1 ≡ 2 + (k * 2 + 1) = omega arith in
-    let high : slice_index text (suc k * 2) ≡ slice_index (drop 2 text) (k * 2) =
-    ap (slice_index text) e ∙ sym (get_or-drop 2 text (k * 2) 0) in
-    let low : slice_index text (suc k * 2 + 1) ≡ slice_index (drop 2 text) (k * 2 + 1) =
-    ap (slice_index text) f ∙ sym (get_or-drop 2 text (k * 2 + 1) 0) in
-    ap (λ (n : ℕ). n * 256 + slice_index text (suc k * 2 + 1)) high
-    ∙ ap (λ (n : ℕ). slice_index (drop 2 text) (k * 2) * 256 + n) low
+    rw (f, e, get_or-drop 2 text (k * 2) 0, get_or-drop 2 text (k * 2 + 1) 0)
 
 -- the first two bytes, joined, are the first value of two bytes
 first_pair : (text : List ℕ) → from_be_bytes w16 (take 2 text) ≡ raw_value true text 0
@@ -124,9 +112,7 @@ module _ (m : ℕ) (small : m ≤ max_level) where
   values_read [] text count h enough le none =
       let e : count - 0 ≡ count = omega arith in
       let f : 0 * width ≡ 0 = omega arith in
-      front_none (samples_at Raw m count text)
-      ∙ ap (λ (n : ℕ). with_front [] (samples_at Raw m n text)) (sym e)
-      ∙ ap (λ (n : ℕ). with_front [] (samples_at Raw m (count - 0) (drop n text))) (sym f)
+      rw (e, f) (front_none (samples_at Raw m count text))
   values_read (s ∷ ss) text zero h enough le none = absurd (omega arith)
   values_read (s ∷ ss) text (suc count) h enough le none =
       let after = drop width text in
@@ -154,11 +140,7 @@ module _ (m : ℕ) (small : m ≤ max_level) where
         | inl above ↦ step_fails Raw m small count text SampleRange (one ∙ cond-true (is_above s) _ _ above)
         | inr n ↦ step_read Raw m small count text s after (one ∙ cond-false (is_above s) _ _ n)
             ∙ ap (then_more s) (above_read ss after count (values_behind text s ss h)
-            (enough_behind (length ss) text enough) (omega arith)
-            (elim (or_cases (is_above s) (list_any is_above ss) some) [
-              | inl y ↦ absurd cc
-              | inr y ↦ y
-            ]))
+            (enough_behind (length ss) text enough) (omega arith) (rw n at some))
       ]
 
   short_by : (wide : Bool) (text : List ℕ) → length text < sample_width wide → IsShort wide text

@@ -1,14 +1,11 @@
 -- The raw text of an image spells it.
-use Rattle.std.proofs.Common.{◌≡◌, ℕ, suc, ◌/◌, ◌%◌, ◌<◌, ◌≤◌, List, [], ◌∷◌, ◌++◌, length, slice_index, refl, sym}
-use Rattle.std.proofs.Common.{ap, subst, arith, inl, inr}
-use Rattle.std.specs.List.{flat_map}
+use Rattle.std.proofs.Common.{◌≡◌, ℕ, suc, ◌/◌, ◌%◌, ◌<◌, ◌≤◌, List, [], ◌∷◌, ◌++◌, length, slice_index, refl, sym, ap}
+use Rattle.std.proofs.Common.{subst, arith, inl, inr, flat_map}
 use Rattle.std.proofs.lemmas.Bool.{cond-true, cond-false, cases_lt, lt-ltb, le-ltb}
-use Rattle.pgm_codec.specs.declared.grammar.Encoding.TheVariants.{Raw}
-use Rattle.pgm_codec.specs.Graymap.{Graymap, IsGraymap}
+use Rattle.pgm_codec.specs.{declared.grammar.Encoding.TheVariants.Raw, Graymap.Graymap, Graymap.IsGraymap}
+use Rattle.pgm_codec.specs.{Writing.sample_bytes, Writing.raw_text}
 use Rattle.pgm_codec.specs.Spelling.{StartsSamples, is_wide, StartsBytes, PgmSpells}
-use Rattle.pgm_codec.specs.Writing.{sample_bytes, raw_text}
-use Rattle.pgm_codec.proofs.Headers.{header_stands}
-use Rattle.pgm_codec.proofs.Images.{same_image}
+use Rattle.pgm_codec.proofs.{Headers.header_stands, Images.same_image}
 
 -- the bytes of a sample
 bytes_stand : (m s : ℕ) (rest : List ℕ) → StartsBytes (is_wide m) (sample_bytes m s ++ rest) s rest
@@ -19,8 +16,7 @@ bytes_stand m s rest =
       | inl lt ↦ subst (λ wide. StartsBytes wide (sample_bytes m s ++ rest) s rest) (sym (lt-ltb 255 m lt)) (
         s / 256,
         s % 256,
-        ap (λ (t : List ℕ). t ++ rest) (cond-false _ _ (s / 256 ∷ s % 256 ∷ [])
-            (le-ltb m 256 (omega arith))),
+        ap (λ (t : List ℕ). t ++ rest) (cond-false _ _ (s / 256 ∷ s % 256 ∷ []) (le-ltb m 256 (omega arith))),
         omega arith,
       )
     ]

@@ -1,9 +1,9 @@
 -- A sample in decimal: how many digits it has, and each of them.
 use Rattle.std.proofs.Common.{◌≡◌, ℕ, ◌+◌, ◌/◌, ◌%◌, ◌^◌, ◌<◌, ◌≤◌, List, [], ◌∷◌, ◌++◌, length, decimal, nat_lt}
 use Rattle.std.proofs.Common.{if◌then◌else◌, refl, sym, ap, subst, ◌∙◌, arith, inl, inr, append_assoc, length-append}
-use Rattle.std.specs.Int.{from_bool}
 use Rattle.std.proofs.lemmas.Bool.{cond-true, cond-false, cases_lt, lt-ltb, le-ltb}
 use Rattle.std.proofs.lemmas.Fmt.{decimal_digit, decimal_step, length-decimal-le}
+use Rattle.std.specs.Int.{from_bool}
 use Rattle.grid_core.specs.Raster.{max_level}
 use Rattle.pgm_codec.specs.PlainWriting.{last_digit}
 
@@ -16,22 +16,16 @@ one_more_digit : (n : ℕ) → 10 ≤ n → n < 2 ^ 64 → length (decimal n) �
 one_more_digit n le lt = ap length (decimal_step n le lt) ∙ length-append (decimal (n / 10)) ((48 + n % 10) ∷ [])
 
 two_digits : (n : ℕ) → 10 ≤ n → n < 100 → length (decimal n) ≡ 2
-two_digits n le lt = one_more_digit n le (omega arith) ∙ ap (λ (k : ℕ). k + 1) (one_digit (n / 10) (omega arith))
+two_digits n le lt = omega (arith, one_more_digit n, one_digit (n / 10))
 
 three_digits : (n : ℕ) → 100 ≤ n → n < 1000 → length (decimal n) ≡ 3
-three_digits n le lt =
-    one_more_digit n (omega arith) (omega arith)
-    ∙ ap (λ (k : ℕ). k + 1) (two_digits (n / 10) (omega arith) (omega arith))
+three_digits n le lt = omega (arith, one_more_digit n, two_digits (n / 10))
 
 four_digits : (n : ℕ) → 1000 ≤ n → n < 10000 → length (decimal n) ≡ 4
-four_digits n le lt =
-    one_more_digit n (omega arith) (omega arith)
-    ∙ ap (λ (k : ℕ). k + 1) (three_digits (n / 10) (omega arith) (omega arith))
+four_digits n le lt = omega (arith, one_more_digit n, three_digits (n / 10))
 
 five_digits : (n : ℕ) → 10000 ≤ n → n < 100000 → length (decimal n) ≡ 5
-five_digits n le lt =
-    one_more_digit n (omega arith) (omega arith)
-    ∙ ap (λ (k : ℕ). k + 1) (four_digits (n / 10) (omega arith) (omega arith))
+five_digits n le lt = omega (arith, one_more_digit n, four_digits (n / 10))
 
 not_beyond : (k n b : ℕ) → b ≡ from_bool (nat_lt k n) → n ≤ k → b ≡ 0
 not_beyond k n b e le = e ∙ ap from_bool (le-ltb k n le)

@@ -2,8 +2,7 @@
 use Rattle.std.proofs.Common.{◌≡◌, ℕ, suc, ◌-◌, ◌+◌, ◌≤◌, ◌<◌, List, [], ◌∷◌, ◌++◌, Result, Ok, Err, refl, sym, ap, ◌∙◌}
 use Rattle.std.proofs.Common.{append_assoc, arith}
 use Rattle.std.proofs.lemmas.List.{append-nil}
-use Rattle.pgm_codec.specs.declared.error.PgmError.{PgmError}
-use Rattle.pgm_codec.specs.declared.grammar.Encoding.{Encoding}
+use Rattle.pgm_codec.specs.{declared.error.PgmError.PgmError, declared.grammar.Encoding.Encoding}
 use Rattle.pgm_codec.specs.Reading.{◌>>=◌, sample_at, samples_at}
 
 -- the samples read, and the text behind them

@@ -1,33 +1,30 @@
 -- The first fault of a text that spells no image: all that stands before it fits and was judged.
 use Rattle.std.specs.Prelude.{◌≡◌, ℕ, ◌*◌, ◌<◌, ◌≤◌, Bool, true, false, List, [], ◌∷◌, ◌++◌, length, take, Option, Some}
 use Rattle.std.specs.Prelude.{◌⊎◌}
-use Rattle.std.specs.Char.{is_ascii_digit}
-use Rattle.std.specs.Str.Parse.{digits_value}
-use Rattle.pgm_codec.specs.declared.error.PgmError.{PgmError}
+use Rattle.std.specs.{Char.is_ascii_digit, Str.Parse.digits_value}
+use Rattle.pgm_codec.specs.{declared.error.PgmError.PgmError, declared.grammar.Encoding.Encoding}
+use Rattle.pgm_codec.specs.{declared.grammar.Section.Section, Graymap.Graymap}
 use Rattle.pgm_codec.specs.declared.error.PgmError.TheVariants.{BadMagic, BadHeader, Truncated, SampleRange, BadSample}
 use Rattle.pgm_codec.specs.declared.error.PgmError.TheVariants.{Trailing, Memory, Device}
-use Rattle.pgm_codec.specs.declared.grammar.Encoding.{Encoding}
 use Rattle.pgm_codec.specs.declared.grammar.Encoding.TheVariants.{Plain, Raw}
-use Rattle.pgm_codec.specs.declared.grammar.Place.{Place}
-use Rattle.pgm_codec.specs.declared.grammar.Place.TheVariants.{Header, Raster}
+use Rattle.pgm_codec.specs.declared.grammar.Section.TheVariants.{Header, Raster}
 use Rattle.pgm_codec.specs.Spelling.{is_white, opens_comment, IsOpenComment, IsGap, StartsNumber, StartsField}
 use Rattle.pgm_codec.specs.Spelling.{StartsGoodField, magic, StartsMagic, StartsHeader, is_wide, StartsBytes}
 use Rattle.pgm_codec.specs.Spelling.{StartsSamples, width_fault, height_fault, maxval_fault, PgmSpells}
-use Rattle.pgm_codec.specs.Graymap.{Graymap}
 
 -- nothing but a gap stands there, or a gap and a comment that the end cuts off
-abbrev pub EndsInGap : Place → List ℕ → Type 0
+abbrev pub EndsInGap : Section → List ℕ → Type 0
 EndsInGap place text =
     IsGap place text ⊎ ((gap begun : List ℕ) × IsGap place gap × IsOpenComment place begun × (text ≡ gap ++ begun))
 
 -- behind a gap stands another byte: no whitespace, and none that begins a comment
-abbrev pub StartsOther : Place → List ℕ → ℕ → Type 0
+abbrev pub StartsOther : Section → List ℕ → ℕ → Type 0
 StartsOther place text b =
     (gap rest : List ℕ) × IsGap place gap × (is_white b ≡ false) × (opens_comment place b ≡ false)
     × (text ≡ gap ++ b ∷ rest)
 
 -- behind a gap stands another byte that is no digit
-abbrev pub StartsStray : Place → List ℕ → Type 0
+abbrev pub StartsStray : Section → List ℕ → Type 0
 StartsStray place text = (b : ℕ) × StartsOther place text b × (is_ascii_digit b ≡ false)
 
 -- the first two bytes, or the byte behind them

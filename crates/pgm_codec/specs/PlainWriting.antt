@@ -1,11 +1,9 @@
 -- The plain file of an image (Netpbm, pgm(5)), by its lines.
 use Rattle.std.specs.Prelude.{ℕ, zero, suc, ◌+◌, ◌/◌, ◌%◌, List, [], ◌∷◌, ◌++◌, length, take, drop, decimal, nat_lt}
-use Rattle.std.specs.Prelude.{if◌then◌else◌}
-use Rattle.std.specs.List.{flat_map, join_by}
-use Rattle.pgm_codec.specs.declared.grammar.Encoding.TheVariants.{Plain}
-use Rattle.pgm_codec.specs.Graymap.{Graymap}
+use Rattle.std.specs.Prelude.{if◌then◌else◌, flat_map}
+use Rattle.std.specs.List.{join_by}
+use Rattle.pgm_codec.specs.{declared.grammar.Encoding.TheVariants.Plain, Graymap.Graymap, Writing.file_header}
 use Rattle.pgm_codec.specs.Spelling.{line_feed, blank}
-use Rattle.pgm_codec.specs.Writing.{file_header}
 
 -- the last digit of a number, and nothing for 0
 abbrev pub last_digit : ℕ → List ℕ

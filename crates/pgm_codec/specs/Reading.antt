@@ -3,15 +3,13 @@
 use Rattle.std.specs.Prelude.{◌≡◌, ℕ, zero, suc, ◌+◌, ◌*◌, Bool, true, false, List, slice_index, [], ◌∷◌, Option, Some}
 use Rattle.std.specs.Prelude.{None, Result, Ok, Err, nat_lt, min, ◌==◌, if◌then◌else◌, ◌⊎◌, ◌<◌, ◌≤◌, length, All}
 use Rattle.std.specs.Char.{is_ascii_digit, digit_value}
-use Rattle.pgm_codec.specs.declared.error.PgmError.{PgmError}
-use Rattle.pgm_codec.specs.declared.error.PgmError.TheVariants as errors
-use Rattle.pgm_codec.specs.Graymap.{Graymap}
-use Rattle.pgm_codec.specs.declared.grammar.Encoding.{Encoding}
+use Rattle.pgm_codec.specs.{declared.error.PgmError.PgmError, Graymap.Graymap, declared.grammar.Encoding.Encoding}
+use Rattle.pgm_codec.specs.{declared.grammar.Section.Section}
 use Rattle.pgm_codec.specs.declared.grammar.Encoding.TheVariants.{Plain, Raw}
-use Rattle.pgm_codec.specs.declared.grammar.Place.{Place}
-use Rattle.pgm_codec.specs.declared.grammar.Place.TheVariants.{Header, Raster}
+use Rattle.pgm_codec.specs.declared.grammar.Section.TheVariants.{Header, Raster}
 use Rattle.pgm_codec.specs.Spelling.{is_white, is_line_end, opens_comment, is_wide, width_fault, height_fault}
 use Rattle.pgm_codec.specs.Spelling.{maxval_fault}
+use Rattle.pgm_codec.specs.declared.error.PgmError.TheVariants as errors
 
 infixl 10 ◌>>=◌
 abbrev pub ◌>>=◌ : {A B : Type 0} → Result A PgmError → (A → Result B PgmError) → Result B PgmError
@@ -29,7 +27,7 @@ GivesOrMemory view (Ok x) read = read ≡ Ok (view x)
 GivesOrMemory view (Err e) read = (e ≡ errors.Memory) ⊎ (read ≡ Err e)
 
 -- the text behind its leading gap, begun inside a comment or not
-unfoldable pub after_gap : Place → Bool → List ℕ → List ℕ
+unfoldable pub after_gap : Section → Bool → List ℕ → List ℕ
 after_gap place inside [] = []
 after_gap place true (b ∷ rest) = if is_line_end b then after_gap place false rest else after_gap place true rest
 after_gap place false (b ∷ rest) =

@@ -1,17 +1,14 @@
 -- The texts of PGM files (Netpbm pgm(5)), in this crate's profile: which text spells which image.
 use Rattle.std.specs.Prelude.{◌≡◌, ℕ, ◌+◌, ◌*◌, ◌≤◌, ◌==◌, ◌||◌, nat_lt, Bool, IsTrue, true, false, List, [], ◌∷◌, ◌++◌}
 use Rattle.std.specs.Prelude.{length, Option, Some, None, if◌then◌else◌, ◌⊎◌, codes}
-use Rattle.std.specs.List.{AllByRecursion, concat}
-use Rattle.std.specs.Char.{is_ascii_digit}
-use Rattle.std.specs.Str.Parse.{IsNumeral, digits_value}
+use Rattle.std.specs.{List.AllByRecursion, List.concat, Char.is_ascii_digit, Str.Parse.IsNumeral}
+use Rattle.std.specs.{Str.Parse.digits_value}
 use Rattle.grid_core.specs.Raster.{max_side, max_pixels, max_level}
-use Rattle.pgm_codec.specs.declared.error.PgmError.{PgmError}
+use Rattle.pgm_codec.specs.{declared.error.PgmError.PgmError, declared.grammar.Encoding.Encoding}
+use Rattle.pgm_codec.specs.{declared.grammar.Encoding.TheVariants.Plain, declared.grammar.Encoding.TheVariants.Raw}
+use Rattle.pgm_codec.specs.{declared.grammar.Section.Section, declared.grammar.Section.TheVariants.Header}
+use Rattle.pgm_codec.specs.{declared.grammar.Section.TheVariants.Raster, Graymap.Graymap, Graymap.IsGraymap}
 use Rattle.pgm_codec.specs.declared.error.PgmError.TheVariants.{ZeroSize, TooLarge, BadMaxval}
-use Rattle.pgm_codec.specs.declared.grammar.Encoding.{Encoding}
-use Rattle.pgm_codec.specs.declared.grammar.Encoding.TheVariants.{Plain, Raw}
-use Rattle.pgm_codec.specs.declared.grammar.Place.{Place}
-use Rattle.pgm_codec.specs.declared.grammar.Place.TheVariants.{Header, Raster}
-use Rattle.pgm_codec.specs.Graymap.{Graymap, IsGraymap}
 
 -- ---- bytes
 
@@ -44,20 +41,20 @@ abbrev pub hash : ℕ
 hash = 35
 
 -- a comment begins with `#`, and stands in the header alone
-abbrev pub opens_comment : Place → ℕ → Bool
+abbrev pub opens_comment : Section → ℕ → Bool
 opens_comment Header b = b == hash
 opens_comment Raster b = false
 
 -- ---- gaps
 
 -- a comment that has no end yet: its first byte, and then any bytes but CR and LF
-abbrev pub IsOpenComment : Place → List ℕ → Type 0
+abbrev pub IsOpenComment : Section → List ℕ → Type 0
 IsOpenComment place text =
     (b : ℕ) × (words : List ℕ) × IsTrue (opens_comment place b) × AllByRecursion (λ c. is_line_end c ≡ false) words
     × (text ≡ b ∷ words)
 
 -- a comment: one CR or LF ends it
-abbrev pub IsComment : Place → List ℕ → Type 0
+abbrev pub IsComment : Section → List ℕ → Type 0
 IsComment place text = (begun : List ℕ) × (e : ℕ) × IsOpenComment place begun × IsTrue (is_line_end e)
     × (text ≡ begun ++ e ∷ [])
 
@@ -67,7 +64,7 @@ IsWhitespace text = (b : ℕ) × IsTrue (is_white b) × (text ≡ b ∷ [])
 
 -- whitespace and comments before a part, or none; comments stand in the header alone. A gap begins right
 -- behind the part before it, and in the header behind the whitespace byte that ends that part
-abbrev pub IsGap : Place → List ℕ → Type 0
+abbrev pub IsGap : Section → List ℕ → Type 0
 IsGap place text =
     (pieces : List (List ℕ)) × AllByRecursion (λ piece. IsWhitespace piece ⊎ IsComment place piece) pieces
     × (text ≡ concat pieces)
@@ -85,7 +82,7 @@ StartsApart [] = Unit {0}
 StartsApart (b ∷ rest) = IsTrue (is_white b)
 
 -- a text begins with a number: a gap, all its digits (leading zeros too), and then the rest
-pub record StartsNumber (place : Place) (text digits rest : List ℕ) : Type 0 where
+pub record StartsNumber (place : Section) (text digits rest : List ℕ) : Type 0 where
   pub gap : List ℕ
   pub is_gap : IsGap place gap
   pub numeral : IsNumeral 10 digits

@@ -1,13 +1,9 @@
 -- What the calls on sources and sinks answer.
 use Rattle.std.specs.Prelude.{◌≡◌, ◌⊎◌, ℕ, ◌<◌, List, Option, Result, Ok, OnOk, IfOk, IfErr, IfSome, IsErrOf, IsErrAnd}
 use Rattle.std.specs.Io.KnownBytes.{Appends}
-use Rattle.byte_devices.specs.Device.{SinkSeen, HasRisen}
-use Rattle.byte_devices.specs.Transfer.{AppendsFront}
-use Rattle.pgm_codec.specs.declared.error.PgmError.{PgmError}
+use Rattle.byte_devices.specs.{Device.SinkSeen, Device.HasRisen, Transfer.AppendsFront}
+use Rattle.pgm_codec.specs.{declared.error.PgmError.PgmError, FirstFault.PgmFault, Graymap.Graymap, Spelling.PgmSpells}
 use Rattle.pgm_codec.specs.declared.error.PgmError.TheVariants.{Memory, Device}
-use Rattle.pgm_codec.specs.FirstFault.{PgmFault}
-use Rattle.pgm_codec.specs.Graymap.{Graymap}
-use Rattle.pgm_codec.specs.Spelling.{PgmSpells}
 
 -- want of memory, P10
 abbrev pub IsOfMemory : PgmError → Type 0

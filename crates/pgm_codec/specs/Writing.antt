@@ -1,10 +1,7 @@
 -- The raw file of an image (Netpbm pgm(5)).
-use Rattle.std.specs.Prelude.{ℕ, ◌/◌, ◌%◌, nat_lt, List, [], ◌∷◌, ◌++◌, decimal, if◌then◌else◌}
-use Rattle.std.specs.List.{flat_map}
-use Rattle.pgm_codec.specs.declared.grammar.Encoding.{Encoding}
-use Rattle.pgm_codec.specs.declared.grammar.Encoding.TheVariants.{Raw}
-use Rattle.pgm_codec.specs.Graymap.{Graymap}
-use Rattle.pgm_codec.specs.Spelling.{line_feed, blank, magic}
+use Rattle.std.specs.Prelude.{ℕ, ◌/◌, ◌%◌, nat_lt, List, [], ◌∷◌, ◌++◌, decimal, if◌then◌else◌, flat_map}
+use Rattle.pgm_codec.specs.{declared.grammar.Encoding.Encoding, declared.grammar.Encoding.TheVariants.Raw}
+use Rattle.pgm_codec.specs.{Graymap.Graymap, Spelling.line_feed, Spelling.blank, Spelling.magic}
 
 -- one byte a sample where maxval is below 256, else two, the more significant first
 abbrev pub sample_bytes : ℕ → ℕ → List ℕ

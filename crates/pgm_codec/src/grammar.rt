@@ -11,7 +11,7 @@ pub(crate) enum Encoding {
 
 /// Where a number stands.
 #[derive(Clone, Copy, PartialEq, Eq, Debug)]
-pub(crate) enum Place {
+pub(crate) enum Section {
     /// In the header, with comments before it.
     Header,
     /// In a plain raster.

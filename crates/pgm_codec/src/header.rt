@@ -5,7 +5,7 @@ ghost use Rattle.pgm_codec.specs.Spelling.{width_fault, height_fault, maxval_fau
 ghost use Rattle.pgm_codec.specs.Reading.{Gives, field_at, good_field_at, magic_at, magic_end};
 
 use crate::error::PgmError;
-use crate::grammar::{Encoding, Place};
+use crate::grammar::{Encoding, Section};
 use crate::numbers::{is_white, number};
 use grid_core::{MAX_PIXELS, MAX_SIDE};
 
@@ -38,7 +38,7 @@ pub(crate) fn magic(text: &[u8]) -> Result<(Encoding, &[u8]), PgmError>
 fn field(text: &[u8]) -> Result<(u32, &[u8]), PgmError>
     ensures read { Gives (λ x. (x.0, x.1.now)) result (field_at text.now) }
 {
-    let (n, rest) = number(Place::Header, text, PgmError::BadHeader)?;
+    let (n, rest) = number(Section::Header, text, PgmError::BadHeader)?;
     match rest {
         [] => Err(PgmError::Truncated),
         [b, rest @ ..] if is_white(*b) => Ok((n, rest)),

@@ -4,7 +4,7 @@ ghost use Rattle.pgm_codec.specs.Spelling.{is_white, is_line_end, opens_comment}
 ghost use Rattle.pgm_codec.specs.Reading.{Gives, after_gap, digits_after, number_at, too_great};
 
 use crate::error::PgmError;
-use crate::grammar::Place;
+use crate::grammar::Section;
 
 // What each greater number is read as: past every side, maxval and sample that may stand in a file.
 const TOO_GREAT: u32 = 65_536;
@@ -24,18 +24,18 @@ pub(crate) fn is_white(b: u8) -> bool
 }
 
 // Whether a comment begins with the byte.
-fn opens_comment(place: Place, b: u8) -> bool
+fn opens_comment(place: Section, b: u8) -> bool
     ensures { result ≡ opens_comment place b }
 {
     match place {
-        Place::Header => b == b'#',
-        Place::Raster => false,
+        Section::Header => b == b'#',
+        Section::Raster => false,
     }
 }
 
 // The text behind its leading gap: whitespace, and in the header comments.
 #[tactic(auto, unfolding(crate::specs::Reading::after_gap))]
-pub(crate) fn after_gap(place: Place, text: &[u8]) -> &[u8]
+pub(crate) fn after_gap(place: Section, text: &[u8]) -> &[u8]
     ensures { result.now ≡ after_gap place false text.now }
 {
     let mut rest = text;
@@ -76,7 +76,7 @@ fn digits(text: &[u8]) -> (u32, &[u8])
 //
 // Errors: `stray` where a byte that is no digit stands in its place, P6 where nothing does.
 #[tactic(auto, unfolding(crate::specs::Reading::number_at))]
-pub(crate) fn number(place: Place, text: &[u8], stray: PgmError) -> Result<(u32, &[u8]), PgmError>
+pub(crate) fn number(place: Section, text: &[u8], stray: PgmError) -> Result<(u32, &[u8]), PgmError>
     ensures read { Gives (λ x. (x.0, x.1.now)) result (number_at stray (after_gap place false text.now)) }
     ensures capped { IfOk result (λ x. x.0 ≤ too_great) }
 {

@@ -9,7 +9,7 @@ ghost use Rattle.pgm_codec.specs.Reading.{Gives, GivesOrMemory, AreSamples, AreR
 ghost use Rattle.pgm_codec.specs.Reading.{sample_at, sample_width, samples_at, end_at};
 
 use crate::error::PgmError;
-use crate::grammar::{Encoding, Place};
+use crate::grammar::{Encoding, Section};
 use crate::numbers::{after_gap, is_white, number};
 use crate::samples::{is_any_above, no_byte_is_above};
 use std::alloc::{AllocError, Global};
@@ -20,7 +20,7 @@ fn plain_sample(text: &[u8], maxval: u16) -> Result<(u16, &[u8]), PgmError>
     ensures read { Gives (λ x. (x.0, x.1.now)) result (sample_at Plain maxval text.now) }
     ensures range { IfOk result (λ x. x.0 ≤ maxval) }
 {
-    let (n, rest) = number(Place::Raster, text, PgmError::BadSample)?;
+    let (n, rest) = number(Section::Raster, text, PgmError::BadSample)?;
     if n > u32::from(maxval) {
         return Err(PgmError::SampleRange);
     }
@@ -157,7 +157,7 @@ pub(crate) fn end(encoding: Encoding, text: &[u8]) -> Result<(), PgmError>
     ensures { Gives (λ _. tt) result (end_at encoding text.now) }
 {
     let rest = match encoding {
-        Encoding::Plain => after_gap(Place::Raster, text),
+        Encoding::Plain => after_gap(Section::Raster, text),
         Encoding::Raw => text,
     };
     match rest {

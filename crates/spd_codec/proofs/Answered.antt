@@ -1,17 +1,11 @@
 -- What a reader that answers as reading does, or that memory ran out, tells of the bytes.
-use Rattle.std.proofs.Common.{◌≡◌, ◌⊎◌, ℕ, ◌<◌, List, length, Result, Ok, Err, sym, ap, subst, ◌∙◌, inl, inr}
-use Rattle.std.specs.Prelude.{IfOk, IfErr, IsErrOf}
-use Rattle.spd_codec.specs.declared.error.SpdError.{SpdError}
-use Rattle.spd_codec.specs.declared.error.SpdError.TheVariants as errors
-use Rattle.spd_codec.specs.declared.frame.Frame.{Frame}
-use Rattle.spd_codec.specs.Spelling.{max_bytes, Spells}
-use Rattle.spd_codec.specs.Faults.{IsFault}
-use Rattle.spd_codec.specs.Reading.{GivesOrMemory, frame_at}
-use Rattle.spd_codec.proofs.Fields.{IsBytes}
+use Rattle.std.proofs.Common.{◌≡◌, ◌⊎◌, ℕ, ◌<◌, List, length, Result, Ok, Err, sym, ap, subst, ◌∙◌, inl, inr, IfOk}
+use Rattle.std.proofs.Common.{IfErr, IsErrOf}
+use Rattle.spd_codec.specs.{declared.error.SpdError.SpdError, declared.frame.Frame.Frame, Spelling.max_bytes}
+use Rattle.spd_codec.specs.{Spelling.Spells, Faults.IsFault, Reading.GivesOrMemory, Reading.frame_at}
+use Rattle.spd_codec.proofs.{Fields.IsBytes, Frames.found, Frames.refused, FrameLaws.again, FrameLaws.too_many}
 use Rattle.spd_codec.proofs.Steps.{ok_is, err_is, done, failed, no_error}
-use Rattle.spd_codec.proofs.FaultKinds.{too_many}
-use Rattle.spd_codec.proofs.Frames.{found, refused}
-use Rattle.spd_codec.proofs.FrameLaws.{again}
+use Rattle.spd_codec.specs.declared.error.SpdError.TheVariants as errors
 
 -- what is found is spelled
 pub is_found : (bytes : List ℕ) (r : Result Frame SpdError) → IsBytes bytes

@@ -1,13 +1,13 @@
 -- What a field reads is what stands there, and what stands there is read.
-use Rattle.std.proofs.Common.{◌≡◌, ℕ, ◌+◌, ◌<◌, ◌≤◌, false, ltb, List, ◌++◌, length, get_or, take, drop, Option, Ok}
-use Rattle.std.proofs.Common.{Err, refl, sym, ap, subst, ◌∙◌, arith, inl, inr}
+use Rattle.std.proofs.Common.{◌≡◌, ℕ, ◌+◌, ◌<◌, ◌≤◌, false, ltb, List, ◌++◌, length, get_or, take, drop, Option, Some}
+use Rattle.std.proofs.Common.{Ok, Err, refl, sym, ap, subst, ◌∙◌, arith, inl, inr}
 use Rattle.std.proofs.lemmas.Bool.{cases_lt, ltb-true, ltb-false, le-ltb, lt-ltb}
 use Rattle.std.proofs.lemmas.List.{take_at, drop_at, take-append-drop, length-append, length-take, get_or-drop}
 use Rattle.std.proofs.lemmas.List.{get_or-take, get_or_past}
-use Rattle.spd_codec.specs.declared.error.SpdError.{SpdError}
-use Rattle.spd_codec.specs.declared.error.SpdError.TheVariants.{Truncated}
+use Rattle.spd_codec.specs.{declared.error.SpdError.SpdError, declared.error.SpdError.TheVariants.Truncated}
 use Rattle.spd_codec.specs.Faults.{Field, Starts, StartsGood, FieldFault}
 use Rattle.spd_codec.specs.Reading.{◌>>=◌, Read, taken_at, field_at, judged}
+use Rattle.spd_codec.proofs.FaultKinds.{of_field, IsReal}
 use Rattle.spd_codec.proofs.Steps.{bind_ok, bind_err, judged_ok, judged_err, guard_ok, guard_err}
 
 -- each is below 256
@@ -34,13 +34,15 @@ pub record Reads {X : Type 0} (read : List ℕ → Read X) (Begins : List ℕ �
   pub err : (text : List ℕ) (e : SpdError) → IsBytes text → read text ≡ Err e → Fault text e
   pub again : (text : List ℕ) (x : X) (rest : List ℕ) → Begins text x rest → read text ≡ Ok (x, rest)
   pub fault : (text : List ℕ) (e : SpdError) → Fault text e → read text ≡ Err e
+  pub real : (text : List ℕ) (e : SpdError) → Fault text e → IsReal e
 
--- the values of a field and their bytes are one to one
+-- the values of a field and their bytes are one to one, and each fault of a value is one that a field may have
 pub record IsField {X : Type 0} (field : Field X) (value : List ℕ → X) : Type 0 where
   pub len : (x : X) → field.Fits x → length (field.spelled x) ≡ field.size
   pub back : (bytes : List ℕ) → length bytes ≡ field.size → IsBytes bytes → field.spelled (value bytes) ≡ bytes
   pub fits : (bytes : List ℕ) → length bytes ≡ field.size → IsBytes bytes → field.Fits (value bytes)
   pub again : (x : X) → field.Fits x → value (field.spelled x) ≡ x
+  pub real : (x : X) (e : SpdError) → field.fault x ≡ Some e → IsReal e
 
 -- what is taken stood there
 taken_ok : {X : Type 0} (field : Field X) (value : List ℕ → X) → IsField field value
@@ -96,4 +98,5 @@ reads_field {X} field value is = record {
             (taken_again field value is text a.0 a.1 a.2)
             ∙ ap (λ (o : Option SpdError). judged o (a.0, a.1)) a.3
       ];
+  real = λ text e h. elim h [ inl short ↦ ap of_field short.1 | inr a ↦ is.real a.0 e a.3 ];
 }

@@ -1,23 +1,19 @@
 -- Reading state files frame by frame.
-use Rattle.std.proofs.Common.{◌≡◌, ℕ, zero, suc, nat_le, true, false, ◌+◌, ◌-◌, ◌*◌, ◌/◌, ◌%◌, ◌<◌, ◌≤◌, ◌^◌, List, []}
-use Rattle.std.proofs.Common.{◌∷◌, ◌++◌, length, take, drop, slice_index, Fits, w8}
-use Rattle.std.proofs.Common.{refl, sym, ap, subst, ◌∙◌, ◌⊎◌, inl, inr, append_assoc, arith}
-use Rattle.std.specs.Int.{w16, from_be_bytes}
-use Rattle.std.specs.List.{AllByRecursion}
+use Rattle.std.proofs.Common.{◌≡◌, ℕ, zero, suc, ◌+◌, ◌-◌, ◌*◌, ◌/◌, ◌%◌, ◌<◌, ◌≤◌, ◌^◌, List, [], ◌∷◌, ◌++◌, length}
+use Rattle.std.proofs.Common.{take, drop, slice_index, Fits, w8, refl, sym, ap, subst, ◌∙◌, ◌⊎◌, inl, inr, append_assoc}
+use Rattle.std.proofs.Common.{arith, w16, Option, Some, None}
 use Rattle.std.proofs.Math.Seq.{take-append_seam, drop-append_seam, take-length}
 use Rattle.std.proofs.lemmas.List.{length-append, length-drop, length-take-le, append-nil, drop_all, take-append-drop}
-use Rattle.std.proofs.lemmas.Bool.Decides.{nat_tests}
-use Rattle.std.proofs.lemmas.Nat.{from_be_bytes-to_be_bytes_2}
+use Rattle.std.proofs.{lemmas.Bool.cases_lt, lemmas.Nat.from_be_bytes-to_be_bytes_2}
+use Rattle.std.specs.{Int.from_be_bytes, List.AllByRecursion}
 use Rattle.grid_core.specs.declared.conn.Conn.{Conn}
 use Rattle.stroke_lattice.specs.State.{State}
-use Rattle.spd_codec.specs.declared.error.SpdError.{SpdError}
-use Rattle.spd_codec.specs.declared.error.SpdError.TheVariants as errors
-use Rattle.spd_codec.specs.declared.frame.Frame.{Frame}
-use Rattle.spd_codec.specs.declared.version.Version.TheVariants.{Second}
+use Rattle.spd_codec.specs.{declared.error.SpdError.SpdError, declared.frame.Frame.Frame}
+use Rattle.spd_codec.specs.{declared.version.Version.TheVariants.Second, Faults.IsFault}
 use Rattle.spd_codec.specs.Spelling.{short, frame_text, max_bytes, Spells}
-use Rattle.spd_codec.specs.Faults.{IsFault}
-use Rattle.spd_codec.specs.StateFile.{with_length, file_text, frames_of, StartsFrame, SpellsFile, IsBodyFault}
-use Rattle.spd_codec.specs.StateFile.{too_long, cut_short, in_frame, IsNextFault, in_length, behind_length, IsFileFault}
+use Rattle.spd_codec.specs.StateFile.{with_length, file_text, frames_of, StartsFrame, SpellsFile, IsBodyFault, too_long}
+use Rattle.spd_codec.specs.StateFile.{cut_short, in_frame, IsNextFault, in_length, behind_length, IsFileFault}
+use Rattle.spd_codec.specs.declared.error.SpdError.TheVariants as errors
 
 -- ---- lengths
 
@@ -146,6 +142,30 @@ all_written conn print pieces done out enough text spell =
 
 -- ---- one file, or one fault
 
+-- the bytes are those of frames, and behind them is the end, or a fault
+abbrev Meets : List ℕ → List Frame → Option SpdError → Type 0
+Meets bytes [] None = bytes ≡ []
+Meets bytes [] (Some e) = IsNextFault bytes e
+Meets bytes (f ∷ fs) end = (rest : List ℕ) × StartsFrame bytes f rest × Meets rest fs end
+
+end_met : (fs : List Frame) (bytes : List ℕ) → SpellsFile bytes fs → Meets bytes fs None
+end_met [] bytes read = read
+end_met (f ∷ fs) bytes (rest, start, others) = (rest, start, end_met fs rest others)
+
+fault_behind_frames : (fs : List Frame) (bytes before rest : List ℕ) (e : SpdError) → SpellsFile before fs
+    → bytes ≡ before ++ rest → IsNextFault rest e → Meets bytes fs (Some e)
+fault_behind_frames [] bytes before rest e read parts fault =
+    subst (λ (t : List ℕ). IsNextFault t e) (sym (parts ∙ ap (λ (t : List ℕ). t ++ rest) read)) fault
+fault_behind_frames (f ∷ fs) bytes before rest e (after, start, others) parts fault = (
+  after ++ rest,
+  subst (λ (t : List ℕ). StartsFrame t f (after ++ rest)) (sym parts) (more_behind before f after rest start),
+  fault_behind_frames fs (after ++ rest) after rest e others refl fault,
+)
+
+fault_met : (bytes : List ℕ) (e : SpdError) (fault : IsFileFault bytes e) → Meets bytes fault.frames (Some e)
+fault_met bytes e fault = fault_behind_frames fault.frames bytes fault.before fault.rest e fault.read fault.parts
+    fault.fault
+
 -- bytes spell at most one frame, and have at most one fault or spell a frame
 module _ (one_frame : (text : List ℕ) (f g : Frame) → Spells text f.conn f.print f.delta
     → Spells text g.conn g.print g.delta → f ≡ g)
@@ -214,59 +234,34 @@ module _ (one_frame : (text : List ℕ) (f g : Frame) → Spells text f.conn f.p
   none_at_end e (in_length one is) = omega arith
   none_at_end e (behind_length long rest small parts body) = let n = ap length parts in omega arith
 
-  pub one_file : (fs gs : List Frame) (bytes : List ℕ) → SpellsFile bytes fs → SpellsFile bytes gs → fs ≡ gs
-  one_file [] [] bytes a b = refl
-  one_file [] (g ∷ gs) bytes a (q, start, others) =
+  -- bytes meet frames, and an end or a fault, in one way
+  once : (fs gs : List Frame) (bytes : List ℕ) (d e : Option SpdError) → Meets bytes fs d → Meets bytes gs e
+      → (fs ≡ gs) × (d ≡ e)
+  once [] [] bytes None None a b = (refl, refl)
+  once [] [] bytes None (Some e) a b = absurd (none_at_end e (subst (λ (t : List ℕ). IsNextFault t e) a b))
+  once [] [] bytes (Some d) None a b = absurd (none_at_end d (subst (λ (t : List ℕ). IsNextFault t d) b a))
+  once [] [] bytes (Some d) (Some e) a b = (refl, ap (λ (x : SpdError). Some x) (one_next_fault bytes d e a b))
+  once [] (g ∷ gs) bytes None e a (q, start, others) =
       absurd (not_empty g q (subst (λ (t : List ℕ). StartsFrame t g q) a start))
-  one_file (f ∷ fs) [] bytes (r, start, others) b =
+  once [] (g ∷ gs) bytes (Some d) e a (q, start, others) = absurd (no_next_fault bytes g q d start a)
+  once (f ∷ fs) [] bytes d None (r, start, others) b =
       absurd (not_empty f r (subst (λ (t : List ℕ). StartsFrame t f r) b start))
-  one_file (f ∷ fs) (g ∷ gs) bytes (r, a, left) (q, b, right) =
+  once (f ∷ fs) [] bytes d (Some e) (r, start, others) b = absurd (no_next_fault bytes f r e start b)
+  once (f ∷ fs) (g ∷ gs) bytes d e (r, a, left) (q, b, right) =
       let same = one_start bytes f g r q a b in
-      let rest = one_file fs gs q (subst (λ (t : List ℕ). SpellsFile t fs) same.1 left) right in
-      ap (λ (x : Frame). x ∷ fs) same.0 ∙ ap (λ (xs : List Frame). g ∷ xs) rest
+      let rest = once fs gs q d e (subst (λ (t : List ℕ). Meets t fs d) same.1 left) right in
+      ((λ i. same.0 i ∷ rest.0 i), rest.1)
 
-  -- frames, and a fault behind others
-  both_ways : (fs gs : List Frame) (bytes before rest : List ℕ) (e : SpdError) → SpellsFile bytes fs
-      → SpellsFile before gs
-      → bytes ≡ before ++ rest → IsNextFault rest e → ⊥
-  both_ways [] [] bytes before rest e a b parts fault =
-      none_at_end e (subst (λ (t : List ℕ). IsNextFault t e) (sym (parts ∙ ap (λ (t : List ℕ). t ++ rest) b) ∙ a) fault)
-  both_ways (f ∷ fs) [] bytes before rest e (r, start, others) b parts fault =
-      no_next_fault rest f r e
-      (subst (λ (t : List ℕ). StartsFrame t f r) (parts ∙ ap (λ (t : List ℕ). t ++ rest) b) start) fault
-  both_ways [] (g ∷ gs) bytes before rest e a (q, start, others) parts fault =
-      not_empty g (q ++ rest) (subst (λ (t : List ℕ). StartsFrame t g (q ++ rest)) (sym parts ∙ a)
-      (more_behind before g q rest start))
-  both_ways (f ∷ fs) (g ∷ gs) bytes before rest e (r, a, left) (q, b, right) parts fault =
-      let same = one_start bytes f g r (q ++ rest) a (subst (λ (t : List ℕ). StartsFrame t g (q ++ rest)) (sym parts)
-      (more_behind before g q rest b)) in
-      both_ways fs gs r q rest e left right same.1 fault
+  pub one_file : (fs gs : List Frame) (bytes : List ℕ) → SpellsFile bytes fs → SpellsFile bytes gs → fs ≡ gs
+  one_file fs gs bytes a b = (once fs gs bytes None None (end_met fs bytes a) (end_met gs bytes b)).0
 
   pub no_file_fault : (bytes : List ℕ) (fs : List Frame) (e : SpdError) → SpellsFile bytes fs → IsFileFault bytes e → ⊥
   no_file_fault bytes fs e a fault =
-      both_ways fs fault.frames bytes fault.before fault.rest e a fault.read fault.parts fault.fault
-
-  -- faults behind frames
-  two_ways : (fs gs : List Frame) (bytes a b x y : List ℕ) (d e : SpdError) → SpellsFile a fs → SpellsFile b gs
-      → bytes ≡ a ++ x → bytes ≡ b ++ y → IsNextFault x d → IsNextFault y e → d ≡ e
-  two_ways [] [] bytes a b x y d e none nil left right fault other =
-      one_next_fault y d e (subst (λ (t : List ℕ). IsNextFault t d)
-      (sym (left ∙ ap (λ (t : List ℕ). t ++ x) none) ∙ right ∙ ap (λ (t : List ℕ). t ++ y) nil) fault) other
-  two_ways (f ∷ fs) [] bytes a b x y d e (r, start, others) nil left right fault other =
-      absurd (no_next_fault y f (r ++ x) e (subst (λ (t : List ℕ). StartsFrame t f (r ++ x))
-      (sym left ∙ right ∙ ap (λ (t : List ℕ). t ++ y) nil) (more_behind a f r x start)) other)
-  two_ways [] (g ∷ gs) bytes a b x y d e none (q, start, others) left right fault other =
-      absurd (no_next_fault x g (q ++ y) d (subst (λ (t : List ℕ). StartsFrame t g (q ++ y))
-      (sym right ∙ left ∙ ap (λ (t : List ℕ). t ++ x) none) (more_behind b g q y start)) fault)
-  two_ways (f ∷ fs) (g ∷ gs) bytes a b x y d e (r, one, first) (q, two, second) left right fault other =
-      let same = one_start bytes f g (r ++ x) (q ++ y)
-      (subst (λ (t : List ℕ). StartsFrame t f (r ++ x)) (sym left) (more_behind a f r x one))
-      (subst (λ (t : List ℕ). StartsFrame t g (q ++ y)) (sym right) (more_behind b g q y two)) in
-      two_ways fs gs (r ++ x) r q x y d e first second refl same.1 fault other
+      let same = (once fs fault.frames bytes None (Some e) (end_met fs bytes a) (fault_met bytes e fault)).1 in cc
 
   pub one_file_fault : (bytes : List ℕ) (d e : SpdError) → IsFileFault bytes d → IsFileFault bytes e → d ≡ e
   one_file_fault bytes d e a b =
-      two_ways a.frames b.frames bytes a.before b.before a.rest b.rest d e a.read b.read a.parts b.parts a.fault b.fault
+      let same = (once a.frames b.frames bytes (Some d) (Some e) (fault_met bytes d a) (fault_met bytes e b)).1 in cc
 
 -- want of memory is no fault of bytes
 module _ (no_memory : (text : List ℕ) → IsFault text errors.Memory → ⊥) where
@@ -293,12 +288,6 @@ all_drop : (n : ℕ) (bytes : List ℕ) → AllByRecursion (λ b. b < 256) bytes
 all_drop zero bytes all = all
 all_drop (suc n) [] all = tt
 all_drop (suc n) (b ∷ bytes) all = all_drop n bytes all.1
-
-at_most : (a b : ℕ) → (a ≤ b) ⊎ (b < a)
-at_most a b = elim (nat_le a b) as (λ t. nat_le a b ≡ t → (a ≤ b) ⊎ (b < a)) [
-  | true ↦ λ e. inl (grind (arith, nat_tests))
-  | false ↦ λ e. inr (grind (arith, nat_tests))
-] refl
 
 -- a fault at once, and one behind a frame
 fault_at_once : (bytes : List ℕ) (e : SpdError) → IsNextFault bytes e → IsFileFault bytes e
@@ -335,37 +324,28 @@ module _ (every_text : (text : List ℕ) → AllByRecursion (λ b. b < 256) text
       → AllByRecursion (λ b. b < 256) rest
       → (AllByRecursion (λ b. b < 256) (drop long rest) → HasMeaning (drop long rest))
       → HasMeaning bytes
-  body bytes long rest small parts fit further = elim (at_most long max_bytes) [
-    | inr much ↦ inr (
-      errors.TooLong,
-      fault_at_once bytes errors.TooLong
-          (behind_length long rest small parts (too_long much refl)),
-    )
-    | inl little ↦ elim (at_most long (length rest)) [
-      | inr few ↦ inr (
-        errors.Truncated,
-        fault_at_once bytes errors.Truncated
-            (behind_length long rest small parts (cut_short little few refl)),
-      )
-      | inl enough ↦ elim (every_text (take long rest) (all_take long rest fit)) [
-        | inr fault ↦ inr (
-          fault.0,
-          fault_at_once bytes fault.0
-              (behind_length long rest small parts (in_frame little enough fault.1)),
-        )
-        | inl read ↦
-            let whole : take long rest ++ drop long rest ≡ rest = take-append-drop long rest in
-            let count : length (take long rest) ≡ long = length-take-le long rest enough in
-            behind_frame bytes read.0 (drop long rest) (record {
-              text = take long rest;
-              spells = read.1;
-              parts = parts ∙ ap (λ (n : ℕ). short n ++ rest) (sym count)
-                  ∙ ap (λ (t : List ℕ). short (length (take long rest)) ++ t) (sym whole)
-                  ∙ sym (append_assoc (short (length (take long rest))) (take long rest) (drop long rest));
-            }) (further (all_drop long rest fit))
+  body bytes long rest small parts fit further =
+      let faulty : (e : SpdError) → IsBodyFault long rest e → HasMeaning bytes =
+      λ e fault. inr (e, fault_at_once bytes e (behind_length long rest small parts fault)) in
+      elim (cases_lt max_bytes long) [
+        | inl much ↦ faulty errors.TooLong (too_long much refl)
+        | inr little ↦ elim (cases_lt (length rest) long) [
+          | inl few ↦ faulty errors.Truncated (cut_short little few refl)
+          | inr enough ↦ elim (every_text (take long rest) (all_take long rest fit)) [
+            | inr fault ↦ faulty fault.0 (in_frame little enough fault.1)
+            | inl read ↦
+                let whole : take long rest ++ drop long rest ≡ rest = take-append-drop long rest in
+                let count : length (take long rest) ≡ long = length-take-le long rest enough in
+                behind_frame bytes read.0 (drop long rest) (record {
+                  text = take long rest;
+                  spells = read.1;
+                  parts = parts ∙ ap (λ (n : ℕ). short n ++ rest) (sym count)
+                      ∙ ap (λ (t : List ℕ). short (length (take long rest)) ++ t) (sym whole)
+                      ∙ sym (append_assoc (short (length (take long rest))) (take long rest) (drop long rest));
+                }) (further (all_drop long rest fit))
+          ]
+        ]
       ]
-    ]
-  ]
 
   each_within : (most : ℕ) (bytes : List ℕ) → length bytes ≤ most → AllByRecursion (λ b. b < 256) bytes
       → HasMeaning bytes

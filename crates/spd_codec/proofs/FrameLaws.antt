@@ -1,21 +1,19 @@
 -- The laws of frames: one reader answers each text.
 use Rattle.std.proofs.Common.{◌≡◌, ◌⊎◌, ℕ, zero, suc, ◌^◌, ◌<◌, ◌≤◌, List, [], ◌∷◌, ◌++◌, length, Result, Ok, Err, refl}
-use Rattle.std.proofs.Common.{sym, ap, ◌∙◌, append_assoc, arith, inl, inr}
-use Rattle.std.specs.List.{flat_map, AllByRecursion}
-use Rattle.std.proofs.lemmas.Bool.{le-ltb, lt-ltb}
-use Rattle.std.proofs.lemmas.List.{append-nil, length-append}
+use Rattle.std.proofs.Common.{true, false, sym, ap, ◌∙◌, append_assoc, arith, inl, inr, flat_map}
+use Rattle.std.proofs.{lemmas.Bool.le-ltb, lemmas.Bool.lt-ltb, lemmas.List.append-nil, lemmas.List.length-append}
+use Rattle.std.specs.List.{AllByRecursion}
 use Rattle.stroke_core.specs.Seed.{Seed}
 use Rattle.stroke_lattice.specs.Pieces.{strokes_of, tombstones_of}
-use Rattle.spd_codec.specs.declared.error.SpdError.{SpdError}
-use Rattle.spd_codec.specs.declared.frame.Frame.{Frame}
-use Rattle.spd_codec.specs.declared.version.Version.{Version}
+use Rattle.spd_codec.specs.{declared.error.SpdError.SpdError, declared.frame.Frame.Frame}
+use Rattle.spd_codec.specs.{declared.version.Version.Version, Reading.end_at, Reading.frame_at}
 use Rattle.spd_codec.specs.Spelling.{magic, conn_byte, short, tag_text, stroke_text, frame_text, StrokeFits, Spells}
 use Rattle.spd_codec.specs.Spelling.{max_bytes}
-use Rattle.spd_codec.specs.Faults.{StartsFields, EndFault, IsFault, too_long, in_frame}
-use Rattle.spd_codec.specs.Reading.{end_at, frame_at}
-use Rattle.spd_codec.proofs.Fields.{IsBytes}
-use Rattle.spd_codec.proofs.Steps.{failed, ok_is, err_is, no_error}
-use Rattle.spd_codec.proofs.Frames.{reads_fields, found, refused}
+use Rattle.spd_codec.specs.Faults.{StartsFields, EndFault, FrameFault, IsFault, too_long, in_frame}
+use Rattle.spd_codec.proofs.{Fields.IsBytes, Frames.reads_fields, Frames.found, Frames.refused, Steps.failed}
+use Rattle.spd_codec.proofs.{Steps.ok_is, Steps.err_is, Steps.no_error}
+use Rattle.spd_codec.proofs.FaultKinds.{of_field, IsReal}
+use Rattle.spd_codec.specs.declared.error.SpdError.TheVariants as errors
 
 -- each stroke has a byte, and so has each tombstone
 as_many_strokes : (version : Version) (entries : List (ℕ × Seed))
@@ -110,6 +108,21 @@ first_fault bytes a b h g = failed_is a b (sym (fault_is bytes a h) ∙ fault_is
 pub no_fault : (bytes : List ℕ) (frame : Frame) (e : SpdError) → Spells bytes frame.conn frame.print frame.delta
     → IsFault bytes e → ⊥
 no_fault bytes frame e h g = no_error frame e (sym (again bytes frame h) ∙ fault_is bytes e g)
+
+-- the fault of a frame that is not too long is that of a field, or of the end
+frame_real : (bytes : List ℕ) (e : SpdError) → FrameFault bytes e → IsReal e
+frame_real bytes e (inl h) = reads_fields.real bytes e h
+frame_real bytes e (inr h) = ap of_field h.3.3
+
+-- want of memory is no fault
+pub no_memory : (bytes : List ℕ) → IsFault bytes errors.Memory → ⊥
+no_memory bytes (too_long long is) = absurd cc
+no_memory bytes (in_frame within h) = let no : false ≡ true = frame_real bytes errors.Memory h in absurd cc
+
+-- too great a length is the fault of bytes that are too many
+pub too_many : (bytes : List ℕ) → IsFault bytes errors.TooLong → max_bytes < length bytes
+too_many bytes (too_long long is) = long
+too_many bytes (in_frame within h) = let no : false ≡ true = frame_real bytes errors.TooLong h in absurd cc
 
 -- what the reader answers, by cases
 answered : (bytes : List ℕ) (read : Result Frame SpdError) → frame_at bytes ≡ read → IsBytes bytes

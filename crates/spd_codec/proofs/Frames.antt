@@ -1,109 +1,43 @@
 -- The reader of frames.
 use Rattle.std.proofs.Common.{◌≡◌, ◌⊎◌, ℕ, ◌^◌, ◌<◌, Bool, true, false, cond, ltb, List, [], ◌∷◌, ◌++◌, length, Option}
-use Rattle.std.proofs.Common.{Some, None, Result, Ok, Err, refl, sym, ap, subst, ◌∙◌, append_assoc, inl, inr}
-use Rattle.std.specs.List.{flat_map, AllByRecursion}
-use Rattle.std.proofs.lemmas.Bool.{ltb-true, ltb-false}
-use Rattle.std.proofs.lemmas.List.{append-nil}
+use Rattle.std.proofs.Common.{None, Result, Ok, Err, refl, sym, ap, subst, ◌∙◌, append_assoc, inl, inr, flat_map}
+use Rattle.std.proofs.{lemmas.Bool.ltb-true, lemmas.Bool.ltb-false, lemmas.List.append-nil}
+use Rattle.std.specs.List.{AllByRecursion}
 use Rattle.grid_core.specs.declared.conn.Conn.{Conn}
 use Rattle.stroke_core.specs.Seed.{Seed}
-use Rattle.stroke_lattice.specs.State.{State, nothing}
-use Rattle.stroke_lattice.specs.Pieces.{strokes_of, tombstones_of}
-use Rattle.spd_codec.specs.declared.error.SpdError.{SpdError}
-use Rattle.spd_codec.specs.declared.error.SpdError.TheVariants as errors
-use Rattle.spd_codec.specs.declared.frame.Frame.{Frame}
-use Rattle.spd_codec.specs.declared.version.Version.{Version}
+use Rattle.stroke_lattice.specs.{State.State, State.nothing, Pieces.strokes_of, Pieces.tombstones_of}
+use Rattle.spd_codec.specs.{declared.error.SpdError.SpdError, declared.frame.Frame.Frame}
+use Rattle.spd_codec.specs.{declared.version.Version.Version}
 use Rattle.spd_codec.specs.Spelling.{magic, conn_byte, short, tag_text, stroke_text, frame_of, frame_text, StrokeFits}
 use Rattle.spd_codec.specs.Spelling.{Spells, max_bytes}
-use Rattle.spd_codec.specs.Faults.{StartsGood, StartsEach, StartsStroke, StartsStrokes, StrokesFault, StartsTombstones}
+use Rattle.spd_codec.specs.Faults.{is_above, StartsGood, StartsStroke, StartsStrokes, StrokesFault, StartsTombstones}
 use Rattle.spd_codec.specs.Faults.{TombstonesFault, DeltaFault, FieldsFault, StartsMagic, StartsConn, StartsFields}
-use Rattle.spd_codec.specs.Faults.{EndFault}
-use Rattle.spd_codec.specs.Faults.{IsFault, too_long, in_frame, tag_field, number_field, print_field}
+use Rattle.spd_codec.specs.Faults.{EndFault, IsFault, too_long, in_frame, tag_field, number_field, print_field}
 use Rattle.spd_codec.specs.Reading.{◌>>=◌, Read, onto, with_stroke, with_tombstone, strokes_at, tombstones_at, delta_at}
 use Rattle.spd_codec.specs.Reading.{fields_at, end_at, frame_at}
-use Rattle.spd_codec.proofs.Fields.{IsBytes, Reads}
+use Rattle.spd_codec.proofs.{Fields.IsBytes, Fields.Reads, RunLists.unless_none, RunLists.unless_from}
+use Rattle.spd_codec.proofs.{StrokeParts.reads_stroke}
 use Rattle.spd_codec.proofs.Steps.{bind_ok, bind_err, ok_is, err_is, done, no_error}
-use Rattle.spd_codec.proofs.Sequences.{Behind, SeenBy, reads_behind, reads_seen, reads_as, reads_same, reads_many}
-use Rattle.spd_codec.proofs.RunLists.{unless_none, unless_from}
+use Rattle.spd_codec.proofs.Sequences.{each_there, each_back, Behind, SeenBy, reads_behind, reads_seen, reads_as}
+use Rattle.spd_codec.proofs.Sequences.{reads_same, reads_many}
 use Rattle.spd_codec.proofs.Values.{reads_short, reads_print, reads_tag, reads_conn, reads_magic}
-use Rattle.spd_codec.proofs.StrokeParts.{reads_stroke}
-use Rattle.spd_codec.proofs.RisingTags.{Rise, keys_of, state_of, strokes_made, tombstones_made, strokes_rise}
+use Rattle.spd_codec.proofs.RisingTags.{Rise, key, state_of, strokes_made, tombstones_made, strokes_rise}
 use Rattle.spd_codec.proofs.RisingTags.{tombstones_rise, state_made}
+use Rattle.spd_codec.specs.declared.error.SpdError.TheVariants as errors
 
 -- ---- strokes and tombstones
 
--- strokes stand first
-abbrev EachStroke : Version → Option ℕ → List ℕ → List (ℕ × Seed) → List ℕ → Type 0
-EachStroke version = StartsEach (λ entry. entry.0) (StartsStroke version)
+-- a tag stands first
+abbrev StartsTag : Option ℕ → List ℕ → ℕ → List ℕ → Type 0
+StartsTag before = StartsGood (tag_field before)
 
--- what stands there is the text of strokes that rise by tag
-record StrokesThere (version : Version) (before : Option ℕ) (text : List ℕ) (entries : List (ℕ × Seed))
-    (rest : List ℕ) : Type 0 where
-  parts : text ≡ flat_map (stroke_text version) entries ++ rest
-  fit : AllByRecursion (StrokeFits version) entries
-  rise : Rise before (keys_of entries)
+-- it is above the one before it
+abbrev TagIsAbove : Option ℕ → ℕ → Type 0
+TagIsAbove before tag = is_above before tag ≡ true
 
--- strokes that were read
-strokes_there : (version : Version) (before : Option ℕ) (text : List ℕ) (entries : List (ℕ × Seed)) (rest : List ℕ)
-    → EachStroke version before text entries rest → StrokesThere version before text entries rest
-strokes_there version before text [] rest h = record { parts = h; fit = tt; rise = tt }
-strokes_there version before text (entry ∷ entries) rest h =
-    let others = strokes_there version (Some entry.0) h.0 entries rest h.2 in
-    let first = stroke_text version entry in
-    record {
-      parts = h.1.parts ∙ ap (λ (t : List ℕ). first ++ t) others.parts
-          ∙ sym (append_assoc first (flat_map (stroke_text version) entries) rest);
-      fit = (h.1.fits, others.fit);
-      rise = (h.1.above, others.rise);
-    }
-
--- strokes that stand there
-strokes_back : (version : Version) (before : Option ℕ) (entries : List (ℕ × Seed)) (rest : List ℕ)
-    → AllByRecursion (StrokeFits version) entries → Rise before (keys_of entries)
-    → EachStroke version before (flat_map (stroke_text version) entries ++ rest) entries rest
-strokes_back version before [] rest fit rise = refl
-strokes_back version before (entry ∷ entries) rest fit rise = (
-  flat_map (stroke_text version) entries ++ rest,
-  record {
-    fits = fit.0;
-    above = rise.0;
-    parts =
-        append_assoc (stroke_text version entry) (flat_map (stroke_text version) entries) rest;
-  },
-  strokes_back version (Some entry.0) entries rest fit.1 rise.1,
-)
-
--- tags stand first
-abbrev EachTag : Option ℕ → List ℕ → List ℕ → List ℕ → Type 0
-EachTag = StartsEach (λ tag. tag) (λ before. StartsGood (tag_field before))
-
--- what stands there is the text of tags that rise
-record TagsThere (before : Option ℕ) (text tags rest : List ℕ) : Type 0 where
-  parts : text ≡ flat_map tag_text tags ++ rest
-  fit : AllByRecursion (λ tag. tag < 2 ^ 128) tags
-  rise : Rise before tags
-
--- tags that were read
-tags_there : (before : Option ℕ) (text tags rest : List ℕ) → EachTag before text tags rest
-    → TagsThere before text tags rest
-tags_there before text [] rest h = record { parts = h; fit = tt; rise = tt }
-tags_there before text (tag ∷ tags) rest h =
-    let others = tags_there (Some tag) h.0 tags rest h.2 in
-    record {
-      parts = h.1.0.1 ∙ ap (λ (t : List ℕ). tag_text tag ++ t) others.parts
-          ∙ sym (append_assoc (tag_text tag) (flat_map tag_text tags) rest);
-      fit = (h.1.0.0, others.fit);
-      rise = (unless_none _ _ h.1.1, others.rise);
-    }
-
--- tags that stand there
-tags_back : (before : Option ℕ) (tags rest : List ℕ) → AllByRecursion (λ tag. tag < 2 ^ 128) tags → Rise before tags
-    → EachTag before (flat_map tag_text tags ++ rest) tags rest
-tags_back before [] rest fit rise = refl
-tags_back before (tag ∷ tags) rest fit rise = (
-  flat_map tag_text tags ++ rest,
-  ((fit.0, append_assoc (tag_text tag) (flat_map tag_text tags) rest), unless_from _ _ rise.0),
-  tags_back (Some tag) tags rest fit.1 rise.1,
-)
+-- and so is that of a stroke
+abbrev EntryIsAbove : Option ℕ → ℕ × Seed → Type 0
+EntryIsAbove before entry = TagIsAbove before entry.0
 
 -- the reader of strokes
 reads_strokes : (version : Version) (count : ℕ)
@@ -169,8 +103,8 @@ parts_of version conn print entries tags rest =
 fields_made : (version : Version) (conn : Conn) (print : List ℕ) (entries : List (ℕ × Seed)) (tags text rest : List ℕ)
     → text ≡ frame_of version conn print entries tags ++ rest → length print ≡ 32
     → length entries < 2 ^ 16 → length tags < 2 ^ 16
-    → AllByRecursion (StrokeFits version) entries → Rise None (keys_of entries)
-    → AllByRecursion (λ tag. tag < 2 ^ 128) tags → Rise None tags
+    → AllByRecursion (StrokeFits version) entries → Rise key None entries
+    → AllByRecursion (λ tag. tag < 2 ^ 128) tags → Rise (λ tag. tag) None tags
     → StartsFields text (frame_with conn print (state_of entries tags)) rest
 unfolding frame_text
 fields_made version conn print entries tags text rest parts len few_entries few_tags fit rise tags_fit tags_rise =
@@ -201,8 +135,10 @@ fields_there text frame rest h =
     let delta = d.1 in
     let entries = delta.0 in
     let tags = delta.3.0 in
-    let es = strokes_there version None m.1 entries delta.1 delta.2.1 in
-    let ts = tags_there None delta.1 tags rest delta.3.1.1 in
+    let es = each_there key (StartsStroke version) (stroke_text version) (StrokeFits version) EntryIsAbove
+    (λ before t entry after g. (g.parts, g.fits, g.above)) None m.1 entries delta.1 delta.2.1 in
+    let ts = each_there (λ tag. tag) StartsTag tag_text (λ tag. tag < 2 ^ 128) TagIsAbove
+    (λ before t tag after g. (g.0.1, g.0.0, unless_none _ _ g.1)) None delta.1 tags rest delta.3.1.1 in
     let few_entries : length entries < 2 ^ 16 = subst (λ (k : ℕ). k < 2 ^ 16) (sym delta.2.0) n.2.0.0 in
     let few_tags : length tags < 2 ^ 16 = subst (λ (k : ℕ). k < 2 ^ 16) (sym delta.3.1.0) m.2.0.0 in
     let parts : text ≡ frame_of version conn print entries tags ++ rest =
@@ -214,8 +150,8 @@ fields_there text frame rest h =
     ∙ ap (λ (t : List ℕ). short (length tags) ++ t) (es.parts
     ∙ ap (λ (t : List ℕ). flat_map (stroke_text version) entries ++ t) ts.parts)))))
     ∙ sym (parts_of version conn print entries tags rest) in
-    let made = fields_made version conn print entries tags text rest parts p.2.0.0 few_entries few_tags es.fit es.rise
-    ts.fit ts.rise in
+    let made = fields_made version conn print entries tags text rest parts p.2.0.0 few_entries few_tags es.fit es.follow
+    ts.fit ts.follow in
     subst (λ (f : Frame). StartsFields text f rest) (ap (frame_with conn print) delta.3.2 ∙ d.2) made
 
 -- fields that stand there
@@ -229,7 +165,13 @@ fields_back text frame rest h =
     let after_counts = flat_map (stroke_text version) entries ++ after_strokes in
     let after_strokes_count = short (length tags) ++ after_counts in
     let after_print = short (length entries) ++ after_strokes_count in
-    let after_conn = frame.print ++ after_print in (
+    let after_conn = frame.print ++ after_print in
+    let es = each_back key (StartsStroke version) (stroke_text version) (StrokeFits version) EntryIsAbove
+    (λ before t entry after is fits above. record { fits = fits; above = above; parts = is }) None entries after_strokes
+    h.strokes (strokes_rise frame.delta) in
+    let ts = each_back (λ tag. tag) StartsTag tag_text (λ tag. tag < 2 ^ 128) TagIsAbove
+    (λ before t tag after is fits above. ((fits, is), unless_from _ _ above)) None tags rest h.tombstones
+    (tombstones_rise frame.delta) in (
       version,
       conn_byte frame.conn ∷ after_conn,
       h.parts ∙ parts_of version frame.conn frame.print entries tags rest,
@@ -254,10 +196,10 @@ fields_back text frame rest h =
                 (
                   entries,
                   after_strokes,
-                  (refl, strokes_back version None entries after_strokes h.strokes (strokes_rise frame.delta)),
+                  (refl, es),
                   (
                     tags,
-                    (refl, tags_back None tags rest h.tombstones (tombstones_rise frame.delta)),
+                    (refl, ts),
                     state_made frame.delta,
                   ),
                 ),

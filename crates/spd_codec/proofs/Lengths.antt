@@ -1,15 +1,13 @@
 -- The lengths of frames and of their parts.
 use Rattle.std.proofs.Common.{◌≡◌, ℕ, ◌+◌, ◌*◌, ◌^◌, ◌<◌, ◌≤◌, List, [], ◌∷◌, ◌++◌, map, length, refl, sym, ap, ◌∙◌}
-use Rattle.std.proofs.Common.{append_assoc, arith}
-use Rattle.std.specs.List.{flat_map, sum_by, AllByRecursion}
-use Rattle.std.proofs.lemmas.List.{length-append}
-use Rattle.std.proofs.lemmas.List.Sums.{sum_by-append, sum_by-cons}
+use Rattle.std.proofs.Common.{append_assoc, arith, flat_map, sum_by}
+use Rattle.std.proofs.{lemmas.List.length-append, lemmas.List.Sums.sum_by-append, lemmas.List.Sums.sum_by-cons}
+use Rattle.std.specs.List.{AllByRecursion}
 use Rattle.grid_core.specs.declared.conn.Conn.{Conn}
-use Rattle.stroke_core.specs.declared.run.Run.{Run}
-use Rattle.stroke_core.specs.Seed.{Seed, Shape, Runs, Disc, byte_len_of}
+use Rattle.stroke_core.specs.{declared.run.Run.Run, Seed.Seed, Seed.Shape, Seed.Runs, Seed.Disc, Seed.byte_len_of}
 use Rattle.stroke_lattice.specs.State.{State}
-use Rattle.stroke_lattice.specs.Pieces.{item_length, stroke_items, tombstone_items, Placed, Withdrawn}
-use Rattle.stroke_lattice.specs.Pieces.{frame_length, strokes_of, tombstones_of}
+use Rattle.stroke_lattice.specs.Pieces.{item_length, stroke_items, tombstone_items, Placed, Withdrawn, frame_length}
+use Rattle.stroke_lattice.specs.Pieces.{strokes_of, tombstones_of}
 use Rattle.spd_codec.specs.declared.version.Version.TheVariants.{Second}
 use Rattle.spd_codec.specs.Spelling.{stroke_text, tag_text, run_text, frame_text, magic, conn_byte, short, max_bytes}
 use Rattle.spd_codec.specs.Spelling.{StrokeFits, Spells}

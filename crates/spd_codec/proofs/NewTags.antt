@@ -1,17 +1,15 @@
 -- A tag that is read above the one before it is new to the state of those before it.
-use Rattle.std.proofs.Common.{◌≡◌, ℕ, ◌<◌, true, List, [], ◌∷◌, Option, Some, None, Ok, Err, refl, sym, ap, ◌∙◌}
-use Rattle.std.proofs.Common.{inl, inr, arith}
-use Rattle.std.specs.Int.{w128, from_be_bytes}
+use Rattle.std.proofs.Common.{◌≡◌, ℕ, ◌<◌, true, List, [], ◌∷◌, Option, Some, None, Ok, Err, refl, sym, ap, ◌∙◌, inl}
+use Rattle.std.proofs.Common.{inr, arith}
 use Rattle.std.proofs.lemmas.Bool.{ltb-true, lt-ltb}
+use Rattle.std.specs.Int.{w128, from_be_bytes}
 use Rattle.stroke_core.specs.Seed.{Seed}
 use Rattle.stroke_lattice.specs.State.{State, HasSomeStroke, HasTombstone}
 use Rattle.stroke_lattice.proofs.Shared.{only_one_stroke_more, only_one_more}
-use Rattle.spd_codec.specs.declared.version.Version.{Version}
-use Rattle.spd_codec.specs.Faults.{is_above, tag_field}
-use Rattle.spd_codec.specs.Reading.{◌>>=◌, Read, taken_at, judged, tag_at, kind_at, seed_at, stroke_at}
-use Rattle.spd_codec.specs.Reading.{with_stroke, with_tombstone, gathered, onto}
-use Rattle.spd_codec.proofs.Steps.{bind_ok, judged_ok, ok_is}
-use Rattle.spd_codec.proofs.RunLists.{unless_none}
+use Rattle.spd_codec.specs.{declared.version.Version.Version, Faults.is_above, Faults.tag_field}
+use Rattle.spd_codec.specs.Reading.{◌>>=◌, Read, taken_at, judged, tag_at, kind_at, seed_at, stroke_at, with_stroke}
+use Rattle.spd_codec.specs.Reading.{with_tombstone, gathered, onto}
+use Rattle.spd_codec.proofs.{Steps.bind_ok, Steps.judged_ok, Steps.ok_is, RunLists.unless_none}
 
 -- ---- what is read is above
 

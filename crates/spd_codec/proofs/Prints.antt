@@ -1,12 +1,9 @@
 -- What a hasher holds after the parts of a raw file.
-use Rattle.std.proofs.Common.{◌≡◌, ℕ, List, [], ◌∷◌, ◌++◌, take, drop, refl, sym, ap, ◌∙◌, subst, append_assoc}
-use Rattle.std.specs.Fmt.{decimal}
-use Rattle.std.specs.List.{flat_map}
+use Rattle.std.proofs.Common.{◌≡◌, ℕ, List, [], ◌∷◌, ◌++◌, take, drop, refl, sym, ap, ◌∙◌, subst, append_assoc, decimal}
+use Rattle.std.proofs.Common.{flat_map}
 use Rattle.std.proofs.lemmas.List.{take-append-drop}
-use Rattle.sha2.specs.Hashers.{Holds256}
-use Rattle.sha2.specs.declared.Sha256.{Sha256}
-use Rattle.pgm_codec.specs.Graymap.{Graymap}
-use Rattle.pgm_codec.specs.Writing.{sample_bytes, raw_header}
+use Rattle.sha2.specs.{Hashers.Holds256, declared.Sha256.Sha256}
+use Rattle.pgm_codec.specs.{Graymap.Graymap, Writing.sample_bytes, Writing.raw_header}
 
 -- the parts of a header, one after the other
 pub header_parts : (m magic w blank h lf v end : List ℕ) (g : Graymap) → magic ≡ 80 ∷ 53 ∷ 10 ∷ []

@@ -1,27 +1,25 @@
 -- Strokes and tombstones that rise by tag are those of the state that they make, in its order.
 use Rattle.std.proofs.Common.{◌≡◌, ℕ, ◌<◌, Bool, true, false, cond, ◌||◌, T, List, [], ◌∷◌, ◌++◌, map, Option, Some}
-use Rattle.std.proofs.Common.{None, refl, sym, ap, subst, ◌∙◌, append_assoc, arith, is_some, length}
-use Rattle.std.specs.List.{AllByRecursion, list_any}
-use Rattle.std.specs.Ordering.{nat_cmp, is_lt, eq_by_cmp}
-use Rattle.std.specs.Cmp.{nat_cmp_total}
-use Rattle.std.specs.FinMap as fin
-use Rattle.std.specs.FinMap.{FinMap, is_sorted}
-use Rattle.std.specs.FinMap.Entries.{below_all, is_some-find}
-use Rattle.std.specs.FinSet as set
-use Rattle.std.proofs.lemmas.Bool.{ltb-true, lt-ltb}
-use Rattle.std.proofs.lemmas.Bool.Decides.{nat_tests}
-use Rattle.std.proofs.lemmas.List.{append-nil}
+use Rattle.std.proofs.Common.{None, refl, sym, ap, subst, ◌∙◌, append_assoc, arith, is_some, length, nat_cmp, is_lt}
+use Rattle.std.proofs.{lemmas.Bool.ltb-true, lemmas.Bool.lt-ltb, lemmas.Bool.Decides.nat_tests, lemmas.List.append-nil}
+use Rattle.std.specs.{List.AllByRecursion, List.list_any, Ordering.eq_by_cmp, Cmp.nat_cmp_total, FinMap.FinMap}
+use Rattle.std.specs.{FinMap.is_sorted, FinMap.Entries.below_all}
 use Rattle.stroke_core.specs.Seed.{Seed}
-use Rattle.stroke_lattice.specs.State.{State, nothing}
-use Rattle.stroke_lattice.specs.Pieces.{strokes_of, tombstones_of}
-use Rattle.stroke_lattice.proofs.Items.{front, back, put_last}
-use Rattle.spd_codec.specs.Faults.{is_above}
-use Rattle.spd_codec.specs.Reading.{gathered, with_stroke, with_tombstone}
+use Rattle.stroke_lattice.specs.{State.State, State.nothing, Pieces.strokes_of, Pieces.tombstones_of}
+use Rattle.grid_core.proofs.Common.{no_length, or_false}
+use Rattle.spd_codec.proofs.Sequences.{Follow}
+use Rattle.stroke_lattice.proofs.Items.{front, back, put_last, marked, keys_of_marked, as_map, test_of_tags}
+use Rattle.spd_codec.specs.{Faults.is_above, Reading.gathered, Reading.with_stroke, Reading.with_tombstone}
+use Rattle.std.specs.FinMap as fin
+use Rattle.std.specs.FinSet as set
 
 -- each tag is above the one before it
-abbrev pub Rise : Option ℕ → List ℕ → Type 0
-Rise before [] = Unit {0}
-Rise before (tag ∷ tags) = (is_above before tag ≡ true) × Rise (Some tag) tags
+abbrev pub Rise : {X : Type 0} → (X → ℕ) → Option ℕ → List X → Type 0
+Rise tag_of = Follow tag_of (λ before x. is_above before (tag_of x) ≡ true)
+
+-- the tag of an entry
+abbrev pub key : {X : Type 0} → ℕ × X → ℕ
+key e = e.0
 
 -- the keys of entries
 abbrev pub keys_of : {X : Type 0} → List (ℕ × X) → List ℕ
@@ -47,16 +45,6 @@ swapped true false c = refl
 swapped false true c = refl
 swapped false false c = refl
 
--- a test beside one that fails
-or_false : (b : Bool) → (b || false) ≡ b
-or_false true = refl
-or_false false = refl
-
--- a list of no length is empty
-nil_of : {A : Type 0} (xs : List A) → length xs ≡ 0 → xs ≡ []
-nil_of [] e = refl
-nil_of (x ∷ xs) e = absurd (omega arith)
-
 module _ {X : Type 0} where
   -- each key is below the number
   abbrev AreBelow : ℕ → List (ℕ × X) → Type 0
@@ -77,7 +65,7 @@ module _ {X : Type 0} where
 
   -- entries that rise are put behind those before them
   entries_after : (m : FinMap nat_cmp X) (es : List (ℕ × X)) (before : Option ℕ) → IsUnder m before
-      → Rise before (keys_of es)
+      → Rise key before es
       → fin.entries (gathered with_entry m es) ≡ fin.entries m ++ es
   entries_after m [] before under rise = sym (append-nil (fin.entries m))
   entries_after m (e ∷ es) before under rise =
@@ -92,18 +80,18 @@ module _ {X : Type 0} where
 
   -- the empty map has none
   no_entries : fin.entries (fin.empty {X = X} {R = nat_cmp}) ≡ []
-  no_entries = nil_of (fin.entries (fin.empty {X = X} {R = nat_cmp}))
+  no_entries = no_length (fin.entries (fin.empty {X = X} {R = nat_cmp}))
       (sym (fin.len-entries (fin.empty {X = X} {R = nat_cmp})) ∙ fin.len-empty nat_cmp X)
 
   -- entries that rise are those of the map that they make
-  entries_made : (es : List (ℕ × X)) → Rise None (keys_of es) → fin.entries (gathered with_entry fin.empty es) ≡ es
+  entries_made : (es : List (ℕ × X)) → Rise key None es → fin.entries (gathered with_entry fin.empty es) ≡ es
   entries_made es rise =
       entries_after fin.empty es None (λ k above. subst (λ (l : List (ℕ × X)). AreBelow k l) (sym no_entries) tt) rise
       ∙ ap (λ (l : List (ℕ × X)). l ++ es) no_entries
 
   -- sorted entries behind a key rise
   rise_behind : (k : ℕ) (es : List (ℕ × X)) → T (below_all nat_cmp k es) → T (is_sorted nat_cmp es)
-      → Rise (Some k) (keys_of es)
+      → Rise key (Some k) es
   rise_behind k [] below sorted = tt
   rise_behind k (e ∷ es) below sorted = (
     lt-ltb k e.0 (less_from k e.0 (holds _ (front (is_lt (nat_cmp k e.0)) (below_all nat_cmp k es) below))),
@@ -112,7 +100,7 @@ module _ {X : Type 0} where
   )
 
   -- sorted entries rise
-  rise_sorted : (es : List (ℕ × X)) → T (is_sorted nat_cmp es) → Rise None (keys_of es)
+  rise_sorted : (es : List (ℕ × X)) → T (is_sorted nat_cmp es) → Rise key None es
   rise_sorted [] sorted = tt
   rise_sorted (e ∷ es) sorted = (
     refl,
@@ -120,20 +108,17 @@ module _ {X : Type 0} where
         (back (below_all nat_cmp e.0 es) (is_sorted nat_cmp es) sorted),
   )
 
+  -- and so do their tags
+  rise_keys : (before : Option ℕ) (es : List (ℕ × X)) → Rise key before es → Rise (λ tag. tag) before (keys_of es)
+  rise_keys before [] rise = tt
+  rise_keys before (e ∷ es) rise = (rise.0, rise_keys (Some e.0) es rise.1)
+
 -- ---- tombstones
 
--- a tag with nothing under it
-abbrev alone : ℕ → ℕ × Unit {0}
-alone tag = (tag, tt)
-
--- the set as a map that has nothing under its tags
-abbrev as_map : set.FinSet nat_cmp → FinMap nat_cmp (Unit {0})
-as_map s = fin.from_entries {R = nat_cmp} (map alone (set.items s))
-
--- tags are the keys of their entries
-keys_of_alone : (tags : List ℕ) → keys_of (map alone tags) ≡ tags
-keys_of_alone [] = refl
-keys_of_alone (tag ∷ tags) = ap (λ (t : List ℕ). tag ∷ t) (keys_of_alone tags)
+-- tags that rise do so with nothing under them
+rise_marked : (before : Option ℕ) (tags : List ℕ) → Rise (λ tag. tag) before tags → Rise key before (marked tags)
+rise_marked before [] rise = tt
+rise_marked before (tag ∷ tags) rise = (rise.0, rise_marked (Some tag) tags rise.1)
 
 -- options of nothing are equal where both are there or neither
 same_if_some : (a b : Option (Unit {0})) → is_some a ≡ is_some b → a ≡ b
@@ -141,14 +126,6 @@ same_if_some None None e = refl
 same_if_some None (Some y) e = absurd cc
 same_if_some (Some x) None e = absurd cc
 same_if_some (Some x) (Some y) e = refl
-
--- the map has the tags of the set
-test_of_tags : (s : set.FinSet nat_cmp) (q : ℕ) → is_some (fin.get (as_map s) q) ≡ set.contains s q
-test_of_tags s q =
-    ap is_some (fin.get-from_entries nat_cmp_total (map alone (set.items s)) q)
-    ∙ is_some-find nat_cmp q (map alone (set.items s))
-    ∙ ap (list_any (eq_by_cmp nat_cmp q)) (keys_of_alone (set.items s))
-    ∙ sym (set.contains-items s q)
 
 -- a test, or an option that is there
 some_or : (b : Bool) (o : Option (Unit {0})) → (b || is_some o) ≡ is_some (cond b (Some tt) o)
@@ -170,10 +147,10 @@ as_map_empty = fin.same_map nat_cmp_total fin.nat_cmp-IsAntisymmetric _ _ (λ q.
 
 -- and so for tags one after the other
 as_map_after : (s : set.FinSet nat_cmp) (tags : List ℕ)
-    → as_map (gathered set.insert s tags) ≡ gathered with_entry (as_map s) (map alone tags)
+    → as_map (gathered set.insert s tags) ≡ gathered with_entry (as_map s) (marked tags)
 as_map_after s [] = refl
 as_map_after s (tag ∷ tags) = as_map_after (set.insert s tag) tags
-    ∙ ap (λ (m : FinMap nat_cmp (Unit {0})). gathered with_entry m (map alone tags)) (as_map_insert s tag)
+    ∙ ap (λ (m : FinMap nat_cmp (Unit {0})). gathered with_entry m (marked tags)) (as_map_insert s tag)
 
 -- ---- states
 
@@ -200,27 +177,29 @@ state_is es tags =
     ∙ tombstones_alone (record { strokes = gathered with_entry fin.empty es; tombstones = set.empty }) tags
 
 -- the strokes of the state that they make
-pub strokes_made : (es : List (ℕ × Seed)) (tags : List ℕ) → Rise None (keys_of es) → strokes_of (state_of es tags) ≡ es
+pub strokes_made : (es : List (ℕ × Seed)) (tags : List ℕ) → Rise key None es → strokes_of (state_of es tags) ≡ es
 strokes_made es tags rise = ap strokes_of (state_is es tags) ∙ entries_made es rise
 
 -- its tombstones
-pub tombstones_made : (es : List (ℕ × Seed)) (tags : List ℕ) → Rise None tags → tombstones_of (state_of es tags) ≡ tags
+pub tombstones_made : (es : List (ℕ × Seed)) (tags : List ℕ) → Rise (λ tag. tag) None tags → tombstones_of
+    (state_of es tags) ≡ tags
 tombstones_made es tags rise =
     ap tombstones_of (state_is es tags)
     ∙ ap (λ (m : FinMap nat_cmp (Unit {0})). keys_of (fin.entries m))
-    (as_map_after set.empty tags ∙ ap (λ (m : FinMap nat_cmp (Unit {0})). gathered with_entry m (map alone tags))
+    (as_map_after set.empty tags ∙ ap (λ (m : FinMap nat_cmp (Unit {0})). gathered with_entry m (marked tags))
     as_map_empty)
     ∙ ap (λ (l : List (ℕ × Unit {0})). keys_of l)
-    (entries_made (map alone tags) (subst (Rise None) (sym (keys_of_alone tags)) rise))
-    ∙ keys_of_alone tags
+    (entries_made (marked tags) (rise_marked None tags rise))
+    ∙ keys_of_marked tags
 
 -- strokes and tombstones of a state rise
-pub strokes_rise : (s : State) → Rise None (keys_of (strokes_of s))
+pub strokes_rise : (s : State) → Rise key None (strokes_of s)
 strokes_rise s = rise_sorted (strokes_of s) (fin.entries_sorted s.strokes)
 
 -- and so do its tombstones
-pub tombstones_rise : (s : State) → Rise None (tombstones_of s)
-tombstones_rise s = rise_sorted (fin.entries (as_map s.tombstones)) (fin.entries_sorted (as_map s.tombstones))
+pub tombstones_rise : (s : State) → Rise (λ tag. tag) None (tombstones_of s)
+tombstones_rise s = rise_keys None (fin.entries (as_map s.tombstones))
+    (rise_sorted (fin.entries (as_map s.tombstones)) (fin.entries_sorted (as_map s.tombstones)))
 
 -- what the set has after tags were added
 contains_after : (s : set.FinSet nat_cmp) (tags : List ℕ) (q : ℕ)

@@ -1,9 +1,9 @@
 -- Parts that follow one another.
 use Rattle.std.proofs.Common.{◌≡◌, ℕ, zero, suc, List, [], ◌∷◌, Option, Some, Ok, refl, sym, ap, subst, ◌∙◌, inl, inr}
-use Rattle.std.proofs.Common.{arith}
-use Rattle.spd_codec.specs.declared.error.SpdError.{SpdError}
-use Rattle.spd_codec.specs.Faults.{FaultIn, StartsMany, ManyFault}
-use Rattle.spd_codec.specs.Reading.{◌>>=◌, Read, many_at}
+use Rattle.std.proofs.Common.{arith, ◌++◌, append_assoc, flat_map}
+use Rattle.std.specs.List.{AllByRecursion}
+use Rattle.spd_codec.specs.{declared.error.SpdError.SpdError, Faults.FaultIn, Faults.StartsMany, Faults.ManyFault}
+use Rattle.spd_codec.specs.{Faults.StartsEach, Reading.◌>>=◌, Reading.Read, Reading.many_at}
 use Rattle.spd_codec.proofs.Steps.{bind_ok, bind_err, ok_is, done, no_error}
 use Rattle.spd_codec.proofs.Fields.{IsBytes, Reads}
 
@@ -42,6 +42,7 @@ reads_behind {X} {Z} {read} {next} {Begins} {Next} {Fault} {NextFault} a b = rec
         | inl g ↦ ap (λ (r : Read X). r >>= λ x. next x.0 x.1) (a.fault text e g)
         | inr s ↦ ap (λ (r : Read X). r >>= λ x. next x.0 x.1) (a.again text s.0 s.1 s.2) ∙ (b s.0).fault s.1 e s.3
       ];
+  real = λ text e h. elim h [ inl g ↦ a.real text e g | inr s ↦ (b s.0).real s.1 e s.3 ];
 }
 
 -- a reader whose value is seen by a function
@@ -64,6 +65,7 @@ reads_seen {X} {Z} f {read} {Begins} {Fault} a = record {
   again = λ text z rest h.
       ap (λ (r : Read X). r >>= λ x. Ok (f x.0, x.1)) (a.again text h.0 rest h.1) ∙ ap (λ (y : Z). done (y, rest)) h.2;
   fault = λ text e h. ap (λ (r : Read X). r >>= λ x. Ok (f x.0, x.1)) (a.fault text e h);
+  real = a.real;
 }
 
 -- other words for what stands first
@@ -77,6 +79,7 @@ reads_as a there back = record {
   err = a.err;
   again = λ text x rest h. a.again text x rest (back text x rest h);
   fault = a.fault;
+  real = a.real;
 }
 
 -- nothing is read
@@ -90,6 +93,7 @@ reads_nothing {Z} z = record {
   err = λ text e bytes h. absurd (no_error (z, text) e h);
   again = λ text y rest h. λ i. done (h.0 i, h.1 i);
   fault = λ text e h. absurd h;
+  real = λ text e h. absurd h;
 }
 
 -- the same reader, in other words
@@ -101,6 +105,7 @@ reads_same is a = record {
   err = λ text e bytes h. a.err text e bytes (sym (is text) ∙ h);
   again = λ text x rest h. is text ∙ a.again text x rest h;
   fault = λ text e h. is text ∙ a.fault text e h;
+  real = a.real;
 }
 
 -- none was read
@@ -149,3 +154,47 @@ reads_many {X} {K} key {one} {Begins} {Fault} each zero before = reads_as (reads
 reads_many {X} {K} key {one} {Begins} {Fault} each (suc count) before = reads_as
     (reads_behind (each before) (λ x. reads_seen (λ xs. x ∷ xs) (reads_many key each count (Some (key x)))))
     (some_there key Begins count before) (some_back key Begins count before)
+
+-- ---- texts of many
+
+-- each follows the one before it
+abbrev pub Follow : {X K : Type 0} → (X → K) → (Option K → X → Type 0) → Option K → List X → Type 0
+Follow key Next before [] = Unit {0}
+Follow key Next before (x ∷ xs) = Next before x × Follow key Next (Some (key x)) xs
+
+module _ {X K : Type 0} (key : X → K) (Begins : Option K → List ℕ → X → List ℕ → Type 0) (spelled : X → List ℕ)
+    (Fits : X → Type 0) (Next : Option K → X → Type 0) where
+  -- what stands there is the text of these, each of which fits and follows the one before it
+  pub record AreThere (before : Option K) (text : List ℕ) (xs : List X) (rest : List ℕ) : Type 0 where
+    pub parts : text ≡ flat_map spelled xs ++ rest
+    pub fit : AllByRecursion Fits xs
+    pub follow : Follow key Next before xs
+
+  -- those that were read
+  pub each_there : ((before : Option K) (text : List ℕ) (x : X) (rest : List ℕ) → Begins before text x rest
+      → (text ≡ spelled x ++ rest) × Fits x × Next before x)
+      → (before : Option K) (text : List ℕ) (xs : List X) (rest : List ℕ) → StartsEach key Begins before text xs rest
+      → AreThere before text xs rest
+  each_there one before text [] rest h = record { parts = h; fit = tt; follow = tt }
+  each_there one before text (x ∷ xs) rest h =
+      let first = one before text x h.0 h.1 in
+      let others = each_there one (Some (key x)) h.0 xs rest h.2 in
+      record {
+        parts = first.0 ∙ ap (λ (t : List ℕ). spelled x ++ t) others.parts
+            ∙ sym (append_assoc (spelled x) (flat_map spelled xs) rest);
+        fit = (first.1, others.fit);
+        follow = (first.2, others.follow);
+      }
+
+  -- those that stand there
+  pub each_back : ((before : Option K) (text : List ℕ) (x : X) (rest : List ℕ) → text ≡ spelled x ++ rest → Fits x
+      → Next before x → Begins before text x rest)
+      → (before : Option K) (xs : List X) (rest : List ℕ) → AllByRecursion Fits xs → Follow key Next before xs
+      → StartsEach key Begins before (flat_map spelled xs ++ rest) xs rest
+  each_back one before [] rest fit follow = refl
+  each_back one before (x ∷ xs) rest fit follow = (
+    flat_map spelled xs ++ rest,
+    one before (flat_map spelled (x ∷ xs) ++ rest) x (flat_map spelled xs ++ rest)
+        (append_assoc (spelled x) (flat_map spelled xs) rest) fit.0 follow.0,
+    each_back one (Some (key x)) xs rest fit.1 follow.1,
+  )

@@ -1,8 +1,7 @@
 -- What a step of reading answered, from what all of the reading did.
 use Rattle.std.proofs.Common.{◌≡◌, Bool, true, false, cond, Option, Some, None, Result, Ok, Err, refl, ap, inl, inr}
-use Rattle.std.specs.Prelude.{◌⊎◌}
-use Rattle.spd_codec.specs.declared.error.SpdError.{SpdError}
-use Rattle.spd_codec.specs.Reading.{◌>>=◌, judged}
+use Rattle.std.proofs.Common.{◌⊎◌}
+use Rattle.spd_codec.specs.{declared.error.SpdError.SpdError, Reading.◌>>=◌, Reading.judged}
 
 -- a fault, where its type is to be said
 abbrev pub failed : {A : Type 0} → SpdError → Result A SpdError

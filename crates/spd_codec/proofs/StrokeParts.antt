@@ -1,73 +1,34 @@
 -- The readers of strokes.
 use Rattle.std.proofs.Common.{◌≡◌, ℕ, zero, suc, ◌^◌, ◌<◌, ◌≤◌, Bool, true, false, cond, List, [], ◌∷◌, ◌++◌, length}
-use Rattle.std.proofs.Common.{Option, Some, None, Ok, refl, sym, ap, subst, ◌∙◌, append_assoc, arith}
-use Rattle.std.specs.Prelude.{◌==◌, nat_le}
-use Rattle.std.specs.List.{flat_map, AllByRecursion}
+use Rattle.std.proofs.Common.{Option, Some, None, Ok, refl, sym, ap, subst, ◌∙◌, append_assoc, arith, ◌==◌, nat_le}
+use Rattle.std.proofs.Common.{flat_map}
 use Rattle.std.proofs.lemmas.Bool.{eqb-false, ne_eqb, leb-true, le-leb, ltb-true, lt-ltb}
 use Rattle.stroke_core.specs.declared.run.Run.{Run}
 use Rattle.stroke_core.specs.Seed.{Seed, Shape, Runs, Disc, IsCanonical, IsCanonicalShape, max_runs, max_radius}
-use Rattle.stroke_core.specs.declared.error.StrokeError.TheVariants.{NoRuns, TooManyRuns}
-use Rattle.spd_codec.specs.declared.error.SpdError.{SpdError}
-use Rattle.spd_codec.specs.declared.error.SpdError.TheVariants.{BadStroke}
-use Rattle.spd_codec.specs.declared.version.Version.{Version}
+use Rattle.stroke_core.specs.declared.error.StrokeError.TheVariants.{NoRuns, TooManyRuns, BadRadius}
+use Rattle.spd_codec.specs.{declared.error.SpdError.SpdError, declared.error.SpdError.TheVariants.BadStroke}
+use Rattle.spd_codec.specs.{declared.version.Version.Version, declared.version.Kind.Kind}
 use Rattle.spd_codec.specs.declared.version.Version.TheVariants.{First, Second}
-use Rattle.spd_codec.specs.declared.version.Kind.{Kind}
-use Rattle.spd_codec.specs.declared.version.Kind.TheVariants as kinds
 use Rattle.spd_codec.specs.Spelling.{short, tag_text, run_text, shape_text, kind_text, RunFits, ShapeFits}
-use Rattle.spd_codec.specs.Faults.{StartsGood, StartsEach, StartsMany, run_field, count_field, count_fault}
-use Rattle.spd_codec.specs.Faults.{radius_field}
+use Rattle.spd_codec.specs.Faults.{StartsGood, StartsMany, run_field, count_field, count_fault, radius_field}
 use Rattle.spd_codec.specs.Faults.{number_field, level_field, tag_field, unless, StartsKind, StartsStroke, ShapeFault}
-use Rattle.spd_codec.specs.Faults.{SeedFault, StrokeFault}
+use Rattle.spd_codec.specs.Faults.{SeedFault, StrokeFault, run_fault}
 use Rattle.spd_codec.specs.Reading.{◌>>=◌, many_at, run_at, runs_at, disc_at, shape_at, seed_at, stroke_at, short_value}
 use Rattle.spd_codec.specs.Reading.{taken_at, judged, run_value}
-use Rattle.spd_codec.specs.Faults.{run_fault}
-use Rattle.spd_codec.proofs.Steps.{bind_ok, judged_ok, ok_is}
-use Rattle.spd_codec.proofs.Fields.{Reads, reads_field}
-use Rattle.spd_codec.proofs.Sequences.{Behind, SeenBy, reads_behind, reads_seen, reads_as, reads_many}
-use Rattle.spd_codec.proofs.RunLists.{unless_none, unless_from, AreBehind, run_good, good_run, in_order}
+use Rattle.spd_codec.proofs.{Steps.bind_ok, Steps.judged_ok, Steps.ok_is, Fields.Reads, Fields.reads_field}
+use Rattle.spd_codec.proofs.FaultKinds.{count_real}
+use Rattle.spd_codec.proofs.Sequences.{each_there, each_back, Behind, SeenBy, reads_behind, reads_seen, reads_as}
+use Rattle.spd_codec.proofs.Sequences.{reads_many}
+use Rattle.spd_codec.proofs.RunLists.{unless_none, unless_from, IsNextRun, AreBehind, run_good, good_run, in_order}
 use Rattle.spd_codec.proofs.RunLists.{one_behind_another}
-use Rattle.spd_codec.proofs.Values.{short_is, reads_short, reads_tag, reads_level, reads_run, reads_kind}
+use Rattle.spd_codec.proofs.Values.{short_is, tested_is, reads_short, reads_tag, reads_level, reads_run, reads_kind}
+use Rattle.spd_codec.specs.declared.version.Kind.TheVariants as kinds
 
 -- ---- runs
 
 -- a run stands first
 abbrev StartsRun : Option Run → List ℕ → Run → List ℕ → Type 0
 StartsRun before = StartsGood (run_field before)
-
--- runs stand first
-abbrev EachRun : Option Run → List ℕ → List Run → List ℕ → Type 0
-EachRun before = StartsEach (λ run. run) StartsRun before
-
--- what stands there is the text of the runs, each behind the one before it
-pub record RunsThere (before : Option Run) (text : List ℕ) (runs : List Run) (rest : List ℕ) : Type 0 where
-  pub parts : text ≡ flat_map run_text runs ++ rest
-  pub fit : AllByRecursion RunFits runs
-  pub behind : AreBehind before runs
-
--- runs that were read
-pub runs_there : (before : Option Run) (text : List ℕ) (runs : List Run) (rest : List ℕ) → EachRun before text runs rest
-    → RunsThere before text runs rest
-runs_there before text [] rest h = record { parts = h; fit = tt; behind = tt }
-runs_there before text (run ∷ runs) rest h =
-    let others = runs_there (Some run) h.0 runs rest h.2 in
-    let good = run_good before run h.1.1 in
-    record {
-      parts = h.1.0.1 ∙ ap (λ (t : List ℕ). run_text run ++ t) others.parts
-          ∙ sym (append_assoc (run_text run) (flat_map run_text runs) rest);
-      fit = (h.1.0.0, others.fit);
-      behind = (good.0, good.1, others.behind);
-    }
-
--- runs that stand there
-runs_back : (before : Option Run) (runs : List Run) (rest : List ℕ) → AllByRecursion RunFits runs
-    → AreBehind before runs
-    → EachRun before (flat_map run_text runs ++ rest) runs rest
-runs_back before [] rest fit behind = refl
-runs_back before (run ∷ runs) rest fit behind = (
-  flat_map run_text runs ++ rest,
-  ((fit.0, append_assoc (run_text run) (flat_map run_text runs) rest), good_run before run behind.0 behind.1),
-  runs_back (Some run) runs rest fit.1 behind.2,
-)
 
 -- ---- shapes
 
@@ -116,13 +77,14 @@ shape_of_runs : (text : List ℕ) (shape : Shape) (rest : List ℕ)
 shape_of_runs text shape rest h =
     let n = h.0 in
     let runs = h.3.0 in
-    let there = runs_there None h.1 runs rest h.3.1.1 in
+    let there = each_there (λ (run : Run). run) StartsRun run_text RunFits IsNextRun
+    (λ before t run after g. (g.0.1, g.0.0, run_good before run g.1)) None h.1 runs rest h.3.1.1 in
     let count = count_good n h.2.1 in
     let len : length runs ≡ n = h.3.1.0 in
     let few : length runs ≤ max_runs = omega (arith, len, count.1) in
     let some : 0 < length runs = omega (arith, len, count.0) in
     subst (λ (s : Shape). StartsShape kinds.Runs text s rest) h.3.2 (record {
-      canonical = (some, few, in_order None runs there.behind);
+      canonical = (some, few, in_order None runs there.follow);
       fits = there.fit;
       kind = refl;
       parts = h.2.0.1 ∙ ap (λ (m : ℕ). short m ++ h.1) (sym len)
@@ -134,21 +96,25 @@ shape_of_runs text shape rest h =
 runs_of_shape : (text : List ℕ) (shape : Shape) (rest : List ℕ) → StartsShape kinds.Runs text shape rest
     → Behind (StartsGood count_field) (λ n. SeenBy Runs (StartsMany (λ run. run) StartsRun n None)) text shape rest
 runs_of_shape text (Runs runs) rest h =
-    let few : length runs ≤ max_runs = h.canonical.1 in (
+    let few : length runs ≤ max_runs = h.canonical.1 in
+    let each = each_back (λ (run : Run). run) StartsRun run_text RunFits IsNextRun
+    (λ before t run after is fits next. ((fits, is), good_run before run next.0 next.1)) None runs rest h.fits
+    (one_behind_another runs h.canonical.2) in (
       length runs,
       flat_map run_text runs ++ rest,
       (
         (omega (arith, few), h.parts ∙ append_assoc (short (length runs)) (flat_map run_text runs) rest),
         good_count (length runs) h.canonical.0 few,
       ),
-      (runs, (refl, runs_back None runs rest h.fits (one_behind_another runs h.canonical.2)), refl),
+      (runs, (refl, each), refl),
     )
 runs_of_shape text (Disc x y r) rest h = absurd (let e : kinds.Disc ≡ kinds.Runs = h.kind in cc)
 
 -- the reader of runs
 reads_runs : Reads runs_at (StartsShape kinds.Runs) (ShapeFault kinds.Runs)
 unfolding runs_at
-reads_runs = reads_as (reads_behind (reads_field count_field short_value (short_is count_fault))
+reads_runs = reads_as (reads_behind (reads_field count_field short_value
+    (short_is count_fault (λ n e h. count_real (n == 0) (nat_le n max_runs) e h)))
     (λ n. reads_seen Runs (reads_many (λ run. run) reads_run n None))) shape_of_runs runs_of_shape
 
 -- x, y and radius stand first
@@ -192,7 +158,8 @@ disc_of_shape text (Disc x y r) rest h =
 reads_disc : Reads disc_at (StartsShape kinds.Disc) (ShapeFault kinds.Disc)
 unfolding disc_at
 reads_disc = reads_as (reads_behind reads_short (λ x. reads_behind reads_short
-    (λ y. reads_seen (λ r. Disc x y r) (reads_field radius_field short_value (short_is _))))) shape_of_disc
+    (λ y. reads_seen (λ r. Disc x y r) (reads_field radius_field short_value
+    (tested_is _ (BadStroke BadRadius) refl))))) shape_of_disc
     disc_of_shape
 
 -- the reader of a shape
@@ -355,4 +322,4 @@ behind_read (suc n) before text x e =
     let others = behind_read n (Some a.0.0) a.0.1 b.0 b.1 in
     let made : List Run × List ℕ = (a.0.0 ∷ b.0.0, b.0.1) in
     subst (λ (y : List Run × List ℕ). (length y.0 ≡ suc n) × AreBehind before y.0) (ok_is made x b.2)
-    (ap suc others.0, (good.0, good.1, others.1))
+    (ap suc others.0, (good, others.1))

@@ -4,21 +4,18 @@ use Rattle.std.specs.Prelude.{◌≡◌, ◌⊎◌, ℕ, zero, suc, ◌+◌, ◌
 use Rattle.std.specs.Prelude.{List, [], ◌∷◌, ◌++◌, length, Option, Some, None, if◌then◌else◌}
 use Rattle.std.specs.List.{AllByRecursion}
 use Rattle.grid_core.specs.declared.conn.Conn.{Conn}
-use Rattle.stroke_core.specs.declared.run.Run.{Run}
-use Rattle.stroke_core.specs.declared.error.StrokeError.TheVariants.{BadLevel, NoRuns, TooManyRuns, RunOrder}
-use Rattle.stroke_core.specs.declared.error.StrokeError.TheVariants.{BadRadius, BadKind}
-use Rattle.stroke_core.specs.Seed.{Seed, max_runs, max_radius}
+use Rattle.stroke_core.specs.{declared.run.Run.Run, Seed.Seed, Seed.max_runs, Seed.max_radius}
+use Rattle.stroke_core.specs.declared.error.StrokeError.TheVariants.{BadLevel, NoRuns, TooManyRuns, RunOrder, BadRadius}
+use Rattle.stroke_core.specs.declared.error.StrokeError.TheVariants.{BadKind}
 use Rattle.stroke_lattice.specs.Pieces.{strokes_of, tombstones_of}
-use Rattle.spd_codec.specs.declared.error.SpdError.{SpdError}
+use Rattle.spd_codec.specs.{declared.error.SpdError.SpdError, declared.frame.Frame.Frame, declared.version.Kind.Kind}
+use Rattle.spd_codec.specs.{declared.version.Version.Version}
 use Rattle.spd_codec.specs.declared.error.SpdError.TheVariants.{BadMagic, BadConn, Truncated, TagOrder, BadStroke}
 use Rattle.spd_codec.specs.declared.error.SpdError.TheVariants.{TooLong, Trailing}
-use Rattle.spd_codec.specs.declared.frame.Frame.{Frame}
-use Rattle.spd_codec.specs.declared.version.Kind.{Kind}
-use Rattle.spd_codec.specs.declared.version.Kind.TheVariants as kinds
-use Rattle.spd_codec.specs.declared.version.Version.{Version}
 use Rattle.spd_codec.specs.declared.version.Version.TheVariants.{First, Second}
 use Rattle.spd_codec.specs.Spelling.{magic, conn_byte, short, tag_text, run_text, RunFits, StrokeFits, stroke_text}
 use Rattle.spd_codec.specs.Spelling.{frame_text, max_bytes}
+use Rattle.spd_codec.specs.declared.version.Kind.TheVariants as kinds
 
 -- ---- how fields follow one another
 

@@ -1,7 +1,6 @@
 -- What a hasher takes in. Private functions have it in their contracts.
 use Rattle.std.specs.Prelude.{ℕ, List, ◌++◌}
-use Rattle.sha2.specs.Hashers.{Holds256}
-use Rattle.sha2.specs.declared.Sha256.{Sha256}
+use Rattle.sha2.specs.{Hashers.Holds256, declared.Sha256.Sha256}
 
 -- the new hasher holds the message of the old one, with this text behind it
 abbrev pub HoldsMore : Sha256 → Sha256 → List ℕ → Type 0

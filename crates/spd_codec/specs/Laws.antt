@@ -1,18 +1,15 @@
 -- The laws of frames and of state files, as statements. Public functions have them as their contracts.
-use Rattle.std.specs.Prelude.{◌≡◌, ◌⊎◌, ℕ, ◌+◌, ◌*◌, ◌<◌, List, [], ◌++◌, length}
-use Rattle.std.specs.List.{AllByRecursion, sum_by}
+use Rattle.std.specs.Prelude.{◌≡◌, ◌⊎◌, ℕ, ◌+◌, ◌*◌, ◌<◌, List, [], ◌++◌, length, sum_by}
+use Rattle.std.specs.List.{AllByRecursion}
 use Rattle.grid_core.specs.declared.conn.Conn.{Conn}
 use Rattle.stroke_core.specs.Seed.{byte_len_of}
 use Rattle.stroke_lattice.specs.State.{State}
 use Rattle.stroke_lattice.specs.declared.split.TheConstants.{HEAD_BYTES, TOMBSTONE_BYTES}
 use Rattle.stroke_lattice.specs.Pieces.{frame_length, strokes_of, tombstones_of}
-use Rattle.spd_codec.specs.declared.error.SpdError.{SpdError}
+use Rattle.spd_codec.specs.{declared.error.SpdError.SpdError, declared.frame.Frame.Frame}
+use Rattle.spd_codec.specs.{declared.version.Version.Version, declared.version.Version.TheVariants.Second}
+use Rattle.spd_codec.specs.{Spelling.SpellsFrame, Spelling.IsWritable, Spelling.frame_text, StateFile.SpellsFile}
 use Rattle.spd_codec.specs.declared.error.SpdError.TheVariants as errors
-use Rattle.spd_codec.specs.declared.frame.Frame.{Frame}
-use Rattle.spd_codec.specs.declared.version.Version.{Version}
-use Rattle.spd_codec.specs.declared.version.Version.TheVariants.{Second}
-use Rattle.spd_codec.specs.Spelling.{SpellsFrame, IsWritable, frame_text}
-use Rattle.spd_codec.specs.StateFile.{SpellsFile}
 
 -- bytes have at most one fault, the first, and none where they spell something. Want of memory is no fault of theirs
 pub record HaveOneFault {X : Type 0} (Spelled : List ℕ → X → Type 0) (IsFaultOf : List ℕ → SpdError → Type 0) : Type 0

@@ -1,10 +1,9 @@
 -- What the functions that write a frame put behind the bytes. Private functions have it in their contracts.
-use Rattle.std.specs.Prelude.{◌≡◌, ℕ, ◌<◌, ◌^◌, List, ◌++◌}
-use Rattle.std.specs.List.{flat_map, AllByRecursion}
+use Rattle.std.specs.Prelude.{◌≡◌, ℕ, ◌<◌, ◌^◌, List, ◌++◌, flat_map}
+use Rattle.std.specs.List.{AllByRecursion}
 use Rattle.grid_core.specs.declared.conn.Conn.{Conn}
 use Rattle.stroke_lattice.specs.State.{State}
-use Rattle.spd_codec.specs.declared.version.Version.TheVariants.{Second}
-use Rattle.spd_codec.specs.Spelling.{frame_text, Spells}
+use Rattle.spd_codec.specs.{declared.version.Version.TheVariants.Second, Spelling.frame_text, Spelling.Spells}
 
 -- the tag has 16 bytes
 abbrev pub TagFits : ℕ → Type 0

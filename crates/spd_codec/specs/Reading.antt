@@ -1,25 +1,21 @@
 -- Reading from left to right, with the first fault that is met. The contracts of private functions alone
 -- say this; public ones say what bytes spell (Spelling) and their first fault (Faults).
-use Rattle.std.specs.Prelude.{◌≡◌, ◌⊎◌, ℕ, zero, suc, ◌==◌, nat_lt, List, [], ◌∷◌, length, take, drop}
-use Rattle.std.specs.Prelude.{slice_index, Option, Some, None, Result, Ok, Err, if◌then◌else◌}
+use Rattle.std.specs.Prelude.{◌≡◌, ◌⊎◌, ℕ, zero, suc, ◌==◌, nat_lt, List, [], ◌∷◌, length, take, drop, slice_index}
+use Rattle.std.specs.Prelude.{Option, Some, None, Result, Ok, Err, if◌then◌else◌}
 use Rattle.std.specs.Int.{w16, w128, from_be_bytes}
-use Rattle.std.specs.FinMap as map
-use Rattle.std.specs.FinSet as set
 use Rattle.grid_core.specs.declared.conn.Conn.{Conn}
 use Rattle.grid_core.specs.declared.conn.Conn.TheVariants.{Four, Eight}
-use Rattle.stroke_core.specs.declared.run.Run.{Run}
-use Rattle.stroke_core.specs.Seed.{Seed, Shape, Runs, Disc}
+use Rattle.stroke_core.specs.{declared.run.Run.Run, Seed.Seed, Seed.Shape, Seed.Runs, Seed.Disc}
 use Rattle.stroke_lattice.specs.State.{State, nothing}
-use Rattle.spd_codec.specs.declared.error.SpdError.{SpdError}
-use Rattle.spd_codec.specs.declared.error.SpdError.TheVariants as errors
-use Rattle.spd_codec.specs.declared.frame.Frame.{Frame}
-use Rattle.spd_codec.specs.declared.version.Kind.{Kind}
-use Rattle.spd_codec.specs.declared.version.Kind.TheVariants as kinds
-use Rattle.spd_codec.specs.declared.version.Version.{Version}
+use Rattle.spd_codec.specs.{declared.error.SpdError.SpdError, declared.frame.Frame.Frame, declared.version.Kind.Kind}
+use Rattle.spd_codec.specs.{declared.version.Version.Version, Spelling.max_bytes}
 use Rattle.spd_codec.specs.declared.version.Version.TheVariants.{First, Second}
-use Rattle.spd_codec.specs.Spelling.{max_bytes}
-use Rattle.spd_codec.specs.Faults.{Field, magic_field, version_field, conn_field}
-use Rattle.spd_codec.specs.Faults.{tag_field, kind_field, level_field, count_field, run_field, radius_field}
+use Rattle.spd_codec.specs.Faults.{Field, magic_field, version_field, conn_field, tag_field, kind_field, level_field}
+use Rattle.spd_codec.specs.Faults.{count_field, run_field, radius_field}
+use Rattle.std.specs.FinMap as map
+use Rattle.std.specs.FinSet as set
+use Rattle.spd_codec.specs.declared.error.SpdError.TheVariants as errors
+use Rattle.spd_codec.specs.declared.version.Kind.TheVariants as kinds
 
 infixl 10 ◌>>=◌
 abbrev pub ◌>>=◌ : {A B : Type 0} → Result A SpdError → (A → Result B SpdError) → Result B SpdError

@@ -1,17 +1,13 @@
 -- The bytes of frames: which bytes spell which strokes and tombstones, and for which image. Numbers stand
 -- with their high byte first.
-use Rattle.std.specs.Prelude.{◌≡◌, ℕ, ◌<◌, ◌≤◌, ◌^◌, List, [], ◌∷◌, ◌++◌, length, codes}
-use Rattle.std.specs.Int.{w16, w128, to_be_bytes}
-use Rattle.std.specs.List.{flat_map, AllByRecursion}
+use Rattle.std.specs.Prelude.{◌≡◌, ℕ, ◌<◌, ◌≤◌, ◌^◌, List, [], ◌∷◌, ◌++◌, length, codes, flat_map}
+use Rattle.std.specs.{Int.w16, Int.w128, Int.to_be_bytes, List.AllByRecursion}
 use Rattle.grid_core.specs.declared.conn.Conn.{Conn}
 use Rattle.grid_core.specs.declared.conn.Conn.TheVariants.{Four, Eight}
-use Rattle.stroke_core.specs.declared.run.Run.{Run}
-use Rattle.stroke_core.specs.Seed.{Seed, Shape, Runs, Disc, IsCanonical}
-use Rattle.stroke_lattice.specs.State.{State}
-use Rattle.stroke_lattice.specs.Pieces.{strokes_of, tombstones_of}
-use Rattle.spd_codec.specs.declared.frame.Frame.{Frame}
-use Rattle.spd_codec.specs.declared.version.Version.{Version}
-use Rattle.spd_codec.specs.declared.writing.TheConstants.{MAX_BYTES}
+use Rattle.stroke_core.specs.{declared.run.Run.Run, Seed.Seed, Seed.Shape, Seed.Runs, Seed.Disc, Seed.IsCanonical}
+use Rattle.stroke_lattice.specs.{State.State, Pieces.strokes_of, Pieces.tombstones_of}
+use Rattle.spd_codec.specs.{declared.frame.Frame.Frame, declared.version.Version.Version}
+use Rattle.spd_codec.specs.{declared.writing.TheConstants.MAX_BYTES}
 use Rattle.spd_codec.specs.declared.version.Version.TheVariants.{First, Second}
 
 -- ---- fields

@@ -1,14 +1,11 @@
 -- State files: frames one after another, each behind its length in two bytes.
-use Rattle.std.specs.Prelude.{◌≡◌, ℕ, ◌<◌, ◌≤◌, ◌^◌, List, [], ◌∷◌, ◌++◌, map, length, take}
-use Rattle.std.specs.List.{flat_map}
+use Rattle.std.specs.Prelude.{◌≡◌, ℕ, ◌<◌, ◌≤◌, ◌^◌, List, [], ◌∷◌, ◌++◌, map, length, take, flat_map}
 use Rattle.grid_core.specs.declared.conn.Conn.{Conn}
 use Rattle.stroke_lattice.specs.State.{State}
-use Rattle.spd_codec.specs.declared.error.SpdError.{SpdError}
-use Rattle.spd_codec.specs.declared.error.SpdError.TheVariants as errors
-use Rattle.spd_codec.specs.declared.frame.Frame.{Frame}
-use Rattle.spd_codec.specs.declared.version.Version.TheVariants.{Second}
+use Rattle.spd_codec.specs.{declared.error.SpdError.SpdError, declared.frame.Frame.Frame}
+use Rattle.spd_codec.specs.{declared.version.Version.TheVariants.Second, Faults.IsFault}
 use Rattle.spd_codec.specs.Spelling.{short, frame_text, max_bytes, Spells}
-use Rattle.spd_codec.specs.Faults.{IsFault}
+use Rattle.spd_codec.specs.declared.error.SpdError.TheVariants as errors
 
 -- the bytes of a frame behind their length
 abbrev pub with_length : List ℕ → List ℕ

@@ -1,14 +1,11 @@
 -- The rows of spans never fall.
-use Rattle.std.proofs.Common.{◌≡◌, ℕ, zero, suc, ◌+◌, ◌-◌, ◌<◌, ◌≤◌, inl, inr, min, true, false, List, [], ◌∷◌}
-use Rattle.std.proofs.Common.{length, get_or, ap, refl, arith, ltb}
+use Rattle.std.proofs.Common.{◌≡◌, ℕ, zero, suc, ◌+◌, ◌-◌, ◌<◌, ◌≤◌, inl, inr, min, true, false, List, [], ◌∷◌, length}
+use Rattle.std.proofs.Common.{get_or, ap, refl, arith, ltb}
+use Rattle.std.proofs.{lemmas.Bool.Decides.nat_tests, lemmas.List.get_or-map}
+use Rattle.std.proofs.{lemmas.List.FromFn.get_or-map-range_with_len}
 use Rattle.std.specs.List.Sorted.{IsPartitionPoint, IsNonDecreasingBy}
-use Rattle.std.proofs.lemmas.Bool.Decides.{nat_tests}
-use Rattle.std.proofs.lemmas.List.{get_or-map}
-use Rattle.std.proofs.lemmas.List.FromFn.{get_or-map-range_with_len}
-use Rattle.stroke_core.specs.declared.run.Run.{Run}
-use Rattle.stroke_core.specs.declared.span.Span.{Span}
-use Rattle.stroke_core.specs.Seed.{Runs, Disc, AreInOrder, AreOrdered}
-use Rattle.stroke_core.specs.Spans.{span_of_run, span_of_row, spans_of_shape}
+use Rattle.stroke_core.specs.{declared.run.Run.Run, declared.span.Span.Span, Seed.Runs, Seed.Disc, Seed.AreInOrder}
+use Rattle.stroke_core.specs.{Seed.AreOrdered, Spans.span_of_run, Spans.span_of_row, Spans.spans_of_shape}
 use Rattle.stroke_core.proofs.SpanLemmas.{run_count, row_count}
 
 in_order_rows : (a b : Run) → AreInOrder a b → a.y ≤ b.y

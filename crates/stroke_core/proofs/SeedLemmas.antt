@@ -1,15 +1,12 @@
 -- The tests of equality of runs, kinds and seeds, and the distance from the centre of a disc.
-use Rattle.std.proofs.Common.{ℕ, ◌+◌, ◌*◌, ◌<◌, ◌⊎◌, inl, inr, nat_le, ◌≡◌, ◌&&◌, ◌==◌, IsTrue, List}
-use Rattle.std.proofs.Common.{refl, Bool, true, false, true≢false, arith, ap, sym, ◌∙◌}
-use Rattle.std.proofs.lemmas.Bool.Decides.{nat_tests}
-use Rattle.std.proofs.lemmas.Bool.{lt-leb}
-use Rattle.std.proofs.lemmas.Nat.{mul-lt}
+use Rattle.std.proofs.Common.{ℕ, ◌+◌, ◌*◌, ◌<◌, ◌⊎◌, inl, inr, nat_le, ◌≡◌, ◌&&◌, ◌==◌, IsTrue, List, refl, Bool, true}
+use Rattle.std.proofs.Common.{false, true≢false, arith, ap, sym, ◌∙◌}
+use Rattle.std.proofs.{lemmas.Bool.Decides.nat_tests, lemmas.Bool.lt-leb, lemmas.Nat.mul-lt}
 use lib.Pointwise.{pointwise, pointwise_decides}
-use Rattle.stroke_core.specs.declared.kind.Kind.{Kind}
-use Rattle.stroke_core.specs.declared.kind.Kind.TheVariants as kinds
-use Rattle.stroke_core.specs.contracts.kind.KindPartialEq.TheImpl.{eq-value}
-use Rattle.stroke_core.specs.declared.run.Run.{Run}
+use Rattle.stroke_core.specs.{declared.kind.Kind.Kind, contracts.kind.KindPartialEq.TheImpl.eq-value}
+use Rattle.stroke_core.specs.{declared.run.Run.Run}
 use Rattle.stroke_core.specs.Seed.{Shape, Runs, Disc, Seed, kind_of, runs_of}
+use Rattle.stroke_core.specs.declared.kind.Kind.TheVariants as kinds
 
 -- what the derived `==` of runs computes
 abbrev pub is_same_run : Run → Run → Bool

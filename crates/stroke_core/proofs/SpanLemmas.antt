@@ -1,19 +1,13 @@
 -- A seed covers the pixels of its spans.
 use Rattle.std.proofs.Common.{◌≡◌, ℕ, zero, suc, ◌+◌, ◌-◌, ◌*◌, ◌<◌, ◌≤◌, min, Bool, true, false, List, [], ◌∷◌, map}
-use Rattle.std.proofs.Common.{length, get_or, Some, refl, sym, ap, ◌∙◌, subst, arith, inl, inr}
-use Rattle.std.specs.Prelude.{slice_get, ◌||◌, ◌&&◌, ◌==◌, nat_le, nat_lt, if◌then◌else◌}
+use Rattle.std.proofs.Common.{length, get_or, Some, refl, sym, ap, ◌∙◌, subst, arith, inl, inr, slice_get, ◌||◌, ◌&&◌}
+use Rattle.std.proofs.Common.{◌==◌, nat_le, nat_lt, if◌then◌else◌}
+use Rattle.std.proofs.{Math.Nat.mul-le-mul, lemmas.Bool.cases_lt, lemmas.Bool.cases_eq, lemmas.Bool.Decides.nat_tests}
+use Rattle.std.proofs.{lemmas.List.length-map, lemmas.List.FromFn.length-map-range_with_len}
+use Rattle.std.proofs.{lemmas.List.FromFn.get_or-map-range_with_len, lemmas.Option.slice_get-get_or}
 use Rattle.std.specs.List.{list_any, range_with_len}
-use Rattle.std.proofs.Math.Nat.{mul-le-mul}
-use Rattle.std.proofs.lemmas.Bool.{cases_lt, cases_eq}
-use Rattle.std.proofs.lemmas.Bool.Decides.{nat_tests}
-use Rattle.std.proofs.lemmas.List.{length-map}
-use Rattle.std.proofs.lemmas.List.FromFn.{length-map-range_with_len, get_or-map-range_with_len}
-use Rattle.std.proofs.lemmas.Option.{slice_get-map, slice_get_read, slice_get-get_or}
-use Rattle.std.specs.Option.{option_map}
-use Rattle.grid_core.specs.declared.pixel.Pixel.{Pixel}
-use Rattle.grid_core.specs.Neighbours.{apart}
-use Rattle.stroke_core.specs.declared.run.Run.{Run}
-use Rattle.stroke_core.specs.declared.span.Span.{Span}
+use Rattle.grid_core.specs.{declared.pixel.Pixel.Pixel, Neighbours.apart}
+use Rattle.stroke_core.specs.{declared.run.Run.Run, declared.span.Span.Span}
 use Rattle.stroke_core.specs.Seed.{Shape, Runs, Disc, Seed, AreOrdered, run_covers, disc_covers, shape_covers, covers}
 use Rattle.stroke_core.specs.Seed.{ShapeFits}
 use Rattle.stroke_core.specs.Spans.{span_has, span_of_run, span_of_row, span_round, reach_up_to, half_width}
@@ -176,12 +170,6 @@ run_count runs = length-map runs span_of_run
 
 pub row_count : (x y r : ℕ) → length (spans_of_shape (Disc x y r)) ≡ min y r + r + 1
 row_count x y r = length-map-range_with_len (span_of_row x y r) (y - r) (min y r + r + 1)
-
-pub span_of_run_at : (runs : List Run) (i : ℕ) (run : Run) → i < length runs → run ≡ get_or runs i run
-    → slice_get (spans_of_shape (Runs runs)) i ≡ Some (span_of_run run)
-span_of_run_at runs i run within read =
-    slice_get-map span_of_run runs i
-    ∙ ap (option_map span_of_run) (slice_get_read runs (length runs) i run refl within read)
 
 pub span_of_row_at : (x y r i row : ℕ) → i < min y r + r + 1 → row ≡ y - r + i
     → slice_get (spans_of_shape (Disc x y r)) i ≡ Some (span_of_row x y r row)

@@ -1,12 +1,9 @@
 -- The 16 bytes of a number of 128 bits, and the texts that spell them.
-use Rattle.std.proofs.Common.{◌≡◌, ℕ, zero, suc, ◌<◌, ◌^◌, length, Option, Some, None, All, get_or}
-use Rattle.std.proofs.Common.{refl, sym, ap, ◌∙◌, inl, arith}
+use Rattle.std.proofs.Common.{◌≡◌, ℕ, zero, suc, ◌<◌, ◌^◌, length, Option, Some, None, All, get_or, refl, sym, ap, ◌∙◌}
+use Rattle.std.proofs.Common.{inl, arith, option_map}
 use Rattle.std.specs.Int.{w128, byte_at, bytes_high_first, from_be_bytes, to_be_bytes}
-use Rattle.std.specs.Option.{option_map}
 use Rattle.uuid.specs.Text.{lower, parsed}
-use Rattle.uuid.proofs.OrderLemmas.{from_be_bytes-to_be_bytes_16}
-use Rattle.uuid.proofs.RoundTrips.{parses_hyphenated}
-use Rattle.uuid.proofs.TextLemmas.{all_fit}
+use Rattle.uuid.proofs.{OrderLemmas.from_be_bytes-to_be_bytes_16, RoundTrips.parses_hyphenated, TextLemmas.all_fit}
 use Rattle.stroke_core.specs.Tag.{tag_of, text_of}
 
 -- what is not there has no image

@@ -1,6 +1,5 @@
 -- The shape that a stroke holds, as a shape of the definitions.
-use Rattle.stroke_core.specs.Seed.{Shape, Runs, Disc}
-use Rattle.stroke_core.specs.declared.shape.Shape.{Shape as Held}
+use Rattle.stroke_core.specs.{Seed.Shape, Seed.Runs, Seed.Disc, declared.shape.Shape.Shape as Held}
 use Rattle.stroke_core.specs.declared.shape.Shape.TheVariants as held
 
 -- the runs in the vector, or the disc

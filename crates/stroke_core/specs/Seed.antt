@@ -1,14 +1,10 @@
 -- A seed: a level, painted on pixels.
 use Rattle.std.specs.Prelude.{◌≡◌, ℕ, ◌+◌, ◌*◌, ◌<◌, ◌≤◌, ◌⊎◌, ◌==◌, ◌&&◌, nat_le, Bool, List, [], ◌∷◌, length}
 use Rattle.std.specs.List.{list_any, AllByRecursion}
-use Rattle.grid_core.specs.declared.pixel.Pixel.{Pixel}
-use Rattle.grid_core.specs.Neighbours.{apart}
-use Rattle.grid_core.specs.Raster.{max_level}
-use Rattle.stroke_core.specs.declared.error.StrokeError.{StrokeError}
+use Rattle.grid_core.specs.{declared.pixel.Pixel.Pixel, Neighbours.apart, Raster.max_level}
+use Rattle.stroke_core.specs.{declared.error.StrokeError.StrokeError, declared.kind.Kind.Kind, declared.run.Run.Run}
 use Rattle.stroke_core.specs.declared.error.StrokeError.TheVariants as errors
-use Rattle.stroke_core.specs.declared.kind.Kind.{Kind}
 use Rattle.stroke_core.specs.declared.kind.Kind.TheVariants as kinds
-use Rattle.stroke_core.specs.declared.run.Run.{Run}
 
 -- the greatest number of runs; the least is 1
 abbrev pub max_runs : ℕ

@@ -1,12 +1,9 @@
 -- The pixels of a seed as spans, row by row.
-use Rattle.std.specs.Prelude.{ℕ, zero, suc, ◌+◌, ◌-◌, ◌*◌, ◌==◌, ◌&&◌, nat_le, nat_lt, min, Bool, List, map}
-use Rattle.std.specs.Prelude.{◌<◌, ◌≤◌, if◌then◌else◌}
-use Rattle.std.specs.List.{range_with_len}
-use Rattle.std.specs.List.Sorted.{IsPartitionPoint}
-use Rattle.grid_core.specs.declared.pixel.Pixel.{Pixel}
-use Rattle.grid_core.specs.Neighbours.{apart}
-use Rattle.stroke_core.specs.declared.run.Run.{Run}
-use Rattle.stroke_core.specs.declared.span.Span.{Span}
+use Rattle.std.specs.Prelude.{ℕ, zero, suc, ◌+◌, ◌-◌, ◌*◌, ◌==◌, ◌&&◌, nat_le, nat_lt, min, Bool, List, map, ◌<◌, ◌≤◌}
+use Rattle.std.specs.Prelude.{if◌then◌else◌}
+use Rattle.std.specs.{List.range_with_len, List.Sorted.IsPartitionPoint}
+use Rattle.grid_core.specs.{declared.pixel.Pixel.Pixel, Neighbours.apart}
+use Rattle.stroke_core.specs.{declared.run.Run.Run, declared.span.Span.Span}
 use Rattle.stroke_core.specs.Seed.{Shape, Runs, Disc, Seed}
 
 -- whether the span has the pixel

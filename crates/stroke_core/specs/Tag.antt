@@ -1,6 +1,5 @@
 -- The number that a text of a tag stands for, and the text of a number.
-use Rattle.std.specs.Prelude.{ℕ, List, Option}
-use Rattle.std.specs.Option.{option_map}
+use Rattle.std.specs.Prelude.{ℕ, List, Option, option_map}
 use Rattle.std.specs.Int.{w128, from_be_bytes, to_be_bytes}
 use Rattle.uuid.specs.Text.{lower, hyphenated_text, parsed}
 

@@ -1,12 +1,10 @@
 -- An item is added to pieces that are being filled.
-use Rattle.std.proofs.Common.{◌≡◌, ℕ, ◌+◌, ◌<◌, ◌≤◌, Bool, true, false, List, [], ◌∷◌, ◌++◌, length, refl, sym}
-use Rattle.std.proofs.Common.{ap, subst, ◌∙◌, arith, append_assoc}
-use Rattle.std.specs.Prelude.{nat_le, nat_lt, if◌then◌else◌}
-use Rattle.std.specs.List.{sum_by}
-use Rattle.std.proofs.lemmas.Bool.Decides.{nat_tests}
-use Rattle.std.proofs.lemmas.List.Sums.{sum_by-append}
-use Rattle.stroke_core.specs.Seed.{Shape, Runs, Disc, Seed, IsCanonicalShape, IsCanonical, byte_len_of}
-use Rattle.stroke_lattice.specs.declared.split.TheConstants.{HEAD_BYTES, MIN_PIECE_BYTES}
+use Rattle.std.proofs.Common.{◌≡◌, ℕ, ◌+◌, ◌<◌, ◌≤◌, Bool, true, false, List, [], ◌∷◌, ◌++◌, length, refl, sym, ap}
+use Rattle.std.proofs.Common.{subst, ◌∙◌, arith, append_assoc, nat_le, nat_lt, if◌then◌else◌, sum_by}
+use Rattle.std.proofs.lemmas.{List.Sums.sum_by-append}
+use Rattle.std.proofs.lemmas.Bool.{cond-true, cond-false, lt-ltb, le-ltb, leb-true, leb-false}
+use Rattle.stroke_core.specs.Seed.{Shape, Runs, Disc, byte_len_of}
+use Rattle.stroke_lattice.specs.declared.split.TheConstants.{HEAD_BYTES}
 use Rattle.stroke_lattice.specs.State.{State, nothing}
 use Rattle.stroke_lattice.specs.Pieces.{Item, Placed, Withdrawn, items_of, item_length, frame_length, with_item, fits}
 use Rattle.stroke_lattice.specs.Pieces.{if_any, filled, AllFit}
@@ -39,60 +37,25 @@ no_item (item ∷ items) none =
     let some : 0 < sum_by item_length (item ∷ items) = bytes_of_items (item ∷ items) (omega arith) in
     absurd (omega arith)
 
-alone : (b : Bool) (piece : State) → b ≡ true → (if b then piece ∷ [] else []) ≡ piece ∷ []
-alone true piece e = refl
-alone false piece e = absurd cc
-
-none : (b : Bool) (piece : State) → b ≡ false → (if b then piece ∷ [] else []) ≡ []
-none true piece e = absurd cc
-none false piece e = refl
-
-is_below : (a b : ℕ) → a < b → nat_lt a b ≡ true
-is_below a b h = grind (arith, nat_tests)
-
-is_not_below : (a b : ℕ) → b ≤ a → nat_lt a b ≡ false
-is_not_below a b h = grind (arith, nat_tests)
-
-pub is_at_most : (a b : ℕ) → a ≤ b → nat_le a b ≡ true
-is_at_most a b h = grind (arith, nat_tests)
-
-pub is_above : (a b : ℕ) → b < a → nat_le a b ≡ false
-is_above a b h = grind (arith, nat_tests)
-
-at_most : (a b : ℕ) → nat_le a b ≡ true → a ≤ b
-at_most a b h = grind (arith, nat_tests)
-
-pub above : (a b : ℕ) → nat_le a b ≡ false → b < a
-above a b h = grind (arith, nat_tests)
-
 pub piece_of_some : (item : Item) (items : List Item) (piece : State)
     → (if nat_lt 0 (length (item ∷ items)) then piece ∷ [] else []) ≡ piece ∷ []
 piece_of_some item items piece =
-    alone (nat_lt 0 (length (item ∷ items))) piece (is_below 0 (length (item ∷ items)) (omega arith))
+    cond-true _ (piece ∷ []) [] (lt-ltb 0 (length (item ∷ items)) (omega arith))
 
 -- a piece with a longer frame than the shortest has something in it
 pub piece_with_items : (piece : State) → HEAD_BYTES < frame_length piece → if_any piece ≡ piece ∷ []
-piece_with_items piece longer = alone (nat_lt 0 (length (items_of piece))) piece
-    (is_below 0 (length (items_of piece)) (some_item (items_of piece) (omega arith)))
+piece_with_items piece longer =
+    cond-true _ (piece ∷ []) [] (lt-ltb 0 (length (items_of piece)) (some_item (items_of piece) (omega arith)))
 
 pub piece_without_items : (piece : State) → frame_length piece ≤ HEAD_BYTES → if_any piece ≡ []
-piece_without_items piece short = none (nat_lt 0 (length (items_of piece))) piece
-    (is_not_below 0 (length (items_of piece)) (no_item (items_of piece) (omega arith)))
+piece_without_items piece short =
+    cond-false _ (piece ∷ []) [] (le-ltb 0 (length (items_of piece)) (no_item (items_of piece) (omega arith)))
 
 -- ---- room for an item
 
-most_bytes : (shape : Shape) → IsCanonicalShape shape → byte_len_of shape ≤ 981
-most_bytes (Runs runs) canonical = omega (arith, canonical.1)
-most_bytes (Disc x y r) canonical = omega arith
-
--- a stroke fits into an empty piece
-pub small_enough : (seed : Seed) (max : ℕ) → IsCanonical seed → MIN_PIECE_BYTES ≤ max
-    → HEAD_BYTES + byte_len_of seed.shape ≤ max
-small_enough seed max canonical least = omega (arith, most_bytes seed.shape canonical.shape)
-
 fits_in_either : (max : ℕ) (f : Filling) (bytes : ℕ) (b : Bool) → nat_le (frame_length f.last + bytes) max ≡ b
     → HEAD_BYTES + bytes ≤ max → frame_length (if b then f else turned f).last + bytes ≤ max
-fits_in_either max f bytes true e small = at_most (frame_length f.last + bytes) max e
+fits_in_either max f bytes true e small = leb-true (frame_length f.last + bytes) max e
 fits_in_either max f bytes false e small = omega (arith, frame_length_of_nothing)
 
 -- where room was made there is room
@@ -126,6 +89,17 @@ added_in_room max f g item is before =
     ∙ ap (λ (n : ℕ). if nat_le n max then put_in f item else put_in (turned f) item)
     (sym (frame_length_of_longer f.last item before))
 
+-- ---- the order of the items behind a piece
+
+pub order_alone : (items : List Item) → AreInOrder items → AreInOrder (items_of nothing ++ items)
+order_alone items order = subst (λ (l : List Item). AreInOrder (l ++ items)) (sym items_of_nothing) order
+
+pub order_of_longer : (piece : State) (item : Item) (rest : List Item) → AreInOrder (items_of piece ++ item ∷ rest)
+    → AreInOrder (items_of (with_item piece item) ++ rest)
+order_of_longer piece item rest order = subst (λ (items : List Item). AreInOrder (items ++ rest))
+    (sym (items_of_longer piece item (before_next (items_of piece) item rest order)))
+    (order_joined (items_of piece) item rest order)
+
 -- ---- one item more
 
 pub all_fit_push : (max : ℕ) (pieces : List State) (piece : State) → AllFit max pieces → frame_length piece ≤ max
@@ -137,6 +111,11 @@ pub items_of_one : (item : Item) → items_of (with_item nothing item) ≡ item 
 items_of_one item =
     items_of_longer nothing item (subst (λ (items : List Item). AllBefore items item) (sym items_of_nothing) tt)
     ∙ ap (λ (items : List Item). items ++ item ∷ []) items_of_nothing
+
+pub order_of_one : (piece : State) (item : Item) (rest : List Item) → AreInOrder (items_of piece ++ item ∷ rest)
+    → AreInOrder (items_of (with_item nothing item) ++ rest)
+order_of_one piece item rest order = subst (λ (items : List Item). AreInOrder (items ++ rest)) (sym (items_of_one item))
+    (order_behind (items_of piece) (item ∷ rest) order)
 
 pub frame_length_of_one : (item : Item) → frame_length (with_item nothing item) ≡ HEAD_BYTES + item_length item
 frame_length_of_one item =
@@ -151,14 +130,12 @@ next_item max s f item rest true e now small = record {
   whole = ap (λ (b : Bool). f.full ++ (if b then filled max (with_item f.last item) rest
       else if_any f.last ++ filled max (with_item nothing item) rest)) (sym e) ∙ now.whole;
   full_fit = now.full_fit;
-  last_fits = at_most (frame_length (with_item f.last item)) max e;
-  order = subst (λ (items : List Item). AreInOrder (items ++ rest))
-      (sym (items_of_longer f.last item (before_next (items_of f.last) item rest now.order)))
-      (order_joined (items_of f.last) item rest now.order);
+  last_fits = leb-true (frame_length (with_item f.last item)) max e;
+  order = order_of_longer f.last item rest now.order;
 }
 next_item max s f item rest false e now small =
     let before = before_next (items_of f.last) item rest now.order in
-    let longer : max < frame_length (with_item f.last item) = above (frame_length (with_item f.last item)) max e in
+    let longer : max < frame_length (with_item f.last item) = leb-false (frame_length (with_item f.last item)) max e in
     let some : if_any f.last ≡ f.last ∷ [] = piece_with_items f.last
     (omega (arith, frame_length_of_longer f.last item before)) in
     let one : frame_length (with_item nothing item) ≡ HEAD_BYTES + item_length item = frame_length_of_one item in
@@ -169,8 +146,7 @@ next_item max s f item rest false e now small =
           else if_any f.last ++ filled max (with_item nothing item) rest)) (sym e) ∙ now.whole;
       full_fit = all_fit_push max f.full f.last now.full_fit now.last_fits;
       last_fits = omega arith;
-      order = subst (λ (items : List Item). AreInOrder (items ++ rest)) (sym (items_of_one item))
-          (order_behind (items_of f.last) (item ∷ rest) now.order);
+      order = order_of_one f.last item rest now.order;
     }
 
 pub filling_after : (max : ℕ) (s : State) (f g : Filling) (item : Item) (rest : List Item) → g ≡ added max f item
@@ -186,5 +162,5 @@ filling_begins max s f is least = subst (λ (g : Filling). IsFilling max s g (it
   whole = refl;
   full_fit = tt;
   last_fits = omega (arith, frame_length_of_nothing);
-  order = subst (λ (items : List Item). AreInOrder (items ++ items_of s)) (sym items_of_nothing) (items_in_order s);
+  order = order_alone (items_of s) (items_in_order s);
 })

@@ -22,8 +22,7 @@ least_clash s delta tag seed before left is walk other =
         seed = other.0;
         other = seed;
         in_first = other.1;
-        in_second = stroke_here (HasNoOther s) delta
-            (tag, seed) left at;
+        in_second = stroke_here (HasNoOther s) delta (tag, seed) left at;
         differ = other.2;
       },
       λ t clash. stroke_least (HasNoOther s) delta (tag, seed) left at t clash.other clash.in_second

@@ -1,9 +1,7 @@
 -- Two seeds are equal or not.
-use Rattle.std.proofs.Common.{◌≡◌, ℕ, ap, ◌⊎◌, inl, inr}
-use Rattle.std.proofs.lemmas.Bool.{cases_eq}
+use Rattle.std.proofs.{Common.◌≡◌, Common.ℕ, Common.ap, Common.◌⊎◌, Common.inl, Common.inr, lemmas.Bool.cases_eq}
 use base.Stored.{Gv, gnil, gnum, gcons, Coded}
-use Rattle.stroke_core.specs.Seed.{Seed}
-use Rattle.stroke_core.specs.contracts.stroke.Stroke.{the_row}
+use Rattle.stroke_core.specs.{Seed.Seed, contracts.stroke.Stroke.the_row}
 
 abbrev head : Gv → Gv
 head gnil = gnil
@@ -31,8 +29,7 @@ codes_decide gnil gnil = inl (λ i. gnil)
 codes_decide gnil (gnum n) = inr (λ e. cc)
 codes_decide gnil (gcons a b) = inr (λ e. cc)
 codes_decide (gnum m) gnil = inr (λ e. cc)
-codes_decide (gnum m) (gnum n) = elim
-    (cases_eq m n) [ inl e ↦ inl (ap gnum e) | inr ne ↦ inr (λ e. ne (ap number e)) ]
+codes_decide (gnum m) (gnum n) = elim (cases_eq m n) [ inl e ↦ inl (ap gnum e) | inr ne ↦ inr (λ e. ne (ap number e)) ]
 codes_decide (gnum m) (gcons a b) = inr (λ e. cc)
 codes_decide (gcons a b) gnil = inr (λ e. cc)
 codes_decide (gcons a b) (gnum n) = inr (λ e. cc)

@@ -1,25 +1,21 @@
 -- A state takes in another, entry by entry, and may take it all out again.
-use Rattle.std.proofs.Common.{◌≡◌, ℕ, ◌+◌, ◌<◌, Bool, true, false, not, ◌&&◌, cond, List, [], ◌∷◌, ◌++◌}
-use Rattle.std.proofs.Common.{length, take, get_or, Option, Some, None, refl, sym, ap, subst, ◌∙◌, ◌⊎◌, inl, inr}
-use Rattle.std.proofs.Common.{arith}
-use Rattle.std.specs.Prelude.{Contains, IsTrue, ◌↔◌, Result, Ok, Err, OnOk}
-use Rattle.std.specs.Ordering.{nat_cmp, eq_by_cmp}
-use Rattle.std.specs.Cmp.{nat_cmp_total}
+use Rattle.std.proofs.Common.{◌≡◌, ℕ, ◌+◌, ◌<◌, Bool, true, false, not, ◌&&◌, cond, List, [], ◌∷◌, ◌++◌, length, take}
+use Rattle.std.proofs.Common.{get_or, Option, Some, None, refl, sym, ap, subst, ◌∙◌, ◌⊎◌, inl, inr, arith, Contains}
+use Rattle.std.proofs.Common.{IsTrue, ◌↔◌, Result, Ok, Err, OnOk, nat_cmp}
+use Rattle.std.proofs.{lemmas.Bool.Decides.nat_tests, lemmas.Bool.cases_eq, lemmas.List.take_more}
+use Rattle.std.proofs.lemmas.List.Elements.{Contains-push, Contains-push_cases, Contains-append_left}
+use Rattle.std.specs.{Ordering.eq_by_cmp, Cmp.nat_cmp_total}
+use Rattle.stroke_core.specs.Seed.{Seed}
+use Rattle.stroke_lattice.specs.{State.State, State.HasStroke, State.HasSomeStroke, State.HasTombstone, State.IsBelow}
+use Rattle.stroke_lattice.specs.{State.IsJoin, State.AreCompatible, State.nothing, Change.IsChange}
+use Rattle.stroke_lattice.specs.Growth.{IsBetween, HasTagsOf, HasTombstonesOf, IsWithoutStrokes, IsWithoutTombstones}
+use Rattle.stroke_lattice.specs.Growth.{IsNewStroke, IsNewTombstone, IsBirth, IsDeath, AreTags}
+use Rattle.grid_core.proofs.Common.{either, or_left, or_right}
+use Rattle.stroke_lattice.proofs.Joins.{one_seed, no_seed, agree, same_state, below_itself, below_through, one_join}
+use Rattle.stroke_lattice.proofs.Joins.{compatible_below, union_is_join, join_is_union, nothing_has_no_stroke}
+use Rattle.stroke_lattice.proofs.Joins.{nothing_has_no_tombstone}
 use Rattle.std.specs.FinMap as map
 use Rattle.std.specs.FinSet as set
-use Rattle.std.proofs.lemmas.Bool.Decides.{nat_tests}
-use Rattle.std.proofs.lemmas.Bool.{cases_eq}
-use Rattle.std.proofs.lemmas.List.{take_more}
-use Rattle.std.proofs.lemmas.List.Elements.{Contains-push, Contains-push_cases, Contains-append_left}
-use Rattle.stroke_core.specs.Seed.{Seed}
-use Rattle.stroke_lattice.specs.State.{State, HasStroke, HasSomeStroke, HasTombstone, IsBelow, IsJoin, AreCompatible}
-use Rattle.stroke_lattice.specs.State.{nothing}
-use Rattle.stroke_lattice.specs.Change.{IsChange}
-use Rattle.stroke_lattice.specs.Growth.{IsBetween, HasTagsOf, HasTombstonesOf, IsWithoutStrokes}
-use Rattle.stroke_lattice.specs.Growth.{IsWithoutTombstones, IsNewStroke, IsNewTombstone, IsBirth, IsDeath, AreTags}
-use Rattle.stroke_lattice.proofs.Joins.{either_bit, first_bit, second_bit}
-use Rattle.stroke_lattice.proofs.Joins.{one_seed, no_seed, agree, same_state, below_itself, union_is_join}
-use Rattle.stroke_lattice.proofs.Joins.{join_is_union, nothing_has_no_stroke, nothing_has_no_tombstone}
 
 -- ---- one entry more
 
@@ -67,11 +63,7 @@ pub grows_by_stroke : (old delta s : State) (tag : ℕ) (seed : Seed) → IsBetw
 grows_by_stroke old delta s tag seed between given new =
     let more = above_without s tag seed new in
     record {
-      above = record {
-        strokes = λ t x has. more.strokes t x
-            (between.above.strokes t x has);
-        tombstones = between.above.tombstones;
-      };
+      above = below_through old s (with_stroke s tag seed) between.above more;
       strokes = λ t x has. elim (cases_eq t tag) [
         | inl e ↦
             let at : HasStroke (with_stroke s tag seed) tag x = subst
@@ -88,15 +80,15 @@ same_tag a b e = grind (arith, nat_tests)
 
 pub tombstone_of_new : (s : State) (tag : ℕ) → HasTombstone (with_tombstone s tag) tag
 tombstone_of_new s tag = set.contains-insert nat_cmp_total s.tombstones tag tag
-    ∙ first_bit (eq_by_cmp nat_cmp tag tag) (set.contains s.tombstones tag) (tie tag)
+    ∙ or_left (eq_by_cmp nat_cmp tag tag) (set.contains s.tombstones tag) (tie tag)
 
 pub more_tombstones : (s : State) (tag t : ℕ) → HasTombstone s t → HasTombstone (with_tombstone s tag) t
 more_tombstones s tag t has = set.contains-insert nat_cmp_total s.tombstones tag t
-    ∙ second_bit (eq_by_cmp nat_cmp t tag) (set.contains s.tombstones t) has
+    ∙ or_right (eq_by_cmp nat_cmp t tag) (set.contains s.tombstones t) has
 
 pub only_one_more : (s : State) (tag t : ℕ) → HasTombstone (with_tombstone s tag) t → (t ≡ tag) ⊎ HasTombstone s t
 only_one_more s tag t has = elim
-    (either_bit (eq_by_cmp nat_cmp t tag) (set.contains s.tombstones t)
+    (either (eq_by_cmp nat_cmp t tag) (set.contains s.tombstones t)
     (sym (set.contains-insert nat_cmp_total s.tombstones tag t) ∙ has)) [
       | inl e ↦ inl (same_tag t tag e)
       | inr h ↦ inr h
@@ -105,10 +97,8 @@ only_one_more s tag t has = elim
 pub grows_by_tombstone : (old delta s : State) (tag : ℕ) → IsBetween old delta s → HasTombstone delta tag
     → IsBetween old delta (with_tombstone s tag)
 grows_by_tombstone old delta s tag between given = record {
-  above = record {
-    strokes = between.above.strokes;
-    tombstones = λ t has. more_tombstones s tag t (between.above.tombstones t has);
-  };
+  above = below_through old s (with_tombstone s tag) between.above
+      (record { strokes = λ t x has. has; tombstones = more_tombstones s tag });
   strokes = between.strokes;
   tombstones = λ t has. elim
       (only_one_more s tag t has)
@@ -120,16 +110,6 @@ between_at_first s delta = record {
   above = below_itself s;
   strokes = λ t x has. inl has;
   tombstones = λ t has. inl has;
-}
-
-pub between_through : (a delta b c : State) → IsBetween a delta b → IsBetween b delta c → IsBetween a delta c
-between_through a delta b c f g = record {
-  above = record {
-    strokes = λ t x has. g.above.strokes t x (f.above.strokes t x has);
-    tombstones = λ t has. g.above.tombstones t (f.above.tombstones t has);
-  };
-  strokes = λ t x has. elim (g.strokes t x has) [ inl before ↦ f.strokes t x before | inr given ↦ inr given ];
-  tombstones = λ t has. elim (g.tombstones t has) [ inl before ↦ f.tombstones t before | inr given ↦ inr given ];
 }
 
 -- what holds anyhow holds where the call returned
@@ -149,8 +129,7 @@ grown_is_join old delta new compatible between tags tombstones = union_is_join o
         let some = tags t (x, has) in
         let same : some.0 ≡ x = elim (between.strokes t some.0 some.1) [
           | inl before ↦ agree old delta compatible t some.0 x before has
-          | inr given ↦ one_seed some.0 x
-              (sym given ∙ has)
+          | inr given ↦ one_seed some.0 x (sym given ∙ has)
         ] in
         subst (HasStroke new t) same some.1;
     tombstones = tombstones;
@@ -159,26 +138,17 @@ grown_is_join old delta new compatible between tags tombstones = union_is_join o
   tombstones = between.tombstones;
 })
 
+-- what has grown from nothing is what was taken in
 pub grown_from_nothing : (s copy : State) → IsBetween nothing s copy → HasTagsOf copy s → HasTombstonesOf copy s
     → copy ≡ s
-grown_from_nothing s copy between tags tombstones = same_state copy s
-    (record {
-      strokes = λ t x has. elim
-          (between.strokes t x has) [ inl none ↦ absurd (nothing_has_no_stroke t x none) | inr given ↦ given ];
-      tombstones = λ t has. elim
-          (between.tombstones t has) [ inl none ↦ absurd (nothing_has_no_tombstone t none) | inr given ↦ given ];
-    })
-    (record {
-      strokes = λ t x has.
-          let some = tags t (x, has) in
-          let same : some.0 ≡ x = elim (between.strokes t some.0 some.1) [
-            | inl none ↦ absurd (nothing_has_no_stroke t some.0 none)
-            | inr given ↦ one_seed some.0 x
-                (sym given ∙ has)
-          ] in
-          subst (HasStroke copy t) same some.1;
-      tombstones = tombstones;
-    })
+grown_from_nothing s copy between tags tombstones =
+    let above : IsBelow nothing s = record {
+      strokes = λ t x has. absurd (nothing_has_no_stroke t x has);
+      tombstones = λ t has. absurd (nothing_has_no_tombstone t has);
+    } in
+    one_join nothing s copy s (grown_is_join nothing s copy (compatible_below nothing s s above (below_itself s))
+    between
+    tags tombstones) (record { first = above; second = below_itself s; least = λ other f g. g })
 
 -- ---- out again
 
@@ -203,38 +173,57 @@ gone s tag seed has =
     no_seed seed (sym (map.get-remove nat_cmp_total s.strokes tag tag
     ∙ ap (λ (b : Bool). cond b None (map.get s.strokes tag)) (tie tag)) ∙ has)
 
+-- where one more is taken away, what is left has lost that one too
+lost_one_more : (front : List ℕ) (tag : ℕ) (Had Has After : ℕ → Type 0)
+    → ((t : ℕ) → Has t ↔ (Had t × (Contains front t → ⊥))) → ((t : ℕ) → After t ↔ (Has t × (t ≡ tag → ⊥)))
+    → (t : ℕ) → After t ↔ (Had t × (Contains (front ++ tag ∷ []) t → ⊥))
+lost_one_more front tag Had Has After before one t = (
+  λ after.
+      let there = (one t).0 after in
+      let had = (before t).0 there.0 in (
+        had.0,
+        λ member. elim (Contains-push_cases front tag t member)
+            [ inl earlier ↦ had.1 earlier | inr this ↦ there.1 (sym this) ],
+      ),
+  λ had. (one t).1 (
+    (before t).1 (had.0, λ member. had.1 (Contains-append_left front (tag ∷ []) t member)),
+    λ e. had.1 (subst (Contains (front ++ tag ∷ [])) (sym e) (Contains-push front tag)),
+  ),
+)
+
+stroke_left : (s : State) (tag t : ℕ) (x : Seed)
+    → HasStroke (without_stroke s tag) t x ↔ (HasStroke s t x × (t ≡ tag → ⊥))
+stroke_left s tag t x = (
+  λ has.
+      let ne : t ≡ tag → ⊥ = λ e. gone s tag x (subst (λ (q : ℕ). HasStroke (without_stroke s tag) q x) e has) in
+      (sym (get_without s tag t ne) ∙ has, ne),
+  λ left. get_without s tag t left.1 ∙ left.0,
+)
+
 pub without_next_stroke : (old s : State) (tags : List ℕ) (i tag : ℕ) → i < length tags → tag ≡ get_or tags i tag
     → IsWithoutStrokes (take i tags) old s → IsWithoutStrokes (take (i + 1) tags) old (without_stroke s tag)
 without_next_stroke old s tags i tag within read without =
     subst (λ (l : List ℕ). IsWithoutStrokes l old (without_stroke s tag)) (sym (one_more tags i tag within read))
     (record {
-      strokes = λ t x. (
-        λ has. elim (cases_eq t tag) [
-          | inl e ↦ absurd (gone s tag x (subst (λ (q : ℕ). HasStroke (without_stroke s tag) q x) e has))
-          | inr ne ↦
-              let before = (without.strokes t x).0 (sym (get_without s tag t ne) ∙ has) in (
-                before.0,
-                λ member. elim (Contains-push_cases (take i tags) tag t member)
-                    [ inl earlier ↦ before.1 earlier | inr this ↦ ne (sym this) ],
-              )
-        ],
-        λ had.
-            let ne : t ≡ tag → ⊥ = λ e. had.1
-            (subst (Contains (take i tags ++ tag ∷ [])) (sym e) (Contains-push (take i tags) tag)) in
-            get_without s tag t ne
-            ∙ (without.strokes t x).1
-            (had.0, λ member. had.1 (Contains-append_left (take i tags) (tag ∷ []) t member)),
-      );
+      strokes = λ t x. lost_one_more (take i tags) tag (λ q. HasStroke old q x) (λ q. HasStroke s q x)
+          (λ q. HasStroke (without_stroke s tag) q x) (λ q. without.strokes q x) (λ q. stroke_left s tag q x) t;
       tombstones = without.tombstones;
     })
 
-both_bits : (a b : Bool) → IsTrue (not a && b) → (a ≡ false) × IsTrue b
-both_bits true b h = absurd cc
-both_bits false b h = (refl, h)
+both_bits : (a b : Bool) → IsTrue (not a && b) ↔ (IsTrue b × (a ≡ true → ⊥))
+both_bits true b = (λ h. absurd cc, λ h. absurd (h.1 refl))
+both_bits false b = (λ h. (h, λ e. cc), λ h. h.0)
 
-last_bit : (a b : Bool) → a ≡ false → IsTrue b → IsTrue (not a && b)
-last_bit true b e h = absurd cc
-last_bit false b e h = h
+tombstone_left : (s : State) (tag t : ℕ)
+    → HasTombstone (without_tombstone s tag) t ↔ (HasTombstone s t × (t ≡ tag → ⊥))
+tombstone_left s tag t =
+    let both = both_bits (eq_by_cmp nat_cmp t tag) (set.contains s.tombstones t) in
+    let is = set.contains-remove nat_cmp_total s.tombstones tag t in (
+      λ has.
+          let left = both.0 (sym is ∙ has) in
+          (left.0, λ e. left.1 (ap (λ (q : ℕ). eq_by_cmp nat_cmp q tag) e ∙ tie tag)),
+      λ left. is ∙ both.1 (left.0, λ e. left.1 (same_tag t tag e)),
+    )
 
 pub without_next_tombstone : (old s : State) (tags : List ℕ) (i tag : ℕ) → i < length tags → tag ≡ get_or tags i tag
     → IsWithoutTombstones (take i tags) old s
@@ -243,25 +232,8 @@ without_next_tombstone old s tags i tag within read without =
     subst (λ (l : List ℕ). IsWithoutTombstones l old (without_tombstone s tag))
     (sym (one_more tags i tag within read)) (record {
       strokes = without.strokes;
-      tombstones = λ t. (
-        λ has.
-            let bits = both_bits (eq_by_cmp nat_cmp t tag) (set.contains s.tombstones t)
-            (sym (set.contains-remove nat_cmp_total s.tombstones tag t) ∙ has) in
-            let ne : t ≡ tag → ⊥ = λ e. let no : true ≡ false = sym (tie tag)
-            ∙ ap (λ (q : ℕ). eq_by_cmp nat_cmp q tag) (sym e) ∙ bits.0 in cc in
-            let before = (without.tombstones t).0 bits.1 in (
-              before.0,
-              λ member. elim (Contains-push_cases (take i tags) tag t member)
-                  [ inl earlier ↦ before.1 earlier | inr this ↦ ne (sym this) ],
-            ),
-        λ had.
-            let ne : t ≡ tag → ⊥ = λ e. had.1
-            (subst (Contains (take i tags ++ tag ∷ [])) (sym e) (Contains-push (take i tags) tag)) in
-            set.contains-remove nat_cmp_total s.tombstones tag t
-            ∙ last_bit (eq_by_cmp nat_cmp t tag) (set.contains s.tombstones t) (apart t tag ne)
-            ((without.tombstones t).1
-            (had.0, λ member. had.1 (Contains-append_left (take i tags) (tag ∷ []) t member))),
-      );
+      tombstones = lost_one_more (take i tags) tag (HasTombstone old) (HasTombstone s)
+          (HasTombstone (without_tombstone s tag)) without.tombstones (tombstone_left s tag);
     })
 
 answer_if_some : (o : Option Seed) (x : Seed) → (((y : Seed) × (o ≡ Some y) → ⊥) → ⊥)
@@ -325,50 +297,40 @@ change_of_join old delta new born dead join births deaths =
       born = λ t. (
         λ member.
             let birth = (births.each t).0 member in
-            let x = birth.0 in (
-              (
-                x.0,
-                (
-                  union.above_second.strokes t x.0 x.1,
-                  λ buried. elim
-                      (union.tombstones t buried) [ inl before ↦ birth.1.1 before | inr given ↦ birth.1.2 given ],
-                ),
-              ),
-              λ live. birth.1.0 (live.0, live.1.0),
-            ),
+            let x = birth.0 in
+            let vacant : HasTombstone new t → ⊥ = λ buried. elim
+            (union.tombstones t buried) [ inl before ↦ birth.1.1 before | inr given ↦ birth.1.2 given ] in
+            ((x.0, (union.above_second.strokes t x.0 x.1, vacant)), λ live. birth.1.0 (live.0, live.1.0)),
         λ after.
             let live = after.0 in
-            let alive_before : (y : Seed) → HasStroke old t y
-            → ⊥ = λ y had. after.1 (y, (had, λ buried. live.1.1 (union.above_first.tombstones t buried))) in
-            (births.each t).1 (elim (union.strokes t live.0 live.1.0) [
-              | inl before ↦ absurd (alive_before live.0 before)
-              | inr given ↦ (
-                (live.0, given),
-                (
-                  λ some. alive_before some.0 some.1,
-                  λ buried. live.1.1 (union.above_first.tombstones t buried),
-                  λ buried. live.1.1 (union.above_second.tombstones t buried),
-                ),
-              )
-            ]),
+            let vacant : HasTombstone old t → ⊥ = λ buried. live.1.1 (union.above_first.tombstones t buried) in
+            let none : (y : Seed) → HasStroke old t y → ⊥ = λ y had. after.1 (y, (had, vacant)) in
+            let given : HasSomeStroke delta t = elim (union.strokes t live.0 live.1.0)
+            [ inl before ↦ absurd (none live.0 before) | inr given ↦ (live.0, given) ] in
+            (births.each t).1 (
+              given,
+              (
+                λ some. none some.0 some.1,
+                vacant,
+                λ buried. live.1.1 (union.above_second.tombstones t buried),
+              ),
+            ),
       );
       dead = λ t. (
         λ member. let death = (deaths.each t).0 member in
             (death.1, λ live. live.1.1 (union.above_second.tombstones t death.0)),
         λ before.
             let live = before.0 in
-            (deaths.each t).1 (
-              true_if_not_not (set.contains delta.tombstones t)
-                  (λ none. before.1 (
-                    live.0,
-                    (
-                      union.above_first.strokes t live.0 live.1.0,
-                      λ buried. elim
-                          (union.tombstones t buried) [ inl had ↦ live.1.1 had | inr given ↦ none given ],
-                    ),
-                  )),
-              live,
-            ),
+            let buried : HasTombstone delta t = true_if_not_not (set.contains delta.tombstones t) (λ none.
+            before.1 (
+              live.0,
+              (
+                union.above_first.strokes t live.0 live.1.0,
+                λ buried. elim
+                    (union.tombstones t buried) [ inl had ↦ live.1.1 had | inr given ↦ none given ],
+              ),
+            )) in
+            (deaths.each t).1 (buried, live),
       );
       born_rise = births.rise;
       dead_rise = deaths.rise;

@@ -1,83 +1,25 @@
 -- The items of a state are in order, and an item that goes after all others stands last.
-use Rattle.std.proofs.Common.{◌≡◌, ℕ, ◌+◌, ◌<◌, Bool, true, false, List, [], ◌∷◌, ◌++◌, map, refl, sym, ap}
-use Rattle.std.proofs.Common.{subst, ◌∙◌, inl, inr, arith, append_assoc}
-use Rattle.std.specs.Prelude.{Contains, ◌&&◌, T, is_some}
-use Rattle.std.specs.declared.cmp.Ordering.{Ordering}
-use Rattle.std.specs.declared.cmp.Ordering.TheVariants.{Less, Equal, Greater}
-use Rattle.std.specs.List.{AllByRecursion, list_any, sum_by}
-use Rattle.std.specs.List.Sorted.{IsStrictlySortedBy}
-use Rattle.std.specs.Ordering.{nat_cmp, is_lt, eq_by_cmp}
-use Rattle.std.specs.Cmp.{nat_cmp_total}
-use Rattle.std.specs.FinMap as map
-use Rattle.std.specs.FinMap.{is_sorted, put}
-use Rattle.std.specs.FinMap.Entries.{below_all, by_order, is_some-find}
-use Rattle.std.specs.FinSet as set
-use Rattle.std.proofs.lemmas.Bool.Decides.{nat_tests}
-use Rattle.std.proofs.lemmas.List.Sums.{sum_by-append}
+use Rattle.std.proofs.Common.{◌≡◌, ℕ, ◌+◌, ◌<◌, Bool, true, false, List, [], ◌∷◌, ◌++◌, map, refl, sym, ap, subst, ◌∙◌}
+use Rattle.std.proofs.Common.{inl, inr, arith, append_assoc, Contains, ◌&&◌, T, is_some, Ordering, Less, Equal, Greater}
+use Rattle.std.proofs.Common.{sum_by, nat_cmp, is_lt}
+use Rattle.std.proofs.{lemmas.Bool.Decides.nat_tests, lemmas.List.Sums.sum_by-append, lemmas.List.map-id}
 use Rattle.std.proofs.lemmas.List.Elements.{Contains-push, Contains-push_cases, Contains-append_left}
+use Rattle.std.specs.{List.AllByRecursion, List.list_any, List.Sorted.IsStrictlySortedBy, Ordering.eq_by_cmp}
+use Rattle.std.specs.{Cmp.nat_cmp_total, FinMap.is_sorted, FinMap.put}
+use Rattle.std.specs.FinMap.Entries.{below_all, by_order, is_some-find}
 use Rattle.stroke_core.specs.Seed.{Seed}
-use Rattle.stroke_lattice.specs.declared.split.TheConstants.{HEAD_BYTES}
+use Rattle.stroke_lattice.specs.{declared.split.TheConstants.HEAD_BYTES, Change.AreRising, Walks.AreStrokes}
+use Rattle.stroke_lattice.specs.{Walks.AreTombstones, Filling.ComesBefore, Filling.AllBefore, Filling.AreInOrder}
 use Rattle.stroke_lattice.specs.State.{State, HasSomeStroke, HasTombstone, nothing}
-use Rattle.stroke_lattice.specs.Change.{AreRising}
-use Rattle.stroke_lattice.specs.Walks.{AreStrokes, AreTombstones}
-use Rattle.stroke_lattice.specs.Pieces.{Item, Placed, Withdrawn, strokes_of, tombstones_of}
-use Rattle.stroke_lattice.specs.Pieces.{items_of, item_length, frame_length, with_item}
-use Rattle.stroke_lattice.specs.Filling.{ComesBefore, AllBefore, AreInOrder}
-use Rattle.stroke_lattice.proofs.Joins.{nothing_has_no_stroke, nothing_has_no_tombstone}
-use Rattle.stroke_lattice.proofs.Lists.{first_or_later, later, first, here, none_in_nil}
-use Rattle.stroke_lattice.proofs.Lists.{holds_of_member, below_later}
-use Rattle.stroke_lattice.proofs.Views.{kept}
-use Rattle.stroke_lattice.proofs.Walking.{are_strokes, are_tombstones}
+use Rattle.stroke_lattice.specs.Pieces.{Item, Placed, Withdrawn, strokes_of, tombstones_of, items_of, item_length}
+use Rattle.stroke_lattice.specs.Pieces.{frame_length, with_item}
+use Rattle.stroke_lattice.proofs.{Joins.nothing_has_no_stroke, Joins.nothing_has_no_tombstone, Views.kept}
+use Rattle.stroke_lattice.proofs.{Walking.are_strokes, Walking.are_tombstones, Lists.holds_of_member}
+use Rattle.stroke_lattice.proofs.{RisingLists.same_members}
+use Rattle.grid_core.proofs.Common.{map_has, not_in_empty}
 use Rattle.stroke_lattice.proofs.Growing.{tombstone_of_new, more_tombstones, only_one_more}
-
--- ---- lists with rising keys
-
-module _ {X : Type 0} (key : X → ℕ) where
-  key_member : (xs : List X) (q : X) → Contains xs q → Contains (map key xs) (key q)
-  key_member [] q has = absurd (none_in_nil q has)
-  key_member (x ∷ xs) q has = elim (first_or_later x xs q has) [
-    | inl e ↦ here (key x) (map key xs) (key q) (ap key e)
-    | inr there ↦ later (key x) (map key xs) (key q) (key_member xs q there)
-  ]
-
-  below_key : (x : X) (xs : List X) (q : X) → AreRising (map key (x ∷ xs)) → Contains xs q → key x < key q
-  below_key x xs q rise has = below_later (key x) (map key xs) (key q) rise (key_member xs q has)
-
-  not_first : (x y : X) (xs ys : List X) → AreRising (map key (x ∷ xs)) → x ≡ y → (q : X) → Contains xs q
-      → Contains (y ∷ ys) q → Contains ys q
-  not_first x y xs ys rise e q has there = elim (first_or_later y ys q there) [
-    | inl is ↦
-        let below : key x < key q = below_key x xs q rise has in
-        let same : key x ≡ key q = ap key (e ∙ is) in
-        absurd (omega arith)
-    | inr later ↦ later
-  ]
-
-  same_first : (x y : X) (xs ys : List X) → AreRising (map key (x ∷ xs)) → AreRising (map key (y ∷ ys))
-      → Contains (y ∷ ys) x → Contains (x ∷ xs) y → x ≡ y
-  same_first x y xs ys rise_x rise_y in_y in_x = elim (first_or_later y ys x in_y) [
-    | inl e ↦ sym e
-    | inr there ↦ elim (first_or_later x xs y in_x) [
-      | inl e ↦ e
-      | inr other ↦
-          let below : key y < key x = below_key y ys x rise_y there in
-          let above : key x < key y = below_key x xs y rise_x other in
-          absurd (omega arith)
-    ]
-  ]
-
-  -- rising lists with the same members are equal
-  pub same_members : (xs ys : List X) → AreRising (map key xs) → AreRising (map key ys)
-      → ((q : X) → Contains xs q → Contains ys q) → ((q : X) → Contains ys q → Contains xs q) → xs ≡ ys
-  same_members [] [] rise_x rise_y f g = refl
-  same_members [] (y ∷ ys) rise_x rise_y f g = absurd (none_in_nil y (g y (first y ys)))
-  same_members (x ∷ xs) [] rise_x rise_y f g = absurd (none_in_nil x (f x (first x xs)))
-  same_members (x ∷ xs) (y ∷ ys) rise_x rise_y f g =
-      let e : x ≡ y = same_first x y xs ys rise_x rise_y (f x (first x xs)) (g y (first y ys)) in
-      let rest : xs ≡ ys = same_members xs ys rise_x.1 rise_y.1
-      (λ q has. not_first x y xs ys rise_x e q has (f q (later x xs q has)))
-      (λ q has. not_first y x ys xs rise_y (sym e) q has (g q (later y ys q has))) in
-      λ i. e i ∷ rest i
+use Rattle.std.specs.FinMap as map
+use Rattle.std.specs.FinSet as set
 
 -- ---- the entries of a map are in order
 
@@ -150,32 +92,35 @@ strokes_are s es walk =
     (λ q has. (walk.each q.0 q.1).1 ((own.each q.0 q.1).0 has))
 
 -- the tags as keys of a map that has nothing else
-abbrev marked : List ℕ → List (ℕ × Unit {0})
+abbrev pub marked : List ℕ → List (ℕ × Unit {0})
 marked tags = map (λ tag. (tag, tt {0})) tags
 
-keys_of_marked : (tags : List ℕ) → map (λ e. e.0) (marked tags) ≡ tags
+pub keys_of_marked : (tags : List ℕ) → map (λ e. e.0) (marked tags) ≡ tags
 keys_of_marked [] = refl
 keys_of_marked (tag ∷ tags) = ap (λ (l : List ℕ). tag ∷ l) (keys_of_marked tags)
 
-has_key : (s : State) (tag : ℕ)
-    → list_any (eq_by_cmp nat_cmp tag) (tombstones_of s) ≡ set.contains s.tombstones tag
-has_key s tag =
-    let tags = set.items s.tombstones in
-    sym (map.contains_key-keys (map.from_entries {R = nat_cmp} (marked tags)) tag)
-    ∙ ap is_some (map.get-from_entries nat_cmp_total (marked tags) tag)
-    ∙ is_some-find nat_cmp tag (marked tags)
-    ∙ ap (list_any (eq_by_cmp nat_cmp tag)) (keys_of_marked tags)
-    ∙ sym (set.contains-items s.tombstones tag)
+-- a set of tags as such a map
+abbrev pub as_map : set.FinSet nat_cmp → map.FinMap nat_cmp (Unit {0})
+as_map tags = map.from_entries (marked (set.items tags))
+
+-- the map has the tags of the set
+pub test_of_tags : (tags : set.FinSet nat_cmp) (tag : ℕ)
+    → is_some (map.get (as_map tags) tag) ≡ set.contains tags tag
+test_of_tags tags tag =
+    ap is_some (map.get-from_entries nat_cmp_total (marked (set.items tags)) tag)
+    ∙ is_some-find nat_cmp tag (marked (set.items tags))
+    ∙ ap (list_any (eq_by_cmp nat_cmp tag)) (keys_of_marked (set.items tags))
+    ∙ sym (set.contains-items tags tag)
 
 -- the tombstones in order are what a walk over them gives
 pub tombstones_walk : (s : State) → AreTombstones s (tombstones_of s)
 tombstones_walk s =
     let tags = tombstones_of s in
     let walk = are_tombstones [] tags (kept [] tags) refl
-    (sorted_keys (map.entries (map.from_entries {R = nat_cmp} (marked (set.items s.tombstones))))
-    (map.entries_sorted (map.from_entries {R = nat_cmp} (marked (set.items s.tombstones))))) in
+    (sorted_keys (map.entries (as_map s.tombstones)) (map.entries_sorted (as_map s.tombstones))) in
     let same : (tag : ℕ) → set.contains (set.from_list {R = nat_cmp} tags) tag ≡ set.contains s.tombstones tag =
-    λ tag. set.contains-from_list nat_cmp_total tags tag ∙ has_key s tag in
+    λ tag. set.contains-from_list nat_cmp_total tags tag ∙ sym (map.contains_key-keys (as_map s.tombstones) tag)
+    ∙ test_of_tags s.tombstones tag in
     record {
       each = λ tag. (
         λ has. sym (same tag) ∙ (walk.each tag).0 has,
@@ -184,15 +129,11 @@ tombstones_walk s =
       rise = walk.rise;
     }
 
-map_same : (tags : List ℕ) → map (λ tag. tag) tags ≡ tags
-map_same [] = refl
-map_same (tag ∷ tags) = ap (λ (l : List ℕ). tag ∷ l) (map_same tags)
-
 pub tombstones_are : (s : State) (tags : List ℕ) → AreTombstones s tags → tags ≡ tombstones_of s
 tombstones_are s tags walk =
     let own = tombstones_walk s in
     same_members (λ tag. tag) tags (tombstones_of s)
-    (subst AreRising (sym (map_same tags)) walk.rise) (subst AreRising (sym (map_same (tombstones_of s))) own.rise)
+    (subst AreRising (sym (map-id tags)) walk.rise) (subst AreRising (sym (map-id (tombstones_of s))) own.rise)
     (λ q has. (own.each q).1 ((walk.each q).0 has))
     (λ q has. (walk.each q).1 ((own.each q).0 has))
 
@@ -285,7 +226,7 @@ pub new_stroke : (s : State) (tag : ℕ) (seed : Seed) → AllBefore (items_of s
     → HasSomeStroke s tag → ⊥
 new_stroke s tag seed before some =
     let member : Contains (map (λ (e : ℕ × Seed). e.0) (strokes_of s)) tag =
-    key_member (λ e. e.0) (strokes_of s) (tag, some.0) (((strokes_walk s).each tag some.0).1 some.1) in
+    map_has (λ e. e.0) (strokes_of s) (tag, some.0) (((strokes_walk s).each tag some.0).1 some.1) in
     let below : tag < tag = holds_of_member (λ other. other < tag) (map (λ e. e.0) (strokes_of s)) tag
     (strokes_below (strokes_of s) (tombstones_of s) tag seed before) member in
     absurd (omega arith)
@@ -300,13 +241,13 @@ new_tombstone s tag before has =
 
 no_strokes : AreStrokes nothing []
 no_strokes = record {
-  each = λ tag seed. (λ has. absurd (none_in_nil (tag, seed) has), λ has. absurd (nothing_has_no_stroke tag seed has));
+  each = λ tag seed. (λ has. absurd (not_in_empty (tag, seed) has), λ has. absurd (nothing_has_no_stroke tag seed has));
   rise = tt;
 }
 
 no_tombstones : AreTombstones nothing []
 no_tombstones = record {
-  each = λ tag. (λ has. absurd (none_in_nil tag has), λ has. absurd (nothing_has_no_tombstone tag has));
+  each = λ tag. (λ has. absurd (not_in_empty tag has), λ has. absurd (nothing_has_no_tombstone tag has));
   rise = tt;
 }
 

@@ -1,12 +1,10 @@
 -- The laws of joining.
-use Rattle.std.proofs.Common.{◌≡◌, ℕ, List, [], ◌∷◌, ◌++◌, sym, subst}
-use Rattle.std.specs.Prelude.{◌↔◌}
+use Rattle.std.proofs.Common.{◌≡◌, ℕ, List, [], ◌∷◌, ◌++◌, sym, subst, ◌↔◌}
 use Rattle.stroke_core.specs.Seed.{Seed}
 use Rattle.stroke_lattice.specs.State.{State, HasStroke, HasTombstone, IsBelow, IsJoin, AreCompatible, nothing}
 use Rattle.stroke_lattice.specs.State.{IsJoinOf}
 use Rattle.stroke_lattice.proofs.Joins.{same_state, below_itself, below_through, compatible_below, one_join, both}
-use Rattle.stroke_lattice.proofs.Joins.{both_is_union, union_is_join, one_list_join, longer_from_join}
-use Rattle.stroke_lattice.proofs.Joins.{nothing_is_join}
+use Rattle.stroke_lattice.proofs.Joins.{both_is_union, union_is_join, one_list_join, longer_from_join, nothing_is_join}
 
 pub joined : (a b : State) → AreCompatible a b → (join : State) × IsJoin a b join
 joined a b compatible = (both a b, union_is_join a b (both a b) (both_is_union a b compatible))
@@ -54,8 +52,7 @@ to_left a b c join (bc, right, whole) =
 pub empty_list : (join : State) → IsJoinOf [] join ↔ (join ≡ nothing)
 empty_list join = (
   λ j. one_list_join [] join nothing j nothing_is_join,
-  λ e. subst (IsJoinOf [])
-      (sym e) nothing_is_join,
+  λ e. subst (IsJoinOf []) (sym e) nothing_is_join,
 )
 
 pub longer : (states : List State) (s delta : State) → IsJoinOf states s → AreCompatible s delta

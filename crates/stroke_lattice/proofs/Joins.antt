@@ -1,18 +1,15 @@
 -- The join of two states, and that of a list of states, by their contents.
-use Rattle.std.proofs.Common.{◌≡◌, ℕ, Bool, true, false, ◌||◌, cond, List, [], ◌∷◌, ◌++◌, Option, Some, None, refl}
-use Rattle.std.proofs.Common.{sym, ap, ◌∙◌, inl, inr, ◌⊎◌}
-use Rattle.std.specs.Prelude.{IsTrue}
-use Rattle.std.specs.Option.{option_or}
-use Rattle.std.specs.Ordering.{nat_cmp, eq_by_cmp}
-use Rattle.std.specs.Cmp.{nat_cmp_total}
-use Rattle.std.specs.FinMap as map
-use Rattle.std.specs.FinMap.{find}
-use Rattle.std.specs.FinSet as set
-use Rattle.std.specs.List.{AllByRecursion}
+use Rattle.std.proofs.Common.{◌≡◌, ℕ, Bool, true, false, ◌||◌, cond, List, [], ◌∷◌, ◌++◌, Option, Some, None, refl, sym}
+use Rattle.std.proofs.Common.{ap, ◌∙◌, inl, inr, ◌⊎◌, ◌↔◌, IsTrue, nat_cmp}
+use Rattle.std.specs.{FinMap.find, Option.option_or, Ordering.eq_by_cmp, Cmp.nat_cmp_total, List.AllByRecursion}
+use Rattle.grid_core.proofs.Common.{either, or_left, or_right}
 use Rattle.stroke_core.specs.Seed.{Seed}
 use Rattle.stroke_lattice.specs.State.{State, HasStroke, HasTombstone, IsBelow, IsJoin, AreCompatible, nothing}
 use Rattle.stroke_lattice.specs.State.{SomeHasStroke, SomeHasTombstone, IsJoinOf, IsLeastAbove}
+use Rattle.stroke_lattice.specs.Pieces.{Item, Placed, Withdrawn}
 use Rattle.stroke_lattice.proofs.Decide.{same_seed}
+use Rattle.std.specs.FinMap as map
+use Rattle.std.specs.FinSet as set
 
 -- ---- states by their contents
 
@@ -56,8 +53,7 @@ below_itself a = record { strokes = λ tag seed has. has; tombstones = λ tag ha
 
 pub below_through : (a b c : State) → IsBelow a b → IsBelow b c → IsBelow a c
 below_through a b c f g = record {
-  strokes = λ tag seed has. g.strokes tag seed
-      (f.strokes tag seed has);
+  strokes = λ tag seed has. g.strokes tag seed (f.strokes tag seed has);
   tombstones = λ tag has. g.tombstones tag (f.tombstones tag has);
 }
 
@@ -72,16 +68,6 @@ compatible_below a b bound f g tag clash =
     clash.differ (one_seed clash.seed clash.other (sym (f.strokes tag clash.seed clash.in_first)
     ∙ g.strokes tag clash.other clash.in_second))
 
-pub compatible_swap : (a b : State) → AreCompatible a b → AreCompatible b a
-compatible_swap a b compatible tag clash = compatible tag
-    (record {
-      seed = clash.other;
-      other = clash.seed;
-      in_first = clash.in_second;
-      in_second = clash.in_first;
-      differ = λ e. clash.differ (sym e);
-    })
-
 -- the state holds what stands in one of the two, and nothing else
 pub record IsUnion (a b join : State) : Type 0 where
   pub above_first : IsBelow a join
@@ -89,16 +75,62 @@ pub record IsUnion (a b join : State) : Type 0 where
   pub strokes : (tag : ℕ) (seed : Seed) → HasStroke join tag seed → HasStroke a tag seed ⊎ HasStroke b tag seed
   pub tombstones : (tag : ℕ) → HasTombstone join tag → HasTombstone a tag ⊎ HasTombstone b tag
 
+-- ---- states by their items
+
+-- the stroke or the tombstone stands in the state
+abbrev pub HasItem : State → Item → Type 0
+HasItem s (Placed tag seed) = HasStroke s tag seed
+HasItem s (Withdrawn tag) = HasTombstone s tag
+
+-- it stands in one of the states
+abbrev pub SomeHasItem : List State → Item → Type 0
+SomeHasItem states (Placed tag seed) = SomeHasStroke states tag seed
+SomeHasItem states (Withdrawn tag) = SomeHasTombstone states tag
+
+pub none_has_item : (item : Item) → SomeHasItem [] item → ⊥
+none_has_item (Placed tag seed) has = has
+none_has_item (Withdrawn tag) has = has
+
+pub first_or_others : (s : State) (states : List State) (item : Item)
+    → SomeHasItem (s ∷ states) item ↔ (HasItem s item ⊎ SomeHasItem states item)
+first_or_others s states (Placed tag seed) = (λ has. has, λ has. has)
+first_or_others s states (Withdrawn tag) = (λ has. has, λ has. has)
+
+below_from_items : (a b : State) → ((item : Item) → HasItem a item → HasItem b item) → IsBelow a b
+below_from_items a b each = record {
+  strokes = λ tag seed. each (Placed tag seed);
+  tombstones = λ tag. each (Withdrawn tag);
+}
+
+item_above : (a b : State) → IsBelow a b → (item : Item) → HasItem a item → HasItem b item
+item_above a b below (Placed tag seed) = below.strokes tag seed
+item_above a b below (Withdrawn tag) = below.tombstones tag
+
+item_of_either : (a b join : State) → IsUnion a b join → (item : Item) → HasItem join item
+    → HasItem a item ⊎ HasItem b item
+item_of_either a b join union (Placed tag seed) = union.strokes tag seed
+item_of_either a b join union (Withdrawn tag) = union.tombstones tag
+
+pub join_from_items : (states : List State) (join : State)
+    → ((item : Item) → HasItem join item ↔ SomeHasItem states item) → IsJoinOf states join
+join_from_items states join each = record {
+  strokes = λ tag seed. each (Placed tag seed);
+  tombstones = λ tag. each (Withdrawn tag);
+}
+
+item_of_some : (states : List State) (join : State) → IsJoinOf states join → (item : Item)
+    → HasItem join item ↔ SomeHasItem states item
+item_of_some states join is_join (Placed tag seed) = is_join.strokes tag seed
+item_of_some states join is_join (Withdrawn tag) = is_join.tombstones tag
+
+-- ---- a union is a join
+
 pub union_is_join : (a b join : State) → IsUnion a b join → IsJoin a b join
 union_is_join a b join union = record {
   first = union.above_first;
   second = union.above_second;
-  least = λ other f g. record {
-    strokes = λ tag seed has. elim
-        (union.strokes tag seed has) [ inl x ↦ f.strokes tag seed x | inr y ↦ g.strokes tag seed y ];
-    tombstones = λ tag has. elim
-        (union.tombstones tag has) [ inl x ↦ f.tombstones tag x | inr y ↦ g.tombstones tag y ];
-  };
+  least = λ other f g. below_from_items join other (λ item has. elim (item_of_either a b join union item has)
+      [ inl x ↦ item_above a other f item x | inr y ↦ item_above b other g item y ]);
 }
 
 choice : (b : Bool) (x : Seed) (o p : Option Seed) → cond b (Some x) (option_or o p) ≡ option_or (cond b (Some x) o) p
@@ -147,34 +179,22 @@ second_seed : (o p : Option Seed) (seed : Seed) → ((x : Seed) → o ≡ Some x
 second_seed None p seed same e = e
 second_seed (Some x) p seed same e = ap (λ (s : Seed). Some s) (same x refl)
 
-pub either_bit : (a b : Bool) → IsTrue (a || b) → IsTrue a ⊎ IsTrue b
-either_bit true b h = inl refl
-either_bit false b h = inr h
-
-pub first_bit : (a b : Bool) → IsTrue a → IsTrue (a || b)
-first_bit true b h = refl
-first_bit false b h = absurd cc
-
-pub second_bit : (a b : Bool) → IsTrue b → IsTrue (a || b)
-second_bit true b h = refl
-second_bit false b h = h
-
 pub both_is_union : (a b : State) → AreCompatible a b → IsUnion a b (both a b)
 both_is_union a b compatible = record {
   above_first = record {
     strokes = λ tag seed has. get_both a b tag ∙ first_seed (map.get a.strokes tag) (map.get b.strokes tag) seed has;
     tombstones = λ tag has. contains_both a b tag
-        ∙ first_bit (set.contains a.tombstones tag) (set.contains b.tombstones tag) has;
+        ∙ or_left (set.contains a.tombstones tag) (set.contains b.tombstones tag) has;
   };
   above_second = record {
     strokes = λ tag seed has. get_both a b tag ∙ second_seed (map.get a.strokes tag) (map.get b.strokes tag) seed
         (λ x has_x. agree a b compatible tag x seed has_x has) has;
     tombstones = λ tag has. contains_both a b tag
-        ∙ second_bit (set.contains a.tombstones tag) (set.contains b.tombstones tag) has;
+        ∙ or_right (set.contains a.tombstones tag) (set.contains b.tombstones tag) has;
   };
   strokes = λ tag seed has. either_seed (map.get a.strokes tag) (map.get b.strokes tag) seed (sym (get_both a b tag)
       ∙ has);
-  tombstones = λ tag has. either_bit (set.contains a.tombstones tag) (set.contains b.tombstones tag)
+  tombstones = λ tag has. either (set.contains a.tombstones tag) (set.contains b.tombstones tag)
       (sym (contains_both a b tag) ∙ has);
 }
 
@@ -184,8 +204,7 @@ pub compatible_join : (a b join : State) → IsJoin a b join → AreCompatible a
 compatible_join a b join j = compatible_below a b join j.first j.second
 
 pub one_join : (a b j k : State) → IsJoin a b j → IsJoin a b k → j ≡ k
-one_join a b j k is_j is_k = same_state j k (is_j.least k is_k.first is_k.second)
-    (is_k.least j is_j.first is_j.second)
+one_join a b j k is_j is_k = same_state j k (is_j.least k is_k.first is_k.second) (is_k.least j is_j.first is_j.second)
 
 -- a join holds what stands in one of the two, and nothing else
 pub join_is_union : (a b join : State) → IsJoin a b join → IsUnion a b join
@@ -201,129 +220,88 @@ join_is_union a b join j =
 
 -- ---- the join of a list
 
-each_below : (states : List State) (bound : State)
-    → ((tag : ℕ) (seed : Seed) → SomeHasStroke states tag seed → HasStroke bound tag seed)
-    → ((tag : ℕ) → SomeHasTombstone states tag → HasTombstone bound tag)
+each_below : (states : List State) (bound : State) → ((item : Item) → SomeHasItem states item → HasItem bound item)
     → AllByRecursion (λ s. IsBelow s bound) states
-each_below [] bound strokes tombstones = tt
-each_below (s ∷ states) bound strokes tombstones = (
-  record { strokes = λ tag seed has. strokes tag seed (inl has); tombstones = λ tag has. tombstones tag (inl has) },
-  each_below states bound (λ tag seed has. strokes tag seed (inr has)) (λ tag has. tombstones tag (inr has)),
+each_below [] bound each = tt
+each_below (s ∷ states) bound each = (
+  below_from_items s bound (λ item has. each item ((first_or_others s states item).1 (inl has))),
+  each_below states bound (λ item has. each item ((first_or_others s states item).1 (inr has))),
 )
 
-some_stroke_above : (states : List State) (other : State) → AllByRecursion (λ s. IsBelow s other) states
-    → (tag : ℕ) (seed : Seed) → SomeHasStroke states tag seed → HasStroke other tag seed
-some_stroke_above [] other below tag seed has = absurd has
-some_stroke_above (s ∷ states) other below tag seed (inl here) = below.0.strokes tag seed here
-some_stroke_above (s ∷ states) other below tag seed (inr there) = some_stroke_above states other below.1 tag seed
-    there
-
-some_tombstone_above : (states : List State) (other : State) → AllByRecursion (λ s. IsBelow s other) states
-    → (tag : ℕ) → SomeHasTombstone states tag → HasTombstone other tag
-some_tombstone_above [] other below tag has = absurd has
-some_tombstone_above (s ∷ states) other below tag (inl here) = below.0.tombstones tag here
-some_tombstone_above (s ∷ states) other below tag (inr there) = some_tombstone_above states other below.1 tag there
+some_above : (states : List State) (other : State) → AllByRecursion (λ s. IsBelow s other) states → (item : Item)
+    → SomeHasItem states item → HasItem other item
+some_above [] other below item has = absurd (none_has_item item has)
+some_above (s ∷ states) other below item has = elim ((first_or_others s states item).0 has)
+    [ inl here ↦ item_above s other below.0 item here | inr there ↦ some_above states other below.1 item there ]
 
 pub list_join_is_least : (states : List State) (join : State) → IsJoinOf states join → IsLeastAbove states join
-list_join_is_least states join is_join = record {
-  above = each_below states join (λ tag seed. (is_join.strokes tag seed).1) (λ tag. (is_join.tombstones tag).1);
-  least = λ other below. record {
-    strokes = λ tag seed has. some_stroke_above states other below tag seed ((is_join.strokes tag seed).0 has);
-    tombstones = λ tag has. some_tombstone_above states other below tag ((is_join.tombstones tag).0 has);
-  };
-}
+list_join_is_least states join is_join =
+    let items = item_of_some states join is_join in
+    record {
+      above = each_below states join (λ item. (items item).1);
+      least = λ other below. below_from_items join other
+          (λ item has. some_above states other below item ((items item).0 has));
+    }
+
+joins_below : (states : List State) (j k : State) → IsJoinOf states j → IsJoinOf states k → IsBelow j k
+joins_below states j k is_j is_k = below_from_items j k
+    (λ item has. (item_of_some states k is_k item).1 ((item_of_some states j is_j item).0 has))
 
 pub one_list_join : (states : List State) (j k : State) → IsJoinOf states j → IsJoinOf states k → j ≡ k
-one_list_join states j k is_j is_k = same_state j k
-    (record {
-      strokes = λ tag seed has. (is_k.strokes tag seed).1 ((is_j.strokes tag seed).0 has);
-      tombstones =
-          λ tag has. (is_k.tombstones tag).1 ((is_j.tombstones tag).0 has);
-    })
-    (record {
-      strokes = λ tag seed has. (is_j.strokes tag seed).1 ((is_k.strokes tag seed).0 has);
-      tombstones =
-          λ tag has. (is_j.tombstones tag).1 ((is_k.tombstones tag).0 has);
-    })
+one_list_join states j k is_j is_k = same_state j k (joins_below states j k is_j is_k)
+    (joins_below states k j is_k is_j)
 
 -- ---- a list with one state more
 
-stroke_in_longer : (states : List State) (delta : State) (tag : ℕ) (seed : Seed)
-    → SomeHasStroke states tag seed ⊎ HasStroke delta tag seed → SomeHasStroke (states ++ delta ∷ []) tag seed
-stroke_in_longer [] delta tag seed (inl here) = absurd here
-stroke_in_longer [] delta tag seed (inr there) = inl there
-stroke_in_longer (s ∷ states) delta tag seed (inl (inl here)) = inl here
-stroke_in_longer (s ∷ states) delta tag seed (inl (inr there)) = inr
-    (stroke_in_longer states delta tag seed (inl there))
-stroke_in_longer (s ∷ states) delta tag seed (inr there) = inr (stroke_in_longer states delta tag seed (inr there))
+in_longer : (states : List State) (delta : State) (item : Item) → SomeHasItem states item ⊎ HasItem delta item
+    → SomeHasItem (states ++ delta ∷ []) item
+in_longer [] delta item (inl none) = absurd (none_has_item item none)
+in_longer [] delta item (inr here) = (first_or_others delta [] item).1 (inl here)
+in_longer (s ∷ states) delta item has = (first_or_others s (states ++ delta ∷ []) item).1 (elim has [
+  | inl some ↦ elim ((first_or_others s states item).0 some)
+      [ inl here ↦ inl here | inr there ↦ inr (in_longer states delta item (inl there)) ]
+  | inr last ↦ inr (in_longer states delta item (inr last))
+])
 
-stroke_of_longer : (states : List State) (delta : State) (tag : ℕ) (seed : Seed)
-    → SomeHasStroke (states ++ delta ∷ []) tag seed → SomeHasStroke states tag seed ⊎ HasStroke delta tag seed
-stroke_of_longer [] delta tag seed (inl here) = inr here
-stroke_of_longer [] delta tag seed (inr there) = absurd there
-stroke_of_longer (s ∷ states) delta tag seed (inl here) = inl (inl here)
-stroke_of_longer (s ∷ states) delta tag seed (inr there) = elim (stroke_of_longer states delta tag seed there)
-    [ inl x ↦ inl (inr x) | inr y ↦ inr y ]
-
-tombstone_in_longer : (states : List State) (delta : State) (tag : ℕ)
-    → SomeHasTombstone states tag ⊎ HasTombstone delta tag → SomeHasTombstone (states ++ delta ∷ []) tag
-tombstone_in_longer [] delta tag (inl here) = absurd here
-tombstone_in_longer [] delta tag (inr there) = inl there
-tombstone_in_longer (s ∷ states) delta tag (inl (inl here)) = inl here
-tombstone_in_longer (s ∷ states) delta tag (inl (inr there)) = inr (tombstone_in_longer states delta tag (inl there))
-tombstone_in_longer (s ∷ states) delta tag (inr there) = inr (tombstone_in_longer states delta tag (inr there))
-
-tombstone_of_longer : (states : List State) (delta : State) (tag : ℕ) → SomeHasTombstone (states ++ delta ∷ []) tag
-    → SomeHasTombstone states tag ⊎ HasTombstone delta tag
-tombstone_of_longer [] delta tag (inl here) = inr here
-tombstone_of_longer [] delta tag (inr there) = absurd there
-tombstone_of_longer (s ∷ states) delta tag (inl here) = inl (inl here)
-tombstone_of_longer (s ∷ states) delta tag (inr there) = elim (tombstone_of_longer states delta tag there)
-    [ inl x ↦ inl (inr x) | inr y ↦ inr y ]
+of_longer : (states : List State) (delta : State) (item : Item) → SomeHasItem (states ++ delta ∷ []) item
+    → SomeHasItem states item ⊎ HasItem delta item
+of_longer [] delta item has = elim ((first_or_others delta [] item).0 has)
+    [ inl here ↦ inr here | inr none ↦ absurd (none_has_item item none) ]
+of_longer (s ∷ states) delta item has = elim ((first_or_others s (states ++ delta ∷ []) item).0 has) [
+  | inl here ↦ inl ((first_or_others s states item).1 (inl here))
+  | inr there ↦ elim (of_longer states delta item there)
+      [ inl x ↦ inl ((first_or_others s states item).1 (inr x)) | inr y ↦ inr y ]
+]
 
 pub longer_from_join : (states : List State) (s delta join : State) → IsJoinOf states s → IsJoin s delta join
     → IsJoinOf (states ++ delta ∷ []) join
 longer_from_join states s delta join is_s is_join =
     let union = join_is_union s delta join is_join in
-    record {
-      strokes = λ tag seed. (
-        λ has. stroke_in_longer states delta tag seed
-            (elim (union.strokes tag seed has) [ inl x ↦ inl ((is_s.strokes tag seed).0 x) | inr y ↦ inr y ]),
-        λ some. elim (stroke_of_longer states delta tag seed some) [
-          | inl x ↦ union.above_first.strokes tag seed ((is_s.strokes tag seed).1 x)
-          | inr
-              y ↦ union.above_second.strokes tag seed y
-        ],
-      );
-      tombstones = λ tag. (
-        λ has. tombstone_in_longer states delta tag
-            (elim (union.tombstones tag has) [ inl x ↦ inl ((is_s.tombstones tag).0 x) | inr y ↦ inr y ]),
-        λ some. elim (tombstone_of_longer states delta tag some) [
-          | inl x ↦ union.above_first.tombstones tag ((is_s.tombstones tag).1 x)
-          | inr
-              y ↦ union.above_second.tombstones tag y
-        ],
-      );
-    }
+    let items = item_of_some states s is_s in
+    join_from_items (states ++ delta ∷ []) join (λ item. (
+      λ has. in_longer states delta item (elim (item_of_either s delta join union item has)
+          [ inl x ↦ inl ((items item).0 x) | inr y ↦ inr y ]),
+      λ some. elim (of_longer states delta item some) [
+        | inl x ↦ item_above s join union.above_first item ((items item).1 x)
+        | inr y ↦ item_above delta join union.above_second item y
+      ],
+    ))
 
 pub join_from_longer : (states : List State) (s delta join : State) → IsJoinOf states s
     → IsJoinOf (states ++ delta ∷ []) join → IsJoin s delta join
-join_from_longer states s delta join is_s is_join = union_is_join s delta join (record {
-  above_first = record {
-    strokes = λ tag seed has. (is_join.strokes tag seed).1
-        (stroke_in_longer states delta tag seed (inl ((is_s.strokes tag seed).0 has)));
-    tombstones = λ tag has. (is_join.tombstones tag).1
-        (tombstone_in_longer states delta tag (inl ((is_s.tombstones tag).0 has)));
-  };
-  above_second = record {
-    strokes = λ tag seed has. (is_join.strokes tag seed).1 (stroke_in_longer states delta tag seed (inr has));
-    tombstones = λ tag has. (is_join.tombstones tag).1 (tombstone_in_longer states delta tag (inr has));
-  };
-  strokes = λ tag seed has. elim (stroke_of_longer states delta tag seed ((is_join.strokes tag seed).0 has))
-      [ inl x ↦ inl ((is_s.strokes tag seed).1 x) | inr y ↦ inr y ];
-  tombstones = λ tag has. elim (tombstone_of_longer states delta tag ((is_join.tombstones tag).0 has))
-      [ inl x ↦ inl ((is_s.tombstones tag).1 x) | inr y ↦ inr y ];
-})
+join_from_longer states s delta join is_s is_join =
+    let items = item_of_some states s is_s in
+    let whole = item_of_some (states ++ delta ∷ []) join is_join in
+    let parts : (item : Item) → HasItem join item → HasItem s item ⊎ HasItem delta item =
+    λ item has. elim (of_longer states delta item ((whole item).0 has))
+    [ inl x ↦ inl ((items item).1 x) | inr y ↦ inr y ] in
+    union_is_join s delta join (record {
+      above_first = below_from_items s join
+          (λ item has. (whole item).1 (in_longer states delta item (inl ((items item).0 has))));
+      above_second = below_from_items delta join (λ item has. (whole item).1 (in_longer states delta item (inr has)));
+      strokes = λ tag seed. parts (Placed tag seed);
+      tombstones = λ tag. parts (Withdrawn tag);
+    })
 
 -- ---- no state at all
 

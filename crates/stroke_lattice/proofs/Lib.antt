@@ -1,4 +1,5 @@
 pub mod Lists
+pub mod RisingLists
 pub mod Decide
 pub mod Joins
 pub mod Joining

@@ -1,22 +1,20 @@
 -- One piece of a state is filled, and the pieces are counted.
-use Rattle.std.proofs.Common.{◌≡◌, ℕ, ◌+◌, ◌<◌, ◌≤◌, Bool, true, false, List, [], ◌∷◌, ◌++◌, length, drop, refl}
-use Rattle.std.proofs.Common.{sym, ap, subst, ◌∙◌, ◌⊎◌, inl, inr, arith, append_assoc, length-append}
-use Rattle.std.specs.Prelude.{nat_lt, if◌then◌else◌}
-use Rattle.std.specs.List.{flat_map}
+use Rattle.std.proofs.Common.{◌≡◌, ℕ, ◌+◌, ◌<◌, ◌≤◌, Bool, true, false, List, [], ◌∷◌, ◌++◌, length, drop, refl, sym}
+use Rattle.std.proofs.Common.{ap, subst, ◌∙◌, ◌⊎◌, inl, inr, arith, append_assoc, length-append, nat_lt, if◌then◌else◌}
+use Rattle.std.proofs.Common.{flat_map}
 use Rattle.std.proofs.Math.Seq.{drop-append_seam}
-use Rattle.stroke_lattice.specs.declared.piece.Place.{Place}
-use Rattle.stroke_lattice.specs.declared.split.TheConstants.{HEAD_BYTES}
-use Rattle.stroke_lattice.specs.State.{State, nothing}
-use Rattle.stroke_lattice.specs.Pieces.{Item, items_of, item_length, frame_length, with_item, fits}
-use Rattle.stroke_lattice.specs.Pieces.{if_any, filled, pieces_of}
+use Rattle.stroke_lattice.specs.{declared.piece.Place.Place, declared.split.TheConstants.HEAD_BYTES, State.State}
+use Rattle.stroke_lattice.specs.{State.nothing, Places.items_from, Places.pieces_from, Places.place_of}
+use Rattle.stroke_lattice.specs.Pieces.{Item, items_of, item_length, frame_length, with_item, fits, if_any, filled}
+use Rattle.stroke_lattice.specs.Pieces.{pieces_of}
 use Rattle.stroke_lattice.specs.Filling.{Filling, put_in, turned, AllBefore, AreInOrder, IsFilling}
-use Rattle.stroke_lattice.specs.Places.{items_from, pieces_from, place_of}
-use Rattle.stroke_lattice.proofs.Items.{items_in_order, items_of_longer, frame_length_of_longer, items_of_nothing}
-use Rattle.stroke_lattice.proofs.Items.{frame_length_of_nothing, before_next, order_behind, order_joined}
-use Rattle.stroke_lattice.proofs.Adding.{piece_with_items, piece_without_items, is_at_most, is_above, item_takes_bytes}
-use Rattle.stroke_lattice.proofs.Adding.{filling_after, filling_begins, frame_length_of_one, all_fit_push}
-use Rattle.stroke_lattice.proofs.Cutting.{items_of_filled}
-use Rattle.stroke_lattice.proofs.Placing.{items_from_own_place, items_from_in_order}
+use Rattle.stroke_lattice.proofs.Items.{items_in_order, frame_length_of_longer, items_of_nothing}
+use Rattle.stroke_lattice.proofs.Items.{frame_length_of_nothing, before_next, order_behind}
+use Rattle.std.proofs.lemmas.Bool.{le-leb, lt-leb}
+use Rattle.stroke_lattice.proofs.Adding.{piece_with_items, piece_without_items, item_takes_bytes, order_alone}
+use Rattle.stroke_lattice.proofs.Adding.{order_of_longer, filling_after, filling_begins, frame_length_of_one}
+use Rattle.stroke_lattice.proofs.Adding.{all_fit_push}
+use Rattle.stroke_lattice.proofs.{Cutting.items_of_filled, Placing.items_from_own_place, Placing.items_from_in_order}
 
 -- ---- the first of the pieces
 
@@ -33,9 +31,6 @@ first_taken max x xs =
       | false ↦ ap (λ (l : List State). l ++ rest) nothing_alone
     ]
 
-order_alone : (items : List Item) → AreInOrder items → AreInOrder (items_of nothing ++ items)
-order_alone items order = subst (λ (l : List Item). AreInOrder (l ++ items)) (sym items_of_nothing) order
-
 -- where an item does not fit the next piece begins with it
 next_begins : (max : ℕ) (piece : State) (x : Item) (xs : List Item) → AllBefore (items_of piece) x
     → max < frame_length piece + item_length x → HEAD_BYTES + item_length x ≤ max
@@ -43,14 +38,14 @@ next_begins : (max : ℕ) (piece : State) (x : Item) (xs : List Item) → AllBef
 next_begins max piece x xs before full small =
     let rest = filled max (with_item nothing x) xs in
     let no_room : fits max piece x ≡ false =
-    is_above (frame_length (with_item piece x)) max (omega (arith, frame_length_of_longer piece x before)) in
+    lt-leb (frame_length (with_item piece x)) max (omega (arith, frame_length_of_longer piece x before)) in
     ap (λ (b : Bool). if b then filled max (with_item piece x) xs else if_any piece ++ rest) no_room
     ∙ ap (λ (l : List State). l ++ rest) (piece_with_items piece (omega arith))
     ∙ ap (λ (l : List State). piece ∷ l) (sym (first_taken max x xs))
 
 fits_in : (max : ℕ) (piece : State) (x : Item) → AllBefore (items_of piece) x
     → frame_length piece + item_length x ≤ max → fits max piece x ≡ true
-fits_in max piece x before room = is_at_most (frame_length (with_item piece x)) max
+fits_in max piece x before room = le-leb (frame_length (with_item piece x)) max
     (omega (arith, frame_length_of_longer piece x before))
 
 some_pieces : (pieces : List State) (x : Item) (xs : List Item) → flat_map items_of pieces ≡ x ∷ xs
@@ -96,8 +91,7 @@ open_takes max pieces piece x left now room =
       whole = sym (ap (λ (b : Bool). if b then filled max (with_item piece x) left
           else if_any piece ++ filled max (with_item nothing x) left) (fits_in max piece x before room)) ∙ now.whole;
       fits = omega (arith, frame_length_of_longer piece x before);
-      order = subst (λ (items : List Item). AreInOrder (items ++ left)) (sym (items_of_longer piece x before))
-          (order_joined (items_of piece) x left now.order);
+      order = order_of_longer piece x left now.order;
     }
 
 pub open_is_full : (max : ℕ) (pieces : List State) (piece : State) (x : Item) (left : List Item)

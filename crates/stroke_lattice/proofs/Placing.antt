@@ -1,24 +1,16 @@
 -- The items of a state from a place on.
-use Rattle.std.proofs.Common.{◌≡◌, ℕ, Bool, true, false, not, ◌&&◌, cond, List, [], ◌∷◌, ◌++◌, map, refl, sym}
-use Rattle.std.proofs.Common.{ap, subst, ◌∙◌, arith, append_assoc}
-use Rattle.std.specs.Prelude.{nat_le}
-use Rattle.std.specs.BTreeMap.Range.{range_contains}
-use Rattle.std.specs.Map.{keys_of}
-use Rattle.std.specs.List.Sorted.{IsStrictlySortedBy}
+use Rattle.std.proofs.Common.{◌≡◌, ℕ, Bool, true, false, not, ◌&&◌, cond, List, [], ◌∷◌, ◌++◌, map, refl, sym, ap}
+use Rattle.std.proofs.Common.{subst, ◌∙◌, arith, append_assoc, nat_le, filter, nat_cmp, is_le}
+use Rattle.std.proofs.lemmas.Bool.{Decides.nat_tests, cond-false}
+use Rattle.std.specs.{BTreeMap.Range.range_contains, Map.keys_of, List.Sorted.IsStrictlySortedBy, List.AllByRecursion}
 use Rattle.std.specs.declared.ops.Bound.TheVariants.{Included, Excluded, Unbounded}
-use Rattle.std.specs.List.{AllByRecursion, filter}
-use Rattle.std.specs.Ordering.{nat_cmp, is_le}
-use Rattle.std.proofs.lemmas.Bool.Decides.{nat_tests}
 use Rattle.stroke_core.specs.Seed.{Seed}
-use Rattle.stroke_lattice.specs.declared.piece.Place.{Place}
-use Rattle.stroke_lattice.specs.declared.piece.Place.TheVariants as places
-use Rattle.stroke_lattice.specs.State.{State}
+use Rattle.stroke_lattice.specs.{declared.piece.Place.Place, State.State, Filling.ComesBefore, Filling.AreInOrder}
 use Rattle.stroke_lattice.specs.Pieces.{Item, Placed, Withdrawn, items_of, strokes_of}
 use Rattle.stroke_lattice.specs.Places.{is_from, items_from, place_of, items_in}
-use Rattle.stroke_lattice.specs.Filling.{ComesBefore, AreInOrder}
-use Rattle.stroke_lattice.proofs.Views.{kept}
-use Rattle.stroke_lattice.proofs.Walking.{are_strokes, are_tombstones}
+use Rattle.stroke_lattice.proofs.{Views.kept, Walking.are_strokes, Walking.are_tombstones}
 use Rattle.stroke_lattice.proofs.Items.{items_in_order, before_next, order_behind, strokes_are, tombstones_are}
+use Rattle.stroke_lattice.specs.declared.piece.Place.TheVariants as places
 
 -- ---- what the ranges of the map and of the set give
 
@@ -131,10 +123,6 @@ first_kept : (b : Bool) (x : Item) (xs ys : List Item) → b ≡ true → xs ≡
 first_kept true x xs ys e is = ap (λ (l : List Item). x ∷ l) is
 first_kept false x xs ys e is = absurd cc
 
-first_left : (b : Bool) (x : Item) (xs : List Item) → b ≡ false → cond b (x ∷ xs) xs ≡ xs
-first_left true x xs e = absurd cc
-first_left false x xs e = refl
-
 all_from : (place : Place) (x : Item) (xs : List Item) → is_from place x ≡ true
     → AllByRecursion (λ other. ComesBefore x other) xs → filter (is_from place) xs ≡ xs
 all_from place x [] from behind = refl
@@ -156,7 +144,7 @@ from_own_place : (before : List Item) (x : Item) (xs : List Item) → AreInOrder
 from_own_place [] x xs order = first_kept (is_from (place_of x) x) x (filter (is_from (place_of x)) xs) xs
     (at_own_place x) (all_from (place_of x) x xs (at_own_place x) order.0)
 from_own_place (y ∷ before) x xs order =
-    first_left (is_from (place_of x) y) y (filter (is_from (place_of x)) (before ++ x ∷ xs))
+    cond-false (is_from (place_of x) y) _ (filter (is_from (place_of x)) (before ++ x ∷ xs))
     (before_place x y (before_next (y ∷ before) x xs order).0)
     ∙ from_own_place before x xs order.1
 

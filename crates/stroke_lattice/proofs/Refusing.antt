@@ -1,10 +1,7 @@
 -- A merge answers with a conflict exactly where the states clash.
-use Rattle.std.proofs.Common.{◌≡◌, ℕ, ap, subst, arith}
-use Rattle.std.specs.Prelude.{Result, Ok, Err, IsErrOf, ◌↔◌}
-use Rattle.std.specs.Result.{IsErrAnd}
+use Rattle.std.proofs.Common.{◌≡◌, ℕ, ap, subst, arith, Result, Ok, Err, IsErrOf, ◌↔◌, IsErrAnd}
 use Rattle.stroke_lattice.specs.State.{State, IsLeastClash, AreCompatible}
-use Rattle.stroke_lattice.specs.Change.{Turnover}
-use Rattle.stroke_lattice.specs.declared.error.StateError.{StateError}
+use Rattle.stroke_lattice.specs.{Change.Turnover, declared.error.StateError.StateError}
 use Rattle.stroke_lattice.specs.declared.error.StateError.TheVariants as errors
 
 one_tag : (a b : ℕ) → IsErrOf {T = Turnover} (Err (errors.Conflict a)) (errors.Conflict b) → a ≡ b

@@ -1,20 +1,15 @@
 -- Walks over the strokes and over the tombstones of a state, as they are kept and as they go on.
-use Rattle.std.proofs.Common.{◌≡◌, ℕ, ◌<◌, ◌≤◌, Bool, true, false, not, ◌||◌, cond, List, [], ◌∷◌, Option, Some}
-use Rattle.std.proofs.Common.{refl, sym, ap, subst, ◌∙◌, ◌⊎◌, inl, inr, arith}
-use Rattle.std.specs.Prelude.{Contains}
-use Rattle.std.specs.Map.{keys_of}
-use Rattle.std.specs.BTreeMap.{is_at}
-use Rattle.std.specs.List.{AllByRecursion, filter}
-use Rattle.std.specs.List.Sorted.{IsStrictlySortedBy}
-use Rattle.std.specs.Ordering.{nat_cmp}
-use Rattle.std.proofs.lemmas.Bool.Decides.{nat_tests}
+use Rattle.std.proofs.Common.{◌≡◌, ℕ, ◌<◌, ◌≤◌, Bool, true, false, not, cond, List, [], ◌∷◌, Option, Some, refl, sym}
+use Rattle.std.proofs.Common.{ap, subst, ◌∙◌, ◌⊎◌, inl, inr, arith, Contains, filter, nat_cmp}
+use Rattle.std.proofs.lemmas.Bool.{Decides.nat_tests, cond-true, cond-false}
+use Rattle.std.specs.{Map.keys_of, BTreeMap.is_at, List.AllByRecursion, List.Sorted.IsStrictlySortedBy}
 use Rattle.stroke_core.specs.Seed.{Seed}
-use Rattle.stroke_lattice.specs.State.{State, HasStroke, HasTombstone}
-use Rattle.stroke_lattice.specs.Change.{AreRising}
-use Rattle.stroke_lattice.specs.Walks.{AreStrokes, AreTombstones, AreLive}
+use Rattle.stroke_lattice.specs.{State.State, State.HasStroke, State.HasTombstone, Change.AreRising, Walks.AreStrokes}
+use Rattle.stroke_lattice.specs.{Walks.AreTombstones, Walks.AreLive}
 use Rattle.stroke_lattice.proofs.Joins.{one_seed, no_seed}
-use Rattle.stroke_lattice.proofs.Lists.{first_or_later, later, first, here, none_in_nil, all_from_members}
-use Rattle.stroke_lattice.proofs.Lists.{from_filter, in_filter_from, rising_from_sorted, below_later}
+use Rattle.grid_core.proofs.Common.{either, first_or_later, later, first, here, not_in_empty, in_map, map_has}
+use Rattle.grid_core.proofs.Common.{in_filter, filter_has}
+use Rattle.stroke_lattice.proofs.Lists.{all_from_members, rising_from_sorted, below_later}
 use Rattle.stroke_lattice.proofs.Views.{kept, entry_at, key_at, get_kept, contains_kept}
 
 -- ---- what the entries and the keys of a state are
@@ -42,41 +37,17 @@ member_from_entry (x ∷ es) tag seed e = elim (chosen (is_at (nat_cmp tag) x.0)
   | inr there ↦ later x es (tag, seed) (member_from_entry es tag seed there)
 ]
 
-pub key_of_member : (es : List (ℕ × Seed)) (tag : ℕ) (seed : Seed) → Contains es (tag, seed)
-    → Contains (keys_of es) tag
-key_of_member [] tag seed has = absurd (none_in_nil (tag, seed) has)
-key_of_member (x ∷ es) tag seed has = elim (first_or_later x es (tag, seed) has) [
-  | inl e ↦ here x.0 (keys_of es) tag (ap (λ (p : ℕ × Seed). p.0) e)
-  | inr there ↦ later x.0 (keys_of es) tag (key_of_member es tag seed there)
-]
-
-pub member_of_key : (es : List (ℕ × Seed)) (tag : ℕ) → Contains (keys_of es) tag
-    → (seed : Seed) × Contains es (tag, seed)
-member_of_key [] tag has = absurd (none_in_nil tag has)
-member_of_key (x ∷ es) tag has = elim (first_or_later x.0 (keys_of es) tag has) [
-  | inl e ↦ (x.1, here x es (tag, x.1) (λ i. (e i, x.1)))
-  | inr there ↦ let rest = member_of_key es tag there in (rest.0, later x es (tag, rest.0) rest.1)
-]
-
-found_here : (b : Bool) (x : Seed) (o : Option Seed) → b ≡ true → cond b (Some x) o ≡ Some x
-found_here true x o e = refl
-found_here false x o e = absurd cc
-
-found_later : (b : Bool) (x : Seed) (o : Option Seed) → b ≡ false → cond b (Some x) o ≡ o
-found_later true x o e = absurd cc
-found_later false x o e = refl
-
 pub entry_from_member : (es : List (ℕ × Seed)) (tag : ℕ) (seed : Seed) → AreRising (keys_of es)
     → Contains es (tag, seed) → entry_at es tag ≡ Some seed
-entry_from_member [] tag seed rise has = absurd (none_in_nil (tag, seed) has)
+entry_from_member [] tag seed rise has = absurd (not_in_empty (tag, seed) has)
 entry_from_member (x ∷ es) tag seed rise has = elim (first_or_later x es (tag, seed) has) [
   | inl e ↦
       let tags : tag ≡ x.0 = sym (ap (λ (p : ℕ × Seed). p.0) e) in
-      found_here (is_at (nat_cmp tag) x.0) x.1 (entry_at es tag) (at_from_same tag x.0 tags)
+      cond-true (is_at (nat_cmp tag) x.0) (Some x.1) (entry_at es tag) (at_from_same tag x.0 tags)
       ∙ ap (λ (p : ℕ × Seed). Some p.1) e
   | inr there ↦
-      let below : x.0 < tag = below_later x.0 (keys_of es) tag rise (key_of_member es tag seed there) in
-      found_later (is_at (nat_cmp tag) x.0) x.1 (entry_at es tag) (not_at_below tag x.0 below)
+      let below : x.0 < tag = below_later x.0 (keys_of es) tag rise (map_has (λ e. e.0) es (tag, seed) there) in
+      cond-false (is_at (nat_cmp tag) x.0) (Some x.1) (entry_at es tag) (not_at_below tag x.0 below)
       ∙ entry_from_member es tag seed rise.1 there
 ]
 
@@ -93,15 +64,11 @@ are_strokes es ks s is sorted =
     })
 
 key_from_member : (ks : List ℕ) (tag : ℕ) → Contains ks tag → key_at ks tag ≡ true
-key_from_member [] tag has = absurd (none_in_nil tag has)
+key_from_member [] tag has = absurd (not_in_empty tag has)
 key_from_member (k ∷ ks) tag has = elim (first_or_later k ks tag has) [
   | inl e ↦ grind (arith, nat_tests, at_from_same tag k (sym e))
   | inr there ↦ grind (arith, nat_tests, key_from_member ks tag there)
 ]
-
-either : (a b : Bool) → (a || b) ≡ true → (a ≡ true) ⊎ (b ≡ true)
-either true b e = inl refl
-either false b e = inr e
 
 member_from_key : (ks : List ℕ) (tag : ℕ) → key_at ks tag ≡ true → Contains ks tag
 member_from_key [] tag e = absurd cc
@@ -136,9 +103,9 @@ rise_filter p [] rise = tt
 rise_filter p (x ∷ es) rise =
     let below : AllByRecursion (λ y. x.0 < y) (keys_of (filter p es)) = all_from_members (λ y. x.0 < y)
     (keys_of (filter p es)) (λ tag has.
-    let member = member_of_key (filter p es) tag has in
-    below_later x.0 (keys_of es) tag rise
-    (key_of_member es tag member.0 (from_filter p es (tag, member.0) member.1).0)) in
+    let member = in_map (λ e. e.0) (filter p es) tag has in
+    subst (λ t. x.0 < t) member.2 (below_later x.0 (keys_of es) member.0.0 rise
+    (map_has (λ e. e.0) es member.0 (in_filter p es member.0 member.1).0))) in
     rise_choice (p x) x (filter p es) below (rise_filter p es rise.1)
 
 fails : (b : Bool) → not b ≡ true → b ≡ true → ⊥
@@ -156,12 +123,11 @@ are_live es ks s is sorted =
     subst (λ (t : State). AreLive t (filter (lives ks) es)) is (record {
       each = λ tag seed. (
         λ has.
-            let member = from_filter (lives ks) es (tag, seed) has in (
+            let member = in_filter (lives ks) es (tag, seed) has in (
               get_kept es tag ∙ entry_from_member es tag seed rise member.0,
-              λ dead. fails (key_at ks tag) member.1
-                  (sym (contains_kept ks tag) ∙ dead),
+              λ dead. fails (key_at ks tag) member.1 (sym (contains_kept ks tag) ∙ dead),
             ),
-        λ live. in_filter_from (lives ks) es (tag, seed)
+        λ live. filter_has (lives ks) es (tag, seed)
             (member_from_entry es tag seed (sym (get_kept es tag) ∙ live.0))
             (passes (key_at ks tag) (λ dead. live.1 (contains_kept ks tag ∙ dead))),
       );
@@ -210,14 +176,9 @@ stroke_least P s e left walk tag seed has not_p = elim (walk.passed tag seed has
   | inr there ↦ elim (first_or_later e left (tag, seed) there) [
     | inl is ↦ let tags : e.0 ≡ tag = ap (λ (x : ℕ × Seed). x.0) is in omega arith
     | inr later ↦ let below : e.0 < tag = below_later e.0 (keys_of left) tag walk.rise
-        (key_of_member left tag seed later) in omega arith
+        (map_has (λ e. e.0) left (tag, seed) later) in omega arith
   ]
 ]
-
-pub strokes_end : (P : ℕ → Seed → Type 0) (s : State) → StrokesLeft P s [] → (tag : ℕ) (seed : Seed)
-    → HasStroke s tag seed → P tag seed
-strokes_end P s walk tag seed has = elim
-    (walk.passed tag seed has) [ inl p ↦ p | inr there ↦ absurd (none_in_nil (tag, seed) there) ]
 
 -- a walk over the tombstones of s has come to the tags that are left
 pub record TombstonesLeft (P : ℕ → Type 0) (s : State) (left : List ℕ) : Type 0 where
@@ -229,8 +190,7 @@ pub tombstones_start : (P : ℕ → Type 0) (s : State) (ks : List ℕ) → AreT
 tombstones_start P s ks walk = record {
   rise = walk.rise;
   kept = λ tag. (walk.each tag).0;
-  passed = λ tag has. inr
-      ((walk.each tag).1 has);
+  passed = λ tag has. inr ((walk.each tag).1 has);
 }
 
 pub tombstone_next : (P Q : ℕ → Type 0) (s : State) (k : ℕ) (left : List ℕ) → TombstonesLeft P s (k ∷ left)
@@ -269,5 +229,4 @@ pub tombstones_begin : (P : ℕ → Type 0) (s : State) (ks before : List ℕ) �
 tombstones_begin P s ks before is walk = subst (TombstonesLeft P s) (sym is) (tombstones_start P s ks walk)
 
 pub tombstones_end : (P : ℕ → Type 0) (s : State) → TombstonesLeft P s [] → (tag : ℕ) → HasTombstone s tag → P tag
-tombstones_end P s walk tag has = elim
-    (walk.passed tag has) [ inl p ↦ p | inr there ↦ absurd (none_in_nil tag there) ]
+tombstones_end P s walk tag has = elim (walk.passed tag has) [ inl p ↦ p | inr there ↦ absurd (not_in_empty tag there) ]

@@ -1,11 +1,10 @@
 -- How the pieces of a state are filled, item by item.
 use Rattle.std.specs.Prelude.{◌≡◌, ℕ, ◌+◌, ◌<◌, ◌≤◌, List, [], ◌∷◌, ◌++◌, nat_le, if◌then◌else◌}
 use Rattle.std.specs.List.{AllByRecursion}
-use Rattle.stroke_lattice.specs.declared.split.Pieces.{Pieces}
-use Rattle.stroke_lattice.specs.declared.split.TheConstants.{MIN_PIECE_BYTES}
+use Rattle.stroke_lattice.specs.{declared.split.Pieces.Pieces, declared.split.TheConstants.MIN_PIECE_BYTES}
 use Rattle.stroke_lattice.specs.State.{State, nothing}
-use Rattle.stroke_lattice.specs.Pieces.{Item, Placed, Withdrawn, items_of, frame_length, with_item, fits}
-use Rattle.stroke_lattice.specs.Pieces.{filled, pieces_of, AllFit}
+use Rattle.stroke_lattice.specs.Pieces.{Item, Placed, Withdrawn, items_of, frame_length, with_item, fits, filled}
+use Rattle.stroke_lattice.specs.Pieces.{pieces_of, AllFit}
 
 -- the pieces that take no more, and the last one
 pub record Filling : Type 0 where

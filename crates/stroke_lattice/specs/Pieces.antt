@@ -1,13 +1,12 @@
 -- A state in pieces that fit into frames of a greatest length: one piece is filled after another, greedily.
 use Rattle.std.specs.Prelude.{◌≡◌, ℕ, ◌+◌, ◌<◌, ◌≤◌, List, [], ◌∷◌, ◌++◌, map, length, Bool, nat_le, nat_lt}
-use Rattle.std.specs.Prelude.{if◌then◌else◌}
-use Rattle.std.specs.Ordering.{nat_cmp}
+use Rattle.std.specs.Prelude.{if◌then◌else◌, sum_by}
+use Rattle.std.specs.{Ordering.nat_cmp, List.AllByRecursion}
 use Rattle.std.specs.FinMap.{entries, keys, insert, from_entries}
-use Rattle.std.specs.FinSet as set
-use Rattle.std.specs.List.{sum_by, AllByRecursion}
 use Rattle.stroke_core.specs.Seed.{Seed, byte_len_of}
 use Rattle.stroke_lattice.specs.declared.split.TheConstants.{HEAD_BYTES, TOMBSTONE_BYTES}
 use Rattle.stroke_lattice.specs.State.{State, nothing}
+use Rattle.std.specs.FinSet as set
 
 -- what a state is made of: a stroke under its tag, or a tombstone
 pub data Item : Type 0 where

@@ -1,14 +1,11 @@
 -- The pieces of a state from one of them on, by where it begins.
-use Rattle.std.specs.Prelude.{◌≡◌, ℕ, List, [], ◌++◌, map, Bool, true, false, nat_le, Option, Some, None}
-use Rattle.std.specs.List.{filter}
+use Rattle.std.specs.Prelude.{◌≡◌, ℕ, List, [], ◌++◌, map, Bool, true, false, nat_le, Option, Some, None, filter}
 use Rattle.stroke_core.specs.Seed.{Seed}
-use Rattle.stroke_lattice.specs.declared.entries.Entry.{Entry}
-use Rattle.stroke_lattice.specs.declared.entries.Entry.TheVariants as entries
-use Rattle.stroke_lattice.specs.declared.piece.OpenPiece.{OpenPiece}
-use Rattle.stroke_lattice.specs.declared.piece.Place.{Place}
-use Rattle.stroke_lattice.specs.declared.piece.Place.TheVariants as places
-use Rattle.stroke_lattice.specs.State.{State, nothing}
+use Rattle.stroke_lattice.specs.{declared.entries.Entry.Entry, declared.piece.OpenPiece.OpenPiece}
+use Rattle.stroke_lattice.specs.{declared.piece.Place.Place, State.State, State.nothing}
 use Rattle.stroke_lattice.specs.Pieces.{Item, Placed, Withdrawn, items_of, frame_length, filled}
+use Rattle.stroke_lattice.specs.declared.entries.Entry.TheVariants as entries
+use Rattle.stroke_lattice.specs.declared.piece.Place.TheVariants as places
 
 -- whether the item stands at the place or behind it
 abbrev pub is_from : Place → Item → Bool

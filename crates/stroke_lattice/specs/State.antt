@@ -1,11 +1,10 @@
 -- What replicas agree on: strokes and tombstones under their tags, a set that only grows and is merged by
 -- least upper bound (Shapiro, Preguiça, Baquero and Zawirski, "Conflict-free Replicated Data Types", 2011).
 use Rattle.std.specs.Prelude.{◌≡◌, ℕ, ◌≤◌, List, [], ◌∷◌, Some, ◌⊎◌, ◌↔◌, IsTrue}
-use Rattle.std.specs.Ordering.{nat_cmp}
+use Rattle.std.specs.{Ordering.nat_cmp, List.AllByRecursion}
+use Rattle.stroke_core.specs.Seed.{Seed, Fits}
 use Rattle.std.specs.FinMap as map
 use Rattle.std.specs.FinSet as set
-use Rattle.std.specs.List.{AllByRecursion}
-use Rattle.stroke_core.specs.Seed.{Seed, Fits}
 
 -- seeds by their tags, and the tags that were withdrawn
 pub record State : Type 0 where

@@ -1,11 +1,9 @@
 -- A state is stored as the pair of its map and its set.
-use Rattle.std.specs.Prelude.{refl}
-use Rattle.std.specs.Coded.{Coded, code_by, coded×, coded_ℕ}
-use Rattle.std.specs.Ordering.{nat_cmp}
-use Rattle.std.specs.FinMap as map
-use Rattle.std.specs.FinSet as set
+use Rattle.std.specs.{Prelude.refl, Coded.Coded, Coded.code_by, Coded.coded×, Coded.coded_ℕ, Ordering.nat_cmp}
 use Rattle.stroke_core.specs.Seed.{Seed}
 use Rattle.stroke_lattice.specs.State.{State}
+use Rattle.std.specs.FinMap as map
+use Rattle.std.specs.FinSet as set
 
 -- the code of states, from that of seeds
 abbrev pub state_code : Coded Seed → Coded State

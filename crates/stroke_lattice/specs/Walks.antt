@@ -1,8 +1,7 @@
 -- What the walks over a state give.
 use Rattle.std.specs.Prelude.{ℕ, List, map, ◌↔◌, Contains}
 use Rattle.stroke_core.specs.Seed.{Seed}
-use Rattle.stroke_lattice.specs.State.{State, HasStroke, HasTombstone, IsLive}
-use Rattle.stroke_lattice.specs.Change.{AreRising}
+use Rattle.stroke_lattice.specs.{State.State, State.HasStroke, State.HasTombstone, State.IsLive, Change.AreRising}
 
 -- the strokes of the state with their tags, rising by tag
 pub record AreStrokes (s : State) (entries : List (ℕ × Seed)) : Type 0 where

@@ -77,7 +77,7 @@ impl State {
     }
 
     /// Puts an item behind all others.
-    fn put_last(&mut self, alloc: Global, entry: &Entry<'_>) -> Result<(), Memory>
+    pub(crate) fn put_last(&mut self, alloc: Global, entry: &Entry<'_>) -> Result<(), Memory>
         requires { AllBefore (items_of self.old) (item_of entry.now) }
         ensures { OnOk result (self.new ≡ with_item self.old (item_of entry.now)) }
     {

@@ -1,17 +1,16 @@
 //! A state in pieces, each small enough for a frame of its own.
 
 ghost use Rattle.std.specs.Prelude.{◌≡◌, ◌+◌, ◌≤◌, [], ◌++◌, IfOk, OnOk};
-ghost use Rattle.stroke_core.specs.Seed.{byte_len_of};
 ghost use Rattle.stroke_lattice.specs.State.{nothing};
 ghost use Rattle.stroke_lattice.specs.Filling.{filling, IsMeasured, with_room, CanTake, HasTaken, AreFilled};
-ghost use Rattle.stroke_lattice.specs.Pieces.{Placed, Withdrawn, items_of, tombstone_items, frame_length};
-ghost use Rattle.stroke_lattice.specs.Pieces.{pieces_of, if_any, AllFit};
+ghost use Rattle.stroke_lattice.specs.Pieces.{items_of, item_length, frame_length, pieces_of, if_any, AllFit};
+ghost use Rattle.stroke_lattice.specs.Places.{item_of};
 
+use crate::entries::Entry;
 use crate::state::{Delta, State};
 use grid_core::Memory;
 use std::alloc::Global;
 use std::mem;
-use stroke_core::{Stroke, Tag};
 
 /// The length of a frame without strokes and tombstones, in bytes: 4 of magic, 1 of connectivity, 32 of fingerprint,
 /// and 2 for the number of strokes and 2 for that of tombstones.
@@ -36,39 +35,22 @@ impl State {
         ensures fit { IfOk result (λ pieces. AllFit max_bytes pieces.items) }
     {
         let mut pieces = Pieces::new(alloc);
-        self.split_strokes(alloc, max_bytes, &mut pieces)?;
-        self.split_tombstones(alloc, max_bytes, &mut pieces)?;
+        self.split_items(alloc, max_bytes, &mut pieces)?;
         pieces.finish()
     }
 
-    /// Adds the strokes.
-    fn split_strokes(
+    /// Adds the strokes and then the tombstones.
+    fn split_items(
         &self,
         alloc: Global,
         max_bytes: usize,
         pieces: &mut Pieces,
     ) -> Result<(), Memory>
         requires { AreFilled max_bytes self.now pieces.old (items_of self.now) }
-        ensures { OnOk result (AreFilled max_bytes self.now pieces.new (tombstone_items self.now)) }
-    {
-        for (tag, stroke) in self.strokes() {
-            pieces.add_stroke(alloc, max_bytes, *tag, stroke)?;
-        }
-        Ok(())
-    }
-
-    /// Adds the tombstones.
-    fn split_tombstones(
-        &self,
-        alloc: Global,
-        max_bytes: usize,
-        pieces: &mut Pieces,
-    ) -> Result<(), Memory>
-        requires { AreFilled max_bytes self.now pieces.old (tombstone_items self.now) }
         ensures { OnOk result (AreFilled max_bytes self.now pieces.new []) }
     {
-        for tag in self.tombstones() {
-            pieces.add_tombstone(alloc, max_bytes, *tag)?;
+        for entry in self.items() {
+            pieces.add(alloc, max_bytes, &entry)?;
         }
         Ok(())
     }
@@ -94,34 +76,16 @@ impl Pieces {
         }
     }
 
-    /// Puts the stroke into the last piece, or into the next one where it does not fit.
-    fn add_stroke(
-        &mut self,
-        alloc: Global,
-        max_bytes: usize,
-        tag: Tag,
-        stroke: &Stroke,
-    ) -> Result<(), Memory>
-        requires { CanTake max_bytes self.old (Placed tag stroke.now) }
-        ensures small { HEAD_BYTES + byte_len_of stroke.now.shape ≤ max_bytes }
-        ensures taken { OnOk result (HasTaken max_bytes (Placed tag stroke.now) self.old self.new) }
+    /// Puts the item into the last piece, or into the next one where it does not fit.
+    fn add(&mut self, alloc: Global, max_bytes: usize, entry: &Entry<'_>) -> Result<(), Memory>
+        requires { CanTake max_bytes self.old (item_of entry.now) }
+        ensures small { HEAD_BYTES + item_length (item_of entry.now) ≤ max_bytes }
+        ensures taken { OnOk result (HasTaken max_bytes (item_of entry.now) self.old self.new) }
     {
-        let _ = stroke.level();
-        let bytes = stroke.byte_len();
+        let bytes = entry.byte_len();
         self.make_room(alloc, max_bytes, bytes)?;
-        self.last.insert(tag, stroke.copy(alloc)?)?;
+        self.last.put_last(alloc, entry)?;
         self.length += bytes;
-        Ok(())
-    }
-
-    /// Puts the tombstone into the last piece, or into the next one where it does not fit.
-    fn add_tombstone(&mut self, alloc: Global, max_bytes: usize, tag: Tag) -> Result<(), Memory>
-        requires { CanTake max_bytes self.old (Withdrawn tag) }
-        ensures { OnOk result (HasTaken max_bytes (Withdrawn tag) self.old self.new) }
-    {
-        self.make_room(alloc, max_bytes, TOMBSTONE_BYTES)?;
-        self.last.bury(tag)?;
-        self.length += TOMBSTONE_BYTES;
         Ok(())
     }
 

@@ -1,9 +1,8 @@
 use Rattle.std.proofs.Common.{◌≡◌, ◌++◌, length, take, sym, ap, ◌∙◌, subst, take_at, refl, rules}
-use Rattle.std.specs.Io.KnownBytes.{Appends}
 use Rattle.std.proofs.KnownBytes.{Appends-trans, Appends-kept}
+use Rattle.std.specs.Io.KnownBytes.{Appends}
 use Rattle.byte_devices.specs.Transfer.{AppendsFront}
-use Rattle.byte_devices.proofs.Pieces.{moves_front}
-use Rattle.byte_devices.proofs.Shared.{OnErr-always}
+use Rattle.byte_devices.proofs.{Pieces.moves_front, Shared.OnErr-always}
 use Rattle.byte_devices.proofs.transfer.put_all.Goals as goal
 
 pub returns-in_err-n : goal.returns-in_err-n

@@ -1,9 +1,7 @@
 use Rattle.std.proofs.Common.{◌≡◌, ◌+◌, take, sym, ap, ◌∙◌, subst, inl, inr, refl, arith, rules, length-drop}
-use Rattle.std.proofs.lemmas.Result.{err_from_is_err_and}
-use Rattle.std.specs.Io.KnownBytes.{Consumes}
-use Rattle.std.proofs.KnownBytes.{Consumes-trans}
+use Rattle.std.proofs.{lemmas.Result.err_from_is_err_and, KnownBytes.Consumes-trans, lemmas.Grind.common_steps}
 use Rattle.std.proofs.lemmas.List.{places, with_items_is}
-use Rattle.std.proofs.lemmas.Grind.{common_steps}
+use Rattle.std.specs.Io.KnownBytes.{Consumes}
 use Rattle.byte_devices.proofs.Pieces.{filled_more}
 use Rattle.byte_devices.proofs.transfer.read_all_within.Goals as goal
 

@@ -1,5 +1,4 @@
-use Rattle.std.proofs.Common.{◌≡◌, ◌+◌, ◌-◌, ◌^◌, ℕ, List, [], length, min, ap, ◌∙◌, arith}
-use Rattle.std.specs.List.{flat_map}
+use Rattle.std.proofs.Common.{◌≡◌, ◌+◌, ◌-◌, ◌^◌, ℕ, List, [], length, min, ap, ◌∙◌, arith, flat_map}
 use Rattle.stroke_core.specs.Seed.{Seed}
 use Rattle.edit_lang.specs.Writing.{placement_text, live_of, live_text}
 use Rattle.edit_lang.proofs.LiveStrokes.{live_are}

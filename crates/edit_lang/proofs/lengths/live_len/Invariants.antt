@@ -1,5 +1,4 @@
-use Rattle.std.proofs.Common.{◌≡◌, ◌+◌, ◌-◌, ◌≤◌, ◌^◌, length, min}
-use Rattle.std.specs.List.{flat_map}
+use Rattle.std.proofs.Common.{◌≡◌, ◌+◌, ◌-◌, ◌≤◌, ◌^◌, length, min, flat_map}
 use Rattle.edit_lang.specs.Writing.{placement_text, live_text}
 use Rattle.edit_lang.proofs.lengths.live_len.Given as goal
 

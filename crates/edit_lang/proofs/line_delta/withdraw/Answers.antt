@@ -1,5 +1,4 @@
-use Rattle.std.proofs.Common.{◌≡◌, sym, subst}
-use Rattle.std.specs.Prelude.{Result, Ok, Err, OnOk}
+use Rattle.std.proofs.Common.{◌≡◌, sym, subst, Result, Ok, Err, OnOk}
 use Rattle.stroke_lattice.specs.State.{State, IsJoin, withdrawn}
 use Rattle.stroke_lattice.proofs.Growing.{with_tombstone}
 use Rattle.edit_lang.proofs.OneDelta.{join_with_tombstone, join_with_buried}

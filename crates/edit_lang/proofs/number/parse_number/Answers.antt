@@ -1,11 +1,10 @@
 use Rattle.std.proofs.Common.{length, sym, ◌∙◌, arith}
+use Rattle.std.proofs.{lemmas.Bool.eqb-true, lemmas.Bool.eqb-false, lemmas.List.Folds.list_all_at}
 use Rattle.std.specs.Char.{is_ascii_digit}
-use Rattle.std.proofs.lemmas.Bool.{eqb-true, eqb-false}
-use Rattle.std.proofs.lemmas.List.Folds.{list_all_at}
 use Rattle.edit_lang.proofs.Digits.{no_digits, many_digits, wrong_byte, is_value}
-use Rattle.edit_lang.proofs.number.parse_number.Goals as goal
 use Rattle.edit_lang.proofs.number.parse_number.Goals.{then-is_empty-via-then-is_empty}
 use Rattle.edit_lang.proofs.number.parse_number.Goals.{then-is_empty-via-else-is_empty+then-word-gt-MAX_DIGITS}
+use Rattle.edit_lang.proofs.number.parse_number.Goals as goal
 
 pub returns-then-is_empty : goal.returns-then-is_empty
 returns-then-is_empty c =

@@ -1,7 +1,5 @@
 use Rattle.std.proofs.Common.{◌≡◌, ◌<◌, ◌^◌, true, take, drop}
-use Rattle.std.specs.List.{list_all}
-use Rattle.std.specs.Char.{is_ascii_digit}
-use Rattle.std.specs.Str.Parse.{digits_value, digits_value_after}
+use Rattle.std.specs.{List.list_all, Char.is_ascii_digit, Str.Parse.digits_value, Str.Parse.digits_value_after}
 use Rattle.edit_lang.proofs.number.parse_number.Given as goal
 
 abbrev pub invariant-loop-byte : goal.invariant-loop-byte

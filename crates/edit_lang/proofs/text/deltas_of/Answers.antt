@@ -1,6 +1,5 @@
 use Rattle.std.proofs.Common.{◌≡◌, ◌<◌, ◌∙◌, List, ◌∷◌, [], ◌++◌, ap, sym, arith, length, take}
-use Rattle.std.proofs.lemmas.List.{take_more}
-use Rattle.std.proofs.Math.Seq.{take-length}
+use Rattle.std.proofs.{lemmas.List.take_more, Math.Seq.take-length}
 use Rattle.stroke_lattice.specs.State.{State}
 use Rattle.edit_lang.proofs.text.deltas_of.Goals as goal
 

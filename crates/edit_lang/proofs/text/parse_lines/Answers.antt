@@ -1,6 +1,5 @@
 use Rattle.std.proofs.Common.{◌+◌, Ok, Some, sym, ◌∙◌, arith}
-use Rattle.std.proofs.lemmas.Bool.{eqb-true}
-use Rattle.std.proofs.lemmas.Result.{err_from_is_err_and}
+use Rattle.std.proofs.{lemmas.Bool.eqb-true, lemmas.Result.err_from_is_err_and}
 use Rattle.edit_lang.specs.Edit.{LineMeans}
 use Rattle.edit_lang.proofs.Reading.{reads_on, faults, reads_all}
 use Rattle.edit_lang.proofs.text.parse_lines.Goals as goal

@@ -1,7 +1,6 @@
 use Rattle.std.proofs.Common.{◌∙◌, sym, ap, refl, length, ◌<◌, ◌≤◌, arith}
 use Rattle.std.proofs.lemmas.Bool.{eqb-true, eqb-false}
-use Rattle.std.proofs.lemmas.List.{nil_from_length}
-use Rattle.std.proofs.lemmas.List.Sums.{prefix_len-le-length}
+use Rattle.std.proofs.{lemmas.List.nil_from_length, lemmas.List.Sums.prefix_len-le-length}
 use Rattle.edit_lang.specs.Lines.{words_of}
 use Rattle.edit_lang.proofs.Cutting.{words_first, words-nil}
 use Rattle.edit_lang.proofs.words.first_word.Goals as goal

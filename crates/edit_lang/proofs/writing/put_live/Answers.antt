@@ -1,5 +1,5 @@
-use Rattle.std.proofs.Common.{◌≡◌, ◌++◌, ap, subst, ◌∙◌}
-use Rattle.std.specs.List.{flat_map, AllByRecursion}
+use Rattle.std.proofs.Common.{◌≡◌, ◌++◌, ap, subst, ◌∙◌, flat_map}
+use Rattle.std.specs.List.{AllByRecursion}
 use Rattle.edit_lang.specs.Writing.{placement_text, live_of, IsHeld}
 use Rattle.edit_lang.proofs.LiveStrokes.{live_are}
 use Rattle.edit_lang.proofs.writing.put_live.Goals as goal

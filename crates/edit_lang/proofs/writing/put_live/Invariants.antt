@@ -1,5 +1,5 @@
-use Rattle.std.proofs.Common.{◌≡◌, ◌++◌}
-use Rattle.std.specs.List.{flat_map, AllByRecursion}
+use Rattle.std.proofs.Common.{◌≡◌, ◌++◌, flat_map}
+use Rattle.std.specs.List.{AllByRecursion}
 use Rattle.edit_lang.specs.Writing.{placement_text, live_of, live_text, IsHeld}
 use Rattle.edit_lang.proofs.writing.put_live.Given as goal
 

@@ -1,7 +1,6 @@
-use Rattle.std.proofs.Common.{◌≡◌, ◌∷◌, ◌++◌, drop}
-use Rattle.std.specs.List.{flat_map, AllByRecursion}
-use Rattle.edit_lang.specs.Shapes.{comma}
-use Rattle.edit_lang.specs.Writing.{run_text, HasCoordinates}
+use Rattle.std.proofs.Common.{◌≡◌, ◌∷◌, ◌++◌, drop, flat_map}
+use Rattle.std.specs.List.{AllByRecursion}
+use Rattle.edit_lang.specs.{Shapes.comma, Writing.run_text, Writing.HasCoordinates}
 use Rattle.edit_lang.proofs.writing.put_runs_behind.Given as goal
 
 abbrev pub invariant-loop-run : goal.invariant-loop-run

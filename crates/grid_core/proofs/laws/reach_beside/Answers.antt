@@ -1,5 +1,4 @@
-use Rattle.grid_core.proofs.Pixels.{AreNeighbours-sym}
-use Rattle.grid_core.proofs.Reach.{reaches_by_step}
+use Rattle.grid_core.proofs.{Pixels.AreNeighbours-sym, Reach.reaches_by_step}
 use Rattle.grid_core.proofs.laws.reach_beside.Goals as goal
 
 pub returns : goal.returns

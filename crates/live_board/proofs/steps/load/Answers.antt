@@ -1,6 +1,6 @@
 use Rattle.std.proofs.Common.{subst}
 use Rattle.grid_core.specs.declared.pixel.Pixel.{Pixel}
-use Rattle.live_board.proofs.Stepping.{loads_at}
+use Rattle.live_board.proofs.Stepping.{loads}
 use Rattle.live_board.specs.Steps.{IsHighest}
 use Rattle.live_board.proofs.steps.load.Goals as goal
 
@@ -8,8 +8,8 @@ pub load-requires : goal.load-requires
 load-requires g c = (
   c.requires.seat.table_is,
   c.place-word.ensures.within,
-  loads_at g.J.At.pixel _ _ _ _ c.args.seat.now.me c.args.pixel _ c.args.board.now.about c.requires.seat.bare
-      c.requires.at c.place-word.ensures.value c.requires.pixel,
+  rw (c.args.board.now.about, c.requires.at, c.place-word.ensures.value)
+      (loads _ _ _ c.args.seat.now.me c.args.pixel c.requires.pixel),
 )
 
 pub returns-clause-highest : goal.returns-clause-highest

@@ -1,5 +1,4 @@
-use Rattle.std.proofs.Common.{◌≡◌, ◌++◌, take}
-use Rattle.std.specs.List.{flat_map}
+use Rattle.std.proofs.Common.{◌≡◌, ◌++◌, take, flat_map}
 use Rattle.pgm_codec.proofs.PlainLoop.{behind}
 use Rattle.pgm_codec.proofs.plain_writing.put_behind.Given as goal
 

@@ -1,8 +1,6 @@
 use Rattle.std.proofs.Common.{◌≡◌, ◌≤◌, ◌++◌, ◌∷◌, [], inr, arith, length-append}
-use Rattle.std.proofs.lemmas.Result.{err_from_is_err_and}
-use Rattle.std.proofs.lemmas.List.Elements.{All-push}
-use Rattle.pgm_codec.specs.declared.grammar.Encoding.TheVariants.{Plain}
-use Rattle.pgm_codec.specs.Reading.{samples_at}
+use Rattle.std.proofs.{lemmas.Result.err_from_is_err_and, lemmas.List.Elements.All-push}
+use Rattle.pgm_codec.specs.{declared.grammar.Encoding.TheVariants.Plain, Reading.samples_at}
 use Rattle.pgm_codec.proofs.SampleLoop.{goes_on, fails, is_done}
 use Rattle.pgm_codec.proofs.raster.plain_samples.Goals as goal
 

@@ -1,6 +1,5 @@
 use Rattle.std.proofs.Common.{◌≡◌, ◌≤◌, ◌-◌, length, All}
-use Rattle.pgm_codec.specs.declared.grammar.Encoding.TheVariants.{Plain}
-use Rattle.pgm_codec.specs.Reading.{samples_at}
+use Rattle.pgm_codec.specs.{declared.grammar.Encoding.TheVariants.Plain, Reading.samples_at}
 use Rattle.pgm_codec.proofs.SampleLoop.{with_front}
 use Rattle.pgm_codec.proofs.raster.plain_samples.Given as goal
 

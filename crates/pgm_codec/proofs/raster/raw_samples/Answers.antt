@@ -1,11 +1,9 @@
 use Rattle.std.proofs.Common.{◌≡◌, ℕ, ◌*◌, ◌/◌, ◌<◌, ◌≤◌, min, List, length, drop, slice_index, Ok, inr, ap, sym, subst}
-use Rattle.std.proofs.Common.{◌∙◌, arith}
-use Rattle.std.specs.Prelude.{nat_lt}
-use Rattle.std.specs.List.{list_any}
+use Rattle.std.proofs.Common.{◌∙◌, arith, nat_lt}
 use Rattle.std.proofs.lemmas.List.{take_rest}
+use Rattle.std.specs.List.{list_any}
 use Rattle.grid_core.specs.Raster.{max_level}
-use Rattle.pgm_codec.specs.Spelling.{is_wide}
-use Rattle.pgm_codec.specs.Reading.{sample_width, raw_value}
+use Rattle.pgm_codec.specs.{Spelling.is_wide, Reading.sample_width, Reading.raw_value}
 use Rattle.pgm_codec.proofs.RawSamples.{AreFirst, above_gives, short_gives, enough_gives, all_within}
 use Rattle.pgm_codec.proofs.raster.raw_samples.Goals as goal
 

@@ -1,6 +1,6 @@
-use Rattle.std.proofs.Common.{List, ℕ, sym, subst, ap, ◌∙◌, take, map}
-use Rattle.std.specs.Int.{w16, from_be_bytes}
+use Rattle.std.proofs.Common.{List, ℕ, sym, subst, ap, ◌∙◌, take, map, w16}
 use Rattle.std.proofs.lemmas.Result.{IfOk-weaker}
+use Rattle.std.specs.Int.{from_be_bytes}
 use Rattle.pgm_codec.specs.Reading.{AreRawValues}
 use Rattle.pgm_codec.proofs.RawSamples.{pairs_are_values}
 use Rattle.pgm_codec.proofs.raster.raw_values.Goals as goal

@@ -1,6 +1,5 @@
 use Rattle.pgm_codec.specs.declared.error.PgmError.TheVariants.{Memory, Device}
-use Rattle.pgm_codec.proofs.Images.{same_fault, no_fault}
-use Rattle.pgm_codec.proofs.FaultKinds.{fault_kind}
+use Rattle.pgm_codec.proofs.{Images.same_fault, Images.no_fault, FaultKinds.fault_kind}
 use Rattle.pgm_codec.proofs.reading.one_fault.Goals as goal
 
 pub returns : goal.returns

@@ -1,5 +1,4 @@
-use Rattle.std.proofs.Common.{◌≡◌, ◌++◌, [], subst, refl, rules}
-use Rattle.std.specs.List.{flat_map}
+use Rattle.std.proofs.Common.{◌≡◌, ◌++◌, [], subst, refl, rules, flat_map}
 use Rattle.std.proofs.KnownBytes.{Appends-nil}
 use Rattle.byte_devices.specs.Transfer.{AppendsFront}
 use Rattle.byte_devices.proofs.Shared.{OnErr-always}

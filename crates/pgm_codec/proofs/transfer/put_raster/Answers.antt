@@ -1,5 +1,4 @@
-use Rattle.std.proofs.Common.{◌≤◌, ◌∙◌, arith, rules}
-use Rattle.std.specs.List.{flat_map}
+use Rattle.std.proofs.Common.{◌≤◌, ◌∙◌, arith, rules, flat_map}
 use Rattle.std.proofs.lemmas.List.Elements.{All-drop}
 use Rattle.byte_devices.specs.Transfer.{AppendsFront}
 use Rattle.byte_devices.proofs.Shared.{OnErr-always}
@@ -40,8 +39,7 @@ loop-rest-preserved g c =
       taken = block_more (sample_bytes c.args.maxval) c.args.samples.now done rest c.split_at.result.0.now
           c.split_at.result.1.now c.min.result old.written mid.written new.written split c.split_at.ensures.front
           c.split_at.ensures.back taken c.in_ok-put_block.ensures.put.text;
-      within = rw c.split_at.ensures.back
-          (All-drop (λ s. s ≤ c.args.maxval) c.min.result rest before.within);
+      within = rw c.split_at.ensures.back (All-drop (λ s. s ≤ c.args.maxval) c.min.result rest before.within);
       failures = c.in_ok-put_block.ensures.put.steady ∙ before.failures;
       room = omega (arith, before.room, c.put_block.ensures.len);
     }

@@ -1,7 +1,6 @@
 -- What is gone from `rest` was put, and no put failed.
-use Rattle.std.proofs.Common.{◌≡◌, ◌≤◌, List, ℕ, ◌++◌, length, All}
+use Rattle.std.proofs.Common.{◌≡◌, ◌≤◌, List, ℕ, ◌++◌, length, All, flat_map}
 use Rattle.std.specs.Io.KnownBytes.{Appends}
-use Rattle.std.specs.List.{flat_map}
 use Rattle.pgm_codec.specs.Writing.{sample_bytes}
 use Rattle.pgm_codec.proofs.transfer.put_raster.Given as goal
 

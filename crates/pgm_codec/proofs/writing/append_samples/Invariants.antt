@@ -1,6 +1,5 @@
 -- What is gone from `rest` was appended.
-use Rattle.std.proofs.Common.{◌≡◌, ◌≤◌, List, ℕ, ◌++◌, length, All}
-use Rattle.std.specs.List.{flat_map}
+use Rattle.std.proofs.Common.{◌≡◌, ◌≤◌, List, ℕ, ◌++◌, length, All, flat_map}
 use Rattle.pgm_codec.specs.Writing.{sample_bytes}
 use Rattle.pgm_codec.proofs.writing.append_samples.Given as goal
 

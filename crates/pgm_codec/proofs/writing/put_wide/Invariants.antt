@@ -1,5 +1,4 @@
-use Rattle.std.proofs.Common.{◌≡◌, ◌+◌, ◌*◌, ◌++◌, length, take}
-use Rattle.std.specs.List.{flat_map}
+use Rattle.std.proofs.Common.{◌≡◌, ◌+◌, ◌*◌, ◌++◌, length, take, flat_map}
 use Rattle.pgm_codec.specs.Writing.{sample_bytes}
 use Rattle.pgm_codec.proofs.writing.put_wide.Given as goal
 

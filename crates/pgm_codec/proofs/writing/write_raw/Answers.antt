@@ -1,5 +1,4 @@
-use Rattle.std.proofs.Common.{arith}
-use Rattle.std.proofs.lemmas.Grind.{common_steps}
+use Rattle.std.proofs.{Common.arith, lemmas.Grind.common_steps}
 use Rattle.pgm_codec.specs.Writing.{raw_text}
 use Rattle.pgm_codec.proofs.writing.write_raw.Goals as goal
 

@@ -1,5 +1,4 @@
-use Rattle.spd_codec.proofs.FrameLaws.{first_fault, no_fault}
-use Rattle.spd_codec.proofs.FaultKinds.{no_memory}
+use Rattle.spd_codec.proofs.FrameLaws.{first_fault, no_fault, no_memory}
 use Rattle.spd_codec.proofs.laws.one_fault.Goals as goal
 
 pub returns : goal.returns

@@ -1,5 +1,4 @@
-use Rattle.std.proofs.Common.{ap, ◌∙◌, subst}
-use Rattle.std.specs.Fmt.{decimal}
+use Rattle.std.proofs.Common.{ap, ◌∙◌, subst, decimal}
 use Rattle.sha2.specs.Hashers.{Holds256}
 use Rattle.spd_codec.proofs.Prints.{header_parts}
 use Rattle.spd_codec.proofs.print.add_header.Goals as goal

@@ -1,5 +1,4 @@
-use Rattle.std.proofs.Common.{◌≤◌, sym, subst, All}
-use Rattle.std.proofs.lemmas.List.Elements.{All-drop}
+use Rattle.std.proofs.{Common.◌≤◌, Common.sym, Common.subst, Common.All, lemmas.List.Elements.All-drop}
 use Rattle.spd_codec.proofs.Prints.{holds_more}
 use Rattle.spd_codec.proofs.print.add_samples.Goals as goal
 

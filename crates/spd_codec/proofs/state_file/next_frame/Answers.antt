@@ -1,8 +1,7 @@
 use Rattle.std.proofs.Common.{◌≡◌, ◌++◌, ◌<◌, ◌≤◌, ◌^◌, inl, inr, refl, subst, ap, ◌∙◌, drop, take, length, arith, List}
 use Rattle.std.proofs.Common.{ℕ}
 use Rattle.std.proofs.lemmas.Result.{err_from_is_err_and}
-use Rattle.spd_codec.specs.Faults.{IsFault}
-use Rattle.spd_codec.specs.Spelling.{short}
+use Rattle.spd_codec.specs.{Faults.IsFault, Spelling.short}
 use Rattle.spd_codec.specs.StateFile.{behind_length, too_long, cut_short, in_frame}
 use Rattle.spd_codec.proofs.Files.{two_bytes, all_behind}
 use Rattle.spd_codec.proofs.state_file.next_frame.Goals as goal

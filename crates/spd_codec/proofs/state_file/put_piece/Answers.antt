@@ -1,6 +1,5 @@
 use Rattle.std.proofs.Common.{◌≡◌, ◌++◌, ap, ◌∙◌, length, List, ℕ, append_assoc, arith}
-use Rattle.spd_codec.specs.declared.version.Version.TheVariants.{Second}
-use Rattle.spd_codec.specs.Spelling.{short, frame_text}
+use Rattle.spd_codec.specs.{declared.version.Version.TheVariants.Second, Spelling.short, Spelling.frame_text}
 use Rattle.spd_codec.proofs.Lengths.{frame_text_length}
 use Rattle.spd_codec.proofs.state_file.put_piece.Goals as goal
 

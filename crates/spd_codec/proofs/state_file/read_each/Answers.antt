@@ -1,5 +1,4 @@
-use Rattle.std.proofs.Common.{List, inl, inr, sym, subst}
-use Rattle.std.proofs.lemmas.Result.{err_from_is_err_and}
+use Rattle.std.proofs.{Common.List, Common.inl, Common.inr, Common.sym, Common.subst, lemmas.Result.err_from_is_err_and}
 use Rattle.spd_codec.specs.declared.frame.Frame.{Frame}
 use Rattle.spd_codec.proofs.Files.{IsRead, one_more_read, stopped}
 use Rattle.spd_codec.proofs.state_file.read_each.Goals as goal

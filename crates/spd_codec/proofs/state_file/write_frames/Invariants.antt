@@ -1,8 +1,7 @@
 use Rattle.std.proofs.Common.{◌≡◌, ◌++◌, drop}
 use Rattle.std.specs.List.{AllByRecursion}
-use Rattle.spd_codec.specs.declared.version.Version.TheVariants.{Second}
+use Rattle.spd_codec.specs.{declared.version.Version.TheVariants.Second, StateFile.file_text}
 use Rattle.spd_codec.specs.Spelling.{frame_text, Spells}
-use Rattle.spd_codec.specs.StateFile.{file_text}
 use Rattle.spd_codec.proofs.state_file.write_frames.Given as goal
 
 abbrev pub invariant-loop-piece : goal.invariant-loop-piece

@@ -1,5 +1,5 @@
-use Rattle.std.proofs.Common.{◌≡◌, ◌++◌, drop}
-use Rattle.std.specs.List.{flat_map, AllByRecursion}
+use Rattle.std.proofs.Common.{◌≡◌, ◌++◌, drop, flat_map}
+use Rattle.std.specs.List.{AllByRecursion}
 use Rattle.spd_codec.specs.Spelling.{run_text, RunFits}
 use Rattle.spd_codec.proofs.writing.put_runs.Given as goal
 

@@ -1,8 +1,7 @@
-use Rattle.std.proofs.Common.{◌≡◌, ◌++◌, ap, subst, ◌∙◌}
-use Rattle.std.specs.List.{flat_map, AllByRecursion}
+use Rattle.std.proofs.Common.{◌≡◌, ◌++◌, ap, subst, ◌∙◌, flat_map}
+use Rattle.std.specs.List.{AllByRecursion}
 use Rattle.stroke_lattice.specs.Pieces.{strokes_of}
-use Rattle.spd_codec.specs.declared.version.Version.TheVariants.{Second}
-use Rattle.spd_codec.specs.Spelling.{stroke_text, StrokeFits}
+use Rattle.spd_codec.specs.{declared.version.Version.TheVariants.Second, Spelling.stroke_text, Spelling.StrokeFits}
 use Rattle.spd_codec.proofs.writing.put_strokes.Goals as goal
 
 pub loop-tag-init : goal.loop-tag-init

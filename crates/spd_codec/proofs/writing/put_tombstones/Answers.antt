@@ -1,5 +1,5 @@
-use Rattle.std.proofs.Common.{◌≡◌, ℕ, List, ◌++◌, ◌<◌, ◌^◌, ap, subst, ◌∙◌}
-use Rattle.std.specs.List.{flat_map, AllByRecursion}
+use Rattle.std.proofs.Common.{◌≡◌, ℕ, List, ◌++◌, ◌<◌, ◌^◌, ap, subst, ◌∙◌, flat_map}
+use Rattle.std.specs.List.{AllByRecursion}
 use Rattle.stroke_lattice.specs.Pieces.{tombstones_of}
 use Rattle.spd_codec.specs.Spelling.{tag_text}
 use Rattle.spd_codec.proofs.writing.put_tombstones.Goals as goal

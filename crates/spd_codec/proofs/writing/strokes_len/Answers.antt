@@ -1,5 +1,4 @@
-use Rattle.std.proofs.Common.{◌≡◌, ℕ, ◌+◌, List, ap, ◌∙◌, arith}
-use Rattle.std.specs.List.{sum_by}
+use Rattle.std.proofs.Common.{◌≡◌, ℕ, ◌+◌, List, ap, ◌∙◌, arith, sum_by}
 use Rattle.stroke_core.specs.Seed.{Seed, byte_len_of}
 use Rattle.stroke_lattice.specs.Pieces.{strokes_of}
 use Rattle.spd_codec.proofs.writing.strokes_len.Goals as goal

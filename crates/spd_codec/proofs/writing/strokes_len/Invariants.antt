@@ -1,5 +1,4 @@
-use Rattle.std.proofs.Common.{◌≡◌, ◌≤◌, ◌+◌}
-use Rattle.std.specs.List.{sum_by}
+use Rattle.std.proofs.Common.{◌≡◌, ◌≤◌, ◌+◌, sum_by}
 use Rattle.stroke_core.specs.Seed.{byte_len_of}
 use Rattle.stroke_lattice.specs.Pieces.{strokes_of}
 use Rattle.spd_codec.specs.Spelling.{max_bytes}

@@ -1,5 +1,4 @@
-use Rattle.stroke_lattice.proofs.Joins.{compatible_below}
-use Rattle.stroke_lattice.proofs.Joining.{joined}
+use Rattle.stroke_lattice.proofs.{Joins.compatible_below, Joining.joined}
 use Rattle.stroke_lattice.proofs.laws.compatible_states_have_a_bound.Goals as goal
 
 pub returns : goal.returns

@@ -1,5 +1,4 @@
-use Rattle.stroke_lattice.proofs.Joins.{compatible_join}
-use Rattle.stroke_lattice.proofs.Joining.{joined}
+use Rattle.stroke_lattice.proofs.{Joins.compatible_join, Joining.joined}
 use Rattle.stroke_lattice.proofs.laws.compatible_states_have_a_join.Goals as goal
 
 pub returns : goal.returns

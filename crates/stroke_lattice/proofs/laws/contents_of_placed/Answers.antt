@@ -1,5 +1,4 @@
-use Rattle.stroke_lattice.proofs.Joins.{nothing_has_no_tombstone}
-use Rattle.stroke_lattice.proofs.Growing.{placed_has}
+use Rattle.stroke_lattice.proofs.{Joins.nothing_has_no_tombstone, Growing.placed_has}
 use Rattle.stroke_lattice.proofs.laws.contents_of_placed.Goals as goal
 
 pub returns : goal.returns

@@ -1,5 +1,4 @@
-use Rattle.stroke_lattice.proofs.Joins.{nothing_has_no_stroke}
-use Rattle.stroke_lattice.proofs.Growing.{withdrawn_has}
+use Rattle.stroke_lattice.proofs.{Joins.nothing_has_no_stroke, Growing.withdrawn_has}
 use Rattle.stroke_lattice.proofs.laws.contents_of_withdrawn.Goals as goal
 
 pub returns : goal.returns

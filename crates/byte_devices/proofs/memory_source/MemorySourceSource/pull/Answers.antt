@@ -1,6 +1,5 @@
 use Rattle.std.proofs.Common.{◌≡◌, ◌≤◌, length, take, drop, sym, ap, ◌∙◌, arith, rules}
-use Rattle.std.proofs.lemmas.List.{places}
-use Rattle.std.proofs.lemmas.Grind.{common_steps}
+use Rattle.std.proofs.{lemmas.List.places, lemmas.Grind.common_steps}
 use Rattle.byte_devices.proofs.Pieces.{copied_piece}
 use Rattle.byte_devices.proofs.memory_source.MemorySourceSource.pull.Goals as goal
 

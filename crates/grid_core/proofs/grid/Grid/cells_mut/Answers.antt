@@ -1,7 +1,6 @@
 use Rattle.std.proofs.Common.{refl, ap, subst, ◌∙◌}
 use Rattle.std.specs.List.{refill}
-use Rattle.grid_core.specs.Raster.{Raster, IsSized}
-use Rattle.grid_core.specs.Lending.{with_cells}
+use Rattle.grid_core.specs.{Raster.Raster, Raster.IsSized, Lending.with_cells}
 use Rattle.grid_core.proofs.grid.Grid.cells_mut.Goals as goal
 
 pub returns : goal.returns

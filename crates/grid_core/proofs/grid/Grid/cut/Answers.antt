@@ -1,5 +1,4 @@
-use Rattle.grid_core.specs.Raster.{value_at}
-use Rattle.grid_core.specs.Rects.{part}
+use Rattle.grid_core.specs.{Raster.value_at, Rects.part}
 use Rattle.grid_core.proofs.ImageRows.{rows_more}
 use Rattle.grid_core.proofs.grid.Grid.cut.Goals as goal
 

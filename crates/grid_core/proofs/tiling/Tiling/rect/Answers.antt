@@ -1,5 +1,4 @@
-use Rattle.std.proofs.Common.{◌≡◌, ◌-◌, ◌*◌, ap, subst, ◌∙◌}
-use Rattle.std.specs.Prelude.{min}
+use Rattle.std.proofs.Common.{◌≡◌, ◌-◌, ◌*◌, ap, subst, ◌∙◌, min}
 use Rattle.grid_core.specs.Tiles.{Tiles, IsTiled, column_of, row_of, rect_of}
 use Rattle.grid_core.proofs.Tilings.{tiles_lie_inside}
 use Rattle.grid_core.proofs.tiling.Tiling.rect.Goals as goal

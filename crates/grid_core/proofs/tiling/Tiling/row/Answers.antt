@@ -1,7 +1,6 @@
 use Rattle.std.proofs.Common.{◌≡◌, ◌/◌, ap, arith}
 use Rattle.grid_core.specs.Tiles.{row_of}
-use Rattle.grid_core.proofs.Spans.{spans-le}
-use Rattle.grid_core.proofs.Tilings.{some_side, row_of-within}
+use Rattle.grid_core.proofs.{Spans.spans-le, Tilings.some_side, Tilings.row_of-within}
 use Rattle.grid_core.proofs.tiling.Tiling.row.Goals as goal
 
 pub overflow_cast-result-2 : goal.overflow_cast-result-2

@@ -1,10 +1,7 @@
-use Rattle.std.proofs.Common.{◌≡◌, ◌<◌, List, ℕ, map, ap, subst, sym, ◌∙◌}
-use Rattle.std.specs.Prelude.{◌↔◌, Contains}
+use Rattle.std.proofs.Common.{◌≡◌, ◌<◌, List, ℕ, map, ap, subst, sym, ◌∙◌, ◌↔◌, Contains}
 use Rattle.std.specs.List.Sorted.{IsStrictlyIncreasing}
-use Rattle.grid_core.specs.declared.conn.Conn.TheVariants.{Eight}
-use Rattle.grid_core.specs.declared.pixel.Pixel.{Pixel}
+use Rattle.grid_core.specs.{declared.conn.Conn.TheVariants.Eight, declared.pixel.Pixel.Pixel, Neighbours.AreNeighbours}
 use Rattle.grid_core.specs.Raster.{IsInside, index_of}
-use Rattle.grid_core.specs.Neighbours.{AreNeighbours}
 use Rattle.grid_core.specs.Tiles.{AreTouching, columns_of, rows_of, count_of}
 use Rattle.grid_core.proofs.TilesBeside.{place_of, touching_tiles, raster_order_rises}
 use Rattle.grid_core.proofs.tiling.Tiling.touching.Goals as goal

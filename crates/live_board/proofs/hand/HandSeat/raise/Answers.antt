@@ -1,7 +1,6 @@
 use Rattle.std.proofs.Common.{◌*◌, ◌+◌, ap, min, ℕ, ◌∙◌}
 use Rattle.live_board.proofs.Allowed.{may_raise}
-use Rattle.live_board.specs.Seats.{ground_of, hand_view}
-use Rattle.live_board.specs.declared.fact.Fact.{Fact}
+use Rattle.live_board.specs.{Seats.ground_of, Seats.hand_view, declared.fact.Fact.Fact}
 use Rattle.live_board.proofs.hand.HandSeat.raise.Goals as goal
 
 pub lift-requires-clause-asked : goal.lift-requires-clause-asked

@@ -1,9 +1,8 @@
 use Rattle.std.proofs.Common.{◌+◌, Bool, List, add-zero, ap, subst, sym, take, ℕ, ◌∙◌, ◌≡◌, ◌≤◌}
 use Rattle.grid_core.specs.declared.pixel.Pixel.{Pixel}
 use Rattle.live_board.proofs.Rounds.{beside_at, spread_more}
-use Rattle.live_board.specs.Rounds.{Raises, one_if}
-use Rattle.live_board.specs.Seats.{ground_of, hand_view}
 use Rattle.live_board.proofs.hand.HandSeat.spread.Goals.{then-raise, else-raise}
+use Rattle.live_board.specs.{Rounds.Raises, Rounds.one_if, Seats.ground_of, Seats.hand_view}
 use Rattle.live_board.proofs.hand.HandSeat.spread.Goals as goal
 
 pub raise-requires-clause-pixel : goal.raise-requires-clause-pixel

@@ -1,6 +1,5 @@
 use Rattle.std.proofs.Common.{take, ◌≤◌}
-use Rattle.live_board.specs.Rounds.{Raises}
-use Rattle.live_board.specs.Seats.{IsFactOf, IsHandOf, ground_of, hand_view}
+use Rattle.live_board.specs.{Rounds.Raises, Seats.IsFactOf, Seats.IsHandOf, Seats.ground_of, Seats.hand_view}
 use Rattle.live_board.proofs.hand.HandSeat.spread.Given as goal
 
 abbrev pub invariant-loop-beside : goal.invariant-loop-beside

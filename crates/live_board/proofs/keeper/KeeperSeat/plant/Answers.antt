@@ -1,17 +1,14 @@
 use Rattle.std.proofs.Common.{◌*◌, ◌+◌, ◌<◌, ap, ap₂, subst, sym, ℕ, ◌∙◌, ◌≡◌}
 use Rattle.grid_core.proofs.Cells.{below_at_each_pixel}
-use Rattle.grid_core.specs.Raster.{IsBelow, IsFilled, Raster, value_at}
-use Rattle.grid_core.specs.declared.pixel.Pixel.{Pixel}
+use Rattle.grid_core.specs.{Raster.IsBelow, Raster.IsFilled, Raster.Raster, Raster.value_at, declared.pixel.Pixel.Pixel}
 use Rattle.live_board.proofs.Allowed.{may_plant}
 use Rattle.live_board.specs.Seats.{ground_of, keeper_view}
-use Rattle.live_board.specs.Words.{mask_of}
-use Rattle.live_board.specs.declared.rule.Ground.{Ground}
-use Rattle.live_board.specs.declared.rule.View.{View}
+use Rattle.live_board.specs.{Words.mask_of, declared.rule.Ground.Ground, declared.rule.SeatView.SeatView}
 use Rattle.live_board.proofs.keeper.KeeperSeat.plant.Goals as goal
 
 pub lift-requires-clause-asked : goal.lift-requires-clause-asked
 lift-requires-clause-asked c =
-    let v : View = keeper_view c.args.self.now in
+    let v : SeatView = keeper_view c.args.self.now in
     let p : Pixel = c.args.pixel in
     let base : Ground = ground_of c.args.board.now in
     let marker : Raster = c.args.self.now.marker in

@@ -1,10 +1,9 @@
-use Rattle.std.proofs.Common.{ap, subst, sym, ◌∙◌}
-use Rattle.std.specs.Ordering.{nat_cmp}
-use Rattle.std.specs.FinSet as set
+use Rattle.std.proofs.Common.{ap, subst, sym, ◌∙◌, nat_cmp}
 use Rattle.stroke_lattice.specs.State.{State, HasSomeStroke}
 use Rattle.stroke_lattice.proofs.Shared.{nothing_has_no_stroke, nothing_has_no_tombstone}
 use Rattle.spd_codec.specs.Reading.{strokes_at}
 use Rattle.spd_codec.proofs.NewTags.{same_tombstones}
+use Rattle.std.specs.FinSet as set
 use Rattle.spd_codec.proofs.reader.Reader.delta.Goals as goal
 
 pub strokes-requires : goal.strokes-requires

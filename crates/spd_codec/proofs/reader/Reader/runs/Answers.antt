@@ -1,5 +1,4 @@
-use Rattle.std.proofs.Common.{None, inr}
-use Rattle.std.proofs.lemmas.Result.{err_from_is_err_and}
+use Rattle.std.proofs.{Common.None, Common.inr, lemmas.Result.err_from_is_err_and}
 use Rattle.spd_codec.specs.Reading.{many_at, run_at}
 use Rattle.spd_codec.proofs.Loops.{push, goes_on, ends, is_done, starts}
 use Rattle.spd_codec.proofs.reader.Reader.runs.Goals as goal

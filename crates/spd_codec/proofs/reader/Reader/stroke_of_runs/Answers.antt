@@ -1,8 +1,5 @@
-use Rattle.std.proofs.Common.{None, subst, arith}
-use Rattle.std.specs.Prelude.{IsOk}
-use Rattle.std.proofs.lemmas.Bool.{false≢true}
-use Rattle.spd_codec.proofs.RunLists.{in_order}
-use Rattle.spd_codec.proofs.StrokeParts.{behind_read}
+use Rattle.std.proofs.{Common.None, Common.subst, Common.arith, Common.IsOk, lemmas.Bool.false≢true}
+use Rattle.spd_codec.proofs.{RunLists.in_order, StrokeParts.behind_read}
 use Rattle.spd_codec.proofs.reader.Reader.stroke_of_runs.Goals as goal
 
 pub returns-in-Err : goal.returns-in-Err

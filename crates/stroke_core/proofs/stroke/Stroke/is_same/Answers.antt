@@ -1,8 +1,7 @@
-use Rattle.std.proofs.Common.{sym, ◌∙◌, arith}
-use Rattle.std.proofs.lemmas.Bool.Decides.{nat_tests}
+use Rattle.std.proofs.{Common.sym, Common.◌∙◌, Common.arith, lemmas.Bool.Decides.nat_tests}
 use Rattle.stroke_core.proofs.SeedLemmas.{kind_from_test, same_at_runs}
-use Rattle.stroke_core.proofs.stroke.Stroke.is_same.Goals as goal
 use Rattle.stroke_core.proofs.stroke.Stroke.is_same.Goals.{then-level, else-level}
+use Rattle.stroke_core.proofs.stroke.Stroke.is_same.Goals as goal
 
 pub returns-then-eq : goal.returns-then-eq
 returns-then-eq c =

@@ -1,7 +1,6 @@
 use Rattle.std.proofs.Common.{◌≡◌, ap, sym, subst, ◌∙◌, arith}
-use Rattle.stroke_core.specs.Held.{shape_of}
+use Rattle.stroke_core.specs.{Held.shape_of, Spans.SpanFits}
 use Rattle.stroke_core.specs.Seed.{Seed, Shape, Runs, IsCanonicalShape, ShapeFits}
-use Rattle.stroke_core.specs.Spans.{SpanFits}
 use Rattle.stroke_core.proofs.SpanLemmas.{run_span_has_pixel, run_span_fits}
 use Rattle.stroke_core.proofs.stroke.Stroke.span.Goals as goal
 

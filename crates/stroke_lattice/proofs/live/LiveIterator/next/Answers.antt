@@ -1,7 +1,5 @@
-use Rattle.std.proofs.Common.{length, not, sym, ap, ◌∙◌, arith}
-use Rattle.std.specs.List.{filter}
-use Rattle.stroke_lattice.proofs.Lists.{filter_first}
-use Rattle.stroke_lattice.proofs.Walking.{lives}
+use Rattle.std.proofs.Common.{length, not, sym, ap, ◌∙◌, arith, filter}
+use Rattle.stroke_lattice.proofs.{Lists.filter_first, Walking.lives}
 use Rattle.stroke_lattice.proofs.live.LiveIterator.next.Goals as goal
 
 pub returns-then-not-contains-clause-steps : goal.returns-then-not-contains-clause-steps

@@ -1,5 +1,4 @@
-use Rattle.std.proofs.Common.{◌≡◌, length}
-use Rattle.std.specs.List.{filter}
+use Rattle.std.proofs.Common.{◌≡◌, length, filter}
 use Rattle.stroke_lattice.proofs.Walking.{lives}
 use Rattle.stroke_lattice.proofs.live.LiveIterator.next.Given as goal
 

@@ -1,6 +1,5 @@
 use Rattle.std.proofs.Common.{◌≡◌, ◌+◌, arith, ap, ◌∙◌}
-use Rattle.stroke_lattice.specs.Pieces.{frame_length, item_length}
-use Rattle.stroke_lattice.specs.Places.{item_of}
+use Rattle.stroke_lattice.specs.{Pieces.frame_length, Pieces.item_length, Places.item_of}
 use Rattle.stroke_lattice.proofs.Items.{frame_length_of_longer}
 use Rattle.stroke_lattice.proofs.piece.OpenPiece.add.Goals as goal
 

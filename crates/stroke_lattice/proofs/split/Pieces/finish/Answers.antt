@@ -1,8 +1,6 @@
 use Rattle.std.proofs.Common.{◌<◌, ◌≤◌, ◌++◌, List, arith, sym, ap, ◌∙◌}
 use Rattle.std.proofs.lemmas.List.{append-nil}
-use Rattle.stroke_lattice.specs.declared.split.TheConstants.{HEAD_BYTES}
-use Rattle.stroke_lattice.specs.State.{State}
-use Rattle.stroke_lattice.specs.Pieces.{frame_length}
+use Rattle.stroke_lattice.specs.{declared.split.TheConstants.HEAD_BYTES, State.State, Pieces.frame_length}
 use Rattle.stroke_lattice.proofs.Adding.{piece_with_items, piece_without_items}
 use Rattle.stroke_lattice.proofs.split.Pieces.finish.Goals as goal
 

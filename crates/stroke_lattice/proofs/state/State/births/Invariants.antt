@@ -1,7 +1,8 @@
-use Rattle.stroke_lattice.specs.Growth.{IsBirth}
-use Rattle.stroke_lattice.proofs.Picking.{PickedStrokes}
+use Rattle.std.specs.Map.{keys_of}
+use Rattle.stroke_lattice.specs.{State.HasSomeStroke, Growth.IsBirth}
+use Rattle.stroke_lattice.proofs.Picking.{Picked}
 use Rattle.stroke_lattice.proofs.state.State.births.Given as goal
 
 -- of the tags so far those are picked of which it holds
 abbrev pub invariant-loop-tag : goal.invariant-loop-tag
-invariant-loop-tag l = PickedStrokes (IsBirth l.self l.delta) l.delta l.tags.items l.tag-iterator
+invariant-loop-tag l = Picked (IsBirth l.self l.delta) (HasSomeStroke l.delta) l.tags.items (keys_of l.tag-iterator)

@@ -1,5 +1,4 @@
-use Rattle.stroke_lattice.proofs.Walking.{StrokesLeft}
-use Rattle.stroke_lattice.proofs.Comparing.{HasNoOther}
+use Rattle.stroke_lattice.proofs.{Walking.StrokesLeft, Comparing.HasNoOther}
 use Rattle.stroke_lattice.proofs.state.State.clash.Given as goal
 
 -- the strokes so far do not clash

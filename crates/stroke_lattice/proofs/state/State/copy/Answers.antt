@@ -1,6 +1,5 @@
 use Rattle.std.proofs.Common.{subst}
-use Rattle.stroke_lattice.specs.State.{State}
-use Rattle.stroke_lattice.specs.Growth.{IsBetween}
+use Rattle.stroke_lattice.specs.{State.State, Growth.IsBetween}
 use Rattle.stroke_lattice.proofs.Growing.{grown_from_nothing}
 use Rattle.stroke_lattice.proofs.state.State.copy.Goals as goal
 

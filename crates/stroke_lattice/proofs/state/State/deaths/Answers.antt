@@ -1,28 +1,31 @@
 use Rattle.std.proofs.Common.{◌≡◌, true, false, refl}
-use Rattle.stroke_lattice.specs.Growth.{IsDeath}
-use Rattle.stroke_lattice.proofs.Picking.{tombstones_pick_begin, tombstones_pick, tombstones_leave, tombstones_picked}
+use Rattle.stroke_lattice.specs.{State.HasTombstone, Growth.IsDeath}
+use Rattle.stroke_lattice.proofs.Picking.{tombstone_tags, picks_begin, picks, leaves, all_picked}
 use Rattle.stroke_lattice.proofs.state.State.deaths.Goals as goal
 
 pub loop-tag-init : goal.loop-tag-init
 loop-tag-init c =
-    tombstones_pick_begin (IsDeath c.args.self.now c.args.delta.now) c.args.delta.now c.new-tags.result.items
+    picks_begin (IsDeath c.args.self.now c.args.delta.now) (HasTombstone c.args.delta.now) c.new-tags.result.items
     c.tombstones-tag-items.result c.into_iter-tag-iterator.result c.new-tags.ensures.items
-    c.into_iter-tag-iterator.ensures.into_iter_gives c.tombstones-tag-items.ensures.tombstones (λ tag p. p.0)
+    c.into_iter-tag-iterator.ensures.into_iter_gives
+    (tombstone_tags c.args.delta.now c.tombstones-tag-items.result c.tombstones-tag-items.ensures.tombstones)
+    (λ tag p. p.0)
 
 pub loop-tag-preserved-in-Continue-1 : goal.loop-tag-preserved-in-Continue-1
 loop-tag-preserved-in-Continue-1 c =
-    tombstones_pick (IsDeath c.args.self.now c.args.delta.now) c.args.delta.now c.loop-tag.tags.items
-    c.push.new.self.items c.in-Some.tag.now c.loop-tag.tag-iterator c.next.new.self
-    c.in-Some.ensures.steps c.in_ok-push.ensures.items c.loop-tag.invariant
+    picks (IsDeath c.args.self.now c.args.delta.now) (HasTombstone c.args.delta.now) c.loop-tag.tags.items
+    c.push.new.self.items
+    c.in-Some.tag.now c.loop-tag.tag-iterator c.next.new.self c.in-Some.ensures.steps
+    c.in_ok-push.ensures.items c.loop-tag.invariant
     (λ given. (given, c.if-is_live.ensures.0 refl))
 
 pub loop-tag-preserved : goal.loop-tag-preserved
 loop-tag-preserved c =
-    tombstones_leave (IsDeath c.args.self.now c.args.delta.now) c.args.delta.now c.loop-tag.tags.items
-    c.in-Some.tag.now c.loop-tag.tag-iterator c.next.new.self
-    c.in-Some.ensures.steps c.loop-tag.invariant
-    (λ death. let no : false ≡ true = c.if-is_live.ensures.1 death.1 in absurd cc)
+    leaves (IsDeath c.args.self.now c.args.delta.now) (HasTombstone c.args.delta.now) c.loop-tag.tags.items
+    c.in-Some.tag.now c.loop-tag.tag-iterator c.next.new.self c.in-Some.ensures.steps
+    c.loop-tag.invariant (λ death. let no : false ≡ true = c.if-is_live.ensures.1 death.1 in absurd cc)
 
 pub returns : goal.returns
-returns c = tombstones_picked (IsDeath c.args.self.now c.args.delta.now) c.args.delta.now c.loop-tag.tags.items
+returns c =
+    all_picked (IsDeath c.args.self.now c.args.delta.now) (HasTombstone c.args.delta.now) c.loop-tag.tags.items
     c.loop-tag.tag-iterator c.in-None.ensures.steps.0 c.loop-tag.invariant

@@ -1,9 +1,8 @@
-use Rattle.std.proofs.Common.{ap, ◌∙◌}
-use Rattle.std.specs.Ordering.{nat_cmp}
-use Rattle.std.specs.FinMap as map
+use Rattle.std.proofs.Common.{ap, ◌∙◌, nat_cmp}
 use Rattle.stroke_core.specs.Seed.{Seed}
 use Rattle.stroke_lattice.specs.Growth.{HasTagsOf}
 use Rattle.stroke_lattice.proofs.Growing.{on_ok}
+use Rattle.std.specs.FinMap as map
 use Rattle.stroke_lattice.proofs.state.State.grow.Goals as goal
 
 pub returns-clause-strokes : goal.returns-clause-strokes

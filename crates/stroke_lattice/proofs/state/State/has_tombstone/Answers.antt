@@ -1,8 +1,7 @@
-use Rattle.std.proofs.Common.{◌≡◌, Bool, sym, ap, subst, ◌∙◌}
-use Rattle.std.specs.Prelude.{IsTrue, ◌↔◌}
-use Rattle.std.specs.FinSet as set
+use Rattle.std.proofs.Common.{◌≡◌, Bool, sym, ap, subst, ◌∙◌, IsTrue, ◌↔◌}
 use Rattle.stroke_lattice.specs.State.{State}
 use Rattle.stroke_lattice.proofs.Views.{contains_kept}
+use Rattle.std.specs.FinSet as set
 use Rattle.stroke_lattice.proofs.state.State.has_tombstone.Goals as goal
 
 pub returns : goal.returns

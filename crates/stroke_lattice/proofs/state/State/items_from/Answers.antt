@@ -1,9 +1,8 @@
-use Rattle.std.proofs.Common.{ℕ, List, sym, ap, ◌∙◌}
-use Rattle.std.specs.List.{filter}
+use Rattle.std.proofs.Common.{ℕ, List, sym, ap, ◌∙◌, filter}
 use Rattle.stroke_core.specs.Seed.{Seed}
-use Rattle.stroke_lattice.specs.declared.piece.Place.TheVariants as places
 use Rattle.stroke_lattice.specs.Places.{items_in, items_from, is_from}
 use Rattle.stroke_lattice.proofs.Placing.{from_stroke, from_tombstone, kept_items}
+use Rattle.stroke_lattice.specs.declared.piece.Place.TheVariants as places
 use Rattle.stroke_lattice.proofs.state.State.items_from.Goals as goal
 
 pub returns-in-Stroke : goal.returns-in-Stroke

@@ -1,5 +1,4 @@
-use Rattle.std.proofs.Common.{subst, sym, ap, ◌∙◌}
-use Rattle.std.specs.List.{filter}
+use Rattle.std.proofs.Common.{subst, sym, ap, ◌∙◌, filter}
 use Rattle.stroke_lattice.specs.Walks.{AreLive}
 use Rattle.stroke_lattice.proofs.Walking.{are_live, lives}
 use Rattle.stroke_lattice.proofs.state.State.live.Goals as goal

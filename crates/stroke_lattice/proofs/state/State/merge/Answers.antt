@@ -1,8 +1,7 @@
 use Rattle.stroke_lattice.proofs.Refusing.{conflict_is_least, memory_is_no_conflict}
 use Rattle.stroke_lattice.proofs.state.State.merge.Goals as goal
 
-pub returns-in_err-join-in-None-clause-conflict :
-    goal.returns-in_err-join-in-None-clause-conflict
+pub returns-in_err-join-in-None-clause-conflict : goal.returns-in_err-join-in-None-clause-conflict
 returns-in_err-join-in-None-clause-conflict c = memory_is_no_conflict c.from_residual.result
     c.args.self.now c.args.delta.now c.in-None.ensures c.from_residual.ensures.1
 

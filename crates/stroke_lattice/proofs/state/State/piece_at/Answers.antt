@@ -1,10 +1,7 @@
 use Rattle.std.proofs.Common.{◌≡◌, ℕ, ◌+◌, ◌<◌, ◌≤◌, List, ◌∷◌, ◌++◌, arith, sym, subst, ap, ◌∙◌}
-use Rattle.stroke_lattice.specs.declared.split.TheConstants.{HEAD_BYTES}
-use Rattle.stroke_lattice.specs.State.{State}
-use Rattle.stroke_lattice.specs.Pieces.{Item, items_of, item_length, frame_length}
-use Rattle.stroke_lattice.specs.Places.{item_of, pieces_from}
-use Rattle.stroke_lattice.proofs.Items.{before_next}
-use Rattle.stroke_lattice.proofs.Placing.{items_before, before_and_from, walk_step}
+use Rattle.stroke_lattice.specs.{declared.split.TheConstants.HEAD_BYTES, State.State, Pieces.Item, Pieces.items_of}
+use Rattle.stroke_lattice.specs.{Pieces.item_length, Pieces.frame_length, Places.item_of, Places.pieces_from}
+use Rattle.stroke_lattice.proofs.{Items.before_next, Placing.items_before, Placing.before_and_from, Placing.walk_step}
 use Rattle.stroke_lattice.proofs.Opening.{IsOpen, open_starts, open_takes, open_stops, open_is_last, more_pieces}
 use Rattle.stroke_lattice.proofs.state.State.piece_at.Goals as goal
 

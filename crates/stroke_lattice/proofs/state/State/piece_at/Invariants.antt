@@ -1,6 +1,5 @@
 use Rattle.std.proofs.Common.{◌≡◌, List, ◌++◌}
-use Rattle.stroke_lattice.specs.Pieces.{Item, items_of}
-use Rattle.stroke_lattice.specs.Places.{IsOpenMeasured, pieces_from}
+use Rattle.stroke_lattice.specs.{Pieces.Item, Pieces.items_of, Places.IsOpenMeasured, Places.pieces_from}
 use Rattle.stroke_lattice.proofs.Opening.{IsOpen}
 use Rattle.stroke_lattice.proofs.state.State.piece_at.Given as goal
 

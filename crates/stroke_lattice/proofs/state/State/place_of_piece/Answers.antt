@@ -1,9 +1,7 @@
-use Rattle.std.proofs.Common.{◌≡◌, ℕ, ◌+◌, ◌<◌, ◌≤◌, ◌^◌, List, [], ◌∷◌, ◌++◌, drop, length, arith}
-use Rattle.std.proofs.Common.{sym, subst, ap, ◌∙◌, inl, refl}
-use Rattle.stroke_lattice.specs.declared.split.TheConstants.{HEAD_BYTES}
-use Rattle.stroke_lattice.specs.State.{State}
-use Rattle.stroke_lattice.specs.Pieces.{Item, items_of, item_length, pieces_of}
-use Rattle.stroke_lattice.specs.Places.{item_of, pieces_from}
+use Rattle.std.proofs.Common.{◌≡◌, ℕ, ◌+◌, ◌-◌, ◌<◌, ◌≤◌, ◌^◌, List, [], ◌∷◌, ◌++◌, drop, length, arith, sym, subst, ap}
+use Rattle.std.proofs.Common.{◌∙◌, inl, refl}
+use Rattle.stroke_lattice.specs.{declared.split.TheConstants.HEAD_BYTES, State.State, Pieces.Item, Pieces.items_of}
+use Rattle.stroke_lattice.specs.{Pieces.item_length, Pieces.pieces_of, Places.item_of, Places.pieces_from}
 use Rattle.stroke_lattice.proofs.Placing.{walk_step}
 use Rattle.stroke_lattice.proofs.Opening.{AreCounted, IsTurned, counted_takes, counted_turns, turned_takes}
 use Rattle.stroke_lattice.proofs.Opening.{turned_place, turned_within, counted_all, bytes_at_most, count_pieces}
@@ -50,22 +48,21 @@ loop-entry-preserved-then-bytes-max_bytes c =
 
 -- the next item begins a piece
 turned_at : (max : ℕ) (s : State) (begun bytes long : ℕ) (now left : List Item) (x : Item) → now ≡ x ∷ left
-    → AreCounted max s begun bytes now → long ≡ item_length x → bytes ≤ max → max < bytes + long
-    → HEAD_BYTES + long ≤ max → IsTurned max s begun (x ∷ left)
-turned_at max s begun bytes long now left x is counted same most full small = counted_turns max s begun bytes x left
-    (next_item max s begun bytes now left x is counted) (omega arith) (omega arith)
+    → AreCounted max s begun bytes now → long ≡ item_length x → max - bytes < long → HEAD_BYTES + long ≤ max
+    → IsTurned max s begun (x ∷ left)
+turned_at max s begun bytes long now left x is counted same full small =
+    let most = bytes_at_most max s begun bytes now counted in
+    counted_turns max s begun bytes x left (next_item max s begun bytes now left x is counted) (omega (arith, most))
+    (omega arith)
 
 pub returns-then-begun-number-clause-place : goal.returns-then-begun-number-clause-place
 returns-then-begun-number-clause-place c =
     let s = c.args.self.now in
     let max = c.args.max_bytes in
     let x = item_of c.in-Some.entry in
-    let most = bytes_at_most max s c.loop-entry.begun c.loop-entry.length c.loop-entry.entry-iterator
-    c.loop-entry.invariant.counted in
     let turned = turned_at max s c.loop-entry.begun c.loop-entry.length c.byte_len-bytes.result
     c.loop-entry.entry-iterator c.next.new.self x c.in-Some.ensures.steps c.loop-entry.invariant.counted
-    c.byte_len-bytes.ensures.bytes most (omega (arith, most))
-    (omega (arith, c.byte_len-bytes.ensures.small, c.requires)) in
+    c.byte_len-bytes.ensures.bytes (omega arith) (omega (arith, c.byte_len-bytes.ensures.small, c.requires)) in
     let walked = ap (λ (l : List Item). c.loop-entry.invariant.walked.0 ++ l) (sym c.in-Some.ensures.steps)
     ∙ c.loop-entry.invariant.walked.1 in
     ap (pieces_from max s) c.place.ensures
@@ -77,12 +74,9 @@ returns-then-begun-number-clause-within c =
     let s = c.args.self.now in
     let max = c.args.max_bytes in
     let x = item_of c.in-Some.entry in
-    let most = bytes_at_most max s c.loop-entry.begun c.loop-entry.length c.loop-entry.entry-iterator
-    c.loop-entry.invariant.counted in
     let turned = turned_at max s c.loop-entry.begun c.loop-entry.length c.byte_len-bytes.result
     c.loop-entry.entry-iterator c.next.new.self x c.in-Some.ensures.steps c.loop-entry.invariant.counted
-    c.byte_len-bytes.ensures.bytes most (omega (arith, most))
-    (omega (arith, c.byte_len-bytes.ensures.small, c.requires)) in
+    c.byte_len-bytes.ensures.bytes (omega arith) (omega (arith, c.byte_len-bytes.ensures.small, c.requires)) in
     subst (λ (n : ℕ). n < length (pieces_of max s)) c.if-begun-number.true
     (turned_within max s c.loop-entry.begun x c.next.new.self turned)
 
@@ -105,12 +99,9 @@ loop-entry-preserved c =
     let s = c.args.self.now in
     let max = c.args.max_bytes in
     let x = item_of c.in-Some.entry in
-    let most = bytes_at_most max s c.loop-entry.begun c.loop-entry.length c.loop-entry.entry-iterator
-    c.loop-entry.invariant.counted in
     let turned = turned_at max s c.loop-entry.begun c.loop-entry.length c.byte_len-bytes.result
     c.loop-entry.entry-iterator c.next.new.self x c.in-Some.ensures.steps c.loop-entry.invariant.counted
-    c.byte_len-bytes.ensures.bytes most (omega (arith, most))
-    (omega (arith, c.byte_len-bytes.ensures.small, c.requires)) in
+    c.byte_len-bytes.ensures.bytes (omega arith) (omega (arith, c.byte_len-bytes.ensures.small, c.requires)) in
     let small : HEAD_BYTES + item_length x ≤ max =
     omega (arith, c.byte_len-bytes.ensures.bytes, c.byte_len-bytes.ensures.small, c.requires) in
     record {

@@ -1,8 +1,5 @@
 use Rattle.std.proofs.Common.{subst}
-use Rattle.stroke_lattice.specs.Pieces.{items_of}
-use Rattle.stroke_lattice.specs.Places.{item_of}
-use Rattle.stroke_lattice.specs.Filling.{AllBefore}
-use Rattle.stroke_lattice.specs.declared.entries.Entry.{Entry}
+use Rattle.stroke_lattice.specs.{Pieces.items_of, Places.item_of, Filling.AllBefore, declared.entries.Entry.Entry}
 use Rattle.stroke_lattice.proofs.Items.{new_stroke, new_tombstone}
 use Rattle.stroke_lattice.proofs.state.State.put_last.Goals as goal
 

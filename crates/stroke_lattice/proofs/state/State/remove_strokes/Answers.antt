@@ -1,5 +1,4 @@
-use Rattle.std.proofs.Common.{arith, subst, sym}
-use Rattle.std.proofs.Common.{take, ◌+◌}
+use Rattle.std.proofs.Common.{arith, subst, sym, take, ◌+◌}
 use Rattle.stroke_lattice.specs.Growth.{IsWithoutStrokes}
 use Rattle.stroke_lattice.proofs.Growing.{without_next_stroke}
 use Rattle.stroke_lattice.proofs.state.State.remove_strokes.Goals as goal

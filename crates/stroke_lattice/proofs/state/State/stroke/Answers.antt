@@ -1,7 +1,7 @@
 use Rattle.std.proofs.Common.{sym, ap, ◌∙◌}
-use Rattle.std.specs.FinMap as map
 use Rattle.stroke_lattice.specs.State.{State}
 use Rattle.stroke_lattice.proofs.Views.{get_kept}
+use Rattle.std.specs.FinMap as map
 use Rattle.stroke_lattice.proofs.state.State.stroke.Goals as goal
 
 pub returns : goal.returns

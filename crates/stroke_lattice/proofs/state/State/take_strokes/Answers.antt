@@ -1,10 +1,7 @@
 use Rattle.std.proofs.Common.{◌≡◌, true, false, refl, ap, subst, sym, ◌∙◌}
-use Rattle.stroke_lattice.specs.State.{State}
-use Rattle.stroke_lattice.specs.State.{HasSomeStroke}
-use Rattle.stroke_lattice.specs.Growth.{IsBetween}
+use Rattle.stroke_lattice.specs.{State.State, State.HasSomeStroke, Growth.IsBetween}
 use Rattle.stroke_lattice.proofs.Walking.{StrokesLeft, strokes_begin, stroke_step, stroke_here}
-use Rattle.stroke_lattice.proofs.Growing.{between_at_first, with_stroke, above_without, stroke_of_new}
-use Rattle.stroke_lattice.proofs.Growing.{grows_by_stroke}
+use Rattle.stroke_lattice.proofs.Growing.{between_at_first, with_stroke, above_without, stroke_of_new, grows_by_stroke}
 use Rattle.stroke_lattice.proofs.state.State.take_strokes.Goals as goal
 
 pub loop-tag-init : goal.loop-tag-init

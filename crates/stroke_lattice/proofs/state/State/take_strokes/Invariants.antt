@@ -1,5 +1,4 @@
-use Rattle.stroke_lattice.specs.State.{HasSomeStroke}
-use Rattle.stroke_lattice.specs.Growth.{IsBetween}
+use Rattle.stroke_lattice.specs.{State.HasSomeStroke, Growth.IsBetween}
 use Rattle.stroke_lattice.proofs.Walking.{StrokesLeft}
 use Rattle.stroke_lattice.proofs.state.State.take_strokes.Given as goal
 

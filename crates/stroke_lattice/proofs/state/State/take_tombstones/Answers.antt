@@ -1,6 +1,5 @@
 use Rattle.std.proofs.Common.{◌≡◌, refl, ap, subst, sym, ◌∙◌}
-use Rattle.stroke_lattice.specs.State.{State, HasTombstone}
-use Rattle.stroke_lattice.specs.Growth.{IsBetween}
+use Rattle.stroke_lattice.specs.{State.State, State.HasTombstone, Growth.IsBetween}
 use Rattle.stroke_lattice.proofs.Walking.{TombstonesLeft, tombstone_step, tombstone_here}
 use Rattle.stroke_lattice.proofs.Growing.{with_tombstone, more_tombstones, tombstone_of_new, grows_by_tombstone}
 use Rattle.stroke_lattice.proofs.state.State.take_tombstones.Goals as goal

@@ -1,6 +1,5 @@
 use Rattle.std.proofs.Common.{◌≡◌}
-use Rattle.stroke_lattice.specs.State.{HasTombstone}
-use Rattle.stroke_lattice.specs.Growth.{IsBetween}
+use Rattle.stroke_lattice.specs.{State.HasTombstone, Growth.IsBetween}
 use Rattle.stroke_lattice.proofs.Walking.{TombstonesLeft}
 use Rattle.stroke_lattice.proofs.state.State.take_tombstones.Given as goal
 
