@@ -1,5 +1,0 @@
-use Rattle.paint_session.proofs.KeptViews.{joined_files}
-use Rattle.paint_session.proofs.laws.joined_files_spell_both.Goals as goal
-
-pub returns : goal.returns
-returns c = joined_files c.joined_files_spell_both.ensures

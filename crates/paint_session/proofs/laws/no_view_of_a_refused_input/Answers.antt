@@ -1,5 +1,0 @@
-use Rattle.paint_session.proofs.Refusals.{no_view_of_a_refused_input}
-use Rattle.paint_session.proofs.laws.no_view_of_a_refused_input.Goals as goal
-
-pub returns : goal.returns
-returns c = no_view_of_a_refused_input c.reading_laws.ensures
