@@ -1,9 +1,8 @@
 -- What a turn leaves, besides the core.
-use Rattle.std.proofs.Common.{◌≡◌, ◌≤◌, length, sym, refl, ◌∙◌, subst, arith}
-use Rattle.pen_desks.specs.Books.{BooksView, KeepsRest}
-use Rattle.pen_desks.specs.Pens.{KeepsPens}
-use Rattle.pen_desks.proofs.Steady.{rest_kept}
-use Rattle.core_dispatch.specs.declared.dispatcher.Dispatcher.{Dispatcher}
+use Rattle.std.proofs.Common.{◌≡◌, ◌≤◌, length, sym, refl, ap, ◌∙◌, subst, arith}
+use Rattle.core_dispatch.specs.Books.{BooksView, KeepsRest}
+use Rattle.core_dispatch.specs.{Pens.KeepsPens, Jobs.with_core, declared.dispatcher.Dispatcher.Dispatcher}
+use Rattle.core_dispatch.proofs.Steady.{rest_kept}
 
 -- the books are as they were but for the core; no pushed job is lost, and as many pushes surely succeed
 pub record KeepsAround (old new : Dispatcher) : Type 0 where
@@ -19,7 +18,15 @@ pub around_through : (a b c : Dispatcher) → KeepsAround a b → KeepsAround b 
 around_through a b c first second = record {
   rest = rest_kept a.books b.books c.books first.rest second.rest;
   capacity = second.capacity ∙ first.capacity;
-  pushed = let one = first.pushed in let two = second.pushed in omega (arith, one, two);
+  pushed = omega arith;
+}
+
+-- nothing but the core is another
+pub around_core : (old new : Dispatcher) → new ≡ with_core old new.books.core → KeepsAround old new
+around_core old new same = record {
+  rest = ap (λ (d : Dispatcher). d.books) same;
+  capacity = ap (λ (d : Dispatcher). d.owner.capacity) same;
+  pushed = omega (arith, ap (λ (d : Dispatcher). length d.owner.pushed) same);
 }
 
 -- where all but the core is kept, each pen has its desk

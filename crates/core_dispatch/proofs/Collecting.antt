@@ -1,19 +1,15 @@
 -- Reports that are collected of hands, and given to the core.
-use Rattle.std.proofs.Common.{◌≡◌, ℕ, ◌+◌, ◌≤◌, Bool, true, false, List, [], ◌∷◌, ◌++◌, length}
-use Rattle.std.proofs.Common.{refl, subst, arith}
-use Rattle.std.specs.Prelude.{Option, Some, None}
-use Rattle.tile_generations.specs.declared.ticket.Ticket.{Ticket}
-use Rattle.tile_generations.specs.Jobs.{Swept, IsSwept}
-use Rattle.core_rules.specs.declared.answers.Back.{Back}
-use Rattle.core_rules.specs.declared.answers.Back.TheVariants.{Stranger}
+use Rattle.std.proofs.Common.{◌≡◌, ℕ, ◌+◌, ◌≤◌, Bool, true, false, List, [], ◌∷◌, ◌++◌, length, refl, subst, arith}
+use Rattle.std.proofs.Common.{Option, Some, None}
+use Rattle.tile_generations.specs.{declared.ticket.Ticket.Ticket, Jobs.Swept, Jobs.IsSwept}
+use Rattle.core_rules.specs.{declared.answers.Back.Back, declared.answers.Back.TheVariants.Stranger}
 use Rattle.core_rules.specs.Events.{GiveBack, Abandon, OfGiveBack, OfAbandon}
 use Rattle.core_rules.specs.Sweeps.{IsGivenBack, IsAbandoned}
 use Rattle.reset_core.specs.Answers.{IsJoinable}
 use Rattle.steal_pool.specs.declared.report.Report.TheVariants.{Failed}
-use Rattle.pen_desks.specs.Books.{BooksView, KeepsRest}
-use Rattle.pen_desks.proofs.Steady.{rest_kept}
-use Rattle.core_dispatch.specs.declared.dispatcher.Dispatcher.{Dispatcher}
+use Rattle.core_dispatch.specs.{Books.BooksView, Books.KeepsRest, declared.dispatcher.Dispatcher.Dispatcher}
 use Rattle.core_dispatch.specs.Reports.{IsAnswered, IsGivenOver, IsJudged, IsCollected, AreCollected, results_in}
+use Rattle.core_dispatch.proofs.Steady.{rest_kept}
 
 -- ---- one report
 
@@ -73,22 +69,13 @@ judged_failed old new ticket was_out abandoned rest = record {
 
 -- one hand more
 pub collected_more : (hand : ℕ) (a b c : Dispatcher) (answers : List (Option Bool)) (answer : Option Bool)
-    → AreCollected hand a answers b → IsCollected (hand + length answers) b answer c
+    (at : ℕ) → at ≡ hand + length answers → AreCollected hand a answers b → IsCollected at b answer c
     → AreCollected hand a (answers ++ answer ∷ []) c
-collected_more hand a b c [] answer same last =
-    let here : hand + 0 ≡ hand = omega arith in (
-      c,
-      subst (λ (x : Dispatcher). IsCollected hand x answer c) same
-          (subst (λ (n : ℕ). IsCollected n b answer c) here last),
-      refl,
-    )
-collected_more hand a b c (first ∷ answers) answer (next, turn, rest) last =
-    let there : hand + length (first ∷ answers) ≡ hand + 1 + length answers = omega arith in (
-      next,
-      turn,
-      collected_more (hand + 1) next b c answers answer rest
-          (subst (λ (n : ℕ). IsCollected n b answer c) there last),
-    )
+collected_more hand a b c [] answer at is same last =
+    let here : at ≡ hand = omega arith in
+    (c, subst (λ (n : ℕ). IsCollected n a answer c) here (subst (λ x. IsCollected at x answer c) same last), refl)
+collected_more hand a b c (first ∷ answers) answer at is (next, turn, rest) last =
+    (next, turn, collected_more (hand + 1) next b c answers answer at (omega arith) rest last)
 
 pub at_most_one : (answer : Option Bool) → results_in answer ≤ 1
 at_most_one None = omega arith

@@ -1,31 +1,26 @@
 -- Ends of pens, and what is taken of them.
-use Rattle.std.proofs.Common.{◌≡◌, ◌≢◌, ℕ, zero, suc, ◌+◌, ◌<◌, ◌≤◌, List, [], ◌∷◌, length, set, get_or}
-use Rattle.std.proofs.Common.{sym, refl, ap, ◌∙◌, subst, arith, true}
-use Rattle.std.specs.List.{AllZip}
-use Rattle.std.specs.Prelude.{Option, Some, None, MatchOption, Result, Ok, Err, OnOk, IfErr}
-use Rattle.std.specs.Option.{is_some}
+use Rattle.std.proofs.Common.{◌≡◌, ◌≢◌, ℕ, zero, suc, ◌+◌, ◌<◌, ◌≤◌, List, [], ◌∷◌, length, set, get_or, sym, refl, ap}
+use Rattle.std.proofs.Common.{◌∙◌, subst, arith, true, Option, Some, None, MatchOption, is_some}
 use Rattle.std.proofs.lemmas.List.Elements.{All-set, All-weaker, All-get_or}
+use Rattle.std.specs.List.{AllZip}
 use mathlib.Core.Logic.{dite}
 use mathlib.Core.Option.{some}
 use native.Mathlib.Decide.{ℕ_discrete}
 use lib.ListN.{get_elem?}
 use Rattle.atomic_table.proofs.Lists.{at_index}
-use Rattle.pen_desks.specs.declared.desk.PenDesk.{PenDesk}
-use Rattle.pen_desks.specs.declared.pen.PenEnd.{PenEnd}
-use Rattle.pen_desks.specs.Books.{BooksView}
-use Rattle.pen_desks.specs.Pens.{IsEndOf, IsSameEnd, HasAllOf, IsSpent, KeepsPens}
-use Rattle.pen_desks.specs.Pens.{end_number}
-use Rattle.pen_desks.specs.Taking.{most_edits}
-use Rattle.pen_desks.proofs.Ledgers.{below}
+use Rattle.core_dispatch.specs.{declared.desk.PenDesk.PenDesk, declared.pen.PenEnd.PenEnd, Books.BooksView}
+use Rattle.core_dispatch.specs.{Taking.most_edits}
+use Rattle.core_dispatch.specs.Pens.{IsEndOf, IsSameEnd, HasAllOf, IsSpent, KeepsPens, end_number}
 use Rattle.core_dispatch.specs.Closing.{AreEndsOf, AreKept, IsPlaceOf, HasEndOf, HaveEach, IsAllTaken, AreAllTaken}
 use Rattle.core_dispatch.specs.Closing.{HasSpentCount}
+use Rattle.steal_pool.proofs.Deals.{below}
 
 -- ---- the same ends
 
 abbrev AreSame : List PenEnd → List PenEnd → Type 0
 AreSame old new = AllZip IsSameEnd old new
 
-pub same_themselves : (ends : List PenEnd) → AreSame ends ends
+same_themselves : (ends : List PenEnd) → AreSame ends ends
 same_themselves [] = tt
 same_themselves (end ∷ ends) = (record { number = refl; submitted = refl }, same_themselves ends)
 
@@ -48,7 +43,7 @@ same_back (x ∷ a) (y ∷ b) (here, same) =
     (record { number = sym here.number; submitted = sym here.submitted }, same_back a b same)
 
 -- what stands at a place of the one has its like at that place of the other
-pub same_at : (a b : List PenEnd) (place : ℕ) (end : PenEnd) → AreSame a b → get_elem? a place ≡ some end
+same_at : (a b : List PenEnd) (place : ℕ) (end : PenEnd) → AreSame a b → get_elem? a place ≡ some end
     → (other : PenEnd) × (get_elem? b place ≡ some other) × IsSameEnd end other
 same_at [] b place end same at = absurd cc
 same_at (x ∷ a) [] place end same at = absurd same
@@ -57,7 +52,7 @@ same_at (x ∷ a) (y ∷ b) zero end (here, same) at =
 same_at (x ∷ a) (y ∷ b) (suc place) end (here, same) at = same_at a b place end same at
 
 -- an end that is replaced by its like
-pub same_once_set : (ends : List PenEnd) (place : ℕ) (end new : PenEnd) → get_elem? ends place ≡ some end
+same_once_set : (ends : List PenEnd) (place : ℕ) (end new : PenEnd) → get_elem? ends place ≡ some end
     → IsSameEnd end new → AreSame ends (set ends place new)
 same_once_set [] place end new at same = absurd cc
 same_once_set (x ∷ ends) zero end new at same =
@@ -71,7 +66,7 @@ pub same_has_end : (a b : List PenEnd) (number : ℕ) → AreSame a b → HasEnd
 same_has_end a b number same (place, (end, at, is)) =
     let (other, there, like) = same_at a b place end same at in (place, (other, there, like.number ∙ is))
 
-pub same_taken : (a b : List PenEnd) (books : BooksView) (number : ℕ) → AreSame a b → IsAllTaken books a number
+same_taken : (a b : List PenEnd) (books : BooksView) (number : ℕ) → AreSame a b → IsAllTaken books a number
     → IsAllTaken books b number
 same_taken a b books number same (place, end, at, is, (desk, there, all)) =
     let (other, here, like) = same_at a b place end same at in (
@@ -100,7 +95,7 @@ pub kept_through : (a b c : List PenEnd) (old new : BooksView) → AreKept a b o
 kept_through a b c old new first second = (same_through a b c first.0 second.0, second.1)
 
 -- an end of which more was taken
-pub kept_once_taken : (ends : List PenEnd) (old new : BooksView) (place : ℕ) (end left : PenEnd) → AreEndsOf ends old
+kept_once_taken : (ends : List PenEnd) (old new : BooksView) (place : ℕ) (end left : PenEnd) → AreEndsOf ends old
     → KeepsPens old new → get_elem? ends place ≡ some end → IsSameEnd end left → IsEndOf left new
     → AreKept ends (set ends place left) new
 kept_once_taken ends old new place end left are keeps at same is = (
@@ -116,7 +111,7 @@ end_at ends books place end are within here =
     subst (λ (e : PenEnd). IsEndOf e books) here (All-get_or (λ e. IsEndOf e books) ends place end within are)
 
 -- what was taken of other pens stays
-pub others_taken : (ends : List PenEnd) (old new : BooksView) (number n : ℕ) → n ≢ number
+others_taken : (ends : List PenEnd) (old new : BooksView) (number n : ℕ) → n ≢ number
     → ((pen : ℕ) → pen ≢ number → get_elem? new.desks pen ≡ get_elem? old.desks pen) → IsAllTaken old ends n
     → IsAllTaken new ends n
 others_taken ends old new number n differ others (place, end, at, is, (desk, there, all)) =
@@ -163,7 +158,7 @@ has_found ends number (Some place) is there = (place, is)
 has_found ends number None is there = absurd cc
 
 -- the end at the place that was found
-pub same_number : (ends : List PenEnd) (place number : ℕ) (end : PenEnd) → IsPlaceOf ends number place
+same_number : (ends : List PenEnd) (place number : ℕ) (end : PenEnd) → IsPlaceOf ends number place
     → end ≡ get_or ends place end → (get_elem? ends place ≡ some end) × (end_number end ≡ number)
 same_number ends place number end (other, at, is) here =
     let there = at_index ends place end (below ends place other at) here in
@@ -218,13 +213,3 @@ pub all_taken_at : (a b : BooksView) (ends : List PenEnd) → b.desks ≡ a.desk
     → AreAllTaken b ends
 all_taken_at a b ends same all =
     subst (λ (desks : List PenDesk). AreAllTaken (record a { desks = desks }) ends) (sym same) all
-
--- ---- answers
-
-pub on_ok : {T E A B : Type 0} (r : Result T E) → (A → B) → OnOk r A → OnOk r B
-on_ok (Ok x) f h = f h
-on_ok (Err e) f h = h
-
-pub if_err : {T E : Type 0} (P Q : E → Type 0) (r : Result T E) → ((e : E) → P e → Q e) → IfErr r P → IfErr r Q
-if_err P Q (Ok x) f h = h
-if_err P Q (Err e) f h = f e h

@@ -1,17 +1,13 @@
 -- Dispatchers that go on.
-use Rattle.std.proofs.Common.{◌≡◌, ℕ, ◌+◌, [], ◌++◌, refl, ap, ◌∙◌}
+use Rattle.std.proofs.Common.{◌≡◌, ℕ, ◌+◌, List, [], ◌++◌, refl, ap, ◌∙◌, Result, Ok, Err, OnOk, IfErr}
 use Rattle.core_rules.proofs.Running.{run_append}
-use Rattle.pen_desks.specs.Books.{BooksView}
-use Rattle.pen_desks.specs.Pens.{KeepsPens}
-use Rattle.pen_desks.specs.Taking.{HaveTakenEdits}
-use Rattle.pen_desks.proofs.Rounds.{pens_through, none_taken, more_taken}
-use Rattle.core_dispatch.specs.declared.dispatcher.Dispatcher.{Dispatcher}
-use Rattle.core_dispatch.specs.declared.turned.Results.{Results}
-use Rattle.core_dispatch.specs.Reports.{HaveCollected}
-use Rattle.core_dispatch.specs.Closing.{HasGoneOn, HasTakenEdits}
-use Rattle.core_dispatch.proofs.Around.{rest_pens}
+use Rattle.core_dispatch.specs.{Books.BooksView, Pens.KeepsPens, Taking.HaveTakenEdits}
+use Rattle.core_dispatch.specs.{declared.dispatcher.Dispatcher.Dispatcher, declared.turned.Results.Results}
+use Rattle.core_dispatch.specs.{Reports.HaveCollected, declared.error.CloseError.CloseError, declared.pen.PenEnd.PenEnd}
+use Rattle.core_dispatch.specs.Closing.{HasGoneOn, HasTakenEdits, HasTakenAll, HasNotTakenAll}
+use Rattle.core_dispatch.proofs.Rounds.{pens_through, none_taken, more_taken}
+use Rattle.core_dispatch.proofs.{Around.rest_pens, Reported.reported, Reported.collected_around}
 use Rattle.core_dispatch.proofs.Growing.{run_grows, grows_itself, grows_through}
-use Rattle.core_dispatch.proofs.Reported.{reported, collected_around}
 
 pub goes_itself : (d : Dispatcher) → HasGoneOn d d
 goes_itself d = record {
@@ -44,7 +40,7 @@ goes_by_edits old new edits taken pens = record {
 
 -- edits were taken, and nothing else
 pub edits_themselves : (d : Dispatcher) → HasTakenEdits d d
-edits_themselves d = record { edits = 0; taken = none_taken d.books; other = refl }
+edits_themselves d = record { edits = 0; taken = none_taken d.books d.books refl refl refl; other = refl }
 
 pub edits_through : (a b c : Dispatcher) → HasTakenEdits a b → HasTakenEdits b c → HasTakenEdits a c
 edits_through a b c first second = record {
@@ -69,3 +65,9 @@ pub reports_keep_desks : (old new : Dispatcher) (results : Results) → HaveColl
     → new.books.desks ≡ old.books.desks
 reports_keep_desks old new results have =
     ap (λ (b : BooksView). b.desks) (collected_around 0 old have.answers new have.collected).rest
+
+-- whatever came of it, the dispatcher went on
+pub went_on : {T : Type 0} (old new : Dispatcher) (ends : List PenEnd) (result : Result T CloseError)
+    → OnOk result (HasTakenAll old ends new) → IfErr result (HasNotTakenAll old ends new) → HasGoneOn old new
+went_on old new ends (Ok done) all not_all = all.goes_on
+went_on old new ends (Err why) all not_all = not_all.goes_on

@@ -1,3 +1,12 @@
+pub mod Handing
+pub mod Reasons
+pub mod Ledgers
+pub mod Rings
+pub mod Rounds
+pub mod Taking
+pub mod Resting
+pub mod Marking
+pub mod Steady
 pub mod Growing
 pub mod Around
 pub mod Reported
@@ -5,6 +14,5 @@ pub mod Placed
 pub mod Turning
 pub mod Collecting
 pub mod Pushing
-pub mod Showing
 pub mod Ends
 pub mod GoingOn

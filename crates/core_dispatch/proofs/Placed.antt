@@ -1,26 +1,18 @@
 -- Jobs that are taken and pushed, as events.
-use Rattle.std.proofs.Common.{◌≡◌, ℕ, ◌+◌, ◌<◌, ◌≤◌, inl, inr, true, false, List, [], ◌∷◌, length}
-use Rattle.std.proofs.Common.{refl, ap, ◌∙◌, subst, get_or, set, arith}
-use Rattle.std.specs.Prelude.{Some, None}
-use Rattle.std.specs.List.{sum_by, list_any}
-use Rattle.std.proofs.lemmas.List.{length-set, length-append}
-use Rattle.std.proofs.lemmas.List.Sums.{sum_by-cons}
-use Rattle.tile_generations.specs.declared.ticket.Ticket.{Ticket}
-use Rattle.tile_generations.specs.Jobs.{Job}
-use Rattle.border_queues.specs.TileWork.{TileWork, idle}
-use Rattle.core_rules.specs.Work.{Core, IsTile, work_at}
-use Rattle.core_rules.specs.Sweeps.{IsTaken, IsAbandoned}
-use Rattle.core_rules.specs.Events.{Take, Abandon}
-use Rattle.core_rules.specs.Events.{OfTake, OfAbandon}
+use Rattle.std.proofs.Common.{◌≡◌, ℕ, ◌+◌, ◌<◌, ◌≤◌, inl, inr, true, false, List, [], ◌∷◌, length, ap, ◌∙◌, subst}
+use Rattle.std.proofs.Common.{arith, Some, sum_by}
+use Rattle.std.proofs.{lemmas.List.length-append, lemmas.List.Sums.sum_by-cons}
+use Rattle.std.specs.List.{list_any}
+use Rattle.tile_generations.specs.{Jobs.Job}
+use Rattle.core_rules.specs.{Work.Core, Work.IsTile}
+use Rattle.core_rules.specs.Events.{Take, Abandon, OfTake, OfAbandon}
 use Rattle.core_rules.specs.Runs.{Entry, IsRun, HasHints, jobs_of, abandons_of}
-use Rattle.pen_desks.proofs.Steady.{kept_field}
-use Rattle.core_dispatch.specs.declared.turned.Pushing.{Pushing}
+use Rattle.core_dispatch.proofs.{Growing.AreNoMerges, Marking.IsOnlyMarked}
+use Rattle.core_dispatch.proofs.Around.{KeepsAround, around_core, around_itself, around_through}
+use Rattle.core_dispatch.specs.{declared.turned.Pushing.Pushing, declared.dispatcher.Dispatcher.Dispatcher}
+use Rattle.core_dispatch.specs.{Turns.AreOfJobs}
 use Rattle.core_dispatch.specs.declared.turned.Pushing.TheVariants.{Pushed, Refused, Wanting}
-use Rattle.core_dispatch.specs.declared.dispatcher.Dispatcher.{Dispatcher}
-use Rattle.core_dispatch.specs.Jobs.{ArePushed, IsLeft, pushed_in, is_wanting}
-use Rattle.core_dispatch.specs.Turns.{AreOfJobs}
-use Rattle.core_dispatch.proofs.Growing.{AreNoMerges}
-use Rattle.core_dispatch.proofs.Around.{KeepsAround, around_itself, around_through}
+use Rattle.core_dispatch.specs.Jobs.{ArePushed, IsLeft, IsPushed, pushed_in, is_wanting}
 
 -- so many jobs were taken and pushed, and those that found no place were abandoned
 pub record HavePlaced (before : Core) (n : ℕ) (after : Core) : Type 0 where
@@ -46,76 +38,59 @@ placed from old [] new same = record {
 }
 placed from old ((t, Pushed) ∷ tiles) new (rises, (next, (job, taken, same), rest)) =
     let more = placed (t + 1) next tiles new rest in
-    let count = more.count in
     let counts = one_tile_more t Pushed tiles in
     record {
       log = (Take t, OfTake (Some job)) ∷ more.log;
       are_jobs = more.are_jobs;
       run = (next.books.core, taken, more.run);
-      count = omega (arith, count, counts);
+      count = omega arith;
     }
 placed from old ((t, Refused) ∷ tiles) new (rises, (next, (job, between, taken, abandoned, same, full), rest)) =
     let more = placed (t + 1) next tiles new rest in
-    let count = more.count in
     let counts = one_tile_more t Refused tiles in
     record {
       log = (Take t, OfTake (Some job)) ∷ (Abandon job.ticket, OfAbandon true) ∷ more.log;
       are_jobs = more.are_jobs;
       run = (between, taken, (next.books.core, abandoned, more.run));
-      count = omega (arith, count, counts);
+      count = omega arith;
     }
 placed from old ((t, Wanting) ∷ tiles) new (rises, (next, (ready, same), rest)) =
     let more = placed (t + 1) next tiles new rest in
     let counts = one_tile_more t Wanting tiles in
-    let count : pushed_of tiles ≡ pushed_of ((t, Wanting) ∷ tiles) = omega (arith, counts) in
-    subst (λ (n : ℕ). HavePlaced old.books.core n new.books.core) count
+    subst (λ (n : ℕ). HavePlaced old.books.core n new.books.core) (omega arith)
     (subst (λ (d : Dispatcher). HavePlaced d.books.core (pushed_of tiles) new.books.core) same more)
 
 -- ---- what is left besides the core
 
 -- pushing leaves all else, and only adds to the pushed jobs
+one_around : (t : ℕ) (old : Dispatcher) (pushing : Pushing) (new : Dispatcher) → IsPushed t old pushing new
+    → KeepsAround old new
+one_around t old Pushed new (job, taken, same) = record {
+  rest = ap (λ (d : Dispatcher). d.books) same;
+  capacity = ap (λ (d : Dispatcher). d.owner.capacity) same;
+  pushed = omega (arith, ap (λ (d : Dispatcher). length d.owner.pushed) same, length-append {A = Job});
+}
+one_around t old Refused new (job, between, taken, abandoned, same, full) = around_core old new same
+one_around t old Wanting new (ready, same) = around_itself old new same
+
 pub pushed_around : (from : ℕ) (old : Dispatcher) (tiles : List (ℕ × Pushing)) (new : Dispatcher)
     → ArePushed from old tiles new → KeepsAround old new
 pushed_around from old [] new same = around_itself old new same
-pushed_around from old ((t, Pushed) ∷ tiles) new (rises, (next, (job, taken, same), rest)) =
-    around_through old next new (record {
-      rest = ap (λ (d : Dispatcher). d.books) same;
-      capacity = ap (λ (d : Dispatcher). d.owner.capacity) same;
-      pushed =
-          let pushes = ap (λ (d : Dispatcher). length d.owner.pushed) same in
-          let longer = length-append old.owner.pushed (job ∷ []) in
-          omega (arith, pushes, longer);
-    })
-    (pushed_around (t + 1) next tiles new rest)
-pushed_around from old ((t, Refused) ∷ tiles) new (rises, (next, (job, between, taken, abandoned, same, full), rest)) =
-    around_through old next new (record {
-      rest = ap (λ (d : Dispatcher). d.books) same;
-      capacity = ap (λ (d : Dispatcher). d.owner.capacity) same;
-      pushed = let pushes = ap (λ (d : Dispatcher). length d.owner.pushed) same in omega (arith, pushes);
-    })
-    (pushed_around (t + 1) next tiles new rest)
-pushed_around from old ((t, Wanting) ∷ tiles) new (rises, (next, (ready, same), rest)) =
-    around_through old next new (around_itself old next same) (pushed_around (t + 1) next tiles new rest)
+pushed_around from old ((t, pushing) ∷ tiles) new (rises, (next, turn, rest)) =
+    around_through old next new (one_around t old pushing next turn) (pushed_around (t + 1) next tiles new rest)
 
 -- where memory was not wanting, a tile is left only once as many jobs were pushed as surely find a place
 pub left_is_full : (from : ℕ) (old : Dispatcher) (tiles : List (ℕ × Pushing)) (new : Dispatcher)
     → ArePushed from old tiles new → list_any (λ tile. is_wanting tile.1) tiles ≡ false → (t : ℕ) → IsLeft tiles t
     → new.owner.capacity ≤ length new.owner.pushed
 left_is_full from old [] new same enough t left = absurd left
-left_is_full from old ((u, Pushed) ∷ tiles) new (rises, (next, (job, taken, same), rest)) enough t left =
+left_is_full from old ((u, Pushed) ∷ tiles) new (rises, (next, turn, rest)) enough t left =
     left_is_full (u + 1) next tiles new rest enough t left
-left_is_full from old ((u, Refused) ∷ tiles) new (rises, (next, (job, between, taken, abandoned, same, full), rest))
-    enough t (inl here) =
-    let now = around_through old next new (record {
-      rest = ap (λ (d : Dispatcher). d.books) same;
-      capacity = ap (λ (d : Dispatcher). d.owner.capacity) same;
-      pushed = let pushes = ap (λ (d : Dispatcher). length d.owner.pushed) same in omega (arith, pushes);
-    }) (pushed_around (u + 1) next tiles new rest) in
-    let capacity = now.capacity in
-    let pushes = now.pushed in
-    omega (arith, capacity, pushes, full)
-left_is_full from old ((u, Refused) ∷ tiles) new (rises, (next, (job, between, taken, abandoned, same, full), rest))
-    enough t (inr later) =
+left_is_full from old ((u, Refused) ∷ tiles) new (rises, (next, turn, rest)) enough t (inl here) =
+    let now = pushed_around from old ((u, Refused) ∷ tiles) new (rises, (next, turn, rest)) in
+    let full = turn.5 in
+    omega arith
+left_is_full from old ((u, Refused) ∷ tiles) new (rises, (next, turn, rest)) enough t (inr later) =
     left_is_full (u + 1) next tiles new rest enough t later
 left_is_full from old ((u, Wanting) ∷ tiles) new (rises, (next, (ready, same), rest)) enough t left = absurd cc
 
@@ -127,61 +102,9 @@ jobs_no_merges ((Take t, OfTake (Some job)) ∷ log) more = jobs_no_merges log m
 jobs_no_merges ((Abandon ticket, OfAbandon true) ∷ log) more = jobs_no_merges log more
 jobs_no_merges (entry ∷ log) more = absurd more
 
--- image and inboxes are as they were
-pub record KeepsHints (before after : Core) : Type 0 where
-  pub image : after.image ≡ before.image
-  pub count : length after.tiles ≡ length before.tiles
-  pub inboxes : (t : ℕ) → (work_at after t).inbox ≡ (work_at before t).inbox
-
-hints_through : (a b c : Core) → KeepsHints a b → KeepsHints b c → KeepsHints a c
-hints_through a b c first second = record {
-  image = second.image ∙ first.image;
-  count = second.count ∙ first.count;
-  inboxes = λ t. second.inboxes t ∙ first.inboxes t;
-}
-
--- other work at one tile, with the same hints
-of_tile : (before after : Core) (t : ℕ) (work : TileWork) → after.image ≡ before.image
-    → after.tiles ≡ set before.tiles t work → work.inbox ≡ (work_at before t).inbox → KeepsHints before after
-of_tile before after t work image tiles same = record {
-  image = image;
-  count = ap (λ (l : List TileWork). length l) tiles ∙ length-set before.tiles t work;
-  inboxes = λ u.
-      ap (λ (l : List TileWork). (get_or l u idle).inbox) tiles
-      ∙ kept_field (λ (w : TileWork). w.inbox) before.tiles t u work same;
-}
-
-taken_keeps_hints : (before : Core) (t : ℕ) (job : Job) (after : Core) → IsTaken before t (Some job) after
-    → KeepsHints before after
-taken_keeps_hints before t job after (ready, next, same) =
-    of_tile before after t (record (work_at before t) { dirty = false; out = Some before.serial })
-    (ap (λ (c : Core). c.image) same) (ap (λ (c : Core). c.tiles) same) refl
-
-abandoned_keeps_hints : (before : Core) (ticket : Ticket) (after : Core) → IsAbandoned before ticket true after
-    → KeepsHints before after
-abandoned_keeps_hints before ticket after (out, same) =
-    of_tile before after ticket.tile (record (work_at before ticket.tile) { dirty = true; out = None })
-    (ap (λ (c : Core). c.image) same) (ap (λ (c : Core). c.tiles) same) refl
-
-pub jobs_keep_hints : (before : Core) (log : List Entry) (after : Core) → AreOfJobs log → IsRun before log after
-    → KeepsHints before after
-jobs_keep_hints before [] after none same = record {
-  image = ap (λ (c : Core). c.image) same;
-  count = ap (λ (c : Core). length c.tiles) same;
-  inboxes = λ t. ap (λ (c : Core). (work_at c t).inbox) same;
-}
-jobs_keep_hints before ((Take t, OfTake (Some job)) ∷ log) after more (next, happens, run) =
-    hints_through before next after (taken_keeps_hints before t job next happens)
-    (jobs_keep_hints next log after more run)
-jobs_keep_hints before ((Abandon ticket, OfAbandon true) ∷ log) after more (next, happens, run) =
-    hints_through before next after (abandoned_keeps_hints before ticket next happens)
-    (jobs_keep_hints next log after more run)
-jobs_keep_hints before (entry ∷ log) after more run = absurd more
-
 -- where no hint waited, none waits
-pub no_hints_kept : (before after : Core) → KeepsHints before after → ((t : ℕ) → HasHints before t → ⊥)
+pub no_hints_kept : (before after : Core) → IsOnlyMarked before after → ((t : ℕ) → HasHints before t → ⊥)
     → (t : ℕ) → HasHints after t → ⊥
 no_hints_kept before after keeps none t (is_tile, some) =
-    let count = keeps.count in
     let there : IsTile before t = let lt : t < length after.tiles = is_tile in omega arith in
     none t (there, λ empty. some (keeps.inboxes t ∙ empty))

@@ -1,23 +1,18 @@
 -- Jobs that are taken and pushed.
-use Rattle.std.proofs.Common.{◌≡◌, ◌≢◌, ℕ, ◌+◌, ◌<◌, ◌≤◌, Bool, true, false, ◌||◌, List, [], ◌∷◌, ◌++◌, length, set}
-use Rattle.std.proofs.Common.{get_or, refl, sym, ap, ◌∙◌, subst, inl, inr, arith}
-use Rattle.std.specs.Prelude.{Some, None}
-use Rattle.std.specs.List.{sum_by, list_any}
-use Rattle.std.proofs.lemmas.List.{length-set, get_or-set_same, get_or-set_other}
-use Rattle.std.proofs.lemmas.List.Sums.{sum_by-append}
-use Rattle.std.proofs.lemmas.Bool.{cases_eq, cases_lt}
-use Rattle.tile_generations.specs.declared.ticket.Ticket.{Ticket}
-use Rattle.tile_generations.specs.Jobs.{Job}
+use Rattle.std.proofs.Common.{◌≡◌, ◌≢◌, ℕ, ◌+◌, ◌<◌, ◌≤◌, Bool, true, false, ◌||◌, List, [], ◌∷◌, ◌++◌, length}
+use Rattle.std.proofs.Common.{refl, sym, ap, ◌∙◌, subst, inl, inr, arith, Some, sum_by}
+use Rattle.std.proofs.lemmas.List.{get_or-set_same}
+use Rattle.std.proofs.{lemmas.List.Sums.sum_by-append, lemmas.Bool.cases_eq, lemmas.Bool.cases_lt}
+use Rattle.std.specs.List.{list_any}
+use Rattle.tile_generations.specs.{declared.ticket.Ticket.Ticket, Jobs.Job}
 use Rattle.border_queues.specs.TileWork.{TileWork, IsLeast, idle}
-use Rattle.core_rules.specs.Work.{Core, work_at}
-use Rattle.core_rules.specs.Sweeps.{IsReady, IsTaken, IsAbandoned}
-use Rattle.pen_desks.specs.Books.{BooksView, KeepsRest}
-use Rattle.pen_desks.proofs.Rounds.{any_more}
-use Rattle.core_dispatch.specs.declared.turned.Jobs.{Jobs}
-use Rattle.core_dispatch.specs.declared.turned.Pushing.{Pushing}
+use Rattle.core_rules.specs.{Work.Core, Work.work_at, Sweeps.IsReady, Sweeps.IsTaken}
+use Rattle.core_dispatch.specs.{Books.BooksView, Books.KeepsRest, declared.turned.Jobs.Jobs}
+use Rattle.core_dispatch.specs.{declared.turned.Pushing.Pushing, declared.dispatcher.Dispatcher.Dispatcher}
 use Rattle.core_dispatch.specs.declared.turned.Pushing.TheVariants.{Pushed, Refused, Wanting}
-use Rattle.core_dispatch.specs.declared.dispatcher.Dispatcher.{Dispatcher}
 use Rattle.core_dispatch.specs.Jobs.{IsPlaced, IsPushed, ArePushed, IsLeft, pushing, pushed_in, is_wanting}
+use Rattle.core_dispatch.proofs.Rounds.{any_more}
+use Rattle.core_dispatch.proofs.Marking.{IsMarkedAt, abandon_marks, marked_twice, take_marks, unmarked}
 
 -- ---- one tile
 
@@ -43,57 +38,23 @@ placed_is_pushed t old new books job Refused is_taken rest (abandoned, same, ful
 )
 placed_is_pushed t old new books job Wanting is_taken rest placed = absurd placed
 
--- the work at all tiles but one is as it was
-pub record IsElsewhere (t : ℕ) (before after : Core) : Type 0 where
-  pub count : length after.tiles ≡ length before.tiles
-  pub others : (u : ℕ) → u ≢ t → work_at after u ≡ work_at before u
-
-of_tile : (before after : Core) (t : ℕ) (work : TileWork) → after.tiles ≡ set before.tiles t work
-    → IsElsewhere t before after
-of_tile before after t work same = record {
-  count = ap (λ (l : List TileWork). length l) same ∙ length-set before.tiles t work;
-  others = λ u other.
-      ap (λ (l : List TileWork). get_or l u idle) same ∙ get_or-set_other before.tiles t u work idle other;
-}
-
-of_take : (before after : Core) (t : ℕ) (job : Job) → IsTaken before t (Some job) after → IsElsewhere t before after
-of_take before after t job (ready, next, same) =
-    of_tile before after t (record (work_at before t) { dirty = false; out = Some before.serial })
-    (ap (λ (c : Core). c.tiles) same)
-
-of_abandon : (before after : Core) (ticket : Ticket) → IsAbandoned before ticket true after
-    → IsElsewhere ticket.tile before after
-of_abandon before after ticket (out, same) =
-    of_tile before after ticket.tile (record (work_at before ticket.tile) { dirty = true; out = None })
-    (ap (λ (c : Core). c.tiles) same)
-
-through : (t : ℕ) (a b c : Core) → IsElsewhere t a b → IsElsewhere t b c → IsElsewhere t a c
-through t a b c first second = record {
-  count = second.count ∙ first.count;
-  others = λ u other. second.others u other ∙ first.others u other;
-}
-
 -- whatever became of the tile, all others are as they were
 pub pushed_elsewhere : (t : ℕ) (old new : Dispatcher) (pushing : Pushing) → IsPushed t old pushing new
-    → IsElsewhere t old.books.core new.books.core
-pushed_elsewhere t old new Pushed (job, is_taken, rest) = of_take old.books.core new.books.core t job is_taken
-pushed_elsewhere t old new Refused (job, between, is_taken, abandoned, rest, full) =
-    let here : job.ticket.tile ≡ t = ap (λ (k : Ticket). k.tile) is_taken.1.ticket in
-    through t old.books.core between new.books.core (of_take old.books.core between t job is_taken)
-    (subst (λ (u : ℕ). IsElsewhere u between new.books.core) here
-    (of_abandon between new.books.core job.ticket abandoned))
+    → IsMarkedAt t old.books.core new.books.core
+pushed_elsewhere t old new Pushed (job, taken, rest) = take_marks old.books.core new.books.core t (Some job) taken
+pushed_elsewhere t old new Refused (job, between, taken, abandoned, rest, full) =
+    let here : job.ticket.tile ≡ t = ap (λ (k : Ticket). k.tile) taken.1.ticket in
+    marked_twice t old.books.core between new.books.core (take_marks old.books.core between t (Some job) taken)
+    (subst (λ (u : ℕ). IsMarkedAt u between new.books.core) here
+    (abandon_marks between new.books.core job.ticket true abandoned))
 pushed_elsewhere t old new Wanting (ready, same) =
-    let core : new.books.core ≡ old.books.core = ap (λ (d : Dispatcher). d.books.core) same in record {
-      count = ap (λ (c : Core). length c.tiles) core;
-      others = λ u other. ap (λ (c : Core). work_at c u) core;
-    }
+    unmarked t old.books.core new.books.core (ap (λ (d : Dispatcher). d.books.core) same)
 
-ready_before : (t u : ℕ) (before after : Core) → IsElsewhere t before after → u ≢ t → IsReady after u
-    → IsReady before u
+ready_before : (t u : ℕ) (before after : Core) → IsMarkedAt t before after → u ≢ t → IsReady after u → IsReady before u
 ready_before t u before after elsewhere other ready =
     let same = elsewhere.others u other in record {
       is_tile =
-          let count = elsewhere.count in
+          let count = elsewhere.marked.count in
           let lt : u < length after.tiles = ready.is_tile in omega (arith, count, lt);
       dirty = ap (λ (w : TileWork). w.dirty) (sym same) ∙ ready.dirty;
       none_out = ap (λ (w : TileWork). w.out) (sym same) ∙ ready.none_out;
@@ -208,21 +169,16 @@ pub one_more_pushed : (from t : ℕ) (old now next : Dispatcher) (jobs more : Jo
     → IsPushed t now pushing next → more.jobs ≡ jobs.jobs + pushed_in pushing
     → more.memory ≡ (jobs.memory || is_wanting pushing) → ArePushedBelow (t + 1) old more next
 one_more_pushed from t old now next jobs more pushing so_far least turn jobs_are memory_is =
-    let from_on : from ≤ t = least.0.0 in
-    let end = so_far.end in record {
+    let from_on : from ≤ t = least.0.0 in record {
       tiles = so_far.tiles ++ (t, pushing) ∷ [];
-      pushed =
-          pushed_more 0 old now next so_far.tiles t pushing so_far.pushed (omega (arith, end, from_on)) turn;
-      end = let last = end_more 0 so_far.tiles t pushing in omega (arith, last);
+      pushed = pushed_more 0 old now next so_far.tiles t pushing so_far.pushed (omega arith) turn;
+      end = omega (arith, end_more 0 so_far.tiles t pushing);
       left = left_more from t now next so_far.tiles pushing so_far.left least turn;
-      kept = (pushed_elsewhere t now next pushing turn).count ∙ so_far.kept;
-      few =
-          let few = so_far.few in
-          let one = at_most_one pushing in omega (arith, few, one, jobs_are, from_on);
+      kept = (pushed_elsewhere t now next pushing turn).marked.count ∙ so_far.kept;
+      few = omega (arith, at_most_one pushing);
       count =
-          let before = so_far.count in
           let sums = sum_by-append (λ (tile : ℕ × Pushing). pushed_in tile.1) so_far.tiles ((t, pushing) ∷ []) in
-          omega (arith, before, sums, jobs_are);
+          omega arith;
       memory =
           memory_is
           ∙ (ap (λ (b : Bool). b || is_wanting pushing) so_far.memory

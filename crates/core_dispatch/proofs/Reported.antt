@@ -1,21 +1,15 @@
 -- Reports that are taken of hands, as events.
-use Rattle.std.proofs.Common.{◌≡◌, ℕ, zero, suc, ◌+◌, true, false, Bool, List, [], ◌∷◌, ◌++◌, length}
-use Rattle.std.proofs.Common.{sym, refl, ap, subst, arith}
-use Rattle.std.specs.Prelude.{Option, Some, None}
-use Rattle.std.specs.List.{sum_by}
+use Rattle.std.proofs.Common.{◌≡◌, ℕ, zero, suc, ◌+◌, true, false, Bool, List, [], ◌∷◌, ◌++◌, length, sym, refl, ap}
+use Rattle.std.proofs.Common.{subst, arith, Option, Some, None, sum_by}
 use Rattle.std.proofs.lemmas.List.Sums.{sum_by-cons}
-use Rattle.tile_generations.specs.declared.ticket.Ticket.{Ticket}
-use Rattle.tile_generations.specs.Jobs.{Swept}
-use Rattle.core_rules.specs.declared.answers.Back.{Back}
+use Rattle.tile_generations.specs.{declared.ticket.Ticket.Ticket, Jobs.Swept}
+use Rattle.core_rules.specs.{declared.answers.Back.Back, Work.Core, Runs.Entry, Runs.IsRun}
 use Rattle.core_rules.specs.declared.answers.Back.TheVariants.{Joined, Again, Stale, Stranger}
-use Rattle.core_rules.specs.Work.{Core}
-use Rattle.core_rules.specs.Runs.{Entry, IsRun}
 use Rattle.core_rules.proofs.Running.{run_append}
 use Rattle.steal_pool.specs.declared.report.Report.{Report}
 use Rattle.steal_pool.specs.declared.report.Report.TheVariants.{Done, Failed}
-use Rattle.core_dispatch.specs.declared.dispatcher.Dispatcher.{Dispatcher}
+use Rattle.core_dispatch.specs.{declared.dispatcher.Dispatcher.Dispatcher, Turns.AreOfReports}
 use Rattle.core_dispatch.specs.Reports.{IsDropped, IsAnswered, Leads, AreCollected, results_in}
-use Rattle.core_dispatch.specs.Turns.{AreOfReports}
 use Rattle.core_dispatch.proofs.Growing.{AreNoMerges, no_merges_append}
 use Rattle.core_dispatch.proofs.Around.{KeepsAround, around_itself, around_through}
 

@@ -1,35 +1,25 @@
 -- What a turn does.
-use Rattle.std.proofs.Common.{◌≡◌, ℕ, ◌≤◌, ◌||◌, true, false, Bool, List, [], ◌∷◌, ◌++◌, length}
-use Rattle.std.proofs.Common.{sym, refl, ap, ◌∙◌, subst, inl, inr, arith}
+use Rattle.std.proofs.Common.{◌≡◌, ℕ, ◌≤◌, ◌||◌, true, false, Bool, List, [], ◌∷◌, ◌++◌, length, sym, refl, ap, ◌∙◌}
+use Rattle.std.proofs.Common.{subst, inl, inr, arith}
 use Rattle.std.proofs.lemmas.List.{length-append}
-use Rattle.core_rules.specs.Work.{Core}
-use Rattle.core_rules.specs.Sweeps.{IsReady}
-use Rattle.core_rules.specs.Events.{Merge, Take, GiveBack, Abandon, Hand}
-use Rattle.core_rules.specs.Runs.{Entry, IsRun, HasHints}
+use Rattle.core_rules.specs.{Work.Core, Sweeps.IsReady, Runs.Entry, Runs.IsRun, Runs.HasHints}
+use Rattle.core_rules.specs.Events.{Hand}
 use Rattle.core_rules.proofs.Running.{run_append}
-use Rattle.pen_desks.specs.declared.refusal.Refusal.{Refusal}
-use Rattle.pen_desks.specs.Books.{BooksView}
-use Rattle.pen_desks.specs.Handing.{AreHands, Counts}
-use Rattle.core_dispatch.specs.declared.turned.Turned.{Turned}
-use Rattle.core_dispatch.specs.declared.turned.Results.{Results}
-use Rattle.core_dispatch.specs.declared.turned.Jobs.{Jobs}
-use Rattle.core_dispatch.specs.declared.dispatcher.Dispatcher.{Dispatcher}
-use Rattle.core_dispatch.specs.Reports.{HaveCollected}
-use Rattle.core_dispatch.specs.Jobs.{HavePushed, with_core}
-use Rattle.core_dispatch.specs.Turns.{HasTurned, AreOfReports, AreEvents, GrowsOn, HasMergedNone, IsStill}
-use Rattle.core_dispatch.proofs.Growing.{AreNoMerges, no_merges_append, run_keeps_strokes, run_grows}
-use Rattle.core_dispatch.proofs.Around.{KeepsAround, around_through}
+use Rattle.core_dispatch.specs.{declared.refusal.Refusal.Refusal, Books.BooksView, Handing.AreHands, Handing.Counts}
+use Rattle.core_dispatch.specs.{declared.turned.Turned.Turned, declared.turned.Results.Results}
+use Rattle.core_dispatch.specs.{declared.turned.Jobs.Jobs, declared.dispatcher.Dispatcher.Dispatcher}
+use Rattle.core_dispatch.specs.{Reports.HaveCollected, Jobs.HavePushed, Jobs.with_core, Growing.GrowsOn}
+use Rattle.core_dispatch.specs.Turns.{HasTurned, AreOfReports, AreEvents, HasMergedNone, IsStill}
+use Rattle.core_dispatch.proofs.Growing.{AreNoMerges, no_merges_append, run_is_steady, run_grows}
+use Rattle.core_dispatch.proofs.Around.{KeepsAround, around_core, around_through}
 use Rattle.core_dispatch.proofs.Reported.{HaveReported, reported, collected_around, reports_no_merges}
 use Rattle.core_dispatch.proofs.Placed.{HavePlaced, placed, pushed_around, left_is_full, jobs_no_merges}
-use Rattle.core_dispatch.proofs.Placed.{jobs_keep_hints, no_hints_kept}
+use Rattle.core_dispatch.proofs.{Marking.jobs_mark, Placed.no_hints_kept}
 
 hands_no_merges : (log : List Entry) → AreHands log → AreNoMerges log
 hands_no_merges [] none = tt
 hands_no_merges ((Hand t place, answer) ∷ log) more = hands_no_merges log more
-hands_no_merges ((Merge delta, answer) ∷ log) more = absurd more
-hands_no_merges ((Take t, answer) ∷ log) more = absurd more
-hands_no_merges ((GiveBack swept, answer) ∷ log) more = absurd more
-hands_no_merges ((Abandon ticket, answer) ∷ log) more = absurd more
+hands_no_merges (entry ∷ log) more = absurd more
 
 nothing_happens : (before : Core) (log : List Entry) (after : Core) → log ≡ [] → IsRun before log after
     → after ≡ before
@@ -54,7 +44,7 @@ pub no_hints_after : (handed : Dispatcher) (jobs : Jobs) (new : Dispatcher) → 
 no_hints_after handed jobs new pushes none =
     let takes = placed 0 handed pushes.tiles new pushes.pushed in
     no_hints_kept handed.books.core new.books.core
-    (jobs_keep_hints handed.books.core takes.log new.books.core takes.are_jobs takes.run) none
+    (jobs_mark handed.books.core takes.log new.books.core takes.are_jobs takes.run) none
 
 -- what is left once the edits were taken
 pub after_edits : (edited : Dispatcher) (results : Results) (collected handed : Dispatcher) (jobs : Jobs)
@@ -62,11 +52,8 @@ pub after_edits : (edited : Dispatcher) (results : Results) (collected handed : 
     → HavePushed handed jobs new → KeepsAround edited new
 after_edits edited results collected handed jobs new collects rest pushes =
     around_through edited collected new (collected_around 0 edited collects.answers collected collects.collected)
-    (around_through collected handed new (record {
-      rest = ap (λ (d : Dispatcher). d.books) rest;
-      capacity = ap (λ (d : Dispatcher). d.owner.capacity) rest;
-      pushed = let same = ap (λ (d : Dispatcher). length d.owner.pushed) rest in omega (arith, same);
-    }) (pushed_around 0 handed pushes.tiles new pushes.pushed))
+    (around_through collected handed new (around_core collected handed rest)
+    (pushed_around 0 handed pushes.tiles new pushes.pushed))
 
 module _ (old : Dispatcher) (turned : Turned) (new : Dispatcher) (h : HasTurned old turned new) where
   reports : HaveReported h.edited.books.core h.results.results h.collected.books.core
@@ -136,9 +123,7 @@ module _ (old : Dispatcher) (turned : Turned) (new : Dispatcher) (h : HasTurned 
       ap (λ (b : BooksView). b.refusals) after.rest ∙ h.takes.refusals in
       let longer = ap (λ (l : List Refusal). length l) refusals in
       let lengths = length-append old.books.refusals h.takes.listed in
-      let all = h.takes.all in
-      let count = h.counts.0 in
-      let empty : length h.takes.log ≡ 0 = omega (arith, longer, lengths, all, count, none) in
+      let empty : length h.takes.log ≡ 0 = omega (arith, longer, lengths, h.takes.all, h.counts.0, none) in
       nothing_happens old.books.core h.takes.log h.edited.books.core (none_long h.takes.log empty) h.takes.run
 
   pub turn_state : HasMergedNone old turned new → new.books.core.state ≡ old.books.core.state
@@ -147,7 +132,7 @@ module _ (old : Dispatcher) (turned : Turned) (new : Dispatcher) (h : HasTurned 
       (jobs_no_merges jobs.log jobs.are_jobs) in
       let no_merges = no_merges_append reports.log (h.hands.log ++ jobs.log)
       (reports_no_merges h.results.results reports.log reports.are_reports) later in
-      let keeps = run_keeps_strokes h.edited.books.core (reports.log ++ (h.hands.log ++ jobs.log)) new.books.core
+      let keeps = run_is_steady h.edited.books.core (reports.log ++ (h.hands.log ++ jobs.log)) new.books.core
       no_merges run_after_edits in
       keeps.state ∙ ap (λ (c : Core). c.state) (unmerged none)
 
@@ -160,5 +145,5 @@ module _ (old : Dispatcher) (turned : Turned) (new : Dispatcher) (h : HasTurned 
       let handed =
       nothing_happens h.collected.books.core h.hands.log h.handed.books.core
       (none_long h.hands.log (none_counted turned.hints (length h.hands.log) h.hands.count no_hints)) h.hands.run in
-      let keeps = jobs_keep_hints h.handed.books.core jobs.log new.books.core jobs.are_jobs jobs.run in
-      keeps.image ∙ ap (λ (c : Core). c.image) (handed ∙ (collected ∙ unmerged none))
+      let keeps = jobs_mark h.handed.books.core jobs.log new.books.core jobs.are_jobs jobs.run in
+      keeps.shows.image ∙ ap (λ (c : Core). c.image) (handed ∙ (collected ∙ unmerged none))

@@ -1,18 +1,15 @@
 -- What is taken at the end.
-use Rattle.std.specs.Prelude.{◌≡◌, ℕ, zero, suc, ◌<◌, List, length, All}
+use Rattle.std.specs.Prelude.{◌≡◌, ◌↔◌, ℕ, zero, suc, ◌<◌, List, length, All}
 use Rattle.std.specs.List.{AllZip}
 use mathlib.Core.Option.{some}
 use lib.ListN.{get_elem?}
 use Rattle.core_rules.specs.Runs.{Entry, IsRun}
 use Rattle.steal_pool.specs.Views.{ring_room}
-use Rattle.pen_desks.specs.declared.pen.PenEnd.{PenEnd}
-use Rattle.pen_desks.specs.Books.{BooksView}
-use Rattle.pen_desks.specs.Taking.{HaveTakenEdits, most_edits}
-use Rattle.pen_desks.specs.Pens.{IsEndOf, IsSameEnd, HasAllOf, KeepsPens, all_submitted, end_number}
-use Rattle.core_dispatch.specs.declared.turned.Results.{Results}
-use Rattle.core_dispatch.specs.declared.dispatcher.Dispatcher.{Dispatcher}
-use Rattle.core_dispatch.specs.Reports.{HaveCollected}
-use Rattle.core_dispatch.specs.Turns.{GrowsOn}
+use Rattle.core_dispatch.specs.{declared.pen.PenEnd.PenEnd, Books.BooksView, Taking.HaveTakenEdits, Taking.most_edits}
+use Rattle.core_dispatch.specs.{declared.error.CloseError.CloseError, declared.error.CloseError.TheVariants.EndMissing}
+use Rattle.core_dispatch.specs.{declared.error.CloseError.TheVariants.CountSpent, declared.turned.Results.Results}
+use Rattle.core_dispatch.specs.{declared.dispatcher.Dispatcher.Dispatcher, Reports.HaveCollected, Growing.GrowsOn}
+use Rattle.core_dispatch.specs.Pens.{IsEndOf, IsSameEnd, HasAllOf, KeepsPens, all_submitted, end_number}
 
 -- each end is of a pen of the books
 abbrev pub AreEndsOf : List PenEnd → BooksView → Type 0
@@ -88,3 +85,19 @@ pub record HasTakenRest (old new : Dispatcher) : Type 0 where
 abbrev pub HasSpentCount : List PenEnd → Type 0
 HasSpentCount ends =
     (place : ℕ) × (end : PenEnd) × (get_elem? ends place ≡ some end) × (most_edits < length (all_submitted end))
+
+-- there was one end of each pen, and all that is left was taken: all that each pen submitted, and then the reports that
+-- may wait
+pub record HasTakenAll (old : Dispatcher) (ends : List PenEnd) (new : Dispatcher) : Type 0 where
+  pub one_of_each : IsOneOfEach ends old.books
+  pub all_taken : AreAllTaken new.books ends
+  pub goes_on : HasGoneOn old new
+  pub rest : HasTakenRest old new
+
+-- not all was taken, for this reason: nothing was, just where there is not one end of each pen; else nothing but edits
+pub record HasNotTakenAll (old : Dispatcher) (ends : List PenEnd) (new : Dispatcher) (why : CloseError) : Type 0 where
+  pub missing : (why ≡ EndMissing) ↔ (IsOneOfEach ends old.books → ⊥)
+  pub nothing : why ≡ EndMissing → new ≡ old
+  pub spent : why ≡ CountSpent → HasSpentCount ends
+  pub goes_on : HasGoneOn old new
+  pub stays : HasTakenEdits old new

@@ -1,8 +1,7 @@
 -- What contracts say of dispatchers.
 use Rattle.core_rules.specs.Work.{Core}
 use Rattle.steal_pool.specs.Views.{OwnerView}
-use Rattle.pen_desks.specs.Books.{BooksView}
-use Rattle.core_dispatch.specs.declared.dispatcher.Dispatcher.{Dispatcher}
+use Rattle.core_dispatch.specs.{Books.BooksView, declared.dispatcher.Dispatcher.Dispatcher}
 
 -- the books of the core
 abbrev pub books_by : Dispatcher → BooksView

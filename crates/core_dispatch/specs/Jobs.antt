@@ -1,14 +1,12 @@
 -- What becomes of the tiles that are dirty and not out.
-use Rattle.std.specs.Prelude.{◌≡◌, ℕ, ◌+◌, ◌≤◌, ◌⊎◌, Bool, true, false, List, [], ◌∷◌, ◌++◌, length, Some}
-use Rattle.std.specs.List.{sum_by, list_any}
+use Rattle.std.specs.Prelude.{◌≡◌, ℕ, ◌+◌, ◌≤◌, ◌⊎◌, Bool, true, false, List, [], ◌∷◌, ◌++◌, length, Some, sum_by}
+use Rattle.std.specs.List.{list_any}
 use Rattle.tile_generations.specs.Jobs.{Job}
-use Rattle.core_rules.specs.Work.{Core}
-use Rattle.core_rules.specs.Sweeps.{IsReady, IsTaken, IsAbandoned}
+use Rattle.core_rules.specs.{Work.Core, Sweeps.IsReady, Sweeps.IsTaken, Sweeps.IsAbandoned}
 use Rattle.steal_pool.specs.Views.{OwnerView}
-use Rattle.core_dispatch.specs.declared.turned.Jobs.{Jobs}
-use Rattle.core_dispatch.specs.declared.turned.Pushing.{Pushing}
+use Rattle.core_dispatch.specs.{declared.turned.Jobs.Jobs, declared.turned.Pushing.Pushing}
+use Rattle.core_dispatch.specs.{declared.dispatcher.Dispatcher.Dispatcher}
 use Rattle.core_dispatch.specs.declared.turned.Pushing.TheVariants.{Pushed, Refused, Wanting}
-use Rattle.core_dispatch.specs.declared.dispatcher.Dispatcher.{Dispatcher}
 
 -- the dispatcher with another core, all else being as it was
 abbrev pub with_core : Dispatcher → Core → Dispatcher

@@ -2,14 +2,19 @@
 pub use Rattle.stroke_lattice.specs.State
 pub use Rattle.tile_generations.specs.Jobs as Tasks
 pub use Rattle.core_rules.specs.Work
+pub use Rattle.core_rules.specs.Merge
 pub use Rattle.core_rules.specs.Sweeps
+pub use Rattle.core_rules.specs.Hints
 pub use Rattle.core_rules.specs.Events
 pub use Rattle.core_rules.specs.Runs
 pub use Rattle.steal_pool.specs.Views
-pub use Rattle.pen_desks.specs.Books
-pub use Rattle.pen_desks.specs.Pens
-pub use Rattle.pen_desks.specs.Taking
-pub use Rattle.pen_desks.specs.Handing
+pub mod Rings
+pub mod Growing
+pub mod Books
+pub mod Pens
+pub mod Taking
+pub mod Resting
+pub mod Handing
 pub mod Dispatching
 pub mod Reports
 pub mod Jobs

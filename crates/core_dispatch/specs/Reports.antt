@@ -1,21 +1,16 @@
 -- What becomes of the reports that are taken of hands.
 use Rattle.std.specs.Prelude.{◌≡◌, ℕ, ◌+◌, Bool, true, false, List, [], ◌∷◌, ◌++◌, length, slice_set, slice_index_or}
-use Rattle.std.specs.Prelude.{Option, Some, None, IsTrue}
-use Rattle.std.specs.List.{sum_by, list_any}
-use Rattle.tile_generations.specs.declared.ticket.Ticket.{Ticket}
-use Rattle.tile_generations.specs.Jobs.{Swept}
-use Rattle.core_rules.specs.declared.answers.Back.{Back}
+use Rattle.std.specs.Prelude.{Option, Some, None, IsTrue, sum_by}
+use Rattle.std.specs.List.{list_any}
+use Rattle.tile_generations.specs.{declared.ticket.Ticket.Ticket, Jobs.Swept}
+use Rattle.core_rules.specs.{declared.answers.Back.Back, Work.Core, Runs.Entry, Runs.IsRun}
 use Rattle.core_rules.specs.declared.answers.Back.TheVariants.{Joined, Again, Stale, Stranger}
 use Rattle.core_rules.specs.Events.{GiveBack, Abandon, OfGiveBack, OfAbandon}
-use Rattle.core_rules.specs.Work.{Core}
-use Rattle.core_rules.specs.Runs.{Entry, IsRun}
 use Rattle.reset_core.specs.Answers.{IsJoinable}
-use Rattle.steal_pool.specs.declared.report.Report.{Report}
+use Rattle.steal_pool.specs.{declared.report.Report.Report, Views.OwnerView}
 use Rattle.steal_pool.specs.declared.report.Report.TheVariants.{Done, Failed}
-use Rattle.steal_pool.specs.Views.{OwnerView}
-use Rattle.pen_desks.specs.Books.{BooksView, KeepsRest}
-use Rattle.core_dispatch.specs.declared.turned.Results.{Results}
-use Rattle.core_dispatch.specs.declared.dispatcher.Dispatcher.{Dispatcher}
+use Rattle.core_dispatch.specs.Books.{BooksView, KeepsRest}
+use Rattle.core_dispatch.specs.{declared.turned.Results.Results, declared.dispatcher.Dispatcher.Dispatcher}
 
 -- the job of the ticket is abandoned, if it is out
 abbrev pub IsDropped : Ticket → List Entry → Type 0

@@ -1,20 +1,13 @@
 -- What a dispatcher's turn does.
-use Rattle.std.specs.Prelude.{◌≡◌, ◌≤◌, ℕ, zero, suc, ◌+◌, ◌||◌, Bool, true, List, [], ◌∷◌, ◌++◌, length}
-use Rattle.std.specs.Prelude.{Some}
-use Rattle.stroke_lattice.specs.State.{IsBelow}
-use Rattle.core_rules.specs.Work.{Core}
-use Rattle.core_rules.specs.Events.{Take, Abandon, OfTake, OfAbandon}
-use Rattle.core_rules.specs.Runs.{Entry, IsRun, jobs_of, abandons_of}
+use Rattle.std.specs.Prelude.{◌≡◌, ◌≤◌, ℕ, zero, suc, ◌+◌, ◌||◌, Bool, true, false, List, [], ◌∷◌, ◌++◌, length, Some}
+use Rattle.core_rules.specs.{Work.Core, Sweeps.IsReady, Events.Take, Events.Abandon, Events.OfTake, Events.OfAbandon}
+use Rattle.core_rules.specs.Runs.{Entry, IsRun, HasHints, jobs_of, abandons_of}
 use Rattle.steal_pool.specs.declared.report.Report.{Report}
-use Rattle.pen_desks.specs.declared.taken.Edits.{Edits}
-use Rattle.pen_desks.specs.Handing.{HaveHanded, AreHands, Counts}
-use Rattle.pen_desks.specs.Taking.{IsRound, HaveTakenEdits, AreMerges}
-use Rattle.core_dispatch.specs.declared.turned.Turned.{Turned}
-use Rattle.core_dispatch.specs.declared.turned.Results.{Results}
-use Rattle.core_dispatch.specs.declared.turned.Jobs.{Jobs}
-use Rattle.core_dispatch.specs.declared.dispatcher.Dispatcher.{Dispatcher}
-use Rattle.core_dispatch.specs.Reports.{HaveCollected, Leads}
-use Rattle.core_dispatch.specs.Jobs.{HavePushed, with_core}
+use Rattle.core_dispatch.specs.{declared.taken.Edits.Edits, Growing.GrowsOn, Pens.KeepsPens, Handing.HaveHanded}
+use Rattle.core_dispatch.specs.{Handing.AreHands, Handing.Counts, Taking.IsRound, Taking.HaveTakenEdits}
+use Rattle.core_dispatch.specs.{Taking.AreMerges, declared.turned.Turned.Turned, declared.turned.Results.Results}
+use Rattle.core_dispatch.specs.{declared.turned.Jobs.Jobs, declared.dispatcher.Dispatcher.Dispatcher}
+use Rattle.core_dispatch.specs.{Reports.HaveCollected, Reports.Leads, Jobs.HavePushed, Jobs.with_core}
 
 -- in this order: each pen had one turn; each hand was asked for a report; each hint that waited was handed over; and
 -- each tile that was dirty and not out was taken, to be pushed
@@ -65,19 +58,6 @@ pub record AreEvents (before : Core) (turned : Turned) (after : Core) : Type 0 w
   pub are_takes : AreOfJobs takes
   pub count_takes : turned.jobs + abandons_of takes ≡ jobs_of takes
 
--- the strokes only joined, on the same mask with the same neighbours
-pub record GrowsOn (before after : Core) : Type 0 where
-  pub mask : after.mask ≡ before.mask
-  pub conn : after.conn ≡ before.conn
-  pub state : IsBelow before.state after.state
-
--- strokes and image are as they were, on the same mask with the same neighbours
-pub record ShowsSame (before after : Core) : Type 0 where
-  pub mask : after.mask ≡ before.mask
-  pub conn : after.conn ≡ before.conn
-  pub state : after.state ≡ before.state
-  pub image : after.image ≡ before.image
-
 -- no edit was merged in the turn: each that was taken is listed with the refused ones
 abbrev pub HasMergedNone : Dispatcher → Turned → Dispatcher → Type 0
 HasMergedNone old turned new = length new.books.refusals ≡ length old.books.refusals + turned.edits
@@ -85,3 +65,20 @@ HasMergedNone old turned new = length new.books.refusals ≡ length old.books.re
 -- no edit was merged in the turn, no report came, and no hint waited
 abbrev pub IsStill : Dispatcher → Turned → Dispatcher → Type 0
 IsStill old turned new = HasMergedNone old turned new × (turned.results ≡ 0) × (turned.hints ≡ 0)
+
+-- a turn was taken: what it did is a list of the core's events. Afterwards no hint waits, and where memory was not
+-- wanting each dirty tile is out, or as many jobs were pushed as surely find a place. Strokes only join; where no edit
+-- was merged they are as before, and where besides nothing else happened the image is. The strokes at opening, the
+-- pool's capacity and the pens' desks stay
+pub record TakesTurn (old : Dispatcher) (turned : Turned) (new : Dispatcher) : Type 0 where
+  pub turned_is : HasTurned old turned new
+  pub events : AreEvents old.books.core turned new.books.core
+  pub no_hints : (t : ℕ) → HasHints new.books.core t → ⊥
+  pub all_out : turned.memory ≡ false → (t : ℕ) → IsReady new.books.core t
+      → new.owner.capacity ≤ length new.owner.pushed
+  pub grows : GrowsOn old.books.core new.books.core
+  pub state : HasMergedNone old turned new → new.books.core.state ≡ old.books.core.state
+  pub image : IsStill old turned new → new.books.core.image ≡ old.books.core.image
+  pub opening : new.books.opening ≡ old.books.opening
+  pub capacity : new.owner.capacity ≡ old.owner.capacity
+  pub pens : KeepsPens old.books new.books

@@ -20,7 +20,7 @@ pub struct Turned {
 }
 
 /// What came of the reports that were taken in one turn.
-#[derive(Clone, Copy, Debug, PartialEq, Eq)]
+#[derive(Clone, Copy)]
 pub(crate) struct Results {
     /// How many there were.
     pub results: u64,
@@ -29,7 +29,7 @@ pub(crate) struct Results {
 }
 
 /// What became of a dirty tile that was not out.
-#[derive(Clone, Copy, Debug, PartialEq, Eq)]
+#[derive(Clone, Copy)]
 pub(crate) enum Pushing {
     /// Its job was pushed.
     Pushed,
@@ -40,7 +40,7 @@ pub(crate) enum Pushing {
 }
 
 /// What came of the tiles of one turn.
-#[derive(Clone, Copy, Debug, PartialEq, Eq)]
+#[derive(Clone, Copy)]
 pub(crate) struct Jobs {
     /// How many jobs were pushed.
     pub jobs: u64,

@@ -1,9 +1,7 @@
 -- Frames that are for the node's image, or not.
-use Rattle.std.proofs.Common.{◌≡◌, ℕ, Bool, true, false, List, sym, ◌∙◌, subst}
-use Rattle.std.specs.Prelude.{◌↔◌, IsTrue}
+use Rattle.std.proofs.Common.{ℕ, List, subst}
 use Rattle.grid_core.specs.declared.conn.Conn.{Conn}
-use Rattle.spd_codec.specs.declared.frame.Frame.{Frame}
-use Rattle.spd_codec.specs.Spelling.{Spells, SpellsFrame}
+use Rattle.spd_codec.specs.{declared.frame.Frame.Frame, Spelling.Spells, Spelling.SpellsFrame}
 use Rattle.link_nodes.specs.Hearing.{IsFor}
 
 -- what spells a frame for the image of this fingerprint, with these neighbours, spells its strokes for that image
@@ -12,12 +10,3 @@ pub for_this : (datagram : List ℕ) (frame : Frame) (conn : Conn) (print : List
 for_this datagram frame conn print spells same =
     subst (λ (c : Conn). Spells datagram c print frame.delta) same.0
     (subst (λ (p : List ℕ). Spells datagram frame.conn p frame.delta) same.1 spells)
-
-pub is_for : (b : Bool) (P : Type 0) → IsTrue b ↔ P → b ≡ true → P
-is_for b P means is = means.0 is
-
-pub not_for : (b : Bool) (P : Type 0) → IsTrue b ↔ P → b ≡ false → P → ⊥
-not_for b P means is has =
-    let yes : b ≡ true = means.1 has in
-    let clash : true ≡ false = sym yes ∙ is in
-    cc

@@ -1,13 +1,8 @@
 -- Where the pieces of a state begin.
-use Rattle.std.proofs.Common.{◌≡◌, ℕ, ◌+◌, ◌<◌, ◌≤◌, List, [], ◌∷◌, Option, Some, None, length, drop, slice_get}
-use Rattle.std.proofs.Common.{refl, sym, ap, ◌∙◌, arith, length-drop, drop-cons, add-one}
-use Rattle.std.proofs.Common.{suc, get_or, IfSome, IfNone}
-use Rattle.std.specs.Prelude.{IsTrue, is_some}
-use Rattle.std.proofs.lemmas.Bool.Decides.{nat_tests}
-use Rattle.std.proofs.lemmas.Option.{slice_get-get_or}
-use Rattle.stroke_lattice.specs.declared.piece.Place.{Place}
-use Rattle.stroke_lattice.specs.State.{State}
-use Rattle.stroke_lattice.specs.Places.{pieces_from, pieces_behind}
+use Rattle.std.proofs.Common.{◌≡◌, ℕ, ◌+◌, ◌<◌, ◌≤◌, List, [], ◌∷◌, Option, Some, None, length, drop, slice_get, refl}
+use Rattle.std.proofs.Common.{sym, ap, ◌∙◌, arith, length-drop, drop-cons, add-one, IfSome, IsTrue, is_some}
+use Rattle.std.proofs.{lemmas.Bool.Decides.nat_tests, lemmas.Option.slice_get-get_or}
+use Rattle.stroke_lattice.specs.{declared.piece.Place.Place, State.State, Places.pieces_from, Places.pieces_behind}
 use Rattle.spd_codec.specs.Spelling.{max_bytes}
 use Rattle.link_nodes.specs.Cursors.{frame_pieces, next_after, IsPlaceOf}
 
@@ -38,21 +33,10 @@ pub place_behind : (s : State) (number : ℕ) (behind : Option Place)
 place_behind s number None is more = none_left (number + 1) (frame_pieces s) is
 place_behind s number (Some next) is more = (more refl, is)
 
--- the answer to where a piece begins
-pub place_found : (s : State) (number : ℕ) (found : Option Place)
-    → IfSome found (λ place. pieces_from max_bytes s place ≡ drop number (frame_pieces s))
-    → IfSome found (λ place. number < length (frame_pieces s))
-    → IfNone found (length (frame_pieces s) ≤ number) → IsPlaceOf s number found
-place_found s number None is within none = none
-place_found s number (Some place) is within none = (within, is)
-
 -- ---- numbers
 
 after_some : (i count : ℕ) → i + 1 < count → next_after (Some i) count ≡ i + 1
 after_some i count within = grind (arith, nat_tests)
-
-after_last : (i count : ℕ) → count ≤ i + 1 → next_after (Some i) count ≡ 0
-after_last i count beyond = grind (arith, nat_tests)
 
 pub number_is : (last : Option ℕ) (i j count : ℕ) → last ≡ Some i → j ≡ i + 1 → j < count → j ≡ next_after last count
 number_is last i j count is next within =
@@ -60,24 +44,12 @@ number_is last i j count is next within =
 
 -- ---- the first of the pieces from a number on
 
-nil : {A : Type 0} (xs : List A) → length xs ≤ 0 → xs ≡ []
-nil [] none = refl
-nil (x ∷ xs) none = absurd (omega arith)
-
-heads : {A : Type 0} (x y : A) (xs ys : List A) → x ∷ xs ≡ y ∷ ys → x ≡ y
-heads x y xs ys is = cc
-
-tails : {A : Type 0} (x y : A) (xs ys : List A) → x ∷ xs ≡ y ∷ ys → xs ≡ ys
-tails x y xs ys is = cc
-
 pub piece_there : (n : ℕ) (xs rest : List State) (x : State) → x ∷ rest ≡ drop n xs → slice_get xs n ≡ Some x
 piece_there n xs rest x is =
     let within : n < length xs = some_left n xs (x ∷ rest) is (omega arith) in
-    slice_get-get_or xs n x within
-    ∙ ap Some (sym (heads x (get_or xs n x) rest (drop (suc n) xs) (is ∙ drop-cons xs n x within)))
+    cc (slice_get-get_or xs n x within, is ∙ drop-cons xs n x within)
 
 pub pieces_after : (n : ℕ) (xs rest : List State) (x : State) → x ∷ rest ≡ drop n xs → rest ≡ drop (n + 1) xs
 pieces_after n xs rest x is =
     let within : n < length xs = some_left n xs (x ∷ rest) is (omega arith) in
-    tails x (get_or xs n x) rest (drop (suc n) xs) (is ∙ drop-cons xs n x within)
-    ∙ ap (λ (k : ℕ). drop k xs) (sym (add-one n))
+    cc (add-one n, is ∙ drop-cons xs n x within)

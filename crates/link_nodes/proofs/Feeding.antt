@@ -1,21 +1,12 @@
 -- Datagrams that are carried and given, one after another.
-use Rattle.std.proofs.Common.{◌≡◌, ℕ, ◌+◌, ◌<◌, ◌≤◌, List, [], ◌∷◌, ◌++◌, length, take, drop, map, min, Some}
-use Rattle.std.proofs.Common.{sym, ap, subst, ◌∙◌, arith, append_assoc, get_or}
-use Rattle.std.specs.Prelude.{slice_get}
-use Rattle.std.specs.List.{AllZip}
-use Rattle.std.proofs.Common.{drop-cons, add-one, suc}
-use Rattle.std.proofs.lemmas.List.{take-append-le, take_min, take_more, take_all, length-take}
-use Rattle.std.proofs.lemmas.List.{length-append, map-append}
+use Rattle.std.proofs.Common.{◌≡◌, ℕ, ◌+◌, ◌<◌, ◌≤◌, List, [], ◌∷◌, ◌++◌, length, take, drop, map, min, Some, sym, ap}
+use Rattle.std.proofs.Common.{subst, ◌∙◌, arith, append_assoc, get_or, slice_get, drop-cons, add-one}
+use Rattle.std.proofs.lemmas.List.{take-append-le, take_min, take_more, take_all, length-take, length-append}
+use Rattle.std.proofs.lemmas.List.{map-append}
 use Rattle.std.proofs.lemmas.Option.{slice_get-get_or}
+use Rattle.steal_pool.proofs.Turns.{zip_push}
 use Rattle.link_nodes.specs.declared.link.TheConstants.{BUFFER_BYTES}
 use Rattle.link_nodes.specs.MemoryLinks.{MemoryLinkView, StandAt, IsFed, front_of}
-
-zip_push : {A B : Type 0} (R : A → B → Type 0) (xs : List A) (ys : List B) (x : A) (y : B) → AllZip R xs ys → R x y
-    → AllZip R (xs ++ x ∷ []) (ys ++ y ∷ [])
-zip_push R [] [] x y all one = (one, tt)
-zip_push R [] (b ∷ ys) x y all one = absurd all
-zip_push R (a ∷ xs) [] x y all one = absurd all
-zip_push R (a ∷ xs) (b ∷ ys) x y all one = (all.0, zip_push R xs ys x y all.1 one)
 
 -- one datagram more is fed
 pub fed_more : (datagrams : List (List ℕ)) (places places' : List ℕ) (place : ℕ) (datagram : List ℕ)
@@ -42,17 +33,14 @@ stands_at items datagrams place datagram same within is =
 pub next_waiting : (fed : List (List ℕ)) (given : ℕ) (datagram : List ℕ) → given < length fed
     → datagram ≡ get_or fed given datagram → drop given fed ≡ datagram ∷ drop (given + 1) fed
 next_waiting fed given datagram within is =
-    drop-cons fed given datagram within
-    ∙ ap (λ (d : List ℕ). d ∷ drop (suc given) fed) (sym is)
-    ∙ ap (λ (n : ℕ). datagram ∷ drop n fed) (sym (add-one given))
+    cc (drop-cons fed given datagram within, is, add-one given)
 
 pub next_heard : (fed : List (List ℕ)) (given : ℕ) (datagram : List ℕ) → given < length fed
     → datagram ≡ get_or fed given datagram
     → map front_of (take (given + 1) fed) ≡ map front_of (take given fed) ++ front_of datagram ∷ []
 next_heard fed given datagram within is =
-    ap (map front_of) (take_more fed given datagram within)
-    ∙ map-append front_of (take given fed) (get_or fed given datagram ∷ [])
-    ∙ ap (λ (d : List ℕ). map front_of (take given fed) ++ front_of d ∷ []) (sym is)
+    let longer = take_more fed given datagram within in
+    cc (longer, map-append front_of (take given fed) (get_or fed given datagram ∷ []), is)
 
 copied_long : (datagram copied : List ℕ) (n : ℕ) → n ≡ min (length datagram) BUFFER_BYTES → copied ≡ take n datagram
     → length copied ≡ n

@@ -3,3 +3,4 @@ pub mod Feeding
 pub mod Seeing
 pub mod Answering
 pub mod Ticking
+pub mod SameNodes

@@ -2,15 +2,12 @@
 use Rattle.std.proofs.Common.{◌≡◌, ℕ, List, [], Option, Some, None, MatchOption, IfSome, refl, sym, ap, subst, inr}
 use Rattle.std.specs.Option.{option_map_or}
 use Rattle.grid_core.specs.declared.conn.Conn.{Conn}
-use Rattle.spd_codec.specs.declared.version.Version.TheVariants.{Second}
-use Rattle.spd_codec.specs.Spelling.{frame_text}
-use Rattle.shot_chain.specs.Shots.{Shot}
-use Rattle.shot_chain.specs.Chains.{IsChain, Begins, last_of}
-use Rattle.shot_chain.proofs.Chains.{later_leads_on}
+use Rattle.spd_codec.specs.{declared.version.Version.TheVariants.Second, Spelling.frame_text}
+use Rattle.studio.specs.{Shots.Shot, Chains.IsChain, Chains.Begins, Chains.last_of}
+use Rattle.studio.proofs.Chains.{later_leads_on}
 use Rattle.stroke_lattice.specs.State.{State, IsBelow, nothing}
 use Rattle.stroke_lattice.proofs.Shared.{nothing_has_no_stroke, nothing_has_no_tombstone}
-use Rattle.link_nodes.specs.declared.cursor.Cursor.{Cursor}
-use Rattle.link_nodes.specs.declared.sight.Next.{Next}
+use Rattle.link_nodes.specs.{declared.cursor.Cursor.Cursor, declared.sight.Next.Next}
 use Rattle.link_nodes.specs.Cursors.{IsCursorOf, IsOfLast, IsOfLower, last_state, frame_pieces, IsNextPiece}
 use Rattle.link_nodes.specs.Sending.{IsNextFrame, IsNext}
 

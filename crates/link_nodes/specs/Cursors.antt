@@ -2,13 +2,11 @@
 use Rattle.std.specs.Prelude.{◌≡◌, ℕ, ◌+◌, ◌<◌, ◌≤◌, ◌^◌, List, length, drop, slice_get, nat_lt, Option, Some, None}
 use Rattle.std.specs.Prelude.{if◌then◌else◌, IsTrue, is_some}
 use Rattle.std.specs.Option.{option_map_or}
-use Rattle.stroke_lattice.specs.declared.piece.Place.{Place}
+use Rattle.stroke_lattice.specs.{declared.piece.Place.Place, Places.pieces_from, Places.pieces_behind}
 use Rattle.stroke_lattice.specs.State.{State, IsBelow, nothing}
 use Rattle.stroke_lattice.specs.Pieces.{pieces_of, strokes_of, tombstones_of}
-use Rattle.stroke_lattice.specs.Places.{pieces_from, pieces_behind}
 use Rattle.spd_codec.specs.Spelling.{max_bytes}
-use Rattle.shot_chain.specs.Shots.{Shot}
-use Rattle.shot_chain.specs.Chains.{last_of}
+use Rattle.studio.specs.{Shots.Shot, Chains.last_of}
 use Rattle.link_nodes.specs.declared.cursor.Cursor.{Cursor}
 
 -- the pieces of a state, each short enough for a frame

@@ -2,15 +2,12 @@
 use Rattle.std.specs.Prelude.{◌≡◌, ◌⊎◌, ℕ, ◌≤◌, List, [], ◌∷◌, ◌++◌, length}
 use Rattle.grid_core.specs.declared.conn.Conn.{Conn}
 use Rattle.stroke_lattice.specs.State.{State}
-use Rattle.spd_codec.specs.declared.frame.Frame.{Frame}
-use Rattle.spd_codec.specs.Spelling.{Spells, SpellsFrame}
-use Rattle.spd_codec.specs.Faults.{IsFault}
-use Rattle.pen_desks.specs.Rings.{ring_room}
-use Rattle.link_nodes.specs.declared.error.NodeError.{NodeError}
-use Rattle.link_nodes.specs.declared.error.NodeError.TheVariants as errors
-use Rattle.link_nodes.specs.declared.ticked.Heard.{Heard}
-use Rattle.link_nodes.specs.declared.ticked.Heard.TheVariants as heards
+use Rattle.spd_codec.specs.{declared.frame.Frame.Frame, Spelling.Spells, Spelling.SpellsFrame, Faults.IsFault}
+use Rattle.core_dispatch.specs.Rings.{ring_room}
+use Rattle.link_nodes.specs.{declared.error.NodeError.NodeError, declared.ticked.Heard.Heard}
 use Rattle.link_nodes.specs.Links.{LinkSeen, Gives, GivesNone, FailsToGive}
+use Rattle.link_nodes.specs.declared.error.NodeError.TheVariants as errors
+use Rattle.link_nodes.specs.declared.ticked.Heard.TheVariants as heards
 
 -- the frame is meant for the image of this fingerprint, with these neighbours
 abbrev pub IsFor : Conn → List ℕ → Frame → Type 0

@@ -5,10 +5,10 @@ pub use Rattle.stroke_lattice.specs.Places
 pub use Rattle.spd_codec.specs.Spelling
 pub use Rattle.spd_codec.specs.Faults
 pub use Rattle.byte_devices.specs.Device
-pub use Rattle.pen_desks.specs.Pens
-pub use Rattle.shot_chain.specs.Shots
-pub use Rattle.shot_chain.specs.Chains
-pub use Rattle.shot_chain.specs.Words as Sights
+pub use Rattle.core_dispatch.specs.Pens
+pub use Rattle.studio.specs.Shots
+pub use Rattle.studio.specs.Chains
+pub use Rattle.studio.specs.Words as Sights
 pub mod Codes
 pub mod Links
 pub mod MemoryLinks

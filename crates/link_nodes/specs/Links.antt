@@ -1,7 +1,6 @@
 -- What is seen of a link, and what one call does to it.
 use Rattle.std.specs.Prelude.{◌≡◌, ℕ, ◌≤◌, List, [], ◌∷◌, ◌++◌, length, take, Option, None, Result, IfOk, IfSome}
-use Rattle.std.specs.Prelude.{MatchOption, MatchResult}
-use Rattle.std.specs.Option.{option_map}
+use Rattle.std.specs.Prelude.{MatchOption, MatchResult, option_map}
 use Rattle.byte_devices.specs.Device.{count_after}
 
 -- the datagrams that polls gave and those that were sent, oldest first, where they are known; how many polls and sends

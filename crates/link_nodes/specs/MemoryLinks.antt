@@ -1,10 +1,9 @@
 -- What contracts see of a link in memory.
-use Rattle.std.specs.Prelude.{◌≡◌, ◌⊎◌, ◌↔◌, ℕ, List, [], ◌∷◌, ◌++◌, take, slice_get, Option, Some}
-use Rattle.std.specs.Prelude.{Result, IsErr, IfOk, OnOk, MatchOption}
+use Rattle.std.specs.Prelude.{◌≡◌, ◌⊎◌, ◌↔◌, ℕ, List, [], ◌∷◌, ◌++◌, take, slice_get, Option, Some, Result, IsErr, IfOk}
+use Rattle.std.specs.Prelude.{OnOk, MatchOption}
 use Rattle.std.specs.List.{AllZip}
 use Rattle.byte_devices.specs.Device.{count_after, HasRisen}
-use Rattle.link_nodes.specs.declared.link.TheConstants.{BUFFER_BYTES}
-use Rattle.link_nodes.specs.Links.{LinkSeen, Polls, Sends}
+use Rattle.link_nodes.specs.{declared.link.TheConstants.BUFFER_BYTES, Links.LinkSeen, Links.Polls, Links.Sends}
 
 -- the datagrams that wait to be given, those that were given and those that were sent, oldest first; the call that
 -- fails (polls and sends counted together, from 1), and the counts; refused are the sends that found no memory

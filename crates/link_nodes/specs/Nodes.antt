@@ -3,11 +3,8 @@ use Rattle.std.specs.Prelude.{◌≡◌, ℕ, List, Option}
 use Rattle.logbook.specs.Pages.{Book}
 use Rattle.grid_core.specs.declared.conn.Conn.{Conn}
 use Rattle.stroke_lattice.specs.State.{State}
-use Rattle.pen_desks.specs.declared.pen.Pen.{Pen}
-use Rattle.pen_desks.specs.Pens.{submitted, KeepsDesk}
-use Rattle.shot_chain.specs.declared.eye.Eye.{Eye}
-use Rattle.shot_chain.specs.Shots.{Shot}
-use Rattle.shot_chain.specs.Words.{seen_by, learnt_by, eye_studio}
+use Rattle.core_dispatch.specs.{declared.pen.Pen.Pen, Pens.submitted, Pens.KeepsDesk}
+use Rattle.studio.specs.{declared.shots.eye.Eye.Eye, Shots.Shot, Words.seen_by, Words.learnt_by, Words.eye_studio}
 use Rattle.link_nodes.specs.declared.node.Node.{Node}
 
 -- the pen through which it submits, and the eye by which it looks

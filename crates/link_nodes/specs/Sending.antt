@@ -2,12 +2,9 @@
 use Rattle.std.specs.Prelude.{◌≡◌, ◌⊎◌, ℕ, List, [], Option, Some, MatchOption}
 use Rattle.grid_core.specs.declared.conn.Conn.{Conn}
 use Rattle.stroke_lattice.specs.State.{State}
-use Rattle.spd_codec.specs.declared.version.Version.TheVariants.{Second}
-use Rattle.spd_codec.specs.Spelling.{frame_text}
-use Rattle.shot_chain.specs.Shots.{Shot}
-use Rattle.shot_chain.specs.Chains.{Begins, last_of}
-use Rattle.link_nodes.specs.declared.sight.Next.{Next}
-use Rattle.link_nodes.specs.Cursors.{frame_pieces, IsNextPiece}
+use Rattle.spd_codec.specs.{declared.version.Version.TheVariants.Second, Spelling.frame_text}
+use Rattle.studio.specs.{Shots.Shot, Chains.Begins, Chains.last_of}
+use Rattle.link_nodes.specs.{declared.sight.Next.Next, Cursors.frame_pieces, Cursors.IsNextPiece}
 
 -- these bytes are the frame of the piece of this number of the state, and it is the next one behind the piece of that
 pub record IsNextFrame (conn : Conn) (print : List ℕ) (s : State) (last : Option ℕ) (i : ℕ) (frame : List ℕ) : Type 0

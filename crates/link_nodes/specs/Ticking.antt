@@ -1,15 +1,12 @@
 -- What one tick of a node does.
 use Rattle.std.specs.Prelude.{◌≡◌, ℕ, List, Some}
-use Rattle.shot_chain.specs.Chains.{Begins}
-use Rattle.link_nodes.specs.declared.node.Node.{Node}
-use Rattle.link_nodes.specs.declared.error.NodeError.TheVariants as errors
-use Rattle.link_nodes.specs.declared.ticked.Ticked.{Ticked}
-use Rattle.link_nodes.specs.declared.ticked.Sent.{Sent}
-use Rattle.link_nodes.specs.declared.ticked.Sent.TheVariants as sents
+use Rattle.studio.specs.Chains.{Begins}
+use Rattle.link_nodes.specs.{declared.node.Node.Node, declared.ticked.Ticked.Ticked, declared.ticked.Sent.Sent}
+use Rattle.link_nodes.specs.{Hearing.Hears, Sending.IsNextSeen, Sending.HasNoPiece}
 use Rattle.link_nodes.specs.Links.{LinkSeen, Takes, FailsToTake}
-use Rattle.link_nodes.specs.Hearing.{Hears}
-use Rattle.link_nodes.specs.Sending.{IsNextSeen, HasNoPiece}
 use Rattle.link_nodes.specs.Nodes.{conn_of, print_of, submitted_by, last_sent, chain_seen, chain_learnt, IsSameNode}
+use Rattle.link_nodes.specs.declared.error.NodeError.TheVariants as errors
+use Rattle.link_nodes.specs.declared.ticked.Sent.TheVariants as sents
 
 -- the link is not called, and the piece that was sent last is the same
 abbrev pub IsIdle : Node → Node → LinkSeen → LinkSeen → Type 0

@@ -1,12 +1,10 @@
 //! Where a node is among the pieces of a state, each short enough for a frame.
 
-ghost use Rattle.std.specs.Prelude.{◌≡◌, ◌+◌, ◌<◌, ◌≤◌, ◌^◌, [], drop, length, Some};
-ghost use Rattle.std.specs.Prelude.{IsTrue, IfOk, IfNone, IfSome};
+ghost use Rattle.std.specs.Prelude.{◌≡◌, ◌+◌, ◌<◌, ◌≤◌, ◌^◌, [], drop, length, Some, IsTrue, IfOk, IfNone, IfSome};
 ghost use Rattle.stroke_lattice.specs.Pieces.{frame_length};
 ghost use Rattle.stroke_lattice.specs.Places.{pieces_from, pieces_behind};
 ghost use Rattle.spd_codec.specs.Spelling.{max_bytes};
-ghost use Rattle.link_nodes.specs.Cursors.{frame_pieces, next_after, IsCursorOf, IsNextPiece};
-ghost use Rattle.link_nodes.specs.Cursors.{IsOfLower, IsPlaceOf};
+ghost use Rattle.link_nodes.specs.Cursors.{frame_pieces, next_after, IsCursorOf, IsNextPiece, IsOfLower, IsPlaceOf};
 
 use grid_core::Memory;
 use spd_codec::MAX_BYTES;

@@ -2,7 +2,7 @@
 
 ghost use Rattle.std.specs.Prelude.{◌≡◌, ◌⊎◌, ℕ, List};
 ghost use Rattle.grid_core.specs.declared.conn.Conn.{Conn as Neighbours};
-ghost use Rattle.pen_desks.specs.Pens.{submitted, KeepsDesk};
+ghost use Rattle.core_dispatch.specs.Pens.{submitted, KeepsDesk};
 ghost use Rattle.spd_codec.specs.Spelling.{SpellsFrame};
 ghost use Rattle.spd_codec.specs.Faults.{IsFault};
 ghost use Rattle.spd_codec.specs.declared.error.SpdError.TheVariants as faults;
@@ -12,8 +12,8 @@ use crate::error::NodeError;
 use crate::link::{BUFFER_BYTES, Link};
 use crate::ticked::Heard;
 use byte_devices::Fault;
+use core_dispatch::Pen;
 use grid_core::Conn;
-use pen_desks::Pen;
 use spd_codec::{Frame, Print, SpdError, decode};
 use std::alloc::Global;
 

@@ -1,8 +1,8 @@
 //! Nodes.
 
 ghost use Rattle.std.specs.Prelude.{◌≡◌, None, IfOk};
-ghost use Rattle.shot_chain.specs.Chains.{Begins};
-ghost use Rattle.shot_chain.specs.Words.{told_by, told_studio};
+ghost use Rattle.studio.specs.Chains.{Begins};
+ghost use Rattle.studio.specs.Words.{told_by, told_studio};
 
 use crate::error::NodeError;
 use crate::hearing::hear;
@@ -11,11 +11,11 @@ use crate::sight::{Next, Request, Sight, look_for_next};
 use crate::ticked::{Sent, Ticked};
 use byte_devices::Fault;
 use core::mem::replace_with;
+use core_dispatch::Pen;
 use grid_core::{Conn, Memory};
-use pen_desks::Pen;
-use shot_chain::{Eye, Told};
 use spd_codec::Print;
 use std::alloc::Global;
+use studio::{Eye, Told};
 
 /// Who tells the strokes of a studio to other nodes, and brings theirs, for one image. It has a pen and an eye of the
 /// studio.

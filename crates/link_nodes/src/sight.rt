@@ -8,17 +8,17 @@ ghost use Rattle.stroke_lattice.specs.Stored.{state_code};
 ghost use Rattle.stroke_lattice.specs.Pieces.{frame_length};
 ghost use Rattle.spd_codec.specs.Spelling.{max_bytes, frame_text};
 ghost use Rattle.spd_codec.specs.declared.version.Version.TheVariants.{Second};
-ghost use Rattle.shot_chain.specs.Chains.{Begins};
-ghost use Rattle.shot_chain.specs.Words.{seen_by, learnt_by, told_by, told_studio, eye_studio};
+ghost use Rattle.studio.specs.Chains.{Begins};
+ghost use Rattle.studio.specs.Words.{seen_by, learnt_by, told_by, told_studio, eye_studio};
 ghost use Rattle.link_nodes.specs.Cursors.{IsOfLast, IsOfLower, IsCursorOf, frame_pieces};
 ghost use Rattle.link_nodes.specs.Sending.{IsNext, IsNextFrame};
 
 use crate::cursor::{Cursor, next_piece};
 use grid_core::{Conn, Memory};
-use shot_chain::{Eye, Told};
 use spd_codec::{Print, encode};
 use std::alloc::Global;
 use stroke_lattice::{Delta, State};
+use studio::{Eye, Told};
 
 /// An eye, and a cursor at a piece of the state that it saw last, if there is one.
 #[derive(Drop)]

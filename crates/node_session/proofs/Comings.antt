@@ -1,25 +1,20 @@
 -- Where the strokes of a core come from that was shared.
-use Rattle.std.proofs.Common.{arith, ◌≡◌, ◌⊎◌, ℕ, ◌<◌, List, ◌++◌, length, get_or, sym, ap, ◌∙◌, subst, inl, inr}
-use Rattle.std.specs.Prelude.{All, map}
+use Rattle.std.proofs.Common.{arith, ◌≡◌, ◌⊎◌, ℕ, ◌<◌, List, ◌++◌, length, get_or, sym, ap, ◌∙◌, subst, inl, inr, All}
+use Rattle.std.proofs.Common.{map}
 use Rattle.std.proofs.lemmas.List.{get_or_default, length-map}
 use mathlib.Core.Option.{some, some-injective}
 use lib.ListN.{get_elem?}
 use Rattle.atomic_table.proofs.Lists.{at_index, at_map}
 use Rattle.grid_core.specs.declared.conn.Conn.{Conn}
-use Rattle.stroke_core.specs.Seed.{Seed}
 use Rattle.stroke_lattice.specs.State.{State, HasStroke, HasTombstone, IsBelow}
 use Rattle.core_rules.specs.Work.{Core}
-use Rattle.pen_desks.specs.declared.pen.PenEnd.{PenEnd}
-use Rattle.pen_desks.specs.Books.{BooksView, Ledger, StandsAt, IsFaithful, ledger, edits_of}
-use Rattle.pen_desks.specs.Books.{SomeKeptHasStroke, SomeKeptHasTombstone}
-use Rattle.pen_desks.specs.Pens.{all_submitted}
-use Rattle.pen_desks.proofs.Ledgers.{below}
-use Rattle.core_dispatch.specs.Closing.{IsAllTaken, AreAllTaken}
-use Rattle.core_dispatch.specs.Dispatching.{books_by, core_by}
-use Rattle.link_nodes.specs.Links.{LinkSeen}
-use Rattle.link_nodes.specs.Nodes.{conn_of, submitted_by}
+use Rattle.core_dispatch.specs.{declared.pen.PenEnd.PenEnd, Pens.all_submitted, Closing.IsAllTaken, Closing.AreAllTaken}
+use Rattle.core_dispatch.specs.{Dispatching.books_by, Dispatching.core_by}
+use Rattle.core_dispatch.specs.Books.{BooksView, Ledger, StandsAt, IsFaithful, IsKept, ledger, edits_of}
+use Rattle.steal_pool.proofs.Deals.{below}
+use Rattle.link_nodes.specs.{Links.LinkSeen, Nodes.submitted_by}
 use Rattle.node_session.specs.declared.desk.Desk.{Desk}
-use Rattle.node_session.specs.Given.{SomeSpells, SomeGivenHasStroke, SomeGivenHasTombstone, ComesFrom}
+use Rattle.node_session.specs.Given.{SomeSpells, ComesFrom}
 use Rattle.node_session.specs.Working.{IsNewDesk, WorksOn, IsLeftBy, IsShared}
 
 -- what holds of all holds of the one at a place
@@ -61,21 +56,17 @@ module _ (conn : Conn) (print : List ℕ) (given : List (List ℕ)) (l : Ledger)
     (opening : l.opening ≡ first)
     (spelled : (pen n : ℕ) (delta : State) → StandsAt l.taken pen n delta → SomeSpells conn print given delta)
   where
-    stroke_from : (tag : ℕ) (seed : Seed) → HasStroke l.opening tag seed ⊎ SomeKeptHasStroke l tag seed
-        → HasStroke first tag seed ⊎ SomeGivenHasStroke conn print given tag seed
-    stroke_from tag seed (inl old) = inl (subst (λ (s : State). HasStroke s tag seed) opening old)
-    stroke_from tag seed (inr (pen, n, delta, (stands, unlisted), its)) = inr (delta, spelled pen n delta stands, its)
-
-    tombstone_from : (tag : ℕ) → HasTombstone l.opening tag ⊎ SomeKeptHasTombstone l tag
-        → HasTombstone first tag ⊎ SomeGivenHasTombstone conn print given tag
-    tombstone_from tag (inl old) = inl (subst (λ (s : State). HasTombstone s tag) opening old)
-    tombstone_from tag (inr (pen, n, delta, (stands, unlisted), its)) = inr (delta, spelled pen n delta stands, its)
+    from_given : (P : State → Type 0)
+        → P l.opening ⊎ ((pen n : ℕ) × (delta : State) × IsKept l.taken l.refusals pen n delta × P delta)
+        → P first ⊎ ((delta : State) × SomeSpells conn print given delta × P delta)
+    from_given P (inl old) = inl (subst P opening old)
+    from_given P (inr (pen, n, delta, (stands, unlisted), its)) = inr (delta, spelled pen n delta stands, its)
 
     comes_of : IsFaithful l → ComesFrom conn print given first l.core.state
     comes_of faithful = record {
       above = subst (λ (s : State). IsBelow s l.core.state) opening faithful.opening;
-      strokes = λ tag seed has. stroke_from tag seed (faithful.strokes tag seed has);
-      tombstones = λ tag has. tombstone_from tag (faithful.tombstones tag has);
+      strokes = λ tag seed has. from_given (λ s. HasStroke s tag seed) (faithful.strokes tag seed has);
+      tombstones = λ tag has. from_given (λ s. HasTombstone s tag) (faithful.tombstones tag has);
     }
 
 -- a new desk at which work went on, and that was closed
@@ -90,24 +81,23 @@ shared core conn print ticks new old link link' left is_new works end =
     let said : submitted_by old.node ≡ hears.more =
     hears.submits ∙ ap (λ (l : List State). l ++ hears.more) is_new.submitted in
     let spells : All (SomeSpells conn print given) hears.more =
-    subst (λ (x : Conn). All (SomeSpells x print given) hears.more) is_new.image.0
-    (subst (λ (x : List ℕ). All (SomeSpells (conn_of new.node) x given) hears.more) is_new.image.1 hears.each) in
+    rw (← is_new.image.0, ← is_new.image.1) hears.each in
     let is_last : left ≡ core_by is_closed.last = end.closed.2 ∙ is_closed.core in
     record {
       given = given;
       gives = hears.gives;
       polls = works.polls;
       mask =
-          ap (λ (c : Core). c.mask) is_last ∙ is_closed.goes_on.grows.mask ∙ works.stays.grows.mask
+          ap (λ (c : Core). c.mask) is_last ∙ is_closed.taken.goes_on.grows.mask ∙ works.stays.grows.mask
           ∙ ap (λ (c : Core). c.mask) is_new.core_is;
       conn_is =
-          ap (λ (c : Core). c.conn) is_last ∙ is_closed.goes_on.grows.conn ∙ works.stays.grows.conn
+          ap (λ (c : Core). c.conn) is_last ∙ is_closed.taken.goes_on.grows.conn ∙ works.stays.grows.conn
           ∙ ap (λ (c : Core). c.conn) is_new.core_is;
       comes = subst (λ (c : Core). ComesFrom conn print given core.state c.state) (sym is_last)
           (comes_of conn print given (ledger books) core.state
-          (is_closed.goes_on.opening ∙ works.stays.opening ∙ is_new.opening)
+          (is_closed.taken.goes_on.opening ∙ works.stays.opening ∙ is_new.opening)
           (λ pen n delta stands. all_at (SomeSpells conn print given) hears.more n delta spells
           (subst (λ (l : List State). get_elem? l n ≡ some delta) said
-          (taken_is_submitted books end.ends (submitted_by old.node) is_closed.all_taken end.submitted pen n delta
+          (taken_is_submitted books end.ends (submitted_by old.node) is_closed.taken.all_taken end.submitted pen n delta
           stands))) is_closed.faithful);
     }

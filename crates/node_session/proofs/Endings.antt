@@ -1,12 +1,8 @@
 -- The end of a pen, in a list.
-use Rattle.std.proofs.Common.{◌≡◌, List, [], ◌∷◌, ◌++◌, sym, ap, ◌∙◌, subst}
-use Rattle.std.specs.Prelude.{All, Bool, true, false, if◌then◌else◌}
+use Rattle.std.proofs.Common.{◌≡◌, List, [], ◌∷◌, ◌++◌, sym, ap, ◌∙◌, subst, All, Bool, true, false, if◌then◌else◌}
 use Rattle.std.proofs.lemmas.List.Elements.{All-nil, All-push}
-use Rattle.pen_desks.specs.declared.pen.Pen.{Pen}
-use Rattle.pen_desks.specs.declared.pen.PenEnd.{PenEnd}
-use Rattle.pen_desks.specs.Books.{BooksView}
-use Rattle.pen_desks.specs.Pens.{IsOf, IsEndOf, KeepsDeskAtEnd, submitted, all_submitted}
-use Rattle.core_dispatch.specs.Closing.{AreEndsOf}
+use Rattle.core_dispatch.specs.{declared.pen.Pen.Pen, declared.pen.PenEnd.PenEnd, Books.BooksView, Closing.AreEndsOf}
+use Rattle.core_dispatch.specs.Pens.{IsOf, IsEndOf, KeepsDeskAtEnd, submitted, all_submitted}
 
 -- the ends are of the pen: they submitted what it did, and belong to its books
 abbrev pub AreOfPen : Pen → List PenEnd → Type 0

@@ -1,4 +1,3 @@
-pub mod Results
 pub mod Meanwhile
 pub mod Desks
 pub mod Comings

@@ -1,25 +1,19 @@
 -- What a link gave in one tick, and in ticks one after another.
-use Rattle.std.proofs.Common.{arith, ◌≡◌, ℕ, List, [], ◌∷◌, ◌++◌, refl, sym, ap, ◌∙◌, subst, inl, inr}
-use Rattle.std.specs.Prelude.{Option, Some, None, All}
-use Rattle.std.specs.Option.{option_map}
+use Rattle.std.proofs.Common.{arith, ◌≡◌, ℕ, List, [], ◌∷◌, ◌++◌, refl, sym, ap, ◌∙◌, inl, inr, Option, Some}
+use Rattle.std.proofs.Common.{None, All, option_map}
 use Rattle.std.proofs.lemmas.List.{append-nil, append_assoc}
-use Rattle.std.proofs.lemmas.List.Elements.{All-nil, All-push, All-weaker, All-append}
-use Rattle.std.proofs.lemmas.List.Elements.{Contains-append_left, Contains-append_right, Contains-push}
+use Rattle.std.proofs.lemmas.List.Elements.{All-nil, All-push, All-weaker, All-append, Contains-append_left}
+use Rattle.std.proofs.lemmas.List.Elements.{Contains-append_right, Contains-push}
 use Rattle.byte_devices.specs.Device.{HasRisenBy, count_after}
 use Rattle.grid_core.specs.declared.conn.Conn.{Conn}
 use Rattle.stroke_lattice.specs.State.{State}
-use Rattle.link_nodes.specs.declared.node.Node.{Node}
-use Rattle.link_nodes.specs.declared.error.NodeError.TheVariants as errors
-use Rattle.link_nodes.specs.declared.ticked.Heard.{Heard}
-use Rattle.link_nodes.specs.declared.ticked.Heard.TheVariants as heards
-use Rattle.link_nodes.specs.declared.ticked.Sent.{Sent}
-use Rattle.link_nodes.specs.declared.ticked.Sent.TheVariants as sents
-use Rattle.link_nodes.specs.Links.{LinkSeen}
-use Rattle.link_nodes.specs.Hearing.{IsAnswer, Hears as Polled}
-use Rattle.link_nodes.specs.Ticking.{SendsNext}
+use Rattle.link_nodes.specs.{declared.node.Node.Node, declared.ticked.Heard.Heard, declared.ticked.Sent.Sent}
+use Rattle.link_nodes.specs.{Links.LinkSeen, Hearing.IsAnswer, Hearing.Hears as Polled, Ticking.SendsNext}
 use Rattle.link_nodes.specs.Nodes.{conn_of, print_of, submitted_by}
-use Rattle.node_session.specs.Given.{HasGiven, SomeSpells}
-use Rattle.node_session.specs.Working.{Hears}
+use Rattle.node_session.specs.{Given.HasGiven, Given.SomeSpells, Working.Hears}
+use Rattle.link_nodes.specs.declared.error.NodeError.TheVariants as errors
+use Rattle.link_nodes.specs.declared.ticked.Heard.TheVariants as heards
+use Rattle.link_nodes.specs.declared.ticked.Sent.TheVariants as sents
 
 -- ---- what was given
 
@@ -34,33 +28,36 @@ added_twice None g h = refl
 added_twice (Some datagrams) g h = ap Some (append_assoc datagrams g h)
 
 -- where nothing was heard, nothing was given
-pub gives_nothing : (old new : LinkSeen) → new.heard ≡ old.heard → HasGiven old new []
+gives_nothing : (old new : LinkSeen) → new.heard ≡ old.heard → HasGiven old new []
 gives_nothing old new same = same ∙ none_added old.heard
 
-pub gives_through : (a b c : LinkSeen) (g h : List (List ℕ)) → HasGiven a b g → HasGiven b c h → HasGiven a c (g ++ h)
+gives_through : (a b c : LinkSeen) (g h : List (List ℕ)) → HasGiven a b g → HasGiven b c h → HasGiven a c (g ++ h)
 gives_through a b c g h first second =
     second ∙ (ap (λ (known : Option (List (List ℕ))). option_map (λ datagrams. datagrams ++ h) known) first
     ∙ added_twice a.heard g h)
 
--- what is sent is not heard
+-- what is sent is not heard, and no poll
 pub sends_in_silence : (old new : Node) (link link' : LinkSeen) (sent : Sent) → SendsNext old new link link' sent
-    → link'.heard ≡ link.heard
-sends_in_silence old new link link' sents.Nothing ((same, last), none) = ap (λ (l : LinkSeen). l.heard) same
-sends_in_silence old new link link' (sents.Piece i) (frame, next, (is_sent, adds, failures), last) = is_sent.heard
-sends_in_silence old new link link' (sents.Refused errors.Device) ((is_sent, same, failures), last) = is_sent.heard
-sends_in_silence old new link link' (sents.Refused errors.Memory) (same, last) = ap (λ (l : LinkSeen). l.heard) same
-sends_in_silence old new link link' (sents.Refused errors.OtherMask) none = absurd none
-sends_in_silence old new link link' (sents.Refused (errors.Spd fault)) none = absurd none
+    → (link'.heard ≡ link.heard) × (link'.polls ≡ link.polls)
+sends_in_silence old new link link' sents.Nothing ((same, last), none) =
+    (ap (λ (l : LinkSeen). l.heard) same, ap (λ (l : LinkSeen). l.polls) same)
+sends_in_silence old new link link' (sents.Piece i) (frame, next, (is_sent, adds, failures), last) =
+    (is_sent.heard, is_sent.polls)
+sends_in_silence old new link link' (sents.Refused errors.Device) ((is_sent, same, failures), last) =
+    (is_sent.heard, is_sent.polls)
+sends_in_silence old new link link' (sents.Refused errors.Memory) (same, last) =
+    (ap (λ (l : LinkSeen). l.heard) same, ap (λ (l : LinkSeen). l.polls) same)
+sends_in_silence old new link link' _ none = absurd none
 
 -- ---- what was submitted
 
 -- a delta that one of some datagrams spells
-pub spelled_left : (conn : Conn) (print : List ℕ) (g h : List (List ℕ)) (delta : State) → SomeSpells conn print g delta
+spelled_left : (conn : Conn) (print : List ℕ) (g h : List (List ℕ)) (delta : State) → SomeSpells conn print g delta
     → SomeSpells conn print (g ++ h) delta
 spelled_left conn print g h delta (datagram, stands, spells) =
     (datagram, Contains-append_left g h datagram stands, spells)
 
-pub spelled_right : (conn : Conn) (print : List ℕ) (g h : List (List ℕ)) (delta : State) → SomeSpells conn print h delta
+spelled_right : (conn : Conn) (print : List ℕ) (g h : List (List ℕ)) (delta : State) → SomeSpells conn print h delta
     → SomeSpells conn print (g ++ h) delta
 spelled_right conn print g h delta (datagram, stands, spells) =
     (datagram, Contains-append_right g h datagram stands, spells)
@@ -107,17 +104,6 @@ polled old new link link' heard (inr (inl (is, (poll, same_heard, failures), sam
 polled old new link link' heard (inr (inr (datagram, (poll, adds, failures), answer))) =
     answered old new link link' datagram heard adds answer
 
--- what is sent is no poll
-sends_poll_nothing : (old new : Node) (link link' : LinkSeen) (sent : Sent) → SendsNext old new link link' sent
-    → link'.polls ≡ link.polls
-sends_poll_nothing old new link link' sents.Nothing ((same, last), none) = ap (λ (l : LinkSeen). l.polls) same
-sends_poll_nothing old new link link' (sents.Piece i) (frame, next, (is_sent, adds, failures), last) = is_sent.polls
-sends_poll_nothing old new link link' (sents.Refused errors.Device) ((is_sent, same, failures), last) = is_sent.polls
-sends_poll_nothing old new link link' (sents.Refused errors.Memory) (same, last) =
-    ap (λ (l : LinkSeen). l.polls) same
-sends_poll_nothing old new link link' (sents.Refused errors.OtherMask) none = absurd none
-sends_poll_nothing old new link link' (sents.Refused (errors.Spd fault)) none = absurd none
-
 counts_poll : (old new : Node) (link link' : LinkSeen) (heard : Heard)
     → Polled (conn_of old) (print_of old) (submitted_by old) (submitted_by new) link link' heard
     → link'.polls ≡ count_after link.polls 1
@@ -130,9 +116,7 @@ pub polled_once : (old new : Node) (a b c : LinkSeen) (heard : Heard) (sent : Se
     → Polled (conn_of old) (print_of old) (submitted_by old) (submitted_by new) a b heard → SendsNext old new b c sent
     → HasRisenBy 1 a.polls c.polls
 polled_once old new a b c heard sent polls sends =
-    let counted = counts_poll old new a b heard polls in
-    let silent = sends_poll_nothing old new b c sent sends in
-    omega (arith, counted, silent)
+    omega (arith, counts_poll old new a b heard polls, (sends_in_silence old new b c sent sends).1)
 
 -- what is heard before something is sent
 pub heard_before : (old new : Node) (a b c : LinkSeen) → Hears old new a b → c.heard ≡ b.heard → Hears old new a c
@@ -150,9 +134,7 @@ pub hears_through : (a b c : Node) (x y z : LinkSeen) → conn_of b ≡ conn_of 
 hears_through a b c x y z same_conn same_print first second =
     let both = first.given ++ second.given in
     let later : All (SomeSpells (conn_of a) (print_of a) second.given) second.more =
-    subst (λ (conn : Conn). All (SomeSpells conn (print_of a) second.given) second.more) same_conn
-    (subst (λ (print : List ℕ). All (SomeSpells (conn_of b) print second.given) second.more) same_print
-    second.each) in
+    rw (← same_conn, ← same_print) second.each in
     record {
       given = both;
       gives = gives_through x y z first.given second.given first.gives second.gives;

@@ -1,19 +1,14 @@
 -- Who stands at a desk of a new studio of one pen and one eye.
-use Rattle.std.proofs.Common.{◌≡◌, ℕ, List, [], ◌∷◌, ◌++◌, refl, sym, ap, ◌∙◌, subst}
-use Rattle.std.specs.Prelude.{All, Option, Some, IfSome, option_to_list, map}
+use Rattle.std.proofs.Common.{◌≡◌, ℕ, List, [], ◌∷◌, ◌++◌, refl, sym, ap, ◌∙◌, subst, All, Option, Some, IfSome}
+use Rattle.std.proofs.Common.{option_to_list, map}
 use Rattle.std.proofs.lemmas.List.Elements.{All-nil, All-push, All-pop}
 use Rattle.grid_core.specs.declared.conn.Conn.{Conn}
 use Rattle.core_rules.specs.Work.{Core}
-use Rattle.pen_desks.specs.declared.pen.Pen.{Pen}
-use Rattle.pen_desks.specs.Pens.{submitted, IsOf}
-use Rattle.shot_chain.specs.declared.eye.Eye.{Eye}
-use Rattle.shot_chain.specs.Words.{eye_studio}
-use Rattle.studio.specs.declared.opening.Studio.{Studio}
+use Rattle.core_dispatch.specs.{declared.pen.Pen.Pen, Pens.submitted, Pens.IsOf}
+use Rattle.studio.specs.{declared.shots.eye.Eye.Eye, Words.eye_studio, declared.opening.Studio.Studio, Opening.IsOpened}
 use Rattle.studio.specs.Keeping.{core_of, books_of, studio_of}
-use Rattle.studio.specs.Opening.{IsOpened}
-use Rattle.studio.proofs.Company.{pens_of_opened, eyes_of_opened}
-use Rattle.link_nodes.specs.declared.node.Node.{Node}
-use Rattle.link_nodes.specs.Nodes.{pen_of, eye_of, conn_of, print_of}
+use Rattle.studio.proofs.Company.{company_of_opened}
+use Rattle.link_nodes.specs.{declared.node.Node.Node, Nodes.pen_of, Nodes.eye_of, Nodes.conn_of, Nodes.print_of}
 use Rattle.node_session.specs.Working.{IsNewDesk}
 
 -- the one that was popped, of a list of which all are so
@@ -43,11 +38,11 @@ new_desk core hands studio opened conn print node pens first pen eyes found eye 
       studio =
           subst (λ (e : Eye). eye_studio e ≡ studio_of studio.keeper) (sym eye_is)
           (popped_one (λ (e : Eye). eye_studio e ≡ studio_of studio.keeper) studio.eyes.items eyes found eye
-          (eyes_of_opened core 1 hands 1 studio opened) rest is_eye);
+          (company_of_opened core 1 hands 1 studio opened).eyes_are rest is_eye);
       pen =
           subst (λ (p : Pen). IsOf p (books_of studio.keeper)) (sym pen_is)
           (popped_one (λ (p : Pen). IsOf p (books_of studio.keeper)) studio.pens.items pens first pen
-          (pens_of_opened core 1 hands 1 studio opened) left is_pen);
+          (company_of_opened core 1 hands 1 studio opened).pens_are left is_pen);
       image = image;
       submitted =
           subst (λ (p : Pen). submitted p ≡ []) (sym pen_is)

@@ -1,25 +1,18 @@
 -- What a node's run makes of an input, and where it stops.
 use Rattle.std.proofs.Common.{◌≡◌, ◌⊎◌, ℕ, List, sym, ap, ◌∙◌, subst, inl, inr}
-use Rattle.grid_core.specs.declared.conn.Conn.{Conn}
-use Rattle.grid_core.specs.Raster.{Raster}
-use Rattle.pgm_codec.specs.Graymap.{Graymap}
-use Rattle.pgm_codec.specs.FirstFault.{PgmFault}
-use Rattle.pgm_codec.specs.declared.error.PgmError.TheVariants.{Device}
-use Rattle.stroke_lattice.specs.State.{State}
-use Rattle.stroke_lattice.specs.Pieces.{pieces_of}
+use Rattle.grid_core.specs.{declared.conn.Conn.Conn, Raster.Raster}
+use Rattle.pgm_codec.specs.{Graymap.Graymap, FirstFault.PgmFault, declared.error.PgmError.TheVariants.Device}
+use Rattle.stroke_lattice.specs.{State.State, Pieces.pieces_of}
 use Rattle.spd_codec.specs.StateFile.{SpellsFile, file_text, frames_of}
 use Rattle.derived_views.specs.Shown.{IsShown}
 use Rattle.core_rules.specs.Work.{Core}
 use Rattle.reset_core.specs.Starting.{IsBegunWith}
-use Rattle.paint_session.specs.Kept.{print_of, IsGathered, FileSpells}
-use Rattle.paint_session.specs.RunError.{IsReadingFault, IsTransferFault}
-use Rattle.paint_session.specs.declared.joining.Strokes.{Strokes}
-use Rattle.paint_session.specs.declared.run_error.RunError.{RunError}
-use Rattle.paint_session.proofs.KeptViews.{spells_pieces, no_kept_device}
+use Rattle.view_session.specs.{Kept.print_of, Kept.IsGathered, Kept.FileSpells, declared.joining.Strokes.Strokes}
+use Rattle.run_faults.specs.{RunError.IsReadingFault, RunError.IsTransferFault, declared.run_error.RunError.RunError}
+use Rattle.view_session.proofs.KeptViews.{spells_pieces, no_kept_device}
 use Rattle.link_nodes.specs.Links.{LinkSeen}
-use Rattle.node_session.specs.Given.{HasGiven, ComesFrom}
+use Rattle.node_session.specs.{Given.HasGiven, Working.IsCoreOf, Working.IsShared}
 use Rattle.node_session.specs.Shared.{IsImageShared, IsStrokesShared, NodeStops, StudioFails}
-use Rattle.node_session.specs.Working.{IsCoreOf, IsShared}
 
 -- ---- a core begins
 
@@ -48,31 +41,6 @@ strokes_of core print = record {
   state = core.state;
 }
 
--- a core on the mask, whose strokes come from those that were gathered, and at which no work was left
-shared_image : (conn : Conn) (old input : List ℕ) (mask : Graymap) (first : State) (print : List ℕ) (maxval : ℕ)
-    (given : List (List ℕ)) (core : Core) (image : Graymap) → print ≡ print_of mask
-    → maxval ≡ mask.maxval → IsGathered conn old input mask first → core.mask ≡ mask.raster → core.conn ≡ conn
-    → ComesFrom conn print given first core.state
-    → IsShown core.conn (record { raster = core.mask; maxval = maxval }) core.state image
-    → IsStrokesShared conn old input given image (strokes_of core print)
-shared_image conn old input mask first print maxval given core image is_print is_maxval gathered mask_is conn_is
-    comes shown = record {
-      mask = mask;
-      are_for = record {
-        conn_is = conn_is;
-        print_is = is_print;
-        width_is = ap (λ (r : Raster). r.width) mask_is;
-        height_is = ap (λ (r : Raster). r.height) mask_is;
-      };
-      first = first;
-      gathered = gathered;
-      comes = subst (λ (p : List ℕ). ComesFrom conn p given first core.state) is_print comes;
-      shown =
-          subst (λ (m : Graymap). IsShown conn m core.state image) (same_mask core.mask maxval mask mask_is is_maxval)
-          (subst (λ (c : Conn). IsShown c (record { raster = core.mask; maxval = maxval }) core.state image) conn_is
-          shown);
-    }
-
 -- a core that begins with what was gathered, is shared and settles
 pub shown_behind : (conn : Conn) (old input : List ℕ) (mask : Graymap) (first : State) (print : List ℕ)
     (maxval ticks : ℕ) (link link' : LinkSeen) (begun shared quiet : Core) (image : Graymap) (strokes : Strokes)
@@ -83,15 +51,29 @@ pub shown_behind : (conn : Conn) (old input : List ℕ) (mask : Graymap) (first 
     → strokes ≡ strokes_of quiet print
     → (given : List (List ℕ)) × HasGiven link link' given × IsStrokesShared conn old input given image strokes
 shown_behind conn old input mask first print maxval ticks link link' begun shared quiet image strokes is_print is_maxval
-    gathered begins goes ends is_shown is_strokes = (
-      goes.given,
+    gathered begins goes ends is_shown is_strokes =
+    let mask_is = ends.mask_is ∙ goes.mask ∙ begins.mask_is in
+    let conn_is = ends.conn_is ∙ goes.conn_is ∙ begins.conn_is in
+    let given = goes.given in (
+      given,
       goes.gives,
-      subst (λ (s : Strokes). IsStrokesShared conn old input goes.given image s) (sym is_strokes)
-          (shared_image conn old input mask first print maxval goes.given quiet image is_print is_maxval gathered
-          (ends.mask_is ∙ goes.mask ∙ begins.mask_is) (ends.conn_is ∙ goes.conn_is ∙ begins.conn_is)
-          (subst (λ (s : State). ComesFrom conn print goes.given s quiet.state) begins.state_is
-          (subst (λ (s : State). ComesFrom conn print goes.given begun.state s) (sym ends.state_is) goes.comes))
-          is_shown),
+      subst (λ (s : Strokes). IsStrokesShared conn old input given image s) (sym is_strokes) (record {
+        mask = mask;
+        are_for = record {
+          conn_is = conn_is;
+          print_is = is_print;
+          width_is = ap (λ (r : Raster). r.width) mask_is;
+          height_is = ap (λ (r : Raster). r.height) mask_is;
+        };
+        first = first;
+        gathered = gathered;
+        comes = rw (← is_print, ends.state_is, ← begins.state_is) goes.comes;
+        shown =
+            subst (λ (m : Graymap). IsShown conn m quiet.state image)
+            (same_mask quiet.mask maxval mask mask_is is_maxval)
+            (subst (λ (c : Conn). IsShown c (record { raster = quiet.mask; maxval = maxval }) quiet.state image) conn_is
+            is_shown);
+      }),
     )
 
 -- the new bytes of a state file are those of the strokes

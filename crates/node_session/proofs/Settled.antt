@@ -1,20 +1,16 @@
 -- Settling merges nothing.
 use Rattle.std.proofs.Common.{List, [], ◌∷◌, sym, subst}
 use Rattle.tile_generations.specs.declared.ticket.Ticket.{Ticket}
-use Rattle.core_rules.specs.Work.{Core}
-use Rattle.core_rules.specs.Events.{Merge, Take, GiveBack, Abandon, Hand}
-use Rattle.core_rules.specs.Runs.{Entry, IsWorkedOff, IsSettled, abandoned, tickets_out}
+use Rattle.core_rules.specs.{Work.Core, Events.Merge, Events.Abandon}
+use Rattle.core_rules.specs.{Runs.Entry, Runs.IsWorkedOff, Runs.IsSettled, Runs.abandoned, Runs.tickets_out}
 use Rattle.core_rules.proofs.Running.{settled_is_run}
-use Rattle.core_dispatch.proofs.Growing.{AreNoMerges, KeepsStrokes, no_merges_append, run_keeps_strokes}
+use Rattle.core_dispatch.proofs.{Growing.AreNoMerges, Growing.no_merges_append, Growing.run_is_steady, Steady.IsSteady}
 
 none_in_work : (before : Core) (log : List Entry) (after : Core) → IsWorkedOff before log after → AreNoMerges log
 none_in_work before [] after is = tt
 none_in_work before ((Merge delta, answer) ∷ log) after (next, more) = absurd next
-none_in_work before ((Take t, answer) ∷ log) after (is, (next, happens, more)) = none_in_work next log after more
-none_in_work before ((GiveBack swept, answer) ∷ log) after (is, (next, happens, more)) =
-    none_in_work next log after more
 none_in_work before ((Abandon ticket, answer) ∷ log) after (next, more) = absurd next
-none_in_work before ((Hand t i, answer) ∷ log) after (is, (next, happens, more)) = none_in_work next log after more
+none_in_work before (entry ∷ log) after (is, (next, happens, more)) = none_in_work next log after more
 
 none_in_abandons : (tickets : List Ticket) → AreNoMerges (abandoned tickets)
 none_in_abandons [] = tt
@@ -22,10 +18,10 @@ none_in_abandons (ticket ∷ tickets) = none_in_abandons tickets
 
 -- settling leaves strokes, mask and connectivity
 pub settled_keeps : (before : Core) (log : List Entry) (after : Core) → IsSettled before log after
-    → KeepsStrokes before after
+    → IsSteady before after
 settled_keeps before log after settled =
     let settling = settled.settling in
-    run_keeps_strokes before log after
+    run_is_steady before log after
     (subst AreNoMerges (sym settling.parts)
     (no_merges_append (abandoned (tickets_out 0 before.tiles)) settling.work
     (none_in_abandons (tickets_out 0 before.tiles))

@@ -1,25 +1,19 @@
 -- What the run of a node says over a store and a network, from what these and the run say.
-use Rattle.std.proofs.Common.{◌≡◌, ◌⊎◌, ℕ, List, Option, Result, Ok, Err, Some, None, inl, inr, refl}
-use Rattle.std.proofs.Common.{ap, ◌∙◌}
-use Rattle.std.proofs.Common.{subst, arith}
-use Rattle.std.specs.Prelude.{IfSome, IsOk}
-use Rattle.byte_devices.specs.Device.{SourceSeen, SinkSeen}
-use Rattle.byte_devices.specs.Response.{Responds, TellsDevices}
-use Rattle.byte_devices.specs.Transfer.{IsInputOf}
+use Rattle.std.proofs.Common.{◌≡◌, ◌⊎◌, ℕ, List, Option, Ok, Err, Some, None, inl, inr, refl, ap, ◌∙◌, subst, arith}
+use Rattle.std.proofs.Common.{IfSome, Result}
+use Rattle.byte_devices.specs.{Device.SourceSeen, Device.SinkSeen, Response.Responds, Response.TellsDevices}
+use Rattle.byte_devices.specs.{Transfer.IsInputOf}
 use Rattle.grid_core.specs.declared.conn.Conn.{Conn}
 use Rattle.link_nodes.specs.Links.{LinkSeen}
-use Rattle.paint_session.specs.RunError.{IsReadingFault, IsTransferFault}
-use Rattle.paint_session.specs.Joining.{Makes, Refuses}
-use Rattle.paint_session.specs.Serving.{IsKeptIn, IsSavingFault, IsWritten, Serves, TellsStore, ToKeep}
-use Rattle.paint_session.specs.Store.{AreSame, Held, StoreSeen}
-use Rattle.paint_session.specs.declared.joining.Strokes.{Strokes}
-use Rattle.paint_session.specs.declared.run_error.RunError.{RunError}
-use Rattle.paint_session.specs.declared.run_error.RunError.TheVariants.{Link, Memory, StateFile}
-use Rattle.paint_session.proofs.Shared.{input_is_no_file, kept_stops_of_input, reading_is_no_file, transfer_is_no_file}
-use Rattle.paint_session.proofs.Shared.{saving_is_no_transfer}
-use Rattle.paint_session.proofs.StoredViews.{load_fault, saving_fault, store_unloaded, store_saved, store_unsaved}
-use Rattle.node_session.specs.Network.{NetworkSeen, TellsNetwork}
-use Rattle.node_session.specs.Shared.{IsStrokesNode, NodeStops}
+use Rattle.run_faults.specs.{RunError.IsReadingFault, RunError.IsTransferFault, declared.run_error.RunError.RunError}
+use Rattle.run_faults.specs.declared.run_error.RunError.TheVariants.{Link, StateFile}
+use Rattle.view_session.specs.{Joining.Makes, Joining.Refuses, declared.joining.Strokes.Strokes}
+use Rattle.view_session.specs.Serving.{IsKeptIn, IsSavingFault, IsWritten, Serves, TellsStore, ToKeep}
+use Rattle.view_session.specs.Store.{AreSame, Held, StoreSeen}
+use Rattle.view_session.proofs.Shared.{input_is_no_file, kept_stops_of_input, reading_is_no_file, transfer_is_no_file}
+use Rattle.view_session.proofs.Shared.{saving_is_no_transfer}
+use Rattle.view_session.proofs.StoredViews.{saving_fault, store_saved, store_unsaved}
+use Rattle.node_session.specs.{Network.NetworkSeen, Network.TellsNetwork, Shared.IsStrokesNode, Shared.NodeStops}
 use Rattle.node_session.specs.Stored.{IsHeldFor, IsNodeFault, IsNotToKeep, IsShownNode, IsStoredNode, IsStrokesOver}
 use Rattle.node_session.specs.Stored.{IsToKeep, LoadsFor, SavesFor, StoredNodeStops}
 
@@ -29,15 +23,8 @@ pub reading_is_early : (file : Option (List ℕ)) (e : RunError) → IsReadingFa
 reading_is_early None e reading = inl reading
 reading_is_early (Some name) e reading = inl (inr (inr reading))
 
-pub link_is_early : (file : Option (List ℕ)) (e : RunError) → e ≡ Link → IsNodeFault file e
-link_is_early None e link = inr link
-link_is_early (Some name) e link = inr link
-
 pub link_is_no_transfer : (e : RunError) → e ≡ Link → IsTransferFault e → ⊥
 link_is_no_transfer e link device = cc
-
-pub link_is_no_file : (e : RunError) → e ≡ Link → e ≡ StateFile → ⊥
-link_is_no_file e link file = cc
 
 -- where a node's run stops, it is neither V2 nor D3
 stops_at_no_file : (conn : Conn) (hands : ℕ) (old input : List ℕ) (e : RunError) → NodeStops conn hands old input e
@@ -77,30 +64,6 @@ refused_at_no_link conn hands given known e (inr (inr (input, is_input, stop))) 
 
 -- ---- loading and saving
 
--- a load that failed was one of a file
-pub loading_failed : {V : Type 0} (bytes_of : V → List ℕ) (old new : StoreSeen) (e : RunError) (file : Option (List ℕ))
-    → LoadsFor bytes_of old new (Err e) file → IsNodeFault file e × ((e ≡ StateFile) ⊎ (e ≡ Memory))
-loading_failed bytes_of old new e None (same, none) = absurd none
-loading_failed bytes_of old new e (Some name) loads =
-    let why = load_fault bytes_of old new e name loads in (
-      elim why [ inl is ↦ inl (inl is) | inr is ↦ inl (inr (inl is)) ],
-      why,
-    )
-
-pub loading_is_no_transfer : (e : RunError) → (e ≡ StateFile) ⊎ (e ≡ Memory) → IsTransferFault e → ⊥
-loading_is_no_transfer e (inl file) device = cc
-loading_is_no_transfer e (inr memory) device = cc
-
-pub loading_is_no_link : (e : RunError) → (e ≡ StateFile) ⊎ (e ≡ Memory) → e ≡ Link → ⊥
-loading_is_no_link e (inl file) link = cc
-loading_is_no_link e (inr memory) link = cc
-
--- the store tells so of a load that failed
-pub store_failed : {V : Type 0} (bytes_of : V → List ℕ) (old new : StoreSeen) (e : RunError) (file : Option (List ℕ))
-    → LoadsFor bytes_of old new (Err e) file → TellsStore (Err e) old new
-store_failed bytes_of old new e None (same, none) = absurd none
-store_failed bytes_of old new e (Some name) loads = store_unloaded bytes_of old new e name loads
-
 -- what a load that went well gives
 pub record IsLoaded (old new : StoreSeen) (file : Option (List ℕ)) (bytes : List ℕ) : Type 0 where
   pub held : IsHeldFor old.held file bytes
@@ -108,14 +71,14 @@ pub record IsLoaded (old new : StoreSeen) (file : Option (List ℕ)) (bytes : Li
   pub failures : new.failures ≡ old.failures
 
 pub loaded : {V : Type 0} (bytes_of : V → List ℕ) (old new : StoreSeen) (v : V) (file : Option (List ℕ))
-    → LoadsFor bytes_of old new (Ok v) file → IsLoaded old new file (bytes_of v)
-loaded bytes_of old new v None (same, none) = record {
-  held = none;
+    (bytes : List ℕ) → bytes ≡ bytes_of v → LoadsFor bytes_of old new (Ok v) file → IsLoaded old new file bytes
+loaded bytes_of old new v None bytes is (same, none) = record {
+  held = is ∙ none;
   same = λ name. ap (λ (s : StoreSeen). s.held name) same;
   failures = ap (λ (s : StoreSeen). s.failures) same;
 }
-loaded bytes_of old new v (Some name) loads =
-    record { held = loads.bytes; same = loads.files; failures = loads.failures }
+loaded bytes_of old new v (Some name) bytes is loads =
+    record { held = rw is loads.bytes; same = loads.files; failures = loads.failures }
 
 -- the store tells so of a run that was refused behind the load
 pub store_refused : (old new : StoreSeen) (e : RunError) (file : Option (List ℕ)) (bytes : List ℕ)
@@ -126,15 +89,12 @@ store_refused old new e file bytes is no_file = record {
   failure = λ less. absurd (omega (arith, less, is.failures));
 }
 
-no_fault_is_well : (V : Type 0) (e : RunError) → IsOk {T = V} {E = RunError} (Err e) → ⊥
-no_fault_is_well V e well = cc
-
 -- a save that failed was one of a file, and a fault in saving
 pub save_failed : {V : Type 0} (bytes_of : V → List ℕ) (old new : StoreSeen) (strokes strokes' : Strokes)
     (e : RunError) (file : Option (List ℕ)) → SavesFor bytes_of old new strokes strokes' (Err e) file
     → IsSavingFault e × (IsNodeFault file e ⊎ IsNotToKeep file old.held strokes e)
-save_failed {V} bytes_of old new strokes strokes' e None (same, well) = absurd (no_fault_is_well V e well)
-save_failed {V} bytes_of old new strokes strokes' e (Some name) saves = (
+save_failed bytes_of old new strokes strokes' e None (same, well) = absurd cc
+save_failed bytes_of old new strokes strokes' e (Some name) saves = (
   saving_fault bytes_of old new strokes strokes' e name saves,
   elim saves.not_saved [
     | inl (inl at_file, unasked) ↦ inl (inl (inl at_file))
@@ -211,95 +171,61 @@ store_kept bytes_of made_of old middle new v strokes strokes' w (Some name) load
 pub store_unkept : {V W : Type 0} (bytes_of : V → List ℕ) (made_of : W → List ℕ) (old middle new : StoreSeen) (v : V)
     (strokes strokes' : Strokes) (e : RunError) (file : Option (List ℕ)) → LoadsFor bytes_of old middle (Ok v) file
     → SavesFor {V = W} made_of middle new strokes strokes' (Err e) file → TellsStore (Err e) old new
-store_unkept {V} {W} bytes_of made_of old middle new v strokes strokes' e None loads (unasked, well) =
-    absurd (no_fault_is_well W e well)
-store_unkept {V} {W} bytes_of made_of old middle new v strokes strokes' e (Some name) loads saves =
+store_unkept bytes_of made_of old middle new v strokes strokes' e None loads (unasked, well) = absurd cc
+store_unkept bytes_of made_of old middle new v strokes strokes' e (Some name) loads saves =
     store_unsaved bytes_of made_of Makes Refuses old middle new v strokes strokes' e name loads saves
 
 -- ---- what is served
 
--- what a node's run answers, over bytes that the file held
-over_file : {L : Type 0} (heard : L → LinkSeen) (conn : Conn) (hands ticks : ℕ) (file : Option (List ℕ))
-    (link link' : L) (held : Held) (old given input text : List ℕ) (strokes : Strokes) → IsHeldFor held file old
-    → given ≡ old → IsStrokesNode conn hands ticks given (heard link) (heard link') input text strokes
-    → IsStrokesOver heard conn hands ticks file held input text strokes
-over_file heard conn hands ticks file link link' held old given input text strokes is_held is view = (
-  old,
-  is_held,
-  (
-    link,
-    link',
-    subst (λ (bytes : List ℕ). IsStrokesNode conn hands ticks bytes (heard link) (heard link') input text strokes) is
-        view,
-  ),
-)
-
 module _ {S K L : Type 0} (known : Option (List ℕ)) (seen : K → SinkSeen) (heard : L → LinkSeen) (conn : Conn)
-    (hands ticks : ℕ) (file : Option (List ℕ)) (link link' : L) where
+    (hands ticks : ℕ) (file : Option (List ℕ)) (link link' : L) (held : Held) (old : List ℕ)
+    (is_held : IsHeldFor held file old) (source source' : S) (sink sink' : K) where
+  -- the run over the bytes that the file held
+  abbrev Answers : Result Strokes RunError → Type 0
+  Answers result = Responds
+      (λ input strokes text. IsStrokesNode conn hands ticks old (heard link) (heard link') input text strokes)
+      (NodeStops conn hands old) IsReadingFault IsTransferFault result known seen sink sink'
+
+  -- and what this is to the run over the store
+  abbrev IsServed : Result (Unit {0}) RunError → Held → Type 0
+  IsServed result held' = Serves (IsStoredNode heard conn hands ticks file held)
+      (IsShownNode heard conn hands ticks file held) (StoredNodeStops heard conn hands ticks file held)
+      (IsNodeFault file) result known source source' seen sink sink' held held'
+
   -- the run was refused
-  pub serves_refused : (held held' : Held) (old given : List ℕ) (e : RunError)
-      (source source' : S) (sink sink' : K) → IsHeldFor held file old → given ≡ old
-      → Responds (λ input strokes text. IsStrokesNode conn hands ticks given (heard link) (heard link') input text
-      strokes) (NodeStops conn hands given) IsReadingFault IsTransferFault (Err e) known seen sink sink'
-      → Serves (IsStoredNode heard conn hands ticks file held) (IsShownNode heard conn hands ticks file held)
-      (StoredNodeStops heard conn hands ticks file held) (IsNodeFault file) (Err e) known source source' seen sink sink'
-      held held'
-  serves_refused held held' old given e source source' sink sink' is_held is r = record {
+  pub serves_refused : (held' : Held) (e : RunError) → Answers (Err e) → IsServed (Err e) held'
+  serves_refused held' e r = record {
     shown = tt;
     refused = elim r.refused [
       | inl reading ↦ inl (reading_is_early file e reading)
       | inr (inl device) ↦ inr (inl device)
-      | inr (inr (input, is_input, stop)) ↦ inr (inr (
-        input,
-        is_input,
-        inl (old, is_held, subst (λ (bytes : List ℕ). NodeStops conn hands bytes input e) is stop),
-      ))
+      | inr (inr (input, is_input, stop)) ↦ inr (inr (input, is_input, inl (old, is_held, stop)))
     ];
     untouched = λ no_device no_saving. r.untouched no_device;
     written = λ device. elim (r.written device) [
       | inl same ↦ inl same
-      | inr (risen, front) ↦ inr (
-        risen,
-        (
-          front.0,
-          front.1,
-          front.3,
-          (
-            front.2,
-            over_file heard conn hands ticks file link link' held old given front.0 front.1 front.2 is_held is front.4,
-          ),
-          front.5,
-        ),
-      )
+      | inr (risen, (input, text, strokes, is_input, view, front)) ↦
+          inr (risen, (input, text, is_input, (strokes, (old, is_held, (link, link', view))), front))
     ];
     unsaved = λ saving. inl (r.untouched (saving_is_no_transfer e saving));
-    not_saved = λ at_file. absurd (refused_at_no_file conn hands given known e r.refused at_file);
+    not_saved = λ at_file. absurd (refused_at_no_file conn hands old known e r.refused at_file);
   }
 
   -- the image was written, and its strokes were saved, if there is a file
-  pub serves_kept : {W : Type 0} (made_of : W → List ℕ) (held : Held) (middle after : StoreSeen)
-      (old given : List ℕ) (strokes strokes' : Strokes) (w : W) (source source' : S) (sink sink' : K)
-      → IsHeldFor held file old → given ≡ old → AreSame held middle.held
-      → Responds (λ input strokes text. IsStrokesNode conn hands ticks given (heard link) (heard link') input text
-      strokes) (NodeStops conn hands given) IsReadingFault IsTransferFault (Ok strokes) known seen sink sink'
-      → SavesFor made_of middle after strokes strokes' (Ok w) file
-      → Serves (IsStoredNode heard conn hands ticks file held) (IsShownNode heard conn hands ticks file held)
-      (StoredNodeStops heard conn hands ticks file held) (IsNodeFault file) (Ok tt) known source source' seen sink sink'
-      held after.held
-  serves_kept made_of held middle after old given strokes strokes' w source source' sink sink' is_held is same r s =
-      let then = saved_then made_of held middle after strokes strokes' w file same s in record {
+  pub serves_kept : {W : Type 0} (made_of : W → List ℕ) (middle after : StoreSeen) (strokes strokes' : Strokes) (w : W)
+      → AreSame held middle.held → Answers (Ok strokes) → SavesFor made_of middle after strokes strokes' (Ok w) file
+      → IsServed (Ok tt) after.held
+  serves_kept made_of middle after strokes strokes' w same r s =
+      let then = saved_then made_of held middle after strokes strokes' w file same s in
+      let (input, text, is_input, view, appends) = r.shown in
+      record {
         shown = (
-          r.shown.0,
-          r.shown.1,
+          input,
+          text,
           then.kept,
-          r.shown.2,
-          (
-            strokes,
-            over_file heard conn hands ticks file link link' held old given r.shown.0 r.shown.1 strokes is_held is
-                r.shown.3,
-            then.to_keep,
-          ),
-          r.shown.4,
+          is_input,
+          (strokes, (old, is_held, (link, link', view)), then.to_keep),
+          appends,
           then.is_kept,
         );
         refused = tt;
@@ -310,34 +236,24 @@ module _ {S K L : Type 0} (known : Option (List ℕ)) (seen : K → SinkSeen) (h
       }
 
   -- the image was written, and its strokes were not saved
-  pub serves_unkept : {W : Type 0} (made_of : W → List ℕ) (held : Held) (middle after : StoreSeen)
-      (old given : List ℕ) (strokes strokes' : Strokes) (e : RunError) (source source' : S) (sink sink' : K)
-      → IsHeldFor held file old → given ≡ old → AreSame held middle.held
-      → Responds (λ input strokes text. IsStrokesNode conn hands ticks given (heard link) (heard link') input text
-      strokes) (NodeStops conn hands given) IsReadingFault IsTransferFault (Ok strokes) known seen sink sink'
-      → SavesFor {V = W} made_of middle after strokes strokes' (Err e) file
-      → Serves (IsStoredNode heard conn hands ticks file held) (IsShownNode heard conn hands ticks file held)
-      (StoredNodeStops heard conn hands ticks file held) (IsNodeFault file) (Err e) known source source' seen sink sink'
-      held after.held
-  serves_unkept made_of held middle after old given strokes strokes' e source source' sink sink' is_held is same r s =
+  pub serves_unkept : {W : Type 0} (made_of : W → List ℕ) (middle after : StoreSeen) (strokes strokes' : Strokes)
+      (e : RunError) → AreSame held middle.held → Answers (Ok strokes)
+      → SavesFor {V = W} made_of middle after strokes strokes' (Err e) file → IsServed (Err e) after.held
+  serves_unkept made_of middle after strokes strokes' e same r s =
       let failed = save_failed made_of middle after strokes strokes' e file s in
-      let over = over_file heard conn hands ticks file link link' held old given r.shown.0 r.shown.1 strokes is_held is
-      r.shown.3 in
-      let written : IsWritten (IsShownNode heard conn hands ticks file held) known seen sink sink' = (
-        r.shown.0,
-        r.shown.1,
-        r.shown.2,
-        (strokes, over),
-        r.shown.4,
-      ) in
+      let (input, text, is_input, view, appends) = r.shown in
+      let over : IsStrokesOver heard conn hands ticks file held input text strokes =
+      (old, is_held, (link, link', view)) in
+      let written : IsWritten (IsShownNode heard conn hands ticks file held) known seen sink sink' =
+      (input, text, is_input, (strokes, over), appends) in
       record {
         shown = tt;
         refused = elim failed.1 [
           | inl early ↦ inl early
           | inr why ↦ inr (inr (
-            r.shown.0,
-            r.shown.2,
-            inr (r.shown.1, strokes, over, not_to_keep file held middle.held strokes e same why),
+            input,
+            is_input,
+            inr (text, strokes, over, not_to_keep file held middle.held strokes e same why),
           ))
         ];
         untouched = λ no_device no_saving. absurd (no_saving failed.0);

@@ -1,6 +1,5 @@
 -- What a link gave meanwhile, and what stands in the frames among it.
-use Rattle.std.specs.Prelude.{◌≡◌, ◌⊎◌, ◌++◌, ℕ, List, Contains}
-use Rattle.std.specs.Option.{option_map}
+use Rattle.std.specs.Prelude.{◌≡◌, ◌⊎◌, ◌++◌, ℕ, List, Contains, option_map}
 use Rattle.grid_core.specs.declared.conn.Conn.{Conn}
 use Rattle.stroke_core.specs.Seed.{Seed}
 use Rattle.stroke_lattice.specs.State.{State, HasStroke, HasTombstone, IsBelow}

@@ -1,8 +1,7 @@
 -- What is seen of a network, what a bind does to it, and what it tells after a run.
 use Rattle.std.specs.Prelude.{◌≡◌, ◌<◌, ℕ, List, Option, Result, IfErr, IfSome, IsErrOf, MatchResult, OnOk}
 use Rattle.byte_devices.specs.Device.{HasRisen, count_after}
-use Rattle.paint_session.specs.declared.run_error.RunError.{RunError}
-use Rattle.paint_session.specs.declared.run_error.RunError.TheVariants.{Link}
+use Rattle.run_faults.specs.{declared.run_error.RunError.RunError, declared.run_error.RunError.TheVariants.Link}
 
 -- of a network: the port and the peers of the last link that it gave, where they are known, and how many binds failed
 pub record NetworkSeen : Type 0 where

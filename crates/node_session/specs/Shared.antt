@@ -2,32 +2,20 @@
 use Rattle.std.specs.Prelude.{◌≡◌, ◌⊎◌, ◌↔◌, ℕ, List}
 use Rattle.byte_devices.specs.Device.{HasRisenBy}
 use Rattle.grid_core.specs.declared.conn.Conn.{Conn}
-use Rattle.pgm_codec.specs.Graymap.{Graymap}
-use Rattle.pgm_codec.specs.Writing.{raw_text}
-use Rattle.stroke_lattice.specs.State.{State, StateFits}
-use Rattle.stroke_lattice.specs.Pieces.{pieces_of}
+use Rattle.pgm_codec.specs.{Graymap.Graymap, Writing.raw_text}
+use Rattle.stroke_lattice.specs.{State.State, Pieces.pieces_of}
 use Rattle.derived_views.specs.Shown.{IsShown}
-use Rattle.paint_session.specs.Joining.{AreFor}
-use Rattle.paint_session.specs.declared.joining.Strokes.{Strokes}
-use Rattle.paint_session.specs.Kept.{print_of, kept_text, FileSpells, IsGathered, KeptStops}
-use Rattle.paint_session.specs.declared.gathering.Gathered.{Gathered}
-use Rattle.paint_session.specs.declared.run_error.RunError.{RunError}
-use Rattle.paint_session.specs.declared.run_error.RunError.TheVariants.{Studio}
-use Rattle.paint_session.specs.declared.run_error.StudioFault.{StudioFault}
-use Rattle.paint_session.specs.declared.run_error.StudioFault.TheVariants as studio
+use Rattle.view_session.specs.{Joining.AreFor, declared.joining.Strokes.Strokes}
+use Rattle.view_session.specs.Kept.{print_of, kept_text, FileSpells, IsGathered, KeptStops}
+use Rattle.run_faults.specs.{declared.run_error.RunError.RunError, declared.run_error.RunError.TheVariants.Studio}
+use Rattle.run_faults.specs.{declared.run_error.StudioFault.StudioFault}
 use Rattle.core_dispatch.specs.declared.error.CloseError.{CloseError}
-use Rattle.core_dispatch.specs.declared.error.CloseError.TheVariants as closing
-use Rattle.studio.specs.Opening.{IsCount}
-use Rattle.studio.specs.declared.refused.OpenError.{OpenError}
-use Rattle.studio.specs.declared.refused.OpenError.TheVariants as opening
+use Rattle.studio.specs.{Opening.IsCount, declared.refused.OpenError.OpenError}
 use Rattle.link_nodes.specs.Links.{LinkSeen}
 use Rattle.node_session.specs.Given.{HasGiven, ComesFrom}
-
--- what is gathered of the old bytes and an input: a mask, its fingerprint, and the join of the strokes, which fit it
-pub record IsGatheredFrom (conn : Conn) (old input : List ℕ) (found : Gathered) : Type 0 where
-  pub gathered : IsGathered conn old input found.mask found.state
-  pub print : found.print ≡ print_of found.mask
-  pub fits : StateFits found.mask.raster.width found.mask.raster.height found.state
+use Rattle.run_faults.specs.declared.run_error.StudioFault.TheVariants as studio
+use Rattle.core_dispatch.specs.declared.error.CloseError.TheVariants as closing
+use Rattle.studio.specs.declared.refused.OpenError.TheVariants as opening
 
 -- the image shows a state on the input's mask, which the new bytes spell; it comes from the join of the deltas of the
 -- old bytes and of the input, and from frames for this mask among the datagrams
@@ -41,7 +29,7 @@ pub record IsImageShared (conn : Conn) (old input : List ℕ) (given : List (Lis
   pub new_is : new ≡ kept_text conn mask state
   pub new_spelled : FileSpells conn (print_of mask) new (pieces_of 1400 state)
 
--- the image shows strokes on the input's mask, which come from the join of the deltas of the old bytes and of the input,
+-- the image shows strokes on the input's mask, which come from the join of the deltas of old bytes and of the input,
 -- and from frames for this mask among the datagrams
 pub record IsStrokesShared (conn : Conn) (old input : List ℕ) (given : List (List ℕ)) (image : Graymap)
     (strokes : Strokes) : Type 0 where

@@ -1,14 +1,12 @@
 -- A view that is shared by a node, over a state file or over none.
 use Rattle.std.specs.Prelude.{◌≡◌, ◌⊎◌, ℕ, List, [], Option, Some, None, Result, IsOk, IsOkAnd}
 use Rattle.grid_core.specs.declared.conn.Conn.{Conn}
-use Rattle.paint_session.specs.RunError.{IsReadingFault}
-use Rattle.paint_session.specs.Serving.{IsStoreFault, ToKeep}
-use Rattle.paint_session.specs.Store.{Held, IsHeldIn, Loads, Saves, StoreSeen}
-use Rattle.paint_session.specs.declared.run_error.RunError.{RunError}
-use Rattle.paint_session.specs.declared.run_error.RunError.TheVariants.{Link}
+use Rattle.run_faults.specs.{RunError.IsReadingFault, declared.run_error.RunError.RunError}
+use Rattle.run_faults.specs.{declared.run_error.RunError.TheVariants.Link}
+use Rattle.view_session.specs.{Serving.IsStoreFault, Serving.ToKeep, declared.joining.Strokes.Strokes}
+use Rattle.view_session.specs.Store.{Held, IsHeldIn, Loads, Saves, StoreSeen}
+use Rattle.view_session.specs.Joining.{IsJoinedOver, IsNotJoinedOver, Makes, Refuses}
 use Rattle.link_nodes.specs.Links.{LinkSeen}
-use Rattle.paint_session.specs.Joining.{IsJoinedOver, IsNotJoinedOver, Makes, Refuses}
-use Rattle.paint_session.specs.declared.joining.Strokes.{Strokes}
 use Rattle.node_session.specs.Shared.{IsStrokesNode, NodeStops}
 
 -- the bytes are those of the file of this name; without a name there are none

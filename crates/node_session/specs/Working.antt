@@ -1,22 +1,15 @@
 -- A keeper and a node of one studio that work together. Only private functions have this in their contracts.
 use Rattle.std.specs.Prelude.{◌≡◌, ◌++◌, ℕ, List, [], All}
 use Rattle.byte_devices.specs.Device.{HasRisenBy}
-use Rattle.grid_core.specs.declared.conn.Conn.{Conn}
-use Rattle.grid_core.specs.Raster.{Raster}
+use Rattle.grid_core.specs.{declared.conn.Conn.Conn, Raster.Raster}
 use Rattle.stroke_lattice.specs.State.{State}
 use Rattle.core_rules.specs.Work.{Core}
-use Rattle.pen_desks.specs.declared.pen.PenEnd.{PenEnd}
-use Rattle.pen_desks.specs.Pens.{IsOf, all_submitted}
-use Rattle.core_dispatch.specs.Turns.{GrowsOn}
-use Rattle.studio.specs.declared.keeper.Keeper.{Keeper}
-use Rattle.studio.specs.declared.closed.Closed.{Closed}
-use Rattle.studio.specs.Keeping.{core_of, books_of, studio_of}
-use Rattle.studio.specs.Closing.{IsClosed}
-use Rattle.link_nodes.specs.declared.node.Node.{Node}
-use Rattle.link_nodes.specs.Links.{LinkSeen}
-use Rattle.link_nodes.specs.Nodes.{pen_of, conn_of, print_of, submitted_by, node_studio}
-use Rattle.node_session.specs.declared.desk.Desk.{Desk}
-use Rattle.node_session.specs.Given.{HasGiven, SomeSpells, ComesFrom}
+use Rattle.core_dispatch.specs.{declared.pen.PenEnd.PenEnd, Pens.IsOf, Pens.all_submitted, Growing.GrowsOn}
+use Rattle.studio.specs.{declared.keeper.Keeper.Keeper, declared.closed.Closed.Closed, Keeping.core_of}
+use Rattle.studio.specs.{Keeping.books_of, Keeping.studio_of, Company.KeepsCompany, Closing.IsClosed}
+use Rattle.link_nodes.specs.{declared.node.Node.Node, Links.LinkSeen}
+use Rattle.link_nodes.specs.Nodes.{pen_of, conn_of, print_of, submitted_by, node_studio, IsSameNode}
+use Rattle.node_session.specs.{declared.desk.Desk.Desk, Given.HasGiven, Given.SomeSpells, Given.ComesFrom}
 
 -- node and keeper are of one studio
 abbrev pub IsOneStudio : Desk → Type 0
@@ -43,13 +36,12 @@ pub record Hears (old new : Node) (link link' : LinkSeen) : Type 0 where
   pub submits : submitted_by new ≡ submitted_by old ++ more
   pub each : All (SomeSpells (conn_of old) (print_of old) given) more
 
--- keeper and node stay what they are to each other, and the core's strokes only join
+-- keeper and node stay what they are, also to each other, and the core's strokes only join
 pub record Stays (old new : Desk) : Type 0 where
   pub opening : (books_of new.keeper).opening ≡ (books_of old.keeper).opening
   pub grows : GrowsOn (core_of old.keeper) (core_of new.keeper)
-  pub studio : IsOneStudio old → IsOneStudio new
-  pub pen : HasItsPen old → HasItsPen new
-  pub image : (conn_of new.node ≡ conn_of old.node) × (print_of new.node ≡ print_of old.node)
+  pub company : KeepsCompany old.keeper new.keeper
+  pub node : IsSameNode old.node new.node
 
 -- the same, and nothing is submitted
 abbrev pub StaysSilent : Desk → Desk → Type 0

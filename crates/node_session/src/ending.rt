@@ -1,20 +1,20 @@
 //! The end of a studio.
 
 ghost use Rattle.std.specs.Prelude.{◌≡◌, All, IfOk, IfErr};
-ghost use Rattle.pen_desks.specs.Pens.{all_submitted, submitted, IsOf};
+ghost use Rattle.core_dispatch.specs.Pens.{all_submitted, submitted, IsOf};
 ghost use Rattle.core_dispatch.specs.Closing.{AreEndsOf};
-ghost use Rattle.pen_desks.specs.Books.{BooksView as Books};
+ghost use Rattle.core_dispatch.specs.Books.{BooksView as Books};
 ghost use Rattle.studio.specs.Keeping.{books_of};
-ghost use Rattle.paint_session.specs.RunError.{IsStudioFault};
-ghost use Rattle.paint_session.specs.declared.run_error.RunError.TheVariants as errors;
+ghost use Rattle.run_faults.specs.RunError.{IsStudioFault};
+ghost use Rattle.run_faults.specs.declared.run_error.RunError.TheVariants as errors;
 ghost use Rattle.node_session.specs.Shared.{closing_fault};
 ghost use Rattle.node_session.specs.Working.{HasItsPen, IsLeftBy, IsClosedTo};
 
 use crate::desk::Desk;
 use crate::faults::close_fault;
-use paint_session::run_error::RunError;
-use pen_desks::{Pen, PenEnd};
+use core_dispatch::{Pen, PenEnd};
 use reset_core::Core;
+use run_faults::RunError;
 use std::alloc::Global;
 use std::sync::Wait;
 use studio::{Closed, Keeper, NotClosed};

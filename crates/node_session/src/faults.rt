@@ -1,12 +1,12 @@
 //! What the refusals of a studio are to a run.
 
 ghost use Rattle.std.specs.Prelude.{◌≡◌};
-ghost use Rattle.paint_session.specs.RunError.{IsStudioFault};
-ghost use Rattle.paint_session.specs.declared.run_error.RunError.TheVariants as errors;
+ghost use Rattle.run_faults.specs.RunError.{IsStudioFault};
+ghost use Rattle.run_faults.specs.declared.run_error.RunError.TheVariants as errors;
 ghost use Rattle.node_session.specs.Shared.{opening_fault, closing_fault};
 
 use core_dispatch::CloseError;
-use paint_session::run_error::{RunError, StudioFault};
+use run_faults::{RunError, StudioFault};
 use studio::OpenError;
 
 /// U1 to U3.

@@ -1,5 +1,5 @@
 #![tactic(auto)]
-//! A session of painting that is shared with others: a view as `paint_session` writes it; and between the reading of
+//! A session of painting that is shared with others: a view as `view_session` writes it; and between the reading of
 //! an input and the writing of its image a studio, whose strokes a node tells to others, and to which it brings theirs.
 //!
 //! ```text
@@ -16,7 +16,6 @@
 mod desk;
 mod ending;
 mod faults;
-mod gathering;
 mod hands;
 pub mod network;
 mod pace;

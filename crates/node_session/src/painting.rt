@@ -7,38 +7,39 @@ ghost use Rattle.pgm_codec.specs.Graymap.{IsGraymap};
 ghost use Rattle.stroke_lattice.specs.State.{StateFits};
 ghost use Rattle.derived_views.specs.Shown.{IsShown};
 ghost use Rattle.core_rules.specs.Work.{IsQuiet};
-ghost use Rattle.reset_core.specs.Blanks.{AreBlanks};
 ghost use Rattle.reset_core.specs.Starting.{IsBegunWith};
-ghost use Rattle.paint_session.specs.RunError.{IsReadingFault};
+ghost use Rattle.run_faults.specs.RunError.{IsReadingFault};
 ghost use Rattle.node_session.specs.Shared.{IsStrokesShared, NodeStops};
 ghost use Rattle.studio.specs.Opening.{IsCount};
 ghost use Rattle.node_session.specs.Given.{HasGiven};
 ghost use Rattle.node_session.specs.Working.{IsCoreOf};
 
-use crate::gathering::{Start, gather_in_memory};
-use crate::sharing::{Room, Sharing, share};
+use crate::sharing::{Sharing, Shift, share};
 use band_growth::ManyThreads;
 use grid_core::{Conn, Memory};
 use link_nodes::Link;
-use paint_session::gathering::Gathered;
-use paint_session::joining::Strokes;
-use paint_session::run_error::RunError;
 use pgm_codec::{Image, below_keeps_maxval};
-use raster_sweeps::Grower;
-use reset_core::{Blanks, Core};
+use raster_sweeps::{Blanks, Grower};
+use reset_core::Core;
+use run_faults::RunError;
 use spd_codec::Print;
 use std::alloc::Global;
 use std::sync::Wait;
 use std::thread::Threads;
 use std::time::Clock;
 use stroke_lattice::State;
+use view_session::gathering::{Gathered, gather_beside};
+use view_session::joining::Strokes;
+
+// The images that a node makes: marker and image of a core, and the copies of mask and image that are shown first.
+const IMAGES: usize = 4;
 
 /// How an input is painted: which pixels are neighbours, the side of the tiles, and who works for how long.
 #[derive(Clone, Copy)]
 pub(crate) struct Plan {
     pub(crate) conn: Conn,
     pub(crate) side: u32,
-    pub(crate) room: Room,
+    pub(crate) shift: Shift,
 }
 
 /// The image that an input asks for over the old bytes of a state file and what a node brings, and the strokes that it
@@ -54,30 +55,25 @@ pub(crate) fn paint<R: Threads + Wait + Clock + Sync, L: Link>(
     link: &mut L,
 ) -> Result<(Image, Strokes), RunError>
     requires { IsTileSide plan.side }
-    ensures hands { IfOk result (λ _. IsCount plan.room.hands) }
+    ensures hands { IfOk result (λ _. IsCount plan.shift.hands) }
     ensures polled { IfOk result (λ _.
-        HasRisenBy plan.room.ticks (L.seen link.old).polls (L.seen link.new).polls) }
+        HasRisenBy plan.shift.ticks (L.seen link.old).polls (L.seen link.new).polls) }
     ensures shown { IfOk result (λ parts. (given : _) × HasGiven (L.seen link.old) (L.seen link.new) given
         × IsStrokesShared plan.conn old.now input.now given parts.0 parts.1) }
     ensures refused { IfErr result (λ e. IsReadingFault e
-        ⊎ NodeStops plan.conn plan.room.hands old.now input.now e) }
+        ⊎ NodeStops plan.conn plan.shift.hands old.now input.now e) }
 {
     let grower = ManyThreads::new(rt);
-    let start = gather_in_memory(&grower, alloc, input, old, plan.conn)?;
-    let Start {
-        gathered,
-        blanks,
-        spares,
-    } = start;
+    let (gathered, mut blanks) = gather_beside(&grower, alloc, IMAGES, input, old, plan.conn)?;
     let Gathered { mask, print, state } = gathered;
     let maxval = mask.maxval();
-    let core = core_of(&grower, alloc, mask, blanks, state, plan)?;
+    let core = core_of(&grower, alloc, mask, &mut blanks, state, plan)?;
     let sharing = Sharing {
         conn: plan.conn,
         print,
-        room: plan.room,
+        shift: plan.shift,
     };
-    let shared = share(rt, alloc, core, spares, sharing, link)?;
+    let shared = share(rt, alloc, core, blanks, sharing, link)?;
     let quiet = settled(alloc, shared)?;
     Ok(shown(quiet, maxval, print))
 }
@@ -88,11 +84,10 @@ fn core_of<G: Grower>(
     grower: &G,
     alloc: Global,
     mask: Image,
-    blanks: Option<Blanks>,
+    blanks: &mut Blanks,
     state: State,
     plan: Plan,
 ) -> Result<Core, Memory>
-    requires blank { AreBlanks blanks }
     requires side { IsTileSide plan.side }
     requires fits { StateFits mask.raster.width mask.raster.height state }
     ensures { IfOk result (IsBegunWith mask.raster plan.conn plan.side 0 state) }
@@ -130,7 +125,7 @@ fn settled(alloc: Global, core: Core) -> Result<Core, Memory>
     }
 }
 
-// The image of a core at which no work is left, with the mask's maxval, and its strokes for the mask of this fingerprint.
+// The image of a core at which no work is left, with the mask's maxval, and its strokes for the mask of this print.
 fn shown(core: Core, maxval: u16, print: Print) -> (Image, Strokes)
     requires quiet { IsQuiet core }
     requires graymap { IsGraymap (record { raster = core.mask; maxval = maxval }) }

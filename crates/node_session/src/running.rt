@@ -3,29 +3,29 @@
 ghost use Rattle.std.specs.Prelude.{◌≡◌, ◌⊎◌, IfOk, IfErr};
 ghost use Rattle.byte_devices.specs.Device.{HasRisenBy};
 ghost use Rattle.grid_core.specs.Tiles.{IsTileSide};
-ghost use Rattle.paint_session.specs.Answering.{AnswersForSide};
-ghost use Rattle.paint_session.specs.RunError.{IsReadingFault};
+ghost use Rattle.view_session.specs.Answering.{AnswersForSide};
+ghost use Rattle.run_faults.specs.RunError.{IsReadingFault};
 ghost use Rattle.studio.specs.Opening.{IsCount};
 ghost use Rattle.node_session.specs.Given.{HasGiven};
 ghost use Rattle.node_session.specs.Shared.{IsImageShared, IsNodeView, IsStrokesNode, NodeStops};
 
 use crate::painting::{Plan, paint};
-use crate::sharing::Room;
+use crate::sharing::Shift;
 use byte_devices::{Sink, Source};
 use core_rules::CoreError;
 use grid_core::{Conn, is_tile_side};
 use link_nodes::Link;
-use paint_session::joining::Strokes;
-use paint_session::run_error::RunError;
 use pgm_codec::{Image, one_fault, read_all, write_to};
+use run_faults::RunError;
 use spd_codec::write_frames;
 use std::alloc::Global;
 use std::sync::Wait;
 use std::thread::Threads;
 use std::time::Clock;
+use view_session::joining::Strokes;
 
 /// Reads an input to its end, and merges the strokes and tombstones that the old bytes of a state file spell and then
-/// the input's deltas, as [`view_kept`](paint_session::view::view_kept) does. A core begins with them, whose image is
+/// the input's deltas, as [`view_kept`](view_session::view::view_kept) does. A core begins with them, whose image is
 /// grown at once, by [`ManyThreads`](band_growth::ManyThreads); then they are shared in a studio for so many ticks. At
 /// each tick the keeper takes a turn and shows the core, and the node polls the link once, submits what it hears and
 /// sends a piece of what is shown. Between ticks it rests for a millisecond. At last it closes the studio, works until
@@ -36,7 +36,7 @@ use std::time::Clock;
 /// does a thread that cannot be started: without hands the work is done at the end.
 ///
 /// Errors, the first that is met: C5 where the side is less than 8 or more than 256, with source, sink and link as they
-/// were; those of [`view_kept`](paint_session::view::view_kept); U1 where there are not 1 to 16 hands; U2 and U3 where
+/// were; those of [`view_kept`](view_session::view::view_kept); U1 where there are not 1 to 16 hands; U2 and U3 where
 /// no studio could be opened; B1 to B3 where it could not be closed; plain want of memory behind all that is
 /// merged, and M8 for the new bytes. Nothing is written, unless the sink failed: then a front of the file.
 pub fn node_run<R: Threads + Wait + Clock + Sync, S: Source, L: Link, K: Sink>(
@@ -63,8 +63,8 @@ pub fn node_run<R: Threads + Wait + Clock + Sync, S: Source, L: Link, K: Sink>(
     }
     one_fault();
     let input = read_all(alloc, source)?;
-    let room = Room { hands, ticks };
-    let plan = Plan { conn, side, room };
+    let shift = Shift { hands, ticks };
+    let plan = Plan { conn, side, shift };
     let (image, new) = spelled(rt, alloc, &input, old, plan, link)?;
     write_to(alloc, &image, sink)?;
     Ok(new)
@@ -96,8 +96,8 @@ pub fn node_strokes<R: Threads + Wait + Clock + Sync, S: Source, L: Link, K: Sin
     }
     one_fault();
     let input = read_all(alloc, source)?;
-    let room = Room { hands, ticks };
-    let plan = Plan { conn, side, room };
+    let shift = Shift { hands, ticks };
+    let plan = Plan { conn, side, shift };
     let (image, strokes) = paint(rt, alloc, &input, old, plan, link)?;
     write_to(alloc, &image, sink)?;
     Ok(strokes)
@@ -113,13 +113,13 @@ fn spelled<R: Threads + Wait + Clock + Sync, L: Link>(
     link: &mut L,
 ) -> Result<(Image, Vec<u8>), RunError>
     requires { IsTileSide plan.side }
-    ensures hands { IfOk result (λ _. IsCount plan.room.hands) }
+    ensures hands { IfOk result (λ _. IsCount plan.shift.hands) }
     ensures polled { IfOk result (λ _.
-        HasRisenBy plan.room.ticks (L.seen link.old).polls (L.seen link.new).polls) }
+        HasRisenBy plan.shift.ticks (L.seen link.old).polls (L.seen link.new).polls) }
     ensures shown { IfOk result (λ parts. (given : _) × (state : _) × HasGiven (L.seen link.old) (L.seen link.new) given
         × IsImageShared plan.conn old.now input.now given state parts.0 parts.1.items) }
     ensures refused { IfErr result (λ e. IsReadingFault e
-        ⊎ NodeStops plan.conn plan.room.hands old.now input.now e) }
+        ⊎ NodeStops plan.conn plan.shift.hands old.now input.now e) }
 {
     let (image, strokes) = paint(rt, alloc, input, old, plan, link)?;
     let new = write_frames(alloc, strokes.conn, &strokes.print, &strokes.state)?;

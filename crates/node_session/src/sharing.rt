@@ -4,8 +4,8 @@ ghost use Rattle.std.specs.Prelude.{◌≡◌, IfOk, IfErr};
 ghost use Rattle.link_nodes.specs.Nodes.{pen_of, eye_of, conn_of, print_of};
 ghost use Rattle.studio.specs.Opening.{IsCount, IsOpened};
 ghost use Rattle.studio.specs.Keeping.{core_of};
-ghost use Rattle.paint_session.specs.RunError.{IsStudioFault};
-ghost use Rattle.paint_session.specs.declared.run_error.RunError.TheVariants as errors;
+ghost use Rattle.run_faults.specs.RunError.{IsStudioFault};
+ghost use Rattle.run_faults.specs.declared.run_error.RunError.TheVariants as errors;
 ghost use Rattle.node_session.specs.Shared.{StudioFails, opening_fault};
 ghost use Rattle.node_session.specs.Working.{IsShared, IsOneStudio, IsNewDesk, WorksOn};
 
@@ -13,12 +13,12 @@ use crate::desk::Desk;
 use crate::ending::close;
 use crate::faults::open_fault;
 use crate::hands::run_all;
+use core_dispatch::Pen;
 use grid_core::Conn;
 use link_nodes::{Link, Node};
-use paint_session::run_error::{RunError, StudioFault};
-use pen_desks::Pen;
+use raster_sweeps::Blanks;
 use reset_core::Core;
-use shot_chain::Eye;
+use run_faults::{RunError, StudioFault};
 use spd_codec::Print;
 use std::alloc::Global;
 use std::sync::Wait;
@@ -26,11 +26,11 @@ use std::sync::atomic::{AtomicBool, Ordering};
 use std::thread::{Threads, join_mut};
 use std::time::Clock;
 use steal_pool::Hand;
-use studio::{NotOpened, Studio};
+use studio::{Eye, NotOpened, Studio};
 
 /// Who works in the studio of a node, and for how long.
 #[derive(Clone, Copy)]
-pub(crate) struct Room {
+pub(crate) struct Shift {
     /// How many hands sweep, each in a thread of its own.
     pub(crate) hands: usize,
     /// How many ticks the node makes.
@@ -42,29 +42,29 @@ pub(crate) struct Room {
 pub(crate) struct Sharing {
     pub(crate) conn: Conn,
     pub(crate) print: Print,
-    pub(crate) room: Room,
+    pub(crate) shift: Shift,
 }
 
 /// Shares a core over the link, and gives it back once all hands have ended and the studio is closed. Work may be left.
-/// What is shown first is copied into the spare memory.
+/// What is shown first is copied into memory of the blanks.
 ///
 /// Errors: U1 to U3 and B1 to B3.
 pub(crate) fn share<R: Threads + Wait + Clock + Sync, L: Link>(
     rt: &R,
     alloc: Global,
     core: Core,
-    spares: Vec<Vec<u16>>,
+    blanks: Blanks,
     sharing: Sharing,
     link: &mut L,
 ) -> Result<Core, RunError>
-    ensures hands { IfOk result (λ _. IsCount sharing.room.hands) }
-    ensures shared { IfOk result (IsShared sharing.conn sharing.print sharing.room.ticks
+    ensures hands { IfOk result (λ _. IsCount sharing.shift.hands) }
+    ensures shared { IfOk result (IsShared sharing.conn sharing.print sharing.shift.ticks
         (L.seen link.old) (L.seen link.new) core) }
-    ensures refused { IfErr result (StudioFails sharing.room.hands) }
+    ensures refused { IfErr result (StudioFails sharing.shift.hands) }
 {
-    let room = sharing.room;
-    let hands = room.hands;
-    match Studio::open_over(rt, alloc, core, spares, 1, hands, 1) {
+    let shift = sharing.shift;
+    let hands = shift.hands;
+    match Studio::open_over(rt, alloc, core, blanks, 1, hands, 1) {
         Ok(studio) => share_in(rt, alloc, studio, sharing, link),
         Err(not_opened) => Err(refusal_of(not_opened)),
     }
@@ -87,13 +87,13 @@ fn share_in<R: Threads + Wait + Clock + Sync, L: Link>(
     sharing: Sharing,
     link: &mut L,
 ) -> Result<Core, RunError>
-    requires opened { (core : _) × IsOpened core 1 sharing.room.hands 1 studio }
-    ensures shared { IfOk result (IsShared sharing.conn sharing.print sharing.room.ticks
+    requires opened { (core : _) × IsOpened core 1 sharing.shift.hands 1 studio }
+    ensures shared { IfOk result (IsShared sharing.conn sharing.print sharing.shift.ticks
         (L.seen link.old) (L.seen link.new) (core_of studio.keeper)) }
     ensures refused { IfErr result IsStudioFault }
 {
-    let room = sharing.room;
-    let ticks = room.ticks;
+    let shift = sharing.shift;
+    let ticks = shift.ticks;
     let (desk, hands) = desk_of(rt, studio, sharing)?;
     let mut desk = desk;
     let mut hands = hands;
@@ -103,7 +103,7 @@ fn share_in<R: Threads + Wait + Clock + Sync, L: Link>(
 
 // The keeper and a node of a studio, and its hands. There is a pen and an eye, so that it never fails.
 fn desk_of<R: Wait>(rt: &R, studio: Studio, sharing: Sharing) -> Result<(Desk, Vec<Hand>), RunError>
-    requires { (core : _) × IsOpened core 1 sharing.room.hands 1 studio }
+    requires { (core : _) × IsOpened core 1 sharing.shift.hands 1 studio }
     ensures desk { IfOk result (λ parts.
         IsNewDesk (core_of studio.keeper) sharing.conn sharing.print parts.0) }
     ensures refused { IfErr result IsStudioFault }

@@ -2,8 +2,8 @@
 
 ghost use Rattle.std.specs.Prelude.{◌≡◌, option_map, IfErr, IsErrOf};
 ghost use Rattle.grid_core.specs.Tiles.{IsTileSide};
-ghost use Rattle.paint_session.specs.Serving.{AnswersOverStore};
-ghost use Rattle.paint_session.specs.declared.run_error.RunError.TheVariants as errors;
+ghost use Rattle.view_session.specs.Serving.{AnswersOverStore};
+ghost use Rattle.run_faults.specs.declared.run_error.RunError.TheVariants as errors;
 ghost use Rattle.node_session.specs.Network.{Binds, IsBound, TellsNetwork};
 ghost use Rattle.node_session.specs.Stored.{IsNodeFault, IsShownNode, IsStoredNode, LoadsFor, SavesFor};
 ghost use Rattle.node_session.specs.Stored.{StoredNodeStops};
@@ -12,13 +12,13 @@ use crate::network::Network;
 use crate::running::node_strokes;
 use byte_devices::{Fault, Sink, Source};
 use grid_core::Conn;
-use paint_session::joining::Strokes;
-use paint_session::run_error::RunError;
-use paint_session::store::{StatePath, StateStore};
+use run_faults::RunError;
 use std::alloc::Global;
 use std::sync::Wait;
 use std::thread::Threads;
 use std::time::Clock;
+use view_session::joining::Strokes;
+use view_session::store::{StatePath, StateStore};
 
 /// What a node is called to do.
 #[derive(Drop)]

@@ -1,18 +1,18 @@
 -- Each step of the deque keeps the rule.
-use Rattle.std.proofs.Common.{◌≡◌, ◌≢◌, ℕ, zero, suc, ◌+◌, ◌<◌, ◌≤◌, List, [], ◌∷◌, ◌++◌, length, drop, set}
-use Rattle.std.proofs.Common.{sym, refl, ap, ◌∙◌, subst, ⊎_elim, arith}
+use Rattle.std.proofs.Common.{◌≡◌, ◌≢◌, ℕ, zero, suc, ◌+◌, ◌<◌, ◌≤◌, List, [], ◌∷◌, ◌++◌, length, drop, set, sym, refl}
+use Rattle.std.proofs.Common.{ap, ◌∙◌, subst, ⊎_elim, arith, cond, eqb, eq-eqb, ne_eqb}
+use Rattle.std.proofs.lemmas.List.{length-append}
 use mathlib.Core.Option.{some, some-ne-none, some-injective}
 use mathlib.Core.Logic.{dite}
 use native.Mathlib.Decide.{ℕ_discrete}
 use lib.ListN.{get_elem?}
-use Rattle.std.proofs.lemmas.List.{length-append}
 use Rattle.crossbeam_deque.specs.Tasks.{Pushes, Takes, Admits}
 use Rattle.atomic_table.proofs.Lists.{at_set, at_snoc, at_longer, at_last, set_here, set_else}
 use Rattle.tile_generations.specs.Jobs.{Job}
-use Rattle.steal_pool.specs.declared.rule.View.{View}
+use Rattle.steal_pool.specs.declared.rule.EndView.{EndView}
 use Rattle.steal_pool.specs.Deal.{view_of, newcomer, Places, Holds, IsFound, IsDealt, Gets}
 
-below : {A : Type 0} (l : List A) (i : ℕ) (a : A) → get_elem? l i ≡ some a → i < length l
+pub below : {A : Type 0} (l : List A) (i : ℕ) (a : A) → get_elem? l i ≡ some a → i < length l
 below [] i a e = absurd (some-ne-none a (sym e))
 below (x ∷ xs) zero a e = omega arith
 below (x ∷ xs) (suc i) a e = let r = below xs i a e in omega arith
@@ -31,11 +31,11 @@ drop_head {A} (y ∷ ys) zero x rest e = (ap (λ (l : List A). get_elem? l 0) e,
 drop_head {A} (y ∷ ys) (suc n) x rest e = drop_head ys n x rest e
 
 -- what the one end got stands at the same places in what the other got
-abbrev Grows : View → View → Type 0
+abbrev Grows : EndView → EndView → Type 0
 Grows v w = (i : ℕ) (e : ℕ × Job) → get_elem? v.got i ≡ some e → get_elem? w.got i ≡ some e
 
 -- a place that was found is found after an end got more
-found_set : (views : List View) (port : ℕ) (v w : View) (places : Places) (k : ℕ) → get_elem? views port ≡ some v
+found_set : (views : List EndView) (port : ℕ) (v w : EndView) (places : Places) (k : ℕ) → get_elem? views port ≡ some v
     → Grows v w → IsFound views places k → IsFound (set views port w) places k
 found_set views port v w places k at grows f = dite (ℕ_discrete (places k).0 port)
     (λ same.
@@ -44,13 +44,13 @@ found_set views port v w places k at grows f = dite (ℕ_discrete (places k).0 p
       w,
       f.1,
       there ∙ set_here views port w (below views port v at),
-      grows (places k).1 (k, f.1) (ap (λ (u : View). get_elem? u.got (places k).1) (sym is) ∙ f.3),
+      grows (places k).1 (k, f.1) (ap (λ (u : EndView). get_elem? u.got (places k).1) (sym is) ∙ f.3),
     ))
     (λ other. (f.0, f.1, set_else views port (places k).0 w other ∙ f.2, f.3))
 
 -- a newcomer got nothing
-got_nothing : (v : View) (i k : ℕ) (x : Job) → newcomer ≡ v → get_elem? v.got i ≡ some (k, x) → ⊥
-got_nothing v i k x is at = some-ne-none (k, x) (sym (ap (λ (u : View). get_elem? u.got i) is ∙ at))
+got_nothing : (v : EndView) (i k : ℕ) (x : Job) → newcomer ≡ v → get_elem? v.got i ≡ some (k, x) → ⊥
+got_nothing v i k x is at = some-ne-none (k, x) (sym (ap (λ (u : EndView). get_elem? u.got i) is ∙ at))
 
 -- the rule holds of an empty deque and its owner
 pub begins : IsDealt [] (newcomer ∷ [])
@@ -82,15 +82,15 @@ admits items views h = record {
 }
 
 -- a push of the owner keeps the rule
-pub pushes : (port : ℕ) (v : View) (x : Job) → port ≡ 0
+pub pushes : (port : ℕ) (v : EndView) (x : Job) → port ≡ 0
     → Pushes IsDealt port v (x ∷ []) (λ w. w ≡ view_of (v.pushed ++ x ∷ []) v.got)
 pushes port v x first items views h at =
-    let w : View = view_of (v.pushed ++ x ∷ []) v.got in
+    let w : EndView = view_of (v.pushed ++ x ∷ []) v.got in
     let at_0 = ap (λ (j : ℕ). get_elem? views j) first in
     let mine : v ≡ h.owner.0 = some-injective v h.owner.0 (sym at ∙ (at_0 ∙ h.owner.1)) in
-    let same : v.pushed ≡ h.pushed = ap (λ (u : View). u.pushed) mine ∙ h.owner.2 in
+    let same : v.pushed ≡ h.pushed = ap (λ (u : EndView). u.pushed) mine ∙ h.owner.2 in
     let now : List Job = h.pushed ++ x ∷ [] in
-    let up : (u : View) (j : ℕ) → Holds h.pushed h.front h.places j u → Holds now h.front h.places j u =
+    let up : (u : EndView) (j : ℕ) → Holds h.pushed h.front h.places j u → Holds now h.front h.places j u =
     λ u j o i k y e. let r = o i k y e in (r.0, at_longer h.pushed (x ∷ []) k y r.1, r.2) in
     let here = set_here views port w (below views port v at) in (
       w,
@@ -118,20 +118,7 @@ pushes port v x first items views h at =
       refl,
     )
 
--- the one where it holds, else the other
-abbrev pick : {A : Type 0} {P : Type 0} → Dec P → A → A → A
-pick (yes p) a b = a
-pick (no n) a b = b
-
-pick_yes : {A P : Type 0} (d : Dec P) (a b : A) → P → pick d a b ≡ a
-pick_yes (yes p) a b q = refl
-pick_yes (no n) a b q = absurd (n q)
-
-pick_no : {A P : Type 0} (d : Dec P) (a b : A) → (P → ⊥) → pick d a b ≡ b
-pick_no (yes p) a b q = absurd (q p)
-pick_no (no n) a b q = refl
-
-not_last : {A : Type 0} (l : List A) (a b : A) (i : ℕ) → i ≢ length l → get_elem? (l ++ a ∷ []) i ≡ some b
+pub not_last : {A : Type 0} (l : List A) (a b : A) (i : ℕ) → i ≢ length l → get_elem? (l ++ a ∷ []) i ≡ some b
     → get_elem? l i ≡ some b
 not_last [] a b zero n e = absurd (n refl)
 not_last [] a b (suc i) n e = e
@@ -139,19 +126,19 @@ not_last (x ∷ xs) a b zero n e = e
 not_last (x ∷ xs) a b (suc i) n e = not_last xs a b i (λ same. n (ap suc same)) e
 
 -- the job x, at the front, goes to this port
-gets_one : (port : ℕ) (v : View) (x : Job) (items : List Job) (views : List View) (h : IsDealt (x ∷ items) views)
+gets_one : (port : ℕ) (v : EndView) (x : Job) (items : List Job) (views : List EndView) (h : IsDealt (x ∷ items) views)
     → get_elem? views port ≡ some v
     → IsDealt items (set views port (view_of v.pushed (v.got ++ (h.front, x) ∷ [])))
 gets_one port v x items views h at =
     let got : List (ℕ × Job) = v.got ++ (h.front, x) ∷ [] in
-    let w : View = view_of v.pushed got in
+    let w : EndView = view_of v.pushed got in
     let head = drop_head h.pushed h.front x items h.left in
     let spot : ℕ × ℕ = (port, length v.got) in
-    let places : Places = λ k. pick (ℕ_discrete k h.front) spot (h.places k) in
-    let here : places h.front ≡ spot = pick_yes (ℕ_discrete h.front h.front) spot (h.places h.front) refl in
+    let places : Places = λ k. cond (eqb k h.front) spot (h.places k) in
+    let here : places h.front ≡ spot = ap (λ b. cond b spot (h.places h.front)) (eq-eqb h.front h.front refl) in
     let kept : (k : ℕ) → k < h.front → places k ≡ h.places k =
-    λ k lt. pick_no (ℕ_discrete k h.front) spot (h.places k) (λ e. omega arith) in
-    let up : (u : View) (j : ℕ) → Holds h.pushed h.front h.places j u → Holds h.pushed (h.front + 1) places j u =
+    λ k lt. ap (λ b. cond b spot (h.places k)) (ne_eqb k h.front (λ e. omega arith)) in
+    let up : (u : EndView) (j : ℕ) → Holds h.pushed h.front h.places j u → Holds h.pushed (h.front + 1) places j u =
     λ u j o i k y e.
     let r = o i k y e in let lt : k < h.front = r.0 in (omega arith, r.1, kept k lt ∙ r.2) in
     let mine = set_here views port w (below views port v at) in
@@ -167,7 +154,7 @@ gets_one port v x items views h at =
           let is : h.owner.0 ≡ v = some-injective h.owner.0 v (sym h.owner.1 ∙ (at_0 ∙ at)) in (
             w,
             ap (λ (j : ℕ). get_elem? (set views port w) j) e ∙ mine,
-            ap (λ (u : View). u.pushed) (sym is) ∙ h.owner.2,
+            ap (λ (u : EndView). u.pushed) (sym is) ∙ h.owner.2,
           ))
           (λ n. (h.owner.0, set_else views port 0 w n ∙ h.owner.1, h.owner.2));
       held = λ j u e. ⊎_elim
@@ -202,13 +189,13 @@ gets_one port v x items views h at =
           let f = found_set views port v w h.places k at grows (h.found k old) in
           subst
           (λ (z : ℕ × ℕ).
-          (u : View) × (y : Job) × (get_elem? (set views port w) z.0 ≡ some u) × (get_elem? u.got z.1 ≡ some (k, y)))
+          (u : EndView) × (y : Job) × (get_elem? (set views port w) z.0 ≡ some u) × (get_elem? u.got z.1 ≡ some (k, y)))
           (sym (kept k old)) f);
       within = let b : h.front < length h.pushed = below h.pushed h.front x head.0 in omega arith;
     }
 
 -- a steal of one job keeps the rule
-pub gets : (port : ℕ) (v : View) → Takes IsDealt port v 1 (Gets v)
+pub gets : (port : ℕ) (v : EndView) → Takes IsDealt port v 1 (Gets v)
 gets port v [] items views some_one one h at = absurd (omega arith)
 gets port v (x ∷ []) items views some_one one h at =
     (view_of v.pushed (v.got ++ (h.front, x) ∷ []), gets_one port v x items views h at, (h.front, x, refl, refl))

@@ -1,33 +1,26 @@
 -- A job more with its report.
 use Rattle.std.proofs.Common.{◌≡◌, ℕ, List, [], ◌∷◌, ◌++◌, Option, None, option_to_list, sym, refl, ap, ◌∙◌, subst}
 use Rattle.std.proofs.lemmas.List.{append-nil}
-use Rattle.tile_generations.specs.declared.ticket.Ticket.{Ticket}
-use Rattle.tile_generations.specs.Jobs.{Job}
-use Rattle.steal_pool.specs.declared.report.Report.{Report}
-use Rattle.steal_pool.specs.declared.report.Report.TheVariants.{Done, Failed}
-use Rattle.steal_pool.specs.declared.report.Turn.{Turn}
-use Rattle.steal_pool.specs.declared.report.Turn.TheVariants as turn
+use Rattle.std.specs.List.{AllZip}
+use Rattle.tile_generations.specs.{declared.ticket.Ticket.Ticket, Jobs.Job}
+use Rattle.steal_pool.specs.{declared.report.Report.Report, declared.report.Report.TheVariants.Done}
+use Rattle.steal_pool.specs.{declared.report.Report.TheVariants.Failed, declared.report.Turn.Turn, Views.HandView}
+use Rattle.steal_pool.specs.{Views.reports, Working.IsOutcome, Working.HasWorked}
 use Rattle.steal_pool.specs.Reports.{IsReportOf, AreReported, WorksSomehow, IsTurn, AreTurns}
-use Rattle.steal_pool.specs.Views.{HandView, reports}
-use Rattle.steal_pool.specs.Working.{IsOutcome, HasWorked}
+use Rattle.steal_pool.specs.declared.report.Turn.TheVariants as turn
 
-zip_snoc : (got : List (ℕ × Job)) (reports : List Report) (g : ℕ × Job) (y : Report) → AreReported got reports
-    → IsReportOf g y → AreReported (got ++ g ∷ []) (reports ++ y ∷ [])
-zip_snoc [] [] g y h r = (r, tt)
-zip_snoc [] (z ∷ zs) g y h r = absurd h
-zip_snoc (x ∷ xs) [] g y h r = absurd h
-zip_snoc (x ∷ xs) (z ∷ zs) g y h r = (h.0, zip_snoc xs zs g y h.1 r)
+pub zip_push : {A B : Type 0} (R : A → B → Type 0) (xs : List A) (ys : List B) (x : A) (y : B) → AllZip R xs ys
+    → R x y → AllZip R (xs ++ x ∷ []) (ys ++ y ∷ [])
+zip_push R [] [] x y all one = (one, tt)
+zip_push R [] (b ∷ ys) x y all one = absurd all
+zip_push R (a ∷ xs) [] x y all one = absurd all
+zip_push R (a ∷ xs) (b ∷ ys) x y all one = (all.0, zip_push R xs ys x y all.1 one)
 
 reported : (k : ℕ) (job : Job) (answer : Turn) (report : Report) → IsOutcome job answer report
     → IsReportOf (k, job) report
 reported k job (turn.Worked ticket) (Done swept) o = o.1
 reported k job (turn.Failed ticket) (Failed same) o = o.1 ∙ o.0
-reported k job (turn.Worked ticket) (Failed same) o = absurd o
-reported k job (turn.Failed ticket) (Done swept) o = absurd o
-reported k job turn.Idle (Done swept) o = absurd o
-reported k job turn.Idle (Failed same) o = absurd o
-reported k job turn.RingFull (Done swept) o = absurd o
-reported k job turn.RingFull (Failed same) o = absurd o
+reported k job _ _ o = absurd o
 
 -- once nothing is held, what was sent or held is sent
 pub sent_once : (sent now : List Report) (held taken : Option Report) → taken ≡ held
@@ -42,7 +35,7 @@ pub one_more : (got : List (ℕ × Job)) (was now : List Report) (answer : Turn)
 one_more got was now answer got' reports h e w =
     subst (λ (l : List Report). AreReported got' l) (sym w.reports_are)
     (subst (λ (l : List (ℕ × Job)). AreReported l (now ++ w.report ∷ [])) (sym w.got_is)
-    (zip_snoc got now (w.place, w.job) w.report (subst (AreReported got) (sym e) h)
+    (zip_push IsReportOf got now (w.place, w.job) w.report (subst (AreReported got) (sym e) h)
     (reported w.place w.job answer w.report w.outcome)))
 
 turned_by : (old new : HandView) (k : ℕ) (job : Job) (answer : Turn) (report : Report) → IsOutcome job answer report
@@ -61,12 +54,7 @@ turned_by old new k job (turn.Failed ticket) (Failed same) o g s n = (
   },
   n,
 )
-turned_by old new k job (turn.Worked ticket) (Failed same) o g s n = absurd o
-turned_by old new k job (turn.Failed ticket) (Done swept) o g s n = absurd o
-turned_by old new k job turn.Idle (Done swept) o g s n = absurd o
-turned_by old new k job turn.Idle (Failed same) o g s n = absurd o
-turned_by old new k job turn.RingFull (Done swept) o g s n = absurd o
-turned_by old new k job turn.RingFull (Failed same) o g s n = absurd o
+turned_by old new k job _ _ o g s n = absurd o
 
 -- what a turn did that got a job and sent its report
 pub turned : (old new : HandView) (now : List Report) (answer : Turn) → now ≡ reports old

@@ -1,13 +1,11 @@
 -- What a hand reports of the jobs that it got, and what its turns do.
 use Rattle.std.specs.Prelude.{◌≡◌, ◌≤◌, ◌⊎◌, ℕ, List, [], ◌∷◌, ◌++◌, length, None, IsSome}
 use Rattle.std.specs.List.{AllZip}
-use Rattle.tile_generations.specs.declared.ticket.Ticket.{Ticket}
-use Rattle.tile_generations.specs.Jobs.{Job, Swept}
-use Rattle.steal_pool.specs.declared.report.Report.{Report}
+use Rattle.tile_generations.specs.{declared.ticket.Ticket.Ticket, Jobs.Job, Jobs.Swept}
+use Rattle.steal_pool.specs.{declared.report.Report.Report, declared.report.Turn.Turn}
 use Rattle.steal_pool.specs.declared.report.Report.TheVariants.{Done, Failed}
-use Rattle.steal_pool.specs.declared.report.Turn.{Turn}
-use Rattle.steal_pool.specs.declared.report.Turn.TheVariants as turn
 use Rattle.steal_pool.specs.Views.{HandView, reports, ring_room}
+use Rattle.steal_pool.specs.declared.report.Turn.TheVariants as turn
 
 -- the report of a job that was got at some place: Done, and swept was that very job with its ticket, connectivity, base
 -- and mask; or Failed, with the ticket of the job

@@ -1,11 +1,9 @@
 -- The words of a hand's own work.
 use Rattle.std.specs.Prelude.{◌≡◌, ◌≤◌, ◌+◌, ℕ, List, [], ◌∷◌, ◌++◌, length}
 use Rattle.tile_generations.specs.Jobs.{Job}
-use Rattle.steal_pool.specs.declared.report.Report.{Report}
+use Rattle.steal_pool.specs.{declared.report.Report.Report, declared.report.Turn.Turn, Views.ring_room}
 use Rattle.steal_pool.specs.declared.report.Report.TheVariants.{Done, Failed}
-use Rattle.steal_pool.specs.declared.report.Turn.{Turn}
 use Rattle.steal_pool.specs.declared.report.Turn.TheVariants as turn
-use Rattle.steal_pool.specs.Views.{ring_room}
 
 -- a ring of which so many places are known to be free, and to which these reports were sent, takes the first ones
 abbrev pub HasRoom : ℕ → List Report → Type 0

@@ -11,7 +11,7 @@ ghost use Rattle.steal_pool.specs.Views.{fresh, reports, ring_room};
 
 use crate::gate::Gate;
 use crate::report::{Report, Turn};
-use crate::rule::{Deal, Got, View};
+use crate::rule::{Deal, EndView, Got};
 use crossbeam_deque::{Pass, Stealer};
 use rtrb::{Producer, PushError};
 use std::alloc::Global;
@@ -24,15 +24,15 @@ use tile_generations::{Job, Ticket};
 /// The hand's end of the deque.
 #[derive(Drop)]
 pub(crate) struct Thief {
-    stealer: Stealer<Job, Global, View, Deal>,
-    pass: Pass<Job, View>,
+    stealer: Stealer<Job, Global, EndView, Deal>,
+    pass: Pass<Job, EndView>,
     ghost seated: { IsPassOf (stealer_deque stealer) pass },
 }
 
 impl Thief {
     /// An end of the deque that got nothing yet.
     #[tactic(auto, using(crate::proofs::Deals::admits))]
-    pub(crate) fn new(stealer: Stealer<Job, Global, View, Deal>) -> Thief
+    pub(crate) fn new(stealer: Stealer<Job, Global, EndView, Deal>) -> Thief
         ensures { (view result.pass).got ≡ [] }
     {
         let pass = stealer.pass();

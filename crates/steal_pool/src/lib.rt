@@ -34,6 +34,3 @@ pub use hand::Hand;
 pub use owner::Owner;
 pub use pool::Pool;
 pub use report::{Report, Turn};
-
-#[cfg(test)]
-mod tests;

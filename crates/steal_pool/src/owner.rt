@@ -4,7 +4,7 @@ ghost use Rattle.std.specs.Prelude.{◌≡◌, ◌≤◌, ◌<◌, [], ◌∷◌
 ghost use Rattle.std.specs.Prelude.{OnOk, OnErr, IfErr, IfSome, IfNone};
 
 use crate::report::Report;
-use crate::rule::{Deal, Pushed, View};
+use crate::rule::{Deal, EndView, Pushed};
 use crossbeam_deque::Worker;
 use rtrb::Consumer;
 use std::alloc::Global;
@@ -15,7 +15,7 @@ use tile_generations::Job;
 /// the reports that it collected of each hand.
 #[derive(Drop)]
 pub struct Owner {
-    pub(crate) deque: Worker<Job, Global, View, Deal>,
+    pub(crate) deque: Worker<Job, Global, EndView, Deal>,
     pub(crate) capacity: usize,
     pub(crate) rings: Vec<Consumer<Report>>,
 }

@@ -6,7 +6,7 @@ ghost use Rattle.steal_pool.specs.Views.{fresh};
 use crate::hand::{Hand, Thief};
 use crate::owner::Owner;
 use crate::report::Report;
-use crate::rule::{Deal, View};
+use crate::rule::{Deal, EndView};
 use crossbeam_deque::Worker;
 use grid_core::Memory;
 use rtrb::RingBuffer;
@@ -38,7 +38,7 @@ impl Pool {
         ensures collected { IfOk result (λ pool. pool.owner.collected ≡ replicate hands []) }
         ensures hands { IfOk result (λ pool. pool.hands.items ≡ replicate hands fresh) }
     {
-        let deque: Worker<Job, Global, View, Deal> = Worker::fifo_as(alloc, capacity)?;
+        let deque: Worker<Job, Global, EndView, Deal> = Worker::fifo_as(alloc, capacity)?;
         let mut rings = Vec::with_capacity(alloc, hands)?;
         let mut all = Vec::with_capacity(alloc, hands)?;
         for _hand in 0..hands {

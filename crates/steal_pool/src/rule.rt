@@ -8,7 +8,7 @@ use std::collections::LinkedList;
 use tile_generations::Job;
 
 /// What an end of the deque knows. No value of it is made.
-pub struct View {
+pub struct EndView {
     /// The jobs that it pushed.
     pub pushed: LinkedList<Job>,
     /// The jobs that it got, each with its place among the pushed.
@@ -18,7 +18,7 @@ pub struct View {
 /// Each pushed job goes to one end, in order.
 pub struct Deal;
 
-impl Protocol<Job, View> for Deal {
+impl Protocol<Job, EndView> for Deal {
     ghost holds = { IsDealt };
 
     ghost first = { newcomer };
@@ -29,13 +29,13 @@ impl Protocol<Job, View> for Deal {
 /// The owner pushed jobs.
 pub struct Pushed;
 
-impl Outcome<Job, View> for Pushed {
+impl Outcome<Job, EndView> for Pushed {
     ghost then = { λ v jobs w. w ≡ view_of (v.pushed ++ jobs) v.got };
 }
 
 /// An end got one job.
 pub struct Got;
 
-impl Outcome<Job, View> for Got {
+impl Outcome<Job, EndView> for Got {
     ghost then = { Gets };
 }

@@ -1,20 +1,17 @@
--- Whoever stands in a new studio is of its keeper.
-use Rattle.std.proofs.Common.{arith, ◌≡◌, ℕ, ◌<◌, List, [], length, get_or, sym, ap, ◌∙◌, subst}
-use Rattle.std.specs.Prelude.{All}
+-- Whoever stands in a new studio is of its keeper, and stays so.
+use Rattle.std.proofs.Common.{arith, ◌≡◌, ℕ, ◌<◌, List, [], length, get_or, refl, sym, ap, ◌∙◌, subst, All}
 use Rattle.std.proofs.lemmas.List.Elements.{All-weaker}
 use Rattle.std.proofs.lemmas.List.{get_or_default, length-map, length-replicate}
 use Rattle.atomic_table.proofs.Lists.{at_index}
 use mathlib.Core.Option.{some-injective}
 use Rattle.stroke_lattice.specs.State.{State}
 use Rattle.core_rules.specs.Work.{Core}
-use Rattle.pen_desks.specs.declared.pen.Pen.{Pen}
-use Rattle.pen_desks.specs.Books.{BooksView}
-use Rattle.pen_desks.specs.Pens.{submitted, IsOf, HasItsDesk}
-use Rattle.shot_chain.specs.declared.eye.Eye.{Eye}
-use Rattle.shot_chain.specs.Words.{eye_studio}
-use Rattle.studio.specs.declared.opening.Studio.{Studio}
-use Rattle.studio.specs.Keeping.{books_of, studio_of}
-use Rattle.studio.specs.Opening.{IsEyeOf, IsOpened}
+use Rattle.core_dispatch.specs.{declared.pen.Pen.Pen, Books.BooksView}
+use Rattle.core_dispatch.specs.Pens.{submitted, IsOf, AreOf, HasItsDesk}
+use Rattle.core_dispatch.proofs.{Rounds.pens_through, Taking.same_pens}
+use Rattle.studio.specs.{declared.shots.eye.Eye.Eye, Words.eye_studio, declared.keeper.Keeper.Keeper}
+use Rattle.studio.specs.{declared.opening.Studio.Studio, Company.IsCompany, Company.KeepsCompany, Keeping.books_of}
+use Rattle.studio.specs.{Keeping.studio_of, Opening.IsEyeOf, Opening.IsOpened}
 
 of_its_desk : (pens : List Pen) (books : BooksView) (k : ℕ) (d : Pen) → k < length pens
     → HasItsDesk pens books.desks k → IsOf (get_or pens k d) books
@@ -25,7 +22,7 @@ of_its_desk pens books k d within (pen, at, number, desk) =
 
 -- each pen is of its keeper's books
 pub pens_of_opened : (core : Core) (pens hands eyes : ℕ) (studio : Studio) → IsOpened core pens hands eyes studio
-    → All (λ pen. IsOf pen (books_of studio.keeper)) studio.pens.items
+    → AreOf studio.pens.items (books_of studio.keeper)
 pens_of_opened core pens hands eyes studio opened = λ k d within.
     of_its_desk studio.pens.items (books_of studio.keeper) k d within (opened.desks k (few k within))
   where
@@ -41,3 +38,20 @@ pub eyes_of_opened : (core : Core) (pens hands eyes : ℕ) (studio : Studio) →
 eyes_of_opened core pens hands eyes studio opened =
     All-weaker (λ (eye : Eye). IsEyeOf studio.keeper.publisher eye) (λ eye. eye_studio eye ≡ studio_of studio.keeper)
     (λ eye is. is.studio) studio.eyes.items opened.eyes_are.each
+
+-- whoever stands in a new studio is of its keeper
+pub company_of_opened : (core : Core) (pens hands eyes : ℕ) (studio : Studio) → IsOpened core pens hands eyes studio
+    → IsCompany studio.keeper studio.pens.items studio.eyes.items
+company_of_opened core pens hands eyes studio opened = record {
+  pens_are = pens_of_opened core pens hands eyes studio opened;
+  eyes_are = eyes_of_opened core pens hands eyes studio opened;
+}
+
+pub company_stays : (k : Keeper) → KeepsCompany k k
+company_stays k = record { pens = same_pens _ _ refl; studio = refl }
+
+pub company_through : (a b c : Keeper) → KeepsCompany a b → KeepsCompany b c → KeepsCompany a c
+company_through a b c first second = record {
+  pens = pens_through (books_of a) (books_of b) (books_of c) first.pens second.pens;
+  studio = second.studio ∙ first.studio;
+}

@@ -3,11 +3,8 @@ use Rattle.std.proofs.Common.{Bool, false, sym, ◌∙◌, subst}
 use Rattle.stroke_lattice.specs.State.{State, IsBelow}
 use Rattle.stroke_lattice.proofs.Joins.{below_itself, below_through}
 use Rattle.core_rules.specs.Work.{Core}
-use Rattle.core_dispatch.specs.Turns.{GrowsOn}
-use Rattle.shot_chain.specs.Shots.{Shot, IsSound}
-use Rattle.shot_chain.specs.Chains.{MayFollow}
-use Rattle.studio.specs.Following.{Follows}
-use Rattle.studio.specs.Keeping.{IsShotOf}
+use Rattle.core_dispatch.specs.Growing.{GrowsOn}
+use Rattle.studio.specs.{Shots.Shot, Shots.IsSound, Chains.MayFollow, Following.Follows, Keeping.IsShotOf}
 
 -- a core goes on from a shot of itself
 pub shot_follows : (core : Core) (shot : Shot) (has_state has_image : Bool) → IsShotOf core shot

@@ -3,3 +3,8 @@ pub mod Company
 pub mod Following
 pub mod Mirroring
 pub mod Showing
+pub mod Fronts
+pub mod Adding
+pub mod Telling
+pub mod Chains
+pub mod Keeping

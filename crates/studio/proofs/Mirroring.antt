@@ -1,32 +1,26 @@
 -- What the keeper's seat of a board knows after one planted pixel more.
-use Rattle.std.proofs.Common.{◌+◌, ◌++◌, ◌<◌, Bool, Contains, IsTrue, List, [], ap₂, arith, length, refl, subst}
-use Rattle.std.proofs.Common.{subst₂, sym, ℕ, ◌↔◌, ◌∙◌, ◌∷◌, ◌≡◌}
+use Rattle.std.proofs.Common.{◌+◌, ◌++◌, ◌<◌, Bool, Contains, IsTrue, List, [], ap₂, arith, length, refl, subst, subst₂}
+use Rattle.std.proofs.Common.{sym, ℕ, ◌↔◌, ◌∙◌, ◌∷◌, ◌≡◌}
 use Rattle.std.proofs.lemmas.List.Elements.{Contains-append_left, Contains-push}
 use Rattle.grid_core.proofs.Cells.{index_of-pixel_of, pixel_of, pixel_of-inside, same_place}
 use Rattle.grid_core.specs.Raster.{IsBelow, IsFilled, IsInside, Raster, index_of, value_at}
 use Rattle.grid_core.specs.declared.pixel.Pixel.{Pixel}
 use mathlib.Core.Logic.{dite}
-use native.Mathlib.Decide.{dec_le, ℕ_discrete}
+use native.Mathlib.Decide.{ℕ_discrete}
 use Rattle.core_rules.specs.Work.{Core}
 use Rattle.live_board.proofs.Places.{place_within}
-use Rattle.live_board.specs.Seats.{Adds, planted_fact}
-use Rattle.live_board.specs.Words.{IsOn, fact, mask_of, size_of}
-use Rattle.live_board.specs.declared.fact.Fact.{Fact}
-use Rattle.live_board.specs.declared.rule.Ground.{Ground}
-use Rattle.live_board.specs.declared.rule.View.{View}
+use Rattle.live_board.specs.{Seats.Adds, Seats.planted_fact, Words.IsOn, Words.fact, Words.mask_of, Words.size_of}
+use Rattle.live_board.specs.{declared.fact.Fact.Fact, declared.rule.Ground.Ground, declared.rule.SeatView.SeatView}
 use Rattle.marker_tiles.specs.Kept.{IsMarkerOf}
 use Rattle.studio.specs.Mirroring.{HasMirrored, HasPlanted, IsBrought}
 
 -- with the same generation and marker the same fact is planted
-same_plant : (p : Pixel) (u w : View) → w.generation ≡ u.generation → w.marker ≡ u.marker
+same_plant : (p : Pixel) (u w : SeatView) → w.generation ≡ u.generation → w.marker ≡ u.marker
     → planted_fact u p ≡ planted_fact w p
 same_plant p u w g m = ap₂ (λ (a : ℕ) (r : Raster). fact p a (value_at r p)) (sym g) (sym m)
 
-strictly : (a b : ℕ) → a < b + 1 → (a ≡ b → ⊥) → a < b
-strictly a b low ne = dite (dec_le (a + 1) b) (λ le. omega (arith, le)) (λ gt. absurd (ne (omega (arith, gt, low))))
-
 -- one pixel more was planted
-pub planted_more : (on : Ground) (k : ℕ) (p : Pixel) (v u w : View) → HasPlanted on k v u → IsOn on p
+pub planted_more : (on : Ground) (k : ℕ) (p : Pixel) (v u w : SeatView) → HasPlanted on k v u → IsOn on p
     → index_of (mask_of on).width p ≡ k → Adds on (planted_fact u p) u w → HasPlanted on (k + 1) v w
 planted_more on k p v u w done on_p place adds = record {
   generation = adds.generation ∙ done.generation;
@@ -36,7 +30,7 @@ planted_more on k p v u w done on_p place adds = record {
       (same_place (mask_of on).width (mask_of on).height p q on_p on_q (place ∙ sym e))
       (here p (Contains-push u.facts f)))
       (λ ne. here q (Contains-append_left u.facts (f ∷ []) (planted_fact u q)
-      (done.planted q on_q (strictly (index_of (mask_of on).width q) k low ne))));
+      (done.planted q on_q (omega (arith, low, ne)))));
 }
   where
     f : Fact
@@ -66,7 +60,7 @@ copy_is found core kept lent copy same marks as_kept as_lent =
     (subst (IsMarkerOf found.mask found.state) (sym (as_lent ∙ as_kept)) marks)
 
 -- a marker that was brought and planted at each pixel is mirrored
-pub is_mirrored : (on : Ground) (core : Core) (marker : Raster) (advanced : Bool) (old middle new : View)
+pub is_mirrored : (on : Ground) (core : Core) (marker : Raster) (advanced : Bool) (old middle new : SeatView)
     → IsBrought marker advanced old middle → HasPlanted on (size_of on) middle new
     → IsMarkerOf core.mask core.state marker → HasMirrored on core (record { advanced = advanced }) old new
 is_mirrored on core marker advanced old middle new brought done marks =

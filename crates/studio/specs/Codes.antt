@@ -1,8 +1,7 @@
 -- The codes by which refusals are told.
 use Rattle.std.specs.Prelude.{ℕ, List, codes}
-use Rattle.studio.specs.declared.mirrored.MirrorError.{MirrorError}
+use Rattle.studio.specs.{declared.mirrored.MirrorError.MirrorError, declared.refused.OpenError.OpenError}
 use Rattle.studio.specs.declared.mirrored.MirrorError.TheVariants as mirrors
-use Rattle.studio.specs.declared.refused.OpenError.{OpenError}
 use Rattle.studio.specs.declared.refused.OpenError.TheVariants as errors
 
 -- the code of a refusal, as text

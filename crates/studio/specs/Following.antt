@@ -2,7 +2,7 @@
 use Rattle.std.specs.Prelude.{◌≡◌, Bool, IsTrue}
 use Rattle.stroke_lattice.specs.State.{IsBelow}
 use Rattle.core_rules.specs.Work.{Core}
-use Rattle.shot_chain.specs.Shots.{Shot}
+use Rattle.studio.specs.Shots.{Shot}
 
 -- the core is on the shot's mask, its strokes are those of the shot and maybe more, and where it is said that strokes
 -- or image are those of the shot, they are

@@ -3,12 +3,9 @@ use Rattle.std.specs.Prelude.{◌≡◌, ◌↔◌, List, [], ◌∷◌, ◌++�
 use Rattle.logbook.specs.Pages.{Book}
 use Rattle.core_rules.specs.Work.{Core, IsQuiet}
 use Rattle.steal_pool.specs.Views.{OwnerView}
-use Rattle.pen_desks.specs.Books.{BooksView}
-use Rattle.core_dispatch.specs.declared.dispatcher.Dispatcher.{Dispatcher}
+use Rattle.core_dispatch.specs.{Books.BooksView, declared.dispatcher.Dispatcher.Dispatcher}
 use Rattle.core_dispatch.specs.Dispatching.{books_by, owner_by, core_by}
-use Rattle.shot_chain.specs.Shots.{Shot}
-use Rattle.shot_chain.specs.Words.{shown_by, publisher_studio}
-use Rattle.studio.specs.declared.keeper.Keeper.{Keeper}
+use Rattle.studio.specs.{Shots.Shot, Words.shown_by, Words.publisher_studio, declared.keeper.Keeper.Keeper}
 
 -- who takes turns for the keeper
 abbrev pub dispatcher_of : Keeper → Dispatcher

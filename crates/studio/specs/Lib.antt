@@ -1,21 +1,30 @@
 -- The definitions of this crate, and those from below that its clauses cite.
+pub use Rattle.grid_core.specs.Path
+pub use Rattle.grid_core.specs.Raster
+pub use Rattle.grid_core.specs.Reconstruction
 pub use Rattle.stroke_lattice.specs.State
+pub use Rattle.marker_tiles.specs.Marker
 pub use Rattle.core_rules.specs.Work
 pub use Rattle.core_rules.specs.Sweeps
 pub use Rattle.core_rules.specs.Events
 pub use Rattle.core_rules.specs.Runs
 pub use Rattle.steal_pool.specs.Views
-pub use Rattle.pen_desks.specs.Books
-pub use Rattle.pen_desks.specs.Pens
+pub use Rattle.core_dispatch.specs.Books
+pub use Rattle.core_dispatch.specs.Pens
 pub use Rattle.core_dispatch.specs.Dispatching
 pub use Rattle.core_dispatch.specs.Turns
 pub use Rattle.core_dispatch.specs.Closing as Ends
-pub use Rattle.shot_chain.specs.Shots
-pub use Rattle.shot_chain.specs.Chains
-pub use Rattle.shot_chain.specs.Words
 pub mod Codes
 pub mod Following
 pub mod Keeping
+pub mod Company
 pub mod Opening
 pub mod Closing
 pub mod Mirroring
+pub mod Shots
+pub mod Stored
+pub mod Chains
+pub mod History
+pub mod Publishing
+pub mod Words
+pub mod Laws

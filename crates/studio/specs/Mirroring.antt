@@ -1,14 +1,9 @@
 -- How a board follows a core.
 use Rattle.std.specs.Prelude.{◌+◌, ◌<◌, Bool, Contains, IsTrue, ℕ, ◌↔◌, ◌≡◌}
-use Rattle.grid_core.specs.Raster.{IsBelow, Raster, index_of}
-use Rattle.grid_core.specs.declared.pixel.Pixel.{Pixel}
+use Rattle.grid_core.specs.{Raster.IsBelow, Raster.Raster, Raster.index_of, declared.pixel.Pixel.Pixel}
 use Rattle.core_rules.specs.Work.{Core}
-use Rattle.live_board.specs.Closing.{AreAllPlanted}
-use Rattle.live_board.specs.Rounds.{one_if}
-use Rattle.live_board.specs.Seats.{planted_fact}
-use Rattle.live_board.specs.Words.{IsOn, mask_of, max_generation}
-use Rattle.live_board.specs.declared.rule.Ground.{Ground}
-use Rattle.live_board.specs.declared.rule.View.{View}
+use Rattle.live_board.specs.{Closing.AreAllPlanted, Rounds.one_if, Seats.planted_fact, Words.IsOn, Words.mask_of}
+use Rattle.live_board.specs.{Words.max_generation, declared.rule.Ground.Ground, declared.rule.SeatView.SeatView}
 use Rattle.marker_tiles.specs.Kept.{IsMarkerOf}
 use Rattle.studio.specs.declared.mirrored.Mirrored.{Mirrored}
 
@@ -17,27 +12,27 @@ abbrev pub IsBoardOf : Ground → Core → Type 0
 IsBoardOf on core = (mask_of on ≡ core.mask) × (on.conn ≡ core.conn)
 
 -- the marker was brought, in the next generation just where the one before is not below it. That generation is there
-pub record IsBrought (marker : Raster) (advanced : Bool) (old new : View) : Type 0 where
+pub record IsBrought (marker : Raster) (advanced : Bool) (old new : SeatView) : Type 0 where
   pub marker_is : new.marker ≡ marker
   pub advanced_is : IsTrue advanced ↔ (IsBelow old.marker marker → ⊥)
   pub generation : new.generation ≡ old.generation + one_if advanced
   pub room : IsTrue advanced → old.generation < max_generation
 
 -- nothing but facts came to the keeper's view, and it has planted the first pixels in raster order, so many of them
-pub record HasPlanted (on : Ground) (count : ℕ) (old new : View) : Type 0 where
+pub record HasPlanted (on : Ground) (count : ℕ) (old new : SeatView) : Type 0 where
   pub generation : new.generation ≡ old.generation
   pub marker : new.marker ≡ old.marker
   pub planted :
       (p : Pixel) → IsOn on p → index_of (mask_of on).width p < count → Contains new.facts (planted_fact new p)
 
 -- the seat's marker is that of the core's strokes, and each pixel was planted
-pub record HasMirrored (on : Ground) (core : Core) (mirrored : Mirrored) (old new : View) : Type 0 where
+pub record HasMirrored (on : Ground) (core : Core) (mirrored : Mirrored) (old new : SeatView) : Type 0 where
   pub brought : IsBrought new.marker mirrored.advanced old new
   pub marks : IsMarkerOf core.mask core.state new.marker
   pub planted : AreAllPlanted on new
 
 -- there is no next generation, and the marker of the core's strokes needs one
-pub record IsSpent (core : Core) (old : View) : Type 0 where
+pub record IsSpent (core : Core) (old : SeatView) : Type 0 where
   pub last : old.generation ≡ max_generation
   pub marker : Raster
   pub marks : IsMarkerOf core.mask core.state marker

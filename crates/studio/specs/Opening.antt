@@ -1,18 +1,12 @@
 -- What a studio is when it is opened.
-use Rattle.std.specs.Prelude.{◌≡◌, ℕ, ◌<◌, ◌≤◌, List, [], ◌∷◌, length, map, replicate, All}
+use Rattle.std.specs.Prelude.{◌≡◌, ℕ, ◌<◌, ◌≤◌, List, [], ◌∷◌, ◌++◌, length, map, replicate, All}
 use Rattle.core_rules.specs.Work.{Core}
 use Rattle.steal_pool.specs.Views.{OwnerView, fresh}
-use Rattle.pen_desks.specs.Books.{BooksView, ledger}
-use Rattle.pen_desks.specs.Pens.{submitted, HasItsDesk}
-use Rattle.core_dispatch.specs.declared.dispatcher.Dispatcher.{Dispatcher}
-use Rattle.core_dispatch.specs.Dispatching.{core_by}
-use Rattle.shot_chain.specs.declared.eye.Eye.{Eye}
-use Rattle.shot_chain.specs.Shots.{Shot}
-use Rattle.shot_chain.specs.declared.publisher.Publisher.{Publisher}
-use Rattle.shot_chain.specs.Words.{shown_by, last_by, publisher_studio, seen_by, learnt_by, eye_studio}
-use Rattle.studio.specs.declared.keeper.Keeper.{Keeper}
-use Rattle.studio.specs.declared.opening.Over.{Over}
-use Rattle.studio.specs.declared.opening.Studio.{Studio}
+use Rattle.core_dispatch.specs.{Books.BooksView, Books.ledger, Pens.submitted, Pens.HasItsDesk}
+use Rattle.core_dispatch.specs.{declared.dispatcher.Dispatcher.Dispatcher, Dispatching.core_by}
+use Rattle.studio.specs.{declared.shots.eye.Eye.Eye, Shots.Shot, declared.shots.publisher.Publisher.Publisher}
+use Rattle.studio.specs.{declared.keeper.Keeper.Keeper, declared.opening.Over.Over, declared.opening.Studio.Studio}
+use Rattle.studio.specs.Words.{shown_by, last_by, publisher_studio, seen_by, learnt_by, eye_studio}
 use Rattle.studio.specs.Keeping.{core_of, books_of, owner_of, chain_of, IsShotOf}
 
 -- a studio may have so many pens, hands or eyes
@@ -42,6 +36,10 @@ pub record IsEyeOf (publisher : Publisher) (eye : Eye) : Type 0 where
 pub record AreEyesOf (publisher : Publisher) (count : ℕ) (eyes : List Eye) : Type 0 where
   pub count_is : length eyes ≡ count
   pub each : All (λ eye. IsEyeOf publisher eye) eyes
+
+-- one eye of the publisher is behind the others
+abbrev pub HasOneMore : Publisher → List Eye → List Eye → Type 0
+HasOneMore publisher old new = (eye : Eye) × IsEyeOf publisher eye × (new ≡ old ++ eye ∷ [])
 
 -- nothing was shown, and the studio is the same
 pub record ShowsTheSame (old new : Publisher) : Type 0 where

@@ -1,8 +1,7 @@
 //! What is left of a studio.
 
 use crate::keeper::Keeper;
-use core_dispatch::CloseError;
-use pen_desks::{PenEnd, Refusal};
+use core_dispatch::{CloseError, PenEnd, Refusal};
 use reset_core::Core;
 
 /// What a closed studio leaves.

@@ -84,14 +84,6 @@ pub(crate) fn shared_copy(
     Ok(Arc::new(alloc, copy)?)
 }
 
-/// A grid of an image's size in this memory, where that has as many cells. What it shows does not matter.
-pub(crate) fn grid_in(cells: Vec<u16>, image: &Grid) -> Option<Grid> {
-    if cells.len() != image.cells().len() {
-        return None;
-    }
-    Some(Grid::from_cells(image.width(), image.height(), cells))
-}
-
 // A copy of an image, in a spare one where that has its size.
 //
 // Errors: out of memory.

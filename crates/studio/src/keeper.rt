@@ -7,16 +7,15 @@ ghost use Rattle.std.proofs.Props.{props};
 ghost use Rattle.grid_core.specs.Stored.{raster_code, conn_code};
 ghost use Rattle.stroke_core.specs.contracts.stroke.Stroke as stroke;
 ghost use Rattle.stroke_lattice.specs.Stored.{state_code};
-ghost use Rattle.shot_chain.specs.Words.{last_by};
+ghost use Rattle.studio.specs.Words.{last_by};
 ghost use Rattle.core_dispatch.specs.Dispatching.{core_by};
 ghost use Rattle.studio.specs.Following.{Follows};
 
 use crate::images::Images;
-use core_dispatch::Dispatcher;
+use crate::shots::Publisher;
+use core_dispatch::{Dispatcher, Refusal};
 use grid_core::Grid;
-use pen_desks::Refusal;
 use reset_core::Core;
-use shot_chain::Publisher;
 use std::alloc::Global;
 use std::sync::Arc;
 use tile_generations::Ticket;
@@ -55,7 +54,7 @@ impl Keeper {
     ghost use Rattle.std.specs.Prelude.{◌≡◌, length};
     ghost use Rattle.core_rules.specs.Sweeps.{IsAbandoned};
     ghost use Rattle.core_rules.specs.Runs.{IsRun, NoneOut, abandoned, tickets_out};
-    ghost use Rattle.pen_desks.specs.Books.{IsFaithful, KeepsRest, ledger};
+    ghost use Rattle.core_dispatch.specs.Books.{IsFaithful, KeepsRest, ledger};
     ghost use Rattle.studio.specs.Keeping.{core_of, books_of, owner_of, IsUntouched};
 
     /// The core.
@@ -63,14 +62,14 @@ impl Keeper {
         ensures value { result.now ≡ core_of self.now }
         ensures faithful { IsFaithful (ledger (books_of self.now)) }
     {
-        self.dispatcher.core()
+        self.dispatcher.books.core()
     }
 
     /// The edits that were taken and not merged, in the order in which they were taken.
     pub fn refusals(&self) -> &[Refusal]
         ensures { result.now ≡ (books_of self.now).refusals }
     {
-        self.dispatcher.refusals()
+        self.dispatcher.books.refusals()
     }
 
     /// Abandons a job that is out: the tile is then not out, and dirty. It says whether the job was out. It takes no
@@ -81,7 +80,7 @@ impl Keeper {
         ensures owner { owner_of self.new ≡ owner_of self.old }
         ensures untouched { IsUntouched self.old self.new }
     {
-        self.dispatcher.abandon(ticket)
+        self.dispatcher.books.abandon(ticket)
     }
 
     /// Abandons each job that is out, tile by tile, and says how many there were. It takes no memory, and waits for
@@ -94,6 +93,6 @@ impl Keeper {
         ensures owner { owner_of self.new ≡ owner_of self.old }
         ensures untouched { IsUntouched self.old self.new }
     {
-        self.dispatcher.recall()
+        self.dispatcher.books.recall()
     }
 }

@@ -23,8 +23,9 @@
 //! [`Keeper::turn`], [`Keeper::recall`] and [`Keeper::abandon`] wait for nobody, and neither do pens, hands and eyes.
 //! [`Studio::open`], [`Keeper::show`], [`Keeper::close`] and [`Keeper::end`] may wait for glimpses that are held.
 //!
-//! Read on in `specs/Keeping.antt`, which says what a keeper is and shows, and in `specs/Opening.antt` and
-//! `specs/Closing.antt`.
+//! Shots, the publisher that shows them and the eyes that look at them stand in `shots`, and can be had without a core.
+//! Read on in `specs/Keeping.antt`, which says what a keeper is and shows, in `specs/Opening.antt` and
+//! `specs/Closing.antt`, and in `specs/Shots.antt` and `specs/Chains.antt`, which say what a shot and a chain are.
 
 mod closed;
 mod images;
@@ -32,9 +33,11 @@ mod keeper;
 mod mirrored;
 mod opening;
 mod refused;
+mod shots;
 
 pub use closed::{Closed, NotClosed};
 pub use keeper::Keeper;
 pub use mirrored::{MirrorError, Mirrored};
 pub use opening::Studio;
 pub use refused::{NotOpened, OpenError};
+pub use shots::{Eye, Glimpse, NoPlace, Publisher, Shot, Told, laws};

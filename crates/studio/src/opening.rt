@@ -6,10 +6,10 @@ ghost use Rattle.studio.specs.Opening.{AreCounts, IsOpened, IsOver};
 
 use crate::keeper::Keeper;
 use crate::refused::{NotOpened, OpenError};
-use core_dispatch::Dispatcher;
-use pen_desks::{Books, Opened, Pen};
+use crate::shots::Eye;
+use core_dispatch::{Books, Dispatcher, OpenedBooks, Pen};
+use raster_sweeps::Blanks;
 use reset_core::Core;
-use shot_chain::Eye;
 use std::alloc::Global;
 use std::sync::Wait;
 use steal_pool::{Hand, Pool};
@@ -50,18 +50,18 @@ impl Studio {
         ensures opened { IfOk result (IsOpened core pens hands eyes) }
         ensures returned { IfErr result (λ e. e.core ≡ core) }
     {
-        Studio::open_over(rt, alloc, core, Vec::new(alloc), pens, hands, eyes)
+        Studio::open_over(rt, alloc, core, Blanks::none(alloc), pens, hands, eyes)
     }
 
-    /// As [`open`](Studio::open). All shots share a copy of the mask, and the first has one of the image: they take the
-    /// memory of the last two of `spares`, where these have as many cells as the mask.
+    /// As [`open`](Studio::open). All shots share a copy of the mask, and the first has one of the image: they take
+    /// memory of the blanks, where these have it for images of their size.
     ///
     /// Errors: as [`open`](Studio::open).
     pub fn open_over<R: Wait>(
         rt: &R,
         alloc: Global,
         core: Core,
-        spares: Vec<Vec<u16>>,
+        blanks: Blanks,
         pens: usize,
         hands: usize,
         eyes: usize,
@@ -86,8 +86,8 @@ impl Studio {
                 });
             }
         };
-        let Opened { books, pens } = opened;
-        match over_books(rt, alloc, books, spares, hands, eyes) {
+        let OpenedBooks { books, pens } = opened;
+        match over_books(rt, alloc, books, blanks, hands, eyes) {
             Ok(over) => Ok(over.with_pens(pens)),
             Err((books, why)) => Err(NotOpened {
                 core: books.into_parts().0,
@@ -142,7 +142,7 @@ fn over_books<R: Wait>(
     rt: &R,
     alloc: Global,
     books: Books,
-    spares: Vec<Vec<u16>>,
+    blanks: Blanks,
     hands: usize,
     eyes: usize,
 ) -> Result<Over, (Books, OpenError)>
@@ -157,9 +157,9 @@ fn over_books<R: Wait>(
     };
     let Pool { owner, hands } = pool;
     let dispatcher = Dispatcher::new(alloc, books, owner);
-    let mut keeper = match Keeper::open(rt, alloc, dispatcher, spares, eyes) {
+    let mut keeper = match Keeper::open(rt, alloc, dispatcher, blanks, eyes) {
         Ok(keeper) => keeper,
-        Err(dispatcher) => return Err((dispatcher.into_books(), OpenError::Memory)),
+        Err(dispatcher) => return Err((dispatcher.books, OpenError::Memory)),
     };
     match keeper.eyes(eyes) {
         Ok(eyes) => Ok(Over {

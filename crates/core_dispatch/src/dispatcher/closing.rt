@@ -1,17 +1,15 @@
 //! What is taken at the end.
 
-ghost use Rattle.std.specs.Prelude.{◌≡◌, ◌↔◌, ◌<◌, ℕ, length, IsTrue, IfErr, OnOk, MatchOption};
-ghost use Rattle.std.specs.Prelude.{OnErr};
-ghost use Rattle.pen_desks.specs.declared.rest.RestError.TheVariants as rest;
+ghost use Rattle.std.specs.Prelude.{◌≡◌, ◌≢◌, ◌↔◌, ◌<◌, ℕ, length, IsTrue, IfErr, OnOk, MatchOption};
 ghost use Rattle.core_dispatch.specs.declared.error.CloseError.TheVariants as errors;
 ghost use Rattle.core_dispatch.specs.Dispatching.{books_by};
-ghost use Rattle.core_dispatch.specs.Closing.{AreEndsOf, AreKept, HasEndOf, HaveEach, IsOneOfEach, IsOneOf, IsPlaceOf};
+ghost use Rattle.core_dispatch.specs.Closing.{AreEndsOf, AreKept, HasEndOf, HaveEach, IsOneOf, IsPlaceOf};
 ghost use Rattle.core_dispatch.specs.Closing.{AreAllTaken, IsAllTaken, HasSpentCount, HasGoneOn};
-ghost use Rattle.core_dispatch.specs.Closing.{HasTakenEdits, HasTakenReports, HasTakenRest};
+ghost use Rattle.core_dispatch.specs.Closing.{HasTakenEdits, HasTakenReports, HasTakenAll, HasNotTakenAll};
 
 use super::Dispatcher;
 use crate::error::CloseError;
-use pen_desks::{PenEnd, RestError};
+use crate::pen::PenEnd;
 
 /// How many reports of a hand wait at most.
 const REPORTS: usize = 64;
@@ -24,54 +22,48 @@ impl Dispatcher {
     /// then stays taken or listed.
     pub fn take_rest(&mut self, ends: &mut Vec<PenEnd>) -> Result<(), CloseError>
         requires { AreEndsOf ends.old.items (books_by self.old) }
-        ensures each { OnOk result (IsOneOfEach ends.old.items (books_by self.old)) }
-        ensures whole { OnOk result (AreAllTaken (books_by self.new) ends.old.items) }
-        ensures missing { IfErr result (λ why.
-            (why ≡ errors.EndMissing) ↔ (IsOneOfEach ends.old.items (books_by self.old) → ⊥)) }
-        ensures nothing { IfErr result (λ why. why ≡ errors.EndMissing → self.new ≡ self.old) }
-        ensures spent { IfErr result (λ why. why ≡ errors.CountSpent → HasSpentCount ends.old.items) }
+        ensures all { OnOk result (HasTakenAll self.old ends.old.items self.new) }
+        ensures not_all { IfErr result (HasNotTakenAll self.old ends.old.items self.new) }
         ensures ends { AreKept ends.old.items ends.new.items (books_by self.new) }
-        ensures goes_on { HasGoneOn self.old self.new }
-        ensures rest { OnOk result (HasTakenRest self.old self.new) }
-        ensures stays { OnErr result (HasTakenEdits self.old self.new) }
     {
-        if !has_one_of_each(self.pens(), ends) {
+        if !has_one_of_each(self.books.pens(), ends) {
             return Err(CloseError::EndMissing);
         }
-        match self.take_edits_left(ends) {
-            Ok(()) => {
-                self.take_reports_left();
-                Ok(())
-            }
-            Err(RestError::Memory) => Err(CloseError::Memory),
-            Err(RestError::CountSpent) => Err(CloseError::CountSpent),
-        }
+        self.take_edits_left(ends)?;
+        self.take_reports_left();
+        Ok(())
     }
 
     // Takes what is left of each pen, pen by pen.
-    fn take_edits_left(&mut self, ends: &mut Vec<PenEnd>) -> Result<(), RestError>
+    //
+    // Errors: B2 and B3.
+    fn take_edits_left(&mut self, ends: &mut Vec<PenEnd>) -> Result<(), CloseError>
         requires ends { AreEndsOf ends.old.items (books_by self.old) }
         requires each { HaveEach (length (books_by self.old).desks) ends.old.items }
         ensures whole { OnOk result (AreAllTaken (books_by self.new) ends.old.items) }
-        ensures spent { IfErr result (λ why. why ≡ rest.CountSpent → HasSpentCount ends.old.items) }
+        ensures spent { IfErr result (λ why. why ≡ errors.CountSpent → HasSpentCount ends.old.items) }
+        ensures why { IfErr result (λ why. why ≢ errors.EndMissing) }
         ensures ends { AreKept ends.old.items ends.new.items (books_by self.new) }
         ensures goes_on { HasGoneOn self.old self.new }
         ensures taken { HasTakenEdits self.old self.new }
     {
-        for number in 0..self.pens() {
+        for number in 0..self.books.pens() {
             self.take_edits_of(ends, number)?;
         }
         Ok(())
     }
 
     // Takes what is left of the pen of this number, whose end is there.
-    fn take_edits_of(&mut self, ends: &mut Vec<PenEnd>, number: usize) -> Result<(), RestError>
+    //
+    // Errors: B2 and B3.
+    fn take_edits_of(&mut self, ends: &mut Vec<PenEnd>, number: usize) -> Result<(), CloseError>
         requires ends { AreEndsOf ends.old.items (books_by self.old) }
         requires found { HasEndOf ends.old.items number }
         ensures whole { OnOk result (IsAllTaken (books_by self.new) ends.old.items number) }
         ensures others { (n : ℕ) → n < number → IsAllTaken (books_by self.old) ends.old.items n
             → IsAllTaken (books_by self.new) ends.old.items n }
-        ensures spent { IfErr result (λ why. why ≡ rest.CountSpent → HasSpentCount ends.old.items) }
+        ensures spent { IfErr result (λ why. why ≡ errors.CountSpent → HasSpentCount ends.old.items) }
+        ensures why { IfErr result (λ why. why ≢ errors.EndMissing) }
         ensures ends { AreKept ends.old.items ends.new.items (books_by self.new) }
         ensures goes_on { HasGoneOn self.old self.new }
         ensures taken { HasTakenEdits self.old self.new }

@@ -3,9 +3,9 @@
 ghost use Rattle.core_dispatch.specs.Reports.{HaveCollected, IsCollected, IsGivenOver, IsJudged};
 
 use super::Dispatcher;
+use crate::books::Books;
 use crate::turned::Results;
 use core_rules::Back;
-use pen_desks::Books;
 use std::alloc::Global;
 use steal_pool::Report;
 use tile_generations::Swept;

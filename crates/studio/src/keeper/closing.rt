@@ -1,16 +1,13 @@
 //! The end of a studio.
 
-ghost use Rattle.std.specs.Prelude.{◌≡◌, ◌↔◌, IfOk, IfErr, OnOk, OnErr};
-ghost use Rattle.core_dispatch.specs.declared.error.CloseError.TheVariants as errors;
-ghost use Rattle.core_dispatch.specs.Closing.{AreEndsOf, AreKept, IsOneOfEach, AreAllTaken, HasSpentCount, HasGoneOn};
-ghost use Rattle.core_dispatch.specs.Closing.{HasTakenEdits, HasTakenRest};
+ghost use Rattle.std.specs.Prelude.{◌≡◌, IfOk, IfErr, OnOk};
+ghost use Rattle.core_dispatch.specs.Closing.{AreEndsOf, AreKept, HasTakenAll, HasNotTakenAll};
 ghost use Rattle.studio.specs.Keeping.{dispatcher_of, core_of, books_of, IsUntouched};
 ghost use Rattle.studio.specs.Closing.{IsClosed, IsNotClosed};
 
 use super::Keeper;
 use crate::closed::{Closed, NotClosed};
-use core_dispatch::CloseError;
-use pen_desks::{Books, PenEnd};
+use core_dispatch::{Books, CloseError, PenEnd};
 use reset_core::Core;
 use std::sync::Wait;
 
@@ -53,17 +50,10 @@ impl Keeper {
     // Errors: B1 to B3.
     fn take_rest(&mut self, ends: &mut Vec<PenEnd>) -> Result<(), CloseError>
         requires { AreEndsOf ends.old.items (books_of self.old) }
-        ensures each { OnOk result (IsOneOfEach ends.old.items (books_of self.old)) }
-        ensures whole { OnOk result (AreAllTaken (books_of self.new) ends.old.items) }
-        ensures missing { IfErr result (λ why.
-            (why ≡ errors.EndMissing) ↔ (IsOneOfEach ends.old.items (books_of self.old) → ⊥)) }
-        ensures nothing { IfErr result (λ why. why ≡ errors.EndMissing
-            → dispatcher_of self.new ≡ dispatcher_of self.old) }
-        ensures spent { IfErr result (λ why. why ≡ errors.CountSpent → HasSpentCount ends.old.items) }
+        ensures all { OnOk result (HasTakenAll (dispatcher_of self.old) ends.old.items (dispatcher_of self.new)) }
+        ensures not_all { IfErr result
+            (HasNotTakenAll (dispatcher_of self.old) ends.old.items (dispatcher_of self.new)) }
         ensures ends { AreKept ends.old.items ends.new.items (books_of self.new) }
-        ensures goes_on { HasGoneOn (dispatcher_of self.old) (dispatcher_of self.new) }
-        ensures rest { OnOk result (HasTakenRest (dispatcher_of self.old) (dispatcher_of self.new)) }
-        ensures stays { OnErr result (HasTakenEdits (dispatcher_of self.old) (dispatcher_of self.new)) }
         ensures untouched { IsUntouched self.old self.new }
     {
         let taken = self.dispatcher.take_rest(ends);
@@ -86,6 +76,6 @@ impl Keeper {
             has_image: _,
         } = self;
         let _last = publisher.close(rt);
-        dispatcher.into_books()
+        dispatcher.books
     }
 }

@@ -1,48 +1,55 @@
 //! Shots of the core, and who looks at them.
 
-ghost use Rattle.std.specs.Prelude.{◌≡◌, ◌≤◌, true, IfOk, IfErr, MatchResult};
+ghost use Rattle.std.specs.Prelude.{◌≡◌, ◌≤◌, true, IfOk, IfErr, OnOk, MatchResult};
 ghost use Rattle.std.specs.Arc.{arc_value};
-ghost use Rattle.shot_chain.specs.Shots.{IsSound};
-ghost use Rattle.shot_chain.specs.Words.{told_by, told_studio};
+ghost use Rattle.studio.specs.Shots.{IsSound};
+ghost use Rattle.studio.specs.Words.{told_by, told_studio};
 ghost use Rattle.studio.specs.Keeping.{core_of, books_of, owner_of, chain_of, studio_of, IsShotOf, ShowsOneMore};
 ghost use Rattle.studio.specs.declared.refused.OpenError.TheVariants as errors;
-ghost use Rattle.studio.specs.Opening.{IsFirst, AreEyesOf, ShowsTheSame};
+ghost use Rattle.studio.specs.Opening.{IsFirst, AreEyesOf, HasOneMore, ShowsTheSame};
 
 use super::Keeper;
-use crate::images::{Images, grid_in, shared_copy};
+use crate::images::{Images, shared_copy};
 use crate::refused::OpenError;
+use crate::shots::{Eye, Publisher, Shot, Told};
 use core_dispatch::Dispatcher;
 use grid_core::{Grid, Memory};
+use raster_sweeps::Blanks;
 use reset_core::Core;
-use shot_chain::{Eye, Publisher, Shot, Told};
 use std::alloc::Global;
 use std::sync::{Arc, Wait};
 use stroke_lattice::State;
 
 impl Keeper {
-    /// A keeper that shows the core as it is, with places for so many eyes. Mask and image are copied into spare
-    /// memory, where there is some of their size.
+    /// A keeper that shows the core as it is, with places for so many eyes. Mask and image are copied into memory of
+    /// the blanks, where these have it for images of their size.
     ///
     /// Errors: out of memory, with the dispatcher handed back.
     pub(crate) fn open<R: Wait>(
         rt: &R,
         alloc: Global,
         dispatcher: Dispatcher,
-        spares: Vec<Vec<u16>>,
+        blanks: Blanks,
         eyes: usize,
     ) -> Result<Keeper, Dispatcher>
         requires eyes { (1 ≤ eyes) × (eyes ≤ 16) }
         ensures first { IfOk result (IsFirst dispatcher) }
         ensures returned { IfErr result (λ d. d ≡ dispatcher) }
     {
-        let mut spares = spares;
-        let for_mask = next_spare(&mut spares, dispatcher.core());
-        let Ok(mask) = shared_copy(alloc, for_mask, dispatcher.core().mask()) else {
+        let mut blanks = blanks;
+        let for_mask = blanks.take(dispatcher.books.core().mask());
+        let Ok(mask) = shared_copy(alloc, for_mask, dispatcher.books.core().mask()) else {
             return Err(dispatcher);
         };
         let mut images = Images::new(alloc);
-        let for_image = next_spare(&mut spares, dispatcher.core());
-        let Ok(shot) = first_shot(alloc, &mut images, for_image, &mask, dispatcher.core()) else {
+        let for_image = blanks.take(dispatcher.books.core().mask());
+        let Ok(shot) = first_shot(
+            alloc,
+            &mut images,
+            for_image,
+            &mask,
+            dispatcher.books.core(),
+        ) else {
             return Err(dispatcher);
         };
         match Publisher::open(rt, alloc, shot, eyes) {
@@ -106,7 +113,7 @@ impl Keeper {
     {
         let mask = Arc::try_clone(&self.mask)?;
         let state = self.next_state()?;
-        Ok(shot_of(self.dispatcher.core(), mask, state, image))
+        Ok(shot_of(self.dispatcher.books.core(), mask, state, image))
     }
 
     // The strokes of the core: those of the last shot, where they are the same.
@@ -118,7 +125,7 @@ impl Keeper {
         if self.has_state {
             return Ok(Arc::try_clone(self.publisher.last().state())?);
         }
-        strokes_of(self.alloc, self.dispatcher.core())
+        strokes_of(self.alloc, self.dispatcher.books.core())
     }
 
     // The image of the core: that of the last shot, where it is the same.
@@ -132,7 +139,7 @@ impl Keeper {
         if self.has_image {
             return Ok(Arc::try_clone(self.publisher.last().image())?);
         }
-        self.images.copy(self.dispatcher.core().image())
+        self.images.copy(self.dispatcher.books.core().image())
     }
 }
 
@@ -144,23 +151,31 @@ fn eyes_of(alloc: Global, publisher: &mut Publisher, count: usize) -> Result<Vec
     ensures why { IfErr result (λ why. why ≡ errors.BadCounts → ⊥) }
     ensures shows { ShowsTheSame publisher.old publisher.new }
 {
-    let Ok(mut eyes) = Vec::with_capacity(alloc, count) else {
-        return Err(OpenError::Memory);
-    };
+    let mut eyes = Vec::new(alloc);
     for _eye in 0..count {
-        let Ok(eye) = publisher.eye() else {
-            return Err(OpenError::NoPlace);
-        };
-        if eyes.push(eye).is_err() {
-            return Err(OpenError::Memory);
-        }
+        add_eye(publisher, &mut eyes)?;
     }
     Ok(eyes)
 }
 
-// A grid in the next spare memory, where that is of the size of the core's mask.
-fn next_spare(spares: &mut Vec<Vec<u16>>, core: &Core) -> Option<Grid> {
-    grid_in(spares.pop()?, core.mask())
+// One eye of a publisher more.
+//
+// Errors: out of memory, or a place was refused.
+fn add_eye(publisher: &mut Publisher, eyes: &mut Vec<Eye>) -> Result<(), OpenError>
+    ensures added { OnOk result (HasOneMore publisher.old eyes.old.items eyes.new.items) }
+    ensures why { IfErr result (λ why. why ≡ errors.BadCounts → ⊥) }
+    ensures shows { ShowsTheSame publisher.old publisher.new }
+{
+    if eyes.reserve(1).is_err() {
+        return Err(OpenError::Memory);
+    }
+    match publisher.eye() {
+        Ok(eye) => {
+            eyes.push_reserved(eye);
+            Ok(())
+        }
+        Err(_) => Err(OpenError::NoPlace),
+    }
 }
 
 // A copy of the strokes of a core, to be shared.

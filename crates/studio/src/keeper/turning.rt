@@ -1,11 +1,9 @@
 //! Turns of a keeper.
 
-ghost use Rattle.std.specs.Prelude.{◌≡◌, ◌≤◌, ◌+◌, ◌&&◌, ℕ, false, length, IsTrue};
-ghost use Rattle.core_rules.specs.Sweeps.{IsReady};
-ghost use Rattle.core_rules.specs.Runs.{HasHints};
-ghost use Rattle.pen_desks.specs.Pens.{KeepsPens};
-ghost use Rattle.core_dispatch.specs.Turns.{HasTurned, AreEvents};
-ghost use Rattle.studio.specs.Keeping.{dispatcher_of, core_of, books_of, owner_of, IsUntouched};
+ghost use Rattle.std.specs.Prelude.{◌≡◌, ◌+◌, ◌&&◌, IsTrue};
+ghost use Rattle.core_dispatch.specs.Pens.{KeepsPens};
+ghost use Rattle.core_dispatch.specs.Turns.{TakesTurn};
+ghost use Rattle.studio.specs.Keeping.{dispatcher_of, books_of, IsUntouched};
 
 use super::Keeper;
 use core_dispatch::Turned;
@@ -19,19 +17,17 @@ impl Keeper {
     /// Afterwards no hint waits. Where memory was not wanting each dirty tile is out, or its push was refused; none of
     /// the first 4,096 pushes is.
     pub fn turn(&mut self) -> Turned
-        ensures turned { HasTurned (dispatcher_of self.old) result (dispatcher_of self.new) }
-        ensures events { AreEvents (core_of self.old) result (core_of self.new) }
-        ensures no_hints { (t : ℕ) → HasHints (core_of self.new) t → ⊥ }
-        ensures all_out { result.memory ≡ false → (t : ℕ) → IsReady (core_of self.new) t
-            → (owner_of self.new).capacity ≤ length (owner_of self.new).pushed }
-        ensures opening { (books_of self.new).opening ≡ (books_of self.old).opening }
-        ensures capacity { (owner_of self.new).capacity ≡ (owner_of self.old).capacity }
+        ensures turn { TakesTurn (dispatcher_of self.old) result (dispatcher_of self.new) }
         ensures pens { KeepsPens (books_of self.old) (books_of self.new) }
         ensures untouched { IsUntouched self.old self.new }
     {
-        let refused = self.dispatcher.refusals().len();
+        let refused = self.dispatcher.books.refusals().len();
         let turned = self.dispatcher.turn();
-        let has_merged_none = is_sum(self.dispatcher.refusals().len(), refused, turned.edits);
+        let has_merged_none = is_sum(
+            self.dispatcher.books.refusals().len(),
+            refused,
+            turned.edits,
+        );
         self.has_state = both(self.has_state, has_merged_none);
         self.has_image = both(self.has_image, is_still(has_merged_none, &turned));
         turned

@@ -1,18 +1,13 @@
-use Rattle.std.proofs.Common.{◌≡◌, List, Some, sym, subst}
-use Rattle.std.proofs.lemmas.Result.{IfOk-weaker}
+use Rattle.std.proofs.{Common.◌≡◌, Common.Some, Common.sym, Common.subst, lemmas.Result.IfOk-weaker}
 use Rattle.stroke_lattice.specs.State.{State}
-use Rattle.shot_chain.specs.Shots.{Shot}
-use Rattle.shot_chain.specs.Chains.{last_of, Begins}
-use Rattle.shot_chain.specs.Words.{seen_by, learnt_by, glimpsed_by, shot_by}
-use Rattle.link_nodes.specs.Cursors.{IsCursorOf, IsOfLower, last_state}
+use Rattle.studio.specs.{Chains.last_of, Chains.Begins}
+use Rattle.studio.specs.Words.{seen_by, learnt_by, glimpsed_by, shot_by}
+use Rattle.link_nodes.specs.Cursors.{IsOfLower}
 use Rattle.link_nodes.proofs.Seeing.{of_lower, next_seen}
 use Rattle.link_nodes.proofs.sight.look_for_next.Goals as goal
 
 pub invariant_of-result : goal.invariant_of-result
-invariant_of-result c = record {
-  of_last = λ cursor is. subst (λ (chain : List Shot). IsCursorOf (last_state chain) cursor) (sym c.in-Err.ensures.seen)
-      (c.args.sight.of_last cursor is);
-}
+invariant_of-result c = record { of_last = λ cursor is. rw c.in-Err.ensures.seen (c.args.sight.of_last cursor is) }
 
 pub next_frame-cursor-requires : goal.next_frame-cursor-requires
 next_frame-cursor-requires c =
@@ -26,10 +21,8 @@ returns-clause-next c =
     let g = c.in-Ok.glimpse in
     let chain = seen_by c.leave-eye.result in
     let learnt = learnt_by c.args.sight.eye in
-    let last : last_of chain ≡ Some (shot_by g) =
-    subst (λ (l : List Shot). last_of l ≡ Some (shot_by g)) (sym c.leave-eye.ensures.seen) c.in-Ok.ensures.last in
-    let told : Begins chain learnt =
-    subst (λ (l : List Shot). Begins l learnt) (sym c.leave-eye.ensures.seen) c.in-Ok.ensures.learnt in
+    let last : last_of chain ≡ Some (shot_by g) = rw c.leave-eye.ensures.seen c.in-Ok.ensures.last in
+    let told : Begins chain learnt = rw c.leave-eye.ensures.seen c.in-Ok.ensures.learnt in
     IfOk-weaker c.next_frame-cursor.result.1 _ _
     (next_seen c.args.request.conn c.args.request.print learnt (seen_by c.args.sight.eye) chain c.args.request.last
     (shot_by g) c.state.result.now last c.state.ensures told)

@@ -1,10 +1,7 @@
-use Rattle.std.proofs.Common.{sym, subst}
-use Rattle.pen_desks.specs.declared.pen.Pen.{Pen}
-use Rattle.pen_desks.specs.declared.pen.PenEnd.{PenEnd}
-use Rattle.pen_desks.specs.Pens.{IsOf, submitted, all_submitted}
-use Rattle.std.specs.Prelude.{◌≡◌, All}
+use Rattle.std.proofs.{Common.sym, Common.subst, Common.◌≡◌, Common.All, lemmas.Result.IfOk-weaker}
+use Rattle.core_dispatch.specs.{declared.pen.Pen.Pen, declared.pen.PenEnd.PenEnd}
+use Rattle.core_dispatch.specs.Pens.{IsOf, submitted, all_submitted}
 use Rattle.studio.specs.Keeping.{books_of}
-use Rattle.std.proofs.lemmas.Result.{IfOk-weaker}
 use Rattle.node_session.proofs.ending.close.Goals as goal
 
 pub close_with-requires : goal.close_with-requires

@@ -1,9 +1,9 @@
--- As paint_session/proofs/answering/respond and view/view_kept, one in the other.
+-- As view_session/proofs/answering/respond and view/view_kept, one in the other.
 use Rattle.std.proofs.Common.{◌≡◌, true, false, refl, sym, ◌∙◌, subst}
 use Rattle.std.proofs.lemmas.Result.{err_from_is_err_and}
 use Rattle.byte_devices.specs.Transfer.{IsInputOf}
-use Rattle.paint_session.proofs.Sides.{answered_for_side, refused_for_side}
-use Rattle.paint_session.proofs.Runs.{unread, unanswered, unwritten, written}
+use Rattle.view_session.proofs.Sides.{answered_for_side, refused_for_side}
+use Rattle.view_session.proofs.Runs.{unread, unanswered, unwritten, written}
 use Rattle.node_session.proofs.Paintings.{no_node_device}
 use Rattle.node_session.proofs.running.node_run.Goals as goal
 

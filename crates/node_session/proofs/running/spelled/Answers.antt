@@ -1,6 +1,5 @@
-use Rattle.std.proofs.Common.{inl, inr, ap}
-use Rattle.std.proofs.lemmas.Result.{err_from_is_err_and}
-use Rattle.paint_session.specs.declared.run_error.RunError.TheVariants.{Spd}
+use Rattle.std.proofs.{Common.inl, Common.inr, Common.ap, lemmas.Result.err_from_is_err_and}
+use Rattle.run_faults.specs.declared.run_error.RunError.TheVariants.{Spd}
 use Rattle.node_session.proofs.Paintings.{spelled_image}
 use Rattle.node_session.proofs.running.spelled.Goals as goal
 

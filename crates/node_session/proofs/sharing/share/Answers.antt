@@ -1,10 +1,7 @@
-use Rattle.std.specs.Prelude.{IfOk}
-use Rattle.std.proofs.Common.{sym, subst}
+use Rattle.std.proofs.{Common.IfOk, Common.sym, Common.subst, lemmas.Result.IfOk-weaker, lemmas.Result.IfErr-weaker}
 use Rattle.core_rules.specs.Work.{Core}
-use Rattle.node_session.specs.Shared.{StudioFails}
-use Rattle.node_session.specs.Working.{IsShared}
+use Rattle.node_session.specs.{Shared.StudioFails, Working.IsShared}
 use Rattle.node_session.proofs.Failing.{opening_fails}
-use Rattle.std.proofs.lemmas.Result.{IfOk-weaker, IfErr-weaker}
 use Rattle.node_session.proofs.sharing.share.Goals as goal
 
 pub share_in-requires-clause-opened : goal.share_in-requires-clause-opened
@@ -17,7 +14,7 @@ returns-in-Ok-clause-hands g c =
 pub returns-in-Ok-clause-shared : goal.returns-in-Ok-clause-shared
 returns-in-Ok-clause-shared g c =
     let sharing = c.args.sharing in
-    subst (λ (core : Core). IfOk c.share_in.result (IsShared sharing.conn sharing.print sharing.room.ticks
+    subst (λ (core : Core). IfOk c.share_in.result (IsShared sharing.conn sharing.print sharing.shift.ticks
     (g.L.Link.seen c.args.link.now) (g.L.Link.seen c.share_in.new.link) core))
     c.in-Ok.ensures.opened.core_is c.share_in.ensures.shared
 
@@ -30,5 +27,5 @@ returns-in-Ok-clause-refused g c = IfErr-weaker c.share_in.result _ _
 -- U1 comes of the counts alone
 pub returns-in-Err-clause-refused : goal.returns-in-Err-clause-refused
 returns-in-Err-clause-refused g c =
-    subst (StudioFails c.args.sharing.room.hands) (sym c.refusal_of.ensures)
-    (opening_fails c.args.sharing.room.hands _ c.in-Err.ensures.counts)
+    subst (StudioFails c.args.sharing.shift.hands) (sym c.refusal_of.ensures)
+    (opening_fails c.args.sharing.shift.hands _ c.in-Err.ensures.counts)

@@ -1,4 +1,4 @@
-use Rattle.node_session.proofs.Comings.{shared}
+use Rattle.node_session.proofs.{Comings.shared, Desks.pen_stays}
 use Rattle.std.proofs.lemmas.Result.{err_from_is_err_and, IfOk-weaker}
 use Rattle.node_session.proofs.sharing.share_in.Goals as goal
 
@@ -7,7 +7,7 @@ work-requires-clause-studio g c κs within = c.in_ok-desk.ensures.desk.studio
 
 -- the pen is the keeper's still
 pub close-requires : goal.close-requires
-close-requires g c = c.work.ensures.stays.pen c.in_ok-desk.ensures.desk.pen
+close-requires g c = pen_stays _ _ c.work.ensures.stays c.in_ok-desk.ensures.desk.pen
 
 pub returns-in_err-desk-clause-refused : goal.returns-in_err-desk-clause-refused
 returns-in_err-desk-clause-refused g c =

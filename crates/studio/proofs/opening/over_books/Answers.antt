@@ -1,7 +1,7 @@
 use Rattle.std.proofs.Common.{sym, ap, ◌∙◌, subst}
 use Rattle.core_dispatch.specs.Dispatching.{books_by, owner_by}
 use Rattle.studio.specs.Opening.{IsNewOwner}
-use Rattle.studio.proofs.Beginnings.{eyes_kept, shown_once_kept, new_owner}
+use Rattle.studio.proofs.Beginnings.{eyes_kept, shown_once_kept}
 use Rattle.studio.proofs.opening.over_books.Goals as goal
 
 pub returns-in-Ok-eyes-clause-over : goal.returns-in-Ok-eyes-clause-over
@@ -16,7 +16,7 @@ returns-in-Ok-eyes-clause-over g c =
       books_are = ap books_by same ∙ made.books;
       owner =
           subst (IsNewOwner c.args.hands) (sym owner)
-          (new_owner c.args.hands _ pool.pushed pool.capacity pool.collected);
+          (record { pushed = pool.pushed; capacity = pool.capacity; collected = pool.collected });
       shown =
           shown_once_kept c.in-Ok-open.keeper c.eyes.new.self _ c.args.books.core kept
           (ap (λ b. b.core) made.books) first.shown;

@@ -1,7 +1,6 @@
 use Rattle.std.proofs.Common.{◌≤◌, subst}
 use Rattle.border_queues.specs.TileWork.{IsLeast}
-use Rattle.core_rules.specs.Work.{Core}
-use Rattle.core_rules.specs.Sweeps.{IsReady}
+use Rattle.core_rules.specs.{Work.Core, Sweeps.IsReady}
 use Rattle.core_dispatch.proofs.Pushing.{none_pushed, one_more_pushed}
 use Rattle.core_dispatch.proofs.dispatcher.Dispatcher.push_jobs.Goals as goal
 

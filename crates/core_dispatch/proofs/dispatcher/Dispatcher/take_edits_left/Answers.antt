@@ -1,5 +1,4 @@
-use Rattle.std.proofs.Common.{arith}
-use Rattle.std.proofs.lemmas.Result.{err_from_is_err_and}
+use Rattle.std.proofs.{Common.arith, lemmas.Result.err_from_is_err_and}
 use Rattle.core_dispatch.proofs.Ends.{kept_themselves, kept_through, same_has_end, same_spent, same_back, taken_more}
 use Rattle.core_dispatch.proofs.GoingOn.{goes_itself, goes_through, edits_themselves, edits_through}
 use Rattle.core_dispatch.proofs.dispatcher.Dispatcher.take_edits_left.Goals as goal
@@ -28,6 +27,11 @@ returns-in_err-take_edits_of-clause-spent c =
     (λ is.
     same_spent now start (same_back start now c.loop-number.invariant.ends.0)
     (c.in_err-take_edits_of.ensures.spent is))
+
+pub returns-in_err-take_edits_of-clause-why : goal.returns-in_err-take_edits_of-clause-why
+returns-in_err-take_edits_of-clause-why c =
+    let p = err_from_is_err_and c.from_residual.result c.from_residual.ensures.1 in
+    rw (p.1, p.2) c.in_err-take_edits_of.ensures.why
 
 pub returns-in_err-take_edits_of-clause-ends : goal.returns-in_err-take_edits_of-clause-ends
 returns-in_err-take_edits_of-clause-ends c =

@@ -1,10 +1,10 @@
 use Rattle.std.proofs.Common.{◌≡◌, refl, sym, arith}
-use Rattle.pen_desks.specs.declared.rest.RestError.TheVariants as rest
-use Rattle.pen_desks.specs.Pens.{IsSpent}
-use Rattle.pen_desks.proofs.Ledgers.{below}
-use Rattle.core_dispatch.specs.Closing.{HasSpentCount}
-use Rattle.core_dispatch.proofs.Ends.{end_at, one_taken, one_whole, one_spent, on_ok, if_err}
+use Rattle.std.proofs.lemmas.Result.{IfErr-weaker, on_ok_weaker}
+use Rattle.core_dispatch.specs.{Pens.IsSpent, Closing.HasSpentCount}
+use Rattle.steal_pool.proofs.Deals.{below}
 use Rattle.core_dispatch.proofs.GoingOn.{goes_by_edits}
+use Rattle.core_dispatch.proofs.Ends.{end_at, one_taken, one_whole, one_spent}
+use Rattle.core_dispatch.specs.declared.error.CloseError.TheVariants as errors
 use Rattle.core_dispatch.proofs.dispatcher.Dispatcher.take_edits_of.Goals as goal
 
 pub index_mut-requires : goal.index_mut-requires
@@ -23,7 +23,7 @@ take_rest-requires c =
 
 pub returns-in-Some-clause-whole : goal.returns-in-Some-clause-whole
 returns-in-Some-clause-whole c =
-    on_ok c.take_rest.result
+    on_ok_weaker c.take_rest.result
     (one_whole c.args.ends.now.items c.take_rest.new.self c.in-Some.place c.args.number c.index_mut.result.now
     c.in-Some.ensures c.index_mut.ensures.value) c.take_rest.ensures.whole
 
@@ -37,8 +37,8 @@ returns-in-Some-clause-others c =
 pub returns-in-Some-clause-spent : goal.returns-in-Some-clause-spent
 returns-in-Some-clause-spent c =
     let end = c.index_mut.result.now in
-    if_err (λ why. why ≡ rest.CountSpent → IsSpent c.take_rest.new.self end)
-    (λ why. why ≡ rest.CountSpent → HasSpentCount c.args.ends.now.items) c.take_rest.result
+    IfErr-weaker c.take_rest.result (λ why. why ≡ errors.CountSpent → IsSpent c.take_rest.new.self end)
+    (λ why. why ≡ errors.CountSpent → HasSpentCount c.args.ends.now.items)
     (λ why spent is.
     one_spent c.args.ends.now.items c.take_rest.new.self c.in-Some.place c.args.number end c.in-Some.ensures
     c.index_mut.ensures.value (spent is)) c.take_rest.ensures.spent

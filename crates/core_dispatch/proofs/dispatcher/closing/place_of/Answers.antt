@@ -1,5 +1,5 @@
 use Rattle.std.proofs.Common.{◌≡◌, ◌<◌, length, arith}
-use Rattle.pen_desks.specs.Pens.{end_number}
+use Rattle.core_dispatch.specs.Pens.{end_number}
 use Rattle.core_dispatch.proofs.Ends.{is_place, none_before, none_at_all}
 use Rattle.core_dispatch.proofs.dispatcher.closing.place_of.Goals as goal
 

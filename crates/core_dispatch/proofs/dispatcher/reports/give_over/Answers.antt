@@ -1,9 +1,9 @@
 use Rattle.std.proofs.Common.{refl}
-use Rattle.core_rules.specs.declared.answers.Back.TheVariants as back
 use Rattle.core_dispatch.proofs.Collecting.{given_over, given_over_and_dropped, dropped}
-use Rattle.core_dispatch.proofs.dispatcher.reports.give_over.Goals as goal
 use Rattle.core_dispatch.proofs.dispatcher.reports.give_over.Goals.{in-Ok-Stranger, in-Ok-Joined, in-Ok-Again}
 use Rattle.core_dispatch.proofs.dispatcher.reports.give_over.Goals.{in-Ok-Stale, in-Err}
+use Rattle.core_rules.specs.declared.answers.Back.TheVariants as back
+use Rattle.core_dispatch.proofs.dispatcher.reports.give_over.Goals as goal
 
 pub returns : goal.returns
 returns c =

@@ -1,8 +1,6 @@
-use Rattle.std.proofs.Common.{◌≡◌, ℕ, length, arith, refl, sym, ap, subst, ◌∙◌}
-use Rattle.std.specs.Prelude.{IsTrue, nat_eq}
+use Rattle.std.proofs.Common.{◌≡◌, ℕ, length, arith, refl, sym, ap, subst, ◌∙◌, IsTrue, nat_eq}
 use Rattle.std.proofs.lemmas.Bool.Decides.{nat_tests}
-use Rattle.stroke_lattice.specs.State.{State}
-use Rattle.stroke_lattice.specs.Pieces.{strokes_of, tombstones_of}
+use Rattle.stroke_lattice.specs.{State.State, Pieces.strokes_of, Pieces.tombstones_of}
 use Rattle.link_nodes.specs.Cursors.{IsCursorOf}
 use Rattle.link_nodes.proofs.cursor.Cursor.is_of.Goals as goal
 

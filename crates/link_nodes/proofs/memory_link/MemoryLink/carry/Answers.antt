@@ -1,5 +1,4 @@
-use Rattle.std.proofs.Common.{◌+◌, take, get_or, ap}
-use Rattle.std.proofs.lemmas.List.{take_more}
+use Rattle.std.proofs.{Common.◌+◌, Common.take, Common.get_or, Common.ap, lemmas.List.take_more}
 use Rattle.link_nodes.specs.MemoryLinks.{MemoryLinkView}
 use Rattle.link_nodes.proofs.Feeding.{fed_more, stands_at}
 use Rattle.link_nodes.proofs.memory_link.MemoryLink.carry.Goals as goal

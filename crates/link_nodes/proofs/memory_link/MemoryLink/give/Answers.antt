@@ -1,6 +1,5 @@
 use Rattle.std.proofs.Common.{◌≡◌, ℕ, ◌<◌, List, ◌++◌, ◌∷◌, [], take, min, length, get_or, sym, ap, subst, ◌∙◌}
-use Rattle.link_nodes.specs.declared.link.TheConstants.{BUFFER_BYTES}
-use Rattle.link_nodes.specs.MemoryLinks.{MemoryLinkView, front_of}
+use Rattle.link_nodes.specs.{declared.link.TheConstants.BUFFER_BYTES, MemoryLinks.MemoryLinkView, MemoryLinks.front_of}
 use Rattle.link_nodes.proofs.Feeding.{next_waiting, next_heard, front_fits, front_copied}
 use Rattle.link_nodes.proofs.memory_link.MemoryLink.give.Goals as goal
 

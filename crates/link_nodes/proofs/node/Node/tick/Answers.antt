@@ -1,6 +1,5 @@
 use Rattle.std.proofs.Common.{sym, subst}
-use Rattle.pen_desks.specs.declared.pen.Pen.{Pen}
-use Rattle.pen_desks.specs.Pens.{submitted}
+use Rattle.core_dispatch.specs.{declared.pen.Pen.Pen, Pens.submitted}
 use Rattle.link_nodes.specs.Hearing.{Hears}
 use Rattle.link_nodes.proofs.Ticking.{past_pen}
 use Rattle.link_nodes.proofs.node.Node.tick.Goals as goal

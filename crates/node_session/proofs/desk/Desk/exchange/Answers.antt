@@ -12,6 +12,6 @@ returns g c =
     record {
       stays = stays_over _ _ refl refl did.looked.same;
       hears = heard_before old new _ ticks.between _ (polled old new _ ticks.between _ ticks.heard)
-          (sends_in_silence old new ticks.between _ _ ticks.sent);
+          (sends_in_silence old new ticks.between _ _ ticks.sent).0;
       polls = polled_once old new _ ticks.between _ _ _ ticks.heard ticks.sent;
     }

@@ -1,7 +1,7 @@
 use Rattle.std.proofs.Common.{refl, sym, ap, ◌∙◌}
-use Rattle.pen_desks.specs.declared.pen.Pen.{Pen}
-use Rattle.pen_desks.specs.Pens.{submitted}
-use Rattle.node_session.proofs.Desks.{stays_over, same_node}
+use Rattle.core_dispatch.specs.{declared.pen.Pen.Pen, Pens.submitted}
+use Rattle.link_nodes.proofs.SameNodes.{same_node}
+use Rattle.node_session.proofs.Desks.{stays_over}
 use Rattle.node_session.proofs.desk.Desk.show.Goals as goal
 
 -- the receipt is of the keeper's studio, which is the node's

@@ -1,6 +1,6 @@
 use Rattle.std.proofs.Common.{◌≡◌, ℕ, arith, subst}
 use Rattle.node_session.specs.Working.{WorksOn}
-use Rattle.node_session.proofs.Desks.{works_itself, works_through}
+use Rattle.node_session.proofs.Desks.{studio_stays, works_itself, works_through}
 use Rattle.node_session.proofs.desk.Desk.ticks.Goals as goal
 
 pub loop-tick-init : goal.loop-tick-init
@@ -8,7 +8,7 @@ loop-tick-init g c = works_itself _ _
 
 -- node and keeper are of one studio still
 pub tick-requires : goal.tick-requires
-tick-requires g c = c.loop-tick.invariant.stays.studio c.requires
+tick-requires g c = studio_stays _ _ c.loop-tick.invariant.stays c.requires
 
 pub loop-tick-preserved : goal.loop-tick-preserved
 loop-tick-preserved g c = works_through _ 1 _ _ _ _ _ _ c.loop-tick.invariant c.tick.ensures

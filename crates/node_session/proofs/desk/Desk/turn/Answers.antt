@@ -1,17 +1,15 @@
-use Rattle.std.proofs.Common.{refl, sym, ◌∙◌}
-use Rattle.core_dispatch.proofs.Growing.{run_grows}
-use Rattle.link_nodes.specs.Nodes.{pen_of}
+use Rattle.std.proofs.Common.{refl}
+use Rattle.link_nodes.proofs.SameNodes.{same_node}
 use Rattle.node_session.proofs.desk.Desk.turn.Goals as goal
 
 pub returns : goal.returns
 returns c =
     let did = c.turn-turned.ensures in (
       record {
-        opening = did.opening;
-        grows = run_grows _ _ _ did.events.run;
-        studio = λ is. is ∙ sym did.untouched.studio;
-        pen = λ is. did.pens.pens (pen_of c.args.self.now.node) is;
-        image = (refl, refl);
+        opening = did.turn.opening;
+        grows = did.turn.grows;
+        company = record { pens = did.pens; studio = did.untouched.studio };
+        node = same_node c.args.self.now.node;
       },
       refl,
     )

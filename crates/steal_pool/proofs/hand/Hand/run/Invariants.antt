@@ -1,7 +1,5 @@
 use Rattle.std.proofs.Common.{List}
-use Rattle.steal_pool.specs.declared.report.Turn.{Turn as Answer}
-use Rattle.steal_pool.specs.Reports.{AreReported, AreTurns}
-use Rattle.steal_pool.specs.Views.{reports}
+use Rattle.steal_pool.specs.{declared.report.Turn.Turn as Answer, Reports.AreReported, Reports.AreTurns, Views.reports}
 use Rattle.steal_pool.proofs.hand.Hand.run.Given as goal
 
 abbrev pub invariant-loop : goal.invariant-loop

@@ -1,10 +1,8 @@
 use Rattle.std.proofs.Common.{◌≤◌, ◌∙◌, sym, subst, refl, inr, ◌++◌, length, option_to_list, Option, Some, IfSome}
 use Rattle.rtrb.specs.Ring.{sent}
 use Rattle.crossbeam_deque.specs.Handles.{view}
-use Rattle.steal_pool.specs.declared.report.Report.{Report}
-use Rattle.steal_pool.specs.Reports.{AreReported}
+use Rattle.steal_pool.specs.{declared.report.Report.Report, Reports.AreReported, Working.HasWorked}
 use Rattle.steal_pool.specs.Views.{HandView, ring_room}
-use Rattle.steal_pool.specs.Working.{HasWorked}
 use Rattle.steal_pool.proofs.Turns.{one_more, turned, worked, sent_once}
 use Rattle.steal_pool.proofs.hand.Hand.turn.Goals as goal
 

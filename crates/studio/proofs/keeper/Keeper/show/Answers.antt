@@ -1,7 +1,6 @@
 use Rattle.std.proofs.Common.{[], ◌∷◌, ◌++◌, ap, subst, ◌∙◌}
 use Rattle.core_dispatch.specs.Dispatching.{core_by}
-use Rattle.shot_chain.specs.Words.{shown_by}
-use Rattle.studio.specs.Keeping.{IsShotOf}
+use Rattle.studio.specs.{Words.shown_by, Keeping.IsShotOf}
 use Rattle.studio.proofs.keeper.Keeper.show.Goals as goal
 
 pub returns-clause-shown : goal.returns-clause-shown

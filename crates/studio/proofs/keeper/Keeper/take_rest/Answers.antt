@@ -1,6 +1,7 @@
 use Rattle.std.proofs.Common.{sym, ◌∙◌}
 use Rattle.core_dispatch.specs.Dispatching.{core_by}
-use Rattle.shot_chain.specs.Words.{last_by}
+use Rattle.core_dispatch.proofs.GoingOn.{went_on}
+use Rattle.studio.specs.Words.{last_by}
 use Rattle.studio.proofs.Following.{grows_on}
 use Rattle.studio.proofs.keeper.Keeper.take_rest.Goals as goal
 
@@ -8,7 +9,8 @@ pub invariant_of-self : goal.invariant_of-self
 invariant_of-self c =
     let old = c.args.self.now in
     let new = c.take_rest-taken.new.self in
-    let grows = c.take_rest-taken.ensures.goes_on.grows in
+    let taken = c.take_rest-taken in
+    let grows = (went_on _ _ _ taken.result taken.ensures.all taken.ensures.not_all).grows in
     record {
       mask_is = old.mask_is ∙ sym grows.mask;
       follows =

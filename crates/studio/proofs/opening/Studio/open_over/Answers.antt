@@ -1,6 +1,5 @@
 use Rattle.std.proofs.Common.{sym, ap, ◌∙◌, subst}
-use Rattle.pen_desks.specs.Books.{ledger}
-use Rattle.pen_desks.specs.Pens.{HasItsDesk}
+use Rattle.core_dispatch.specs.{Books.ledger, Pens.HasItsDesk}
 use Rattle.studio.specs.Opening.{HasShownOnce, IsOpened}
 use Rattle.studio.proofs.opening.Studio.open_over.Goals as goal
 

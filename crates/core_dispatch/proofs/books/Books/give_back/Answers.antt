@@ -1,0 +1,10 @@
+use Rattle.core_dispatch.specs.contracts.books.Books.{the_view}
+use Rattle.core_dispatch.proofs.Steady.{steady_books, give_back_is_steady}
+use Rattle.core_dispatch.proofs.books.Books.give_back.Goals as goal
+
+pub invariant_of-self : goal.invariant_of-self
+invariant_of-self c =
+    let b = the_view c.self.inside in
+    steady_books b c.give_back.new.self c.self.invariant
+    (give_back_is_steady b.core c.give_back.new.self c.args.swept c.give_back.result
+    c.give_back.ensures.given c.give_back.ensures.err)

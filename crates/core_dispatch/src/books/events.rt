@@ -1,0 +1,65 @@
+//! What else happens to the core of the books.
+
+ghost use Rattle.std.specs.Prelude.{◌≡◌, length, IfOk, IfErr, OnErr};
+ghost use Rattle.core_rules.specs.Sweeps.{IsReady, IsTaken, IsGivenBack, IsAbandoned};
+ghost use Rattle.core_rules.specs.Runs.{IsRun, NoneOut, abandoned, tickets_out};
+ghost use Rattle.reset_core.specs.Answers.{IsJoinable};
+ghost use Rattle.core_dispatch.specs.Books.{KeepsRest};
+ghost use Rattle.core_dispatch.specs.Growing.{ShowsSame};
+
+use super::Books;
+use core_rules::Back;
+use grid_core::Memory;
+use std::alloc::Global;
+use tile_generations::{Job, Swept, Ticket};
+
+impl Books {
+    /// The job of a tile that is dirty and not out, as [`Core::take`](reset_core::Core::take) gives it.
+    ///
+    /// Errors: out of memory; nothing has changed then.
+    pub(crate) fn take(&mut self, alloc: Global, tile: usize) -> Result<Option<Job>, Memory>
+        ensures taken { IfOk result (λ job. IsTaken self.old.core tile job self.new.core) }
+        ensures memory { OnErr result (IsReady self.old.core tile) }
+        ensures err { OnErr result (self.new ≡ self.old) }
+        ensures rest { KeepsRest self.old self.new }
+    {
+        self.core.take(alloc, tile)
+    }
+
+    /// Gives back a swept tile, as [`Core::give_back`](reset_core::Core::give_back) does.
+    ///
+    /// Errors: out of memory, with the swept tile handed back; nothing has changed then.
+    pub(crate) fn give_back(&mut self, alloc: Global, swept: Swept) -> Result<Back, (Swept, Memory)>
+        ensures given { IfOk result (λ back. IsGivenBack self.old.core swept back self.new.core) }
+        ensures memory { OnErr result (IsJoinable self.old.core swept.job) }
+        ensures err { OnErr result (self.new ≡ self.old) }
+        ensures returned { IfErr result (λ e. e.0 ≡ swept) }
+        ensures rest { KeepsRest self.old self.new }
+    {
+        self.core.give_back(alloc, swept)
+    }
+
+    /// Abandons a job that is out: the tile is then not out, and dirty. It says whether the job was out. It takes no
+    /// memory.
+    #[tactic(auto, using(crate::proofs::Marking::abandoned_shows))]
+    pub fn abandon(&mut self, ticket: Ticket) -> bool
+        ensures abandoned { IsAbandoned self.old.core ticket result self.new.core }
+        ensures rest { KeepsRest self.old self.new }
+        ensures shows { ShowsSame self.old.core self.new.core }
+    {
+        self.core.abandon(ticket)
+    }
+
+    /// Abandons each job that is out, tile by tile, and says how many there were. It takes no memory, and waits for
+    /// nobody. A report of such a job changes nothing when it comes.
+    #[tactic(auto, using(crate::proofs::Marking::abandons_show))]
+    pub fn recall(&mut self) -> u64
+        ensures run { IsRun self.old.core (abandoned (tickets_out 0 self.old.core.tiles)) self.new.core }
+        ensures count { result ≡ length (tickets_out 0 self.old.core.tiles) }
+        ensures none_out { NoneOut self.new.core }
+        ensures rest { KeepsRest self.old self.new }
+        ensures shows { ShowsSame self.old.core self.new.core }
+    {
+        self.core.abandon_all()
+    }
+}

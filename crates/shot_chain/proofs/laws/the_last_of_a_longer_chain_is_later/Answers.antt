@@ -1,5 +1,0 @@
-use Rattle.shot_chain.proofs.Chains.{later_leads_on}
-use Rattle.shot_chain.proofs.laws.the_last_of_a_longer_chain_is_later.Goals as goal
-
-pub returns : goal.returns
-returns c = later_leads_on

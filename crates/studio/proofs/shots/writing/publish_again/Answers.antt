@@ -1,0 +1,8 @@
+use Rattle.std.proofs.Common.{drop}
+use Rattle.studio.proofs.Keeping.{publishes_again}
+use Rattle.studio.proofs.shots.writing.publish_again.Goals as goal
+
+pub publish_as-requires : goal.publish_as-requires
+publish_as-requires g c next is =
+    publishes_again _ _ c.args.writing.desk.shown.value next
+    (drop c.args.writing.behind c.args.writing.log.items) c.requires.idle is
