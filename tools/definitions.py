@@ -77,9 +77,9 @@ Some words of clauses are defined by the kit, and some stand beside the type or 
 | `Ground` (`live_board/src/rule.rt`) | what a board stands on: mask, connectivity, and the generation in which it begins |
 | `Encoding`, `Place` (`pgm_codec/src/grammar.rt`) | `Plain` or `Raw`; `Header`, where comments may stand, or `Raster`, where none may |
 | `seen` (`byte_devices`) | what contracts see of a device: a `SourceSeen`, a `SinkSeen` |
-| `Strokes` (`paint_session/src/joining.rt`) | a state, with the connectivity, the fingerprint and the sides of the mask that it is for |
-| `Keeps: makes, refuses` (`paint_session/src/store.rt`) | what a keeper makes over the bytes that are found, and for which reason, never V2, it refuses them |
-| `Kept: spells, has, takes, notes` (`paint_rounds/src/kept.rt`) | of a service and the bytes of a file: they keep all of its state; it has all that they keep; it takes what they keep; and it is told that its file keeps it, or why not |
+| `Strokes` (`view_session/src/joining.rt`) | a state, with the connectivity, the fingerprint and the sides of the mask that it is for |
+| `Keeps: makes, refuses` (`view_session/src/store.rt`) | what a keeper makes over the bytes that are found, and for which reason, never V2, it refuses them |
+| `Kept: spells, has, takes, notes` (`page_server/src/kept.rt`) | of a service and the bytes of a file: they keep all of its state; it has all that they keep; it takes what they keep; and it is told that its file keeps it, or why not |
 """
 
 # The files of which only private contracts cite words, each with the words that public ones cite all the same.
@@ -95,22 +95,20 @@ PRIVATE = {
     "live_board": {"Reading": (), "Steps": ()},
     "derived_views": {"Rasters": ()},
     "core_rules": {"Stored": ()},
-    "pen_desks": {"Resting": ()},
+    "core_dispatch": {"Resting": ()},
     "node_session": {"Working": ()},
-    "paint_board": {"Putting": (), "Strips": ()},
+    "page_board": {"Putting": (), "Strips": ()},
 }
 
 # The files whose words only the crates of the core cite.
 CORE = {
-    "tile_work": {"OpenBounds": (), "WorkTable": ()},
-    "tile_resets": {"Linking": (), "Marks": (), "Renewing": ()},
+    "tile_work": {"Linking": (), "Marks": (), "OpenBounds": (), "Renewing": (), "WorkTable": ()},
     "reset_core": {"Bounding": (), "MergeSteps": (), "Parts": (), "Replica": (), "Scheduling": (), "Settling": (),
                    "Sweeping": (), "Telling": ()},
 }
 
 # The crates of tests, and of programs that measure, stress or show.
-TESTS = {"studio_example", "thread_bench", "thread_tests", "studio_tests", "node_tests", "board_tests",
-         "refused_studios", "studio_stress"}
+TESTS = {"studio_example", "benchmarks", "thread_tests"}
 
 Definition = collections.namedtuple("Definition", "name places comment")
 

@@ -1,5 +1,5 @@
 #!/usr/bin/env python3
-"""Write crates/paint_html/src/page.rt from page/page.html: there is no `include_str!`.
+"""Write crates/page_server/src/html.rt from page/page.html: there is no `include_str!`.
 
     python3 tools/embed_page.py            writes it
     python3 tools/embed_page.py --check    ends with status 1 where it is not up to date
@@ -16,7 +16,7 @@ import re
 import sys
 
 TOP = pathlib.Path(__file__).resolve().parent.parent
-SOURCE, TARGET = TOP / "page" / "page.html", TOP / "crates" / "paint_html" / "src" / "page.rt"
+SOURCE, TARGET = TOP / "page" / "page.html", TOP / "crates" / "page_server" / "src" / "html.rt"
 
 MODULE = '''//! The page and its policy, written by tools/embed_page.py from page/page.html.
 

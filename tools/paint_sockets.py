@@ -26,7 +26,7 @@ import running
 from running import Fault, tell
 from serving import Serving
 
-# What crates/paint_serve has: how many may be in that showed the key; for how many seconds somebody may move no byte;
+# What crates/page_server has: how many may be in that showed the key; for how many seconds somebody may move no byte;
 # within how many somebody has to show the key; and within how many a request has to be there.
 MOST_PEERS, PATIENCE, HALL_SECONDS, REQUEST_SECONDS = 64, 30, 10, 60
 SLACK = 5                    # seconds by which somebody may be dropped later

@@ -1,0 +1,24 @@
+pub use Rattle.grid_core.specs.Reconstruction
+pub use Rattle.pgm_codec.specs.Writing
+pub use Rattle.edit_lang.specs.Edit
+pub use Rattle.edit_lang.specs.Writing as EditWriting
+pub use Rattle.stroke_lattice.specs.State
+pub use Rattle.spd_codec.specs.StateFile
+pub use Rattle.core_rules.specs.Merge
+pub use Rattle.core_rules.specs.Runs
+pub use Rattle.core_rules.specs.Shown
+pub use Rattle.reset_core.specs.Starting
+pub use Rattle.view_session.specs.Kept
+pub use Rattle.view_session.specs.Merging
+pub mod Board
+pub mod Stored
+pub mod Opening
+pub mod Taking
+pub mod Growing
+pub mod Later
+pub mod Changes
+pub mod Marking
+pub mod Keeping
+pub mod Strips
+pub mod Putting
+pub mod Laws

@@ -1,0 +1,11 @@
+-- Samples that are put behind a text. Only private functions have these words in their contracts.
+use Rattle.std.specs.Prelude.{◌≡◌, ℕ, List, ◌++◌}
+use Rattle.grid_core.specs.declared.rect.Rect.{Rect}
+use Rattle.pgm_codec.specs.Graymap.{Graymap}
+use Rattle.page_board.specs.Changes.{AreSamplesIn}
+
+-- the second text is the first and the samples of the rectangles behind it
+pub record PutsSamples (g : Graymap) (rects : List Rect) (before after : List ℕ) : Type 0 where
+  pub bytes : List ℕ
+  pub are_samples : AreSamplesIn g rects bytes
+  pub behind : after ≡ before ++ bytes

@@ -1,5 +1,0 @@
-pub mod Fronts
-pub mod Numbers
-pub mod Once
-pub mod Queries
-pub mod Senders

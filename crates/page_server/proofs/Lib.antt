@@ -1,0 +1,11 @@
+pub mod Flags
+pub mod Keepers
+pub mod Taking
+pub mod Tracking
+pub mod Transfers
+pub mod Turns
+pub mod Openings
+pub mod Counting
+pub mod Servings
+pub mod Views
+pub mod Turnings

@@ -1,0 +1,85 @@
+//! The service of a page, with its share of settling.
+
+ghost use Rattle.page_server.specs.Page.{PageAnswers, PageGrows, PageHas, PageNotes, PageSpells, PageTakes};
+ghost use Rattle.page_server.specs.Page.{HasPageWork, page_version};
+ghost use Rattle.page_server.specs.Page.{calls_count, works_count, takes_count, notes_count};
+
+use crate::kept::Kept;
+use bytes::Bytes;
+use grid_core::Memory;
+use http::Request;
+use http_server::{Response, Service};
+use page_service::Painting;
+use run_faults::RunError;
+use std::alloc::{AllocError, Global};
+
+/// A painting, and how many jobs a share of its settling has.
+#[derive(Drop)]
+pub(crate) struct Page {
+    pub(crate) alloc: Global,
+    pub(crate) painting: Painting,
+    pub(crate) jobs: u64,
+}
+
+impl Service for Page {
+    ghost answers = { PageAnswers };
+
+    fn call(
+        &mut self,
+        request: &Request<Bytes>,
+        response: &mut Response,
+    ) -> Result<(), AllocError> {
+        self.painting.call(request, response)
+    }
+}
+
+impl Kept for Page {
+    ghost version = { page_version };
+
+    ghost spells = { PageSpells };
+
+    ghost has = { PageHas };
+
+    ghost takes = { PageTakes };
+
+    ghost notes = { PageNotes };
+
+    ghost works = { PageGrows };
+
+    ghost has_work = { HasPageWork };
+
+    ghost calls_count = { calls_count };
+
+    ghost works_count = { works_count };
+
+    ghost takes_count = { takes_count };
+
+    ghost notes_count = { notes_count };
+
+    fn version(&self) -> u64 {
+        self.painting.board().version()
+    }
+
+    fn file(&self) -> Result<Vec<u8>, Memory> {
+        self.painting.board().state_file(self.alloc)
+    }
+
+    fn take(&mut self, found: &[u8]) -> Result<(), RunError> {
+        self.painting.take_found(found)
+    }
+
+    fn note(&mut self, why: Option<RunError>) {
+        self.painting.note_kept(why);
+    }
+
+    // Where no work is left, the board is not touched, so that the files that the painting has made stay. Where memory
+    // is wanting, the rest is left.
+    fn work(&mut self) -> bool {
+        self.painting.forget_read();
+        if self.painting.board().is_quiet() {
+            return false;
+        }
+        let _ = self.painting.grow(self.jobs);
+        !self.painting.board().is_quiet()
+    }
+}

@@ -1,0 +1,15 @@
+pub use Rattle.http_server.specs.Response
+pub use Rattle.page_board.specs.Board
+pub use Rattle.page_board.specs.Growing
+pub use Rattle.page_board.specs.Later
+pub use Rattle.page_board.specs.Changes
+pub use Rattle.page_board.specs.Taking
+pub mod Sender
+pub mod Table
+pub mod Refusing
+pub mod Showing
+pub mod AnswerFields
+pub mod Painting
+pub mod Stored
+pub mod Answering
+pub mod Laws

@@ -1,5 +1,0 @@
-use Rattle.paint_board.proofs.Keeping.{all_is_kept}
-use Rattle.paint_board.proofs.laws.all_is_kept.Goals as goal
-
-pub returns : goal.returns
-returns c = all_is_kept

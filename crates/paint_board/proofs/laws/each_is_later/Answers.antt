@@ -1,5 +1,0 @@
-use Rattle.paint_board.proofs.Later.{each_is_later}
-use Rattle.paint_board.proofs.laws.each_is_later.Goals as goal
-
-pub returns : goal.returns
-returns c = each_is_later

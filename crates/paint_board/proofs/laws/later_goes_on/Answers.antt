@@ -1,5 +1,0 @@
-use Rattle.paint_board.proofs.Later.{later_goes_on}
-use Rattle.paint_board.proofs.laws.later_goes_on.Goals as goal
-
-pub returns : goal.returns
-returns c = later_goes_on

@@ -1,5 +1,0 @@
-use Rattle.paint_board.proofs.Keeping.{later_has_all}
-use Rattle.paint_board.proofs.laws.later_has_all.Goals as goal
-
-pub returns : goal.returns
-returns c = later_has_all

@@ -1,7 +1,0 @@
-use Rattle.std.proofs.Common.{sym, subst₂}
-use Rattle.http_server.specs.History.{Rests}
-use Rattle.paint_rounds.proofs.transfer.read_once.Goals as goal
-
-pub returns-in-Err-clause-rests : goal.returns-in-Err-clause-rests
-returns-in-Err-clause-rests g c =
-    λ rests. subst₂ Rests (sym c.read_from.ensures.config) (sym c.in-Err.ensures.err.0) rests

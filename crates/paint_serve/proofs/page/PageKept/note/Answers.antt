@@ -1,5 +1,0 @@
-use Rattle.paint_serve.proofs.Counting.{page_notes}
-use Rattle.paint_serve.proofs.page.PageKept.note.Goals as goal
-
-pub returns : goal.returns
-returns c = page_notes _ _ _ c.note_kept.ensures

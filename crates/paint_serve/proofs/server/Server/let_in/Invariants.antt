@@ -1,5 +1,0 @@
-use Rattle.paint_serve.specs.Turning.{LetsIn}
-use Rattle.paint_serve.proofs.server.Server.let_in.Given as goal
-
-abbrev pub invariant-loop : goal.invariant-loop
-invariant-loop g l = LetsIn l.now l.fn.self l.self

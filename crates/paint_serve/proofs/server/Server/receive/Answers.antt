@@ -1,9 +1,0 @@
-use Rattle.std.proofs.Common.{refl}
-use Rattle.paint_serve.proofs.Turnings.{lets_none_in}
-use Rattle.paint_serve.proofs.server.Server.receive.Goals as goal
-
-pub returns-in-Ok : goal.returns-in-Ok
-returns-in-Ok g c = lets_none_in c.args.now c.args.self.now _ c.admit.ensures.key
-
-pub returns-in-Err : goal.returns-in-Err
-returns-in-Err g c = lets_none_in c.args.now c.args.self.now c.args.self.now.hall refl
