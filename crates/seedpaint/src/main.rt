@@ -4,20 +4,17 @@
 //! others: its holes filled, its h-maxima, its regional maxima. As a node it shares an image with others over UDP, on
 //! loopback, before it writes it. And it serves a page on which strokes are painted, to browsers on this machine.
 //!
-//! `words` reads the command line, and `process` makes the call that its words say, by the libraries `paint_session`
-//! and `node_session`; a painting it leaves to `paint_serve`. Read on in `docs/ARCHITECTURE.md`.
-
-pub mod process;
-pub mod words;
+//! The library `command_line` reads the words and makes the call that they say; a painting it leaves to `page_server`.
+//! Read on in `docs/ARCHITECTURE.md`.
 
 use band_growth::ManyThreads;
 use byte_devices::{StdSink, StdSource};
+use command_line::process::{conclude, run};
 use node_session::network::Loopback;
-use paint_serve::paint;
-use paint_session::file_store::FileStore;
-use process::{conclude, run};
+use page_server::paint;
 use std::env;
 use std::process::ExitCode;
+use view_session::file_store::FileStore;
 
 // For how many milliseconds a save of a page waits for other programs. Then the page says so, and tries again.
 const PAGE_PATIENCE: u32 = 600;
@@ -49,6 +46,3 @@ fn main(rt: HostRuntime) -> ExitCode {
     };
     conclude(rt.alloc(), &outcome, &mut StdSink::new(rt.stderr()))
 }
-
-#[cfg(test)]
-mod tests;

@@ -1,0 +1,14 @@
+pub use Rattle.view_session.specs.Input
+pub use Rattle.view_session.specs.Merging
+pub use Rattle.run_faults.specs.RunError
+pub use Rattle.view_session.specs.Store
+pub use Rattle.view_session.specs.Serving
+pub use Rattle.view_session.specs.View
+pub use Rattle.view_session.specs.Kept
+pub use Rattle.view_session.specs.Derive
+pub use Rattle.node_session.specs.Given
+pub use Rattle.node_session.specs.Shared
+pub use Rattle.node_session.specs.Network
+pub use Rattle.node_session.specs.Stored
+pub mod Words
+pub mod Run

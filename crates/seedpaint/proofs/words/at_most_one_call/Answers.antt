@@ -1,5 +1,0 @@
-use Rattle.seedpaint.proofs.Subcommands.{one_call}
-use Rattle.seedpaint.proofs.words.at_most_one_call.Goals as goal
-
-pub returns : goal.returns
-returns c words a b = one_call words a b
