@@ -1,31 +1,53 @@
-//! Masks, and what is seen of a core.
+//! Small images, and what is seen of them.
 
 use grid_core::Grid;
 use pgm_codec::Image;
 use reset_core::Core;
 use std::alloc::Global;
-use std::test::Fail;
 
-/// A mask of this width and height, whose pixels are these values, each so often.
+/// An image of this width and height, whose pixels are these values, each so often.
 #[derive(Clone, Copy)]
-pub struct Mask<'a> {
-    pub width: u32,
-    pub height: u32,
-    pub pixels: &'a [(usize, u16)],
-}
+pub struct Mask<'a>(pub u32, pub u32, pub &'a [(usize, u16)]);
 
-/// The image of a mask.
-pub fn image_of(alloc: Global, mask: &Mask<'_>) -> Result<Image, Fail> {
-    let mut grid = Grid::new(alloc, mask.width, mask.height, 0)?;
+/// A row of five pixels.
+pub const HILLS: Mask<'static> = Mask(5, 1, &[(1, 3), (1, 5), (1, 2), (1, 5), (1, 4)]);
+
+/// A row of fours, of two tiles of side 64.
+pub const FOURS: Mask<'static> = Mask(128, 1, &[(128, 4)]);
+
+/// A row of three tiles of side 64, dark but at its ends.
+pub const ENDS: Mask<'static> = Mask(192, 1, &[(10, 4), (172, 0), (10, 4)]);
+
+/// The grid of a mask, where there is memory.
+pub fn mask_of(alloc: Global, mask: &Mask<'_>) -> Option<Grid> {
+    let Mask(width, height, pixels) = mask;
+    let mut grid = Grid::new(alloc, *width, *height, 0).ok()?;
     let mut start: usize = 0;
-    for (count, value) in mask.pixels {
+    for (count, value) in *pixels {
         let end = start.saturating_add(*count);
         if let Some(cells) = grid.cells_mut().get_mut(start..end) {
             cells.fill(*value);
         }
         start = end;
     }
-    Ok(Image::from_grid(alloc, &grid, 9)?)
+    Some(grid)
+}
+
+/// The image of a mask, where there is memory.
+pub fn image_of(alloc: Global, mask: &Mask<'_>) -> Option<Image> {
+    let grid = mask_of(alloc, mask)?;
+    Image::from_grid(alloc, &grid, 9).ok()
+}
+
+/// The grid of these values, where they are as many and there is memory.
+pub fn grid_of(alloc: Global, width: u32, height: u32, values: &[u16]) -> Option<Grid> {
+    let mut grid = Grid::new(alloc, width, height, 0).ok()?;
+    let cells = grid.cells_mut();
+    if cells.len() != values.len() {
+        return None;
+    }
+    cells.copy_from_slice(values);
+    Some(grid)
 }
 
 /// Whether the cells are these values, each so often.
@@ -50,28 +72,4 @@ pub fn are_tiles(core: &Core, reset: &[usize], dirty: &[usize]) -> bool {
         }
     }
     true
-}
-
-/// Whether a core tells, from each tile on, the next one that can be taken, is out, or has hints, as its marks say.
-pub fn are_next_told(core: &Core) -> bool {
-    let mut ready = None;
-    let mut out = None;
-    let mut waiting = None;
-    for tile in (0..core.tiles()).rev() {
-        if core.is_out(tile) {
-            out = Some(tile);
-        } else if core.is_dirty(tile) {
-            ready = Some(tile);
-        }
-        if core.waiting(tile) > 0 {
-            waiting = Some(tile);
-        }
-        if core.next_dirty(tile) != ready
-            || core.next_out(tile) != out
-            || core.next_waiting(tile) != waiting
-        {
-            return false;
-        }
-    }
-    core.next_dirty(core.tiles()).is_none()
 }

@@ -1,45 +1,153 @@
-//! What is posted while saves fail, and what another program has put into the state file.
+//! Ten requests, where a call of the store fails, or a growth of memory is refused; and boards that are refused.
 
-use crate::exchange::{FOUR, Play, Requests, Row, comes_out_on};
-use crate::files::state_over;
-use crate::strokes::{EDITS, STROKE, STROKES, WITHDRAWAL};
-use paint_page::Painting;
-use paint_session::run_error::RunError;
+use crate::files::OLD;
+use crate::session::{BLANK, Scene, Session};
+use crate::spelling::begins;
+use crate::steps::{STEPS, Step};
+use pgm_codec::PgmError;
+use run_faults::{RunError, status};
+use std::alloc::Global;
+use std::random::RandomSource;
+use std::test::Fail;
 
-// While saves fail posts are not taken, and all else is answered.
-const UNKEPT: &[Row] = &[
-    (EDITS, WITHDRAWAL, "503", Some(b"seedpaint: V2")),
-    ("POST /KEY/state", b"", "503", Some(b"seedpaint: V2")),
-    (STROKES, b"", "200", Some(STROKE)),
-    ("GET /KEY/state", b"", "200", None),
-];
+// What the requests begin with: the file has a stroke on the fourth pixel.
+const SCENE: Scene = Scene { kept: OLD, ..BLANK };
 
-// Where they succeed again, posts are taken.
-const KEPT: &[Row] = &[
-    (EDITS, WITHDRAWAL, "200", None),
-    (STROKES, b"", "200", Some(b"")),
-];
+// A call of the store fails, which stands before a mask that is none.
+const LOST: Scene = Scene {
+    mask: b"P7\n",
+    failing_call: 1,
+    ..BLANK
+};
 
-/// A stroke is found in the state file; then saves fail, and succeed again.
-#[derive(Clone, Copy)]
-struct Failing;
+// A pull of the mask's file fails, which stands before a state file that is none.
+const CUT: Scene = Scene {
+    kept: b"\0",
+    failing_pull: 1,
+    ..BLANK
+};
 
-impl Play for Failing {
-    fn comes_out(&self, rt: &HostRuntime, painting: &mut Painting) -> bool {
-        let Some(file) = state_over(rt, FOUR) else {
-            return false;
-        };
-        if painting.take_found(&file).is_err() {
-            return false;
+// Why the requests are not all answered rightly.
+#[derive(Clone, Copy, Debug, PartialEq, Eq)]
+enum Fault {
+    // No board was opened.
+    Unopened(RunError),
+    // This one is answered wrongly, also when it is made again, or the file is another one than it may be.
+    At(&'static str),
+}
+
+// How often somebody asked until all were answered, and how often one that looked on was not told the mask meanwhile.
+#[derive(Clone, Copy, Debug, PartialEq, Eq)]
+struct Asked {
+    asked: u32,
+    unseen: u32,
+}
+
+// How a request was answered.
+#[derive(Clone, Copy, Debug, PartialEq, Eq)]
+enum Reply {
+    // With 200 and the end that it has to have, and the file is the one of the step.
+    Right,
+    // Not at all, or with 503: saves fail, or it was taken and memory is wanting to tell what changed.
+    Unkept,
+    Wrong,
+}
+
+// Asks for a step. Its answer has to end so.
+fn reply_to<R: RandomSource>(rt: &R, session: &mut Session, step: &Step, end: &[u8]) -> Reply {
+    let &(line, body, _, _, file) = step;
+    session.ask_ours(rt, line, body);
+    let told = session.told();
+    if told.is_empty() || begins(told, b"503") {
+        return Reply::Unkept;
+    }
+    let is_right = begins(told, b"200") && told.ends_with(end);
+    if is_right && session.has_file(file) {
+        Reply::Right
+    } else {
+        Reply::Wrong
+    }
+}
+
+// Asks for a step until it is answered rightly; before it the file was this. How often that takes, if it comes to that:
+// once, where nothing failed; twice, where memory was wanting; three times, where what was taken could not be kept, so
+// that the second one is held off while it is.
+fn asks<R: RandomSource>(rt: &R, session: &mut Session, step: &Step, old: &[u8]) -> Option<u32> {
+    let &(_, _, end, again, file) = step;
+    let version = session.version();
+    match reply_to(rt, session, step, end) {
+        Reply::Right => return Some(1),
+        Reply::Unkept if session.has_file(old) || session.has_file(file) => {}
+        _ => return None,
+    }
+    let is_taken = session.version() != version;
+    let end = if is_taken { again } else { end };
+    match reply_to(rt, session, step, end) {
+        Reply::Right => Some(2),
+        Reply::Unkept if is_taken && session.has_file(file) => {
+            match reply_to(rt, session, step, end) {
+                Reply::Right => Some(3),
+                _ => None,
+            }
         }
-        painting.note_kept(Some(RunError::StateFile));
-        let is_held_off = Requests(UNKEPT).comes_out(rt, painting);
-        painting.note_kept(None);
-        is_held_off && Requests(KEPT).comes_out(rt, painting)
+        _ => None,
+    }
+}
+
+fn asks_all<R: RandomSource>(rt: &R, session: &mut Session) -> Result<Asked, Fault> {
+    let mut asked = 0u32;
+    let mut file = OLD;
+    for step in STEPS {
+        match asks(rt, session, step, file) {
+            Some(count) => asked = asked.saturating_add(count),
+            None => return Err(Fault::At(step.0)),
+        }
+        file = step.4;
+    }
+    let unseen = session.unseen();
+    Ok(Asked { asked, unseen })
+}
+
+fn play<R: RandomSource>(rt: &R, alloc: Global, scene: &Scene) -> Result<Asked, Fault> {
+    match Session::open(alloc, scene) {
+        Ok(mut session) => {
+            let asked = asks_all(rt, &mut session);
+            drop(session);
+            asked
+        }
+        Err(why) => Err(Fault::Unopened(why)),
     }
 }
 
 #[test]
-fn nothing_is_taken_while_saves_fail(rt: HostRuntime) {
-    assert!(rt; comes_out_on(&rt, FOUR, &Failing));
+fn boards_are_refused(rt: HostRuntime) {
+    let cut = RunError::Pgm(PgmError::Device);
+    for (scene, why) in [(&LOST, RunError::StateFile), (&CUT, cut)] {
+        assert_eq!(rt; play(&rt, rt.alloc(), scene), Err(Fault::Unopened(why)));
+    }
+}
+
+#[test]
+fn each_save_fails_in_turn(rt: HostRuntime) {
+    // The first call of the store is a load, and then there is a save of each of three posts.
+    for (failing_call, asked) in [(2, 12), (3, 12), (4, 12), (5, 10)] {
+        let scene = Scene {
+            failing_call,
+            ..SCENE
+        };
+        let all = Ok(Asked { asked, unseen: 0 });
+        assert_eq!(rt; play(&rt, rt.alloc(), &scene), all, "call {failing_call}");
+    }
+}
+
+#[test]
+fn ten_requests_tried_again(rt: HostRuntime) -> Result<(), Fail> {
+    match play(&rt, rt.alloc(), &SCENE) {
+        Ok(_) => Ok(()),
+        Err(Fault::Unopened(why)) if status(&why) == 3 => {
+            Err(Fail::new("no memory to begin with"))
+        }
+        Err(Fault::Unopened(_)) => Err(Fail::new("no board")),
+        Err(Fault::At(line)) => Err(Fail::new(line)),
+    }
 }

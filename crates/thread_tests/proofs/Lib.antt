@@ -1,2 +1,1 @@
-mod Blank
-mod Fronts
+pub mod Companies

@@ -1,10 +1,10 @@
 -- The definitions of this crate, and those from below that its clauses cite.
-pub use Rattle.grid_core.specs.Path
-pub use Rattle.grid_core.specs.Raster
-pub use Rattle.grid_core.specs.Reconstruction
-pub use Rattle.stroke_lattice.specs.State
-pub use Rattle.marker_tiles.specs.Marker
-pub use Rattle.shot_chain.specs.Shots
-pub use Rattle.shot_chain.specs.Chains
-pub use Rattle.shot_chain.specs.Words
-pub mod Blank
+pub use Rattle.core_dispatch.specs.Books
+pub use Rattle.core_dispatch.specs.Pens
+pub use Rattle.core_dispatch.specs.Closing
+pub use Rattle.studio.specs.Words
+pub use Rattle.studio.specs.Keeping
+pub use Rattle.live_board.specs.Seats
+pub use Rattle.live_board.specs.Words as BoardWords
+pub use Rattle.link_nodes.specs.Nodes
+pub mod Company

@@ -1,11 +1,37 @@
 #![tactic(auto)]
-//! Tests of what threads share with whoever keeps a core: pens and the books of their edits, shots and eyes.
+//! Tests of what threads share: pools, studios, boards, and nodes with their links.
 //!
 //! They stand in a crate of their own because tests are proved safe as well: a crate with tests is proved twice. Where
-//! a contract says exactly what a call gives there is no case: what is tested is that calls succeed at all, and that
-//! callers in other threads meet each condition.
+//! a contract says exactly what a call gives there is no case. What is tested is that calls succeed at all, worked
+//! examples, what comes of it while threads run, and that devices fail. Tests whose names end in `_tried_again` pass
+//! whatever one growth of memory is refused (`bench/refused.py`).
 
 #[cfg(test)]
-mod edits;
+mod boards;
+pub mod company;
 #[cfg(test)]
-mod shots;
+mod crowd;
+#[cfg(test)]
+mod frames;
+#[cfg(test)]
+mod gates;
+#[cfg(test)]
+mod nodes;
+#[cfg(test)]
+mod outcome;
+#[cfg(test)]
+mod peeks;
+#[cfg(test)]
+mod pictures;
+#[cfg(test)]
+mod playing;
+#[cfg(test)]
+mod pools;
+#[cfg(test)]
+mod refusals;
+#[cfg(test)]
+mod runs;
+#[cfg(test)]
+mod scene;
+#[cfg(test)]
+mod turning;

@@ -1,0 +1,27 @@
+//! States of edit texts.
+
+use edit_lang::parse;
+use std::alloc::Global;
+use stroke_lattice::State;
+
+/// An edit text in which `#` stood for all of a tag but its last two digits, which are zeros.
+pub fn whole(alloc: Global, text: &str) -> Option<String> {
+    text.replace(alloc, '#', "00000000-0000-0000-0000-0000000000")
+        .ok()
+}
+
+/// The join of the deltas of such an edit text. There is none where a line has a fault, or where two strokes clash.
+pub fn state_of(alloc: Global, text: &str) -> Option<State> {
+    let whole = whole(alloc, text)?;
+    let deltas = parse(alloc, whole.as_bytes()).ok()?;
+    join_of(alloc, &deltas)
+}
+
+// The join of these states, if none clash.
+fn join_of(alloc: Global, states: &[State]) -> Option<State> {
+    let mut joined = State::empty(alloc).ok()?;
+    for state in states {
+        joined.merge(alloc, state).ok()?;
+    }
+    Some(joined)
+}

@@ -1,5 +1,0 @@
-use Rattle.studio_tests.specs.Company.{KeepsCompany}
-use Rattle.studio_tests.proofs.scene.turns_until_quiet.Given as goal
-
-abbrev pub invariant-loop : goal.invariant-loop
-invariant-loop l = KeepsCompany l.fn.keeper l.keeper

@@ -1,7 +1,0 @@
-use Rattle.studio.specs.Keeping.{books_of}
-use Rattle.studio_tests.proofs.Companies.{pens_stay}
-use Rattle.studio_tests.proofs.settling.closes_at_work.Goals as goal
-
-pub close-requires : goal.close-requires
-close-requires g c = pens_stay _ _ _ c.shows_and_recalls-shown.ensures.pens
-    (c.submit_strokes-submitted.ensures.books (books_of c.args.keeper) c.requires)

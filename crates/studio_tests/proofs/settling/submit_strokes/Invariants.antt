@@ -1,5 +1,0 @@
-use Rattle.studio_tests.specs.Company.{KeepDesks}
-use Rattle.studio_tests.proofs.settling.submit_strokes.Given as goal
-
-abbrev pub invariant-loop-number : goal.invariant-loop-number
-invariant-loop-number l = KeepDesks l.fn.pens.items l.pens.items

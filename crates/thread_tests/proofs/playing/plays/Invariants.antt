@@ -1,0 +1,5 @@
+use Rattle.thread_tests.specs.Company.{IsCompany}
+use Rattle.thread_tests.proofs.playing.plays.Given as goal
+
+abbrev pub invariant-loop-line : goal.invariant-loop-line
+invariant-loop-line g l = IsCompany l.scene

@@ -1,0 +1,265 @@
+//! Nodes over links in memory.
+
+ghost use Rattle.std.specs.Prelude.{◌≡◌, IfSome};
+ghost use Rattle.link_nodes.specs.Nodes.{IsSameNode, pen_of};
+ghost use Rattle.core_dispatch.specs.Pens.{IsOf};
+ghost use Rattle.studio.specs.Keeping.{books_of};
+ghost use Rattle.thread_tests.specs.Company.{IsCompany};
+
+use crate::frames::{FIRST, OF_ANOTHER_IMAGE};
+use crate::pictures::{BOTH, Edit, Mask, joined, settles_on};
+use crate::scene::{Scene, close_keeper, ends_of, open, stop};
+use core_dispatch::Pen;
+use grid_core::Conn;
+use link_nodes::{Heard, Link, MemoryLink, Node, NodeError, Sent};
+use reset_core::Core;
+use spd_codec::{Print, SpdError};
+use std::alloc::Global;
+use std::sync::Wait;
+use std::test::Fail;
+use stroke_core::Tag;
+use studio::{Eye, Keeper};
+
+// A node for the row, by the fingerprint that stands in a frame.
+fn node_of(pen: Pen, eye: Eye) -> Node
+    ensures { pen_of result ≡ pen }
+{
+    let mut print = [0; 32];
+    for (byte, told) in print.iter_mut().zip(FIRST.iter().skip(5)) {
+        *byte = *told;
+    }
+    Node::new(pen, eye, Conn::Four, Print::from_bytes(print))
+}
+
+// A core with these strokes, and the tombstones of so many tags from 100 on.
+fn core_with(alloc: Global, edits: &[Edit], tombstones: u16) -> Option<Core> {
+    let mut core = Mask::Row.core(alloc, Conn::Four)?;
+    let mut strokes = joined(alloc, edits)?;
+    for number in 0..tombstones {
+        let tag = Tag(u128::from(number) + 100);
+        if !strokes.has_tombstone(tag) {
+            strokes.bury(tag).ok()?;
+        }
+    }
+    core.merge(alloc, &strokes).is_ok().then_some(core)
+}
+
+fn open_with<R: Wait>(rt: &R, alloc: Global, edits: &[Edit], tombstones: u16) -> Option<Scene>
+    ensures { IfSome result IsCompany }
+{
+    open(rt, alloc, core_with(alloc, edits, tombstones)?, 1)
+}
+
+// Whether the link can be fed the datagrams that the other sent, at these places.
+fn carries(to: &mut MemoryLink, from: &MemoryLink, places: &[usize]) -> bool {
+    for place in places {
+        if *place >= from.sent().len() || to.carry(from, &[*place]).is_err() {
+            return false;
+        }
+    }
+    true
+}
+
+// Whether the ticks of a node come to these.
+fn ticks(alloc: Global, node: &mut Node, link: &mut MemoryLink, all: &[(Heard, Sent)]) -> bool
+    ensures { IsSameNode node.old node.new }
+{
+    let mut are_so = true;
+    for (heard, sent) in all {
+        let ticked = node.tick(alloc, link);
+        are_so = (ticked.heard == *heard) & (ticked.sent == *sent) & are_so;
+    }
+    are_so
+}
+
+const TAKEN: Heard = Heard::Submitted;
+
+const FAILED: Heard = Heard::Refused(NodeError::Device);
+
+const TOO_LONG: Heard = Heard::Refused(NodeError::Spd(SpdError::TooLong));
+
+// What comes of a frame for the image, of one for another, of one that is too long, and of nothing.
+const HEARD: &[&[(Heard, Sent)]] = &[&[
+    (TAKEN, Sent::Nothing),
+    (Heard::Refused(NodeError::OtherMask), Sent::Nothing),
+    (TOO_LONG, Sent::Nothing),
+    (Heard::Nothing, Sent::Nothing),
+]];
+
+const UNSENT: Sent = Sent::Refused(NodeError::Device);
+
+// What comes of two ticks where the call of number 1 fails, that of number 2, and so on. At each tick a poll comes
+// before a send, and there are three pieces to send, one after another.
+const FAILING: &[&[(Heard, Sent)]] = &[
+    &[(FAILED, Sent::Piece(0)), (TAKEN, Sent::Piece(1))],
+    &[(TAKEN, UNSENT), (TAKEN, Sent::Piece(2))],
+    &[(TAKEN, Sent::Piece(0)), (FAILED, Sent::Piece(1))],
+    &[(TAKEN, Sent::Piece(2)), (TAKEN, UNSENT)],
+];
+
+/// A link that is fed these datagrams, and whose call of a number fails.
+pub fn link_with(alloc: Global, fed: &[&[u8]], fails_at: Option<u64>) -> Option<MemoryLink> {
+    let mut link = MemoryLink::new(alloc, fails_at);
+    let mut relay = MemoryLink::new(alloc, None);
+    for (place, datagram) in fed.iter().enumerate() {
+        let is_sent = relay.send(datagram).is_ok();
+        if !is_sent || !carries(&mut link, &relay, &[place]) {
+            return None;
+        }
+    }
+    Some(link)
+}
+
+// Whether the ticks of a node come to these over one link after another, each of which is fed these datagrams; the
+// first call of the first link fails, the second of the second, and so on, or none.
+fn ticks_over(
+    alloc: Global,
+    node: &mut Node,
+    fed: &[&[u8]],
+    fails: bool,
+    links: &[&[(Heard, Sent)]],
+) -> bool {
+    let mut are_so = true;
+    let mut call: u64 = 0;
+    for all in links {
+        call = call.saturating_add(1);
+        are_so = match link_with(alloc, fed, fails.then_some(call)) {
+            Some(mut link) => ticks(alloc, node, &mut link, all) & are_so,
+            None => false,
+        };
+    }
+    are_so
+}
+
+// The same of the node of a new studio, whose core has so many tombstones, and whether its keeper takes so many edits.
+fn goes<R: Wait>(
+    rt: &R,
+    alloc: Global,
+    tombstones: u16,
+    fed: &[&[u8]],
+    fails: bool,
+    links: &[&[(Heard, Sent)]],
+) -> bool {
+    let Some(scene) = open_with(rt, alloc, &[], tombstones) else {
+        return false;
+    };
+    let Scene {
+        keeper,
+        pen,
+        eye,
+        hands: _,
+    } = scene;
+    let mut node = node_of(pen, eye);
+    let is_so = ticks_over(alloc, &mut node, fed, fails, links);
+    drop(node);
+    drop(keeper.end(rt));
+    is_so
+}
+
+#[test]
+fn a_frame_for_the_image_is_submitted(rt: HostRuntime) -> Result<(), Fail> {
+    let fed: &[&[u8]] = &[FIRST, OF_ANOTHER_IMAGE, &[0; 1401]];
+    assert!(rt; goes(&rt, rt.alloc(), 0, fed, false, HEARD));
+    Ok(())
+}
+
+#[test]
+fn a_link_that_fails_once_costs_one_poll_or_one_send(rt: HostRuntime) -> Result<(), Fail> {
+    assert!(rt; goes(&rt, rt.alloc(), 200, &[FIRST, FIRST], true, FAILING));
+    Ok(())
+}
+
+// ---- two nodes
+
+const SPOKEN: &[(Heard, Sent)] = &[
+    (Heard::Nothing, Sent::Piece(0)),
+    (Heard::Nothing, Sent::Piece(1)),
+    (Heard::Nothing, Sent::Piece(0)),
+    (Heard::Nothing, Sent::Piece(1)),
+];
+
+const LISTENED: &[(Heard, Sent)] = &[
+    (TAKEN, Sent::Piece(0)),
+    (TAKEN, Sent::Piece(1)),
+    (TAKEN, Sent::Piece(0)),
+    (Heard::Nothing, Sent::Piece(1)),
+];
+
+// Whether two nodes tell each other their strokes, in two pieces each, of which each is sent twice. The one hears the
+// second piece twice and then the first, and the other the first twice and then the second. The others are lost.
+fn tell(alloc: Global, one: &mut Node, two: &mut Node) -> bool
+    ensures one { IsSameNode one.old one.new }
+    ensures two { IsSameNode two.old two.new }
+{
+    let mut here = MemoryLink::new(alloc, None);
+    let mut there = MemoryLink::new(alloc, None);
+    let are_told = ticks(alloc, one, &mut here, SPOKEN) & ticks(alloc, two, &mut there, SPOKEN);
+    let to = carries(&mut there, &here, &[3, 3, 0]);
+    let from = carries(&mut here, &there, &[2, 2, 1]);
+    let are_heard = ticks(alloc, one, &mut here, LISTENED)
+        & ticks(alloc, two, &mut there, LISTENED);
+    are_told & to & from & are_heard
+}
+
+fn close<R: Wait>(rt: &R, alloc: Global, keeper: Keeper, node: Node) -> Option<Core>
+    requires { IsOf (pen_of node) (books_of keeper) }
+{
+    let (pen, eye) = node.leave();
+    drop(eye);
+    close_keeper(rt, keeper, ends_of(alloc, pen))
+}
+
+fn are_equal(one: &Option<Core>, two: &Option<Core>) -> bool {
+    matches!((one, two), (Some(one), Some(two)) if one.state().is_same(two.state()))
+}
+
+// Whether two nodes that tell each other their strokes end equal.
+fn meet<R: Wait>(rt: &R, alloc: Global, one: Scene, two: Scene) -> bool
+    requires one { IsCompany one }
+    requires two { IsCompany two }
+{
+    let Scene {
+        keeper: here,
+        pen,
+        eye,
+        hands: _,
+    } = one;
+    let mut first = node_of(pen, eye);
+    let Scene {
+        keeper: there,
+        pen,
+        eye,
+        hands: _,
+    } = two;
+    let mut second = node_of(pen, eye);
+    let is_told = tell(alloc, &mut first, &mut second);
+    let mut one = close(rt, alloc, here, first);
+    let mut two = close(rt, alloc, there, second);
+    let are_grown = settles_on(alloc, &mut one, BOTH) & settles_on(alloc, &mut two, BOTH);
+    let are_equal = are_equal(&one, &two);
+    drop(one);
+    drop(two);
+    is_told & are_grown & are_equal
+}
+
+// The same with another studio.
+fn meets<R: Wait>(rt: &R, alloc: Global, one: Scene) -> bool
+    requires { IsCompany one }
+{
+    match open_with(rt, alloc, &[Edit::Place(2, 3, 4)], 100) {
+        Some(two) => meet(rt, alloc, one, two),
+        None => {
+            stop(rt, one);
+            false
+        }
+    }
+}
+
+#[test]
+fn two_nodes_end_equal(rt: HostRuntime) -> Result<(), Fail> {
+    let Some(one) = open_with(&rt, rt.alloc(), &[Edit::Place(1, 9, 1)], 100) else {
+        return Err(Fail::new("no studio"));
+    };
+    assert!(rt; meets(&rt, rt.alloc(), one));
+    Ok(())
+}

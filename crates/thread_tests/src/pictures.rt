@@ -1,0 +1,214 @@
+//! Masks, cores, edits, and what grows from strokes.
+
+use grid_core::{Conn, Grid, TILE_SIDE};
+use marker_tiles::marker;
+use raster_sweeps::slow;
+use reset_core::Core;
+use std::alloc::Global;
+use stroke_core::{Run, Stroke, Tag};
+use stroke_lattice::{Delta, State};
+
+/// The row, what grows in it from level 9 in the second column, from that and level 3 in the last one, and from the
+/// latter alone, as worked out by hand.
+pub const ROW: &[u16] = &[3, 5, 2, 5, 4];
+
+pub const GROWN: &[u16] = &[3, 5, 2, 2, 2];
+
+pub const BOTH: &[u16] = &[3, 5, 2, 3, 3];
+
+pub const LEFT: &[u16] = &[2, 2, 2, 3, 3];
+
+/// The row without strokes.
+pub const BARE: &[u16] = &[0, 0, 0, 0, 0];
+
+/// What is painted over.
+#[derive(Clone, Copy)]
+pub enum Mask {
+    /// The row.
+    Row,
+    /// A row of 128 fours, which is two tiles.
+    TwoTiles,
+    /// 65 tiles, with one pixel of value 4 in each.
+    ManyTiles,
+    /// Stripes of 1 to 3, in nine tiles.
+    Stripes,
+    /// The same in 1,024 tiles.
+    SmallTiles,
+}
+
+impl Mask {
+    /// The mask.
+    pub fn grid(self, alloc: Global) -> Option<Grid> {
+        match self {
+            Mask::Row => row_of(alloc, ROW),
+            Mask::TwoTiles => Grid::new(alloc, 128, 1, 4).ok(),
+            Mask::ManyTiles => many_tiles(alloc),
+            Mask::Stripes => stripes(alloc, 128),
+            Mask::SmallTiles => stripes(alloc, 256),
+        }
+    }
+
+    // How wide and high its tiles are.
+    fn side(self) -> u32 {
+        match self {
+            Mask::Stripes => 48,
+            Mask::SmallTiles => 8,
+            Mask::Row | Mask::TwoTiles | Mask::ManyTiles => TILE_SIDE,
+        }
+    }
+
+    /// A core on it.
+    pub fn core(self, alloc: Global, conn: Conn) -> Option<Core> {
+        let mask = self.grid(alloc)?;
+        Core::over(alloc, mask, conn, self.side(), 0).ok()
+    }
+}
+
+fn row_of(alloc: Global, values: &[u16]) -> Option<Grid> {
+    let width = u32::try_from(values.len()).ok()?;
+    let mut row = Grid::new(alloc, width, 1, 0).ok()?;
+    for (cell, value) in row.cells_mut().iter_mut().zip(values) {
+        *cell = *value;
+    }
+    Some(row)
+}
+
+// The first pixel of each tile of the first row of tiles, and that of the first tile below.
+fn many_tiles(alloc: Global) -> Option<Grid> {
+    let mut mask = Grid::new(alloc, 4096, 128, 0).ok()?;
+    for (place, cell) in mask.cells_mut().iter_mut().enumerate() {
+        if place == 4096 * 64 || (place < 4096 && place % 64 == 0) {
+            *cell = 4;
+        }
+    }
+    Some(mask)
+}
+
+fn stripes(alloc: Global, side: u32) -> Option<Grid> {
+    let mut mask = Grid::new(alloc, side, side, 0).ok()?;
+    for (place, cell) in mask.cells_mut().iter_mut().enumerate() {
+        *cell = (place / 40 % 3 + 1) as u16;
+    }
+    Some(mask)
+}
+
+/// An edit.
+#[derive(Clone, Copy)]
+pub enum Edit {
+    /// A stroke of this tag and level, on one pixel of the first row.
+    Place(u128, u32, u16),
+    /// A stroke of this tag and level: a disc of this centre and radius.
+    Disc(u128, u32, (u16, u16), u32),
+    /// The stroke of tag 1 and level 9 on the pixels of value 4 in many tiles.
+    Spread,
+    /// The stroke of this tag is withdrawn.
+    Withdraw(u128),
+}
+
+impl Edit {
+    /// Its delta.
+    pub fn delta(self, alloc: Global) -> Option<Delta> {
+        match self {
+            Edit::Place(tag, level, x) => {
+                let runs = vec![in alloc; Run { y: 0, x0: x, x1: x }].ok()?;
+                placed(alloc, tag, Stroke::new(level, runs).ok()?)
+            }
+            Edit::Disc(tag, level, (x, y), radius) => {
+                placed(alloc, tag, Stroke::disc(level, x, y, radius).ok()?)
+            }
+            Edit::Spread => placed(alloc, 1, spread(alloc)?),
+            Edit::Withdraw(tag) => State::withdrawn(alloc, Tag(tag)).ok(),
+        }
+    }
+}
+
+fn placed(alloc: Global, tag: u128, stroke: Stroke) -> Option<Delta> {
+    State::placed(alloc, Tag(tag), stroke).ok()
+}
+
+fn spread(alloc: Global) -> Option<Stroke> {
+    let mut runs = Vec::new(alloc);
+    for tile in 0..65u16 {
+        let (x, y) = if tile < 64 { (tile * 64, 0) } else { (0, 64) };
+        runs.push(Run { y, x0: x, x1: x }).ok()?;
+    }
+    Stroke::new(9, runs).ok()
+}
+
+/// The join of these edits.
+pub fn joined(alloc: Global, edits: &[Edit]) -> Option<State> {
+    let mut state = State::empty(alloc).ok()?;
+    for edit in edits {
+        let delta = edit.delta(alloc)?;
+        state.merge(alloc, &delta).ok()?;
+    }
+    Some(state)
+}
+
+/// What grows in the mask from the strokes, by the slow program.
+pub fn grown(alloc: Global, mask: &Grid, conn: Conn, state: &State) -> Option<Grid> {
+    if state.outside(mask.width(), mask.height()).is_some() {
+        return None;
+    }
+    let marker = marker(alloc, mask, state).ok()?;
+    slow(alloc, mask, &marker, conn).ok()
+}
+
+/// Whether the image of a core is what grows from its strokes.
+pub fn is_grown(alloc: Global, core: &Core) -> bool {
+    let grown = grown(alloc, core.mask(), core.conn(), core.state());
+    matches!(grown, Some(image) if image.cells() == core.image().cells())
+}
+
+/// Whether there is a core, and it settles on what grows from its strokes.
+pub fn settles(alloc: Global, core: &mut Option<Core>) -> bool {
+    match core {
+        Some(core) => core.settle(alloc).is_ok() && is_grown(alloc, core),
+        None => false,
+    }
+}
+
+/// Whether there is a core, and it settles on what grows from its strokes, which is this.
+pub fn settles_on(alloc: Global, core: &mut Option<Core>, image: &[u16]) -> bool {
+    let is_settled = settles(alloc, core);
+    match core {
+        Some(core) => is_settled & (core.image().cells() == image),
+        None => false,
+    }
+}
+
+fn mixed(sum: u64, number: u64) -> u64 {
+    (sum ^ number).wrapping_mul(0x0000_0100_0000_01b3)
+}
+
+fn mixed_cells(sum: u64, cells: &[u16]) -> u64 {
+    let mut sum = sum;
+    for cell in cells {
+        sum = mixed(sum, u64::from(*cell));
+    }
+    sum
+}
+
+// The sum with what is to be done at each tile.
+fn mixed_work(sum: u64, core: &Core) -> u64 {
+    let mut sum = sum;
+    for tile in 0..core.tiles() {
+        sum = mixed(sum, core.generation(tile));
+        sum = mixed(sum, u64::from(core.is_dirty(tile)));
+        sum = mixed(sum, u64::from(core.is_out(tile)));
+        sum = mixed(sum, core.waiting(tile) as u64);
+    }
+    sum
+}
+
+/// A sum of what is there in a core: image, marker, strokes of tags 0 to 9, generations, marks, and hints that wait.
+pub fn sum_of(core: &Core) -> u64 {
+    let mut sum = mixed_cells(1, core.image().cells());
+    sum = mixed_cells(sum, core.marker().marker().cells());
+    for tag in 0..10u8 {
+        let tag = Tag(u128::from(tag));
+        sum = mixed(sum, u64::from(core.state().has_stroke(tag)));
+        sum = mixed(sum, u64::from(core.state().has_tombstone(tag)));
+    }
+    mixed_work(sum, core)
+}
