@@ -1,7 +1,7 @@
 #!/usr/bin/env python3
 """Measure live boards against tiles and a plain C program, and print tables in Markdown.
 
-    python3 bench/boards.py crates/thread_bench/out/thread_bench
+    python3 bench/boards.py crates/benchmarks/out/benchmarks
 
 The baseline is compiled and the images are made as run.py does it. README.md says what the columns mean.
 """
@@ -17,7 +17,6 @@ import threads
 HANDS = [1, 2, 4]
 SIDE = 64  # of the tiles beside which a board stands
 GREATEST = 1024  # the greatest side of a board
-EDITS = 200  # the edits of the last table's family that are mirrored
 
 
 def ends_in_time(program, hands, source, limit):
@@ -35,12 +34,13 @@ def ends_in_time(program, hands, source, limit):
 def raised(program, hands, source, right):
     """The figures of a board that hands raise. It ends the script where the sum is not the right one.
 
-    They are seconds, rounds, and nanoseconds of a peek beside the hands and of one alone.
+    They are seconds, rounds, nanoseconds of a peek beside the hands and of one alone, and those in which the marker was
+    brought.
     """
-    ((total,), (wall, rounds, peeks, beside, alone)), _ = threads.lines_of(program, ["board", hands], source)
+    ((marker,), (wall, rounds, peeks, beside, alone), (total,)), _ = threads.lines_of(program, ["board", hands], source)
     if total != right:
         run.stop(f"board {hands} and baseline differ on {source.path}")
-    return wall / 1e9, rounds, beside / max(peeks, 1), alone / max(peeks, 1)
+    return wall / 1e9, rounds, beside / max(peeks, 1), alone / max(peeks, 1), marker
 
 
 def figures_of(source, program, baseline, words):
@@ -73,7 +73,7 @@ def growing_row(family, whole, tiled, boards):
 
 
 def growing(sources, program, baseline, words):
-    """Print the tables of boards that hands raise, and of peeks."""
+    """Print the tables of boards that hands raise, of peeks, and of markers that are brought."""
     results = {source.family: figures_of(source, program, baseline, words) for source in sources}
     run.table([f"{words.size} by {words.size}", "baseline ms", "tiles ms",
                *(f"{hands} hand{'s' * (hands > 1)} ms" for hands in HANDS), "4 over 1",
@@ -82,30 +82,15 @@ def growing(sources, program, baseline, words):
     run.table([f"a peek, {words.size} by {words.size}", "alone ns", *(f"beside {hands} ns" for hands in HANDS)],
               [[family, cell(boards, 1, 3, "{:.0f}"), *(cell(boards, hands, 2, "{:.0f}") for hands in HANDS)]
                for family, (_, _, boards) in results.items()])
-
-
-def mirrors(program, baseline, words):
-    """Print the table of the marker that is brought to a board."""
-    source = run.Input(threads.EDITED, words.size)
-    right = threads.baseline_sum(baseline, source)
-    times = {0: [], 1: []}
-    for _ in range(words.runs):
-        (total,), *edits = threads.lines_of(program, ["mirror", EDITS], source)[0]
-        if total != right:
-            run.stop(f"mirror and baseline differ on {source.path}")
-        for nanoseconds, advanced in edits:
-            times[advanced].append(nanoseconds)
-    run.say(f"{source.family}: {len(times[0])} times in the same generation, {len(times[1])} in the next one")
-    run.table([f"the marker is brought, {words.size} by {words.size}", "times", "median ms", "worst ms"],
-              [[name, f"{len(taken):,}", threads.milliseconds(statistics.median(taken)),
-                threads.milliseconds(max(taken))]
-               for name, taken in [("after a stroke", times[0]), ("after a withdrawal", times[1])] if taken])
+    run.table([f"the marker is brought, {words.size} by {words.size}", "ms"],
+              [[family, threads.milliseconds(boards[1][4]) if 1 in boards else "-"]
+               for family, (_, _, boards) in results.items()])
 
 
 def read_words():
     """The words of the command line."""
     parser = argparse.ArgumentParser(description="Measure live boards.")
-    parser.add_argument("program", type=pathlib.Path, help="crates/thread_bench/out/thread_bench")
+    parser.add_argument("program", type=pathlib.Path, help="crates/benchmarks/out/benchmarks")
     parser.add_argument("--runs", type=int, default=5, metavar="N", help="timed runs of each (5)")
     parser.add_argument("--size", type=int, default=GREATEST, metavar="N", help=f"side of the images ({GREATEST})")
     parser.add_argument("--limit", type=int, default=60, metavar="N",
@@ -116,7 +101,7 @@ def read_words():
     if words.runs < 1 or words.limit < 1 or not 1 <= words.size <= GREATEST:
         parser.error(f"runs and limit are at least 1, and the size is 1 to {GREATEST}")
     if not words.program.is_file():
-        parser.error(f"{words.program} is not there; `rt run` in crates/thread_bench makes the program")
+        parser.error(f"{words.program} is not there; `rt run` in crates/benchmarks makes the program")
     return words
 
 
@@ -133,7 +118,6 @@ def main():
     print(f"{run.machine()}; 4 neighbours, tiles of side {SIDE}; the median of {words.runs} runs each. A dash stands"
           f" for runs of more than {words.limit} seconds.\n", flush=True)
     growing(sources, program, baseline, words)
-    mirrors(program, baseline, words)
 
 
 if __name__ == "__main__":

@@ -1,7 +1,7 @@
 #!/usr/bin/env python3
 """Measure single edits on settled images against whole runs of a plain C program, and print tables in Markdown.
 
-    python3 bench/one_edit.py crates/edit_bench/out/edit_bench
+    python3 bench/one_edit.py crates/benchmarks/out/benchmarks
 
 The baseline is compiled and the images are made as run.py does it. README.md says what the columns mean.
 """
@@ -28,7 +28,7 @@ def baseline_seconds(baseline, source, runs):
 def edits(program, source, side):
     """The figures of each edit, by its kind: tiles reset, tiles swept, nanoseconds."""
     with open(source.path, "rb") as reader:
-        done = subprocess.run([program, str(EDITS), str(side), "--times"], stdin=reader, stdout=subprocess.PIPE,
+        done = subprocess.run([program, "edit", str(EDITS), str(side)], stdin=reader, stdout=subprocess.PIPE,
                               text=True, check=False)
     if done.returncode != 0:
         run.stop(f"{program} ended with status {done.returncode} on {source.path}")
@@ -60,7 +60,7 @@ def part(edit, whole):
 def read_words():
     """The words of the command line."""
     parser = argparse.ArgumentParser(description="Measure single edits against whole runs of a plain C program.")
-    parser.add_argument("program", type=pathlib.Path, help="crates/edit_bench/out/edit_bench")
+    parser.add_argument("program", type=pathlib.Path, help="crates/benchmarks/out/benchmarks")
     parser.add_argument("--runs", type=int, default=5, metavar="N", help="timed runs of the baseline (5)")
     parser.add_argument("--size", type=int, default=4096, metavar="N", help="side of the images (4096)")
     parser.add_argument("--families", nargs="+", default=FAMILIES, choices=FAMILIES, metavar="FAMILY",
@@ -71,7 +71,7 @@ def read_words():
     if words.runs < 1 or words.size < 1:
         parser.error("runs and size are at least 1")
     if not words.program.is_file():
-        parser.error(f"{words.program} is not there; `rt run` in crates/edit_bench makes the program")
+        parser.error(f"{words.program} is not there; `rt run` in crates/benchmarks makes the program")
     return words
 
 

@@ -1,7 +1,7 @@
 #!/usr/bin/env python3
 """Measure hands in threads, shows and glimpses against a plain C program, and print tables in Markdown.
 
-    python3 bench/threads.py crates/thread_bench/out/thread_bench
+    python3 bench/threads.py crates/benchmarks/out/benchmarks
 
 The baseline is compiled and the images are made as run.py does it. README.md says what the columns mean.
 """
@@ -20,7 +20,7 @@ import run
 FAMILIES = ["cells", "plates", "map", "maze"]
 HANDS = [0, 1, 2, 4]  # with none the core settles by itself
 PARTS = ["take", "push", "sweep", "give back", "hints"]
-EDITED = "few-lit"  # the family whose last edits are shown and watched
+EDITED = "few-lit"  # the family whose last edits are watched and shown
 EDITS = 200  # the edits of that family that are measured
 SUMS = {}  # of what the baseline writes, by the paths of inputs
 
@@ -28,7 +28,7 @@ SUMS = {}  # of what the baseline writes, by the paths of inputs
 def lines_of(program, words, source):
     """What the program writes on an input, a list of numbers for each line, and its peak bytes."""
     with open(source.path, "rb") as reader:
-        command = [program, *(str(word) for word in words), "--times"]
+        command = [program, *(str(word) for word in words)]
         child = subprocess.Popen(command, stdin=reader, stdout=subprocess.PIPE, text=True)
         with child.stdout as written:
             lines = [[int(number) for number in line.split()] for line in written]
@@ -73,7 +73,7 @@ def baseline_seconds(baseline, source):
 
 def settled(program, source, hands, side, right):
     """Jobs, seconds and peak bytes of one settling, which ends the script where the sum is not the right one."""
-    ((total,), (jobs, _, wall, _, _)), peak = lines_of(program, ["settle", hands, side], source)
+    ((total, jobs, wall),), peak = lines_of(program, ["settle", hands, side], source)
     if total != right:
         run.stop(f"settle {hands} {side} and baseline differ on {source.path}")
     return jobs, wall / 1e9, peak
@@ -117,10 +117,10 @@ def settling(sources, program, baseline, words):
 
 def parts_row(source, program, baseline, words):
     """The row of one image: jobs, and microseconds a job of each part."""
-    lines = [lines_of(program, ["parts", words.side], source)[0] for _ in range(words.runs + 1)][1:]
-    if {total for (total,), _ in lines} != {baseline_sum(baseline, source)}:
-        run.stop(f"parts {words.side} and baseline differ on {source.path}")
-    jobs, *parts = (statistics.median(column) for column in zip(*(figures for _, figures in lines)))
+    lines = [lines_of(program, ["settle", "parts", words.side], source)[0] for _ in range(words.runs + 1)][1:]
+    if {total for _, (total,) in lines} != {baseline_sum(baseline, source)}:
+        run.stop(f"settle parts {words.side} and baseline differ on {source.path}")
+    jobs, *parts = (statistics.median(column) for column in zip(*(figures for figures, _ in lines)))
     run.say(f"{source.family}: {jobs:,.0f} jobs in parts")
     return [source.family, f"{jobs:,.0f}", *(f"{part / jobs / 1000:.2f}" for part in parts),
             f"{sum(parts) / jobs / 1000:.2f}"]
@@ -140,15 +140,12 @@ def milliseconds(nanoseconds):
 def shows_and_glimpses(program, words):
     """Print the tables of shows, and of how soon an edit is seen."""
     source = run.Input(EDITED, words.size)
-    _, *shows = lines_of(program, ["show", EDITS], source)[0]
-    run.say(f"{source.family}: {len(shows)} edits shown")
-    after_edit, after_none = (statistics.median(column) for column in zip(*shows))
-    run.table([f"shows, {words.size} by {words.size}", "edits", "after an edit ms", "after none ms"],
-              [[source.family, str(len(shows)), milliseconds(after_edit), milliseconds(after_none)]])
-    seen = []
-    for _ in range(words.runs):
-        seen += [line[0] for line in lines_of(program, ["watch", EDITS], source)[0][1:]]
+    lines = [line for _ in range(words.runs) for line in lines_of(program, ["watch", EDITS], source)[0]]
+    seen, after_edit, after_none = zip(*lines)
     run.say(f"{source.family}: {len(seen)} edits seen")
+    run.table([f"shows, {words.size} by {words.size}", "edits", "after an edit ms", "after none ms"],
+              [[source.family, f"{len(seen):,}", milliseconds(statistics.median(after_edit)),
+                milliseconds(statistics.median(after_none))]])
     run.table([f"glimpses, {words.size} by {words.size}", "edits", "median ms", "worst ms"],
               [[source.family, f"{len(seen):,}", milliseconds(statistics.median(seen)), milliseconds(max(seen))]])
 
@@ -156,7 +153,7 @@ def shows_and_glimpses(program, words):
 def read_words():
     """The words of the command line."""
     parser = argparse.ArgumentParser(description="Measure hands in threads, shows and glimpses.")
-    parser.add_argument("program", type=pathlib.Path, help="crates/thread_bench/out/thread_bench")
+    parser.add_argument("program", type=pathlib.Path, help="crates/benchmarks/out/benchmarks")
     parser.add_argument("--runs", type=int, default=5, metavar="N", help="timed runs of each (5)")
     parser.add_argument("--size", type=int, default=4096, metavar="N", help="side of the images (4096)")
     parser.add_argument("--side", type=int, default=64, metavar="N", help="side of the tiles where it settles (64)")
@@ -166,7 +163,7 @@ def read_words():
     if words.runs < 1 or words.size < 1:
         parser.error("runs and size are at least 1")
     if not words.program.is_file():
-        parser.error(f"{words.program} is not there; `rt run` in crates/thread_bench makes the program")
+        parser.error(f"{words.program} is not there; `rt run` in crates/benchmarks makes the program")
     return words
 
 

@@ -3,7 +3,7 @@
 
     python3 bench/fuzz/check.py
 
-The examples are those of docs/FORMATS.md and of the tests in crates/leaf_tests. The first that fails ends the script
+The examples are those of docs/FORMATS.md and of the tests in crates/core_tests. The first that fails ends the script
 with status 1.
 """
 

@@ -1,5 +1,5 @@
 #![tactic(auto)]
-//! The least program over the library `paint_session`: it shows the view of standard input on standard output.
+//! The least program over the library `view_session`: it shows the view of standard input on standard output.
 //!
 //! ```text
 //! view_example < input > view.pgm
@@ -9,9 +9,9 @@
 
 use byte_devices::{StdSink, StdSource};
 use grid_core::Conn;
-use paint_session::run_error::{fault_line, status};
-use paint_session::view::view_run;
+use run_faults::{fault_line, status};
 use std::process::ExitCode;
+use view_session::view::view_run;
 
 fn main(rt: HostRuntime) -> ExitCode {
     let mut source = StdSource::new(rt.stdin());

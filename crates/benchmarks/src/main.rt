@@ -1,0 +1,58 @@
+#![tactic(auto)]
+//! Measures single edits, hands in threads, glimpses and live boards, and puts studios under stress.
+//!
+//! The input, on standard input, is one of Seedpaint: edit lines, a line `image` and a PGM file. SIDE is that of the
+//! tiles, else 64. Times are in nanoseconds, and a sum is that of the image at the end.
+//!
+//! - `edit COUNT SIDE` merges all edits but the last COUNT and settles. Each of these is merged, and the core settles
+//!   again. A line for each: `placed` or `withdrawn`; how many tiles were reset and swept; the processor time.
+//! - `settle HANDS SIDE` merges all edits and lets so many hands settle, in threads of their own; with none the core
+//!   settles by itself: the sum, how many jobs there were, and the time.
+//! - `settle parts SIDE` works the same off in one thread, job by job: how many jobs there were, and the time to take
+//!   them, to push them, to sweep and report them, to collect them and give them back, and to hand hints over; then the
+//!   sum.
+//! - `watch COUNT` begins as `edit` does. Each of the last edits is submitted while two hands run in threads. A line
+//!   for each: the time until a glimpse has it; that of the show before it; and that of one more, after nothing.
+//! - `board HANDS` brings the marker of all edits to a board: the time of it. Then it lets so many hands go round in
+//!   threads until nothing rises, with a peek beside them: the time of it, how many rounds there were, how many peeks,
+//!   and the processor times of these and of as many peeks after that; then the sum.
+//! - `stress ROUNDS SEED` reads nothing. It plays rounds of pens, hands, eyes and a keeper in threads (`stress`).
+
+mod boards;
+mod drawn;
+mod input;
+mod outcome;
+mod parts;
+mod settling;
+mod stress;
+mod studios;
+mod system;
+
+use input::read;
+use outcome::{Fault, MEMORY};
+use pgm_codec::StdSource;
+use std::env;
+
+/// The side of the tiles where the call does not say it.
+const SIDE: u32 = 64;
+
+fn main(rt: HostRuntime) -> Result<(), Fault> {
+    let words: Vec<String> = env::args(&rt)?.collect(rt.alloc()).or(Err(MEMORY))?;
+    let input = || read(rt.alloc(), &mut StdSource::new(rt.stdin()));
+    let word = words.get(1).map(|word| word.as_str()).unwrap_or("");
+    match (word, number_at(&words, 2), number_at(&words, 3)) {
+        ("edit", Some(count), Some(side)) => settling::after_each(&rt, input()?, count, side),
+        ("settle", Some(0), Some(side)) => settling::once(&rt, input()?, side),
+        ("settle", Some(hands), Some(side)) => studios::settle(&rt, input()?, hands, side),
+        ("settle", None, Some(side)) => parts::measure(&rt, input()?, side),
+        ("watch", Some(count), None) => studios::watch(&rt, input()?, count),
+        ("board", Some(hands), None) => boards::measure(&rt, input()?, hands),
+        ("stress", Some(rounds), Some(seed)) => stress::play_all(&rt, rounds, seed),
+        _ => Err(Fault("the words are none of: edit, settle, watch, board, stress and numbers")),
+    }
+}
+
+// The number at this place.
+fn number_at(words: &[String], place: usize) -> Option<u32> {
+    words.get(place)?.parse::<u32>().ok()
+}

@@ -1,0 +1,44 @@
+//! What a measurement comes to: a sum by which images are compared, or why there is none.
+
+use core_rules::CoreError;
+use grid_core::Memory;
+use std::io;
+
+/// Why nothing was measured, in words. It owns no memory, so that little is to be done where a function leaves early.
+#[derive(Clone, Copy, Debug)]
+pub struct Fault(pub &'static str);
+
+/// Memory ran out.
+pub const MEMORY: Fault = Fault("out of memory");
+
+impl From<Memory> for Fault {
+    fn from(_why: Memory) -> Fault {
+        MEMORY
+    }
+}
+
+impl From<CoreError> for Fault {
+    fn from(why: CoreError) -> Fault {
+        Fault(why.code())
+    }
+}
+
+impl From<io::Error> for Fault {
+    fn from(_why: io::Error) -> Fault {
+        Fault("words can not be read, or standard output can not be written")
+    }
+}
+
+/// Nothing where the fact holds, else these words.
+pub fn check(holds: bool, words: &'static str) -> Result<(), Fault> {
+    if holds { Ok(()) } else { Err(Fault(words)) }
+}
+
+/// The sum of values by the rule FNV-1a, of whole values.
+pub fn sum_of(values: &[u16]) -> u64 {
+    let mut sum: u64 = 0xcbf2_9ce4_8422_2325;
+    for value in values {
+        sum = (sum ^ u64::from(*value)).wrapping_mul(0x0100_0000_01b3);
+    }
+    sum
+}

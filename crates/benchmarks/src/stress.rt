@@ -1,0 +1,180 @@
+//! Studios under stress: 16 pens, 16 hands, 16 eyes and a keeper run in threads, and what they leave is checked.
+//!
+//! Pens submit edits that are drawn, some of which clash or do not fit the mask. The keeper makes turns until all are
+//! taken and no work is left; meanwhile it shows the core and recalls jobs. No eye may go back. At the end the strokes
+//! have to be those of all edits that are not listed as refused, and the image what the slow program says.
+
+use crate::drawn::{EACH, EDITS, core, edit};
+use crate::outcome::{Fault, MEMORY, check};
+use crate::studios::{open, spawn_hands, turn};
+use crate::system::System;
+use core_dispatch::{Full, Pen, Refusal};
+use marker_tiles::marker;
+use raster_sweeps::slow;
+use std::alloc::Global;
+use std::sync::atomic::{AtomicBool, AtomicU64, Ordering};
+use std::sync::{Arc, OnceLock};
+use std::thread;
+use stroke_lattice::{Delta, State};
+use studio::{Eye, Keeper, Studio};
+
+// What the threads of a round share.
+#[derive(Drop)]
+struct Round {
+    // What decides all that is drawn.
+    seed: u64,
+    // How many pens have not submitted all yet.
+    writers: AtomicU64,
+    // Whether the round is over.
+    done: AtomicBool,
+    // What was not as it should be.
+    fault: OnceLock<Fault>,
+}
+
+/// Plays so many rounds, which the seed decides, and prints how many.
+///
+/// Errors: what is not as it should be.
+pub fn play_all<R: System>(rt: &R, rounds: u32, seed: u32) -> Result<(), Fault> {
+    for round in 0..rounds {
+        let number = u64::from(seed) << 32 | u64::from(round);
+        play(rt, rt.alloc(), number.wrapping_mul(0x9e37_79b9_7f4a_7c15))?;
+    }
+    println!(rt; "{rounds} rounds of {EACH} pens, {EDITS} edits each")?;
+    Ok(())
+}
+
+// Plays a round: hands work, pens submit and eyes look in threads. It checks what they leave.
+fn play<R: System>(rt: &R, alloc: Global, seed: u64) -> Result<(), Fault> {
+    let core = core(alloc, seed).ok_or(MEMORY)?;
+    let Studio {
+        mut keeper,
+        pens,
+        hands,
+        eyes,
+    } = open(rt, core, EACH, EACH)?;
+    let round = &Round {
+        seed,
+        writers: AtomicU64::new(EACH as u64),
+        done: AtomicBool::new(false),
+        fault: OnceLock::new(),
+    };
+    let lent = &mut keeper;
+    thread::scope(thread::scope_env(), rt, move |scope| {
+        round.note(spawn_hands(scope, rt, hands, &round.done));
+        for (pen, eye) in pens.into_iter().zip(eyes) {
+            let writing = scope.spawn(move || round.write(alloc, pen));
+            let watching = scope.spawn(move || round.watch(eye));
+            let are_made = writing.is_ok() && watching.is_ok();
+            round.note(check(are_made, "a thread can not be made"));
+        }
+        round.note(round.keep(rt, lent));
+        round.done.store(true, Ordering::SeqCst);
+    });
+    let left = match round.fault.get() {
+        Some(fault) => Err(*fault),
+        None => judge(alloc, &keeper, seed),
+    };
+    drop(keeper.end(rt));
+    left
+}
+
+impl Round {
+    // Notes what is not as it should be.
+    fn note(&self, found: Result<(), Fault>) {
+        if let Err(fault) = found {
+            let _ = self.fault.try_set(fault);
+        }
+    }
+
+    // Submits the edits of a pen in order.
+    fn write(&self, alloc: Global, pen: Pen) {
+        let mut pen = pen;
+        let first = (pen.number() as u64).wrapping_mul(EDITS);
+        for number in 0..EDITS {
+            match edit(alloc, self.seed, first.wrapping_add(number)) {
+                Some(edit) => self.submit(&mut pen, edit),
+                None => self.note(Err(MEMORY)),
+            }
+        }
+        self.writers.fetch_sub(1, Ordering::SeqCst);
+    }
+
+    // Submits an edit as soon as there is a place, unless the round is over.
+    fn submit(&self, pen: &mut Pen, edit: Delta) {
+        let mut rest = pen.submit(edit);
+        for _ in 0..u64::MAX {
+            rest = match rest {
+                Err(Full(edit)) if !self.done.load(Ordering::SeqCst) => pen.submit(edit),
+                _ => return,
+            };
+            thread::yield_now();
+        }
+    }
+
+    // Looks again and again until the round is over.
+    fn watch(&self, eye: Eye) {
+        let (mut eye, mut seen): (Eye, Option<Arc<State>>) = (eye, None);
+        for _ in 0..u64::MAX {
+            if self.done.load(Ordering::SeqCst) {
+                break;
+            }
+            eye = match eye.look() {
+                Ok(glimpse) => {
+                    if let Some(seen) = &seen {
+                        self.note(check(seen.is_below(glimpse.state()), "an eye went back"));
+                    }
+                    seen = Arc::try_clone(glimpse.shot().state()).ok();
+                    glimpse.leave()
+                }
+                Err(eye) => eye,
+            };
+            thread::yield_now();
+        }
+    }
+
+    // Makes turns until all edits are taken and no work is left, or something is not as it should be. It shows the core
+    // after each turn that took an edit, and recalls all jobs now and then.
+    fn keep(&self, rt: &impl System, keeper: &mut Keeper) -> Result<(), Fault> {
+        for number in 0..u64::MAX {
+            let is_last = self.writers.load(Ordering::SeqCst) == 0;
+            let edits = turn(keeper)?.edits;
+            if edits > 0 {
+                let _told = keeper.show(rt)?;
+            }
+            if number % 64 == 0 {
+                keeper.recall();
+            }
+            let is_at_rest = is_last && edits == 0 && keeper.core().is_quiet();
+            if is_at_rest || self.fault.get().is_some() {
+                break;
+            }
+        }
+        Ok(())
+    }
+}
+
+// Checks what a round leaves.
+fn judge(alloc: Global, keeper: &Keeper, seed: u64) -> Result<(), Fault> {
+    let (core, mask) = (keeper.core(), keeper.core().mask());
+    let joined = joined(alloc, keeper.refusals(), seed)?;
+    check(joined.is_same(core.state()), "not the strokes of the edits")?;
+    if joined.outside(mask.width(), mask.height()).is_some() {
+        return Err(Fault("a stroke was taken that does not fit"));
+    }
+    let marker = marker(alloc, mask, &joined).or(Err(MEMORY))?;
+    let grown = slow(alloc, mask, &marker, core.conn()).or(Err(MEMORY))?;
+    check(core.image().is_same(&grown), "not what grows from them")
+}
+
+// The join of all edits that are not listed as refused.
+fn joined(alloc: Global, refusals: &[Refusal], seed: u64) -> Result<State, Fault> {
+    let mut joined = State::empty(alloc).or(Err(MEMORY))?;
+    for own in 0..EACH as u64 * EDITS {
+        let edit = edit(alloc, seed, own).ok_or(MEMORY)?;
+        let is_listed = refusals.iter().any(|one| one.pen as u64 == own / EDITS
+            && one.number == own % EDITS);
+        let is_right = is_listed || joined.merge(alloc, &edit).is_ok();
+        check(is_right, "an edit was taken that clashes")?;
+    }
+    Ok(joined)
+}

@@ -1,5 +1,0 @@
-use Rattle.live_board.specs.Seats.{IsHandOf}
-use Rattle.thread_bench.proofs.growing.go_round.Given as goal
-
-abbrev pub invariant-loop : goal.invariant-loop
-invariant-loop l = IsHandOf l.board l.hand
