@@ -47,7 +47,10 @@ impl PageBoard {
             Err(refused) => return Err(RunError::Core(refused.why)),
         };
         let tiles = core.tiling().count();
-        let (shown, marks) = first_steps(alloc, tiles)?;
+        let Ok((shown, marks)) = first_steps(alloc, tiles) else {
+            drop(core);
+            return Err(RunError::Memory);
+        };
         Ok(PageBoard {
             core,
             maxval,
@@ -125,7 +128,10 @@ impl PageBoard {
             Ok(core) => core,
             Err(refused) => return Err(RunError::Core(refused.why)),
         };
-        let (shown, marks) = first_steps(alloc, core.tiles())?;
+        let Ok((shown, marks)) = first_steps(alloc, core.tiles()) else {
+            drop(core);
+            return Err(RunError::Memory);
+        };
         Ok(PageBoard {
             core,
             maxval,

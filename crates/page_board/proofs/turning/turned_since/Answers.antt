@@ -2,8 +2,10 @@ use Rattle.std.proofs.Common.{◌≡◌, ◌+◌, List, [], ◌∷◌, ◌++◌,
 use Rattle.std.proofs.lemmas.List.{take_more, take_all}
 use Rattle.page_board.specs.declared.news.News.{News}
 use Rattle.page_board.proofs.Turned.{HasTurnedTags, turned_passed, turned_more}
-use Rattle.page_board.proofs.turning.turned_since.Goals.{then-since-told+in_ok-extend_from_slice+in_ok-extend_from_slice-2}
-use Rattle.page_board.proofs.turning.turned_since.Goals.{else-since-told}
+use Rattle.page_board.proofs.turning.turned_since.Goals.{
+  then-since-told+in_ok-extend_from_slice+in_ok-extend_from_slice-2,
+  else-since-told,
+}
 use Rattle.page_board.proofs.turning.turned_since.Goals as goal
 
 pub loop-told-preserved : goal.loop-told-preserved
