@@ -46,7 +46,8 @@ returns-in_err-save_for-clause-runs g c =
     let saves = c.in_err-save_for.ensures in
     rw (p.1, p.2) record {
       serves = serves_unkept _ _ heard call.conn call.hands call.ticks file c.in_ok-link.link
-          c.node_strokes.new.link _ old held.held _ _ _ _ _ _ _ c.in_ok-strokes.strokes _ e held.same view.responds saves;
+          c.node_strokes.new.link _ old held.held _ _ _ _ _ _ _ c.in_ok-strokes.strokes _ e held.same
+          view.responds saves;
       devices = devices_unkept _ _ _ _ file c.in_ok-strokes.strokes e (save_failed _ _ _ _ _ e file saves).0
           view.devices;
       stored = store_unkept (λ v. v.items) _ _ _ _ c.in_ok-old.old _ _ e file c.in_ok-old.ensures saves;
@@ -80,7 +81,8 @@ returns-clause-runs g c =
     let saves = c.in_ok-save_for.ensures in
     record {
       serves = serves_kept _ _ heard call.conn call.hands call.ticks file c.in_ok-link.link
-          c.node_strokes.new.link _ old held.held _ _ _ _ _ _ _ c.in_ok-strokes.strokes _ _ held.same view.responds saves;
+          c.node_strokes.new.link _ old held.held _ _ _ _ _ _ _ c.in_ok-strokes.strokes _ _ held.same
+          view.responds saves;
       devices = devices_kept _ _ _ _ file c.in_ok-strokes.strokes view.devices;
       stored = store_kept (λ v. v.items) _ _ _ _ c.in_ok-old.old _ _ _ file c.in_ok-old.ensures saves;
     }
