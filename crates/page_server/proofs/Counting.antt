@@ -3,16 +3,16 @@ use Rattle.std.proofs.Common.{◌≡◌, ℕ, ◌<◌, List, Option, Result, Ok,
 use Rattle.http.specs.{declared.request.Request.Request, Request.body_of}
 use Rattle.http_server.specs.declared.response.Response.{Response}
 use Rattle.page_service.specs.{declared.table.Asked.Asked, Answering.Answers, Answering.AnswersAsked, Painting.Painting}
-use Rattle.page_service.specs.declared.table.Asked.TheVariants.{Page as Whole, Mask, Image, State, Strokes, Changes}
-use Rattle.page_service.specs.declared.table.Asked.TheVariants.{Edits, Join}
+use Rattle.page_service.specs.declared.table.Asked.TheVariants.{Image, Edits, Join}
 use Rattle.stroke_lattice.specs.State.{State as Delta}
 use Rattle.run_faults.specs.declared.run_error.RunError.{RunError}
 use Rattle.page_board.specs.{Board.PageBoard, Growing.IsGrown, Keeping.HasAllIn, Later.IsLater}
-use Rattle.page_board.specs.Taking.{AreTakenTogether, TextIsTaken, FileIsTaken}
-use Rattle.page_board.proofs.{Grounds.Keeps, Grounds.worked_on_keeps, Keeping.later_has_all, Keeping.same_state_is_kept}
-use Rattle.page_board.proofs.{Later.each_is_later}
-use Rattle.page_server.specs.{Kept.last_version, declared.page.Page.Page}
-use Rattle.page_server.specs.Page.{IsCounted, PageAnswers, PageGrows, PageNotes, PageTakes}
+use Rattle.page_board.specs.Taking.{AreTakenTogether, FileIsTaken}
+use Rattle.page_board.proofs.{Grounds.Keeps, Grounds.worked_on_keeps, Keeping.later_has_all}
+use Rattle.page_board.proofs.{Keeping.same_state_is_kept, Later.each_is_later}
+use Rattle.page_service.specs.{Kept.last_version}
+use Rattle.page_server.specs.{declared.page.Page.Page}
+use Rattle.page_server.specs.Page.{IsCounted, PageGrows, PageNotes, PageTakes}
 
 -- the new board is the old one, later; and where the version stays, below the last one, so do strokes and tombstones
 pub record BoardCounts (old new : PageBoard) : Type 0 where
@@ -33,28 +33,18 @@ taken_rises old new deltas (delta, merged, taken) later = record {
   stays = λ stays small. absurd (omega (arith, taken.version, stays, small));
 }
 
-text_counts : (old new : PageBoard) (text : List ℕ) → TextIsTaken old text new → IsLater old new → BoardCounts old new
-text_counts old new text (deltas, spells, taken) later = taken_rises old new deltas taken later
-
-file_counts : (old new : PageBoard) (file : List ℕ) → FileIsTaken old file new → IsLater old new → BoardCounts old new
-file_counts old new file (deltas, spells, taken) later = taken_rises old new deltas taken later
-
 asked_counts : (asked : Asked) (old new : Painting) (body : List ℕ) (response : Response)
     → AnswersAsked asked old body response new → BoardCounts old.board new.board
-asked_counts Whole old new body response (same, says) = counts_itself old new same
-asked_counts Mask old new body response (same, says) = counts_itself old new same
 asked_counts Image old new body response (bytes, is, (same, says)) = counts_itself old new same
-asked_counts State old new body response (same, says) = counts_itself old new same
-asked_counts Strokes old new body response (same, says) = counts_itself old new same
-asked_counts (Changes moment) old new body response (same, says) = counts_itself old new same
 asked_counts (Edits moment) old new body response (inl held) = counts_itself old new held.same
 asked_counts (Edits moment) old new body response (inr (kept, inl taken)) =
-    text_counts old.board new.board body taken.is_taken taken.later
+    taken_rises old.board new.board taken.is_taken.0 taken.is_taken.2 taken.later
 asked_counts (Edits moment) old new body response (inr (kept, inr refused)) = counts_itself old new refused.same
 asked_counts Join old new body response (inl held) = counts_itself old new held.same
 asked_counts Join old new body response (inr (kept, inl taken)) =
-    file_counts old.board new.board body taken.is_taken taken.later
+    taken_rises old.board new.board taken.is_taken.0 taken.is_taken.2 taken.later
 asked_counts Join old new body response (inr (kept, inr refused)) = counts_itself old new refused.same
+asked_counts asked old new body response answer = counts_itself old new answer.0
 
 -- each call is counted
 pub answers_count : (old new : Painting) (request : Request (List ℕ)) (response : Response)
@@ -71,7 +61,7 @@ grown_counts old new jobs grown later =
 
 -- ---- the service of a page
 
-page_counts : (old new : Page) → BoardCounts old.painting.board new.painting.board → IsCounted old new
+pub page_counts : (old new : Page) → BoardCounts old.painting.board new.painting.board → IsCounted old new
 page_counts old new counts = record {
   rises = counts.later.version;
   stays = λ stays small file spelled.
@@ -79,23 +69,10 @@ page_counts old new counts = record {
   had = λ file has. later_has_all old.painting.board new.painting.board file counts.later has;
 }
 
--- what its painting answers, it answers
-pub page_answers : {E : Type 0} (result : Result (Unit {0}) E) (old new : Page) (request : Request (List ℕ))
-    (response : Response) → new ≡ record old { painting = new.painting }
-    → OnOk result (Answers old.painting request response new.painting)
-    → OnOk result (PageAnswers old request response new)
-page_answers (Ok value) old new request response rest answers = record {
-  answers = answers;
-  rest = rest;
-  counted = page_counts old new (answers_count old.painting new.painting request response answers);
-}
-page_answers (Err e) old new request response rest answers = tt
-
 -- what its board takes, it takes
 pub page_takes : {E : Type 0} (result : Result (Unit {0}) E) (old : Page) (painting : Painting) (found : List ℕ)
     → painting ≡ record old.painting { board = painting.board }
-    → IsLater old.painting.board painting.board
-    → OnOk result (FileIsTaken old.painting.board found painting.board)
+    → IsLater old.painting.board painting.board → OnOk result (FileIsTaken old.painting.board found painting.board)
     → OnOk result (HasAllIn painting.board found)
     → OnOk result (PageTakes old found (record old { painting = painting }))
 page_takes (Ok value) old painting found rest later taken has = record {

@@ -1,7 +1,5 @@
 pub mod Flags
-pub mod Keepers
 pub mod Taking
-pub mod Tracking
 pub mod Transfers
 pub mod Turns
 pub mod Openings

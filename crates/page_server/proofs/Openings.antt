@@ -1,32 +1,15 @@
 -- What is said of a board that is opened, by where it ends: in loading the file, in reading the mask, or behind both.
-use Rattle.std.proofs.Common.{◌≡◌, ◌⊎◌, ◌∙◌, ℕ, List, [], Option, Result, Ok, Err, inl, inr, refl, ap, arith, sym}
-use Rattle.std.proofs.Common.{IfErr, IfOk}
+use Rattle.std.proofs.Common.{◌≡◌, ◌⊎◌, ℕ, List, [], Option, Result, Ok, Err, inl, inr, refl, ap, arith, IfErr, IfOk}
 use Rattle.byte_devices.specs.{Device.SourceSeen, Transfer.IsInputOf, Transfer.ReadsToEnd, Transfer.most_pulls}
 use Rattle.grid_core.specs.{declared.conn.Conn.Conn, Tiles.IsTileSide}
 use Rattle.pgm_codec.specs.{FirstFault.PgmFault, Graymap.Graymap, Spelling.PgmSpells, declared.error.PgmError.PgmError}
 use Rattle.pgm_codec.specs.Transfer.{IsOfMemory, IsOfDevice}
-use Rattle.view_session.specs.{Kept.OldIsRefused, Store.Held, Store.IsHeldIn, Store.Loads, Store.StoreSeen}
+use Rattle.view_session.specs.{Kept.OldIsRefused, Store.Held, Store.IsHeldIn}
 use Rattle.run_faults.specs.{RunError.IsMemory, RunError.IsTransferFault, declared.run_error.RunError.RunError}
 use Rattle.run_faults.specs.declared.run_error.RunError.TheVariants.{Pgm, StateFile, Memory}
 use Rattle.page_board.specs.Opening.{IsNotOpenedOver}
 use Rattle.page_server.specs.Opening.{IsNotOpenedFrom, IsOpeningFault}
 use Rattle.pgm_codec.specs.declared.error.PgmError.TheVariants as pgm
-
--- ---- which errors are which
-
-memory_is_no_transfer : (e : RunError) → IsMemory e → IsTransferFault e → ⊥
-memory_is_no_transfer e (inl memory) device = cc
-memory_is_no_transfer e (inr (inl edit)) device = cc
-memory_is_no_transfer e (inr (inr (inl image))) device =
-    let same : Pgm pgm.Memory ≡ Pgm pgm.Device = sym image ∙ device in cc
-memory_is_no_transfer e (inr (inr (inr (inl core)))) device = cc
-memory_is_no_transfer e (inr (inr (inr (inr kept)))) device = cc
-
-old_is_no_transfer : (conn : Conn) (old : List ℕ) (mask : Graymap) (e : RunError) → OldIsRefused conn old [] mask e
-    → IsTransferFault e → ⊥
-old_is_no_transfer conn old mask e (inl (fault, is, first)) device = cc
-old_is_no_transfer conn old mask e (inr (inl (is, other))) device = cc
-old_is_no_transfer conn old mask e (inr (inr (kept, spelled, (why, is, first)))) device = cc
 
 -- why no board is opened over the bytes of a file, where tiles may have the side
 not_opened : (mask : Graymap) (conn : Conn) (side : ℕ) (old : List ℕ) (e : RunError) → IsTileSide side
@@ -35,26 +18,11 @@ not_opened mask conn side old e may (inl (inl (bad, may_not))) = absurd (may_not
 not_opened mask conn side old e may (inl (inr (memory, also))) = inl memory
 not_opened mask conn side old e may (inr (also, why)) = why
 
--- such an error is none of a device
-not_opened_is_no_transfer : (mask : Graymap) (conn : Conn) (side : ℕ) (old : List ℕ) (e : RunError) → IsTileSide side
-    → IsNotOpenedOver mask conn side old e → IsTransferFault e → ⊥
-not_opened_is_no_transfer mask conn side old e may why device = elim (not_opened mask conn side old e may why) [
-  | inl memory ↦ memory_is_no_transfer e memory device
-  | inr by_old ↦ old_is_no_transfer conn old mask e by_old device
-]
-
 -- ---- the file was not loaded
 
 pub loading_is_early : (e : RunError) → (e ≡ StateFile) ⊎ (e ≡ Memory) → IsOpeningFault e
 loading_is_early e (inl file) = inl file
 loading_is_early e (inr memory) = inr (inl memory)
-
-pub loading_fails : {V : Type 0} (items : V → List ℕ) (old new : StoreSeen) (e : RunError) (name : List ℕ)
-    → Loads items old new (Err e) name → (e ≡ StateFile) ⊎ (e ≡ Memory)
-loading_fails items old new e name loads = elim loads.failures [
-  | inl (file, counted) ↦ inl file
-  | inr (memory, same) ↦ inr memory
-]
 
 pub unread : {T : Type 0} (e : RunError) (seen : SourceSeen) → (e ≡ StateFile) ⊎ (e ≡ Memory)
     → ReadsToEnd {T = T} IsOpeningFault IsTransferFault most_pulls (Err e) seen seen
@@ -80,26 +48,22 @@ mask_refused conn held name old known fault is_held (inr (inl device)) = inr (in
 mask_refused conn held name old known fault is_held (inr (inr (input, is_input, first))) =
     inr (inr (old, input, is_held, is_input, inl (fault, refl, first)))
 
-same_fault : (a b : PgmError) → Pgm a ≡ Pgm b → a ≡ b
-same_fault a b same = cc
+-- by the fault of the file, or by what else there is
+by_fault : (X : Type 0) (fault : PgmError) → IsOfMemory fault ⊎ IsOfDevice fault ⊎ X
+    → IsOpeningFault (Pgm fault) ⊎ IsTransferFault (Pgm fault) ⊎ X
+by_fault X fault (inl memory) = inl (inr (inr (inr (inl (ap Pgm memory)))))
+by_fault X fault (inr (inl device)) = inr (inl (ap Pgm device))
+by_fault X fault (inr (inr other)) = inr (inr other)
 
 pub mask_unread : {T U : Type 0} (fault : PgmError) (seen seen' : SourceSeen)
     → ReadsToEnd {T = U} IsOfMemory IsOfDevice most_pulls (Err fault) seen seen'
     → ReadsToEnd {T = T} IsOpeningFault IsTransferFault most_pulls (Err (Pgm fault)) seen seen'
 mask_unread fault seen seen' read = record {
-  at_end = elim read.at_end [
-    | inl memory ↦ inl (inr (inr (inr (inl (ap Pgm memory)))))
-    | inr (inl device) ↦ inr (inl (ap Pgm device))
-    | inr (inr ended) ↦ inr (inr ended)
-  ];
-  ended = elim read.ended [
-    | inl memory ↦ inl (inr (inr (inr (inl (ap Pgm memory)))))
-    | inr (inl device) ↦ inr (inl (ap Pgm device))
-    | inr (inr ended) ↦ inr (inr ended)
-  ];
+  at_end = by_fault _ fault read.at_end;
+  ended = by_fault _ fault read.ended;
   steady = tt;
   in_time = read.in_time;
-  device = λ device. read.device (same_fault fault pgm.Device device);
+  device = λ device. read.device (let same : fault ≡ pgm.Device = cc in same);
   failure = λ risen. ap Pgm (read.failure risen);
 }
 
@@ -108,35 +72,12 @@ mask_unread fault seen seen' read = record {
 module _ (mask : Graymap) (conn : Conn) (side run : ℕ) (held : Held) (name old : List ℕ) (known : Option (List ℕ))
     (input : List ℕ) (is_held : IsHeldIn held name old) (is_input : IsInputOf known input)
     (spelled : PgmSpells input mask) (may : IsTileSide side) where
-  pub refused : (e : RunError) → IsNotOpenedOver mask conn side old e
-      → IsOpeningFault e ⊎ IsTransferFault e
+  pub refused : (e : RunError) → IsNotOpenedOver mask conn side old e → IsOpeningFault e ⊎ IsTransferFault e
       ⊎ ((old input : List ℕ) × IsHeldIn held name old × IsInputOf known input × IsNotOpenedFrom conn old input e)
   refused e why = elim (not_opened mask conn side old e may why) [
     | inl memory ↦ inl (inr memory)
     | inr by_old ↦ inr (inr (old, input, is_held, is_input, inr (mask, spelled, by_old)))
   ]
-
-pub read_to_end : {T U : Type 0} (mask : Graymap) (conn : Conn) (side : ℕ) (old : List ℕ) (value : U)
-    (result : Result T RunError) (seen seen' : SourceSeen) → IsTileSide side
-    → IfErr result (IsNotOpenedOver mask conn side old)
-    → ReadsToEnd {T = U} {E = PgmError} IsOfMemory IsOfDevice most_pulls (Ok value) seen seen'
-    → ReadsToEnd IsOpeningFault IsTransferFault most_pulls result seen seen'
-read_to_end mask conn side old value (Ok board) seen seen' may why read = record {
-  at_end = read.at_end;
-  ended = read.ended;
-  steady = read.steady;
-  in_time = read.in_time;
-  device = tt;
-  failure = λ risen. absurd (omega (arith, read.steady, risen));
-}
-read_to_end mask conn side old value (Err e) seen seen' may why read = record {
-  at_end = inr (inr read.at_end);
-  ended = inr (inr read.ended);
-  steady = tt;
-  in_time = read.in_time;
-  device = λ device. absurd (not_opened_is_no_transfer mask conn side old e may why device);
-  failure = λ risen. absurd (omega (arith, read.steady, risen));
-}
 
 -- ---- reading the mask
 

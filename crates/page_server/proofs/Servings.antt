@@ -1,5 +1,5 @@
 -- Why a page is not served, by where that is found.
-use Rattle.std.proofs.Common.{◌≡◌, ◌⊎◌, ℕ, List, Option, Result, Ok, Err, inl, inr, subst, sym, IfSome, OnOk}
+use Rattle.std.proofs.Common.{◌≡◌, ◌⊎◌, ℕ, List, Option, inl, inr, subst, sym, IfSome}
 use Rattle.grid_core.specs.declared.conn.Conn.{Conn}
 use Rattle.run_faults.specs.{RunError.IsTransferFault, declared.run_error.RunError.RunError}
 use Rattle.run_faults.specs.declared.run_error.RunError.TheVariants.{Link, Memory}
@@ -37,13 +37,3 @@ kept_on before after name kept board same is = record {
   keeps = is.keeps;
   had = is.had;
 }
-
--- nothing is said where it is none
-pub none_on_err : {T E : Type 0} (result : Result T E) (P : Type 0) (e : E) → result ≡ Err e → OnOk result P
-none_on_err (Ok value) P e is = absurd (cc)
-none_on_err (Err other) P e is = tt
-
--- what follows from it holds there, too
-pub on_ok_then : {T E : Type 0} (result : Result T E) (P Q : Type 0) → (P → Q) → OnOk result P → OnOk result Q
-on_ok_then (Ok value) P Q leads holds = leads holds
-on_ok_then (Err e) P Q leads holds = tt

@@ -5,11 +5,12 @@ use Rattle.http.specs.declared.request.Request.{Request}
 use Rattle.http_server.specs.{declared.response.Response.Response, Connection.config_of, Connection.history}
 use Rattle.http_server.specs.{Exchange.Call, Exchange.Calls, Exchange.Chain, History.History, History.Rests}
 use Rattle.view_session.specs.Store.{StoreSeen}
-use Rattle.page_server.specs.{declared.keeper.StateKeeper.StateKeeper, declared.peer.Peer.Peer, Keeping.Answers}
-use Rattle.page_server.specs.Keeper.{keeping, KeeperAnswers}
+use Rattle.page_service.specs.{declared.keeper.StateKeeper.StateKeeper, Keeping.Answers}
+use Rattle.page_server.specs.{declared.peer.Peer.Peer}
+use Rattle.page_service.specs.Keeper.{keeping, KeeperAnswers}
 use Rattle.page_server.specs.Peer.{past, begun_after, NotesMoment, NotesRequest, HasReceived, HasGrown, after_transfer}
 use Rattle.page_server.specs.Peer.{Lingers, TakesIn}
-use Rattle.page_server.proofs.Keepers.{Chain-keeping, none_answered, some_answered}
+use Rattle.page_service.proofs.Keepers.{Chain-keeping, none_answered, some_answered}
 use Rattle.page_server.proofs.Transfers.{stays_unless_grown}
 
 -- a peer that is closed takes nothing in

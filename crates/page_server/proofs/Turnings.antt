@@ -6,7 +6,8 @@ use Rattle.http_server.specs.Connection.{config_of, history}
 use Rattle.http_server.specs.{History.new_history, declared.connection.Connection.Connection}
 use Rattle.mio.specs.declared.net.stream.TcpStream.{TcpStream}
 use Rattle.page_service.specs.Showing.{ShowsKey}
-use Rattle.page_server.specs.{declared.hall.Hall.Hall, Keeping.IsInFile, Peer.IsFresh, Peers.peers_of, Peers.most_of}
+use Rattle.page_service.specs.{Keeping.IsInFile}
+use Rattle.page_server.specs.{declared.hall.Hall.Hall, Peer.IsFresh, Peers.peers_of, Peers.most_of}
 use Rattle.page_server.specs.{Round.IsRound, declared.peer.Peer.Peer, declared.peers.PeerList.PeerList, Caller.front_of}
 use Rattle.page_server.specs.{declared.caller.Caller.Caller, declared.door.Door.Door, declared.server.Server.Server}
 use Rattle.page_server.specs.Page.{PageAnswers, PageHas, PageNotes, PageSpells, PageTakes, page_version}
@@ -14,32 +15,20 @@ use Rattle.page_server.specs.Turning.{Scene, IsKeptTrack, IsRoundOf, AreMoving, 
 use Rattle.page_server.specs.Turning.{LetsIn, TakesTurn, AreTurns}
 use Rattle.view_session.specs.Store.{StoreSeen}
 
-was_true : (b : Bool) → not b ≡ false → b ≡ true
-was_true true is = refl
-was_true false is = absurd (cc)
+same_flag : (a b : Bool) → not a ≡ not b → a ≡ b
+same_flag true true is = refl
+same_flag false false is = refl
+same_flag a b is = absurd cc
 
-was_false : (b : Bool) → not b ≡ true → b ≡ false
-was_false true is = absurd (cc)
-was_false false is = refl
-
-module _ (now : ℕ) (told kept : Bool) (a b : Scene) where
-  abbrev Round : Type 0
-  Round = IsRound PageAnswers page_version PageSpells PageHas PageTakes PageNotes now kept told a.keeping b.keeping
-      a.peers b.peers
-
-  round_of : Round → (IsKeptTrack a.keeping → IsKeptTrack b.keeping)
-      → (IsKeptTrack a.keeping → IsTrue kept → IsInFile PageSpells b.keeping) → IsRoundOf now told a b
-  round_of round tracked in_file = record { is_kept = kept; round = round; tracked = tracked; in_file = in_file }
-
-  pub round_moved : not told ≡ false → Round → (IsKeptTrack a.keeping → IsKeptTrack b.keeping)
-      → (IsKeptTrack a.keeping → IsTrue kept → IsInFile PageSpells b.keeping) → IsRoundOf now true a b
-  round_moved is round tracked in_file =
-      subst (λ (m : Bool). IsRoundOf now m a b) (was_true told is) (round_of round tracked in_file)
-
-  pub round_still : not told ≡ true → Round → (IsKeptTrack a.keeping → IsKeptTrack b.keeping)
-      → (IsKeptTrack a.keeping → IsTrue kept → IsInFile PageSpells b.keeping) → IsRoundOf now false a b
-  round_still is round tracked in_file =
-      subst (λ (m : Bool). IsRoundOf now m a b) (was_false told is) (round_of round tracked in_file)
+-- a round that told whether bytes moved
+pub round_told : (now : ℕ) (told kept : Bool) (a b : Scene) (moved : Bool) → not told ≡ not moved
+    → IsRound PageAnswers page_version PageSpells PageHas PageTakes PageNotes now kept told a.keeping b.keeping a.peers
+    b.peers
+    → (IsKeptTrack a.keeping → IsKeptTrack b.keeping)
+    → (IsKeptTrack a.keeping → IsTrue kept → IsInFile PageSpells b.keeping) → IsRoundOf now moved a b
+round_told now told kept a b moved is round tracked in_file =
+    subst (λ (m : Bool). IsRoundOf now m a b) (same_flag told moved is)
+    (record { is_kept = kept; round = round; tracked = tracked; in_file = in_file })
 
 pub one_more : (now n : ℕ) (a b d : Scene) → AreMoving now n a b → IsRoundOf now true b d → AreMoving now (n + 1) a d
 one_more now n a b d so_far round = subst (λ m. AreMoving now m a d) (sym (add-one n)) (b, so_far, round)
@@ -88,8 +77,7 @@ module _ {T : Type 0} (now : ℕ) where
       → ShowsKey old.hall.key (front_of caller) → IsPageConfig (config_of connection)
       → history connection ≡ new_history → most_of peers ≡ most_of old.peers
       → (IsTrue admitted → (peer : Peer (Caller TcpStream)) × IsFresh now caller connection peer
-      × (peers_of peers ≡ peers_of old.peers ++ peer ∷ []))
-      → (IsFalse admitted → peers_of peers ≡ peers_of old.peers)
+      × (peers_of peers ≡ peers_of old.peers ++ peer ∷ [])) → (IsFalse admitted → peers_of peers ≡ peers_of old.peers)
       → LetsIn now old (record old { peers = peers })
   lets_one_in old caller connection peers true shown limits new most admits refused =
       let x = admits refl in
@@ -129,11 +117,13 @@ pub busy_with : (Busy Moved Working Crowded Left : Type 0)
 busy_with Busy Moved Working Crowded Left any left = (
   λ busy. elim (any.0 busy) [
     | inl moves ↦ inl moves
-    | inr later ↦ inr (elim later [ inl works ↦ inl (left.0 works) | inr crowd ↦ inr crowd ])
+    | inr (inl works) ↦ inr (inl (left.0 works))
+    | inr (inr crowd) ↦ inr (inr crowd)
   ],
   λ one. any.1 (elim one [
     | inl moves ↦ inl moves
-    | inr later ↦ inr (elim later [ inl rest ↦ inl (left.1 rest) | inr crowd ↦ inr crowd ])
+    | inr (inl rest) ↦ inr (inl (left.1 rest))
+    | inr (inr crowd) ↦ inr (inr crowd)
   ]),
 )
 

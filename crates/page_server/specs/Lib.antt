@@ -10,9 +10,9 @@ pub use Rattle.page_board.specs.Taking
 pub use Rattle.page_service.specs.Showing
 pub use Rattle.page_service.specs.Answering
 pub use Rattle.page_service.specs.Painting
-pub mod Kept
-pub mod Keeping
-pub mod Keeper
+pub use Rattle.page_service.specs.Kept
+pub use Rattle.page_service.specs.Keeping
+pub use Rattle.page_service.specs.Keeper
 pub mod Pairs
 pub mod Peer
 pub mod Peers

@@ -6,7 +6,8 @@ use Rattle.core_rules.specs.Work.{IsQuiet}
 use Rattle.run_faults.specs.declared.run_error.RunError.{RunError}
 use Rattle.page_board.specs.{Growing.IsGrown, Keeping.KeepsBoard, Keeping.HasAllIn, Taking.FileIsTaken}
 use Rattle.page_service.specs.Answering.{Answers}
-use Rattle.page_server.specs.{Kept.HasTaken, Kept.IsKeptAlike, Kept.IsLater, declared.page.Page.Page}
+use Rattle.page_service.specs.{Kept.HasTaken, Kept.IsKeptAlike, Kept.IsLater}
+use Rattle.page_server.specs.{declared.page.Page.Page}
 
 -- how many texts and files were taken
 abbrev pub page_version : Page → ℕ

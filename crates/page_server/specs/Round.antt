@@ -3,7 +3,8 @@ use Rattle.std.specs.Prelude.{ℕ, Bool, ◌||◌, not, List, Option, IsTrue}
 use Rattle.http.specs.declared.request.Request.{Request}
 use Rattle.http_server.specs.{declared.response.Response.Response, Exchange.Call}
 use Rattle.run_faults.specs.declared.run_error.RunError.{RunError}
-use Rattle.page_server.specs.{Kept.may_differ, Keeping.Keeping, Keeping.Answers, Keeping.Settles, Pairs.InTurn}
+use Rattle.page_service.specs.{Kept.may_differ, Keeping.Keeping, Keeping.Answers, Keeping.Settles}
+use Rattle.page_server.specs.{Pairs.InTurn}
 use Rattle.page_server.specs.{Pairs.InSomePair, Peer.TakesPart, Peer.HasMoved, declared.peer.Peer.Peer}
 
 -- the answers to calls that led from the old state to the new one stand: the file keeps the state of the service, or

@@ -5,7 +5,8 @@ use Rattle.http_server.specs.{Connection.config_of, History.new_history, declare
 use Rattle.mio.specs.declared.net.stream.TcpStream.{TcpStream}
 use Rattle.page_board.specs.Board.{PageBoard}
 use Rattle.page_server.specs.{declared.html.TheConstants.PAGE, declared.html.TheConstants.POLICY, Hall.guests_of}
-use Rattle.page_server.specs.{Hall.IsWaiting, Keeping.Keeping, Keeping.IsInFile, Keeping.IsTracked, Keeper.keeping}
+use Rattle.page_service.specs.{Keeping.Keeping, Keeping.IsInFile, Keeping.IsTracked, Keeper.keeping}
+use Rattle.page_server.specs.{Hall.IsWaiting}
 use Rattle.page_server.specs.{Peer.past, Peers.peers_of, Peers.most_of, Peers.stays, Round.IsRound}
 use Rattle.page_server.specs.{declared.peer.Peer.Peer, Caller.front_of, Page.PageAnswers, Page.PageGrows, Page.PageHas}
 use Rattle.page_server.specs.{Page.PageNotes, Page.PageSpells, Page.PageTakes, Page.HasPageWork, Page.page_version}

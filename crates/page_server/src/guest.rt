@@ -1,12 +1,11 @@
 //! One who waits in the hall.
 
-ghost use Rattle.std.specs.Prelude.{◌≡◌, ◌↔◌, IsTrue};
+ghost use Rattle.std.specs.Prelude.{◌↔◌, IsTrue};
 ghost use Rattle.page_server.specs.Hall.{IsWaiting};
 ghost use Rattle.page_service.specs.Showing.{ShowsKey};
 
 use crate::transfer::unless_failed;
 use page_service::{Key, shows_key};
-use std::alloc::Global;
 use std::io::{Read, Write};
 
 /// How many bytes are kept of a guest. A line that asks for a page has more, or ends before.
@@ -38,17 +37,6 @@ pub struct Guest<C> {
 }
 
 impl<C> Guest<C> {
-    // One who came at this moment, and of whom nothing was heard.
-    pub(crate) fn new(alloc: Global, stream: C, now: u64) -> Guest<C>
-        ensures { result.came ≡ now }
-    {
-        Guest {
-            stream,
-            heard: Vec::new(alloc),
-            came: now,
-        }
-    }
-
     // Whether it may still wait.
     pub(crate) fn is_waiting(&self, now: u64) -> bool
         ensures { IsTrue result ↔ IsWaiting now self.now }

@@ -60,7 +60,11 @@ impl<C: Drop> Hall<C> {
         if self.guests.len() >= MOST_GUESTS {
             drop(self.guests.remove(0));
         }
-        let _ = self.guests.push(Guest::new(self.alloc, stream, now));
+        let _ = self.guests.push(Guest {
+            stream,
+            heard: Vec::new(self.alloc),
+            came: now,
+        });
     }
 
     /// The one who waits longest of those who have shown the key, by the bytes that were heard and the stream behind

@@ -4,12 +4,11 @@ ghost use Rattle.page_server.specs.Page.{PageAnswers, PageGrows, PageHas, PageNo
 ghost use Rattle.page_server.specs.Page.{HasPageWork, page_version};
 ghost use Rattle.page_server.specs.Page.{calls_count, works_count, takes_count, notes_count};
 
-use crate::kept::Kept;
 use bytes::Bytes;
 use grid_core::Memory;
 use http::Request;
 use http_server::{Response, Service};
-use page_service::Painting;
+use page_service::{Kept, Painting};
 use run_faults::RunError;
 use std::alloc::{AllocError, Global};
 

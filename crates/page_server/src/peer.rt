@@ -2,18 +2,17 @@
 
 ghost use Rattle.std.specs.Prelude.{◌≡◌, ◌+◌, ◌↔◌, nat_le, true, List, IsTrue};
 ghost use Rattle.http_server.specs.Exchange.{Call, Chain};
-ghost use Rattle.page_server.specs.Kept.{may_differ};
-ghost use Rattle.page_server.specs.Keeping.{Answers};
-ghost use Rattle.page_server.specs.Keeper.{keeping};
+ghost use Rattle.page_service.specs.Kept.{may_differ};
+ghost use Rattle.page_service.specs.Keeping.{Answers};
+ghost use Rattle.page_service.specs.Keeper.{keeping};
 ghost use Rattle.page_server.specs.Peer.{TakesIn, Finishes, IsFresh, HasReceived, HasSent};
 ghost use Rattle.page_server.specs.Peer.{after_transfer, begun_after, ClosesIfDone, Lingers};
 ghost use Rattle.page_server.specs.Peers.{is_before, is_over, linger_time, stays};
 
 use crate::ends_writing::EndsWriting;
-use crate::keeper::StateKeeper;
-use crate::kept::Kept;
 use crate::transfer::{finds_end, send_out, take_in};
 use http_server::Connection;
+use page_service::{Kept, StateKeeper};
 use std::io::{self, Read};
 use view_session::store::StateStore;
 

@@ -4,18 +4,17 @@ ghost use Rattle.std.specs.Prelude.{◌≡◌, ◌∷◌, [], ◌++◌, ◌≤�
 ghost use Rattle.std.specs.Prelude.{List, IfOk, length, filter, IsTrue, IsFalse, vec_capacity};
 ghost use Rattle.std.specs.List.{AllZip};
 ghost use Rattle.http_server.specs.Exchange.{Call};
-ghost use Rattle.page_server.specs.Kept.{may_differ};
-ghost use Rattle.page_server.specs.Keeping.{Answers};
-ghost use Rattle.page_server.specs.Keeper.{keeping};
+ghost use Rattle.page_service.specs.Kept.{may_differ};
+ghost use Rattle.page_service.specs.Keeping.{Answers};
+ghost use Rattle.page_service.specs.Keeper.{keeping};
 ghost use Rattle.page_server.specs.Pairs.{InTurn, InSomePair};
 ghost use Rattle.page_server.specs.Peer.{TakesIn, Finishes, IsFresh, HasReceived, HasSent};
 
 use crate::ends_writing::EndsWriting;
-use crate::keeper::StateKeeper;
-use crate::kept::Kept;
 use crate::peer::Peer;
 use grid_core::Memory;
 use http_server::Connection;
+use page_service::{Kept, StateKeeper};
 use std::alloc::Global;
 use std::io::Read;
 use view_session::store::StateStore;
@@ -67,6 +66,7 @@ impl<C: Drop> PeerList<C> {
         ensures most { most_of self.new ≡ most_of self.old }
     {
         if self.list.len() >= self.most {
+            drop(connection);
             return false;
         }
         self.list.push_reserved(Peer::new(stream, connection, now));

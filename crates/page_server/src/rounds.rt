@@ -25,15 +25,14 @@
 //! saves again.
 
 ghost use Rattle.std.specs.Prelude.{◌≡◌, ◌↔◌, ◌⊎◌, IsTrue};
-ghost use Rattle.page_server.specs.Keeping.{IsHeld, IsInFile, IsTracked};
-ghost use Rattle.page_server.specs.Keeper.{keeping};
+ghost use Rattle.page_service.specs.Keeping.{IsHeld, IsInFile, IsTracked};
+ghost use Rattle.page_service.specs.Keeper.{keeping};
 ghost use Rattle.page_server.specs.Peers.{peers_of, most_of};
 ghost use Rattle.page_server.specs.Round.{IsRound};
 
 use crate::ends_writing::EndsWriting;
-use crate::keeper::StateKeeper;
-use crate::kept::Kept;
 use crate::peers::PeerList;
+use page_service::{Kept, StateKeeper};
 use std::io::Read;
 use view_session::store::StateStore;
 

@@ -23,7 +23,6 @@ use crate::door::Door;
 use crate::forward::remove_forward;
 use crate::hall::Hall;
 use crate::html::{PAGE, POLICY};
-use crate::keeper::StateKeeper;
 use crate::mask_file::MaskFile;
 use crate::opening::{KeptBoard, open_board};
 use crate::page::Page;
@@ -35,7 +34,7 @@ use byte_devices::{Sink, StdSource};
 use grid_core::Memory;
 use http_server::Connection;
 use mio::net::TcpStream;
-use page_service::{Key, Painting, config};
+use page_service::{Key, Painting, StateKeeper, config};
 use raster_sweeps::Grower;
 use run_faults::RunError;
 use std::alloc::Global;
@@ -91,8 +90,13 @@ pub fn paint<R: Net + Files + Clock + RandomSource, G: Grower, T: StateStore + D
 {
     let mut store = store;
     let opened = opened_for(rt, grower, alloc, &call, &mut store)?;
-    let site = Site::told(rt, alloc, &call, sink)?;
-    serve(rt, alloc, site, opened, call.side, store, call.file)
+    match Site::told(rt, alloc, &call, sink) {
+        Ok(site) => serve(rt, alloc, site, opened, call.side, store, call.file),
+        Err(why) => {
+            drop(opened);
+            Err(why)
+        }
+    }
 }
 
 // The board of a call, under a new number. A file that forwards to an earlier start is gone before.
@@ -145,8 +149,14 @@ fn serve<R: Clock + RandomSource, T: StateStore + Drop>(
 {
     let mut server = Server::new(alloc, site, opened, side, store, file)?;
     match server.serve(rt) {
-        Ok(()) => Ok(()),
-        Err(_) => Err(RunError::Link),
+        Ok(()) => {
+            drop(server);
+            Ok(())
+        }
+        Err(_) => {
+            drop(server);
+            Err(RunError::Link)
+        }
     }
 }
 
@@ -175,22 +185,30 @@ impl<T: StateStore + Drop> Server<T> {
         requires kept { IsKeptIn (T.seen store).held file opened.kept.items opened.board }
         ensures { IfOk result (IsNewServer T.seen site opened.board opened.kept.items side store file) }
     {
-        let (hall, peers) = places(alloc, &site.key)?;
-        let Site { door, hosts, key } = site;
-        let KeptBoard { board, kept } = opened;
-        let page = Page {
-            alloc,
-            painting: Painting::new(alloc, board, hosts, key, PAGE, POLICY),
-            jobs: jobs_of(side),
-        };
-        Ok(Server {
-            alloc,
-            door,
-            hall,
-            keeper: StateKeeper::new(alloc, page, kept, store, file),
-            peers,
-            is_busy: true,
-        })
+        match places(alloc, &site.key) {
+            Ok((hall, peers)) => {
+                let Site { door, hosts, key } = site;
+                let KeptBoard { board, kept } = opened;
+                let page = Page {
+                    alloc,
+                    painting: Painting::new(alloc, board, hosts, key, PAGE, POLICY),
+                    jobs: jobs_of(side),
+                };
+                Ok(Server {
+                    alloc,
+                    door,
+                    hall,
+                    keeper: StateKeeper::new(alloc, page, kept, store, file),
+                    peers,
+                    is_busy: true,
+                })
+            }
+            Err(why) => {
+                drop(site);
+                drop(opened);
+                Err(why)
+            }
+        }
     }
 
     // Takes turns, for as long as anybody counts.

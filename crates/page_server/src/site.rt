@@ -45,11 +45,33 @@ impl Site {
         ensures refused { IfErr result (λ e. (e ≡ errors.Link) ⊎ (e ≡ errors.Memory) ⊎ IsTransferFault e) }
     {
         let site = Site::open(rt, alloc, call)?;
-        if let Some(name) = &call.forward {
-            write_forward(rt, alloc, name.as_str(), &site.hosts, &site.key)?;
+        match site.announce(rt, alloc, call, sink) {
+            Ok(()) => Ok(site),
+            Err(why) => {
+                drop(site);
+                Err(why)
+            }
         }
-        site.tell(alloc, sink)?;
-        Ok(site)
+    }
+
+    // Writes the file that forwards here, where one is asked for, and tells the sink the address.
+    //
+    // Errors: P11 where either failed; out of memory.
+    fn announce<R: Files, K: Sink>(
+        &self,
+        rt: &R,
+        alloc: Global,
+        call: &PaintCall,
+        sink: &mut K,
+    ) -> Result<(), RunError>
+        ensures told { OnOk result (Appends (K.seen sink.old).written (K.seen sink.new).written
+            (address_line self.now.hosts self.now.key)) }
+        ensures refused { IfErr result (λ e. (e ≡ errors.Link) ⊎ (e ≡ errors.Memory) ⊎ IsTransferFault e) }
+    {
+        if let Some(name) = &call.forward {
+            write_forward(rt, alloc, name.as_str(), &self.hosts, &self.key)?;
+        }
+        self.tell(alloc, sink)
     }
 
     // Binds a port of 127.0.0.1 for a call, and draws a key.

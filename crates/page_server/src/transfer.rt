@@ -1,6 +1,6 @@
 //! The bytes of one connection.
 
-ghost use Rattle.std.specs.Prelude.{◌≡◌, ◌≢◌, ◌++◌, ◌↔◌, ◌<◌, ℕ, List, IfOk, IsTrue, IsFalse};
+ghost use Rattle.std.specs.Prelude.{◌≡◌, ◌≢◌, ◌++◌, ◌↔◌, ℕ, List, IfOk, IsTrue, IsFalse};
 ghost use Rattle.std.specs.IoError.{error_kind};
 ghost use Rattle.std.specs.Io.KnownBytes.{Appends, Consumes};
 ghost use Rattle.http_server.specs.Connection.{config_of, history};
@@ -44,18 +44,6 @@ pub(crate) fn unless_failed(error: io::Error) -> io::Result<Attempt>
     }
 }
 
-// What came of an attempt that moved so many bytes.
-fn moved_or_over(count: usize) -> Attempt
-    ensures moved { (result ≡ Attempt.Moved) ↔ (0 < count) }
-    ensures over { count ≡ 0 → result ≡ Attempt.Over }
-{
-    if count > 0 {
-        Attempt::Moved
-    } else {
-        Attempt::Over
-    }
-}
-
 // Reads once where there is room, and lets the service answer. A read that finds the end moves no byte.
 fn read_once<S: Service, R: Read>(
     connection: &mut Connection,
@@ -79,7 +67,11 @@ fn read_once<S: Service, R: Read>(
     match connection.read_from(reader) {
         Ok(count) => {
             connection.advance(service);
-            Ok(moved_or_over(count))
+            Ok(if count > 0 {
+                Attempt::Moved
+            } else {
+                Attempt::Over
+            })
         }
         Err(error) => unless_failed(error),
     }

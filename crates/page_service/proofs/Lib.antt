@@ -6,3 +6,5 @@ pub mod Senders
 pub mod Showings
 pub mod Refused
 pub mod Leaving
+pub mod Keepers
+pub mod Tracking

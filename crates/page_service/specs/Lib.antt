@@ -13,3 +13,6 @@ pub mod Painting
 pub mod Stored
 pub mod Answering
 pub mod Laws
+pub mod Kept
+pub mod Keeping
+pub mod Keeper

@@ -37,6 +37,9 @@
 mod answer_fields;
 mod fault;
 mod hosts;
+mod joiner;
+mod keeper;
+mod kept;
 mod key;
 mod laws;
 mod limits;
@@ -51,6 +54,8 @@ mod unread;
 
 pub use answer_fields::{Media, put_answer, put_refusal};
 pub use hosts::{Hosts, address};
+pub use keeper::StateKeeper;
+pub use kept::Kept;
 pub use key::Key;
 pub use laws::{answers_leave_later, nothing_is_taken_unkept, one_answer};
 pub use limits::{MAX_BODY_LEN, MAX_HEAD_LEN, config};

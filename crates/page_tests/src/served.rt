@@ -8,7 +8,7 @@ use bytes::Bytes;
 use grid_core::Memory;
 use http::Request;
 use http_server::{Response, Service};
-use page_server::Kept;
+use page_service::Kept;
 use page_service::{Painting, answers_leave_later};
 use run_faults::RunError;
 use std::alloc::{AllocError, Global};

@@ -1,17 +1,18 @@
 use Rattle.std.proofs.{Common.inl, Common.List, Common.ℕ, Common.subst, lemmas.Result.err_from_is_err_and}
 use Rattle.page_board.specs.{Keeping.KeepsBoard, Keeping.HasAllIn, Opening.IsOpenedOver, Opening.IsNotOpenedOver}
-use Rattle.page_server.proofs.Openings.{loading_fails, loading_is_early, mask_refused, mask_unread, refused, unread}
+use Rattle.view_session.proofs.StoredViews.{load_fault}
+use Rattle.page_server.proofs.Openings.{loading_is_early, mask_refused, mask_unread, refused, unread}
 use Rattle.page_server.proofs.opening.open_board.Goals as goal
 
 pub returns-in_err-kept-clause-refused : goal.returns-in_err-kept-clause-refused
 returns-in_err-kept-clause-refused g c =
     let p = err_from_is_err_and c.from_residual.result c.from_residual.ensures.1 in
-    rw (p.1, p.2) (inl (loading_is_early _ (loading_fails _ _ _ c.in_err-kept.field-0.0 _ c.in_err-kept.ensures)))
+    rw (p.1, p.2) (inl (loading_is_early _ (load_fault _ _ _ c.in_err-kept.field-0.0 _ c.in_err-kept.ensures)))
 
 pub returns-in_err-kept-clause-read : goal.returns-in_err-kept-clause-read
 returns-in_err-kept-clause-read g c =
     let p = err_from_is_err_and c.from_residual.result c.from_residual.ensures.1 in
-    rw (p.1, p.2) (unread _ _ (loading_fails _ _ _ c.in_err-kept.field-0.0 _ c.in_err-kept.ensures))
+    rw (p.1, p.2) (unread _ _ (load_fault _ _ _ c.in_err-kept.field-0.0 _ c.in_err-kept.ensures))
 
 pub returns-in_err-mask-clause-refused : goal.returns-in_err-mask-clause-refused
 returns-in_err-mask-clause-refused g c =

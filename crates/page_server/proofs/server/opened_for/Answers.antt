@@ -27,5 +27,4 @@ pub returns-clause-refused : goal.returns-clause-refused
 returns-clause-refused g c =
     let held = (g.T.StateStore.seen c.args.store.now).held in
     IfErr-weaker c.open_board.result _ _
-    (λ e why. not_opened_not_served c.args.call.now.conn held c.args.call.now.file _ e why)
-    c.open_board.ensures.refused
+    (λ e why. not_opened_not_served c.args.call.now.conn held c.args.call.now.file _ e why) c.open_board.ensures.refused

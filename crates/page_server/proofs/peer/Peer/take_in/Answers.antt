@@ -1,7 +1,9 @@
 use Rattle.std.proofs.Common.{◌≡◌, ◌∙◌, true, false, refl, List, [], sym, ap, subst, rules}
 use Rattle.http_server.specs.Exchange.{Call, Chain}
-use Rattle.page_server.specs.{declared.keeper.StateKeeper.StateKeeper, declared.peer.Peer.Peer, Kept.may_differ}
-use Rattle.page_server.specs.{Keeping.Answers, Keeper.keeping, Peer.TakesIn, Peer.after_transfer, Peer.begun_after}
+use Rattle.page_service.specs.{declared.keeper.StateKeeper.StateKeeper, Kept.may_differ}
+use Rattle.page_server.specs.{declared.peer.Peer.Peer}
+use Rattle.page_service.specs.{Keeping.Answers, Keeper.keeping}
+use Rattle.page_server.specs.{Peer.TakesIn, Peer.after_transfer, Peer.begun_after}
 use Rattle.page_server.proofs.Taking.{TakesIn-closed, taken_after}
 use Rattle.page_server.proofs.peer.Peer.take_in.Goals as goal
 

@@ -1,7 +1,9 @@
 use Rattle.std.proofs.Common.{Bool, true, false, List, ◌+◌, ◌<◌, ◌++◌, length, set, take, sym, subst, arith, refl, ◌∙◌}
 use Rattle.http_server.specs.Exchange.{Call}
-use Rattle.page_server.specs.{declared.peer.Peer.Peer, Kept.may_differ, Keeping.Keeping, Keeping.Answers}
-use Rattle.page_server.specs.{Keeper.keeping, Pairs.InTurn, Peer.TakesIn, Peer.HasReceived}
+use Rattle.page_service.specs.{Kept.may_differ, Keeping.Keeping, Keeping.Answers}
+use Rattle.page_server.specs.{declared.peer.Peer.Peer}
+use Rattle.page_service.specs.{Keeper.keeping}
+use Rattle.page_server.specs.{Pairs.InTurn, Peer.TakesIn, Peer.HasReceived}
 use Rattle.page_server.proofs.Flags.{never_quiet}
 use Rattle.page_server.proofs.Turns.{InTurn-map, InTurn-next, InSomePair-next, InSomePair-here, drop_next, TakesIn-more}
 use Rattle.page_server.proofs.peers.PeerList.take_in.Goals.{then-take_in, else-take_in}
@@ -42,12 +44,10 @@ loop-peer-preserved g c =
         taken = (
           calls,
           subst Q (sym w.came-is)
-              (InTurn-next olds items i x q within here so_far.rest answers (R true) first mid last so_far.taken.0
-              did.0
+              (InTurn-next olds items i x q within here so_far.rest answers (R true) first mid last so_far.taken.0 did.0
               (InTurn-map answers (R was) (R true)
               (λ a b y z mine. TakesIn-more _ was true now (never_quiet true was refl) y z mine)
-              first mid _ _ so_far.taken.0 so_far.taken.1)
-              did.2 (subst V w.if-take_in.true part)),
+              first mid _ _ so_far.taken.0 so_far.taken.1) did.2 (subst V w.if-take_in.true part)),
         );
         came = λ is.
             InSomePair-here olds items i x q within here so_far.rest HasReceived

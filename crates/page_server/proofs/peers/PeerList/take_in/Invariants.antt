@@ -1,6 +1,7 @@
 use Rattle.std.proofs.Common.{◌≡◌, List, take, drop, IsTrue}
 use Rattle.http_server.specs.Exchange.{Call}
-use Rattle.page_server.specs.{Kept.may_differ, Keeping.Answers, Keeper.keeping, Pairs.InTurn, Pairs.InSomePair}
+use Rattle.page_service.specs.{Kept.may_differ, Keeping.Answers, Keeper.keeping}
+use Rattle.page_server.specs.{Pairs.InTurn, Pairs.InSomePair}
 use Rattle.page_server.specs.{Peer.TakesIn, Peer.HasReceived}
 use Rattle.page_server.proofs.peers.PeerList.take_in.Given as goal
 

@@ -1,6 +1,6 @@
-use Rattle.std.proofs.Common.{refl, ◌∙◌, arith}
+use Rattle.std.proofs.Common.{refl, ◌∙◌, arith, true, false}
 use Rattle.page_server.specs.Turning.{scene}
-use Rattle.page_server.proofs.Turnings.{round_moved, round_still, one_more}
+use Rattle.page_server.proofs.Turnings.{round_told, one_more}
 use Rattle.page_server.proofs.server.Server.make_rounds.Goals as goal
 
 pub loop-init : goal.loop-init
@@ -12,7 +12,7 @@ loop-preserved g c =
     record {
       moving = one_more c.args.now c.loop.counter (scene seen c.args.self.now) (scene seen c.loop.self) _
           c.loop.invariant.moving
-          (round_moved c.args.now c.round.result.moved c.round.result.kept (scene seen c.loop.self) _
+          (round_told c.args.now c.round.result.moved c.round.result.kept (scene seen c.loop.self) _ true
           c.if-not-round.false c.round.ensures.round c.round.ensures.tracked c.round.ensures.in_file);
       most = c.round.ensures.most ∙ c.loop.invariant.most;
       hall = c.loop.invariant.hall;
@@ -25,7 +25,7 @@ returns-then-not-round-clause-rounds g c =
       scene seen c.loop.self,
       c.loop-test.true,
       c.loop.invariant.moving,
-      round_still c.args.now c.round.result.moved c.round.result.kept (scene seen c.loop.self) _
+      round_told c.args.now c.round.result.moved c.round.result.kept (scene seen c.loop.self) _ false
           c.if-not-round.true c.round.ensures.round c.round.ensures.tracked c.round.ensures.in_file,
     )
 

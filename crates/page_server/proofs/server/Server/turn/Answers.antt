@@ -1,6 +1,7 @@
 use Rattle.std.proofs.Common.{◌≡◌, ap, ◌∙◌, subst, IsTrue}
 use Rattle.mio.specs.declared.net.stream.TcpStream.{TcpStream}
-use Rattle.page_server.specs.{declared.hall.Hall.Hall, Keeper.keeping, Page.HasPageWork, declared.server.Server.Server}
+use Rattle.page_service.specs.{Keeper.keeping}
+use Rattle.page_server.specs.{declared.hall.Hall.Hall, Page.HasPageWork, declared.server.Server.Server}
 use Rattle.page_server.specs.Turning.{scene, Scene, AreRounds}
 use Rattle.page_server.proofs.Turnings.{busy_with, rounds_tracked}
 use Rattle.page_server.proofs.server.Server.turn.Goals as goal

@@ -4,9 +4,10 @@ use Rattle.std.proofs.Common.{subst, inl, inr, arith, IfSome}
 use Rattle.http.specs.declared.request.Request.{Request}
 use Rattle.http_server.specs.{declared.response.Response.Response, Exchange.Call, Exchange.Chain}
 use Rattle.run_faults.specs.declared.run_error.RunError.{RunError}
-use Rattle.page_server.specs.Kept.{IsLater, HasTaken, IsKeptAlike, last_version}
-use Rattle.page_server.specs.Keeping.{Keeping, Answers, IsBehind, IsHeld, IsInFile, IsTracked, Meets, IsSaved, IsJoined}
-use Rattle.page_server.specs.Keeping.{IsNotSaved, Settles}
+use Rattle.page_service.specs.Kept.{IsLater, HasTaken, IsKeptAlike, last_version}
+use Rattle.page_service.specs.Keeping.{Keeping, Answers, IsBehind, IsHeld, IsInFile, IsJoined, IsSaved, IsTracked}
+use Rattle.page_service.specs.Keeping.{Meets}
+use Rattle.page_service.specs.Keeping.{IsNotSaved, Settles}
 
 -- from one state of a service to another, where nothing that it had is lost
 pub record GoesOn {S : Type 0} (version : S → ℕ) (has : S → List ℕ → Type 0) (old new : S) : Type 0 where
@@ -33,8 +34,7 @@ module _ {S : Type 0} (version : S → ℕ) (spells has : S → List ℕ → Typ
 
   pub IsTracked-chain : (answers : S → Request (List ℕ) → Response → S → Type 0)
       → ((old : S) (request : Request (List ℕ)) (response : Response) (new : S) → answers old request response new
-      → IsLater version spells has old new)
-      → (calls : List Call) (a b : Keeping S) → Chain (Answers answers) a calls b
+      → IsLater version spells has old new) → (calls : List Call) (a b : Keeping S) → Chain (Answers answers) a calls b
       → IsTracked version spells has a → IsTracked version spells has b
   IsTracked-chain answers counts [] a b along tracked = subst (IsTracked version spells has) (sym along) tracked
   IsTracked-chain answers counts (c ∷ calls) a b along tracked =

@@ -3,7 +3,7 @@
 ghost use Rattle.std.specs.Prelude.{◌≡◌, ◌↔◌, ℕ, List, Option, IfOk, IfErr, OnOk, OnErr, IsTrue};
 ghost use Rattle.http.specs.declared.request.Request.{Request};
 ghost use Rattle.http_server.specs.declared.response.Response.{Response};
-ghost use Rattle.page_server.specs.Kept.{HasTaken, IsKeptAlike, IsLater};
+ghost use Rattle.page_service.specs.Kept.{HasTaken, IsKeptAlike, IsLater};
 ghost use Rattle.run_faults.specs.declared.run_error.RunError.{RunError as Fault};
 ghost use Rattle.run_faults.specs.declared.run_error.RunError.TheVariants as errors;
 

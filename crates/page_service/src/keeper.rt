@@ -1,8 +1,8 @@
 //! A service with the file that keeps its state.
 
 ghost use Rattle.std.specs.Prelude.{◌≡◌, ◌↔◌, false, IsTrue};
-ghost use Rattle.page_server.specs.Keeping.{IsBehind, IsJoined, IsTracked, Settles};
-ghost use Rattle.page_server.specs.Keeper.{keeping, KeeperAnswers};
+ghost use Rattle.page_service.specs.Keeping.{IsBehind, IsJoined, IsTracked, Settles};
+ghost use Rattle.page_service.specs.Keeper.{keeping, KeeperAnswers};
 
 use crate::joiner::Joiner;
 use crate::kept::Kept;
@@ -120,22 +120,22 @@ impl<S: Kept, T: StateStore> StateKeeper<S, T> {
         }
     }
 
-    // The version of the service.
-    pub(crate) fn version(&self) -> u64
+    /// The version of the service.
+    pub fn version(&self) -> u64
         ensures { result ≡ S.version (keeping T.seen self.now).service }
     {
         self.joiner.service.version()
     }
 
-    // Forgets that calls were answered.
-    pub(crate) fn forget(&mut self)
+    /// Forgets that calls were answered.
+    pub fn forget(&mut self)
         ensures { self.new ≡ record self.old { has_answered = false } }
     {
         self.has_answered = false;
     }
 
-    // Whether a call was answered since that was last forgotten.
-    pub(crate) fn has_answered(&self) -> bool
+    /// Whether a call was answered since that was last forgotten.
+    pub fn has_answered(&self) -> bool
         ensures { result ≡ self.now.has_answered }
     {
         self.has_answered

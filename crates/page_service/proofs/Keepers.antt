@@ -5,9 +5,9 @@ use Rattle.http_server.specs.{declared.response.Response.Response, Exchange.Call
 use Rattle.view_session.specs.Store.{AreSame, Held, IsHeldIn, StoreSeen, IsNotSaved as IsNotStored}
 use Rattle.run_faults.specs.declared.run_error.RunError.{RunError}
 use Rattle.run_faults.specs.declared.run_error.RunError.TheVariants.{StateFile, Memory}
-use Rattle.page_server.specs.Keeping.{Answers, IsNotSaved, Meets}
-use Rattle.page_server.specs.Keeper.{keeping, KeeperAnswers, MakesOver, RefusesOver}
-use Rattle.page_server.specs.{declared.joiner.Joiner.Joiner, declared.keeper.StateKeeper.StateKeeper}
+use Rattle.page_service.specs.Keeping.{Answers, IsNotSaved, Meets}
+use Rattle.page_service.specs.Keeper.{keeping, KeeperAnswers, MakesOver, RefusesOver}
+use Rattle.page_service.specs.{declared.joiner.Joiner.Joiner, declared.keeper.StateKeeper.StateKeeper}
 
 module _ {S T : Type 0} (answers : S → Request (List ℕ) → Response → S → Type 0) where
   -- what is seen of a chain of its calls is a chain

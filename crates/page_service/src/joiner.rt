@@ -1,6 +1,6 @@
 //! What is saved: the state of a service, joined with what its file has.
 
-ghost use Rattle.page_server.specs.Keeper.{MakesOver, RefusesOver};
+ghost use Rattle.page_service.specs.Keeper.{MakesOver, RefusesOver};
 
 use crate::kept::Kept;
 use run_faults::RunError;

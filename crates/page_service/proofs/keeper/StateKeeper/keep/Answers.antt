@@ -1,6 +1,6 @@
 use Rattle.std.proofs.Common.{rules}
-use Rattle.page_server.proofs.{Keepers.lost_after, Tracking.IsJoined-saved}
-use Rattle.page_server.proofs.keeper.StateKeeper.keep.Goals as goal
+use Rattle.page_service.proofs.{Keepers.lost_after, Tracking.IsJoined-saved}
+use Rattle.page_service.proofs.keeper.StateKeeper.keep.Goals as goal
 
 pub returns-in-Ok-clause-joins : goal.returns-in-Ok-clause-joins
 returns-in-Ok-clause-joins g c =

@@ -5,7 +5,7 @@ use Rattle.http_server.specs.declared.response.Response.{Response}
 use Rattle.view_session.specs.Store.{Held, AreSame, IsHeldIn, IsReplaced}
 use Rattle.run_faults.specs.declared.run_error.RunError.{RunError}
 use Rattle.run_faults.specs.declared.run_error.RunError.TheVariants.{StateFile, Memory}
-use Rattle.page_server.specs.Kept.{last_version}
+use Rattle.page_service.specs.Kept.{last_version}
 
 -- the service, what the files hold, the name of its own, the bytes that the store answered last for it, and the version
 -- that was saved there

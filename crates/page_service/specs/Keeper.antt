@@ -5,8 +5,8 @@ use Rattle.http_server.specs.declared.response.Response.{Response}
 use Rattle.view_session.specs.Store.{StoreSeen}
 use Rattle.run_faults.specs.declared.run_error.RunError.{RunError}
 use Rattle.run_faults.specs.declared.run_error.RunError.TheVariants.{StateFile, Memory}
-use Rattle.page_server.specs.Keeping.{Keeping, Meets}
-use Rattle.page_server.specs.{declared.joiner.Joiner.Joiner, declared.keeper.StateKeeper.StateKeeper}
+use Rattle.page_service.specs.Keeping.{Keeping, Meets}
+use Rattle.page_service.specs.{declared.joiner.Joiner.Joiner, declared.keeper.StateKeeper.StateKeeper}
 
 module _ {S T : Type 0} where
   abbrev pub keeping : (T → StoreSeen) → StateKeeper S T → Keeping S
