@@ -193,6 +193,12 @@ unfoldable pub delta_at : Version → ℕ → ℕ → List ℕ → Read State
 delta_at version strokes tombstones text = onto with_stroke nothing (strokes_at version strokes text)
     >>= λ s. onto with_tombstone s.0 (tombstones_at tombstones s.1)
 
+-- the fields of a frame behind its connectivity and its fingerprint
+unfoldable pub contents_at : Version → Conn → List ℕ → List ℕ → Read Frame
+contents_at version conn print text = short_at text >>= λ strokes. short_at strokes.1
+    >>= λ tombstones. delta_at version strokes.0 tombstones.0 tombstones.1
+    >>= λ delta. Ok (record { conn = conn; print = print; delta = delta.0 }, delta.1)
+
 -- the fields of a frame
 unfoldable pub fields_at : List ℕ → Read Frame
 fields_at text =

@@ -4,22 +4,39 @@ ghost use Rattle.spd_codec.specs.declared.error.SpdError.TheVariants as errors;
 ghost use Rattle.spd_codec.specs.declared.frame.Frame.{Frame as Read};
 ghost use Rattle.spd_codec.specs.Spelling.{max_bytes, SpellsFrame};
 ghost use Rattle.spd_codec.specs.Faults.{IsFault};
-ghost use Rattle.spd_codec.specs.Reading.{GivesOrMemory, ReadsOrMemory, fields_at, frame_at};
+ghost use Rattle.spd_codec.specs.Reading.{GivesOrMemory, ReadsOrMemory, contents_at, fields_at, frame_at};
 
 use crate::error::SpdError;
 use crate::frame::Frame;
+use crate::print::Print;
 use crate::reader::Reader;
+use crate::version::Version;
 use crate::writing::MAX_BYTES;
+use grid_core::Conn;
 use std::alloc::Global;
 
 // The fields of a frame.
-#[tactic(auto, unfolding(crate::specs::Reading::fields_at))]
+#[tactic(auto, unfolding(crate::specs::Reading::fields_at, crate::specs::Reading::contents_at))]
 fn fields(alloc: Global, reader: &mut Reader<'_>) -> Result<Frame, SpdError>
     ensures { ReadsOrMemory result reader.new.rest.now (fields_at reader.old.rest.now) }
 {
     let version = reader.magic()?;
     let conn = reader.conn()?;
     let print = reader.print()?;
+    contents(alloc, reader, version, conn, print)
+}
+
+// The fields of a frame of this version behind its connectivity and its fingerprint.
+#[tactic(auto, unfolding(crate::specs::Reading::contents_at))]
+fn contents(
+    alloc: Global,
+    reader: &mut Reader<'_>,
+    version: Version,
+    conn: Conn,
+    print: Print,
+) -> Result<Frame, SpdError>
+    ensures { ReadsOrMemory result reader.new.rest.now (contents_at version conn print reader.old.rest.now) }
+{
     let strokes = reader.short()?;
     let tombstones = reader.short()?;
     let delta = reader.delta(alloc, version, strokes, tombstones)?;
@@ -37,8 +54,13 @@ fn frame(alloc: Global, bytes: &[u8]) -> Result<Frame, SpdError>
     }
     let mut reader = Reader { rest: bytes };
     let frame = fields(alloc, &mut reader)?;
-    reader.end()?;
-    Ok(frame)
+    match reader.end() {
+        Ok(()) => Ok(frame),
+        Err(why) => {
+            drop(frame);
+            Err(why)
+        }
+    }
 }
 
 /// The frame that the bytes spell, all of them.

@@ -1,6 +1,7 @@
 //! Fields of a fixed size, read from left to right.
 ghost use Rattle.spd_codec.specs.Reading.{Gives, Reads, byte_value, taken_at, short_at, tag_at, conn_at, print_at};
-ghost use Rattle.spd_codec.specs.Reading.{magic_at, kind_at, end_at};
+ghost use Rattle.spd_codec.specs.Reading.{magic_at, kind_at, end_at, field_at};
+ghost use Rattle.spd_codec.specs.Faults.{magic_field};
 
 use crate::error::SpdError;
 use crate::print::Print;
@@ -63,6 +64,19 @@ impl<'a> Reader<'a> {
         }
     }
 
+    // This letter of the magic.
+    //
+    // Errors: M1, M3.
+    fn letter(&mut self, letter: u8) -> Result<(), SpdError>
+        ensures { Gives (λ _. (letter, self.new.rest.now)) result
+            (field_at (magic_field letter) byte_value self.old.rest.now) }
+    {
+        if self.byte()? != letter {
+            return Err(SpdError::BadMagic);
+        }
+        Ok(())
+    }
+
     // The version that the magic names.
     //
     // Errors: M1, M3.
@@ -70,14 +84,14 @@ impl<'a> Reader<'a> {
     pub(crate) fn magic(&mut self) -> Result<Version, SpdError>
         ensures { Reads result self.new.rest.now (magic_at self.old.rest.now) }
     {
-        let (version, rest) = match self.rest {
-            [b'S', b'P', b'D', b'1', rest @ ..] => (Version::First, rest),
-            [b'S', b'P', b'D', b'2', rest @ ..] => (Version::Second, rest),
-            [] | [b'S'] | [b'S', b'P'] | [b'S', b'P', b'D'] => return Err(SpdError::Truncated),
-            _ => return Err(SpdError::BadMagic),
-        };
-        self.rest = rest;
-        Ok(version)
+        self.letter(b'S')?;
+        self.letter(b'P')?;
+        self.letter(b'D')?;
+        match self.byte()? {
+            b'1' => Ok(Version::First),
+            b'2' => Ok(Version::Second),
+            _ => Err(SpdError::BadMagic),
+        }
     }
 
     // The connectivity.
