@@ -1,6 +1,7 @@
 -- What the tactics leave open of `spread`.
 use Rattle.std.proofs.Common.{sym, ◌∙◌, arith}
 use Rattle.tile_work.proofs.HittingWalk.{walk_goes_on, walk_shortens, walk_ends}
+use Rattle.std.proofs.lemmas.Grind.{common_steps}
 use Rattle.tile_work.proofs.hits.spread.spread.Goals as goal
 
 pub loop-tile-smaller : goal.loop-tile-smaller
@@ -20,3 +21,6 @@ returns c = record {
   queue_count = c.loop-tile.invariant.queue_count ∙ sym c.requires.parts.each_tile.queue_count;
   none = λ t has. c.in_default.ensures t (omega arith) has;
 }
+
+pub loop-tile-init : goal.loop-tile-init
+loop-tile-init c = grind (arith, common_steps)

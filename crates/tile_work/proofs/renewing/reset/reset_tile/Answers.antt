@@ -1,9 +1,11 @@
 -- What the tactics leave open of `reset_tile`.
+use Rattle.std.proofs.Common.{arith}
 use Rattle.std.proofs.{Common.◌≡◌, Common.◌∙◌, Common.ap, Common.length, Common.arith, Math.ListN.length-set}
 use Rattle.grid_core.specs.{Bounds.bounds_of, Tiles.count_of}
 use Rattle.border_queues.specs.TileWork.{reset_work, work_of}
 use Rattle.tile_work.proofs.RenewingBounds.{tile_reset_within}
 use Rattle.tile_work.proofs.RenewingTiles.{one_reset, touching_are_tiles}
+use Rattle.std.proofs.lemmas.Grind.{common_steps}
 use Rattle.tile_work.proofs.renewing.reset.reset_tile.Goals as goal
 
 pub mark_all_dirty-requires : goal.mark_all_dirty-requires
@@ -40,3 +42,6 @@ returns-clause-bounds c =
     c.requires.tile c.each_pixel_in_one_tile.ensures c.neighbours_lie_in_touching_tiles.ensures
     (c.of-area.ensures ∙ ap bounds_of c.rect-rect.ensures.value) c.wider.ensures c.requires.bounds c.widen.ensures
     c.as_slice-2.ensures.tiles c.touching-around.ensures.members c.widen_near.ensures
+
+pub widen_near-requires-clause-count : goal.widen_near-requires-clause-count
+widen_near-requires-clause-count c = grind (arith, common_steps)

@@ -2,6 +2,7 @@
 use Rattle.std.proofs.Common.{◌≡◌, ℕ, ◌∙◌, ap, length, replicate, false, ◌+◌, ◌/◌, arith}
 use Rattle.std.proofs.lemmas.List.{with_items_is, length-replicate}
 use Rattle.tile_work.proofs.TileSetWords.{count_is, tiles_of-clear, IsSummed-clear, bit_of-replicate}
+use Rattle.std.proofs.lemmas.Grind.{common_steps}
 use Rattle.tile_work.proofs.tile_set.TileSet.clear.Goals as goal
 
 pub invariant_of-self : goal.invariant_of-self
@@ -21,3 +22,6 @@ returns c =
     rw (with_items_is c.self.inside.words c.clear_words.new.words (omega arith))
     (tiles_of-clear c.self.inside.count c.clear_words.new.words c.clear_words.ensures
     ∙ ap (λ n. replicate n false) (count_is _ _ _ c.self.view_is))
+
+pub clear_words-requires-clause-within : goal.clear_words-requires-clause-within
+clear_words-requires-clause-within c = grind (arith, common_steps)

@@ -1,7 +1,8 @@
 -- What the tactics leave open of `abandon`.
-use Rattle.std.proofs.Common.{true, refl, None}
+use Rattle.std.proofs.Common.{true, refl, None, arith}
 use Rattle.tile_work.proofs.WorkTables.{IsRowAt, row_changed, row_bounded, waiting_stays, stays_in_step}
 use Rattle.tile_work.proofs.work_table.WorkTable.abandon.Goals.{After-remove}
+use Rattle.std.proofs.lemmas.Grind.{common_steps}
 use Rattle.tile_work.proofs.work_table.WorkTable.abandon.Goals as goal
 
 row_at : (c : After-remove) → IsRowAt c.self.inside c.args.self.now c.args.tile c.index_mut-row.result.now
@@ -19,3 +20,6 @@ invariant_of-self c =
 
 pub returns : goal.returns
 returns c = row_changed (row_at c) (λ w. record w { dirty = true; out = None }) _ refl
+
+pub remove-requires : goal.remove-requires
+remove-requires c = grind (arith, common_steps)

@@ -8,6 +8,7 @@ use Rattle.tile_work.specs.declared.work_table.row.TileRow.{TileRow}
 use Rattle.border_queues.specs.TileWork.{hints_at, TileWork}
 use Rattle.tile_work.proofs.WorkTableHints.{room_for_all, received_in_step, written_back}
 use Rattle.tile_work.proofs.work_table.WorkTable.receive.Goals.{After-deref_mut-2}
+use Rattle.std.proofs.lemmas.Grind.{common_steps}
 use Rattle.tile_work.proofs.work_table.WorkTable.receive.Goals as goal
 
 pub make_room-requires-clause-tiles : goal.make_room-requires-clause-tiles
@@ -66,3 +67,9 @@ invariant_of-self-2 c =
     let lent = c.deref_mut-2.ensures.len in
     subst (λ (rs : List TileRow). AreInStep (works_of rs) c.self.inside.dirty c.self.inside.out c.deliver.new.waiting)
     (sym (written_back c.deliver.new.rows _ c.self.inside.rows.len (omega (arith, kept, lent)))) step
+
+pub deliver-requires-clause-waiting : goal.deliver-requires-clause-waiting
+deliver-requires-clause-waiting c = grind (arith, common_steps)
+
+pub returns-clause-ok : goal.returns-clause-ok
+returns-clause-ok c = grind (arith, common_steps)

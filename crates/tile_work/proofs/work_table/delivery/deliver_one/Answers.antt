@@ -1,6 +1,7 @@
 -- What the tactics leave open of `deliver_one`.
-use Rattle.std.proofs.Common.{get_or}
+use Rattle.std.proofs.Common.{get_or, arith}
 use Rattle.tile_work.proofs.WorkTableHints.{read_again, room_left, row_received, waiting_received}
+use Rattle.std.proofs.lemmas.Grind.{common_steps}
 use Rattle.tile_work.proofs.work_table.delivery.deliver_one.Goals as goal
 
 pub returns : goal.returns
@@ -18,3 +19,6 @@ returns c =
           waiting_received rows tile row c.push_hint.new.self c.args.hint c.requires.tile is c.push_hint.ensures.row
           c.push_hint.ensures.hints c.args.waiting.now c.insert.new.self c.requires.waiting c.insert.ensures;
     }
+
+pub insert-requires : goal.insert-requires
+insert-requires c = grind (arith, common_steps)
