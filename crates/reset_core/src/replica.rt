@@ -2,6 +2,7 @@
 
 ghost use Rattle.std.specs.Prelude.{◌≡◌, ◌<◌, ◌≤◌, ◌↔◌, ◌≢◌, false, length, replicate, None, IfOk, IfErr, IsTrue};
 ghost use Rattle.grid_core.specs.Raster.{IsFilled, IsInside, IsSized, value_at};
+ghost use Rattle.grid_core.specs.Bounds.{no_bounds};
 ghost use Rattle.grid_core.specs.Tiles.{IsTiled, IsTileSide, count_of};
 ghost use Rattle.marker_tiles.specs.Kept.{IsMarkerOf};
 ghost use Rattle.tile_generations.specs.Generations.{max_generation};
@@ -373,18 +374,22 @@ impl Beginning {
         requires { first ≤ max_generation }
         ensures { IfOk result (λ b. b ≡ with_image state image count first) }
     {
-        let (work, marks, queue) = without_work(alloc, count, first)?;
-        let bounds = OpenBounds::none(alloc, count)?;
-        let masks = TileMasks::none(alloc, count)?;
-        Ok(Beginning {
-            state,
-            image,
-            work,
-            bounds,
-            masks,
-            marks,
-            queue,
-        })
+        match blank_tiles(alloc, count, first) {
+            Ok((work, bounds, masks, marks, queue)) => Ok(Beginning {
+                state,
+                image,
+                work,
+                bounds,
+                masks,
+                marks,
+                queue,
+            }),
+            Err(why) => {
+                drop(state);
+                drop(image);
+                Err(why)
+            }
+        }
     }
 
     // The core that begins so.
@@ -416,19 +421,28 @@ impl Beginning {
     }
 }
 
-// So many tiles at which no work is left, and two sets that hold none of them.
-fn without_work(
+// So many tiles at which no work is left, without bounds and masks, and two sets that hold none of them. What holds the
+// most is made last, so that little is let go where memory is wanting.
+fn blank_tiles(
     alloc: Global,
     count: usize,
     first: u64,
-) -> Result<(WorkTable, TileSet, TileSet), Memory>
+) -> Result<(WorkTable, OpenBounds, TileMasks, TileSet, TileSet), Memory>
     requires { first ≤ max_generation }
-    ensures { IfOk result (λ w. w ≡ (replicate count (fresh first), replicate count false, replicate count false)) }
+    ensures { IfOk result (λ made. made ≡ (
+      replicate count (fresh first),
+      replicate count no_bounds,
+      replicate count None,
+      replicate count false,
+      replicate count false,
+    )) }
 {
-    let work = WorkTable::new(alloc, count, first)?;
+    let bounds = OpenBounds::none(alloc, count)?;
+    let masks = TileMasks::none(alloc, count)?;
     let marks = TileSet::empty(alloc, count)?;
     let queue = TileSet::empty(alloc, count)?;
-    Ok((work, marks, queue))
+    let work = WorkTable::new(alloc, count, first)?;
+    Ok((work, bounds, masks, marks, queue))
 }
 
 // The tiles of this side of a mask.

@@ -1,5 +1,5 @@
 -- What the tactics leave open of `hand`.
-use Rattle.std.proofs.Common.{◌≡◌, ◌<◌, ◌≤◌, true, false, List, refl, sym, ◌∙◌, ap, subst, IsTrue, slice_index_or}
+use Rattle.std.proofs.Common.{◌≡◌, ◌<◌, ◌≤◌, true, false, List, refl, sym, ◌∙◌, ap, subst, IsTrue, slice_index_or, arith}
 use Rattle.std.proofs.Common.{slice_set, set, arith}
 use Rattle.grid_core.specs.{declared.bounds.Bounds.Bounds, Raster.Raster, Raster.with_value}
 use Rattle.grid_core.specs.Bounds.{bounds_at, joined, no_bounds}
@@ -10,6 +10,7 @@ use Rattle.core_rules.specs.Hints.{IsPresent, without_hint, raised}
 use Rattle.border_queues.specs.TileWork.{TileWork, idle}
 use Rattle.reset_core.specs.Replica.{core_of}
 use Rattle.reset_core.proofs.Storing.{goes_inside, goes_to_tile, lost_is_stored, raised_is_stored}
+use Rattle.std.proofs.lemmas.Grind.{common_steps}
 use Rattle.reset_core.proofs.replica.Core.hand.Goals as goal
 
 -- src/replica/handing.rt:27:13
@@ -113,3 +114,15 @@ including-requires-clause-row c =
     let inside = goes_inside parts c.self.invariant c.args.tile c.args.i c.in-Some.hint there in
     let size = c.self.invariant.sound.shape in
     omega (arith, inside.1, size.image.height, size.tiled.size.height_within)
+
+pub remove_hint-requires-clause-tile : goal.remove_hint-requires-clause-tile
+remove_hint-requires-clause-tile c = grind (arith, common_steps)
+
+pub returns-then-not-present : goal.returns-then-not-present
+returns-then-not-present c = grind (arith, common_steps)
+
+pub returns-then-get-hint : goal.returns-then-get-hint
+returns-then-get-hint c = grind (arith, common_steps)
+
+pub mark_dirty-requires : goal.mark_dirty-requires
+mark_dirty-requires c = grind (arith, common_steps)

@@ -6,6 +6,7 @@ use Rattle.tile_generations.specs.declared.ticket.Ticket.{Ticket}
 use Rattle.core_rules.specs.{Invariant.IsSound, Sweeps.sender_of}
 use Rattle.reset_core.proofs.Sweeping.{told_are_edges, hints_once_joined, edges_touch}
 use Rattle.core_rules.specs.Work as work
+use Rattle.std.proofs.lemmas.Grind.{common_steps}
 use Rattle.reset_core.proofs.replica.Core.hints_by.Goals as goal
 
 pub returns-in-Ok : goal.returns-in-Ok
@@ -32,3 +33,9 @@ returns-in-Ok c =
           (record (sender_of core t) { image = with_tile (work.tiling core) t (value_at raised) (work.image_at core) })
           sound.shape.tiled within);
     }
+
+pub open_edges-requires-clause-size : goal.open_edges-requires-clause-size
+open_edges-requires-clause-size c = grind (arith, common_steps)
+
+pub open_edges-requires-clause-parts : goal.open_edges-requires-clause-parts
+open_edges-requires-clause-parts c = grind (arith, common_steps)

@@ -1,8 +1,9 @@
 -- What the tactics leave open of `join`.
-use Rattle.std.proofs.Common.{◌≡◌, slice_set, ap, ◌∙◌}
+use Rattle.std.proofs.Common.{◌≡◌, slice_set, ap, ◌∙◌, arith}
 use Rattle.grid_core.specs.Bounds.{bounds_of}
 use Rattle.tile_generations.specs.declared.ticket.Ticket.{Ticket}
 use Rattle.reset_core.proofs.Sweeping.{tiling_is, stored_below, parts_joined, joined_is_stored}
+use Rattle.std.proofs.lemmas.Grind.{common_steps}
 use Rattle.reset_core.proofs.replica.Core.join.Goals as goal
 
 pub receive-requires-clause-touching : goal.receive-requires-clause-touching
@@ -54,3 +55,18 @@ returns-clause-joined c =
     c.as_slice.result.now c.self.view_is tiles tile_is c.rect-rect.ensures.rect c.pixels.ensures.value
     c.raise_part.ensures c.in_ok-hints.ensures.touching c.as_slice.ensures c.in_ok-receive.ensures.ok c.end_job.ensures
     c.in_ok-hints.ensures.hints c.requires.joinable.known.is_tile
+
+pub of-requires-clause-columns : goal.of-requires-clause-columns
+of-requires-clause-columns c = grind (arith, common_steps)
+
+pub receive-requires-clause-tiles : goal.receive-requires-clause-tiles
+receive-requires-clause-tiles c = grind (arith, common_steps)
+
+pub raise_part-requires-clause-piece : goal.raise_part-requires-clause-piece
+raise_part-requires-clause-piece c = grind (arith, common_steps)
+
+pub rect-rect-requires : goal.rect-rect-requires
+rect-rect-requires c = grind (arith, common_steps)
+
+pub end_job-requires : goal.end_job-requires
+end_job-requires c = grind (arith, common_steps)

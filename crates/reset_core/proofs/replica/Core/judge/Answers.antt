@@ -1,10 +1,11 @@
 -- What the tactics leave open of `judge`.
-use Rattle.std.proofs.Common.{◌≡◌, true, false, refl, sym, ◌∙◌, subst}
+use Rattle.std.proofs.Common.{◌≡◌, true, false, refl, sym, ◌∙◌, subst, arith}
 use Rattle.core_rules.specs.{Work.Core, Merge.IsRefused, Merge.IsAcceptable}
 use Rattle.reset_core.specs.{declared.replica.Core.TheInside.Inside as Parts, Replica.core_of, MergeSteps.IsMarked}
 use Rattle.reset_core.proofs.MergeSteps.{hits_are_marked, spent_is_refused, unspent_is_acceptable}
 use Rattle.reset_core.proofs.{Sweeping.tiling_is, replica.Core.judge.Goals.After-mark_hits}
 use Rattle.core_rules.specs.declared.error.CoreError.TheVariants as errors
+use Rattle.std.proofs.lemmas.Grind.{common_steps}
 use Rattle.reset_core.proofs.replica.Core.judge.Goals as goal
 
 -- the parts that the core was stored as
@@ -35,3 +36,9 @@ returns-clause-acceptable c =
     (unspent_is_acceptable (core_of (parts_before at)) c.args.delta.now c.mark_hits.new.marks c.self.invariant.sound
     (is_marked at)
     (λ spent. let no : true ≡ false = sym (c.is_one_spent-is_spent.ensures.1 spent) ∙ c.if-is_spent.false in cc))
+
+pub mark_hits-requires-clause-on_tiling : goal.mark_hits-requires-clause-on_tiling
+mark_hits-requires-clause-on_tiling c = grind (arith, common_steps)
+
+pub invariant_of-self-2 : goal.invariant_of-self-2
+invariant_of-self-2 c = grind (arith, common_steps)

@@ -13,6 +13,7 @@ use Rattle.reset_core.proofs.MergeSteps.{renewed_is_merged, renewed_is_stored}
 use Rattle.reset_core.proofs.replica.Core.merge.Goals.{After-mark_hits, After-clear, After-renew, After-into}
 use Rattle.core_rules.proofs.Resets.{refused_is_not_acceptable}
 use Rattle.core_rules.specs.declared.error.CoreError.TheVariants as errors
+use Rattle.std.proofs.lemmas.Grind.{common_steps}
 use Rattle.reset_core.proofs.replica.Core.merge.Goals as goal
 
 -- the parts that the core was stored as
@@ -169,3 +170,9 @@ returns-in-Ok-clause-merged c =
     subst (λ (core : Core). IsMerged core c.args.delta.now c.in-Ok.change (core_of (parts_after c))) c.self.view_is
     (renewed_is_merged (parts_before at) (parts_after c) c.args.delta.now c.in-Ok.change c.self.invariant
     (is_renewed c))
+
+pub is_one_spent-requires : goal.is_one_spent-requires
+is_one_spent-requires c = grind (arith, common_steps)
+
+pub returns-in-Ok-clause-exactly : goal.returns-in-Ok-clause-exactly
+returns-in-Ok-clause-exactly c = grind (arith, common_steps)

@@ -1,9 +1,10 @@
 -- What the tactics leave open of `over`.
-use Rattle.std.proofs.Common.{refl, ◌∙◌, ap, subst, replicate, false, None}
+use Rattle.std.proofs.Common.{refl, ◌∙◌, ap, subst, replicate, false, None, arith}
 use Rattle.grid_core.specs.{Tiles.Tiles, Tiles.IsTiled, Tiles.count_of, Bounds.no_bounds}
 use Rattle.border_queues.specs.TileWork.{fresh}
 use Rattle.reset_core.specs.{declared.replica.Beginning.Beginning, Replica.begun}
 use Rattle.reset_core.proofs.Storing.{is_opened, opened_is_stored}
+use Rattle.std.proofs.lemmas.Grind.{common_steps}
 use Rattle.reset_core.proofs.replica.Core.over.Goals as goal
 
 pub with_markers-requires : goal.with_markers-requires
@@ -23,3 +24,9 @@ with_markers-requires c =
     (ap (λ (b : Beginning). b.bounds) begun ∙ ap (λ n. replicate n no_bounds) count)
     (ap (λ (b : Beginning). b.masks) begun ∙ ap (λ n. replicate n None) count)
     made.mask (made.tiling ∙ c.tiling_of-tiling.ensures)
+
+pub returns-in-Err-over-clause-refused : goal.returns-in-Err-over-clause-refused
+returns-in-Err-over-clause-refused c = grind (arith, common_steps)
+
+pub over-requires-clause-height : goal.over-requires-clause-height
+over-requires-clause-height c = grind (arith, common_steps)

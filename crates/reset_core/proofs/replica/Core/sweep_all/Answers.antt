@@ -1,6 +1,7 @@
 use Rattle.std.proofs.Common.{[], refl, subst, arith}
 use Rattle.core_rules.specs.{Work.Core, Runs.IsDirty}
 use Rattle.reset_core.proofs.Settling.{quiet_from, all_worked_off}
+use Rattle.std.proofs.lemmas.Grind.{common_steps}
 use Rattle.reset_core.proofs.replica.Core.sweep_all.Goals as goal
 
 pub returns-in_default-clause-works : goal.returns-in_default-clause-works
@@ -14,3 +15,6 @@ returns-in_default-clause-works c =
 pub returns-clause-works : goal.returns-clause-works
 returns-clause-works c =
     all_worked_off _ _ _ _ _ c.sweep_within.result c.sweep_within.ensures.works c.sweep_within.ensures.few (omega arith)
+
+pub sweep_within-requires-clause-count : goal.sweep_within-requires-clause-count
+sweep_within-requires-clause-count c = grind (arith, common_steps)

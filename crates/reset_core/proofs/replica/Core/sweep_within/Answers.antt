@@ -1,3 +1,4 @@
+use Rattle.std.proofs.Common.{arith}
 use Rattle.std.proofs.{Common.subst, Common.arith, lemmas.Grind.common_steps}
 use Rattle.core_rules.specs.{Work.Core, Runs.IsDirty}
 use Rattle.reset_core.proofs.Settling.{quiet_from, none_swept}
@@ -14,3 +15,6 @@ returns-in_default-clause-works c =
 
 pub work_off_within-requires-clause-enough : goal.work_off_within-requires-clause-enough
 work_off_within-requires-clause-enough c = grind (arith, common_steps)
+
+pub work_off_within-requires-clause-left : goal.work_off_within-requires-clause-left
+work_off_within-requires-clause-left c = grind (arith, common_steps)

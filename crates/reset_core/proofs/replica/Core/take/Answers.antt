@@ -1,6 +1,7 @@
 -- What the tactics leave open of `take`.
-use Rattle.std.proofs.Common.{refl}
+use Rattle.std.proofs.Common.{refl, arith}
 use Rattle.reset_core.proofs.Sweeping.{taken_is_stored}
+use Rattle.std.proofs.lemmas.Grind.{common_steps}
 use Rattle.reset_core.proofs.replica.Core.take.Goals as goal
 
 pub invariant_of-self : goal.invariant_of-self
@@ -8,3 +9,9 @@ invariant_of-self c =
     taken_is_stored c.take_keeps_sound.ensures c.self.inside c.mask_of.new.self c.args.tile c.in_ok-job.job
     c.take.new.self c.self.view_is c.self.invariant (rw c.mask_of.ensures.same (c.if-not-is_ready.ensures.0 refl))
     c.in_ok-job.ensures c.take.ensures
+
+pub next_job-requires-clause-mask : goal.next_job-requires-clause-mask
+next_job-requires-clause-mask c = grind (arith, common_steps)
+
+pub next_job-requires-clause-is_tile : goal.next_job-requires-clause-is_tile
+next_job-requires-clause-is_tile c = grind (arith, common_steps)

@@ -2,6 +2,7 @@ use Rattle.std.proofs.Common.{◌≤◌, arith, subst, sym}
 use Rattle.border_queues.specs.{OpenEdges.room_for_edges, Waiting.places, TileWork.IsLeast}
 use Rattle.core_rules.specs.{Work.Core, Runs.IsDirty}
 use Rattle.reset_core.proofs.Settling.{none_swept, one_more_swept, bounded_burden, quiet_from}
+use Rattle.std.proofs.lemmas.Grind.{common_steps}
 use Rattle.reset_core.proofs.replica.Core.work_off_within.Goals as goal
 
 pub loop-jobs-init : goal.loop-jobs-init
@@ -54,3 +55,6 @@ pub returns-clause-few : goal.returns-clause-few
 returns-clause-few c =
     let few = bounded_burden c.args.self.now c.image.ensures.sized c.tiling.ensures.tiled c.tiling.ensures.count in
     omega (arith, c.loop-jobs.invariant.0.spent, few, c.loop-jobs-test.false)
+
+pub returns-clause-works : goal.returns-clause-works
+returns-clause-works c = grind (arith, common_steps)

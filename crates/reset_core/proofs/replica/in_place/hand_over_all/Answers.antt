@@ -4,6 +4,7 @@ use Rattle.reset_core.specs.Telling.{hints_in}
 use Rattle.grid_core.specs.declared.conn.Conn.TheVariants.{Four}
 use Rattle.reset_core.proofs.Bounding.{follow_same, follow_twice}
 use Rattle.reset_core.proofs.TellingHands.{none_handed, tile_handed_next, still_of_tiles}
+use Rattle.std.proofs.lemmas.Grind.{common_steps}
 use Rattle.reset_core.proofs.replica.in_place.hand_over_all.Goals as goal
 
 pub loop-tile-init : goal.loop-tile-init
@@ -42,3 +43,6 @@ hand_over_in-requires-clause-tile c =
 
 pub hand_over_in-requires-clause-bounds : goal.hand_over_in-requires-clause-bounds
 hand_over_in-requires-clause-bounds c = (c.loop-tile.invariant.bounds Four).widened.count ∙ c.requires.bounds
+
+pub hand_over_in-requires-clause-inside : goal.hand_over_in-requires-clause-inside
+hand_over_in-requires-clause-inside c = grind (arith, common_steps)

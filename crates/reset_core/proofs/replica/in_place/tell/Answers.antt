@@ -7,6 +7,7 @@ use Rattle.border_queues.specs.OpenEdges.{Sender, room_for_edges, open_edges}
 use Rattle.reset_core.specs.Telling.{ImageAndWork, hints_in, AreByTile, AreTold}
 use Rattle.reset_core.proofs.TellingOrder.{IsToldBy, told_by, are_by_tile}
 use Rattle.reset_core.proofs.replica.in_place.tell.Goals.{After-as_slice-2}
+use Rattle.std.proofs.lemmas.Grind.{common_steps}
 use Rattle.reset_core.proofs.replica.in_place.tell.Goals as goal
 
 of_ok : {A E : Type 0} (r : Result A E) (P : Type 0) → IsOk r → OnOk r P → P
@@ -69,3 +70,6 @@ returns-clause-hints c =
       over = c.hand_over_all.ensures.handed;
     } in
     rw (hints_are_told at, c.generation-generation.ensures.value) at all
+
+pub open_edges_in-requires-clause-bounds : goal.open_edges_in-requires-clause-bounds
+open_edges_in-requires-clause-bounds c = grind (arith, common_steps)

@@ -1,11 +1,12 @@
 -- What the tactics leave open of `renew`.
-use Rattle.std.proofs.Common.{◌≡◌, length, ap, ◌∙◌, rules, sym, subst}
+use Rattle.std.proofs.Common.{◌≡◌, length, ap, ◌∙◌, rules, sym, subst, arith}
 use Rattle.grid_core.specs.{Raster.Raster, Tiles.Tiles, Tiles.count_of}
 use Rattle.marker_tiles.specs.Kept.{IsMarkerOf}
 use Rattle.tile_work.specs.Renewing.{IsLowBeyond}
 use Rattle.reset_core.specs.Bounding.{FollowChange}
 use Rattle.reset_core.proofs.Bounding.{births_rise, follow_resets, follow_rises, follow_twice, low_after_resets}
 use Rattle.reset_core.proofs.MergeSteps.{marked_are_reset, births_are_raised}
+use Rattle.std.proofs.lemmas.Grind.{common_steps}
 use Rattle.reset_core.proofs.replica.merging.renew.Goals as goal
 
 pub raise_to_marker-requires-clause-fits : goal.raise_to_marker-requires-clause-fits
@@ -80,3 +81,9 @@ returns-clause-bounds c conn =
     c.raise_to_marker.ensures.bounds in
     rw same at (follow_twice tiles conn old middle new c.args.bounds.now c.reset_marked.new.bounds
     c.raise_to_marker.new.bounds tiled count first second)
+
+pub reset_marked-requires-clause-marks : goal.reset_marked-requires-clause-marks
+reset_marked-requires-clause-marks c = grind (arith, common_steps)
+
+pub raise_to_marker-requires-clause-parts : goal.raise_to_marker-requires-clause-parts
+raise_to_marker-requires-clause-parts c = grind (arith, common_steps)
