@@ -1,5 +1,7 @@
+use Rattle.std.proofs.Common.{arith}
 use Rattle.std.proofs.{Common.◌≤◌, Common.sym, Common.subst, Common.All, lemmas.List.Elements.All-drop}
 use Rattle.spd_codec.proofs.Prints.{holds_more}
+use Rattle.std.proofs.lemmas.Grind.{common_steps}
 use Rattle.spd_codec.proofs.print.add_samples.Goals as goal
 
 pub loop-rest-preserved : goal.loop-rest-preserved
@@ -12,3 +14,6 @@ loop-rest-preserved c =
       within = subst (All (λ s. s ≤ c.args.maxval)) (sym c.split_at.ensures.back)
           (All-drop (λ s. s ≤ c.args.maxval) c.min.result rest c.loop-rest.invariant.within);
     }
+
+pub overflow_mul-block : goal.overflow_mul-block
+overflow_mul-block c = grind (arith, common_steps)
