@@ -1,6 +1,7 @@
-use Rattle.std.proofs.Common.{sym, ap, ◌∙◌, subst}
+use Rattle.std.proofs.Common.{sym, ap, ◌∙◌, subst, arith}
 use Rattle.core_dispatch.specs.{Books.ledger, Pens.HasItsDesk}
 use Rattle.studio.specs.Opening.{HasShownOnce, IsOpened}
+use Rattle.std.proofs.lemmas.Grind.{common_steps}
 use Rattle.studio.proofs.opening.Studio.open_over.Goals as goal
 
 pub returns-in-Ok-over_books-clause-opened : goal.returns-in-Ok-over_books-clause-opened
@@ -20,3 +21,6 @@ returns-in-Ok-over_books-clause-opened g c =
       eyes_are = over.eyes_are;
       shown = subst (HasShownOnce c.in-Ok-over_books.over.keeper) opened.core over.shown;
     })
+
+pub returns-in-Ok-over_books-clause-counted : goal.returns-in-Ok-over_books-clause-counted
+returns-in-Ok-over_books-clause-counted g c = grind (arith, common_steps)
