@@ -73,9 +73,13 @@ fn swept_of(alloc: Global, job: Job) -> Option<Swept> {
 
 // The result of tile 0 of a core that takes these strokes.
 fn first_swept(alloc: Global, core: &mut Core, strokes: &State) -> Option<Swept> {
-    core.merge(alloc, strokes).ok()?;
-    let job = core.take(alloc, 0).ok()??;
-    swept_of(alloc, job)
+    if core.merge(alloc, strokes).err().is_some() {
+        return None;
+    }
+    match core.take(alloc, 0) {
+        Ok(Some(job)) => swept_of(alloc, job),
+        _ => None,
+    }
 }
 
 // The same of a core of this mask under eight neighbours.
@@ -114,9 +118,15 @@ impl CoreStage {
         let mask = image_of(alloc, mask)?;
         let first = first.min(MAX_GENERATION);
         let core = match side {
-            TILE_SIDE => Core::open_at(alloc, &mask, conn, first).ok()?,
-            _ => Core::open_tiled(alloc, &mask, conn, side, first).ok()?,
+            TILE_SIDE => Core::open_at(alloc, &mask, conn, first),
+            _ => Core::open_tiled(alloc, &mask, conn, side, first),
         };
+        drop(mask);
+        CoreStage::over(alloc, core.ok()?)
+    }
+
+    // Of a core, where there is memory.
+    fn over(alloc: Global, core: Core) -> Option<CoreStage> {
         let core = Box::new(alloc, core).ok()?;
         Some(CoreStage {
             alloc,
@@ -128,23 +138,30 @@ impl CoreStage {
     fn merge(&mut self, edits: &str, code: &str) -> Option<bool> {
         let delta = state_of(self.alloc, edits)?;
         let before = self.sum();
-        match self.core.merge(self.alloc, &delta) {
-            Ok(_) => Some(code.is_empty()),
-            Err(CoreError::Memory) => None,
-            Err(why) => Some(code == why.code() && self.sum() == before),
+        let refusal = self.core.merge(self.alloc, &delta).err();
+        drop(delta);
+        match refusal {
+            None => Some(code.is_empty()),
+            Some(CoreError::Memory) => None,
+            Some(why) => Some(code == why.code() && self.sum() == before),
         }
     }
 
     fn take(&mut self, tile: usize, generation: u64) -> Option<bool> {
         self.results.reserve(1).ok()?;
-        match self.core.take(self.alloc, tile).ok()? {
-            Some(job) => {
-                let is_right = job.ticket().generation == generation;
-                self.results.push(swept_of(self.alloc, job)?).ok()?;
-                Some(is_right)
-            }
-            None => Some(false),
+        match self.core.take(self.alloc, tile) {
+            Ok(Some(job)) => self.keep(job, generation),
+            Ok(None) => Some(false),
+            Err(_) => None,
         }
+    }
+
+    // Keeps the result of a job. Whether that is of this generation.
+    fn keep(&mut self, job: Job, generation: u64) -> Option<bool> {
+        let is_right = job.ticket().generation == generation;
+        let swept = swept_of(self.alloc, job)?;
+        self.results.push(swept).ok()?;
+        Some(is_right)
     }
 
     fn give_back(&mut self, swept: Swept, back: Back) -> Option<bool> {
@@ -190,6 +207,17 @@ impl CoreStage {
         Some(ran.jobs() == 2 && ran.abandons() == 1 && has_no_edit)
     }
 
+    // Whether a job or a hint goes as a line says, or it shows what that says.
+    fn moves(&mut self, line: &Line) -> Option<bool> {
+        match line {
+            Line::Take(tile, generation) => self.take(*tile, *generation),
+            Line::Return(place, back) => self.return_copy(*place, *back),
+            Line::ReturnForeign => self.return_foreign(),
+            Line::Hand(tile, place, handed) => Some(self.core.hand(*tile, *place) == *handed),
+            _ => Some(self.shows(line)),
+        }
+    }
+
     fn shows(&self, line: &Line) -> bool {
         let core = &self.core;
         match line {
@@ -212,14 +240,10 @@ impl Stage<Line> for CoreStage {
         match line {
             Line::Merge(edits) => self.merge(edits, ""),
             Line::Refuse(edits, why) => self.merge(edits, why),
-            Line::Take(tile, generation) => self.take(*tile, *generation),
-            Line::Return(place, back) => self.return_copy(*place, *back),
-            Line::ReturnForeign => self.return_foreign(),
-            Line::Hand(tile, place, handed) => Some(self.core.hand(*tile, *place) == *handed),
             Line::Settle(jobs, abandons) => self.settle(*jobs, *abandons),
             Line::RunLate => self.run_late(),
             Line::Owes(amount) => Some(owed(self.alloc, &self.core)? == *amount),
-            _ => Some(self.shows(line)),
+            _ => self.moves(line),
         }
     }
 }

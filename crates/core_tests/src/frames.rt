@@ -34,9 +34,10 @@ const FRAMES: &[(&[u8], &str, &[u8])] = &[
 
 // Whether the bytes are read as a frame of the edits' state, for which these are written.
 fn is_coded(alloc: Global, bytes: &[u8], edits: &str, written: &[u8]) -> bool {
-    match (decode(alloc, bytes), state_of(alloc, edits)) {
+    let (frame, state) = (decode(alloc, bytes), state_of(alloc, edits));
+    match (&frame, &state) {
         (Ok(frame), Some(state)) => {
-            frame.delta.is_same(&state) && is_written(alloc, &frame, written)
+            frame.delta.is_same(state) && is_written(alloc, frame, written)
         }
         _ => false,
     }
@@ -147,18 +148,16 @@ fn is_cut_in_two(alloc: Global) -> bool {
         return false;
     };
     let print = Print::from_bytes([0; 32]);
-    match (
-        state.split(alloc, 1400),
-        write_frames(alloc, Conn::Eight, &print, &state),
-    ) {
-        (Ok(pieces), Ok(file)) => {
-            pieces.len() == 2
-                && has(&pieces[0], 1, 23)
-                && has(&pieces[1], 0, 7)
-                && has_two_pieces(&file)
-        }
-        _ => false,
-    }
+    let file = write_frames(alloc, Conn::Eight, &print, &state);
+    let pieces = state.split(alloc, 1400);
+    drop(state);
+    let are_pieces = matches!(&pieces, Ok(pieces) if are_two(pieces));
+    are_pieces && matches!(&file, Ok(file) if has_two_pieces(file))
+}
+
+// Whether there are two pieces, the stroke with 23 tombstones and the others.
+fn are_two(pieces: &[State]) -> bool {
+    pieces.len() == 2 && has(&pieces[0], 1, 23) && has(&pieces[1], 0, 7)
 }
 
 // Whether a file is two frames of 1390 and 153 bytes: one stroke with 23 tombstones, and 7 tombstones.

@@ -47,12 +47,11 @@ fn bend_grows(alloc: Global, bend: &Grid, end: &Grid, scanned: &Grid) -> bool {
 #[test]
 fn a_bend_grows_beyond_a_pair_of_scans(rt: HostRuntime) {
     let alloc = rt.alloc();
-    let is_right = match (
-        grid_of(alloc, 3, 2, BEND),
-        grid_of(alloc, 3, 2, &[0, 0, 0, 4, 0, 0]),
-        grid_of(alloc, 3, 2, SCANNED),
-    ) {
-        (Some(bend), Some(end), Some(scanned)) => bend_grows(alloc, &bend, &end, &scanned),
+    let bend = grid_of(alloc, 3, 2, BEND);
+    let end = grid_of(alloc, 3, 2, &[0, 0, 0, 4, 0, 0]);
+    let scanned = grid_of(alloc, 3, 2, SCANNED);
+    let is_right = match (&bend, &end, &scanned) {
+        (Some(bend), Some(end), Some(scanned)) => bend_grows(alloc, bend, end, scanned),
         _ => false,
     };
     assert!(rt; is_right);

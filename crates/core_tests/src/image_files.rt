@@ -128,9 +128,11 @@ fn is_read_within(alloc: Global, pulls: u64, why: Option<PgmError>) -> bool {
         return false;
     };
     let mut source = MemorySource::new(file).in_pieces(5);
-    match read_all_within(alloc, &mut source, pulls) {
+    let bytes = read_all_within(alloc, &mut source, pulls);
+    drop(source);
+    match &bytes {
         Ok(bytes) => why.is_none() && bytes.as_slice() == FILE.as_slice(),
-        Err(error) => why == Some(error) && error.code() == "P11",
+        Err(error) => why == Some(*error) && error.code() == "P11",
     }
 }
 

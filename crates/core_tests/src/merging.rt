@@ -18,10 +18,11 @@ const WITHDRAWN: &[&str] = &[
 
 // Whether the copy of a state of these edits is the same as that of the others, and the stroke of tag 1 not live.
 fn is_withdrawn(alloc: Global, edits: &str, others: &str) -> bool {
-    match (state_of(alloc, edits), state_of(alloc, others)) {
+    let (state, other) = (state_of(alloc, edits), state_of(alloc, others));
+    match (&state, &other) {
         (Some(state), Some(other)) => {
-            let is_same = matches!(state.copy(alloc), Ok(copy) if copy.is_same(&other));
-            is_same && other.is_below(&state) && !state.is_live(Tag(1))
+            let is_same = matches!(state.copy(alloc), Ok(copy) if copy.is_same(other));
+            is_same && other.is_below(state) && !state.is_live(Tag(1))
         }
         _ => false,
     }
@@ -29,9 +30,10 @@ fn is_withdrawn(alloc: Global, edits: &str, others: &str) -> bool {
 
 // Whether the state of the other edits is not merged into that of the first, because of two strokes of tag 1.
 fn do_clash(alloc: Global, edits: &str, others: &str) -> bool {
-    match (state_of(alloc, edits), state_of(alloc, others)) {
-        (Some(mut state), Some(other)) => {
-            state.merge(alloc, &other).err() == Some(StateError::Conflict(Tag(1)))
+    let (mut state, other) = (state_of(alloc, edits), state_of(alloc, others));
+    match (&mut state, &other) {
+        (Some(state), Some(other)) => {
+            state.merge(alloc, other).err() == Some(StateError::Conflict(Tag(1)))
         }
         _ => false,
     }

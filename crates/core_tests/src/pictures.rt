@@ -22,15 +22,20 @@ pub const ENDS: Mask<'static> = Mask(192, 1, &[(10, 4), (172, 0), (10, 4)]);
 pub fn mask_of(alloc: Global, mask: &Mask<'_>) -> Option<Grid> {
     let Mask(width, height, pixels) = mask;
     let mut grid = Grid::new(alloc, *width, *height, 0).ok()?;
+    fill(grid.cells_mut(), pixels);
+    Some(grid)
+}
+
+// Gives cells these values, each so often.
+fn fill(cells: &mut [u16], spans: &[(usize, u16)]) {
     let mut start: usize = 0;
-    for (count, value) in *pixels {
+    for (count, value) in spans {
         let end = start.saturating_add(*count);
-        if let Some(cells) = grid.cells_mut().get_mut(start..end) {
-            cells.fill(*value);
+        if let Some(span) = cells.get_mut(start..end) {
+            span.fill(*value);
         }
         start = end;
     }
-    Some(grid)
 }
 
 /// The image of a mask, where there is memory.

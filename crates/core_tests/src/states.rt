@@ -13,15 +13,35 @@ pub fn whole(alloc: Global, text: &str) -> Option<String> {
 /// The join of the deltas of such an edit text. There is none where a line has a fault, or where two strokes clash.
 pub fn state_of(alloc: Global, text: &str) -> Option<State> {
     let whole = whole(alloc, text)?;
-    let deltas = parse(alloc, whole.as_bytes()).ok()?;
-    join_of(alloc, &deltas)
+    let parsed = parse(alloc, whole.as_bytes());
+    drop(whole);
+    match parsed {
+        Ok(deltas) => {
+            let joined = join_of(alloc, &deltas);
+            drop(deltas);
+            joined
+        }
+        Err(_) => None,
+    }
 }
 
 // The join of these states, if none clash.
 fn join_of(alloc: Global, states: &[State]) -> Option<State> {
     let mut joined = State::empty(alloc).ok()?;
-    for state in states {
-        joined.merge(alloc, state).ok()?;
+    if merges(alloc, &mut joined, states) {
+        Some(joined)
+    } else {
+        drop(joined);
+        None
     }
-    Some(joined)
+}
+
+// Whether all these states are merged into one.
+fn merges(alloc: Global, joined: &mut State, states: &[State]) -> bool {
+    for state in states {
+        if joined.merge(alloc, state).err().is_some() {
+            return false;
+        }
+    }
+    true
 }

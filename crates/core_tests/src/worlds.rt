@@ -76,17 +76,18 @@ impl WorldStage {
     /// A world of so many replicas of a mask, under four neighbours.
     pub fn open(alloc: Global, mask: &Mask<'_>, replicas: usize) -> Option<WorldStage> {
         let mask = image_of(alloc, mask)?;
-        let world = World::open(alloc, &mask, Conn::Four, replicas).ok()?;
-        let world = Box::new(alloc, world).ok()?;
+        let world = World::open(alloc, &mask, Conn::Four, replicas);
+        drop(mask);
+        let world = Box::new(alloc, world.ok()?).ok()?;
         Some(WorldStage { alloc, world })
     }
 
     // Whether an event comes to pass. It happens once more where memory was wanting, and all is as before.
-    fn happens(&mut self, event: &Event) -> bool {
+    fn happens(&mut self, event: Event) -> bool {
         let before = self.sum();
-        match self.world.step(self.alloc, event) {
+        match self.world.step(self.alloc, &event) {
             Err(WorldError::Core(CoreError::Memory)) if self.sum() == before => {
-                self.world.step(self.alloc, event).is_ok()
+                self.world.step(self.alloc, &event).is_ok()
             }
             told => told.is_ok(),
         }
@@ -120,11 +121,11 @@ impl WorldStage {
     // Hands over ten hints of a tile, and takes it and gives the result back, where there is so much.
     fn work(&mut self, r: usize, tile: usize) {
         for _ in 0..10 {
-            let _is_handed = self.happens(&Event::Hand(r, tile, 0));
+            let _is_handed = self.happens(Event::Hand(r, tile, 0));
         }
         let place = self.world.results().len();
-        if self.happens(&Event::Take(r, tile)) {
-            let _is_given_back = self.happens(&Event::Return(r, place));
+        if self.happens(Event::Take(r, tile)) {
+            let _is_given_back = self.happens(Event::Return(r, place));
         }
     }
 
@@ -193,7 +194,7 @@ impl Stage<Line> for WorldStage {
             | Line::Take(..)
             | Line::Return(..) => {
                 let event = event_of(self.alloc, line)?;
-                Some(self.happens(&event))
+                Some(self.happens(event))
             }
             _ => Some((0..self.world.replicas()).all(|r| self.shows(r, line))),
         }
