@@ -6,20 +6,22 @@ ghost use Rattle.live_board.specs.Seats.{IsHandOf, IsKeeperOf, IsPeekOf, ground_
 ghost use Rattle.live_board.specs.Words.{mask_of};
 
 use crate::SIDE;
-use crate::input::Input;
+use crate::input::{Input, read};
 use crate::outcome::{Fault, MEMORY, check, sum_of};
 use crate::studios::open;
 use crate::system::{Laps, System, thread_time};
 use grid_core::{Conn, Grid, Pixel};
 use live_board::{Board, HandSeat, KeeperSeat, Opened, PeekSeat};
+use pgm_codec::Source;
 use std::sync::atomic::{AtomicBool, AtomicU64, Ordering};
 use std::thread::{for_each_mut, join_mut};
 use std::time::Duration;
-use studio::Studio;
+use studio::{Keeper, Studio};
 
 /// Lets so many hands raise a board that has the marker of all edits. It prints the time to bring the marker; the time
 /// to raise it, how many rounds and peeks there were, and what the peeks took beside the hands and alone; and the sum.
-pub fn measure(rt: &impl System, input: Input, hands: u32) -> Result<(), Fault> {
+pub fn measure(rt: &impl System, source: &mut impl Source, hands: u32) -> Result<(), Fault> {
+    let input = read(rt.alloc(), source)?;
     let Opened {
         board,
         keeper: mut seat,
@@ -27,17 +29,48 @@ pub fn measure(rt: &impl System, input: Input, hands: u32) -> Result<(), Fault> 
         mut peeks,
     } = match Board::open(rt.alloc(), &input.mask, Conn::Four, hands as usize, 1) {
         Ok(opened) => opened,
-        Err(why) => return Err(Fault(why.code())),
+        Err(why) => return Fault(why.code()).dropping(input),
     };
-    let mask = mirror(rt, input, &board, &mut seat)?;
-    if let Some(mut peek) = peeks.pop() {
-        raise(rt, &board, &mut hands, &mut peek, &mask)?;
+    let raised = mirror_and_raise(rt, input, &board, &mut seat, &mut hands, &mut peeks);
+    match raised {
+        Ok(()) => close(rt, board, seat),
+        Err(fault) => fault.dropping((board, seat)),
     }
-    let Ok((image, is_closed)) = board.close(rt.alloc(), seat) else {
-        return Err(MEMORY);
+}
+
+// Brings the marker of all edits to the board, and has the hands raise it.
+fn mirror_and_raise(
+    rt: &impl System,
+    input: Input,
+    board: &Board,
+    seat: &mut KeeperSeat,
+    hands: &mut Vec<HandSeat>,
+    peeks: &mut Vec<PeekSeat>,
+) -> Result<(), Fault>
+    requires seat { IsKeeperOf board.now seat.old }
+    requires hands { All (IsNewHand board.now) hands.old.items }
+    requires peeks { All (IsNewPeek board.now) peeks.old.items }
+    ensures { IsKeeperOf board.now seat.new }
+{
+    let mask = mirror(rt, input, board, seat)?;
+    let raised = match peeks.first_mut() {
+        Some(peek) => raise(rt, board, hands, peek, &mask),
+        None => Ok(()),
+    };
+    drop(mask);
+    raised
+}
+
+// Closes the board, and prints the sum of its image.
+fn close(rt: &impl System, board: Board, seat: KeeperSeat) -> Result<(), Fault>
+    requires { IsKeeperOf board seat }
+{
+    let (sum, is_closed) = match board.close(rt.alloc(), seat) {
+        Ok((image, is_closed)) => (sum_of(image.samples()), is_closed),
+        Err(returned) => return MEMORY.dropping(returned),
     };
     check(is_closed, "a pixel can still raise another")?;
-    println!(rt; "{}", sum_of(image.samples()))?;
+    println!(rt; "{sum}")?;
     Ok(())
 }
 
@@ -58,13 +91,30 @@ fn mirror(
         hands: _,
         eyes: _,
     } = open(rt, core, 1, 1)?;
+    let mirrored = mirror_by(rt, &mut keeper, board, seat);
+    let (mask, _image, _state) = keeper.end(rt).into_parts();
+    match mirrored {
+        Ok(()) => Ok(mask),
+        Err(fault) => fault.dropping(mask),
+    }
+}
+
+// Has the keeper bring its marker to the board, and prints the time of it.
+fn mirror_by(
+    rt: &impl System,
+    keeper: &mut Keeper,
+    board: &Board,
+    seat: &mut KeeperSeat,
+) -> Result<(), Fault>
+    requires { IsKeeperOf board.now seat.old }
+    ensures { IsKeeperOf board.now seat.new }
+{
     let mut laps = Laps::begin(rt);
     let mirrored = keeper.mirror(board, seat);
     let time = laps.lap(rt).as_nanos();
-    let (mask, _image, _state) = keeper.end(rt).into_parts();
     println!(rt; "{time}")?;
     match mirrored {
-        Ok(_) => Ok(mask),
+        Ok(_) => Ok(()),
         Err(why) => Err(Fault(why.code())),
     }
 }

@@ -22,11 +22,21 @@ pub struct Input {
 /// Errors: no line `image`; a fault of the edit text or of the image file; a device that failed; out of memory.
 pub fn read<S: Source>(alloc: Global, source: &mut S) -> Result<Input, Fault> {
     let bytes = read_all(alloc, source).or(Err(Fault("a device failed, or there is no memory")))?;
-    let (text, file) = split(&bytes).ok_or(Fault("there is no line `image`"))?;
-    match (edit_lang::parse(alloc, text), pgm_codec::read(alloc, file)) {
-        (Ok(edits), Ok(mask)) => Ok(Input { edits, mask }),
-        (Err(why), _) => Err(Fault(why.code())),
-        (Ok(_), Err(why)) => Err(Fault(why.code())),
+    let input = parse(alloc, &bytes);
+    drop(bytes);
+    input
+}
+
+// The input that these bytes spell.
+fn parse(alloc: Global, bytes: &[u8]) -> Result<Input, Fault> {
+    let (text, file) = split(bytes).ok_or(Fault("there is no line `image`"))?;
+    let edits = match edit_lang::parse(alloc, text) {
+        Ok(edits) => edits,
+        Err(why) => return Err(Fault(why.code())),
+    };
+    match pgm_codec::read(alloc, file) {
+        Ok(mask) => Ok(Input { edits, mask }),
+        Err(why) => Fault(why.code()).dropping(edits),
     }
 }
 
@@ -36,16 +46,9 @@ impl Input {
     /// Errors: a bad side; those of merging; out of memory.
     pub fn open(self, alloc: Global, side: u32) -> Result<Core, Fault> {
         let Input { edits, mask } = self;
-        let mut core = match Core::over(alloc, mask.into_grid(), Conn::Four, side, 0) {
-            Ok(core) => core,
-            Err(refused) => return Err(Fault(refused.why.code())),
-        };
-        match merge_all(alloc, &mut core, &edits) {
-            Ok(()) => Ok(core),
-            Err(fault) => {
-                drop(core);
-                Err(fault)
-            }
+        match Core::over(alloc, mask.into_grid(), Conn::Four, side, 0) {
+            Ok(core) => merged(alloc, core, &edits),
+            Err(refused) => Fault(refused.why.code()).dropping(refused),
         }
     }
 
@@ -59,11 +62,17 @@ impl Input {
         let mut core = Input { edits, mask }.open(alloc, side)?;
         match core.settle(alloc) {
             Ok(_) => Ok((core, last)),
-            Err(why) => {
-                drop(core);
-                Err(why.into())
-            }
+            Err(why) => Fault::from(why).dropping(core),
         }
+    }
+}
+
+// The core into which the edits are merged.
+fn merged(alloc: Global, core: Core, edits: &[Delta]) -> Result<Core, Fault> {
+    let mut core = core;
+    match merge_all(alloc, &mut core, edits) {
+        Ok(()) => Ok(core),
+        Err(fault) => fault.dropping(core),
     }
 }
 

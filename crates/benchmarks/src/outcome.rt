@@ -8,6 +8,14 @@ use std::io;
 #[derive(Clone, Copy, Debug)]
 pub struct Fault(pub &'static str);
 
+impl Fault {
+    /// This fault, once the value is let go. That is one call, where it would be one for each of its fields.
+    pub fn dropping<T: Drop, U>(self, value: T) -> Result<U, Fault> {
+        drop(value);
+        Err(self)
+    }
+}
+
 /// Memory ran out.
 pub const MEMORY: Fault = Fault("out of memory");
 

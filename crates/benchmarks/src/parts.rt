@@ -1,8 +1,9 @@
 //! What the parts of a job take in one thread.
 
-use crate::input::Input;
+use crate::input::read;
 use crate::outcome::{Fault, MEMORY, check, sum_of};
 use crate::system::{Laps, System};
+use pgm_codec::Source;
 use reset_core::Core;
 use std::alloc::Global;
 use std::time::Duration;
@@ -19,16 +20,17 @@ struct Workshop {
 
 /// Works a core of all edits off in one thread, job by job. It prints how many jobs there were, and the time of each
 /// part; and the sum.
-pub fn measure(rt: &impl System, input: Input, side: u32) -> Result<(), Fault> {
+pub fn measure(rt: &impl System, source: &mut impl Source, side: u32) -> Result<(), Fault> {
     let alloc = rt.alloc();
-    let pool = Pool::open(alloc, 1, 1)?;
-    let core = input.open(alloc, side)?;
-    let times = [Duration::ZERO; 5];
+    let core = read(alloc, source)?.open(alloc, side)?;
+    let Ok(pool) = Pool::open(alloc, 1, 1) else {
+        return MEMORY.dropping(core);
+    };
     let mut shop = Workshop {
         alloc,
         core,
         pool,
-        times,
+        times: [Duration::ZERO; 5],
     };
     let told = shop.measure(rt);
     drop(shop);

@@ -1,14 +1,15 @@
 //! Cores that settle by themselves: once, or again after each edit.
 
-use crate::input::Input;
+use crate::input::read;
 use crate::outcome::{Fault, sum_of};
 use crate::system::{Laps, System, thread_time};
+use pgm_codec::Source;
 use reset_core::Core;
 use stroke_lattice::Delta;
 
 /// Lets a core of all edits settle, and prints its sum, how many jobs there were, and the time.
-pub fn once(rt: &impl System, input: Input, side: u32) -> Result<(), Fault> {
-    let mut core = input.open(rt.alloc(), side)?;
+pub fn once(rt: &impl System, source: &mut impl Source, side: u32) -> Result<(), Fault> {
+    let mut core = read(rt.alloc(), source)?.open(rt.alloc(), side)?;
     let told = settle(rt, &mut core);
     drop(core);
     told
@@ -24,8 +25,13 @@ fn settle(rt: &impl System, core: &mut Core) -> Result<(), Fault> {
 }
 
 /// Merges each of the last edits, so many, into a settled core, settles it again, and prints a line for it.
-pub fn after_each(rt: &impl System, input: Input, count: u32, side: u32) -> Result<(), Fault> {
-    let (mut core, edits) = input.before(rt.alloc(), side, count)?;
+pub fn after_each(
+    rt: &impl System,
+    source: &mut impl Source,
+    count: u32,
+    side: u32,
+) -> Result<(), Fault> {
+    let (mut core, edits) = read(rt.alloc(), source)?.before(rt.alloc(), side, count)?;
     let told = measure_all(rt, &mut core, &edits);
     drop(core);
     told

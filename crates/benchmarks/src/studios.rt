@@ -1,14 +1,16 @@
 //! Studios whose hands work in threads: how fast their core settles, how soon an edit is seen, and what a show takes.
 
 use crate::SIDE;
-use crate::input::Input;
+use crate::input::read;
 use crate::outcome::{Fault, MEMORY, check, sum_of};
 use crate::system::{Laps, System};
 use core_dispatch::{Pen, Turned};
+use pgm_codec::Source;
 use reset_core::Core;
 use std::sync::atomic::{AtomicBool, Ordering};
 use std::thread;
 use std::thread::Scope;
+use std::time::Clock;
 use steal_pool::{Hand, Open};
 use stroke_lattice::Delta;
 use studio::{Eye, Keeper, Studio};
@@ -19,7 +21,7 @@ use studio::{Eye, Keeper, Studio};
 pub fn open(rt: &impl System, core: Core, hands: usize, pens: usize) -> Result<Studio, Fault> {
     match Studio::open(rt, rt.alloc(), core, pens, hands, pens) {
         Ok(studio) => Ok(studio),
-        Err(refused) => Err(Fault(refused.why.code())),
+        Err(refused) => Fault(refused.why.code()).dropping(refused),
     }
 }
 
@@ -63,9 +65,27 @@ fn work_off(keeper: &mut Keeper) -> Result<u64, Fault> {
     Ok(jobs)
 }
 
+// Makes turns with the hands in threads until no work is left, and says how many jobs were pushed.
+fn work_off_by<R: System>(rt: &R, keeper: &mut Keeper, hands: Vec<Hand>) -> Result<u64, Fault> {
+    let done = &AtomicBool::new(false);
+    thread::scope(thread::scope_env(), rt, move |scope| {
+        let jobs = match spawn_hands(scope, rt, hands, done) {
+            Ok(()) => work_off(keeper),
+            Err(fault) => Err(fault),
+        };
+        done.store(true, Ordering::SeqCst);
+        jobs
+    })
+}
+
 /// Lets a core of all edits settle by so many hands, and prints its sum, how many jobs there were, and the time.
-pub fn settle<R: System>(rt: &R, input: Input, hands: u32, side: u32) -> Result<(), Fault> {
-    let core = input.open(rt.alloc(), side)?;
+pub fn settle<R: System>(
+    rt: &R,
+    source: &mut impl Source,
+    hands: u32,
+    side: u32,
+) -> Result<(), Fault> {
+    let core = read(rt.alloc(), source)?.open(rt.alloc(), side)?;
     let Studio {
         mut keeper,
         pens,
@@ -74,18 +94,12 @@ pub fn settle<R: System>(rt: &R, input: Input, hands: u32, side: u32) -> Result<
     } = open(rt, core, hands as usize, 1)?;
     drop(pens);
     drop(eyes);
-    let (done, lent) = (&AtomicBool::new(false), &mut keeper);
     let mut laps = Laps::begin(rt);
-    let jobs = thread::scope(thread::scope_env(), rt, move |scope| {
-        let jobs = match spawn_hands(scope, rt, hands, done) {
-            Ok(()) => work_off(lent),
-            Err(fault) => Err(fault),
-        };
-        done.store(true, Ordering::SeqCst);
-        jobs
-    });
+    let jobs = work_off_by(rt, &mut keeper, hands);
     let time = laps.lap(rt).as_nanos();
-    let sum = sum_of(keeper.end(rt).image().cells());
+    let core = keeper.end(rt);
+    let sum = sum_of(core.image().cells());
+    drop(core);
     tell(rt, sum, jobs, time)
 }
 
@@ -97,26 +111,41 @@ fn tell(rt: &impl System, sum: u64, jobs: Result<u64, Fault>, time: u128) -> Res
 
 /// Has each of the last edits, so many, submitted to a studio, and prints the time until a glimpse has it, and what two
 /// shows took, one after the edit and one after nothing.
-pub fn watch<R: System>(rt: &R, input: Input, count: u32) -> Result<(), Fault> {
-    let (core, edits) = input.before(rt.alloc(), SIDE, count)?;
+pub fn watch<R: System>(rt: &R, source: &mut impl Source, count: u32) -> Result<(), Fault> {
+    let (core, edits) = read(rt.alloc(), source)?.before(rt.alloc(), SIDE, count)?;
     let Studio {
         mut keeper,
         mut pens,
         hands,
         mut eyes,
     } = open(rt, core, 2, 1)?;
-    let (done, lent) = (&AtomicBool::new(false), &mut keeper);
-    let watched = thread::scope(thread::scope_env(), rt, |scope| {
-        let made = spawn_hands(scope, rt, hands, done);
-        let watched = match (made, pens.pop(), eyes.pop()) {
-            (Ok(()), Some(mut pen), Some(eye)) => watch_all(rt, lent, &mut pen, eye, &edits),
-            (made, _, _) => made,
+    let mut eye = eyes.pop();
+    let watched = match pens.first_mut() {
+        Some(pen) => watch_by(rt, &mut keeper, hands, pen, &mut eye, &edits),
+        None => Ok(()),
+    };
+    drop(keeper.end(rt));
+    watched
+}
+
+// Has the edits seen with the hands in threads.
+fn watch_by<R: System>(
+    rt: &R,
+    keeper: &mut Keeper,
+    hands: Vec<Hand>,
+    pen: &mut Pen,
+    eye: &mut Option<Eye>,
+    edits: &[Delta],
+) -> Result<(), Fault> {
+    let done = &AtomicBool::new(false);
+    thread::scope(thread::scope_env(), rt, move |scope| {
+        let watched = match spawn_hands(scope, rt, hands, done) {
+            Ok(()) => watch_all(rt, keeper, pen, eye, edits),
+            Err(fault) => Err(fault),
         };
         done.store(true, Ordering::SeqCst);
         watched
-    });
-    drop(keeper.end(rt));
-    watched
+    })
 }
 
 // Has the edits seen one by one.
@@ -124,28 +153,38 @@ fn watch_all(
     rt: &impl System,
     keeper: &mut Keeper,
     pen: &mut Pen,
-    eye: Eye,
+    eye: &mut Option<Eye>,
     edits: &[Delta],
 ) -> Result<(), Fault> {
-    let mut eye = eye;
     for edit in edits {
         let copy = edit.copy(rt.alloc()).or(Err(MEMORY))?;
         let mut laps = Laps::begin(rt);
         check(pen.submit(copy).is_ok(), "a ring is full")?;
         turn(keeper)?;
         let first = time_of_show(rt, keeper)?;
-        let Ok(glimpse) = eye.look() else {
-            return Err(Fault("the studio is closed"));
-        };
-        let seen = laps.lap(rt).as_nanos();
-        let is_seen = edit.is_below(glimpse.state());
-        eye = glimpse.leave();
-        check(is_seen, "an edit is not seen")?;
+        let seen = look(rt, eye, edit, laps)?;
         let second = time_of_show(rt, keeper)?;
         println!(rt; "{seen} {first} {second}")?;
         work_off(keeper)?;
     }
     Ok(())
+}
+
+// Has the eye look, and says what the lap took until then. The edit has to be seen.
+fn look(
+    rt: &impl Clock,
+    seat: &mut Option<Eye>,
+    edit: &Delta,
+    mut laps: Laps,
+) -> Result<u128, Fault> {
+    let Some(Ok(glimpse)) = seat.take().map(|eye| eye.look()) else {
+        return Err(Fault("the studio is closed"));
+    };
+    let seen = laps.lap(rt).as_nanos();
+    let is_seen = edit.is_below(glimpse.state());
+    *seat = Some(glimpse.leave());
+    check(is_seen, "an edit is not seen")?;
+    Ok(seen)
 }
 
 // What a show takes.
