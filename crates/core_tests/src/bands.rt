@@ -73,32 +73,16 @@ fn growing_on(alloc: Global, columns: u32, rows: u32) -> Option<Growing> {
 }
 
 impl Growing {
-    // What grows from the marker by so many threads, where it is below the mask and there is memory.
-    fn grown_by<R: Threads + Sync>(&self, rt: &R, threads: usize) -> Option<Grid> {
-        if !self.marker.is_below(&self.mask) {
-            return None;
-        }
-        grow_on(
-            rt,
-            self.alloc,
-            &self.mask,
-            &self.marker,
-            Conn::Eight,
-            threads,
-        )
-        .ok()
-    }
-
-    // Grows an image, where it is below the mask and there is memory.
+    // Grows an image, where it and the marker are below the mask and there is memory.
     fn grow<R: Threads + Sync>(&self, rt: &R, image: &mut Grid, by: By) -> Option<()> {
-        if !image.is_below(&self.mask) {
+        let (alloc, mask, marker, conn) = (self.alloc, &self.mask, &self.marker, Conn::Eight);
+        if !image.is_below(mask) || !marker.is_below(mask) {
             return Some(());
         }
-        let (alloc, mask, conn) = (self.alloc, &self.mask, Conn::Eight);
         match by {
             By::Bands(bands) => grow_in_bands(rt, alloc, mask, image, conn, bands).ok(),
             By::Threads(threads) => {
-                *image = self.grown_by(rt, threads)?;
+                *image = grow_on(rt, alloc, mask, marker, conn, threads).ok()?;
                 Some(())
             }
             By::Processors => ManyThreads::new(rt).grow(alloc, mask, image, conn).ok(),
@@ -106,12 +90,15 @@ impl Growing {
     }
 
     // What becomes of an image that grows so, and once more where memory was wanting.
-    fn outcome_on<R: Threads + Sync>(&self, rt: &R, image: &mut Grid, by: By) -> Outcome {
+    fn outcome<R: Threads + Sync>(&self, rt: &R, by: By) -> Outcome {
+        let Ok(mut image) = self.marker.copy(self.alloc) else {
+            return Outcome::NoMemory;
+        };
         for _ in 0..2 {
             if !image.is_same(&self.marker) {
                 return Outcome::Changed(0);
             }
-            if self.grow(rt, image, by).is_some() {
+            if self.grow(rt, &mut image, by).is_some() {
                 return if image.is_same(&self.grown) {
                     Outcome::Right
                 } else {
@@ -121,35 +108,18 @@ impl Growing {
         }
         Outcome::Changed(0)
     }
-
-    // The same of a copy of the marker.
-    fn outcome<R: Threads + Sync>(&self, rt: &R, by: By) -> Outcome {
-        match self.marker.copy(self.alloc) {
-            Ok(mut image) => self.outcome_on(rt, &mut image, by),
-            Err(_) => Outcome::NoMemory,
-        }
-    }
-
-    // Plays one, two, three and five bands, and as many threads.
-    fn plays<R: Threads + Sync>(&self, rt: &R) -> Result<(), Fail> {
-        for number in &[1, 2, 3, 5] {
-            told("bands", self.outcome(rt, By::Bands(*number)))?;
-            told("threads", self.outcome(rt, By::Threads(*number)))?;
-        }
-        Ok(())
-    }
 }
 
-// Plays those on an image of so many rows.
+// Plays one, two, three and five bands, and as many threads, on an image of so many rows.
 fn plays<R: Threads + Sync>(rt: &R, alloc: Global, rows: u32) -> Result<(), Fail> {
-    match growing_on(alloc, 40, rows) {
-        Some(growing) => {
-            let played = growing.plays(rt);
-            drop(growing);
-            played
-        }
-        None => told("an image", Outcome::NoMemory),
+    let Some(growing) = growing_on(alloc, 40, rows) else {
+        return told("an image", Outcome::NoMemory);
+    };
+    for number in [1, 2, 3, 5] {
+        told("bands", growing.outcome(rt, By::Bands(number)))?;
+        told("threads", growing.outcome(rt, By::Threads(number)))?;
     }
+    Ok(())
 }
 
 #[test]
@@ -168,11 +138,10 @@ fn bands_of_six_hundred_rows_tried_again(rt: HostRuntime) -> Result<(), Fail> {
 // With fewer pixels one thread does it alone.
 #[test]
 fn as_many_threads_as_there_are_processors_tried_again(rt: HostRuntime) -> Result<(), Fail> {
-    let outcome = match growing_on(rt.alloc(), 1_000, 2_000) {
-        Some(growing) => growing.outcome(&rt, By::Processors),
-        None => Outcome::NoMemory,
-    };
-    told("threads", outcome)
+    match growing_on(rt.alloc(), 1_000, 2_000) {
+        Some(growing) => told("threads", growing.outcome(&rt, By::Processors)),
+        None => told("threads", Outcome::NoMemory),
+    }
 }
 
 // What becomes of so many zeros that a grower makes beside some work, and once more where memory was wanting.

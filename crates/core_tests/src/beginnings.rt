@@ -79,16 +79,22 @@ impl Stage<usize> for Beginning {
 
     // The mask comes back from the core, or where there is none.
     fn play(&mut self, count: &usize) -> Option<bool> {
-        let (mask, told) = match begun(self.alloc, self.mask.take()?, *count, &self.state) {
+        match begun(self.alloc, self.mask.take()?, *count, &self.state) {
             Ok(core) => {
                 let is_right = is_fresh(&core, &self.state);
-                (core.into_parts().0, Some(is_right))
+                let (mask, _, _) = core.into_parts();
+                self.mask = Some(mask);
+                Some(is_right)
             }
-            Err(refused) if refused.why == CoreError::Memory => (refused.mask, None),
-            Err(refused) => (refused.mask, Some(false)),
-        };
-        self.mask = Some(mask);
-        told
+            Err(refused) => {
+                self.mask = Some(refused.mask);
+                if refused.why == CoreError::Memory {
+                    None
+                } else {
+                    Some(false)
+                }
+            }
+        }
     }
 }
 

@@ -4,9 +4,7 @@ use byte_devices::{MemorySink, MemorySource};
 use pgm_codec::PgmError::{
     BadHeader, BadMagic, BadMaxval, BadSample, SampleRange, TooLarge, Trailing, Truncated, ZeroSize,
 };
-use pgm_codec::{
-    Image, PgmError, pixels_in, read, read_all_within, read_from, write_plain, write_to,
-};
+use pgm_codec::{Image, PgmError, read, read_from, write_plain, write_to};
 use std::alloc::Global;
 
 // Texts, and the plain files of the images that they spell.
@@ -97,49 +95,6 @@ fn texts_are_refused_by_their_first_fault(rt: HostRuntime) {
             read(rt.alloc(), &FILE[..end]).err() == Some(why),
             "{end} bytes"
         );
-    }
-}
-
-// Texts, and how many pixels their headers say; 0 where there is no header, or too little behind it.
-const PIXELS: &[(usize, &[u8])] = &[
-    (2, FILE),
-    (4, b"P5\n2 2\n256\n\x01\x00\x01\x00\x01\x00\x01\x00"),
-    (6, b"P2\n# columns\n3\n2\n9\n1 2 3 4 5 6"),
-    // The raster is refused.
-    (1, b"P5\n1 1\n256\n\x01\x01"),
-    (0, b"P5\n2 1\n255\n\x0a"),
-    (0, b"P2 3 2 9 1 2 3 4 5"),
-    (0, b"P6\n1 1\n1\n1"),
-];
-
-#[test]
-fn headers_say_how_many_pixels_there_are(rt: HostRuntime) {
-    for (count, text) in PIXELS {
-        assert!(rt; pixels_in(text) == *count, "{count} of {text:?}");
-    }
-}
-
-// Numbers of pulls, and why that file is not read in so many. It comes in three pieces, and the fourth pull is its end.
-const PULLS: &[(u64, Option<PgmError>)] = &[(4, None), (3, Some(PgmError::Device))];
-
-// Whether the file is read in so many pulls, or refused for this reason.
-fn is_read_within(alloc: Global, pulls: u64, why: Option<PgmError>) -> bool {
-    let Ok(file) = FILE.to_vec(alloc) else {
-        return false;
-    };
-    let mut source = MemorySource::new(file).in_pieces(5);
-    let bytes = read_all_within(alloc, &mut source, pulls);
-    drop(source);
-    match &bytes {
-        Ok(bytes) => why.is_none() && bytes.as_slice() == FILE.as_slice(),
-        Err(error) => why == Some(*error) && error.code() == "P11",
-    }
-}
-
-#[test]
-fn a_source_has_so_many_pulls_to_reach_its_end(rt: HostRuntime) {
-    for (pulls, why) in PULLS {
-        assert!(rt; is_read_within(rt.alloc(), *pulls, *why), "{pulls} pulls");
     }
 }
 

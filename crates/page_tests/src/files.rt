@@ -3,9 +3,6 @@
 /// The mask of most sessions: four pixels in a row, which have the levels 3, 9, 9 and 3 of 9.
 pub const FOUR: &[u8] = b"P2\n4 1\n9\n3 9 9 3\n";
 
-/// A mask of the same size with another level.
-pub const OTHER: &[u8] = b"P2\n4 1\n9\n3 9 9 4\n";
-
 /// A stroke of level 3 on the fourth pixel of `FOUR`, for four neighbours.
 pub const OLD: &[u8] = b"\
     \x00\x44\x53\x50\x44\x32\x04\xe3\x06\xd5\x31\xd3\x44\x82\xe9\x92\x7d\xcb\

@@ -1,6 +1,6 @@
 //! What is posted, and what a page is told.
 
-use crate::files::{FOUR, OLD, OTHER};
+use crate::files::OLD;
 use crate::session::{BLANK, Row, Scene, wrong_row};
 use crate::steps::{EDITS, PLACE, WITHDRAW};
 use std::test::Fail;
@@ -28,31 +28,9 @@ const GROWN: &[Row] = &[
     ("GET /KEY/strokes", b"", b"200 "),
 ];
 
-// The same text twice is one, and another stroke of its tag is refused.
-const TWICE: &[Row] = &[
-    (EDITS, PLACE, b"200"),
-    (EDITS, PLACE, b"200"),
-    (
-        EDITS,
-        b"place 67e55044-10b1-426f-9247-bb680e5fe0c8 8 0:1-1\n",
-        b"409 seedpaint: C2 67e55044-10b1-426f-9247-bb680e5fe0c8",
-    ),
-    (
-        "GET /KEY/strokes",
-        b"",
-        b"200 place 67e55044-10b1-426f-9247-bb680e5fe0c8 9 0:1-1\n",
-    ),
-];
-
 // Texts that are refused, each for its first fault, leave nothing.
 const REFUSED: &[Row] = &[
     (EDITS, b"place\n", b"409 seedpaint: E1 1"),
-    (
-        EDITS,
-        b"place 67e55044-10b1-426f-9247-bb680e5fe0c8 9 0:1-1\n\
-        place 67e55044-10b1-426f-9247-bb680e5fe0c9 9 0:3-2\n",
-        b"409 seedpaint: E3 2 S4",
-    ),
     (
         EDITS,
         b"place 67e55044-10b1-426f-9247-bb680e5fe0c8 9 0:1-4\n",
@@ -72,12 +50,6 @@ const JOINED: &[Row] = &[
     ),
 ];
 
-// A state file of another mask is refused.
-const FOREIGN: &[Row] = &[
-    ("POST /KEY/state", OLD, b"409 seedpaint: D1"),
-    ("GET /KEY/strokes", b"", b"200 "),
-];
-
 // A page begins grown over its file, and tells all to one of another run, and nothing to one that was told all.
 const BEGUN: &[Row] = &[
     (
@@ -88,33 +60,18 @@ const BEGUN: &[Row] = &[
     ("GET /KEY/changes?run=5&since=1", b"", b"200 5 1 1 1 0\n\n"),
 ];
 
-// Tiles of a row are one rectangle.
-const LONG: &[Row] = &[(
-    EDITS,
-    b"place 67e55044-10b1-426f-9247-bb680e5fe0c8 1 0:0-9\n",
-    b"200 5 2 2 0 2\n0 0 10 1\nplace 67e55044-10b1-426f-9247-bb680e5fe0c8 1 0:0-9\n\n\
-    \x01\x01\x01\x01\x01\x01\x01\x01\x01\x01",
-)];
-
-// Names, masks, state files, and requests, one after another.
-const TALKS: &[(&str, &[u8], &[u8], &[Row])] = &[
-    ("an edit", FOUR, b"", GROWN),
-    ("an edit twice", FOUR, b"", TWICE),
-    ("refused edits", FOUR, b"", REFUSED),
-    ("a state file", FOUR, b"", JOINED),
-    ("a state file of another mask", OTHER, b"", FOREIGN),
-    ("a beginning", FOUR, OLD, BEGUN),
-    ("tiles", b"P2\n10 1\n1\n1 1 1 1 1 1 1 1 1 1\n", b"", LONG),
+// Names, state files, and requests, one after another.
+const TALKS: &[(&str, &[u8], &[Row])] = &[
+    ("an edit", b"", GROWN),
+    ("refused edits", b"", REFUSED),
+    ("a state file", b"", JOINED),
+    ("a beginning", OLD, BEGUN),
 ];
 
 #[test]
 fn what_is_posted_is_told(rt: HostRuntime) -> Result<(), Fail> {
-    for &(name, mask, kept, rows) in TALKS {
-        let scene = Scene {
-            mask,
-            kept,
-            ..BLANK
-        };
+    for &(name, kept, rows) in TALKS {
+        let scene = Scene { kept, ..BLANK };
         let wrong = wrong_row(&rt, rt.alloc(), &scene, rows)?;
         assert_eq!(rt; wrong, None, "{name}");
     }

@@ -67,7 +67,6 @@ pub const ON_ROW: Case = Case {
 #[derive(Drop)]
 pub struct Scene {
     source: MemorySource,
-    /// What is written.
     pub sink: MemorySink,
     path: StatePath,
     store: MemoryStore,
@@ -93,7 +92,6 @@ pub fn is_told(alloc: Global, error: &RunError, told: (u8, &str)) -> Result<bool
 }
 
 impl Case {
-    /// The input.
     pub fn input(&self, alloc: Global) -> Result<Vec<u8>, Memory> {
         let mut input = with_tags(alloc, self.edits)?.replace(alloc, '/', "\n")?;
         if !self.edits.is_empty() {

@@ -24,7 +24,6 @@ pub const BARE: &[u16] = &[0, 0, 0, 0, 0];
 /// What is painted over.
 #[derive(Clone, Copy)]
 pub enum Mask {
-    /// The row.
     Row,
     /// A row of 128 fours, which is two tiles.
     TwoTiles,
@@ -37,7 +36,6 @@ pub enum Mask {
 }
 
 impl Mask {
-    /// The mask.
     pub fn grid(self, alloc: Global) -> Option<Grid> {
         match self {
             Mask::Row => row_of(alloc, ROW),
@@ -106,7 +104,6 @@ pub enum Edit {
 }
 
 impl Edit {
-    /// Its delta.
     pub fn delta(self, alloc: Global) -> Option<Delta> {
         match self {
             Edit::Place(tag, level, x) => {
