@@ -22,21 +22,11 @@ pub struct Input {
 /// Errors: no line `image`; a fault of the edit text or of the image file; a device that failed; out of memory.
 pub fn read<S: Source>(alloc: Global, source: &mut S) -> Result<Input, Fault> {
     let bytes = read_all(alloc, source).or(Err(Fault("a device failed, or there is no memory")))?;
-    let input = parse(alloc, &bytes);
-    drop(bytes);
-    input
-}
-
-// The input that these bytes spell.
-fn parse(alloc: Global, bytes: &[u8]) -> Result<Input, Fault> {
-    let (text, file) = split(bytes).ok_or(Fault("there is no line `image`"))?;
-    let edits = match edit_lang::parse(alloc, text) {
-        Ok(edits) => edits,
-        Err(why) => return Err(Fault(why.code())),
-    };
-    match pgm_codec::read(alloc, file) {
-        Ok(mask) => Ok(Input { edits, mask }),
-        Err(why) => Fault(why.code()).dropping(edits),
+    let (text, file) = split(&bytes).ok_or(Fault("there is no line `image`"))?;
+    match (edit_lang::parse(alloc, text), pgm_codec::read(alloc, file)) {
+        (Ok(edits), Ok(mask)) => Ok(Input { edits, mask }),
+        (Err(why), _) => Err(Fault(why.code())),
+        (Ok(_), Err(why)) => Err(Fault(why.code())),
     }
 }
 
