@@ -4,7 +4,7 @@ use byte_devices::{MemorySink, MemorySource};
 use pgm_codec::PgmError::{
     BadHeader, BadMagic, BadMaxval, BadSample, SampleRange, TooLarge, Trailing, Truncated, ZeroSize,
 };
-use pgm_codec::{Image, PgmError, read, read_from, write_plain, write_to};
+use pgm_codec::{Image, PgmError, read, read_all_within, read_from, write_plain, write_to};
 use std::alloc::Global;
 
 // Texts, and the plain files of the images that they spell.
@@ -95,6 +95,28 @@ fn texts_are_refused_by_their_first_fault(rt: HostRuntime) {
             read(rt.alloc(), &FILE[..end]).err() == Some(why),
             "{end} bytes"
         );
+    }
+}
+
+// Numbers of pulls, and why that file is not read in so many. It comes in three pieces, and the fourth pull is its end.
+const PULLS: &[(u64, Option<PgmError>)] = &[(4, None), (3, Some(PgmError::Device))];
+
+// Whether the file is read in so many pulls, or refused for this reason.
+fn is_read_within(alloc: Global, pulls: u64, why: Option<PgmError>) -> bool {
+    let Ok(file) = FILE.to_vec(alloc) else {
+        return false;
+    };
+    let mut source = MemorySource::new(file).in_pieces(5);
+    match read_all_within(alloc, &mut source, pulls) {
+        Ok(bytes) => why.is_none() && bytes.as_slice() == FILE.as_slice(),
+        Err(error) => why == Some(error) && error.code() == "P11",
+    }
+}
+
+#[test]
+fn a_source_has_so_many_pulls_to_reach_its_end(rt: HostRuntime) {
+    for (pulls, why) in PULLS {
+        assert!(rt; is_read_within(rt.alloc(), *pulls, *why), "{pulls} pulls");
     }
 }
 

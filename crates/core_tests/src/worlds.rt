@@ -18,13 +18,9 @@ use stroke_core::Tag;
 pub enum Line {
     /// The join of these edits is merged.
     Edit(usize, &'static str),
-    /// This piece is sent.
     Send(usize, usize),
-    /// This packet comes.
     Deliver(usize, usize),
-    /// This tile is taken.
     Take(usize, usize),
-    /// This result is given back.
     Return(usize, usize),
     /// A run of these events refuses that of this number alone, since it names nothing. Where memory is wanting, the
     /// rest of them is run from there on, once.
@@ -35,7 +31,6 @@ pub enum Line {
     Agree,
     /// The replicas took so many deltas each.
     Took(&'static [usize]),
-    /// So many results are kept.
     Results(usize),
     /// The job of this result was of this generation.
     ResultOf(usize, u64),

@@ -139,7 +139,6 @@ fn rounds(keeper: &mut StateKeeper<Served, MemoryStore>, peers: &mut PeerList<Cl
 }
 
 impl Session {
-    /// The session of a scene.
     ///
     /// Errors: those of a board that is opened.
     pub fn open(alloc: Global, scene: &Scene) -> Result<Session, RunError> {

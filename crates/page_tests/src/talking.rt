@@ -28,26 +28,10 @@ const GROWN: &[Row] = &[
     ("GET /KEY/strokes", b"", b"200 "),
 ];
 
-// Texts that are refused, each for its first fault, leave nothing.
-const REFUSED: &[Row] = &[
-    (EDITS, b"place\n", b"409 seedpaint: E1 1"),
-    (
-        EDITS,
-        b"place 67e55044-10b1-426f-9247-bb680e5fe0c8 9 0:1-4\n",
-        b"409 seedpaint: C1 67e55044-10b1-426f-9247-bb680e5fe0c8",
-    ),
-    ("GET /KEY/changes?run=5&since=1", b"", b"200 5 1 1 1 0\n\n"),
-];
-
 // A state file is joined, also a second time.
 const JOINED: &[Row] = &[
     ("POST /KEY/state", OLD, b"200 5 2 2 0 1\n\n"),
     ("POST /KEY/state", OLD, b"200 5 3 4 1 0\n\n"),
-    (
-        "GET /KEY/strokes",
-        b"",
-        b"200 place 00000000-0000-0000-0000-000000000002 3 0:3-3\n",
-    ),
 ];
 
 // A page begins grown over its file, and tells all to one of another run, and nothing to one that was told all.
@@ -63,7 +47,6 @@ const BEGUN: &[Row] = &[
 // Names, state files, and requests, one after another.
 const TALKS: &[(&str, &[u8], &[Row])] = &[
     ("an edit", b"", GROWN),
-    ("refused edits", b"", REFUSED),
     ("a state file", b"", JOINED),
     ("a beginning", OLD, BEGUN),
 ];

@@ -55,7 +55,6 @@ impl Mask {
         }
     }
 
-    /// A core on it.
     pub fn core(self, alloc: Global, conn: Conn) -> Option<Core> {
         let mask = self.grid(alloc)?;
         Core::over(alloc, mask, conn, self.side(), 0).ok()

@@ -17,7 +17,6 @@ pub const PATIENCE: u64 = 1_000_000_000;
 /// What is done, and what comes of it.
 #[derive(Clone, Copy)]
 pub enum Line {
-    /// The pen submits an edit.
     Submit(Edit),
     /// The pen submits strokes of the tags below this one.
     Fill(u8),
@@ -31,7 +30,6 @@ pub enum Line {
     Works(u64),
     /// Its turn is answered so.
     Answer(Turn),
-    /// So many jobs are recalled.
     Recall(u64),
     /// Turns of the keeper until so many reports are taken.
     Reports(u64),
