@@ -18,10 +18,13 @@ import sys
 TOP = pathlib.Path(__file__).resolve().parent.parent
 SOURCE, TARGET = TOP / "page" / "page.html", TOP / "crates" / "page_server" / "src" / "html.rt"
 
+# The widest line of the page's literal before the sign that it goes on, and what begins it, which does not count.
+WIDTH, INDENT = 119, "     "
+
 MODULE = '''//! The page and its policy, written by tools/embed_page.py from page/page.html.
 
 /// The page: HTML with its style and its script.
-pub const PAGE: &str = r##"{page}"##;
+pub const PAGE: &str = "{page}";
 
 /// The value of its `Content-Security-Policy` (W3C CSP Level 3): its one style and its one script by their SHA-256, and
 /// requests to its own origin alone.
@@ -44,11 +47,20 @@ def policy_of(page):
                       "frame-ancestors 'none'", "base-uri 'none'", "form-action 'none'"])
 
 
+def literal_of(text):
+    """What stands between the quotes of a string literal, in few lines, none of which begins with a blank of the text."""
+    escaped = text.replace("\\", "\\\\").replace('"', '\\"').replace("\n", "\\n")
+    lines = [""]
+    for sign in re.findall(r"(?:\\.|[^ ]) *", escaped):
+        if len(INDENT + lines[-1] + sign) > WIDTH:
+            lines.append("")
+        lines[-1] += sign
+    return f"\\\n{INDENT}".join(["", *lines])
+
+
 def module_of(page):
-    """The module that holds a page as a raw string."""
-    if '"##' in page:
-        sys.exit(f"embed_page.py: {SOURCE} has a text that ends a raw string")
-    return MODULE.format(page=page, policy=policy_of(page).replace("; ", "; \\\n     "))
+    """The module that holds a page as a string literal."""
+    return MODULE.format(page=literal_of(page), policy=policy_of(page).replace("; ", "; \\\n     "))
 
 
 def main():
