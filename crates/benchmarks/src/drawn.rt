@@ -27,10 +27,8 @@ impl Chance {
         requires { 0 < end }
         ensures { result < end }
     {
-        self.0 = self
-            .0
-            .wrapping_mul(6_364_136_223_846_793_005)
-            .wrapping_add(1);
+        let product = self.0.wrapping_mul(6_364_136_223_846_793_005);
+        self.0 = product.wrapping_add(1);
         ((self.0 >> 40) % u64::from(end)) as u32
     }
 }

@@ -28,7 +28,8 @@ mod stress;
 mod studios;
 mod system;
 
-use outcome::{Fault, MEMORY};
+use input::read;
+use outcome::{Fault, MEMORY, Outcome};
 use pgm_codec::{Source, StdSource};
 use std::env;
 use system::System;
@@ -36,29 +37,23 @@ use system::System;
 /// The side of the tiles where the call does not say it.
 const SIDE: u32 = 64;
 
-fn main(rt: HostRuntime) -> Result<(), Fault> {
+fn main(rt: HostRuntime) -> Outcome {
     let words: Vec<String> = env::args(&rt)?.collect(rt.alloc()).or(Err(MEMORY))?;
-    let word = words.get(1).map(|word| word.as_str()).unwrap_or("");
-    let mut source = StdSource::new(rt.stdin());
-    let (first, second) = (number_at(&words, 2), number_at(&words, 3));
-    measure(&rt, &mut source, word, first, second)
+    measure(&rt, &mut StdSource::new(rt.stdin()), &words)
 }
 
-// Measures what the word and the numbers say.
-fn measure(
-    rt: &impl System,
-    source: &mut impl Source,
-    word: &str,
-    first: Option<u32>,
-    second: Option<u32>,
-) -> Result<(), Fault> {
-    match (word, first, second) {
-        ("edit", Some(count), Some(side)) => settling::after_each(rt, source, count, side),
-        ("settle", Some(0), Some(side)) => settling::once(rt, source, side),
-        ("settle", Some(hands), Some(side)) => studios::settle(rt, source, hands, side),
-        ("settle", None, Some(side)) => parts::measure(rt, source, side),
-        ("watch", Some(count), None) => studios::watch(rt, source, count),
-        ("board", Some(hands), None) => boards::measure(rt, source, hands),
+// Measures what the words say.
+fn measure(rt: &impl System, source: &mut impl Source, words: &[String]) -> Outcome {
+    let word = words.get(1).map(|word| word.as_str()).unwrap_or("");
+    match (word, number_at(words, 2), number_at(words, 3)) {
+        ("edit", Some(count), Some(side)) => settling::each(rt, read(rt, source)?, side, count),
+        ("settle", Some(0), Some(side)) => settling::once(rt, read(rt, source)?, side),
+        ("settle", Some(hands), Some(side)) => {
+            studios::run(rt, read(rt, source)?, hands, side, None)
+        }
+        ("settle", None, Some(side)) => parts::measure(rt, read(rt, source)?, side),
+        ("watch", Some(count), None) => studios::run(rt, read(rt, source)?, 2, SIDE, Some(count)),
+        ("board", Some(hands), None) => boards::measure(rt, read(rt, source)?, hands),
         ("stress", Some(rounds), Some(seed)) => stress::play_all(rt, rounds, seed),
         _ => Err(Fault("the words are none of: edit, settle, watch, board, stress and numbers")),
     }

@@ -1,33 +1,24 @@
-//! What a measurement comes to: a sum by which images are compared, or why there is none.
+//! What a measurement comes to: what is printed, or why nothing was measured.
 
-use core_rules::CoreError;
-use grid_core::Memory;
+use crate::system::System;
+use reset_core::Core;
 use std::io;
 
 /// Why nothing was measured, in words. It owns no memory, so that little is to be done where a function leaves early.
 #[derive(Clone, Copy, Debug)]
 pub struct Fault(pub &'static str);
 
+/// Nothing, or why nothing was measured.
+pub type Outcome = Result<(), Fault>;
+
+/// Memory ran out.
+pub const MEMORY: Fault = Fault("out of memory");
+
 impl Fault {
     /// This fault, once the value is let go. That is one call, where it would be one for each of its fields.
     pub fn dropping<T: Drop, U>(self, value: T) -> Result<U, Fault> {
         drop(value);
         Err(self)
-    }
-}
-
-/// Memory ran out.
-pub const MEMORY: Fault = Fault("out of memory");
-
-impl From<Memory> for Fault {
-    fn from(_why: Memory) -> Fault {
-        MEMORY
-    }
-}
-
-impl From<CoreError> for Fault {
-    fn from(why: CoreError) -> Fault {
-        Fault(why.code())
     }
 }
 
@@ -38,7 +29,7 @@ impl From<io::Error> for Fault {
 }
 
 /// Nothing where the fact holds, else these words.
-pub fn check(holds: bool, words: &'static str) -> Result<(), Fault> {
+pub fn check(holds: bool, words: &'static str) -> Outcome {
     if holds { Ok(()) } else { Err(Fault(words)) }
 }
 
@@ -49,4 +40,12 @@ pub fn sum_of(values: &[u16]) -> u64 {
         sum = (sum ^ u64::from(*value)).wrapping_mul(0x0100_0000_01b3);
     }
     sum
+}
+
+/// Lets a settled core go, and prints its sum, how many jobs there were, and the time.
+pub fn tell(rt: &impl System, core: Core, jobs: Result<u64, Fault>, time: u128) -> Outcome {
+    let sum = sum_of(core.image().cells());
+    drop(core);
+    println!(rt; "{sum} {} {time}", jobs?)?;
+    Ok(())
 }

@@ -1,44 +1,31 @@
 //! Cores that settle by themselves: once, or again after each edit.
 
-use crate::input::read;
-use crate::outcome::{Fault, sum_of};
+use crate::input::{Input, merge};
+use crate::outcome::{MEMORY, Outcome, tell};
 use crate::system::{Laps, System, thread_time};
-use pgm_codec::Source;
 use reset_core::Core;
 use stroke_lattice::Delta;
 
 /// Lets a core of all edits settle, and prints its sum, how many jobs there were, and the time.
-pub fn once(rt: &impl System, source: &mut impl Source, side: u32) -> Result<(), Fault> {
-    let mut core = read(rt.alloc(), source)?.open(rt.alloc(), side)?;
-    let told = settle(rt, &mut core);
-    drop(core);
-    told
-}
-
-// Lets a core settle, and prints its sum, how many jobs there were, and the time.
-fn settle(rt: &impl System, core: &mut Core) -> Result<(), Fault> {
+pub fn once(rt: &impl System, input: Input, side: u32) -> Outcome {
+    let (mut core, _) = input.open(rt.alloc(), side, None)?;
     let mut laps = Laps::begin(rt);
-    let jobs = core.settle(rt.alloc())?.jobs;
-    let time = laps.lap(rt).as_nanos();
-    println!(rt; "{} {jobs} {time}", sum_of(core.image().cells()))?;
-    Ok(())
+    let settled = core.settle(rt.alloc());
+    let time = laps.lap(rt);
+    let jobs = settled.map(|count| count.jobs).or(Err(MEMORY));
+    tell(rt, core, jobs, time)
 }
 
 /// Merges each of the last edits, so many, into a settled core, settles it again, and prints a line for it.
-pub fn after_each(
-    rt: &impl System,
-    source: &mut impl Source,
-    count: u32,
-    side: u32,
-) -> Result<(), Fault> {
-    let (mut core, edits) = read(rt.alloc(), source)?.before(rt.alloc(), side, count)?;
+pub fn each(rt: &impl System, input: Input, side: u32, count: u32) -> Outcome {
+    let (mut core, edits) = input.open(rt.alloc(), side, Some(count))?;
     let told = measure_all(rt, &mut core, &edits);
     drop(core);
     told
 }
 
 // Measures one edit after another.
-fn measure_all(rt: &impl System, core: &mut Core, edits: &[Delta]) -> Result<(), Fault> {
+fn measure_all(rt: &impl System, core: &mut Core, edits: &[Delta]) -> Outcome {
     for edit in edits {
         measure(rt, core, edit)?;
     }
@@ -46,12 +33,12 @@ fn measure_all(rt: &impl System, core: &mut Core, edits: &[Delta]) -> Result<(),
 }
 
 // Merges an edit, settles the core again, and prints what that took.
-fn measure(rt: &impl System, core: &mut Core, edit: &Delta) -> Result<(), Fault> {
+fn measure(rt: &impl System, core: &mut Core, edit: &Delta) -> Outcome {
     let before = sum_of_generations(core);
     let start = thread_time(rt);
-    let is_placed = !core.merge(rt.alloc(), edit)?.born().is_empty();
-    let jobs = core.settle(rt.alloc())?.jobs;
-    let time = thread_time(rt).saturating_sub(start).as_nanos();
+    let is_placed = merge(rt.alloc(), core, edit)?;
+    let jobs = core.settle(rt.alloc()).or(Err(MEMORY))?.jobs;
+    let time = thread_time(rt).saturating_sub(start);
     let reset = sum_of_generations(core).wrapping_sub(before);
     let kind = if is_placed { "placed" } else { "withdrawn" };
     println!(rt; "{kind} {reset} {jobs} {time}")?;

@@ -5,7 +5,7 @@
 //! have to be those of all edits that are not listed as refused, and the image what the slow program says.
 
 use crate::drawn::{EACH, EDITS, core, edit};
-use crate::outcome::{Fault, MEMORY, check};
+use crate::outcome::{Fault, MEMORY, Outcome, check};
 use crate::studios::{open, spawn_hands, turn};
 use crate::system::System;
 use core_dispatch::{Full, Pen, Refusal};
@@ -16,25 +16,22 @@ use std::sync::atomic::{AtomicBool, AtomicU64, Ordering};
 use std::sync::{Arc, OnceLock};
 use std::thread;
 use stroke_lattice::{Delta, State};
-use studio::{Eye, Keeper, Studio};
+use studio::{Eye, Keeper};
 
-// What the threads of a round share.
+// What the threads of a round share: what decides all that is drawn, how many pens have not submitted all yet, whether
+// the round is over, and what was not as it should be.
 #[derive(Drop)]
 struct Round {
-    // What decides all that is drawn.
     seed: u64,
-    // How many pens have not submitted all yet.
     writers: AtomicU64,
-    // Whether the round is over.
     done: AtomicBool,
-    // What was not as it should be.
     fault: OnceLock<Fault>,
 }
 
 /// Plays so many rounds, which the seed decides, and prints how many.
 ///
 /// Errors: what is not as it should be.
-pub fn play_all<R: System>(rt: &R, rounds: u32, seed: u32) -> Result<(), Fault> {
+pub fn play_all<R: System>(rt: &R, rounds: u32, seed: u32) -> Outcome {
     for round in 0..rounds {
         let number = u64::from(seed) << 32 | u64::from(round);
         play(rt, rt.alloc(), number.wrapping_mul(0x9e37_79b9_7f4a_7c15))?;
@@ -44,14 +41,8 @@ pub fn play_all<R: System>(rt: &R, rounds: u32, seed: u32) -> Result<(), Fault> 
 }
 
 // Plays a round: hands work, pens submit and eyes look in threads. It checks what they leave.
-fn play<R: System>(rt: &R, alloc: Global, seed: u64) -> Result<(), Fault> {
-    let core = core(alloc, seed).ok_or(MEMORY)?;
-    let Studio {
-        mut keeper,
-        pens,
-        hands,
-        eyes,
-    } = open(rt, core, EACH, EACH)?;
+fn play<R: System>(rt: &R, alloc: Global, seed: u64) -> Outcome {
+    let (mut keeper, pens, hands, eyes) = open(rt, core(alloc, seed).ok_or(MEMORY)?, EACH, EACH)?;
     let round = &Round {
         seed,
         writers: AtomicU64::new(EACH as u64),
@@ -80,15 +71,14 @@ fn play<R: System>(rt: &R, alloc: Global, seed: u64) -> Result<(), Fault> {
 
 impl Round {
     // Notes what is not as it should be.
-    fn note(&self, found: Result<(), Fault>) {
+    fn note(&self, found: Outcome) {
         if let Err(fault) = found {
             let _ = self.fault.try_set(fault);
         }
     }
 
     // Submits the edits of a pen in order.
-    fn write(&self, alloc: Global, pen: Pen) {
-        let mut pen = pen;
+    fn write(&self, alloc: Global, mut pen: Pen) {
         let first = (pen.number() as u64).wrapping_mul(EDITS);
         for number in 0..EDITS {
             match edit(alloc, self.seed, first.wrapping_add(number)) {
@@ -112,8 +102,8 @@ impl Round {
     }
 
     // Looks again and again until the round is over.
-    fn watch(&self, eye: Eye) {
-        let (mut eye, mut seen): (Eye, Option<Arc<State>>) = (eye, None);
+    fn watch(&self, mut eye: Eye) {
+        let mut seen: Option<Arc<State>> = None;
         for _ in 0..u64::MAX {
             if self.done.load(Ordering::SeqCst) {
                 break;
@@ -134,12 +124,12 @@ impl Round {
 
     // Makes turns until all edits are taken and no work is left, or something is not as it should be. It shows the core
     // after each turn that took an edit, and recalls all jobs now and then.
-    fn keep(&self, rt: &impl System, keeper: &mut Keeper) -> Result<(), Fault> {
+    fn keep(&self, rt: &impl System, keeper: &mut Keeper) -> Outcome {
         for number in 0..u64::MAX {
             let is_last = self.writers.load(Ordering::SeqCst) == 0;
             let edits = turn(keeper)?.edits;
             if edits > 0 {
-                let _told = keeper.show(rt)?;
+                let _told = keeper.show(rt).or(Err(MEMORY))?;
             }
             if number % 64 == 0 {
                 keeper.recall();
@@ -154,7 +144,7 @@ impl Round {
 }
 
 // Checks what a round leaves.
-fn judge(alloc: Global, keeper: &Keeper, seed: u64) -> Result<(), Fault> {
+fn judge(alloc: Global, keeper: &Keeper, seed: u64) -> Outcome {
     let (core, mask) = (keeper.core(), keeper.core().mask());
     let joined = joined(alloc, keeper.refusals(), seed)?;
     check(joined.is_same(core.state()), "not the strokes of the edits")?;

@@ -1,4 +1,4 @@
-//! What is asked of the system, and its clocks. What a clock tells that can not be read is zero.
+//! What is asked of the system, and its clocks, in nanoseconds. What a clock tells that can not be read is zero.
 
 use std::sync::Wait;
 use std::thread::Threads;
@@ -11,28 +11,23 @@ impl<R: Threads + Wait + Clock + CpuClock + Print + AllocGlobal + Sync> System f
 
 /// A clock that is read lap by lap.
 #[derive(Clone, Copy)]
-pub struct Laps(Duration);
+pub struct Laps(u128);
 
 impl Laps {
     /// The first lap begins now.
     pub fn begin(rt: &impl Clock) -> Laps {
-        Laps(rt.monotonic().unwrap_or(Duration::ZERO))
+        Laps(rt.monotonic().unwrap_or(Duration::ZERO).as_nanos())
     }
 
     /// What the lap took until now. The next one begins.
-    pub fn lap(&mut self, rt: &impl Clock) -> Duration {
+    pub fn lap(&mut self, rt: &impl Clock) -> u128 {
         let start = self.0;
         *self = Laps::begin(rt);
         self.0.saturating_sub(start)
     }
-
-    /// Adds what the lap took until now to a time. The next one begins.
-    pub fn add_to(&mut self, rt: &impl Clock, time: &mut Duration) {
-        *time = time.saturating_add(self.lap(rt));
-    }
 }
 
 /// The processor time of this thread.
-pub fn thread_time(rt: &impl CpuClock) -> Duration {
-    rt.thread_cpu_time().unwrap_or(Duration::ZERO)
+pub fn thread_time(rt: &impl CpuClock) -> u128 {
+    rt.thread_cpu_time().unwrap_or(Duration::ZERO).as_nanos()
 }
