@@ -58,8 +58,8 @@ fn mirror(rt: &impl System, input: Input, board: &Board, seat: &mut KeeperSeat) 
     check(is_of_mask, "not the board's mask")
 }
 
-// Brings the marker of all edits to the board, and has the hands raise it in threads with a peek beside them, which then
-// looks as often alone.
+// Brings the marker of all edits to the board, and has the hands raise it in threads with a peek beside them, which
+// then looks as often alone.
 fn raise(rt: &impl System, input: Input, opened: &mut Opened) -> Outcome
     requires seat { IsKeeperOf opened.old.board opened.old.keeper }
     requires hands { All (IsNewHand opened.old.board) opened.old.hands.items }

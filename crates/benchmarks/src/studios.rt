@@ -64,9 +64,9 @@ pub fn turn(keeper: &mut Keeper) -> Result<Turned, Fault> {
 }
 
 /// Has so many hands work in threads. Where a count is given, so many of the last edits are submitted to a settled
-/// core, each after the other, and a line is printed for each: the time until a glimpse has it, and what two shows took,
-/// one after the edit and one after nothing. Else a core of all edits settles, and its sum, how many jobs there were,
-/// and the time are printed.
+/// core, each after the other, and a line is printed for each: the time until a glimpse has it, and what two shows
+/// took, one after the edit and one after nothing. Else a core of all edits settles, and its sum, how many jobs there
+/// were, and the time are printed.
 pub fn run<R: System>(rt: &R, input: Input, hands: u32, side: u32, count: Option<u32>) -> Outcome {
     let (core, edits) = input.open(rt.alloc(), side, count)?;
     let (mut keeper, mut pens, hands, mut eyes) = open(rt, core, hands as usize, 1)?;
