@@ -1,5 +1,7 @@
 //! Large answers that nobody has read yet.
 
+ghost use Rattle.std.specs.Prelude.{◌≡◌, IfOk};
+
 use bytes::Bytes;
 use std::alloc::{AllocError, Global};
 
@@ -38,10 +40,18 @@ impl Unread {
         Ok(())
     }
 
-    /// Makes room for an answer that is to be given out again and again, and kept once it no longer is.
+    /// Another owner of an answer that is to be given out again and again, and kept once it no longer is.
     ///
     /// Errors: it is large, and there is no room for another; out of memory.
-    pub(crate) fn make_room(&mut self, answer: &Bytes) -> Result<(), AllocError> {
+    pub(crate) fn share(&mut self, answer: &Bytes) -> Result<Bytes, AllocError>
+        ensures { IfOk result (λ shared. shared ≡ answer.now) }
+    {
+        self.make_room(answer)?;
+        answer.clone()
+    }
+
+    // Makes room for an answer that is to be held.
+    fn make_room(&mut self, answer: &Bytes) -> Result<(), AllocError> {
         if !is_large(answer) {
             return Ok(());
         }

@@ -60,7 +60,9 @@ impl Painting {
         ensures told { OnOk result (Says self.old 200 media.Binary (state_text self.old.board) response.new) }
         ensures same { self.new ≡ self.old }
     {
-        let file = self.board.state_file(self.alloc).map_err(|_| AllocError)?;
+        let Ok(file) = self.board.state_file(self.alloc) else {
+            return Err(AllocError);
+        };
         self.give(response, Media::Binary, Bytes::from_vec(file)?)
     }
 
@@ -71,7 +73,9 @@ impl Painting {
             (Says self.old 200 media.Text (live_text self.old.board.core.state) response.new) }
         ensures same { self.new ≡ self.old }
     {
-        let lines = self.board.strokes(self.alloc).map_err(|_| AllocError)?;
+        let Ok(lines) = self.board.strokes(self.alloc) else {
+            return Err(AllocError);
+        };
         self.give(response, Media::Text, Bytes::from_vec(lines)?)
     }
 }

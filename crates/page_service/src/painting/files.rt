@@ -18,11 +18,27 @@ impl Painting {
         if let Some(made) = &self.mask {
             return made.clone();
         }
-        let file = self.board.mask_file(self.alloc).map_err(|_| AllocError)?;
-        let made = Bytes::from_vec(file)?;
-        let shared = made.clone()?;
-        self.mask = Some(made);
-        Ok(shared)
+        let made = self.made_mask()?;
+        match made.clone() {
+            Ok(shared) => {
+                self.mask = Some(made);
+                Ok(shared)
+            }
+            Err(why) => {
+                drop(made);
+                Err(why)
+            }
+        }
+    }
+
+    // The raw file of the mask, made anew.
+    fn made_mask(&self) -> Result<Bytes, AllocError>
+        ensures { IfOk result (λ bytes. bytes ≡ raw_text (mask_of self.now.board)) }
+    {
+        let Ok(file) = self.board.mask_file(self.alloc) else {
+            return Err(AllocError);
+        };
+        Ok(Bytes::from_vec(file)?)
     }
 
     // The raw file of the image as it is now.
@@ -33,11 +49,26 @@ impl Painting {
         if let Some(made) = &self.image {
             return made.clone();
         }
-        let file = self.board.image_file(self.alloc).map_err(|_| AllocError)?;
-        let made = Bytes::from_vec(file)?;
-        self.unread.make_room(&made)?;
-        let shared = made.clone()?;
-        self.image = Some(made);
-        Ok(shared)
+        let made = self.made_image()?;
+        match self.unread.share(&made) {
+            Ok(shared) => {
+                self.image = Some(made);
+                Ok(shared)
+            }
+            Err(why) => {
+                drop(made);
+                Err(why)
+            }
+        }
+    }
+
+    // The raw file of the image as it is now, made anew.
+    fn made_image(&self) -> Result<Bytes, AllocError>
+        ensures { IfOk result (IsImageFile self.now.board) }
+    {
+        let Ok(file) = self.board.image_file(self.alloc) else {
+            return Err(AllocError);
+        };
+        Ok(Bytes::from_vec(file)?)
     }
 }

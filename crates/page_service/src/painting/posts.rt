@@ -150,10 +150,9 @@ impl Painting {
         ensures told { OnOk result (TellsChanges self.old run since response.new) }
         ensures same { self.new ≡ self.old }
     {
-        let changes = self
-            .board
-            .changes(self.alloc, run, since)
-            .map_err(|_| AllocError)?;
+        let Ok(changes) = self.board.changes(self.alloc, run, since) else {
+            return Err(AllocError);
+        };
         self.give(response, Media::Binary, Bytes::from_vec(changes)?)
     }
 
@@ -179,7 +178,9 @@ impl Painting {
         requires { IsBlank response.old }
         ensures { OnOk result (Says self.now status media.Text (fault_text fault.now) response.new) }
     {
-        let line = fault_line(self.alloc, fault).map_err(|_| AllocError)?;
+        let Ok(line) = fault_line(self.alloc, fault) else {
+            return Err(AllocError);
+        };
         self.put(response, status, Media::Text, Bytes::from_string(line)?)
     }
 }
