@@ -37,15 +37,29 @@ impl Door {
             Some(port) => listen(rt, port)?,
             None => listen_near(rt, home)?,
         };
-        let poll = Poll::new(rt)?;
-        poll.registry()
-            .register(&mut listener, ANYBODY, Interest::READABLE)?;
-        let events = Events::with_capacity(alloc, EVENTS)?;
-        Ok(Door {
-            listener,
-            poll,
-            events,
-        })
+        match watch(rt, &mut listener) {
+            Ok(poll) => Door::over(alloc, listener, poll),
+            Err(why) => {
+                drop(listener);
+                Err(why)
+            }
+        }
+    }
+
+    // A door over a listener, with room for what is told of it.
+    fn over(alloc: Global, listener: TcpListener, poll: Poll) -> io::Result<Door> {
+        match Events::with_capacity(alloc, EVENTS) {
+            Ok(events) => Ok(Door {
+                listener,
+                poll,
+                events,
+            }),
+            Err(why) => {
+                drop(listener);
+                drop(poll);
+                Err(why.into())
+            }
+        }
     }
 
     /// The port that was bound.
@@ -67,13 +81,33 @@ impl Door {
     /// Errors: nobody is there, or who was there could not be let in.
     pub(crate) fn accept(&self) -> io::Result<TcpStream> {
         let (mut stream, _) = self.listener.accept()?;
+        match self.expect(&mut stream) {
+            Ok(()) => Ok(stream),
+            Err(why) => {
+                drop(stream);
+                Err(why)
+            }
+        }
+    }
+
+    // Sees to it that the bytes of a stream are told of.
+    fn expect(&self, stream: &mut TcpStream) -> io::Result<()> {
         stream.set_nodelay(true)?;
-        self.poll.registry().register(
-            &mut stream,
-            ANYBODY,
-            Interest::READABLE | Interest::WRITABLE,
-        )?;
-        Ok(stream)
+        let ready = Interest::READABLE | Interest::WRITABLE;
+        self.poll.registry().register(stream, ANYBODY, ready)
+    }
+}
+
+// What tells that somebody came to a listener.
+fn watch<R: Net>(rt: &R, listener: &mut TcpListener) -> io::Result<Poll> {
+    let poll = Poll::new(rt)?;
+    let registry = poll.registry();
+    match registry.register(listener, ANYBODY, Interest::READABLE) {
+        Ok(()) => Ok(poll),
+        Err(why) => {
+            drop(poll);
+            Err(why)
+        }
     }
 }
 

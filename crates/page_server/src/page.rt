@@ -4,11 +4,13 @@ ghost use Rattle.page_server.specs.Page.{PageAnswers, PageGrows, PageHas, PageNo
 ghost use Rattle.page_server.specs.Page.{HasPageWork, page_version};
 ghost use Rattle.page_server.specs.Page.{calls_count, works_count, takes_count, notes_count};
 
+use crate::html::{PAGE, POLICY};
 use bytes::Bytes;
 use grid_core::Memory;
 use http::Request;
 use http_server::{Response, Service};
-use page_service::{Kept, Painting};
+use page_board::PageBoard;
+use page_service::{Hosts, Kept, Key, Painting};
 use run_faults::RunError;
 use std::alloc::{AllocError, Global};
 
@@ -18,6 +20,30 @@ pub(crate) struct Page {
     pub(crate) alloc: Global,
     pub(crate) painting: Painting,
     pub(crate) jobs: u64,
+}
+
+impl Page {
+    ghost use Rattle.std.specs.Prelude.{◌≡◌, None};
+    ghost use Rattle.page_server.specs.declared.html.TheConstants.{PAGE, POLICY};
+
+    /// The page that is embedded, with its policy, over a board.
+    pub(crate) fn new(alloc: Global, board: PageBoard, hosts: Hosts, key: Key, jobs: u64) -> Page
+        ensures painting { result.painting ≡ record {
+          board = board;
+          port = hosts;
+          key = key;
+          page = PAGE.now;
+          policy = POLICY.now;
+          unkept = None;
+        } }
+        ensures jobs { result.jobs ≡ jobs }
+    {
+        Page {
+            alloc,
+            painting: Painting::new(alloc, board, hosts, key, PAGE, POLICY),
+            jobs,
+        }
+    }
 }
 
 impl Service for Page {

@@ -22,7 +22,6 @@ use crate::chance::run_number;
 use crate::door::Door;
 use crate::forward::remove_forward;
 use crate::hall::Hall;
-use crate::html::{PAGE, POLICY};
 use crate::mask_file::MaskFile;
 use crate::opening::{KeptBoard, open_board};
 use crate::page::Page;
@@ -34,7 +33,7 @@ use byte_devices::{Sink, StdSource};
 use grid_core::Memory;
 use http_server::Connection;
 use mio::net::TcpStream;
-use page_service::{Key, Painting, StateKeeper, config};
+use page_service::{Key, StateKeeper, config};
 use raster_sweeps::Grower;
 use run_faults::RunError;
 use std::alloc::Global;
@@ -189,11 +188,7 @@ impl<T: StateStore + Drop> Server<T> {
             Ok((hall, peers)) => {
                 let Site { door, hosts, key } = site;
                 let KeptBoard { board, kept } = opened;
-                let page = Page {
-                    alloc,
-                    painting: Painting::new(alloc, board, hosts, key, PAGE, POLICY),
-                    jobs: jobs_of(side),
-                };
+                let page = Page::new(alloc, board, hosts, key, jobs_of(side));
                 Ok(Server {
                     alloc,
                     door,
@@ -217,25 +212,11 @@ impl<T: StateStore + Drop> Server<T> {
     {
         let start = Instant::now(rt)?;
         for _ in 0..u64::MAX {
-            let most = self.patience();
-            self.door.wait(most)?;
+            self.door.wait(patience(self.is_busy))?;
             let now = start.elapsed(rt)?;
             self.turn(rt, millis(now));
         }
         Ok(())
-    }
-
-    // How long to wait at most where nobody is ready: not at all where there is something to do, else for a second,
-    // so that those are dropped who are still for too long.
-    fn patience(&self) -> Duration
-        ensures busy { IsTrue self.now.is_busy → as_nanos result ≡ 0 }
-        ensures idle { IsFalse self.now.is_busy → as_nanos result ≡ 1_000_000_000 }
-    {
-        if self.is_busy {
-            Duration::ZERO
-        } else {
-            Duration::from_secs(1)
-        }
     }
 
     // A turn: who has shown the key is let in, bytes come and go, who is still or slow goes, and the board settles a
@@ -333,9 +314,27 @@ fn places(
     ensures nobody { IfOk result (λ both. peers_of both.1 ≡ []) }
     ensures most { IfOk result (λ both. most_of both.1 ≡ 64) }
 {
-    let peers = PeerList::new(alloc, MOST_PEERS)?;
-    let shown = key.copy(alloc)?;
-    Ok((Hall::new(alloc, shown), peers))
+    let hall = Hall::new(alloc, key.copy(alloc)?);
+    match PeerList::new(alloc, MOST_PEERS) {
+        Ok(peers) => Ok((hall, peers)),
+        Err(why) => {
+            drop(hall);
+            Err(why)
+        }
+    }
+}
+
+// How long to wait at most where nobody is ready: not at all where there is something to do, else for a second, so that
+// those are dropped who are still for too long.
+fn patience(is_busy: bool) -> Duration
+    ensures busy { IsTrue is_busy → as_nanos result ≡ 0 }
+    ensures idle { IsFalse is_busy → as_nanos result ≡ 1_000_000_000 }
+{
+    if is_busy {
+        Duration::ZERO
+    } else {
+        Duration::from_secs(1)
+    }
 }
 
 // Whether bytes moved, work is left, or more may stand at the door.

@@ -84,12 +84,20 @@ impl Site {
     ) -> Result<Site, RunError>
         ensures { IfErr result (λ e. (e ≡ errors.Link) ⊎ (e ≡ errors.Memory)) }
     {
-        let home = home(rt, alloc, &call.file);
-        let (Ok(bits), Ok(door)) = (key_bits(rt), Door::bind(rt, alloc, call.port, home)) else {
+        let Ok(bits) = key_bits(rt) else {
             return Err(RunError::Link);
         };
-        let (hosts, key) = names_of(alloc, &door, bits)?;
-        Ok(Site { door, hosts, key })
+        let home = home(rt, alloc, &call.file);
+        let Ok(door) = Door::bind(rt, alloc, call.port, home) else {
+            return Err(RunError::Link);
+        };
+        match names_of(alloc, &door, bits) {
+            Ok((hosts, key)) => Ok(Site { door, hosts, key }),
+            Err(why) => {
+                drop(door);
+                Err(why)
+            }
+        }
     }
 
     // Puts the address of the page, and an LF behind it.
@@ -100,12 +108,20 @@ impl Site {
             (address_line self.now.hosts self.now.key)) }
         ensures refused { IfErr result (λ e. (e ≡ errors.Memory) ⊎ IsTransferFault e) }
     {
-        let mut line = address(alloc, &self.hosts, &self.key).map_err(|_| Memory)?;
-        line.push_str("\n").map_err(|_| Memory)?;
+        let line = self.line(alloc)?;
         match put_all(sink, line.as_bytes()) {
             Ok(()) => Ok(()),
             Err(_) => Err(RunError::Pgm(PgmError::Device)),
         }
+    }
+
+    // The address of the page, and an LF.
+    fn line(&self, alloc: Global) -> Result<String, Memory>
+        ensures { IfOk result (λ line. string_bytes line ≡ address_line self.now.hosts self.now.key) }
+    {
+        let mut line = address(alloc, &self.hosts, &self.key)?;
+        line.push_str("\n")?;
+        Ok(line)
     }
 }
 
@@ -118,7 +134,14 @@ fn names_of(alloc: Global, door: &Door, bits: u128) -> Result<(Hosts, Key), RunE
     let Ok(port) = door.port() else {
         return Err(RunError::Link);
     };
-    let hosts = Hosts::new(alloc, port).map_err(|_| Memory)?;
-    let key = Key::new(alloc, bits).map_err(|_| Memory)?;
-    Ok((hosts, key))
+    let Ok(hosts) = Hosts::new(alloc, port) else {
+        return Err(RunError::Memory);
+    };
+    match Key::new(alloc, bits) {
+        Ok(key) => Ok((hosts, key)),
+        Err(_) => {
+            drop(hosts);
+            Err(RunError::Memory)
+        }
+    }
 }

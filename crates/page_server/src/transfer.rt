@@ -18,7 +18,7 @@ const MOST_TURNS: usize = 64;
 const MOST_DROPS: usize = 256;
 
 /// What came of an attempt to move bytes.
-#[derive(Clone, Copy, Debug, PartialEq, Eq)]
+#[derive(Clone, Copy)]
 pub(crate) enum Attempt {
     /// Some moved, and more may.
     Moved,
