@@ -2,6 +2,7 @@
 //! inputs look random, and are the same each time.
 
 use byte_devices::{MemorySink, MemorySource};
+use core_rules::CoreError;
 use edit_lang::parse;
 use grid_core::{Conn, Memory};
 use pgm_codec::{Image, read, write_raw};
@@ -56,12 +57,20 @@ fn push_input(input: &mut String, seed: &mut u64) -> Result<(), Memory> {
     push_mask(input, seed, w, h)
 }
 
+// Merges deltas, one by one.
+fn merge(alloc: Global, core: &mut Core, deltas: &[State]) -> Result<(), CoreError> {
+    for delta in deltas {
+        core.merge(alloc, delta)?;
+    }
+    Ok(())
+}
+
 // The raw file of what a core shows once it has merged the deltas of edits, one by one, and has settled.
 fn shown_by(alloc: Global, core: &mut Core, edits: &[u8]) -> Result<Vec<u8>, RunError> {
     let deltas = parse(alloc, edits)?;
-    for delta in &deltas {
-        core.merge(alloc, delta)?;
-    }
+    let merged = merge(alloc, core, &deltas);
+    drop(deltas);
+    merged?;
     core.settle(alloc)?;
     let image = Image::from_grid(alloc, core.image(), 9)?;
     Ok(write_raw(alloc, &image)?)
@@ -72,18 +81,20 @@ fn shown(alloc: Global, input: &[u8], conn: Conn, side: u32) -> Result<Vec<u8>, 
     let (edits, file) = split(input).ok_or(RunError::NoImage)?;
     let mask = read(alloc, file)?;
     let mut core = Core::open_tiled(alloc, &mask, conn, side, 0)?;
-    shown_by(alloc, &mut core, edits)
+    let shown = shown_by(alloc, &mut core, edits);
+    drop(core);
+    shown
 }
 
 // Whether a view of an input, for tiles of this side, writes what a core shows.
 fn is_the_same(alloc: Global, input: &[u8], conn: Conn, side: u32) -> Result<bool, Fail> {
     let shown = shown(alloc, input, conn, side)?;
-    let none = State::empty(alloc).map_err(|_| Memory)?;
-    let bytes = Vec::from_slice(alloc, input).map_err(|_| Memory)?;
+    let bytes = Vec::from_slice(alloc, input).or(Err(Memory))?;
+    let none = State::empty(alloc).or(Err(Memory))?;
     let mut source = MemorySource::new(bytes);
     let mut sink = MemorySink::new(alloc);
-    view_tiled(alloc, &mut source, &none, conn, side, &mut sink)?;
-    Ok(sink.written() == shown.as_slice())
+    let viewed = view_tiled(alloc, &mut source, &none, conn, side, &mut sink);
+    Ok(viewed.is_ok() && sink.written() == shown.as_slice())
 }
 
 #[test]
@@ -93,9 +104,8 @@ fn a_view_shows_what_a_core_shows(rt: HostRuntime) -> Result<(), Fail> {
         for conn in [Conn::Four, Conn::Eight] {
             let mut input = String::new(rt.alloc());
             push_input(&mut input, &mut seed)?;
-            if !is_the_same(rt.alloc(), input.as_bytes(), conn, side)? {
-                return Err(Fail::new(format_args!("tiles of {side}, {conn:?}")));
-            }
+            let is_so = is_the_same(rt.alloc(), input.as_bytes(), conn, side)?;
+            assert!(rt; is_so, "tiles of {side}, {conn:?}");
         }
     }
     Ok(())

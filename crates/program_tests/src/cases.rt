@@ -72,12 +72,6 @@ pub struct Scene {
     store: MemoryStore,
 }
 
-// Whether nothing of a text is written, or a front of it where the sink found no memory.
-fn has_only_front(sink: &MemorySink, text: &[u8]) -> bool {
-    let written = sink.written();
-    text.starts_with(written) && (written.is_empty() || sink.refused() > 0)
-}
-
 /// A text with the tags spelled that stand in it as `#1`, `#2` and so on.
 pub fn with_tags(alloc: Global, text: &str) -> Result<String, Memory> {
     Ok(text.replace(alloc, '#', "00000000-0000-0000-0000-00000000000")?)
@@ -103,10 +97,11 @@ impl Case {
 
     /// What the call is made on.
     pub fn scene(&self, alloc: Global) -> Result<Scene, Memory> {
+        let input = self.input(alloc)?;
         let path = StatePath::new(alloc, "strokes")?;
         let store = MemoryStore::new(alloc).with_file(&path, self.old)?;
         Ok(Scene {
-            source: MemorySource::new(self.input(alloc)?)
+            source: MemorySource::new(input)
                 .in_pieces(self.piece.max(1))
                 .failing_at(self.pull),
             sink: MemorySink::new(alloc)
@@ -125,10 +120,10 @@ impl Case {
             Call::View => view_run(alloc, source, self.conn, sink)?,
             Call::Kept(side) => return view_kept(alloc, source, self.old, self.conn, side, sink),
             Call::Stored => {
-                let store = &mut scene.store;
-                view_stored(alloc, source, self.conn, 64, &scene.path, store, sink)?;
+                let (path, store) = (&scene.path, &mut scene.store);
+                view_stored(alloc, source, self.conn, 64, path, store, sink)?;
                 let new = Vec::from_slice(alloc, scene.store.file(&scene.path));
-                return new.map_err(|_| RunError::Memory);
+                return new.or(Err(RunError::Memory));
             }
             Call::Derive(kind, h) => derive_run(alloc, source, kind, h, self.conn, sink)?,
         }
@@ -138,11 +133,7 @@ impl Case {
     // Makes the call, once more where there was no memory or no device for it and all is as before.
     fn makes_again(&self, alloc: Global, scene: &mut Scene) -> Result<Vec<u8>, RunError> {
         let made = self.makes(alloc, scene);
-        let is_again = match &made {
-            Ok(_) => false,
-            Err(fault) => status(fault) == 3 && self.is_as_before(scene),
-        };
-        if is_again {
+        if matches!(&made, Err(fault) if status(fault) == 3) && self.is_as_before(scene) {
             *scene = self.scene(alloc)?;
             return self.makes(alloc, scene);
         }
@@ -151,7 +142,9 @@ impl Case {
 
     // Whether the state file is as before, and nothing is written but what a sink without memory took.
     fn is_as_before(&self, scene: &Scene) -> bool {
-        has_only_front(&scene.sink, self.written) && scene.store.file(&scene.path) == self.old
+        let written = scene.sink.written();
+        let is_front = self.written.starts_with(written) && scene.sink.refused() > 0;
+        (written.is_empty() || is_front) && scene.store.file(&scene.path) == self.old
     }
 
     // Whether what is made on a scene is what the case says.
@@ -159,12 +152,12 @@ impl Case {
         &self,
         alloc: Global,
         scene: &Scene,
-        made: Result<Vec<u8>, RunError>,
+        made: &Result<Vec<u8>, RunError>,
     ) -> Result<bool, Memory> {
         let is_told = match made {
             Ok(new) => self.fault.0 == 0 && new.as_slice() == self.new,
             Err(error) => {
-                scene.store.file(&scene.path) == self.old && is_told(alloc, &error, self.fault)?
+                scene.store.file(&scene.path) == self.old && is_told(alloc, error, self.fault)?
             }
         };
         Ok(is_told && scene.sink.written() == self.written)
@@ -177,7 +170,10 @@ pub fn play(alloc: Global, case: &Case) -> Result<(), Fail> {
         return Err(Fail::new("no memory to begin with"));
     };
     let made = case.makes_again(alloc, &mut scene);
-    if case.is_so(alloc, &scene, made)? {
+    let is_so = case.is_so(alloc, &scene, &made);
+    drop(made);
+    drop(scene);
+    if is_so? {
         Ok(())
     } else {
         Err(Fail::new(format_args!("{}: {}", case.name, case.edits)))

@@ -52,24 +52,18 @@ fn inputs_are_refused(rt: HostRuntime) -> Result<(), Fail> {
     play_all(rt.alloc(), REFUSALS)
 }
 
-// Faults beside those, with the status of each and its line.
-const FAULTS: [(RunError, u8, &str); 22] = [
-    (RunError::Usage, 2, "usage"),
+// Faults beside those of other tests, with the status of each and its line.
+const FAULTS: [(RunError, u8, &str); 16] = [
     (RunError::Memory, 3, "memory"),
     (RunError::Pgm(PgmError::Memory), 3, "P10"),
-    (RunError::Pgm(PgmError::Device), 3, "P11"),
     (RunError::Edit(EditError::Memory), 3, "E4"),
     (RunError::Edit(EditError::BadTag(12)), 1, "E2 12"),
     (RunError::Core(CoreError::OutOfImage(Tag(15))), 1, "C1 #f"),
     (RunError::Core(CoreError::GenerationsSpent), 1, "C3"),
     (RunError::Core(CoreError::Memory), 3, "C4"),
-    (RunError::Core(CoreError::BadSide), 1, "C5"),
     (RunError::Spd(SpdError::Truncated), 1, "M3"),
     (RunError::Spd(BAD_LEVEL), 1, "M5 S1"),
     (RunError::Spd(SpdError::Memory), 3, "M8"),
-    (RunError::OtherMask, 1, "D1"),
-    (RunError::StateFile, 3, "V2"),
-    (RunError::Link, 3, "D3"),
     (RunError::Studio(StudioFault::BadCounts), 1, "U1"),
     (RunError::Studio(StudioFault::OpenMemory), 3, "U2"),
     (RunError::Studio(StudioFault::NoPlace), 3, "U3"),
@@ -83,9 +77,7 @@ const BAD_LEVEL: SpdError = SpdError::BadStroke(StrokeError::BadLevel);
 #[test]
 fn faults_have_lines_and_a_status(rt: HostRuntime) -> Result<(), Fail> {
     for (fault, code, line) in FAULTS {
-        if !is_told(rt.alloc(), &fault, (code, line))? {
-            return Err(Fail::new(line));
-        }
+        assert!(rt; is_told(rt.alloc(), &fault, (code, line))?, "{line}");
     }
     Ok(())
 }

@@ -130,11 +130,11 @@ fn is_told(alloc: Global, outcome: &Result<(), RunError>, status: u8, line: &[u8
     code == ExitCode::from(status) && errors.written() == line
 }
 
-fn is_ended(alloc: Global, end: End, outcome: Result<Option<PaintCall>, RunError>) -> bool {
+fn is_ended(alloc: Global, end: End, outcome: &Result<Option<PaintCall>, RunError>) -> bool {
     match (end, outcome) {
         (End::Well, Ok(None)) => is_told(alloc, &Ok(()), 0, b""),
         (End::Painting, Ok(Some(painting))) => painting.file.name() == "m.pgm.spd",
-        (End::Fault(status, line), Err(error)) => is_told(alloc, &Err(error), status, line),
+        (End::Fault(status, line), Err(error)) => is_told(alloc, &Err(*error), status, line),
         _ => false,
     }
 }
@@ -149,11 +149,11 @@ impl Run {
         network: &mut MemoryNetwork,
         sink: &mut MemorySink,
     ) -> Result<bool, Memory> {
-        let words = words_of(alloc, self.words)?;
-        let mut source = MemorySource::new(Vec::from_slice(alloc, self.input.as_bytes())?);
-        let given = Ok(words.into_iter());
+        let input = Vec::from_slice(alloc, self.input.as_bytes())?;
+        let given = Ok(words_of(alloc, self.words)?.into_iter());
+        let mut source = MemorySource::new(input);
         let outcome = run(rt, alloc, given, &mut source, store, network, sink);
-        Ok(is_ended(alloc, self.end, outcome) && (source.pulls() > 0) == self.is_read)
+        Ok(is_ended(alloc, self.end, &outcome) && (source.pulls() > 0) == self.is_read)
     }
 
     // Whether the run ends so, and leaves file and network so.
@@ -169,19 +169,17 @@ impl Run {
         let link = MemoryLink::new(alloc, None);
         let mut network = MemoryNetwork::new(self.has_link.then_some(link));
         let mut sink = MemorySink::new(alloc);
-        let is_ended = self.ends(rt, alloc, &mut store, &mut network, &mut sink)?;
+        let is_ended = self.ends(rt, alloc, &mut store, &mut network, &mut sink);
         let is_bound = network.is_bound(40001, &[40002]);
         let is_left = store.file(&path) == self.new && is_bound == self.is_bound;
-        Ok(is_ended && is_left && sink.written() == self.written)
+        Ok(matches!(is_ended, Ok(true)) && is_left && sink.written() == self.written)
     }
 }
 
 #[test]
 fn runs_of_the_program(rt: HostRuntime) -> Result<(), Fail> {
     for run in RUNS {
-        if !run.is_so(&rt, rt.alloc())? {
-            return Err(Fail::new(run.words));
-        }
+        assert!(rt; run.is_so(&rt, rt.alloc())?, "{}", run.words);
     }
     Ok(())
 }

@@ -97,10 +97,9 @@ impl Keeps for Behind<'_> {
     ghost refuses = { λ old found e new. e ≡ errors.Memory };
 
     fn keep_over(&mut self, alloc: Global, found: &[u8]) -> Result<Vec<u8>, RunError> {
-        let mut made = Vec::with_capacity(alloc, found.len()).map_err(|_| RunError::Memory)?;
-        made.extend_from_slice(found).map_err(|_| RunError::Memory)?;
+        let mut made = Vec::from_slice(alloc, found).or(Err(RunError::Memory))?;
         made.extend_from_slice(self.bytes)
-            .map_err(|_| RunError::Memory)?;
+            .or(Err(RunError::Memory))?;
         Ok(made)
     }
 }
@@ -122,28 +121,31 @@ fn waits(rt: &HostRuntime, path: &StatePath, name: &str, bytes: &[u8]) -> bool {
     is_held && saved == Err(RunError::StateFile) && add(rt, path, bytes).is_ok()
 }
 
+// Whether a load has these bytes.
+fn loads(rt: &HostRuntime, path: &StatePath, bytes: &[u8]) -> bool {
+    let found = FileStore::new(rt).load(rt.alloc(), path);
+    matches!(&found, Ok(found) if found.as_slice() == bytes)
+}
+
 // Whether more bytes than a read gives are saved, and loaded.
-fn keeps_many(rt: &HostRuntime, path: &StatePath) -> Result<bool, RunError> {
-    let many = vec![in rt.alloc(); 7u8; 300_000].map_err(|_| Memory)?;
-    add(rt, path, &many)?;
-    let found = FileStore::new(rt).load(rt.alloc(), path)?;
-    Ok(found.as_slice() == many.as_slice())
+fn keeps_many(rt: &HostRuntime, path: &StatePath) -> Result<bool, Memory> {
+    let many = vec![in rt.alloc(); 7u8; 300_000]?;
+    Ok(add(rt, path, &many).is_ok() && loads(rt, path, &many))
 }
 
 // Whether a step with a store can be made, or is so.
-fn is_done_with(rt: &HostRuntime, path: &StatePath, step: &Step) -> Result<bool, RunError> {
-    let alloc = rt.alloc();
-    Ok(match step {
-        Step::Loads(bytes) => FileStore::new(rt).load(alloc, path)?.as_slice() == *bytes,
+fn is_done_with(rt: &HostRuntime, path: &StatePath, step: &Step) -> bool {
+    match step {
+        Step::Loads(bytes) => loads(rt, path, bytes),
         Step::LoadFails => {
-            FileStore::new(rt).load(alloc, path).err() == Some(RunError::StateFile)
+            FileStore::new(rt).load(rt.alloc(), path).err() == Some(RunError::StateFile)
         }
         Step::Adds(bytes) => add(rt, path, bytes).is_ok(),
         Step::AddFails(bytes) => add(rt, path, bytes) == Err(RunError::StateFile),
         Step::AddWaits(lock, bytes) => waits(rt, path, lock, bytes),
-        Step::KeepsMany => keeps_many(rt, path)?,
+        Step::KeepsMany => matches!(keeps_many(rt, path), Ok(true)),
         other => is_done_without(rt, path.name(), other),
-    })
+    }
 }
 
 // The same of a step without a store.
@@ -166,14 +168,10 @@ fn is_done_without(rt: &HostRuntime, name: &str, step: &Step) -> bool {
 }
 
 // Does a step on this name in the folder, and says whether it was done.
-fn try_step(rt: &HostRuntime, name: &str, step: &Step) -> Result<bool, RunError> {
-    let name = format!(in rt.alloc(); "{FOLDER}/{name}").map_err(|_| Memory)?;
+fn is_done(rt: &HostRuntime, name: &str, step: &Step) -> Result<bool, Memory> {
+    let name = format!(in rt.alloc(); "{FOLDER}/{name}")?;
     let path = StatePath::new(rt.alloc(), name.as_str())?;
-    is_done_with(rt, &path, step)
-}
-
-fn is_done(rt: &HostRuntime, name: &str, step: &Step) -> bool {
-    matches!(try_step(rt, name, step), Ok(true))
+    Ok(is_done_with(rt, &path, step))
 }
 
 #[test]
@@ -181,9 +179,7 @@ fn files_of_the_system_are_kept(rt: HostRuntime) -> Result<(), Fail> {
     let _ = fs::remove_dir_all(&rt, FOLDER);
     fs::create_dir(&rt, FOLDER)?;
     for (number, (name, step)) in STEPS.iter().enumerate() {
-        if !is_done(&rt, name, step) {
-            return Err(Fail::new(format_args!("step {number}, of {name}")));
-        }
+        assert!(rt; is_done(&rt, name, step)?, "step {number}, of {name}");
     }
     // Ten names of the steps, and the locks of six of them.
     let mut left: usize = 0;
@@ -191,20 +187,13 @@ fn files_of_the_system_are_kept(rt: HostRuntime) -> Result<(), Fail> {
         left = left.saturating_add(1);
     }
     fs::remove_dir_all(&rt, FOLDER)?;
-    if left == 16 {
-        Ok(())
-    } else {
-        Err(Fail::new(format_args!("{left} names are left")))
-    }
+    assert!(rt; left == 16, "{left} names are left");
+    Ok(())
 }
 
 #[test]
 fn an_empty_name_is_no_file(rt: HostRuntime) -> Result<(), Fail> {
     let path = StatePath::new(rt.alloc(), "")?;
-    let found = FileStore::new(&rt).load(rt.alloc(), &path)?;
-    if found.is_empty() && add(&rt, &path, OLD) == Err(RunError::StateFile) {
-        Ok(())
-    } else {
-        Err(Fail::new("an empty name"))
-    }
+    assert!(rt; loads(&rt, &path, b"") && add(&rt, &path, OLD) == Err(RunError::StateFile));
+    Ok(())
 }

@@ -32,18 +32,17 @@ fn file_of(alloc: Global, samples: &str) -> Result<Vec<u8>, Memory> {
 // Whether a view of these edits on the row writes these samples.
 fn is_viewed(alloc: Global, edits: &'static str, samples: &str) -> Result<bool, Memory> {
     let case = Case { edits, ..ON_ROW };
+    let file = file_of(alloc, samples)?;
     let mut scene = case.scene(alloc)?;
     let is_made = case.makes(alloc, &mut scene).is_ok();
-    Ok(is_made && scene.sink.written() == file_of(alloc, samples)?.as_slice())
+    Ok(is_made && scene.sink.written() == file.as_slice())
 }
 
 #[test]
 fn strokes_on_a_row(rt: HostRuntime) -> Result<(), Fail> {
     for line in ON_THE_ROW.lines() {
         let (edits, samples) = line.split_once("->").unwrap_or((line, ""));
-        if !is_viewed(rt.alloc(), edits.trim(), samples)? {
-            return Err(Fail::new(line));
-        }
+        assert!(rt; is_viewed(rt.alloc(), edits.trim(), samples)?, "{line}");
     }
     Ok(())
 }

@@ -1,10 +1,11 @@
 //! The words of the command line, and what is read of them.
 
 use command_line::words::{Call, read_words};
-use grid_core::Memory;
+use grid_core::{Conn, Memory};
 use run_faults::RunError;
-use std::alloc::Global;
+use std::alloc::{AllocError, Global};
 use std::test::Fail;
+use view_session::store::StatePath;
 
 // Words that say a call, where `''` is an empty one, and the call: of a view neighbours, side and state file; of a node
 // these, port, ticks, hands and peers; of a derivation kind, h and neighbours; of a painting mask, state file,
@@ -57,13 +58,22 @@ pub fn words_of(alloc: Global, text: &str) -> Result<Vec<String>, Memory> {
     Ok(words)
 }
 
+// Adds a call by its name, its neighbours, its side and its state file.
+fn push_view(
+    text: &mut String,
+    name: &str,
+    conn: Conn,
+    side: u32,
+    file: &Option<StatePath>,
+) -> Result<(), AllocError> {
+    let file = file.as_ref().map(|path| path.name());
+    write!(text, "{name} {conn:?} {side} {file:?}")
+}
+
 // Adds a call, as the tables spell it.
-fn push_call(text: &mut String, call: Call) -> Result<(), Memory> {
+fn push_call(text: &mut String, call: Call) -> Result<(), AllocError> {
     match call {
-        Call::View { conn, side, file } => {
-            let file = file.as_ref().map(|path| path.name());
-            write!(text, "view {conn:?} {side} {file:?}")?;
-        }
+        Call::View { conn, side, file } => push_view(text, "view", conn, side, &file),
         Call::Node {
             conn,
             side,
@@ -73,14 +83,11 @@ fn push_call(text: &mut String, call: Call) -> Result<(), Memory> {
             peers,
             file,
         } => {
-            let file = file.as_ref().map(|path| path.name());
+            let pushed = push_view(text, "node", conn, side, &file);
             let peers = peers.into_ports();
-            write!(
-                text,
-                "node {conn:?} {side} {file:?} {port} {ticks} {hands} {peers:?}"
-            )?;
+            pushed.and(write!(text, " {port} {ticks} {hands} {peers:?}"))
         }
-        Call::Derive { kind, h, conn } => write!(text, "derive {kind:?} {h} {conn:?}")?,
+        Call::Derive { kind, h, conn } => write!(text, "derive {kind:?} {h} {conn:?}"),
         Call::Paint(painting) => {
             let forward = painting.forward.as_ref().map(|file| file.as_str());
             let (mask, file) = (painting.mask.as_str(), painting.file.name());
@@ -88,31 +95,27 @@ fn push_call(text: &mut String, call: Call) -> Result<(), Memory> {
             write!(
                 text,
                 "paint {mask} {file} {conn:?} {side} {port:?} {forward:?}"
-            )?;
+            )
         }
     }
-    Ok(())
 }
 
 // Whether this is read of words; nothing where they are usage.
 fn is_read(alloc: Global, words: &str, said: &str) -> Result<bool, Memory> {
     let words = words_of(alloc, words)?;
     let mut text = String::new(alloc);
-    match read_words(alloc, &words) {
-        Ok(call) => push_call(&mut text, call)?,
-        Err(RunError::Usage) => {}
-        Err(_) => return Err(Memory),
-    }
-    Ok(text.as_str() == said)
+    let is_pushed = match read_words(alloc, &words) {
+        Ok(call) => push_call(&mut text, call).is_ok(),
+        Err(error) => error == RunError::Usage,
+    };
+    Ok(is_pushed && text.as_str() == said)
 }
 
 #[test]
 fn words_say_calls(rt: HostRuntime) -> Result<(), Fail> {
     for line in SAID.lines() {
         let (words, said) = line.split_once("->").unwrap_or((line, ""));
-        if !is_read(rt.alloc(), words, said.trim())? {
-            return Err(Fail::new(line));
-        }
+        assert!(rt; is_read(rt.alloc(), words, said.trim())?, "{line}");
     }
     Ok(())
 }
@@ -120,9 +123,7 @@ fn words_say_calls(rt: HostRuntime) -> Result<(), Fail> {
 #[test]
 fn other_words_are_usage(rt: HostRuntime) -> Result<(), Fail> {
     for words in USAGE.split('|') {
-        if !is_read(rt.alloc(), words, "")? {
-            return Err(Fail::new(words));
-        }
+        assert!(rt; is_read(rt.alloc(), words, "")?, "{words}");
     }
     Ok(())
 }
