@@ -4,7 +4,8 @@ use Rattle.std.proofs.Common.{if◌then◌else◌, Option, Some, IfSome, option_
 use Rattle.std.proofs.lemmas.List.Elements.{All-nil, All-push, All-pop}
 use Rattle.core_dispatch.specs.{declared.pen.Pen.Pen, declared.pen.PenEnd.PenEnd, Books.BooksView, Closing.AreEndsOf}
 use Rattle.core_dispatch.specs.Pens.{IsOf, IsEndOf, KeepsDesk, KeepsDeskAtEnd, KeepsPens}
-use Rattle.studio.specs.{declared.keeper.Keeper.Keeper, Keeping.books_of, Keeping.studio_of}
+use Rattle.studio.specs.{declared.keeper.Keeper.Keeper, declared.shots.eye.Eye.Eye}
+use Rattle.studio.specs.{Keeping.books_of, Keeping.studio_of, Words.eye_studio}
 use Rattle.link_nodes.specs.{declared.node.Node.Node, Nodes.pen_of, Nodes.IsSameNode}
 use Rattle.thread_tests.specs.{declared.company.Scene.Scene, Company.IsCompany}
 
@@ -15,6 +16,14 @@ pen_stays s pen are keeps = record { pen = keeps.books (books_of s.keeper) are.p
 pub keeper_stays : (s : Scene) (keeper : Keeper) → IsCompany s → KeepsPens (books_of s.keeper) (books_of keeper)
     → studio_of keeper ≡ studio_of s.keeper → IsCompany (record s { keeper = keeper })
 keeper_stays s keeper are pens studio = record { pen = pens.pens s.pen are.pen; eye = are.eye ∙ sym studio }
+
+pub shown_stays : (s : Scene) (keeper : Keeper) (eye : Eye) → IsCompany s → books_of keeper ≡ books_of s.keeper
+    → eye_studio eye ≡ eye_studio s.eye → studio_of keeper ≡ studio_of s.keeper
+    → IsCompany (record s { keeper = keeper; eye = eye })
+shown_stays s keeper eye are books looks studio = record {
+  pen = subst (λ (b : BooksView). IsOf s.pen b) (sym books) are.pen;
+  eye = looks ∙ are.eye ∙ sym studio;
+}
 
 -- what was popped of a list is as all of it was
 pub popped : {X : Type 0} (P : X → Type 0) (all left : List X) (r : Option X) (x : X) → All P all

@@ -1,5 +1,5 @@
 -- Who belongs to a keeper, and who to a board.
-use Rattle.std.specs.Prelude.{◌≡◌}
+use Rattle.std.specs.Prelude.{◌≡◌, IfSome}
 use Rattle.grid_core.specs.Raster.{Raster}
 use Rattle.live_board.specs.Seats.{IsHandOf, IsKeeperOf, IsPeekOf, ground_of}
 use Rattle.live_board.specs.{Words.mask_of, declared.board.Board.Board}
@@ -22,6 +22,6 @@ pub record AreOf (board : Board) (mask : Raster) (seats : Seats) : Type 0 where
 -- the seats are this board's
 pub record IsCrewOf (board : Board) (crew : Crew) : Type 0 where
   pub keeper : IsKeeperOf board crew.keeper
-  pub one : IsHandOf board crew.one
-  pub two : IsHandOf board crew.two
-  pub peek : IsPeekOf board crew.peek
+  pub one : IfSome crew.one (IsHandOf board)
+  pub two : IfSome crew.two (IsHandOf board)
+  pub peek : IfSome crew.peek (IsPeekOf board)

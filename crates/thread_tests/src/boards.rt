@@ -5,27 +5,16 @@ ghost use Rattle.live_board.specs.Seats.{IsKeeperOf};
 ghost use Rattle.thread_tests.specs.Company.{AreOf};
 
 use crate::company::Seats;
-use crate::outcome::{NO_MEMORY, right_if, told};
+use crate::outcome::{NO_MEMORY, Outcome, right_if, told};
 use crate::peeks::{next_hand, next_peek};
 use crate::pictures::{BARE, Edit, GROWN, Mask};
-use crate::scene::{Scene, open, stop};
+use crate::scene::{Scene, open_on, stop};
 use grid_core::{Conn, Grid, Pixel};
 use live_board::{Board, KeeperSeat, Opened, Peek};
 use pgm_codec::Image;
 use std::alloc::Global;
 use std::sync::Wait;
 use std::test::Fail;
-
-/// The row as an image.
-pub fn row_image(alloc: Global) -> Option<Image> {
-    let row = Mask::Row.grid(alloc)?;
-    Image::from_grid(alloc, &row, 9).ok()
-}
-
-/// A studio on the row.
-pub fn studio_on_row<R: Wait>(rt: &R, alloc: Global, conn: Conn) -> Option<Scene> {
-    open(rt, alloc, Mask::Row.core(alloc, conn)?, 1)
-}
 
 /// Whether the pen submits the edit, and the next turn merges it.
 pub fn merges(alloc: Global, scene: &mut Scene, edit: Edit) -> bool {
@@ -45,23 +34,35 @@ fn seated(alloc: Global, mask: &Image, conn: Conn) -> Option<(Board, Seats)>
         mut hands,
         mut peeks,
     } = Board::open(alloc, mask, conn, 1, 1).ok()?;
-    match (next_hand(&board, &mut hands), next_peek(&board, &mut peeks)) {
+    let (hand, peek) = (next_hand(&board, &mut hands), next_peek(&board, &mut peeks));
+    drop(hands);
+    drop(peeks);
+    match (hand, peek) {
         (Some(hand), Some(peek)) => Some((board, Seats { keeper, hand, peek })),
-        _ => None,
+        (hand, peek) => {
+            drop(hand);
+            drop(peek);
+            drop(keeper);
+            drop(board);
+            None
+        }
     }
 }
 
-// What is done with a board, and what comes of it. Numbers are columns of the row.
+// The second column of the row.
+const SECOND: u32 = 1;
+
+// What is done with a board, and what comes of it.
 #[derive(Clone, Copy)]
 enum Line {
-    // A generation begins, whose marker has this value in this column, and 0 elsewhere.
-    Advance(u32, u16),
+    // A generation begins, whose marker has this value in the second column, and 0 elsewhere.
+    Advance(u16),
     // The marker is planted there.
-    Plant(u32),
+    Plant,
     // A round of the hand raises so often.
     Round(u64),
     // The peek finds this there, and in each column.
-    Peek(u32, Peek),
+    Peek(Peek),
     PeekAll(Peek),
     // The keeper of the studio takes an edit.
     Merge(Edit),
@@ -81,10 +82,10 @@ fn is_so(
     ensures { AreOf board.now mask.now seats.new }
 {
     match line {
-        Line::Advance(x, value) => advances(alloc, board, seats, mask, x, value),
-        Line::Plant(x) => plants(board, seats, mask, x),
+        Line::Advance(value) => advances(alloc, board, seats, mask, value),
+        Line::Plant => plants(board, seats, mask),
         Line::Round(count) => seats.hand.round(board) == count,
-        Line::Peek(x, answer) => peeks(board, seats, mask, x, answer),
+        Line::Peek(answer) => peeks(board, seats, mask, SECOND, answer),
         Line::PeekAll(answer) => peeks_all(board, seats, mask, answer),
         Line::Merge(edit) => merges(alloc, scene, edit),
         Line::Mirror(advances) => match scene.keeper.mirror(board, &mut seats.keeper) {
@@ -94,34 +95,27 @@ fn is_so(
     }
 }
 
-fn advances(
-    alloc: Global,
-    board: &Board,
-    seats: &mut Seats,
-    mask: &Grid,
-    x: u32,
-    value: u16,
-) -> bool
+fn advances(alloc: Global, board: &Board, seats: &mut Seats, mask: &Grid, value: u16) -> bool
     requires { AreOf board.now mask.now seats.old }
     ensures { AreOf board.now mask.now seats.new }
 {
     let Ok(mut marker) = Grid::new(alloc, mask.width(), mask.height(), 0) else {
         return false;
     };
-    if x < marker.width() {
-        marker.set(Pixel { x, y: 0 }, value);
+    if SECOND < marker.width() {
+        marker.set(Pixel { x: SECOND, y: 0 }, value);
     }
     marker.is_below(mask) && seats.keeper.advance(board, marker).is_ok()
 }
 
-fn plants(board: &Board, seats: &mut Seats, mask: &Grid, x: u32) -> bool
+fn plants(board: &Board, seats: &mut Seats, mask: &Grid) -> bool
     requires { AreOf board.now mask.now seats.old }
     ensures { AreOf board.now mask.now seats.new }
 {
-    if x >= mask.width() {
+    if SECOND >= mask.width() {
         return false;
     }
-    seats.keeper.plant(board, Pixel { x, y: 0 });
+    seats.keeper.plant(board, Pixel { x: SECOND, y: 0 });
     true
 }
 
@@ -158,10 +152,10 @@ const PLAYS: &[Play] = &[
         name: "a row grows",
         lines: &[
             Line::PeekAll(Peek::Live(0)),
-            Line::Advance(1, 5),
-            Line::Peek(1, Peek::Moved),
-            Line::Plant(1),
-            Line::Peek(1, Peek::Live(5)),
+            Line::Advance(5),
+            Line::Peek(Peek::Moved),
+            Line::Plant,
+            Line::Peek(Peek::Live(5)),
             Line::Round(4),
             Line::Round(0),
         ],
@@ -170,10 +164,10 @@ const PLAYS: &[Play] = &[
     Play {
         name: "what grew in an older generation is gone",
         lines: &[
-            Line::Advance(1, 5),
-            Line::Plant(1),
+            Line::Advance(5),
+            Line::Plant,
             Line::Round(4),
-            Line::Advance(1, 0),
+            Line::Advance(0),
             Line::PeekAll(Peek::Moved),
         ],
         image: BARE,
@@ -183,10 +177,10 @@ const PLAYS: &[Play] = &[
         lines: &[
             Line::Merge(Edit::Place(1, 9, 1)),
             Line::Mirror(false),
-            Line::Peek(1, Peek::Live(5)),
+            Line::Peek(Peek::Live(5)),
             Line::Merge(Edit::Withdraw(1)),
             Line::Mirror(true),
-            Line::Peek(1, Peek::Live(0)),
+            Line::Peek(Peek::Live(0)),
         ],
         image: BARE,
     },
@@ -234,7 +228,7 @@ impl Play {
 
     // The same beside a studio, which is ended.
     fn is_so<R: Wait>(&self, rt: &R, alloc: Global, mask: &Image, conn: Conn) -> bool {
-        match studio_on_row(rt, alloc, conn) {
+        match open_on(rt, alloc, Mask::Row, conn, 1) {
             Some(mut scene) => {
                 let is_closed = self.is_closed(alloc, &mut scene, mask, conn);
                 stop(rt, scene);
@@ -247,7 +241,7 @@ impl Play {
 
 #[test]
 fn boards_go_as_they_are_played(rt: HostRuntime) -> Result<(), Fail> {
-    let Some(mask) = row_image(rt.alloc()) else {
+    let Some(mask) = Mask::Row.image(rt.alloc()) else {
         return Err(Fail::new(NO_MEMORY));
     };
     for play in PLAYS {
@@ -271,9 +265,12 @@ pub fn opened_board(alloc: Global, mask: &Image, count: usize) -> Option<Opened>
 }
 
 // Whether a board of this mask is opened with so many hands and peeks, and closed on zeros.
-fn opens_and_closes(alloc: Global, mask: &Image, count: usize, zeros: &[u16]) -> bool {
-    let Some(opened) = opened_board(alloc, mask, count) else {
-        return false;
+fn opens_and_closes(alloc: Global, mask: Mask, count: usize, zeros: &[u16]) -> Outcome {
+    let Some(mask) = mask.image(alloc) else {
+        return Err(NO_MEMORY);
+    };
+    let Some(opened) = opened_board(alloc, &mask, count) else {
+        return Err("a board is refused again");
     };
     let Opened {
         board,
@@ -282,29 +279,21 @@ fn opens_and_closes(alloc: Global, mask: &Image, count: usize, zeros: &[u16]) ->
         peeks,
     } = opened;
     let are_counted = (hands.len() == count) & (peeks.len() == count);
-    are_counted & closes_on(alloc, board, keeper, zeros)
+    drop(hands);
+    drop(peeks);
+    let is_closed = closes_on(alloc, board, keeper, zeros);
+    right_if(are_counted & is_closed, "what a board is closed on")
 }
 
 #[test]
 fn a_board_is_opened_and_closed_tried_again(rt: HostRuntime) -> Result<(), Fail> {
-    let Some(mask) = row_image(rt.alloc()) else {
-        return Err(Fail::new(NO_MEMORY));
-    };
-    assert!(rt; opens_and_closes(rt.alloc(), &mask, 2, BARE));
-    Ok(())
-}
-
-// An image of 2^20 pixels, as many as a board has at most.
-fn largest(alloc: Global) -> Option<Image> {
-    let grid = Grid::new(alloc, 1024, 1024, 1).ok()?;
-    Image::from_grid(alloc, &grid, 1).ok()
+    told(opens_and_closes(rt.alloc(), Mask::Row, 2, BARE))
 }
 
 #[test]
 fn the_largest_board_is_opened_and_closed(rt: HostRuntime) -> Result<(), Fail> {
-    let (Some(mask), Ok(zeros)) = (largest(rt.alloc()), vec![in rt.alloc(); 0u16; 1 << 20]) else {
+    let Ok(zeros) = vec![in rt.alloc(); 0u16; 1 << 20] else {
         return Err(Fail::new(NO_MEMORY));
     };
-    assert!(rt; opens_and_closes(rt.alloc(), &mask, 16, &zeros));
-    Ok(())
+    told(opens_and_closes(rt.alloc(), Mask::Largest, 16, &zeros))
 }

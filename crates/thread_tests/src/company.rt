@@ -21,11 +21,11 @@ pub struct Seats {
     pub peek: PeekSeat,
 }
 
-/// The seats that stand in threads, and the keeper's.
+/// The keeper's seat, and those that stand in threads, where they are there.
 #[derive(Drop)]
 pub struct Crew {
     pub keeper: KeeperSeat,
-    pub one: HandSeat,
-    pub two: HandSeat,
-    pub peek: PeekSeat,
+    pub one: Option<HandSeat>,
+    pub two: Option<HandSeat>,
+    pub peek: Option<PeekSeat>,
 }

@@ -20,7 +20,7 @@ const PENS: usize = 16;
 const EACH: u16 = 30;
 
 // What the threads found.
-#[derive(Drop)]
+#[derive(Default, Drop)]
 struct Found {
     // How many pens could not submit an edit, and how many glimpses went back or are not sound.
     wrong: AtomicU64,
@@ -31,15 +31,6 @@ struct Found {
 }
 
 impl Found {
-    fn new() -> Found {
-        Found {
-            wrong: AtomicU64::new(0),
-            quiet: AtomicU64::new(0),
-            drawn: AtomicBool::new(false),
-            done: AtomicBool::new(false),
-        }
-    }
-
     fn note(&self, is_right: bool) {
         self.wrong.fetch_add(u64::from(!is_right), Ordering::SeqCst);
     }
@@ -64,18 +55,18 @@ fn edit(pen: usize, number: u16) -> Edit {
 }
 
 // Submits an edit as soon as there is a place, and says whether there was one in a while.
-fn insists(pen: &mut Pen, delta: Delta, found: &Found) -> bool {
-    let mut delta = delta;
+fn insists(pen: &mut Pen, mut delta: Delta, found: &Found) -> bool {
     for _ in 0..PATIENCE {
         match pen.submit(delta) {
             Ok(()) => return true,
             Err(Full(back)) => delta = back,
         }
         if found.done.load(Ordering::SeqCst) {
-            return false;
+            break;
         }
         thread::yield_now();
     }
+    drop(delta);
     false
 }
 
@@ -92,8 +83,7 @@ fn draw_once(alloc: Global, pens: &mut Vec<Pen>, number: u16, found: &Found) -> 
     are_all
 }
 
-fn draw_all(alloc: Global, pens: Vec<Pen>, found: &Found) {
-    let mut pens = pens;
+fn draw_all(alloc: Global, mut pens: Vec<Pen>, found: &Found) {
     for number in 0..EACH {
         let are_in = draw_once(alloc, &mut pens, number, found);
         found.note(are_in);
@@ -124,26 +114,33 @@ fn note(alloc: Global, glimpse: &Glimpse, before: &Option<Arc<State>>, found: &F
         .fetch_add(u64::from(glimpse.quiet()), Ordering::SeqCst);
 }
 
-// Looks again and again, until the keeper has ended its work, and once more.
-fn watch(alloc: Global, eye: Eye, found: &Found) {
-    let (mut eye, mut seen): (Eye, Option<Arc<State>>) = (eye, None);
-    for _ in 0..PATIENCE {
-        let is_last = found.done.load(Ordering::SeqCst);
-        match eye.look() {
-            Ok(glimpse) => {
-                note(alloc, &glimpse, &seen, found);
-                seen = Arc::try_clone(glimpse.shot().state()).ok();
-                eye = glimpse.leave();
-            }
-            Err(_) => {
-                found.note(false);
-                return;
-            }
+// The eye after a look.
+fn look(alloc: Global, eye: Eye, seen: &mut Option<Arc<State>>, found: &Found) -> Eye {
+    match eye.look() {
+        Ok(glimpse) => {
+            note(alloc, &glimpse, seen, found);
+            *seen = Arc::try_clone(glimpse.shot().state()).ok();
+            glimpse.leave()
         }
-        if is_last {
-            return;
+        Err(eye) => {
+            found.note(false);
+            eye
         }
     }
+}
+
+// Looks again and again, until the keeper has ended its work, and once more.
+fn watch(alloc: Global, mut eye: Eye, found: &Found) {
+    let mut seen: Option<Arc<State>> = None;
+    for _ in 0..PATIENCE {
+        let is_last = found.done.load(Ordering::SeqCst);
+        eye = look(alloc, eye, &mut seen, found);
+        if is_last {
+            break;
+        }
+    }
+    drop(eye);
+    drop(seen);
 }
 
 fn watches<'s, E>(alloc: Global, scope: &Scope<'s, E>, eye: Option<Eye>, found: &'s Found) -> bool {
@@ -196,7 +193,7 @@ fn work<R: Threads + Wait + Sync>(
     hands: &mut Vec<Hand>,
     eyes: &mut Vec<Eye>,
 ) -> bool {
-    let found = Found::new();
+    let found = Found::default();
     let seen = &found;
     let are_kept = thread::scope(thread::scope_env(), rt, |scope| {
         let one = works(rt, scope, hands.pop(), seen);
@@ -228,16 +225,14 @@ fn ends<R: Threads + Wait + Sync>(rt: &R, alloc: Global, studio: Studio) -> (Cor
         mut eyes,
     } = studio;
     let is_right = work(rt, alloc, &mut keeper, pens, &mut hands, &mut eyes);
+    drop(hands);
+    drop(eyes);
     let is_none_refused = keeper.refusals().is_empty();
     (keeper.end(rt), is_right & is_none_refused)
 }
 
 // The same of a studio on this mask with as many of each as there may be.
-fn opens_and_ends<R: Threads + Wait + Sync>(
-    rt: &R,
-    alloc: Global,
-    mask: Mask,
-) -> Option<(Core, bool)> {
+fn ended<R: Threads + Wait + Sync>(rt: &R, alloc: Global, mask: Mask) -> Option<(Core, bool)> {
     let core = mask.core(alloc, Conn::Eight)?;
     let studio = Studio::open(rt, alloc, core, PENS, 16, 16).ok()?;
     Some(ends(rt, alloc, studio))
@@ -245,7 +240,7 @@ fn opens_and_ends<R: Threads + Wait + Sync>(
 
 // Whether it leaves a core that took each edit once, on which is what grows from them.
 fn is_so<R: Threads + Wait + Sync>(rt: &R, alloc: Global, mask: Mask) -> bool {
-    match opens_and_ends(rt, alloc, mask) {
+    match ended(rt, alloc, mask) {
         Some((core, is_right)) => {
             let is_so = is_right & has_all(&core) & is_grown(alloc, &core);
             drop(core);

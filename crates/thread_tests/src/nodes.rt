@@ -1,15 +1,14 @@
 //! Nodes over links in memory.
 
-ghost use Rattle.std.specs.Prelude.{◌≡◌, IfSome};
+ghost use Rattle.std.specs.Prelude.{IfSome};
 ghost use Rattle.link_nodes.specs.Nodes.{IsSameNode, pen_of};
 ghost use Rattle.core_dispatch.specs.Pens.{IsOf};
 ghost use Rattle.studio.specs.Keeping.{books_of};
 ghost use Rattle.thread_tests.specs.Company.{IsCompany};
 
 use crate::frames::{FIRST, OF_ANOTHER_IMAGE};
-use crate::pictures::{BOTH, Edit, Mask, joined, settles_on};
-use crate::scene::{Scene, close_keeper, ends_of, open, stop};
-use core_dispatch::Pen;
+use crate::pictures::{BOTH, Edit, Mask, settles};
+use crate::scene::{Scene, close_keeper, ends_of, open};
 use grid_core::Conn;
 use link_nodes::{Heard, Link, MemoryLink, Node, NodeError, Sent};
 use reset_core::Core;
@@ -17,37 +16,64 @@ use spd_codec::{Print, SpdError};
 use std::alloc::Global;
 use std::sync::Wait;
 use std::test::Fail;
-use stroke_core::Tag;
-use studio::{Eye, Keeper};
+use studio::Keeper;
 
-// A node for the row, by the fingerprint that stands in a frame.
-fn node_of(pen: Pen, eye: Eye) -> Node
-    ensures { pen_of result ≡ pen }
-{
+// The fingerprint of the row, which stands in a frame.
+fn print_of_row() -> Print {
     let mut print = [0; 32];
     for (byte, told) in print.iter_mut().zip(FIRST.iter().skip(5)) {
         *byte = *told;
     }
-    Node::new(pen, eye, Conn::Four, Print::from_bytes(print))
+    Print::from_bytes(print)
+}
+
+// The keeper of a studio, and a node for the row.
+fn node_of(scene: Scene) -> (Keeper, Node)
+    requires { IsCompany scene }
+    ensures { IsOf (pen_of result.1) (books_of result.0) }
+{
+    let Scene {
+        keeper,
+        pen,
+        eye,
+        hands,
+    } = scene;
+    drop(hands);
+    (keeper, Node::new(pen, eye, Conn::Four, print_of_row()))
+}
+
+// Whether the core takes the edit.
+fn takes(alloc: Global, core: &mut Core, edit: Edit) -> bool {
+    match edit.delta(alloc) {
+        Some(delta) => {
+            let is_taken = core.merge(alloc, &delta).is_ok();
+            drop(delta);
+            is_taken
+        }
+        None => false,
+    }
 }
 
 // A core with these strokes, and the tombstones of so many tags from 100 on.
-fn core_with(alloc: Global, edits: &[Edit], tombstones: u16) -> Option<Core> {
+fn core_with(alloc: Global, edits: &[Edit], buried: u16) -> Option<Core> {
     let mut core = Mask::Row.core(alloc, Conn::Four)?;
-    let mut strokes = joined(alloc, edits)?;
-    for number in 0..tombstones {
-        let tag = Tag(u128::from(number) + 100);
-        if !strokes.has_tombstone(tag) {
-            strokes.bury(tag).ok()?;
-        }
+    let mut are_in = true;
+    for edit in edits {
+        are_in = takes(alloc, &mut core, *edit) & are_in;
     }
-    core.merge(alloc, &strokes).is_ok().then_some(core)
+    for number in 0..buried {
+        let edit = Edit::Withdraw(u128::from(number) + 100);
+        are_in = takes(alloc, &mut core, edit) & are_in;
+    }
+    are_in.then_some(core)
 }
 
-fn open_with<R: Wait>(rt: &R, alloc: Global, edits: &[Edit], tombstones: u16) -> Option<Scene>
-    ensures { IfSome result IsCompany }
+// The keeper of a new studio of such a core, and its node.
+fn open_node<R: Wait>(rt: &R, alloc: Global, edits: &[Edit], buried: u16) -> Option<(Keeper, Node)>
+    ensures { IfSome result (λ desk. IsOf (pen_of desk.1) (books_of desk.0)) }
 {
-    open(rt, alloc, core_with(alloc, edits, tombstones)?, 1)
+    let scene = open(rt, alloc, core_with(alloc, edits, buried)?, 1)?;
+    Some(node_of(scene))
 }
 
 // Whether the link can be fed the datagrams that the other sent, at these places.
@@ -97,63 +123,66 @@ const FAILING: &[&[(Heard, Sent)]] = &[
     &[(TAKEN, Sent::Piece(2)), (TAKEN, UNSENT)],
 ];
 
+// Whether the relay can send these datagrams, and the link be fed them.
+fn feeds(link: &mut MemoryLink, relay: &mut MemoryLink, fed: &[&[u8]]) -> bool {
+    for (place, datagram) in fed.iter().enumerate() {
+        if relay.send(datagram).is_err() || !carries(link, relay, &[place]) {
+            return false;
+        }
+    }
+    true
+}
+
 /// A link that is fed these datagrams, and whose call of a number fails.
 pub fn link_with(alloc: Global, fed: &[&[u8]], fails_at: Option<u64>) -> Option<MemoryLink> {
     let mut link = MemoryLink::new(alloc, fails_at);
     let mut relay = MemoryLink::new(alloc, None);
-    for (place, datagram) in fed.iter().enumerate() {
-        let is_sent = relay.send(datagram).is_ok();
-        if !is_sent || !carries(&mut link, &relay, &[place]) {
-            return None;
-        }
-    }
-    Some(link)
+    let is_fed = feeds(&mut link, &mut relay, fed);
+    drop(relay);
+    is_fed.then_some(link)
 }
 
-// Whether the ticks of a node come to these over one link after another, each of which is fed these datagrams; the
-// first call of the first link fails, the second of the second, and so on, or none.
+// Whether the ticks of a node come to these over the link, if it is there.
 fn ticks_over(
     alloc: Global,
     node: &mut Node,
+    link: Option<MemoryLink>,
+    all: &[(Heard, Sent)],
+) -> bool {
+    match link {
+        Some(mut link) => {
+            let are_so = ticks(alloc, node, &mut link, all);
+            drop(link);
+            are_so
+        }
+        None => false,
+    }
+}
+
+// Whether the ticks of the node of a new studio, whose core has so many tombstones, come to these over one link after
+// another, each of which is fed these datagrams; the first call of the first link fails, the second of the second, and
+// so on, or none.
+fn goes<R: Wait>(
+    rt: &R,
+    alloc: Global,
+    buried: u16,
     fed: &[&[u8]],
     fails: bool,
     links: &[&[(Heard, Sent)]],
 ) -> bool {
+    let Some((keeper, mut node)) = open_node(rt, alloc, &[], buried) else {
+        return false;
+    };
     let mut are_so = true;
     let mut call: u64 = 0;
     for all in links {
         call = call.saturating_add(1);
-        are_so = match link_with(alloc, fed, fails.then_some(call)) {
-            Some(mut link) => ticks(alloc, node, &mut link, all) & are_so,
-            None => false,
-        };
+        let link = link_with(alloc, fed, fails.then_some(call));
+        are_so = ticks_over(alloc, &mut node, link, all) & are_so;
     }
-    are_so
-}
-
-// The same of the node of a new studio, whose core has so many tombstones, and whether its keeper takes so many edits.
-fn goes<R: Wait>(
-    rt: &R,
-    alloc: Global,
-    tombstones: u16,
-    fed: &[&[u8]],
-    fails: bool,
-    links: &[&[(Heard, Sent)]],
-) -> bool {
-    let Some(scene) = open_with(rt, alloc, &[], tombstones) else {
-        return false;
-    };
-    let Scene {
-        keeper,
-        pen,
-        eye,
-        hands: _,
-    } = scene;
-    let mut node = node_of(pen, eye);
-    let is_so = ticks_over(alloc, &mut node, fed, fails, links);
     drop(node);
     drop(keeper.end(rt));
-    is_so
+    are_so
 }
 
 #[test]
@@ -198,12 +227,15 @@ fn tell(alloc: Global, one: &mut Node, two: &mut Node) -> bool
     let from = carries(&mut here, &there, &[2, 2, 1]);
     let are_heard = ticks(alloc, one, &mut here, LISTENED)
         & ticks(alloc, two, &mut there, LISTENED);
+    drop(here);
+    drop(there);
     are_told & to & from & are_heard
 }
 
-fn close<R: Wait>(rt: &R, alloc: Global, keeper: Keeper, node: Node) -> Option<Core>
-    requires { IsOf (pen_of node) (books_of keeper) }
+fn close<R: Wait>(rt: &R, alloc: Global, desk: (Keeper, Node)) -> Option<Core>
+    requires { IsOf (pen_of desk.1) (books_of desk.0) }
 {
+    let (keeper, node) = desk;
     let (pen, eye) = node.leave();
     drop(eye);
     close_keeper(rt, keeper, ends_of(alloc, pen))
@@ -214,52 +246,29 @@ fn are_equal(one: &Option<Core>, two: &Option<Core>) -> bool {
 }
 
 // Whether two nodes that tell each other their strokes end equal.
-fn meet<R: Wait>(rt: &R, alloc: Global, one: Scene, two: Scene) -> bool
-    requires one { IsCompany one }
-    requires two { IsCompany two }
+fn meet<R: Wait>(rt: &R, alloc: Global, one: (Keeper, Node), two: (Keeper, Node)) -> bool
+    requires one { IsOf (pen_of one.1) (books_of one.0) }
+    requires two { IsOf (pen_of two.1) (books_of two.0) }
 {
-    let Scene {
-        keeper: here,
-        pen,
-        eye,
-        hands: _,
-    } = one;
-    let mut first = node_of(pen, eye);
-    let Scene {
-        keeper: there,
-        pen,
-        eye,
-        hands: _,
-    } = two;
-    let mut second = node_of(pen, eye);
+    let (here, mut first) = one;
+    let (there, mut second) = two;
     let is_told = tell(alloc, &mut first, &mut second);
-    let mut one = close(rt, alloc, here, first);
-    let mut two = close(rt, alloc, there, second);
-    let are_grown = settles_on(alloc, &mut one, BOTH) & settles_on(alloc, &mut two, BOTH);
+    let one = close(rt, alloc, (here, first));
+    let two = close(rt, alloc, (there, second));
     let are_equal = are_equal(&one, &two);
-    drop(one);
-    drop(two);
+    let are_grown = settles(alloc, one, Some(BOTH)) & settles(alloc, two, Some(BOTH));
     is_told & are_grown & are_equal
-}
-
-// The same with another studio.
-fn meets<R: Wait>(rt: &R, alloc: Global, one: Scene) -> bool
-    requires { IsCompany one }
-{
-    match open_with(rt, alloc, &[Edit::Place(2, 3, 4)], 100) {
-        Some(two) => meet(rt, alloc, one, two),
-        None => {
-            stop(rt, one);
-            false
-        }
-    }
 }
 
 #[test]
 fn two_nodes_end_equal(rt: HostRuntime) -> Result<(), Fail> {
-    let Some(one) = open_with(&rt, rt.alloc(), &[Edit::Place(1, 9, 1)], 100) else {
+    let Some(one) = open_node(&rt, rt.alloc(), &[Edit::Place(1, 9, 1)], 100) else {
         return Err(Fail::new("no studio"));
     };
-    assert!(rt; meets(&rt, rt.alloc(), one));
+    let Some(two) = open_node(&rt, rt.alloc(), &[Edit::Place(2, 3, 4)], 100) else {
+        drop(close(&rt, rt.alloc(), one));
+        return Err(Fail::new("no other studio"));
+    };
+    assert!(rt; meet(&rt, rt.alloc(), one, two));
     Ok(())
 }

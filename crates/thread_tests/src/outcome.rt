@@ -3,7 +3,9 @@
 use std::test::Fail;
 
 /// All is as it has to be, or what is not.
-pub type Outcome = Result<(), &'static str>;
+pub type OutcomeOf<T> = Result<T, &'static str>;
+
+pub type Outcome = OutcomeOf<()>;
 
 /// There is no memory for what a call is made on.
 pub const NO_MEMORY: &str = "no memory to begin with";
@@ -18,8 +20,5 @@ pub fn right_if(is_so: bool, what: &'static str) -> Outcome {
 
 /// The end of a test.
 pub fn told(outcome: Outcome) -> Result<(), Fail> {
-    match outcome {
-        Ok(()) => Ok(()),
-        Err(what) => Err(Fail::new(what)),
-    }
+    outcome.map_err(|what| Fail::new(what))
 }

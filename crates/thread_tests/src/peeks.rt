@@ -5,12 +5,12 @@ ghost use Rattle.live_board.specs.Seats.{IsHandOf, IsKeeperOf, IsPeekOf, ground_
 ghost use Rattle.live_board.specs.Words.{mask_of};
 ghost use Rattle.thread_tests.specs.Company.{IsCrewOf};
 
-use crate::boards::{closes_on, merges, row_image, studio_on_row};
+use crate::boards::{closes_on, merges};
 use crate::company::Crew;
 use crate::outcome::NO_MEMORY;
-use crate::pictures::{BOTH, Edit, LEFT};
-use crate::playing::PATIENCE;
-use crate::scene::{Scene, stop};
+use crate::pictures::{BOTH, Edit, LEFT, Mask};
+use crate::playing::{PATIENCE, reaches};
+use crate::scene::{Scene, open_on, stop};
 use grid_core::{Conn, Grid, Pixel};
 use live_board::{Board, HandSeat, KeeperSeat, Opened, Peek, PeekSeat};
 use pgm_codec::Image;
@@ -22,7 +22,7 @@ use std::thread;
 use std::thread::Threads;
 
 // What the threads found.
-#[derive(Drop)]
+#[derive(Default, Drop)]
 struct Found {
     rounds: AtomicU64,
     peeks: AtomicU64,
@@ -32,39 +32,25 @@ struct Found {
 }
 
 impl Found {
-    fn new() -> Found {
-        Found {
-            rounds: AtomicU64::new(0),
-            peeks: AtomicU64::new(0),
-            above: AtomicU64::new(0),
-            done: AtomicBool::new(false),
-        }
-    }
-
     // Waits until ten rounds and peeks more were made, for a while, and says whether they were.
     fn are_ten_more(&self) -> bool {
         let rounds = self.rounds.load(Ordering::SeqCst).saturating_add(10);
         let peeks = self.peeks.load(Ordering::SeqCst).saturating_add(10);
-        for _ in 0..PATIENCE {
-            let is_round = self.rounds.load(Ordering::SeqCst) >= rounds;
-            if is_round & (self.peeks.load(Ordering::SeqCst) >= peeks) {
-                return true;
-            }
-            thread::yield_now();
-        }
-        false
+        reaches(&self.rounds, rounds) && reaches(&self.peeks, peeks)
     }
 }
 
-fn goes_round(board: &Board, hand: &mut HandSeat, found: &Found)
-    requires { IsHandOf board.now hand.old }
+fn goes_round(board: &Board, hand: Option<HandSeat>, found: &Found)
+    requires { IfSome hand (IsHandOf board.now) }
 {
-    for _ in 0..PATIENCE {
-        if found.done.load(Ordering::SeqCst) {
-            return;
+    if let Some(mut seat) = hand {
+        for _ in 0..PATIENCE {
+            if found.done.load(Ordering::SeqCst) {
+                break;
+            }
+            seat.round(board);
+            found.rounds.fetch_add(1, Ordering::SeqCst);
         }
-        hand.round(board);
-        found.rounds.fetch_add(1, Ordering::SeqCst);
     }
 }
 
@@ -84,15 +70,17 @@ fn peeks_along(board: &Board, peek: &mut PeekSeat, mask: &Grid, found: &Found)
     found.peeks.fetch_add(1, Ordering::SeqCst);
 }
 
-fn watches(board: &Board, peek: &mut PeekSeat, mask: &Grid, found: &Found)
-    requires of { IsPeekOf board.now peek.old }
+fn watches(board: &Board, peek: Option<PeekSeat>, mask: &Grid, found: &Found)
+    requires of { IfSome peek (IsPeekOf board.now) }
     requires mask { mask_of (ground_of board.now) ≡ mask.now }
 {
-    for _ in 0..PATIENCE {
-        if found.done.load(Ordering::SeqCst) {
-            return;
+    if let Some(mut seat) = peek {
+        for _ in 0..PATIENCE {
+            if found.done.load(Ordering::SeqCst) {
+                break;
+            }
+            peeks_along(board, &mut seat, mask, found);
         }
-        peeks_along(board, peek, mask, found);
     }
 }
 
@@ -168,14 +156,15 @@ fn runs<R: Threads + Wait + Sync>(
             let crew = crew;
             let Crew {
                 mut keeper,
-                mut one,
-                mut two,
-                mut peek,
+                one,
+                two,
+                peek,
             } = crew;
-            let first = scope.spawn(move || goes_round(board, &mut one, found));
-            let second = scope.spawn(move || goes_round(board, &mut two, found));
-            let third = scope.spawn(move || watches(board, &mut peek, mask, found));
-            let are_begun = first.is_ok() & second.is_ok() & third.is_ok();
+            let are_there = one.is_some() & two.is_some() & peek.is_some();
+            let first = scope.spawn(move || goes_round(board, one, found));
+            let second = scope.spawn(move || goes_round(board, two, found));
+            let third = scope.spawn(move || watches(board, peek, mask, found));
+            let are_begun = are_there & first.is_ok() & second.is_ok() & third.is_ok();
             let are_mirrored = mirrors_all(alloc, scene, board, &mut keeper, found, are_begun);
             found.done.store(true, Ordering::SeqCst);
             (are_mirrored, keeper)
@@ -232,30 +221,29 @@ fn grows<R: Threads + Wait + Sync>(
         mut hands,
         mut peeks,
     } = opened;
-    let (Some(one), Some(two), Some(mut last), Some(peek)) = (
-        next_hand(&board, &mut hands),
-        next_hand(&board, &mut hands),
-        next_hand(&board, &mut hands),
-        next_peek(&board, &mut peeks),
-    ) else {
-        return false;
-    };
     let crew = Crew {
         keeper,
-        one,
-        two,
-        peek,
+        one: next_hand(&board, &mut hands),
+        two: next_hand(&board, &mut hands),
+        peek: next_peek(&board, &mut peeks),
     };
-    let found = Found::new();
+    let mut last = next_hand(&board, &mut hands);
+    drop(hands);
+    drop(peeks);
+    let found = Found::default();
     let (mirrored, seat) = runs(rt, alloc, scene, &board, mask, crew, &found);
-    let settled = settles(&board, &mut last);
+    let settled = match &mut last {
+        Some(hand) => settles(&board, hand),
+        None => false,
+    };
+    drop(last);
     let closed = closes_on(alloc, board, seat, LEFT);
     mirrored & settled & closed & (found.above.load(Ordering::SeqCst) == 0)
 }
 
 // The same on a board of the row, beside a studio that is ended afterwards.
 fn grows_in_row<R: Threads + Wait + Sync>(rt: &R, alloc: Global, mask: &Image, conn: Conn) -> bool {
-    let Some(mut scene) = studio_on_row(rt, alloc, conn) else {
+    let Some(mut scene) = open_on(rt, alloc, Mask::Row, conn, 1) else {
         return false;
     };
     let is_right = match Board::open(alloc, mask, conn, 3, 1) {
@@ -268,7 +256,7 @@ fn grows_in_row<R: Threads + Wait + Sync>(rt: &R, alloc: Global, mask: &Image, c
 
 #[test]
 fn no_peek_is_above_what_grows(rt: HostRuntime) -> Result<(), Fail> {
-    let Some(mask) = row_image(rt.alloc()) else {
+    let Some(mask) = Mask::Row.image(rt.alloc()) else {
         return Err(Fail::new(NO_MEMORY));
     };
     for conn in [Conn::Four, Conn::Eight, Conn::Four, Conn::Eight] {

@@ -2,6 +2,7 @@
 
 use grid_core::{Conn, Grid, TILE_SIDE};
 use marker_tiles::marker;
+use pgm_codec::Image;
 use raster_sweeps::slow;
 use reset_core::Core;
 use std::alloc::Global;
@@ -33,38 +34,42 @@ pub enum Mask {
     Stripes,
     /// The same in 1,024 tiles.
     SmallTiles,
+    /// 2^20 ones, as many as a board has at most.
+    Largest,
 }
 
 impl Mask {
     pub fn grid(self, alloc: Global) -> Option<Grid> {
         match self {
-            Mask::Row => row_of(alloc, ROW),
+            Mask::Row => row(alloc),
             Mask::TwoTiles => Grid::new(alloc, 128, 1, 4).ok(),
             Mask::ManyTiles => many_tiles(alloc),
             Mask::Stripes => stripes(alloc, 128),
             Mask::SmallTiles => stripes(alloc, 256),
+            Mask::Largest => Grid::new(alloc, 1024, 1024, 1).ok(),
         }
     }
 
-    // How wide and high its tiles are.
-    fn side(self) -> u32 {
-        match self {
-            Mask::Stripes => 48,
-            Mask::SmallTiles => 8,
-            Mask::Row | Mask::TwoTiles | Mask::ManyTiles => TILE_SIDE,
-        }
+    /// The same with a maxval.
+    pub fn image(self, alloc: Global) -> Option<Image> {
+        let mask = self.grid(alloc)?;
+        Image::from_grid(alloc, &mask, 9).ok()
     }
 
     pub fn core(self, alloc: Global, conn: Conn) -> Option<Core> {
         let mask = self.grid(alloc)?;
-        Core::over(alloc, mask, conn, self.side(), 0).ok()
+        let side = match self {
+            Mask::Stripes => 48,
+            Mask::SmallTiles => 8,
+            _ => TILE_SIDE,
+        };
+        Core::over(alloc, mask, conn, side, 0).ok()
     }
 }
 
-fn row_of(alloc: Global, values: &[u16]) -> Option<Grid> {
-    let width = u32::try_from(values.len()).ok()?;
-    let mut row = Grid::new(alloc, width, 1, 0).ok()?;
-    for (cell, value) in row.cells_mut().iter_mut().zip(values) {
+fn row(alloc: Global) -> Option<Grid> {
+    let mut row = Grid::new(alloc, 5, 1, 0).ok()?;
+    for (cell, value) in row.cells_mut().iter_mut().zip(ROW) {
         *cell = *value;
     }
     Some(row)
@@ -96,7 +101,7 @@ pub enum Edit {
     Place(u128, u32, u16),
     /// A stroke of this tag and level: a disc of this centre and radius.
     Disc(u128, u32, (u16, u16), u32),
-    /// The stroke of tag 1 and level 9 on the pixels of value 4 in many tiles.
+    /// The stroke of tag 1 and level 9 on the pixels of value 4 in many tiles, and between them.
     Spread,
     /// The stroke of this tag is withdrawn.
     Withdraw(u128),
@@ -106,13 +111,16 @@ impl Edit {
     pub fn delta(self, alloc: Global) -> Option<Delta> {
         match self {
             Edit::Place(tag, level, x) => {
-                let runs = vec![in alloc; Run { y: 0, x0: x, x1: x }].ok()?;
+                let runs = vec![in alloc; run(0, x, x)].ok()?;
                 placed(alloc, tag, Stroke::new(level, runs).ok()?)
             }
             Edit::Disc(tag, level, (x, y), radius) => {
                 placed(alloc, tag, Stroke::disc(level, x, y, radius).ok()?)
             }
-            Edit::Spread => placed(alloc, 1, spread(alloc)?),
+            Edit::Spread => {
+                let runs = vec![in alloc; run(0, 0, 4095), run(64, 0, 0)].ok()?;
+                placed(alloc, 1, Stroke::new(9, runs).ok()?)
+            }
             Edit::Withdraw(tag) => State::withdrawn(alloc, Tag(tag)).ok(),
         }
     }
@@ -122,23 +130,8 @@ fn placed(alloc: Global, tag: u128, stroke: Stroke) -> Option<Delta> {
     State::placed(alloc, Tag(tag), stroke).ok()
 }
 
-fn spread(alloc: Global) -> Option<Stroke> {
-    let mut runs = Vec::new(alloc);
-    for tile in 0..65u16 {
-        let (x, y) = if tile < 64 { (tile * 64, 0) } else { (0, 64) };
-        runs.push(Run { y, x0: x, x1: x }).ok()?;
-    }
-    Stroke::new(9, runs).ok()
-}
-
-/// The join of these edits.
-pub fn joined(alloc: Global, edits: &[Edit]) -> Option<State> {
-    let mut state = State::empty(alloc).ok()?;
-    for edit in edits {
-        let delta = edit.delta(alloc)?;
-        state.merge(alloc, &delta).ok()?;
-    }
-    Some(state)
+fn run(y: u16, x0: u16, x1: u16) -> Run {
+    Run { y, x0, x1 }
 }
 
 /// What grows in the mask from the strokes, by the slow program.
@@ -156,21 +149,16 @@ pub fn is_grown(alloc: Global, core: &Core) -> bool {
     matches!(grown, Some(image) if image.cells() == core.image().cells())
 }
 
-/// Whether there is a core, and it settles on what grows from its strokes.
-pub fn settles(alloc: Global, core: &mut Option<Core>) -> bool {
-    match core {
-        Some(core) => core.settle(alloc).is_ok() && is_grown(alloc, core),
-        None => false,
-    }
-}
-
-/// Whether there is a core, and it settles on what grows from its strokes, which is this.
-pub fn settles_on(alloc: Global, core: &mut Option<Core>, image: &[u16]) -> bool {
-    let is_settled = settles(alloc, core);
-    match core {
-        Some(core) => is_settled & (core.image().cells() == image),
-        None => false,
-    }
+/// Whether there is a core, and it settles on what grows from its strokes, which is this image, if one is given.
+pub fn settles(alloc: Global, core: Option<Core>, image: Option<&[u16]>) -> bool {
+    let Some(mut core) = core else {
+        return false;
+    };
+    let is_grown = core.settle(alloc).is_ok() & is_grown(alloc, &core);
+    let cells = core.image().cells();
+    let is_image = cells == image.unwrap_or(cells);
+    drop(core);
+    is_grown & is_image
 }
 
 fn mixed(sum: u64, number: u64) -> u64 {

@@ -1,6 +1,6 @@
 //! Pools of hands, without a studio.
 
-use crate::outcome::{NO_MEMORY, Outcome, right_if, told};
+use crate::outcome::{NO_MEMORY, Outcome, OutcomeOf, right_if, told};
 use crate::pictures::{GROWN, Mask};
 use crate::playing::PATIENCE;
 use grid_core::{Conn, Grid, Pixel};
@@ -38,13 +38,23 @@ fn is_pushed(alloc: Global, owner: &mut Owner) -> bool {
     }
 }
 
-// Whether it is the report of that job, which was swept.
-fn is_done(report: &Option<Report>) -> bool {
-    matches!(report, Some(Report::Done(swept)) if swept.ticket() == TICKET && swept.pixels().cells() == GROWN)
+// Whether that job was swept. It says by false that there was no memory for it.
+fn is_swept(report: Option<Report>) -> OutcomeOf<bool> {
+    match report {
+        Some(Report::Done(swept)) => {
+            let is_it = (swept.ticket() == TICKET) & (swept.pixels().cells() == GROWN);
+            drop(swept);
+            right_if(is_it, "what was swept").and(Ok(true))
+        }
+        Some(Report::Failed(ticket)) => {
+            right_if(ticket == TICKET, "another job failed").and(Ok(false))
+        }
+        None => Err("no report"),
+    }
 }
 
 // Notes who passes with another job.
-#[derive(Drop)]
+#[derive(Default, Drop)]
 struct Watch {
     passed: AtomicU64,
     wrong: AtomicU64,
@@ -80,15 +90,15 @@ fn next_report(owner: &mut Owner) -> Option<Report> {
 // Whether the job comes back: where there was no memory to sweep it, it fails, and is pushed again.
 fn comes_back(alloc: Global, owner: &mut Owner) -> Outcome {
     right_if(is_pushed(alloc, owner), NO_MEMORY)?;
-    let mut report = next_report(owner);
-    if let Some(Report::Failed(ticket)) = report {
-        right_if(ticket == TICKET, "another job failed")?;
+    if !is_swept(next_report(owner))? {
         right_if(is_pushed(alloc, owner), "a job is refused again")?;
-        report = next_report(owner);
+        right_if(is_swept(next_report(owner))?, "a job fails again")?;
     }
-    right_if(is_done(&report), "what was swept")?;
-    let are_silent = owner.collect(0).is_none() & owner.collect(1).is_none();
-    right_if(are_silent & owner.collect(2).is_none(), "a report too many")
+    let mut are_silent = true;
+    for hand in 0..3 {
+        are_silent = owner.collect(hand).is_none() & are_silent;
+    }
+    right_if(are_silent, "a report too many")
 }
 
 // The same while the second of three hands runs in a thread of its own.
@@ -96,14 +106,9 @@ fn comes_from_thread<R: Threads + Wait + Sync>(
     rt: &R,
     alloc: Global,
     owner: &mut Owner,
-    hand: Hand,
+    mut hand: Hand,
 ) -> Outcome {
-    let mut hand = hand;
-    let watch = Watch {
-        passed: AtomicU64::new(0),
-        wrong: AtomicU64::new(0),
-    };
-    let done = AtomicBool::new(false);
+    let (watch, done) = (Watch::default(), AtomicBool::new(false));
     let (gate, flag) = (&watch, &done);
     let outcome = thread::scope(thread::scope_env(), rt, |scope| {
         let outcome = match scope.spawn(move || hand.run(rt, gate, flag)) {
@@ -122,18 +127,15 @@ fn a_pool_is_opened_and_a_job_comes_back_tried_again(rt: HostRuntime) -> Result<
         Ok(pool) => Some(pool),
         Err(_) => Pool::open(rt.alloc(), 3, 4).ok(),
     };
-    let Some(
-        Pool {
-            mut owner,
-            mut hands,
-        },
-    ) = opened
-    else {
+    let Some(mut pool) = opened else {
         return Err(Fail::new("a pool is refused again"));
     };
-    let _third = hands.pop();
-    told(match hands.pop() {
-        Some(hand) => comes_from_thread(&rt, rt.alloc(), &mut owner, hand),
+    let third = pool.hands.pop();
+    let outcome = match pool.hands.pop() {
+        Some(hand) => comes_from_thread(&rt, rt.alloc(), &mut pool.owner, hand),
         None => Err("no second hand"),
-    })
+    };
+    drop(third);
+    drop(pool);
+    told(outcome)
 }

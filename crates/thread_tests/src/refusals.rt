@@ -7,15 +7,14 @@ ghost use Rattle.studio.specs.Keeping.{books_of};
 ghost use Rattle.thread_tests.specs.Company.{IsCompany};
 
 use crate::boards::opened_board;
-use crate::outcome::{CHANGED, NO_MEMORY, Outcome, right_if, told};
+use crate::outcome::{CHANGED, NO_MEMORY, Outcome, OutcomeOf, right_if, told};
 use crate::pictures::{Edit, Mask, sum_of};
 use crate::playing::{hand_turn, submits, turn};
-use crate::scene::{Scene, ends_of, give_up, open, scene_of, shows};
-use core_dispatch::{CloseError, PenEnd, Refusal, Turned};
+use crate::scene::{Scene, give_up, leave, open, scene_of, shows};
+use core_dispatch::{CloseError, Refusal};
 use core_rules::CoreError;
 use grid_core::Conn;
 use live_board::{Board, KeeperSeat, Opened};
-use pgm_codec::Image;
 use std::alloc::Global;
 use std::sync::Wait;
 use std::test::Fail;
@@ -33,10 +32,13 @@ const THIRD: Edit = Edit::Place(3, 2, 127);
 
 const BACK: Edit = Edit::Withdraw(1);
 
+// What grows from the first two.
+const FOURS: &[u16] = &[4; 128];
+
 // ---- opening
 
 // A studio of one hand, at the second try where there is no memory at the first.
-fn opened<R: Wait>(rt: &R, alloc: Global) -> Result<Scene, &'static str>
+fn opened<R: Wait>(rt: &R, alloc: Global) -> OutcomeOf<Scene>
     ensures { IfOk result IsCompany }
 {
     let Some(core) = Mask::TwoTiles.core(alloc, Conn::Four) else {
@@ -50,12 +52,7 @@ fn opened<R: Wait>(rt: &R, alloc: Global) -> Result<Scene, &'static str>
 }
 
 // The same of the core that came back. Its sum was this.
-fn opened_again<R: Wait>(
-    rt: &R,
-    alloc: Global,
-    refused: NotOpened,
-    before: u64,
-) -> Result<Scene, &'static str>
+fn opened_again<R: Wait>(rt: &R, alloc: Global, refused: NotOpened, before: u64) -> OutcomeOf<Scene>
     ensures { IfOk result IsCompany }
 {
     let NotOpened { core, why } = refused;
@@ -79,11 +76,6 @@ fn has(state: &State, edit: Edit) -> bool {
 // Whether the edit of this number is listed last, for want of memory.
 fn is_listed(refusals: &[Refusal], number: u64) -> bool {
     matches!(refusals.last(), Some(last) if last.number == number && last.error == CoreError::Memory)
-}
-
-// Whether a turn told of no report, hint or job.
-fn is_still(turned: &Turned) -> bool {
-    (turned.results == 0) & (turned.hints == 0) & (turned.jobs == 0)
 }
 
 fn works(scene: &mut Scene) -> Outcome
@@ -110,7 +102,8 @@ fn takes(alloc: Global, scene: &mut Scene, edit: Edit, number: u64) -> Outcome
     let core = scene.keeper.core();
     let is_taken = (turned.edits == 1) & !is_listed;
     right_if(has(core.state(), edit) == is_taken, "what a turn tells")?;
-    let is_same = is_taken | !is_still(&turned) | (sum_of(core) == before);
+    let is_still = (turned.results == 0) & (turned.hints == 0) & (turned.jobs == 0);
+    let is_same = is_taken | !is_still | (sum_of(core) == before);
     right_if(is_same, CHANGED)?;
     if turned.memory {
         goes_on(alloc, scene, edit, is_listed)
@@ -119,25 +112,14 @@ fn takes(alloc: Global, scene: &mut Scene, edit: Edit, number: u64) -> Outcome
     }
 }
 
-// Submits an edit again, if it is listed, and says whether it is there.
-fn submits_again(alloc: Global, scene: &mut Scene, edit: Edit, is_listed: bool) -> bool
-    requires { IsCompany scene.old }
-    ensures { IsCompany scene.new }
-{
-    if is_listed {
-        submits(scene, edit.delta(alloc))
-    } else {
-        true
-    }
-}
-
 // Submits an edit again that is listed, and makes turns until it is taken and no work is left.
 fn goes_on(alloc: Global, scene: &mut Scene, edit: Edit, is_listed: bool) -> Outcome
     requires { IsCompany scene.old }
     ensures { IsCompany scene.new }
 {
-    let is_there = submits_again(alloc, scene, edit, is_listed);
-    right_if(is_there, "an edit is refused again")?;
+    let again = if is_listed { edit.delta(alloc) } else { None };
+    let is_there = submits(scene, again);
+    right_if(is_there | !is_listed, "an edit is refused again")?;
     works(scene)?;
     right_if(
         has(scene.keeper.core().state(), edit),
@@ -154,7 +136,7 @@ fn grows(alloc: Global, scene: &mut Scene) -> Outcome
     let _swept = hand_turn(scene, &Open);
     takes(alloc, scene, SECOND, 1)?;
     works(scene)?;
-    let is_grown = scene.keeper.core().image().cells() == [4; 128].as_slice();
+    let is_grown = scene.keeper.core().image().cells() == FOURS;
     right_if(is_grown, "what has grown")
 }
 
@@ -165,23 +147,18 @@ fn mirrors(alloc: Global, scene: &mut Scene) -> Outcome
     requires { IsCompany scene.old }
     ensures { IsCompany scene.new }
 {
-    let Some(opened) = board(alloc) else {
+    let Some(mut opened) = board(alloc) else {
         return Err(NO_MEMORY);
     };
-    let Opened {
-        board,
-        keeper: mut seat,
-        hands: _,
-        peeks: _,
-    } = opened;
-    follows(&mut scene.keeper, &board, &mut seat)
+    let outcome = follows(&mut scene.keeper, &opened.board, &mut opened.keeper);
+    drop(opened);
+    outcome
 }
 
 fn board(alloc: Global) -> Option<Opened>
     ensures { IfSome result (λ opened. IsKeeperOf opened.board opened.keeper) }
 {
-    let mask = Mask::TwoTiles.grid(alloc)?;
-    let mask = Image::from_grid(alloc, &mask, 9).ok()?;
+    let mask = Mask::TwoTiles.image(alloc)?;
     opened_board(alloc, &mask, 1)
 }
 
@@ -217,8 +194,14 @@ fn leaves_work(alloc: Global, scene: &mut Scene) -> Outcome
     right_if(submits(scene, THIRD.delta(alloc)), NO_MEMORY)
 }
 
-// Lets the core of a closed studio take what is listed for want of memory, and settle. Each of its pixels is this then.
-fn settles(alloc: Global, closed: &mut Closed, value: u16) -> Outcome {
+// Lets the core of a closed studio take what is listed for want of memory, and settle. Each of its pixels is 3 then.
+fn settles(alloc: Global, mut closed: Closed) -> Outcome {
+    let outcome = settles_on_threes(alloc, &mut closed);
+    drop(closed);
+    outcome
+}
+
+fn settles_on_threes(alloc: Global, closed: &mut Closed) -> Outcome {
     let Closed { core, refusals } = closed;
     for refusal in refusals {
         let is_merged = core.merge(alloc, &refusal.delta).is_ok();
@@ -228,7 +211,7 @@ fn settles(alloc: Global, closed: &mut Closed, value: u16) -> Outcome {
         )?;
     }
     let is_settled = core.settle(alloc).is_ok() || core.settle(alloc).is_ok();
-    let is_grown = core.image().cells() == [value; 128].as_slice();
+    let is_grown = core.image().cells() == [3; 128].as_slice();
     let has_third = core.state().has_stroke(Tag(3));
     right_if(
         is_settled & is_grown & has_third,
@@ -237,63 +220,33 @@ fn settles(alloc: Global, closed: &mut Closed, value: u16) -> Outcome {
 }
 
 // Closes a studio, at the second try where there is no memory at the first.
-fn closes<R: Wait>(rt: &R, alloc: Global, scene: Scene, value: u16) -> Outcome
+fn closes<R: Wait>(rt: &R, alloc: Global, scene: Scene) -> Outcome
     requires { IsCompany scene }
 {
-    let Scene {
-        keeper,
-        pen,
-        eye,
-        hands,
-    } = scene;
-    drop(eye);
-    drop(hands);
-    let ends = ends_of(alloc, pen);
-    if ends.is_empty() {
-        drop(ends);
-        drop(keeper.end(rt));
-        return Err(NO_MEMORY);
-    }
-    closes_with(rt, alloc, keeper, ends, value)
-}
-
-fn closes_with<R: Wait>(
-    rt: &R,
-    alloc: Global,
-    keeper: Keeper,
-    ends: Vec<PenEnd>,
-    value: u16,
-) -> Outcome
-    requires { AreEndsOf ends.items (books_of keeper) }
-{
+    let (keeper, ends) = leave(alloc, scene);
+    let has_begun = right_if(!ends.is_empty(), NO_MEMORY);
     let before = sum_of(keeper.core());
-    match keeper.close(rt, ends) {
-        Ok(mut closed) => settles(alloc, &mut closed, value),
-        Err(not_closed) => closes_again(rt, alloc, not_closed, before, value),
-    }
+    let outcome = match keeper.close(rt, ends) {
+        Ok(closed) => settles(alloc, closed),
+        Err(not_closed) => closes_again(rt, alloc, not_closed, before),
+    };
+    has_begun.and(outcome)
 }
 
 // The same of a studio that was not closed. The sum of its core was this.
-fn closes_again<R: Wait>(
-    rt: &R,
-    alloc: Global,
-    not_closed: NotClosed,
-    before: u64,
-    value: u16,
-) -> Outcome
+fn closes_again<R: Wait>(rt: &R, alloc: Global, not_closed: NotClosed, before: u64) -> Outcome
     requires { AreEndsOf not_closed.ends.items (books_of not_closed.keeper) }
 {
     let NotClosed { keeper, ends, why } = not_closed;
     let is_kept = why == CloseError::Memory && sum_of(keeper.core()) == before;
     let outcome = match keeper.close(rt, ends) {
-        Ok(mut closed) => settles(alloc, &mut closed, value),
+        Ok(closed) => settles(alloc, closed),
         Err(not_closed) => {
             give_up(rt, not_closed);
             Err("a studio is not closed again")
         }
     };
-    right_if(is_kept, CHANGED)?;
-    outcome
+    right_if(is_kept, CHANGED).and(outcome)
 }
 
 #[test]
@@ -303,10 +256,10 @@ fn a_studio_goes_its_way_tried_again(rt: HostRuntime) -> Result<(), Fail> {
         Err(why) => return Err(Fail::new(why)),
     };
     let has_grown = grows(rt.alloc(), &mut scene);
-    let (mut scene, is_shown) = shows(&rt, scene, &[4; 128]);
+    let is_shown = shows(&rt, &mut scene, FOURS);
     let has_followed = mirrors(rt.alloc(), &mut scene);
     let is_at_work = leaves_work(rt.alloc(), &mut scene);
-    let is_closed = closes(&rt, rt.alloc(), scene, 3);
+    let is_closed = closes(&rt, rt.alloc(), scene);
     told(
         has_grown
             .and(is_shown)

@@ -2,7 +2,7 @@
 
 use crate::frames::{BOTH, FIRST, OF_ANOTHER_IMAGE, SECOND};
 use crate::nodes::link_with;
-use crate::outcome::{CHANGED, NO_MEMORY, Outcome, right_if, told};
+use crate::outcome::{CHANGED, NO_MEMORY, Outcome, OutcomeOf, right_if, told};
 use byte_devices::{MemorySink, MemorySource};
 use grid_core::{Conn, Memory, TILE_SIDE};
 use link_nodes::{Link, MemoryLink, UdpLink};
@@ -18,8 +18,8 @@ use std::time::Clock;
 
 // A run on the row: what it shows; the state file before; the edits of the input, with #1 and #2 for the tags 1 and 2;
 // how many hands and ticks there are; the datagrams that wait at the link, and its call that fails, counted from 1; the
-// put that fails, counted from 1, or 0; whether the run fails, with the status of devices; how many datagrams are sent,
-// and how many bytes the last one has; what is written; and the new bytes of the state file, where there is no fault.
+// put that fails, counted from 1, or 0; how many datagrams are sent, and how many bytes the last one has; what is
+// written; and the new bytes of the state file, or none where the run fails, with the status of devices.
 #[derive(Clone, Copy)]
 struct Run {
     name: &'static str,
@@ -30,7 +30,6 @@ struct Run {
     fed: &'static [&'static [u8]],
     fails_at: Option<u64>,
     put: u64,
-    fails: bool,
     sent: usize,
     told: usize,
     written: &'static [u8],
@@ -55,7 +54,6 @@ const ALONE: Run = Run {
     fed: &[],
     fails_at: None,
     put: 0,
-    fails: false,
     sent: 3,
     told: 68,
     written: OUT_OF_SECOND,
@@ -93,8 +91,8 @@ const RUNS: &[Run] = &[
     Run {
         name: "a sink that fails at its second put",
         put: 2,
-        fails: true,
         written: b"P5\n",
+        new: b"",
         ..ALONE
     },
 ];
@@ -107,36 +105,14 @@ fn input(alloc: Global, edits: &str) -> Result<Vec<u8>, Memory> {
 
 // The devices of a run, which take and give a few bytes at a time, and its link.
 #[derive(Drop)]
-struct Ends {
+struct Ends<L> {
     source: MemorySource,
     sink: MemorySink,
-    link: MemoryLink,
-}
-
-// How many bytes the last datagram has that was sent, if there is one.
-fn last_length(link: &MemoryLink) -> usize {
-    match link.sent().last() {
-        Some(datagram) => datagram.bytes().len(),
-        None => 0,
-    }
-}
-
-// Runs a node on the row over this link.
-fn runs<R: Threads + Wait + Clock + Sync, L: Link>(
-    rt: &R,
-    alloc: Global,
-    source: &mut MemorySource,
-    run: &Run,
-    link: &mut L,
-    sink: &mut MemorySink,
-) -> Result<Vec<u8>, RunError> {
-    let (old, hands, ticks) = (run.old, run.hands, run.ticks);
-    let (conn, side) = (Conn::Four, TILE_SIDE);
-    node_run(rt, alloc, source, old, conn, side, hands, ticks, link, sink)
+    link: L,
 }
 
 impl Run {
-    fn ends(&self, alloc: Global) -> Option<Ends> {
+    fn ends(&self, alloc: Global) -> Option<Ends<MemoryLink>> {
         let input = input(alloc, self.edits).ok()?;
         let link = link_with(alloc, self.fed, self.fails_at)?;
         Some(Ends {
@@ -146,20 +122,23 @@ impl Run {
         })
     }
 
-    fn answer<R: Threads + Wait + Clock + Sync>(
+    // Runs a node on the row.
+    fn answer<R: Threads + Wait + Clock + Sync, L: Link>(
         &self,
         rt: &R,
         alloc: Global,
-        ends: &mut Ends,
+        ends: &mut Ends<L>,
     ) -> Result<Vec<u8>, RunError> {
+        let (old, hands, ticks) = (self.old, self.hands, self.ticks);
+        let (conn, side) = (Conn::Four, TILE_SIDE);
         let Ends { source, sink, link } = ends;
-        runs(rt, alloc, source, self, link, sink)
+        node_run(rt, alloc, source, old, conn, side, hands, ticks, link, sink)
     }
 
     fn is_answer(&self, answer: Result<Vec<u8>, RunError>) -> bool {
         match answer {
-            Ok(new) => !self.fails && new.as_slice() == self.new,
-            Err(error) => self.fails && status(&error) == 3,
+            Ok(new) => !new.is_empty() & (new.as_slice() == self.new),
+            Err(error) => self.new.is_empty() & (status(&error) == 3),
         }
     }
 
@@ -168,7 +147,9 @@ impl Run {
             return false;
         };
         let answer = self.answer(rt, alloc, &mut ends);
-        let is_sent = ends.link.sent().len() == self.sent && last_length(&ends.link) == self.told;
+        let sent = ends.link.sent();
+        let told = sent.last().map_or(0, |datagram| datagram.bytes().len());
+        let is_sent = (sent.len() == self.sent) & (told == self.told);
         let is_written = ends.sink.written() == self.written;
         drop(ends);
         self.is_answer(answer) & is_sent & is_written
@@ -206,26 +187,20 @@ fn has_only_front(sink: &MemorySink, fault: RunError) -> bool {
     (has_failed == (sink.refused() > 0)) & is_front & (has_failed | sink.written().is_empty())
 }
 
-// Plays the run once. Where memory was wanting, as at a stroke that is then not heard, it says so by false.
-fn is_played<R: Threads + Wait + Clock + Sync>(
-    rt: &R,
-    alloc: Global,
-    ends: &mut Ends,
-) -> Result<bool, &'static str> {
-    match HEARING.answer(rt, alloc, ends) {
+// Whether a run was answered with both strokes. Where memory was wanting, as at a stroke that is then not heard, it
+// says so by false.
+fn is_played(answer: Result<Vec<u8>, RunError>, sink: &MemorySink) -> OutcomeOf<bool> {
+    match answer {
         Ok(new) if new.as_slice() == BOTH => {
-            right_if(ends.sink.written() == OUT_OF_BOTH, "what a run wrote")?;
-            Ok(true)
+            right_if(sink.written() == OUT_OF_BOTH, "what a run wrote").and(Ok(true))
         }
         Ok(new) => {
-            let is_unheard = new.as_slice() == SECOND && ends.sink.written() == OUT_OF_SECOND;
-            right_if(is_unheard, "what a run kept")?;
-            Ok(false)
+            let is_unheard = (new.as_slice() == SECOND) & (sink.written() == OUT_OF_SECOND);
+            right_if(is_unheard, "what a run kept").and(Ok(false))
         }
         Err(error) => {
             right_if(status(&error) == 3, "why a run was refused")?;
-            right_if(has_only_front(&ends.sink, error), CHANGED)?;
-            Ok(false)
+            right_if(has_only_front(sink, error), CHANGED).and(Ok(false))
         }
     }
 }
@@ -234,23 +209,26 @@ fn is_played<R: Threads + Wait + Clock + Sync>(
 fn plays_again<R: Threads + Wait + Clock + Sync>(
     rt: &R,
     alloc: Global,
-    ends: &mut Ends,
-    next: &mut Ends,
+    ends: &mut Ends<MemoryLink>,
+    next: &mut Ends<MemoryLink>,
 ) -> Outcome {
-    if is_played(rt, alloc, ends)? {
+    let answer = HEARING.answer(rt, alloc, ends);
+    if is_played(answer, &ends.sink)? {
         return Ok(());
     }
-    right_if(is_played(rt, alloc, next)?, "a run is refused again")
+    let answer = HEARING.answer(rt, alloc, next);
+    right_if(is_played(answer, &next.sink)?, "a run is refused again")
 }
 
 #[test]
 fn a_node_runs_tried_again(rt: HostRuntime) -> Result<(), Fail> {
-    match (HEARING.ends(rt.alloc()), HEARING.ends(rt.alloc())) {
-        (Some(mut ends), Some(mut next)) => {
-            told(plays_again(&rt, rt.alloc(), &mut ends, &mut next))
-        }
-        _ => Err(Fail::new(NO_MEMORY)),
-    }
+    let Some((mut ends, mut next)) = HEARING.ends(rt.alloc()).zip(HEARING.ends(rt.alloc())) else {
+        return Err(Fail::new(NO_MEMORY));
+    };
+    let outcome = plays_again(&rt, rt.alloc(), &mut ends, &mut next);
+    drop(ends);
+    drop(next);
+    told(outcome)
 }
 
 // ---- over sockets
@@ -264,25 +242,24 @@ fn bind<R: Net>(rt: &R, alloc: Global) -> Option<UdpLink> {
     UdpLink::bind(rt, 40_001, peers).ok()
 }
 
-// Whether a node with two hands, of three ticks, writes the image of this input.
-fn writes<R: Threads + Wait + Clock + Sync>(
-    rt: &R,
-    alloc: Global,
-    input: Vec<u8>,
-    link: &mut UdpLink,
-) -> bool {
-    let mut source = MemorySource::new(input);
-    let mut sink = MemorySink::new(alloc);
-    let answer = runs(rt, alloc, &mut source, &ALONE, link, &mut sink);
-    answer.is_ok() && sink.written() == b"P5\n5 1\n255\nCEBBB".as_slice()
+// Whether a node with two hands, of three ticks, writes the image of the input.
+fn writes<R: Threads + Wait + Clock + Sync>(rt: &R, alloc: Global, link: UdpLink) -> bool {
+    let Ok(input) = Vec::from_slice(alloc, INPUT) else {
+        return false;
+    };
+    let (source, sink) = (MemorySource::new(input), MemorySink::new(alloc));
+    let mut ends = Ends { source, sink, link };
+    let answer = ALONE.answer(rt, alloc, &mut ends);
+    let is_written = ends.sink.written() == b"P5\n5 1\n255\nCEBBB".as_slice();
+    drop(ends);
+    answer.is_ok() & is_written
 }
 
 #[test]
 fn a_node_over_sockets_writes_its_image(rt: HostRuntime) -> Result<(), Fail> {
-    let (Ok(input), Some(mut link)) = (Vec::from_slice(rt.alloc(), INPUT), bind(&rt, rt.alloc()))
-    else {
+    let Some(link) = bind(&rt, rt.alloc()) else {
         return Err(Fail::new("no link"));
     };
-    assert!(rt; writes(&rt, rt.alloc(), input, &mut link));
+    assert!(rt; writes(&rt, rt.alloc(), link));
     Ok(())
 }

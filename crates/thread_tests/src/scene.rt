@@ -11,6 +11,7 @@ ghost use Rattle.thread_tests.specs.Company.{IsCompany};
 pub use crate::company::Scene;
 use crate::outcome::{CHANGED, Outcome, right_if};
 use crate::pictures::Mask;
+use core::mem::replace_with;
 use core_dispatch::{Pen, PenEnd};
 use grid_core::Conn;
 use reset_core::Core;
@@ -20,10 +21,10 @@ use stroke_core::Tag;
 use studio::{Closed, Eye, Keeper, NotClosed, Studio, Told};
 
 /// A studio on this mask with so many hands, where there is memory.
-pub fn open_on<R: Wait>(rt: &R, alloc: Global, mask: Mask, hands: usize) -> Option<Scene>
+pub fn open_on<R: Wait>(rt: &R, alloc: Global, on: Mask, conn: Conn, hands: usize) -> Option<Scene>
     ensures { IfSome result IsCompany }
 {
-    open(rt, alloc, mask.core(alloc, Conn::Four)?, hands)
+    open(rt, alloc, on.core(alloc, conn)?, hands)
 }
 
 /// A studio of this core with so many hands, where there is memory.
@@ -52,13 +53,18 @@ pub fn scene_of<R: Wait>(rt: &R, studio: Studio) -> Option<Scene>
         mut eyes,
     } = studio;
     match (pens.pop(), eyes.pop()) {
-        (Some(pen), Some(eye)) => Some(Scene {
-            keeper,
-            pen,
-            eye,
-            hands,
-        }),
-        _ => {
+        (Some(pen), Some(eye)) => {
+            drop(pens);
+            drop(eyes);
+            Some(Scene {
+                keeper,
+                pen,
+                eye,
+                hands,
+            })
+        }
+        (pen, eye) => {
+            drop((pens, eyes, pen, eye, hands));
             drop(keeper.end(rt));
             None
         }
@@ -73,15 +79,14 @@ pub fn stop<R: Wait>(rt: &R, scene: Scene) {
         eye,
         hands,
     } = scene;
-    drop(pen);
-    drop(eye);
-    drop(hands);
+    drop((pen, eye, hands));
     drop(keeper.end(rt));
 }
 
-/// Closes a studio, and gives its core, where no edit was refused.
-pub fn close<R: Wait>(rt: &R, alloc: Global, scene: Scene) -> Option<Core>
+/// The keeper, and what is left of the pen. The eye and the hands are let go.
+pub fn leave(alloc: Global, scene: Scene) -> (Keeper, Vec<PenEnd>)
     requires { IsCompany scene }
+    ensures { AreEndsOf result.1.items (books_of result.0) }
 {
     let Scene {
         keeper,
@@ -91,7 +96,15 @@ pub fn close<R: Wait>(rt: &R, alloc: Global, scene: Scene) -> Option<Core>
     } = scene;
     drop(eye);
     drop(hands);
-    close_keeper(rt, keeper, ends_of(alloc, pen))
+    (keeper, ends_of(alloc, pen))
+}
+
+/// Closes a studio, and gives its core, where no edit was refused.
+pub fn close<R: Wait>(rt: &R, alloc: Global, scene: Scene) -> Option<Core>
+    requires { IsCompany scene }
+{
+    let (keeper, ends) = leave(alloc, scene);
+    close_keeper(rt, keeper, ends)
 }
 
 /// Closes a studio, and gives its core, where no edit was refused. Else the studio is ended.
@@ -129,10 +142,14 @@ pub fn ends_of(alloc: Global, pen: Pen) -> Vec<PenEnd>
     ends
 }
 
+// The image of a row of two tiles without strokes.
+const NOTHING: &[u16] = &[0; 128];
+
 // The eye, and whether it sees a quiet shot of this image, with the stroke of tag 1 live in it or not.
-fn sees(eye: Eye, image: &[u16], is_live: bool) -> (Eye, bool)
+fn look(eye: Eye, shot: (&'static [u16], bool)) -> (Eye, bool)
     ensures { eye_studio result.0 ≡ eye_studio eye }
 {
+    let (image, is_live) = shot;
     match eye.look() {
         Ok(glimpse) => {
             let is_image = glimpse.shot().image().cells() == image;
@@ -144,66 +161,49 @@ fn sees(eye: Eye, image: &[u16], is_live: bool) -> (Eye, bool)
     }
 }
 
-// The eye, which learns of a show, and whether it sees that.
-fn sees_shown(eye: Eye, told: Told, image: &[u16]) -> (Eye, Outcome)
-    requires { told_studio told ≡ eye_studio eye }
-    ensures { eye_studio result.0 ≡ eye_studio eye }
+// Whether the eye, which learns of a show, sees that.
+fn sees_shown(eye: &mut Eye, told: Told, image: &'static [u16]) -> Outcome
+    requires { told_studio told ≡ eye_studio eye.old }
+    ensures { eye_studio eye.new ≡ eye_studio eye.old }
 {
-    let mut eye = eye;
     eye.learn(told);
-    let (eye, is_seen) = sees(eye, image, true);
-    (eye, right_if(is_seen, "what is seen of a show"))
+    let is_seen = replace_with(eye, (image, true), look);
+    right_if(is_seen, "what is seen of a show")
 }
 
-// The eye, and whether it sees the image without strokes that it saw before a show that found no memory, and then the
-// core, which is shown again.
-fn shows_again<R: Wait>(rt: &R, keeper: &mut Keeper, eye: Eye, image: &[u16]) -> (Eye, Outcome)
-    requires { eye_studio eye ≡ studio_of keeper.old }
-    ensures eye { eye_studio result.0 ≡ eye_studio eye }
+// Whether the eye sees the image without strokes that it saw before a show that found no memory, and then the core,
+// which is shown again.
+fn shows_anew<R: Wait>(rt: &R, keeper: &mut Keeper, eye: &mut Eye, image: &'static [u16]) -> Outcome
+    requires { eye_studio eye.old ≡ studio_of keeper.old }
+    ensures eye { eye_studio eye.new ≡ eye_studio eye.old }
     ensures studio { studio_of keeper.new ≡ studio_of keeper.old }
     ensures books { books_of keeper.new ≡ books_of keeper.old }
 {
-    let (eye, is_kept) = sees(eye, &[0; 128], false);
+    let is_kept = replace_with(eye, (NOTHING, false), look);
     match keeper.show(rt) {
-        Ok(told) => {
-            let (eye, seen) = sees_shown(eye, told, image);
-            (eye, right_if(is_kept, CHANGED).and(seen))
-        }
-        Err(_) => (eye, Err("a show is refused again")),
+        Ok(told) => right_if(is_kept, CHANGED).and(sees_shown(eye, told, image)),
+        Err(_) => Err("a show is refused again"),
     }
 }
 
-// Shows the core, and gives the eye, and whether it sees that.
-fn shows_to<R: Wait>(rt: &R, keeper: &mut Keeper, eye: Eye, image: &[u16]) -> (Eye, Outcome)
-    requires { eye_studio eye ≡ studio_of keeper.old }
-    ensures eye { eye_studio result.0 ≡ eye_studio eye }
+// Shows the core, and says whether the eye sees that.
+fn shows_to<R: Wait>(rt: &R, keeper: &mut Keeper, eye: &mut Eye, image: &'static [u16]) -> Outcome
+    requires { eye_studio eye.old ≡ studio_of keeper.old }
+    ensures eye { eye_studio eye.new ≡ eye_studio eye.old }
     ensures studio { studio_of keeper.new ≡ studio_of keeper.old }
     ensures books { books_of keeper.new ≡ books_of keeper.old }
 {
     match keeper.show(rt) {
         Ok(told) => sees_shown(eye, told, image),
-        Err(_) => shows_again(rt, keeper, eye, image),
+        Err(_) => shows_anew(rt, keeper, eye, image),
     }
 }
 
 /// Shows the core, whose image is this, and says whether the eye sees that once it learns of it. Where there is no
 /// memory for it, the eye sees the image without strokes that it saw before, and the core is shown again.
-pub fn shows<R: Wait>(rt: &R, scene: Scene, image: &[u16]) -> (Scene, Outcome)
-    requires { IsCompany scene }
-    ensures { IsCompany result.0 }
+pub fn shows<R: Wait>(rt: &R, scene: &mut Scene, image: &'static [u16]) -> Outcome
+    requires { IsCompany scene.old }
+    ensures { IsCompany scene.new }
 {
-    let Scene {
-        mut keeper,
-        pen,
-        eye,
-        hands,
-    } = scene;
-    let (eye, outcome) = shows_to(rt, &mut keeper, eye, image);
-    let scene = Scene {
-        keeper,
-        pen,
-        eye,
-        hands,
-    };
-    (scene, outcome)
+    shows_to(rt, &mut scene.keeper, &mut scene.eye, image)
 }

@@ -1,13 +1,14 @@
 //! Turns in one thread.
 
 use crate::outcome::{Outcome, right_if, told};
-use crate::pictures::{Edit, GROWN, Mask, settles, settles_on};
-use crate::playing::{Line, plays};
+use crate::pictures::{Edit, GROWN, Mask, settles};
+use crate::playing::{Barrier, Line, plays};
 use crate::scene::{close, open_on, shows};
+use grid_core::Conn;
 use std::alloc::Global;
 use std::sync::Wait;
 use std::test::Fail;
-use steal_pool::{Open, Turn};
+use steal_pool::Turn;
 
 // What is played in a studio with one hand, from its opening to its end.
 struct Play {
@@ -17,13 +18,11 @@ struct Play {
     lines: &'static [Line],
 }
 
-const FIRST: Edit = Edit::Place(1, 9, 1);
-
 const PLAYS: &[Play] = &[
     Play {
         name: "a full ring takes an edit after a turn",
         mask: Mask::Row,
-        lines: &[Line::Fill(64), Line::Full(64)],
+        lines: &[Line::Fill(64)],
     },
     Play {
         name: "a hand holds a report while its ring is full",
@@ -55,13 +54,11 @@ const PLAYS: &[Play] = &[
 
 impl Play {
     fn is_so<R: Wait>(&self, rt: &R, alloc: Global) -> Outcome {
-        let Some(mut scene) = open_on(rt, alloc, self.mask, 1) else {
+        let Some(mut scene) = open_on(rt, alloc, self.mask, Conn::Four, 1) else {
             return Err("no studio");
         };
-        let is_played = plays(&mut scene, alloc, &Open, self.lines);
-        let mut core = close(rt, alloc, scene);
-        let is_settled = settles(alloc, &mut core);
-        drop(core);
+        let is_played = plays(&mut scene, alloc, &Barrier::new(0), self.lines);
+        let is_settled = settles(alloc, close(rt, alloc, scene), None);
         right_if(is_played & is_settled, self.name)
     }
 }
@@ -76,7 +73,7 @@ fn studios_go_as_they_are_played(rt: HostRuntime) -> Result<(), Fail> {
 
 // One edit, from its pen to the core.
 const ONE_EDIT: &[Line] = &[
-    Line::Submit(FIRST),
+    Line::Submit(Edit::Place(1, 9, 1)),
     Line::Turn(1, 0, 0, 1),
     Line::Work(0, 0),
     Line::Turn(0, 1, 0, 0),
@@ -86,14 +83,11 @@ const ONE_EDIT: &[Line] = &[
 
 #[test]
 fn an_edit_is_swept_and_shown(rt: HostRuntime) -> Result<(), Fail> {
-    let Some(mut scene) = open_on(&rt, rt.alloc(), Mask::Row, 1) else {
+    let Some(mut scene) = open_on(&rt, rt.alloc(), Mask::Row, Conn::Four, 1) else {
         return Err(Fail::new("no studio"));
     };
-    let is_swept = plays(&mut scene, rt.alloc(), &Open, ONE_EDIT);
-    let (scene, shown) = shows(&rt, scene, GROWN);
-    let mut core = close(&rt, rt.alloc(), scene);
-    let is_settled = settles_on(rt.alloc(), &mut core, GROWN);
-    drop(core);
-    assert!(rt; is_swept & is_settled);
-    told(shown)
+    let is_swept = plays(&mut scene, rt.alloc(), &Barrier::new(0), ONE_EDIT);
+    let shown = shows(&rt, &mut scene, GROWN);
+    let is_settled = settles(rt.alloc(), close(&rt, rt.alloc(), scene), Some(GROWN));
+    told(right_if(is_swept & is_settled, "an edit on its way").and(shown))
 }

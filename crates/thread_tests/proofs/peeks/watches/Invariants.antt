@@ -2,4 +2,4 @@ use Rattle.live_board.specs.Seats.{IsPeekOf}
 use Rattle.thread_tests.proofs.peeks.watches.Given as goal
 
 abbrev pub invariant-loop : goal.invariant-loop
-invariant-loop l = IsPeekOf l.board l.peek
+invariant-loop l = IsPeekOf l.board l.seat

@@ -1,5 +1,4 @@
-use Rattle.studio.specs.Keeping.{books_of}
 use Rattle.thread_tests.proofs.refusals.closes.Goals as goal
 
-pub closes_with-requires : goal.closes_with-requires
-closes_with-requires g c = c.ends_of-ends.ensures (books_of c.args.scene.keeper) c.requires.pen
+pub closes_again-outcome-requires : goal.closes_again-outcome-requires
+closes_again-outcome-requires g c = c.in-Err.ensures.not_closed.kept.1
