@@ -101,7 +101,7 @@ pub enum Edit {
     Place(u128, u32, u16),
     /// A stroke of this tag and level: a disc of this centre and radius.
     Disc(u128, u32, (u16, u16), u32),
-    /// The stroke of tag 1 and level 9 on the pixels of value 4 in many tiles, and between them.
+    /// The stroke of tag 1 and level 9 on the pixels of value 4 in many tiles.
     Spread,
     /// The stroke of this tag is withdrawn.
     Withdraw(u128),
@@ -111,16 +111,13 @@ impl Edit {
     pub fn delta(self, alloc: Global) -> Option<Delta> {
         match self {
             Edit::Place(tag, level, x) => {
-                let runs = vec![in alloc; run(0, x, x)].ok()?;
+                let runs = vec![in alloc; Run { y: 0, x0: x, x1: x }].ok()?;
                 placed(alloc, tag, Stroke::new(level, runs).ok()?)
             }
             Edit::Disc(tag, level, (x, y), radius) => {
                 placed(alloc, tag, Stroke::disc(level, x, y, radius).ok()?)
             }
-            Edit::Spread => {
-                let runs = vec![in alloc; run(0, 0, 4095), run(64, 0, 0)].ok()?;
-                placed(alloc, 1, Stroke::new(9, runs).ok()?)
-            }
+            Edit::Spread => placed(alloc, 1, spread(alloc)?),
             Edit::Withdraw(tag) => State::withdrawn(alloc, Tag(tag)).ok(),
         }
     }
@@ -130,8 +127,13 @@ fn placed(alloc: Global, tag: u128, stroke: Stroke) -> Option<Delta> {
     State::placed(alloc, Tag(tag), stroke).ok()
 }
 
-fn run(y: u16, x0: u16, x1: u16) -> Run {
-    Run { y, x0, x1 }
+fn spread(alloc: Global) -> Option<Stroke> {
+    let mut runs = Vec::new(alloc);
+    for tile in 0..65u16 {
+        let (x, y) = if tile < 64 { (tile * 64, 0) } else { (0, 64) };
+        runs.push(Run { y, x0: x, x1: x }).ok()?;
+    }
+    Stroke::new(9, runs).ok()
 }
 
 /// What grows in the mask from the strokes, by the slow program.
