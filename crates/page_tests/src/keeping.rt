@@ -6,8 +6,6 @@ use crate::spelling::begins;
 use crate::steps::{STEPS, Step};
 use pgm_codec::PgmError;
 use run_faults::{RunError, status};
-use std::alloc::Global;
-use std::random::RandomSource;
 use std::test::Fail;
 
 // What the requests begin with: the file has a stroke on the fourth pixel.
@@ -27,24 +25,8 @@ const CUT: Scene = Scene {
     ..BLANK
 };
 
-// Why the requests are not all answered rightly.
-#[derive(Clone, Copy, Debug, PartialEq, Eq)]
-enum Fault {
-    // No board was opened.
-    Unopened(RunError),
-    // This one is answered wrongly, also when it is made again, or the file is another one than it may be.
-    At(&'static str),
-}
-
-// How often somebody asked until all were answered, and how often one that looked on was not told the mask meanwhile.
-#[derive(Clone, Copy, Debug, PartialEq, Eq)]
-struct Asked {
-    asked: u32,
-    unseen: u32,
-}
-
 // How a request was answered.
-#[derive(Clone, Copy, Debug, PartialEq, Eq)]
+#[derive(Clone, Copy)]
 enum Reply {
     // With 200 and the end that it has to have, and the file is the one of the step.
     Right,
@@ -54,7 +36,7 @@ enum Reply {
 }
 
 // Asks for a step. Its answer has to end so.
-fn reply_to<R: RandomSource>(rt: &R, session: &mut Session, step: &Step, end: &[u8]) -> Reply {
+fn reply_to(rt: &HostRuntime, session: &mut Session, step: &Step, end: &[u8]) -> Reply {
     let &(line, body, _, _, file) = step;
     session.ask_ours(rt, line, body);
     let told = session.told();
@@ -72,7 +54,7 @@ fn reply_to<R: RandomSource>(rt: &R, session: &mut Session, step: &Step, end: &[
 // Asks for a step until it is answered rightly; before it the file was this. How often that takes, if it comes to that:
 // once, where nothing failed; twice, where memory was wanting; three times, where what was taken could not be kept, so
 // that the second one is held off while it is.
-fn asks<R: RandomSource>(rt: &R, session: &mut Session, step: &Step, old: &[u8]) -> Option<u32> {
+fn asks(rt: &HostRuntime, session: &mut Session, step: &Step, old: &[u8]) -> Option<u32> {
     let &(_, _, end, again, file) = step;
     let version = session.version();
     match reply_to(rt, session, step, end) {
@@ -83,39 +65,40 @@ fn asks<R: RandomSource>(rt: &R, session: &mut Session, step: &Step, old: &[u8])
     let is_taken = session.version() != version;
     let end = if is_taken { again } else { end };
     match reply_to(rt, session, step, end) {
-        Reply::Right => Some(2),
-        Reply::Unkept if is_taken && session.has_file(file) => {
-            match reply_to(rt, session, step, end) {
-                Reply::Right => Some(3),
-                _ => None,
-            }
-        }
+        Reply::Right => return Some(2),
+        Reply::Unkept if is_taken && session.has_file(file) => {}
+        _ => return None,
+    }
+    match reply_to(rt, session, step, end) {
+        Reply::Right => Some(3),
         _ => None,
     }
 }
 
-fn asks_all<R: RandomSource>(rt: &R, session: &mut Session) -> Result<Asked, Fault> {
+// How often somebody asked until all requests were answered rightly, and how often one that looked on was not told the
+// mask meanwhile. It fails at the first that is answered wrongly, also when it is made again, or leaves another file.
+fn asks_all(rt: &HostRuntime, session: &mut Session) -> Result<(u32, u32), Fail> {
     let mut asked = 0u32;
     let mut file = OLD;
     for step in STEPS {
         match asks(rt, session, step, file) {
             Some(count) => asked = asked.saturating_add(count),
-            None => return Err(Fault::At(step.0)),
+            None => return Err(Fail::new(step.0)),
         }
         file = step.4;
     }
-    let unseen = session.unseen();
-    Ok(Asked { asked, unseen })
+    Ok((asked, session.unseen()))
 }
 
-fn play<R: RandomSource>(rt: &R, alloc: Global, scene: &Scene) -> Result<Asked, Fault> {
-    match Session::open(alloc, scene) {
+fn play(rt: &HostRuntime, scene: &Scene) -> Result<(u32, u32), Fail> {
+    match Session::open(rt.alloc(), scene) {
         Ok(mut session) => {
             let asked = asks_all(rt, &mut session);
             drop(session);
             asked
         }
-        Err(why) => Err(Fault::Unopened(why)),
+        Err(why) if status(&why) == 3 => Err(Fail::new("no memory to begin with")),
+        Err(_) => Err(Fail::new("no board")),
     }
 }
 
@@ -123,31 +106,28 @@ fn play<R: RandomSource>(rt: &R, alloc: Global, scene: &Scene) -> Result<Asked, 
 fn boards_are_refused(rt: HostRuntime) {
     let cut = RunError::Pgm(PgmError::Device);
     for (scene, why) in [(&LOST, RunError::StateFile), (&CUT, cut)] {
-        assert_eq!(rt; play(&rt, rt.alloc(), scene), Err(Fault::Unopened(why)));
+        assert!(rt;
+            Session::open(rt.alloc(), scene).err() == Some(why),
+            "{why:?}"
+        );
     }
 }
 
 #[test]
-fn each_save_fails_in_turn(rt: HostRuntime) {
+fn each_save_fails_in_turn(rt: HostRuntime) -> Result<(), Fail> {
     // The first call of the store is a load, and then there is a save of each of three posts.
     for (failing_call, asked) in [(2, 12), (3, 12), (4, 12), (5, 10)] {
         let scene = Scene {
             failing_call,
             ..SCENE
         };
-        let all = Ok(Asked { asked, unseen: 0 });
-        assert_eq!(rt; play(&rt, rt.alloc(), &scene), all, "call {failing_call}");
+        assert!(rt; play(&rt, &scene)? == (asked, 0), "call {failing_call}");
     }
+    Ok(())
 }
 
 #[test]
 fn ten_requests_tried_again(rt: HostRuntime) -> Result<(), Fail> {
-    match play(&rt, rt.alloc(), &SCENE) {
-        Ok(_) => Ok(()),
-        Err(Fault::Unopened(why)) if status(&why) == 3 => {
-            Err(Fail::new("no memory to begin with"))
-        }
-        Err(Fault::Unopened(_)) => Err(Fail::new("no board")),
-        Err(Fault::At(line)) => Err(Fail::new(line)),
-    }
+    play(&rt, &SCENE)?;
+    Ok(())
 }

@@ -2,10 +2,9 @@
 
 use crate::client::Client;
 use crate::session::{BLANK, Session, admit};
+use grid_core::Memory;
 use page_server::PeerList;
-use std::alloc::Global;
 use std::cell::RefCell;
-use std::random::RandomSource;
 use std::test::Fail;
 
 /// One who ends the connection, and what still comes behind that.
@@ -28,38 +27,47 @@ const MOMENTS: &[(u64, usize)] = &[
 ];
 
 // Takes the three in. Whether there is memory for them.
-fn seat<'a, R: RandomSource>(
-    rt: &R,
-    alloc: Global,
+fn seat<'a>(
+    rt: &HostRuntime,
     peers: &mut PeerList<Client<'a>>,
     told: &'a RefCell<Vec<u8>>,
 ) -> bool {
-    admit(rt, alloc, peers, Client::new(b"", 1, told))
-        && admit(rt, alloc, peers, Client::new(LAST, usize::MAX, told))
-        && admit(rt, alloc, peers, Client::new(LAST, 1, told))
+    admit(rt, peers, Client::new(b"", 1, told))
+        && admit(rt, peers, Client::new(LAST, usize::MAX, told))
+        && admit(rt, peers, Client::new(LAST, 1, told))
 }
 
-// The first moment behind which another number is there, if there is one.
-fn first_wrong(session: &mut Session, peers: &mut PeerList<Client<'_>>) -> Option<u64> {
+// Whether as many are there behind each moment as it says.
+fn go_in_turn(session: &mut Session, peers: &mut PeerList<Client<'_>>) -> bool {
     for (now, count) in MOMENTS {
         session.turn_at(peers, *now);
         if peers.len() != *count {
-            return Some(*now);
+            return false;
         }
     }
-    None
+    true
+}
+
+// Whether the three go so.
+fn three_go(
+    rt: &HostRuntime,
+    session: &mut Session,
+    told: &RefCell<Vec<u8>>,
+) -> Result<bool, Memory> {
+    let mut peers = PeerList::new(rt.alloc(), 3)?;
+    let is_so = seat(rt, &mut peers, told) && go_in_turn(session, &mut peers);
+    drop(peers);
+    Ok(is_so)
 }
 
 #[test]
 fn who_is_still_or_slow_goes(rt: HostRuntime) -> Result<(), Fail> {
-    let told = RefCell::new(Vec::new(rt.alloc()));
-    let mut peers = PeerList::new(rt.alloc(), 3)?;
-    assert!(rt; seat(&rt, rt.alloc(), &mut peers, &told));
     let mut session = Session::open(rt.alloc(), &BLANK)?;
-    assert_eq!(rt; first_wrong(&mut session, &mut peers), None);
-    assert_eq!(rt; session.version(), 1);
-    drop(peers);
+    let told = RefCell::new(Vec::new(rt.alloc()));
+    let is_so = three_go(&rt, &mut session, &told);
+    let version = session.version();
     drop(session);
+    assert!(rt; is_so? && version == 1);
     assert!(rt; told.into_inner().ends_with(b"\r\n\r\npage"));
     Ok(())
 }

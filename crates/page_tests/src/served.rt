@@ -16,8 +16,8 @@ use std::marker::Model;
 /// A painting whose board is kept. It is seen as that board.
 #[derive(Drop)]
 pub struct Served {
-    alloc: Global,
-    painting: Painting,
+    pub alloc: Global,
+    pub painting: Painting,
 }
 
 impl Model for Served {
@@ -29,13 +29,6 @@ impl Model for Served {
     ghost coded = { board_code stroke.the_row.coded };
 
     ghost view = { λ s. s.painting.board };
-}
-
-impl Served {
-    /// This painting.
-    pub fn new(alloc: Global, painting: Painting) -> Served {
-        Served { alloc, painting }
-    }
 }
 
 impl Service for Served {

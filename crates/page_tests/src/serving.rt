@@ -1,10 +1,40 @@
 //! What a server answers in its first turns, and what a start draws by chance.
 
 mod caller;
-mod playing;
 mod world;
 
-use playing::{Play, is_played};
+use crate::spelling::{begins, body_of};
+use byte_devices::StdSink;
+use caller::Caller;
+use grid_core::Conn;
+use page_server::{FileName, PaintCall, paint};
+use raster_sweeps::OneThread;
+use run_faults::RunError;
+use std::alloc::Global;
+use std::fs;
+use std::net::Net;
+use std::rt::Files;
+use std::test::Fail;
+use view_session::memory_store::MemoryStore;
+use view_session::store::StatePath;
+use world::World;
+
+/// A page that is served for two turns, and asked when the first of them begins: each of the random bytes, and the key
+/// that they make; the line of what is asked, in which `KEY` stands for the key, and its body; the status of the
+/// answer, and what its body begins and ends with.
+#[derive(Clone, Copy, Drop)]
+pub struct Play {
+    random: u8,
+    key: &'static str,
+    line: &'static str,
+    body: &'static [u8],
+    status: &'static [u8],
+    front: &'static [u8],
+    end: &'static [u8],
+}
+
+// The name of the mask's file, which is there while pages are served.
+const MASK: &str = "served_mask";
 
 /// The state file of a stroke of level 3 at the last pixel of the mask, for eight neighbours.
 const KEPT: &[u8] = b"\x00\x44SPD2\x08\
@@ -15,8 +45,6 @@ const KEPT: &[u8] = b"\x00\x44SPD2\x08\
 
 /// Asks for the strokes that are kept.
 const STROKES: Play = Play {
-    mask: b"P2\n5 1\n9\n3 5 2 5 4\n",
-    kept: KEPT,
     random: 5,
     key: "05050505050505050505050505050505",
     line: "GET /KEY/strokes",
@@ -62,10 +90,49 @@ const PLAYS: &[Play] = &[
     },
 ];
 
+fn serve<R: Net + Files>(
+    world: &World<'_, R>,
+    alloc: Global,
+    sink: &mut StdSink<Caller<'_, R>>,
+) -> Result<(), RunError> {
+    let mask = FileName::new(alloc, MASK)?;
+    let file = StatePath::new(alloc, "kept")?;
+    let store = MemoryStore::new(alloc).with_file(&file, KEPT)?;
+    let call = PaintCall {
+        mask,
+        file,
+        conn: Conn::Eight,
+        side: 16,
+        port: Some(0),
+        forward: None,
+    };
+    paint(world, &OneThread, alloc, call, store, sink)
+}
+
+fn is_right(answer: &[u8], play: &Play) -> bool {
+    let body = body_of(answer);
+    begins(answer, play.status) && body.starts_with(play.front) && body.ends_with(play.end)
+}
+
+// Whether a page is served, until nobody tells the time, and answers as it should.
+fn is_played<R: Net + Files>(rt: &R, alloc: Global, play: &'static Play) -> bool {
+    let mut sink = StdSink::new(Caller::new(rt, alloc, play));
+    let ended = serve(&World::new(rt, play.random), alloc, &mut sink);
+    let mut caller = sink.into_inner();
+    let mut answer = Vec::new(alloc);
+    let is_whole = caller.hears(&mut answer);
+    drop(caller);
+    let is_right = is_right(&answer, play);
+    ended == Err(RunError::Link) && is_whole && is_right
+}
+
 #[test]
-fn pages_are_served(rt: HostRuntime) {
+fn pages_are_served(rt: HostRuntime) -> Result<(), Fail> {
+    fs::write(&rt, MASK, "P2\n5 1\n9\n3 5 2 5 4\n")?;
     for play in PLAYS {
         let (line, key) = (play.line, play.key);
         assert!(rt; is_played(&rt, rt.alloc(), play), "{line}, {key}");
     }
+    fs::remove_file(&rt, MASK)?;
+    Ok(())
 }

@@ -25,10 +25,9 @@ impl Request<'_> {
     pub fn spelled(&self, alloc: Global, key: &str) -> Result<Vec<u8>, Memory> {
         let (fields, length) = (self.fields, self.body.len());
         let line = self.line.replace(alloc, "KEY", key)?;
-        let head = format!(in alloc; "{line} HTTP/1.1\r\n{fields}Content-Length: {length}\r\n\r\n");
-        let Ok(head) = head else {
-            return Err(Memory);
-        };
+        let head = format!(in alloc;
+            "{line} HTTP/1.1\r\n{fields}Content-Length: {length}\r\n\r\n"
+        )?;
         let mut all = head.into_bytes();
         all.extend_from_slice(self.body)?;
         Ok(all)

@@ -1,14 +1,10 @@
 //! A client of a page that is served: it asks as soon as it is told the address.
 
-use super::playing::Play;
+use super::Play;
 use crate::spelling::Request;
 use std::alloc::Global;
-use std::cell::RefCell;
 use std::io::{self, ErrorKind, Read, Write};
 use std::net::{Ipv4Addr, Net, TcpStream};
-
-/// The stream of a client, once it was told an address.
-pub type Line<S> = RefCell<Option<S>>;
 
 /// A client that is told the address of a page, with its LF, in one piece. It asks the question of a play there, and
 /// then the answer comes from its stream.
@@ -17,7 +13,7 @@ pub struct Caller<'a, R: Net> {
     rt: &'a R,
     alloc: Global,
     play: &'static Play,
-    line: &'a Line<R::Stream>,
+    stream: Option<R::Stream>,
 }
 
 // The port and the key of an address.
@@ -43,41 +39,30 @@ fn ask<W: Write>(alloc: Global, stream: &mut W, play: &Play, port: u16) -> io::R
     }
 }
 
-/// All that comes from the stream is put behind the answer. Says whether there was a stream, and it ended.
-pub fn is_answered<S: Read>(line: &Line<S>, answer: &mut Vec<u8>) -> bool {
-    let Ok(mut line) = line.try_borrow_mut() else {
-        return false;
-    };
-    match line.as_mut() {
-        Some(stream) => stream.read_to_end(answer).is_ok(),
-        None => false,
-    }
-}
-
 impl<'a, R: Net> Caller<'a, R> {
-    /// A client of a play, which notes its stream on this line.
-    pub fn new(
-        rt: &'a R,
-        alloc: Global,
-        play: &'static Play,
-        line: &'a Line<R::Stream>,
-    ) -> Caller<'a, R> {
+    /// A client of a play.
+    pub fn new(rt: &'a R, alloc: Global, play: &'static Play) -> Caller<'a, R> {
         Caller {
             rt,
             alloc,
             play,
-            line,
+            stream: None,
+        }
+    }
+
+    /// All that comes from the stream is put behind the answer. Says whether there was a stream, and it ended.
+    pub fn hears(&mut self, answer: &mut Vec<u8>) -> bool {
+        match &mut self.stream {
+            Some(stream) => stream.read_to_end(answer).is_ok(),
+            None => false,
         }
     }
 
     fn call(&mut self, port: u16) -> io::Result<()> {
         let mut stream = TcpStream::connect(self.rt, (Ipv4Addr::LOCALHOST, port))?;
-        ask(self.alloc, &mut stream, self.play, port)?;
-        let Ok(mut line) = self.line.try_borrow_mut() else {
-            return Err(ErrorKind::Other.into());
-        };
-        *line = Some(stream);
-        Ok(())
+        let asked = ask(self.alloc, &mut stream, self.play, port);
+        self.stream = Some(stream);
+        asked
     }
 }
 

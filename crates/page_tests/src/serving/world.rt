@@ -1,10 +1,9 @@
-//! What a server runs on, so that it ends: a clock that stops, chosen random bytes, and one file.
+//! What a server runs on, so that it ends: a clock that stops, and chosen random bytes.
 
-use super::playing::Play;
 use std::alloc::Allocator;
 use std::cell::Cell;
-use std::fs::{Metadata, OpenFile, OpenOptions};
-use std::io::{self, ErrorKind, Read, Seek, SeekFrom, Write};
+use std::fs::{Metadata, OpenOptions};
+use std::io::{self, ErrorKind};
 use std::net::{Net, SocketAddr};
 use std::random::RandomSource;
 use std::rt::Files;
@@ -13,70 +12,24 @@ use std::time::{Clock, Duration};
 // How often a server may look at the clock: when it starts, and once in each of two turns.
 const LOOKS: u64 = 3;
 
-/// A file that can only be read.
-#[derive(Clone, Copy, Drop)]
-pub struct MaskFile {
-    unread: &'static [u8],
-}
-
-impl Read for MaskFile {
-    fn read(&mut self, buf: &mut [u8]) -> io::Result<usize> {
-        self.unread.read(buf)
-    }
-}
-
-impl Write for MaskFile {
-    fn write(&mut self, _buf: &[u8]) -> io::Result<usize> {
-        Err(ErrorKind::Unsupported.into())
-    }
-
-    fn flush(&mut self) -> io::Result<()> {
-        Err(ErrorKind::Unsupported.into())
-    }
-}
-
-impl Seek for MaskFile {
-    fn seek(&mut self, _to: SeekFrom) -> io::Result<u64> {
-        Err(ErrorKind::Unsupported.into())
-    }
-}
-
-impl OpenFile for MaskFile {
-    fn metadata(&self) -> io::Result<Metadata> {
-        Err(ErrorKind::Unsupported.into())
-    }
-
-    fn set_len(&self, _size: u64) -> io::Result<()> {
-        Err(ErrorKind::Unsupported.into())
-    }
-
-    fn sync_all(&self) -> io::Result<()> {
-        Err(ErrorKind::Unsupported.into())
-    }
-
-    fn sync_data(&self) -> io::Result<()> {
-        Err(ErrorKind::Unsupported.into())
-    }
-}
-
-/// A clock that stops after a few looks, random bytes that are all the same, one file, whatever name it is opened by,
-/// and the network of a runtime.
+/// A clock that stops after a few looks, random bytes that are all the same, and the network and the files of a
+/// runtime, which can only be opened.
 #[derive(Drop)]
-pub struct World<'a, R: Net> {
+pub struct World<'a, R> {
     rt: &'a R,
-    play: &'static Play,
+    random: u8,
     left: Cell<u64>,
 }
 
-impl<'a, R: Net> World<'a, R> {
-    /// The world of a play, over the network of this runtime.
-    pub fn new(rt: &'a R, play: &'static Play) -> World<'a, R> {
+impl<'a, R> World<'a, R> {
+    /// The world of this random byte, over this runtime.
+    pub fn new(rt: &'a R, random: u8) -> World<'a, R> {
         let left = Cell::new(LOOKS);
-        World { rt, play, left }
+        World { rt, random, left }
     }
 }
 
-impl<R: Net> Clock for World<'_, R> {
+impl<R> Clock for World<'_, R> {
     fn monotonic(&self) -> io::Result<Duration> {
         let left = self.left.get();
         if left == 0 {
@@ -91,9 +44,9 @@ impl<R: Net> Clock for World<'_, R> {
     }
 }
 
-impl<R: Net> RandomSource for World<'_, R> {
+impl<R> RandomSource for World<'_, R> {
     fn fill_bytes(&self, buf: &mut [u8]) -> io::Result<()> {
-        buf.fill(self.play.random);
+        buf.fill(self.random);
         Ok(())
     }
 }
@@ -112,18 +65,16 @@ impl<R: Net> Net for World<'_, R> {
     }
 }
 
-impl<R: Net> Files for World<'_, R> {
-    type File = MaskFile;
+impl<R: Files> Files for World<'_, R> {
+    type File = R::File;
 
-    type Dir = MaskFile;
+    type Dir = R::Dir;
 
-    fn open_file(&self, _how: &OpenOptions, _path: &str) -> io::Result<MaskFile> {
-        Ok(MaskFile {
-            unread: self.play.mask,
-        })
+    fn open_file(&self, how: &OpenOptions, path: &str) -> io::Result<R::File> {
+        self.rt.open_file(how, path)
     }
 
-    fn open_dir(&self, _path: &str) -> io::Result<MaskFile> {
+    fn open_dir(&self, _path: &str) -> io::Result<R::Dir> {
         Err(ErrorKind::Unsupported.into())
     }
 
