@@ -31,8 +31,8 @@ pub fn reaches(number: &AtomicU64, least: u64) -> bool {
 #[derive(Clone, Copy)]
 pub enum Line {
     Submit(Edit),
-    /// The pen submits strokes of the tags below this one. Then its ring is full: the stroke of this tag comes back, and
-    /// finds a place after a turn that takes one edit.
+    /// The pen submits strokes of the tags below this one. Then its ring is full: the stroke of this tag comes back,
+    /// and finds a place after a turn that takes one edit.
     Fill(u8),
     /// A turn of the keeper: so many edits, results, hints and jobs.
     Turn(u64, u64, u64, u64),
