@@ -131,10 +131,19 @@ fn is_told(alloc: Global, outcome: &Result<(), RunError>, status: u8, line: &[u8
 }
 
 fn is_ended(alloc: Global, end: End, outcome: &Result<Option<PaintCall>, RunError>) -> bool {
-    match (end, outcome) {
-        (End::Well, Ok(None)) => is_told(alloc, &Ok(()), 0, b""),
-        (End::Painting, Ok(Some(painting))) => painting.file.name() == "m.pgm.spd",
-        (End::Fault(status, line), Err(error)) => is_told(alloc, &Err(*error), status, line),
+    match end {
+        End::Well => matches!(outcome, Ok(None)) && is_told(alloc, &Ok(()), 0, b""),
+        End::Painting => is_painting(outcome),
+        End::Fault(status, line) => match outcome {
+            Err(error) => is_told(alloc, &Err(*error), status, line),
+            Ok(_) => false,
+        },
+    }
+}
+
+fn is_painting(outcome: &Result<Option<PaintCall>, RunError>) -> bool {
+    match outcome {
+        Ok(Some(painting)) => painting.file.name() == "m.pgm.spd",
         _ => false,
     }
 }
