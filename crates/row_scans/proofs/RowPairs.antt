@@ -1,6 +1,6 @@
 -- Pairs of pixels in one row or in two rows that touch.
 use Rattle.std.proofs.Common.{◌≡◌, ℕ, ◌+◌, ◌-◌, ◌<◌, ◌≤◌, ◌↔◌, Bool, true, false, List, length, get_or, take, min, refl}
-use Rattle.std.proofs.Common.{sym, ap, ◌∙◌, zero-add, inl, inr, below_more, arith, ◌||◌}
+use Rattle.std.proofs.Common.{sym, ap, ◌∙◌, zero-add, inl, inr, below_more, arith, not, ◌||◌}
 use Rattle.std.proofs.{lemmas.Bool.cases_lt, lemmas.List.get_or-take, lemmas.List.length-take-le}
 use Rattle.std.proofs.{lemmas.List.Edits.length-between, lemmas.List.Edits.get_or-between}
 use Rattle.std.specs.List.{between}
@@ -17,6 +17,32 @@ flag_more P i true test before here = (
 flag_more P i false test before here = (
   λ e. below_more P i (before.0 refl) (here.0 e),
   λ all. here.1 (all i (omega arith)),
+)
+
+-- the same where two tests were made there
+pub flag_more_by_two : (P Q : ℕ → Type 0) (i : ℕ) (flag first second : Bool)
+    → (flag ≡ false) ↔ ((k : ℕ) → k < i → P k × Q k)
+    → (first ≡ false) ↔ P i
+    → (second ≡ false) ↔ Q i
+    → ((flag || first) || second ≡ false) ↔ ((k : ℕ) → k < i + 1 → P k × Q k)
+flag_more_by_two P Q i true first second before of_first of_second = (
+  λ e. absurd cc,
+  λ all. absurd (let no : true ≡ false = before.1 (λ k h. all k (omega arith)) in cc),
+)
+flag_more_by_two P Q i false true second before of_first of_second = (
+  λ e. absurd cc,
+  λ all. absurd (let no : true ≡ false = of_first.1 (all i (omega arith)).0 in cc),
+)
+flag_more_by_two P Q i false false second before of_first of_second = (
+  λ e. below_more (λ k. P k × Q k) i (before.0 refl) (of_first.0 refl, of_second.0 e),
+  λ all. of_second.1 (all i (omega arith)).1,
+)
+
+pub not_down : (flag : Bool) → (not flag ≡ true) ↔ (flag ≡ false)
+not_down false = (λ e. refl, λ e. refl)
+not_down true = (
+  λ e. absurd (let no : false ≡ true = e in cc),
+  λ e. absurd (let no : true ≡ false = e in cc),
 )
 
 -- the list stands in the other, from a place on

@@ -50,12 +50,33 @@ pub fn is_closed_along(row: &[u16], mask: &[u16]) -> bool
     while end < row.len() {
         let start = end - 1;
         end = row.len().min(end + SECTION);
-        let section = &row[start..end];
-        if !is_closed_aslant(section, &mask[start..end], section) {
+        if !is_section_closed(&row[start..end], &mask[start..end]) {
             return false;
         }
     }
     true
+}
+
+// Whether no pixel of a section raises the one to its right or to its left. Both are looked at in one pass.
+//
+// Inside the loop over the sections it would not become vector code.
+#[inline(never)]
+fn is_section_closed(row: &[u16], mask: &[u16]) -> bool
+    requires some { 0 < length row.now }
+    requires rows { AreRows row.now mask.now row.now }
+    ensures { IsTrue result ↔ IsClosedTo AreAside row.now mask.now row.now }
+{
+    let last = row.len() - 1;
+    let left = &row[..last];
+    let right = &row[1..];
+    let left_mask = &mask[..last];
+    let right_mask = &mask[1..];
+    let mut open = false;
+    for i in 0..last {
+        open |= right[i] < left[i].min(right_mask[i]);
+        open |= left[i] < right[i].min(left_mask[i]);
+    }
+    !open
 }
 
 /// The greatest of these values, and 0 where there is none.

@@ -11,6 +11,6 @@ loop-end-preserved c =
     let within : next ≤ length row = omega (arith, c.min-end.ensures) in
     record {
       sofar = closed_further row c.args.mask.now end next c.loop-end.invariant.some grows within c.requires
-          c.loop-end.invariant.sofar (c.is_closed_aslant.ensures.0 c.if-not-is_closed_aslant.false);
+          c.loop-end.invariant.sofar (c.is_section_closed.ensures.0 c.if-not-is_section_closed.false);
       some = omega (arith, grows);
     }
