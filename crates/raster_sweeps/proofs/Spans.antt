@@ -1,10 +1,11 @@
 -- The spans around a cell hold the neighbours of its pixel.
 use Rattle.std.proofs.Common.{◌≡◌, ℕ, ◌+◌, ◌-◌, ◌*◌, ◌/◌, ◌%◌, ◌<◌, ◌≤◌, ◌⊎◌, min, max, sym, ◌∙◌, ap, arith, inl, inr}
 use Rattle.std.proofs.Common.{refl}
-use Rattle.std.proofs.{lemmas.Bool.cases_eq, lemmas.Bool.cases_order, lemmas.Nat.div-mul-add, lemmas.Nat.mod-mul-add}
+use Rattle.std.proofs.{lemmas.Bool.cases_eq, lemmas.Bool.cases_order, Math.Nat.mul-le-mul_left}
+use Rattle.std.proofs.lemmas.Nat.{div-mul-add, mod-mul-add, mul-le}
 use Rattle.grid_core.specs.{declared.conn.Conn.Conn, declared.conn.Conn.TheVariants.Four}
 use Rattle.grid_core.specs.{declared.conn.Conn.TheVariants.Eight, declared.pixel.Pixel.Pixel, declared.rect.Rect.Rect}
-use Rattle.grid_core.specs.{Neighbours.AreNeighbours, Neighbours.apart, Raster.IsInside}
+use Rattle.grid_core.specs.{Neighbours.AreNeighbours, Neighbours.apart, Raster.IsInside, Raster.max_pixels}
 use Rattle.grid_core.proofs.Pixels.{same_pixel}
 use Rattle.raster_sweeps.specs.{declared.neighbourhood.RowSpan.RowSpan, Growth.cell_of}
 use Rattle.raster_sweeps.specs.Spans.{AreAround, InSpan, IsAround}
@@ -222,3 +223,30 @@ pub row_of_cell : (rect : Rect) (width cell : ℕ) (p : Pixel) → rect.x + rect
 row_of_cell rect width cell p fits inside place =
     ap (λ n. n / width) (sym place)
     ∙ div-mul-add (rect.y + p.y) width (rect.x + p.x) (omega (arith, inside.0, fits))
+
+-- an image has no more rows than pixels
+pub rows_within : (width rows : ℕ) → 0 < width → width * rows ≤ max_pixels → rows ≤ max_pixels
+rows_within width rows some within = omega (arith, within, mul-le 1 rows width rows (omega arith) (omega arith))
+
+-- nor do that many rows lie above a cell
+pub rows_above_within : (rect : Rect) (width cell : ℕ) (p : Pixel) → rect.x + rect.w ≤ width → IsInside rect.w rect.h p
+    → cell_of rect width p ≡ cell → width * (rect.y + rect.h) ≤ max_pixels → cell / width < max_pixels
+rows_above_within rect width cell p fits inside place within =
+    omega (
+      arith,
+      inside.1,
+      row_of_cell rect width cell p fits inside place,
+      rows_within width (rect.y + rect.h) (omega (arith, inside.0, fits)) within,
+    )
+
+-- the row of a cell ends within the image
+pub row_within : (rect : Rect) (width cell : ℕ) (p : Pixel) → rect.x + rect.w ≤ width → IsInside rect.w rect.h p
+    → cell_of rect width p ≡ cell → width * (rect.y + rect.h) ≤ max_pixels → cell - cell % width + width ≤ max_pixels
+row_within rect width cell p fits inside place within =
+    omega (
+      arith,
+      within,
+      place,
+      column_of_cell rect width cell p fits inside place,
+      mul-le-mul_left width (let row : rect.y + p.y + 1 ≤ rect.y + rect.h = omega (arith, inside.1) in row),
+    )

@@ -1,13 +1,15 @@
 -- Rows that are raised, by another row or along themselves.
-use Rattle.std.proofs.Common.{◌≡◌, ℕ, zero, suc, ◌+◌, ◌-◌, ◌<◌, ◌≤◌, List, length, get_or, min, max, subst, inl, inr}
-use Rattle.std.proofs.Common.{arith}
-use Rattle.std.proofs.lemmas.Bool.{cases_lt}
+use Rattle.std.proofs.Common.{◌≡◌, ℕ, zero, suc, ◌+◌, ◌-◌, ◌<◌, ◌≤◌, List, ◌++◌, length, get_or, take, drop, min}
+use Rattle.std.proofs.Common.{max, subst, inl, inr, arith}
+use Rattle.std.proofs.{lemmas.Bool.cases_lt, lemmas.List.length-take-le}
 use Rattle.std.specs.List.{between}
 use Rattle.grid_core.specs.declared.conn.Conn.{Conn}
-use Rattle.row_scans.specs.Rows.{AreBeside, IsClosedTo}
+use borrow.Rule.Slice.PartMut.{put_mid}
+use Rattle.row_scans.specs.Rows.{AreAside, AreBeside, AreRows, IsClosedTo}
 use Rattle.row_scans.specs.RowRaises.{IsRaisedStraight, IsRaisedBy, IsRaisedFromLeft, IsRaisedFromRight, AreCellsRaised}
 use Rattle.row_scans.specs.RowRaises.{IsStepFromLeft, IsStepFromRight}
-use Rattle.row_scans.proofs.{RowPairs.AreParts, Replacing.IsReplaced, Replacing.replaced_read}
+use Rattle.row_scans.proofs.RowPairs.{AreParts, closed_aside, left_parts, right_parts}
+use Rattle.row_scans.proofs.Replacing.{IsReplaced, replaced_front, replaced_mid, replaced_read}
 
 -- a part of a row is raised by a part of another
 pub part_value : {by mask xs ys b m part new : List ℕ} {i j n : ℕ} → AreParts by mask xs b m part j i n
@@ -82,6 +84,52 @@ raised_twice first second = record {
     | inr rose ↦ inr (rose.0, omega (arith, rose.1, first.long), rose.2, rose.3)
   ];
 }
+
+-- a row of which first all pixels but the first are raised by those to their left, and then all but the last by those
+-- to their right
+module _ {by mask xs : List ℕ} (n : ℕ) (rows : AreRows by mask xs) (ends : n + 1 ≡ length xs) where
+  abbrev pub IsRaisedRight : List ℕ → Type 0
+  IsRaisedRight = IsRaisedStraight (between 1 (length mask) mask) (take n by) (between 1 (length xs) xs)
+
+  abbrev pub IsRaisedLeft : List ℕ → List ℕ → Type 0
+  IsRaisedLeft ys = IsRaisedStraight (take n mask) (between 1 (length by) by) (take n ys)
+
+  aside_raised : {ys zs right left : List ℕ} → IsRaisedRight right → IsRaisedLeft ys left
+      → IsReplaced 1 right xs ys → IsReplaced 0 left ys zs
+      → IsRaisedBy AreAside mask by xs zs × IsClosedTo AreAside by mask zs
+  aside_raised {ys} {zs} righter lefter middle begin =
+      let rights = right_parts n rows ends in
+      let between : AreRows by mask ys = record {
+        from = omega (arith, middle.long, rows.from);
+        mask = omega (arith, middle.long, rows.mask);
+      } in
+      let lefts = left_parts n between (omega (arith, middle.long)) in
+      let first : IsRaisedBy AreAside mask by xs ys =
+      part_raised rights righter middle (λ s less. omega arith) rows.from (omega (arith, rows.from)) in
+      let second : IsRaisedBy AreAside mask by ys zs =
+      part_raised lefts lefter begin (λ s less. omega arith) between.from (omega (arith, rows.from)) in (
+        raised_twice first second,
+        closed_aside by mask zs
+            (λ s less.
+            omega (
+              arith,
+              part_value rights righter middle s (omega (arith, second.long, middle.long)),
+              second.rises (1 + s) (omega (arith, second.long, middle.long)),
+            ))
+            (λ s less.
+            omega (arith, part_value lefts lefter begin s (omega (arith, second.long, middle.long)))),
+      )
+
+  pub raised_aside : (right left : List ℕ) → IsRaisedRight right → IsRaisedLeft (put_mid 1 n xs right) left
+      → IsRaisedBy AreAside mask by xs (left ++ drop n (put_mid 1 n xs right))
+      × IsClosedTo AreAside by mask (left ++ drop n (put_mid 1 n xs right))
+  raised_aside right left righter lefter =
+      let size : length right ≡ n = omega (arith, righter.long, (right_parts n rows ends).to.long) in
+      let middle = replaced_mid 1 n right xs size (omega arith) in
+      let within : n ≤ length (put_mid 1 n xs right) = omega (arith, middle.long) in
+      let front : length left ≡ n =
+      omega (arith, lefter.long, length-take-le n (put_mid 1 n xs right) within) in
+      aside_raised righter lefter middle (replaced_front n left (put_mid 1 n xs right) front within)
 
 -- a row of a list of cells is raised by another
 pub cells_raised : {conn : Conn} {mask row before after : List ℕ} {source target : ℕ} → length row ≡ length mask

@@ -27,3 +27,27 @@ none_rises-requires-3-clause-within c = (way_in_image c.requires.close c.in-Some
 
 pub returns-in_default : goal.returns-in_default
 returns-in_default c conn = followed_nowhere c.requires.close c.requires.inside
+
+pub follow_column-requires-clause-close : goal.follow_column-requires-clause-close
+follow_column-requires-clause-close c = c.requires.close
+
+pub follow_column-requires-clause-way : goal.follow_column-requires-clause-way
+follow_column-requires-clause-way c = c.in-Some.ensures.down
+
+pub follow_column-requires-clause-behind : goal.follow_column-requires-clause-behind
+follow_column-requires-clause-behind c = record {
+  last = c.none_rises-2.ensures.0 c.if-none_rises.true;
+  beside = c.none_rises.ensures.0 c.if-not-none_rises.false;
+}
+
+pub follow_column-requires-then-none_rises-2-clause-close : goal.follow_column-requires-then-none_rises-2-clause-close
+follow_column-requires-then-none_rises-2-clause-close c = c.requires.close
+
+pub follow_column-requires-then-none_rises-2-clause-way : goal.follow_column-requires-then-none_rises-2-clause-way
+follow_column-requires-then-none_rises-2-clause-way c = c.in-Some.ensures.up
+
+pub follow_column-requires-then-none_rises-2-clause-behind : goal.follow_column-requires-then-none_rises-2-clause-behind
+follow_column-requires-then-none_rises-2-clause-behind c = record {
+  last = c.none_rises-3.ensures.0 c.if-none_rises-2.true;
+  beside = c.none_rises.ensures.0 c.if-not-none_rises.false;
+}

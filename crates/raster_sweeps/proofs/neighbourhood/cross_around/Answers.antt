@@ -1,6 +1,7 @@
-use Rattle.std.proofs.Common.{◌≡◌, ℕ, ◌+◌, ◌-◌, ◌/◌, ◌%◌, None, Some, arith, inl, inr, refl}
+use Rattle.std.proofs.Common.{◌≡◌, ℕ, ◌+◌, ◌-◌, ◌/◌, ◌%◌, ◌<◌, None, Some, arith, inl, inr, refl}
 use Rattle.raster_sweeps.specs.declared.neighbourhood.Cross.{Cross}
-use Rattle.raster_sweeps.proofs.{Crosses.crossed, Spans.column_of_cell, Spans.row_of_cell}
+use Rattle.raster_sweeps.proofs.Crosses.{crossed}
+use Rattle.raster_sweeps.proofs.Spans.{column_of_cell, row_of_cell, rows_above_within, rows_within}
 use Rattle.raster_sweeps.proofs.neighbourhood.cross_around.Goals.{then-y-rect, else-y-rect, then-x-rect, else-x-rect}
 use Rattle.raster_sweeps.proofs.neighbourhood.cross_around.Goals.{then-x-rect-2, else-x-rect-2}
 use Rattle.raster_sweeps.proofs.neighbourhood.cross_around.Goals as goal
@@ -62,3 +63,16 @@ returns-else-y-rect-2 c p inside place =
       | else-x-rect-2 w ↦ inr (omega (arith, w.if-x-rect-2.false, x), w.right-is)
     ])
     (inr (omega (arith, c.if-y-rect-2.false, y), refl))
+
+pub overflow_add-y : goal.overflow_add-y
+overflow_add-y c =
+    omega (
+      arith,
+      rows_above_within c.args.rect c.args.width c.args.cell c.requires.inside.0 c.requires.columns c.requires.inside.1
+          c.requires.inside.2 c.requires.rows,
+    )
+
+pub overflow_add-rect-2 : goal.overflow_add-rect-2
+overflow_add-rect-2 c =
+    let some : 0 < c.args.width = omega (arith, c.requires.inside.1.0, c.requires.columns) in
+    omega (arith, rows_within c.args.width (c.args.rect.y + c.args.rect.h) some c.requires.rows)

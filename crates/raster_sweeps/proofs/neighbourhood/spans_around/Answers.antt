@@ -2,8 +2,8 @@ use Rattle.std.proofs.Common.{◌≡◌, ◌<◌, ◌≤◌, ◌+◌, ◌*◌, �
 use Rattle.std.proofs.Math.Nat.{mul-le-mul_left}
 use Rattle.grid_core.specs.declared.conn.Conn.TheVariants.{Eight}
 use Rattle.raster_sweeps.specs.declared.neighbourhood.RowSpan.{RowSpan}
-use Rattle.raster_sweeps.proofs.Spans.{AreColumns, column_of_cell, no_span, row_of_cell, span_above, span_below}
-use Rattle.raster_sweeps.proofs.Spans.{span_beside, spans_of}
+use Rattle.raster_sweeps.proofs.Spans.{AreColumns, column_of_cell, no_span, row_of_cell, row_within, rows_above_within}
+use Rattle.raster_sweeps.proofs.Spans.{rows_within, span_above, span_below, span_beside, spans_of}
 use Rattle.raster_sweeps.proofs.neighbourhood.spans_around.Goals.{then-y-rect, else-y-rect, then-y-rect-2}
 use Rattle.raster_sweeps.proofs.neighbourhood.spans_around.Goals.{else-y-rect-2}
 use Rattle.raster_sweeps.proofs.neighbourhood.spans_around.Goals as goal
@@ -62,3 +62,35 @@ overflow_add-below-then-y-rect-2 c =
     let rows : width * (y + 2) ≤ width * (rect.y + rect.h) =
     mul-le-mul_left width (let row : y + 2 ≤ rect.y + rect.h = omega (arith, c.if-y-rect-2.true) in row) in
     omega (arith, left, rows, some, c.requires.rows)
+
+pub overflow_add-y : goal.overflow_add-y
+overflow_add-y c =
+    omega (
+      arith,
+      rows_above_within c.args.rect c.args.width c.args.cell c.requires.inside.0 c.requires.columns c.requires.inside.1
+          c.requires.inside.2 c.requires.rows,
+    )
+
+pub overflow_add-rect-3 : goal.overflow_add-rect-3
+overflow_add-rect-3 c =
+    let some : 0 < c.args.width = omega (arith, c.requires.inside.1.0, c.requires.columns) in
+    omega (arith, rows_within c.args.width (c.args.rect.y + c.args.rect.h) some c.requires.rows)
+
+pub overflow_add-beside : goal.overflow_add-beside
+overflow_add-beside c =
+    omega (
+      arith,
+      c.max-left.ensures,
+      column_of_cell c.args.rect c.args.width c.args.cell c.requires.inside.0 c.requires.columns c.requires.inside.1
+          c.requires.inside.2,
+    )
+
+pub overflow_add-beside-2 : goal.overflow_add-beside-2
+overflow_add-beside-2 c =
+    omega (
+      arith,
+      c.min-right.ensures,
+      c.requires.columns,
+      row_within c.args.rect c.args.width c.args.cell c.requires.inside.0 c.requires.columns c.requires.inside.1
+          c.requires.inside.2 c.requires.rows,
+    )
