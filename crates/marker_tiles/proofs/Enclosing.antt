@@ -1,13 +1,14 @@
 -- The windows round runs and discs.
 use Rattle.std.proofs.Common.{◌≡◌, ℕ, ◌+◌, ◌-◌, ◌*◌, ◌<◌, ◌≤◌, ◌⊎◌, inl, inr, Bool, true, false, List, length, get_or}
-use Rattle.std.proofs.Common.{take, sym, ap, ◌∙◌, arith, ◌||◌, IsTrue}
+use Rattle.std.proofs.Common.{take, sym, ap, ◌∙◌, arith, ◌||◌, IsTrue, ◌++◌, ◌∷◌, [], refl}
 use Rattle.std.proofs.{Math.Nat.mul-le-mul, lemmas.Bool.cases_lt, lemmas.Bool.Decides.nat_tests}
 use Rattle.std.proofs.{lemmas.List.Folds.list_any_more}
 use Rattle.std.specs.List.{list_any}
 use Rattle.grid_core.specs.{declared.pixel.Pixel.Pixel, Neighbours.apart}
 use Rattle.grid_core.proofs.Common.{either}
 use Rattle.stroke_core.specs.Seed.{disc_covers}
-use Rattle.marker_tiles.specs.{declared.window.Window.Window, Painting.in_window}
+use Rattle.marker_tiles.specs.{declared.window.Window.Window, Painting.WindowFits, Painting.WindowsFit}
+use Rattle.marker_tiles.specs.Painting.{in_window, in_some}
 
 pub square_le : (a b : ℕ) → a ≤ b → a * a ≤ b * b
 square_le a b h = mul-le-mul h h
@@ -53,3 +54,26 @@ pub any_of_more : {X : Type 0} (test : X → Bool) (xs : List X) (i : ℕ) (x : 
 any_of_more test xs i x within read has =
     either (list_any test (take i xs)) (test x)
     (ap (λ y. list_any test (take i xs) || test y) read ∙ sym (list_any_more test xs i x within) ∙ has)
+
+-- ---- a window more
+
+pub one_more_fits : (width height : ℕ) (ws : List Window) (w : Window) → WindowsFit width height ws
+    → WindowFits width height w → WindowsFit width height (ws ++ w ∷ [])
+one_more_fits width height [] w fit fits = (fits, tt)
+one_more_fits width height (v ∷ ws) w fit fits = (fit.0, one_more_fits width height ws w fit.1 fits)
+
+or_true : (b : Bool) → (b || true) ≡ true
+or_true true = refl
+or_true false = refl
+
+-- the pixels of the windows before, and those of the last
+pub of_earlier : (ws : List Window) (w : Window) (p : Pixel) → IsTrue (in_some ws p) → IsTrue (in_some (ws ++ w ∷ []) p)
+of_earlier [] w p has = absurd (let none : false ≡ true = has in cc)
+of_earlier (v ∷ ws) w p has = elim (either (in_window v p) (in_some ws p) has) [
+  | inl here ↦ ap (λ b. b || in_some (ws ++ w ∷ []) p) here
+  | inr later ↦ ap (λ b. in_window v p || b) (of_earlier ws w p later) ∙ or_true (in_window v p)
+]
+
+pub of_last : (ws : List Window) (w : Window) (p : Pixel) → IsTrue (in_window w p) → IsTrue (in_some (ws ++ w ∷ []) p)
+of_last [] w p has = ap (λ b. b || false) has
+of_last (v ∷ ws) w p has = ap (λ b. in_window v p || b) (of_last ws w p has) ∙ or_true (in_window v p)

@@ -84,6 +84,15 @@ module _ (seed : Seed) (around : Window) (mask image : Raster)
         omega (arith, span_of-within p.y around.bottom side some bottom, later, past))
   ]
 
+-- the rows of blocks before one, and that one
+pub rows_more : (level : Pixel → ℕ) (side row : ℕ) {within : Pixel → ℕ} {mask middle new : Raster}
+    → HasLevelWhere (λ p. p.y / side < row) level mask middle → IsRaisedWithin within mask middle new
+    → HasLevelWhere (IsInRow side row) level mask new → HasLevelWhere (λ p. p.y / side < row + 1) level mask new
+rows_more level side row before raised here p inside is = elim (cases_lt (p.y / side) row) [
+  | inl earlier ↦ omega (arith, before p inside earlier, raised.rises p inside)
+  | inr not_earlier ↦ here p inside (omega (arith, is, not_earlier))
+]
+
 -- ---- tag by tag
 
 -- the levels of the blocks are at most those of the strokes that were noted

@@ -1,12 +1,14 @@
 -- How paintings with one brush add up.
 use Rattle.std.proofs.Common.{◌≡◌, ℕ, ◌+◌, ◌*◌, ◌≤◌, Bool, true, false, List, sym, ap, ◌∙◌, refl, arith, ◌||◌, ◌&&◌}
-use Rattle.std.proofs.Common.{slice_index}
+use Rattle.std.proofs.Common.{slice_index, ◌<◌, length, get_or, take}
+use Rattle.std.proofs.lemmas.List.Folds.{list_any_more}
+use Rattle.std.proofs.Math.Seq.{take-length}
 use Rattle.grid_core.specs.{declared.pixel.Pixel.Pixel, Rects.AreCellsChanged}
 use Rattle.grid_core.specs.Raster.{Raster, IsInside, index_of, value_at, IsOfSize}
 use Rattle.stroke_core.specs.Seed.{Seed, covers}
 use Rattle.marker_tiles.specs.{declared.brush.Brush.Brush, declared.window.Window.Window}
 use Rattle.marker_tiles.specs.declared.brush.Brush.TheVariants.{Raise, Clear}
-use Rattle.marker_tiles.specs.Painting.{IsPaintedBy, brushed_cells, brushed, brushed_if, in_some, is_between}
+use Rattle.marker_tiles.specs.Painting.{IsPaintedBy, brushed_cells, brushed, brushed_if, in_some, in_window, is_between}
 use Rattle.marker_tiles.proofs.CellSpans.{cell_of_span}
 
 -- a brush led twice leaves what it left at first
@@ -59,6 +61,25 @@ painted_alike {a} {b} {brush} {mask} {old} painted same = record {
 -- one of the windows has the pixel, and the seed covers it
 abbrev pub covered_in : List Window → Seed → Pixel → Bool
 covered_in ws seed p = in_some ws p && covers seed p
+
+either_and : (a b c : Bool) → ((a || b) && c) ≡ ((a && c) || (b && c))
+either_and true b true = refl
+either_and true true false = refl
+either_and true false false = refl
+either_and false b c = refl
+
+-- a window more
+pub one_window_more : (ws : List Window) (seed : Seed) (i : ℕ) (none : Window) (p : Pixel) → i < length ws
+    → covered_in (take (i + 1) ws) seed p
+    ≡ (covered_in (take i ws) seed p || (in_window (get_or ws i none) p && covers seed p))
+one_window_more ws seed i none p within =
+    ap (λ t. t && covers seed p) (list_any_more (λ w. in_window w p) ws i none within)
+    ∙ either_and (in_some (take i ws) p) (in_window (get_or ws i none) p) (covers seed p)
+
+-- all of them
+pub all_windows : (ws : List Window) (seed : Seed) (i : ℕ) (p : Pixel) → i ≡ length ws
+    → (in_some ws p && covers seed p) ≡ covered_in (take i ws) seed p
+all_windows ws seed i p all = ap (λ vs. covered_in vs seed p) (sym (ap (λ n. take n ws) all ∙ take-length ws))
 
 -- ---- a span as cells
 

@@ -6,6 +6,7 @@ pub mod Told
 pub mod Marked
 pub mod Covering
 pub mod Samples
+pub mod LineByLine
 pub mod Turned
 pub mod Grounds
 pub mod Wholeness

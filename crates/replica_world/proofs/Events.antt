@@ -1,12 +1,12 @@
 -- Lists of events that grow by one.
-use Rattle.std.proofs.Common.{◌≡◌, ◌∙◌, ◌∷◌, ◌++◌, ◌+◌, ◌<◌, [], ℕ, List, length, get_or, take, drop, suc, refl, sym}
-use Rattle.std.proofs.Common.{subst, ap, arith, inl, inr, ◌≢◌}
+use Rattle.std.proofs.Common.{◌≡◌, ◌∙◌, ◌∷◌, ◌++◌, ◌+◌, ◌<◌, ◌≤◌, [], ℕ, List, length, get_or, take, drop, suc}
+use Rattle.std.proofs.Common.{refl, sym, subst, ap, arith, inl, inr, ◌≢◌}
 use Rattle.std.proofs.Math.Seq.{drop-cons}
-use Rattle.std.proofs.lemmas.List.{take_more, take-append-drop, length-take-le}
+use Rattle.std.proofs.lemmas.List.{take_all, take_more, take-append-drop, length-take-le}
 use Rattle.stroke_lattice.specs.State.{State}
 use Rattle.replica_world.specs.{declared.error.WorldError.WorldError, declared.event.Event.Event, World.World}
 use Rattle.replica_world.specs.Events.{IsNamed, Carries, IsDone, IsTurnedDown, IsCutOff, IsRefusal}
-use Rattle.replica_world.specs.Runs.{Refusal, AreEvents, IsStopped, IsOnward}
+use Rattle.replica_world.specs.Runs.{Refusal, AreEvents, IsRun, IsStopped, IsOnward}
 use Rattle.core_rules.specs.declared.error.CoreError.TheVariants as core_errors
 use Rattle.replica_world.specs.declared.error.WorldError.TheVariants as errors
 use Rattle.replica_world.specs.declared.event.Event.TheVariants as events
@@ -105,6 +105,17 @@ one_more_run start now after all n event refusals more so_far within there onwar
           (events_push (take n all) (event ∷ []) start now after 0 n refusals onward.listed count so_far.are_events
           onward.are_events));
     }
+
+-- where none is left the whole list was run
+pub all_run : (start now after : World) (all : List Event) (n : ℕ) (refusals : List Refusal)
+    → HaveRun start all n now refusals → length all ≤ n → after ≡ record now { steps = length all }
+    → IsRun start all refusals after
+all_run start now after all n refusals so_far enough kept = record {
+  reached = now;
+  are_events = subst (λ (events : List Event). AreEvents 0 events start refusals now) (take_all n all enough)
+      so_far.are_events;
+  after_is = kept;
+}
 
 pub run_stops : (start now left after : World) (all : List Event) (n : ℕ) (event : Event) (why : WorldError)
     (refusals : List Refusal) → HaveRun start all n now refusals → n < length all → event ≡ get_or all n event

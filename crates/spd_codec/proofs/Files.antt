@@ -56,6 +56,14 @@ two_bytes (a ∷ b ∷ rest) long some small is =
 pub all_behind : (bytes : List ℕ) → take (length bytes - 2) (drop 2 bytes) ≡ drop 2 bytes
 all_behind bytes = ap (λ n. take n (drop 2 bytes)) (sym (length-drop 2 bytes)) ∙ take-length (drop 2 bytes)
 
+-- the bytes of that length, and what is left of the bytes
+pub taken_behind : (bytes rest behind front back : List ℕ) (long : ℕ) → bytes ≡ short long ++ behind → rest ≡ behind
+    → front ≡ take long rest → back ≡ drop long rest → length front ≡ long → bytes ≡ with_length front ++ back
+taken_behind bytes rest behind front back long parts same taken left long_is =
+    let joined : front ++ back ≡ behind = rw (taken, left) (take-append-drop long rest ∙ same) in
+    parts ∙ ap (λ (text : List ℕ). short long ++ text) (sym joined)
+    ∙ ap (λ (n : ℕ). short n ++ (front ++ back)) (sym long_is)
+
 -- ---- joining
 
 -- more bytes behind those that begin with a frame

@@ -15,3 +15,4 @@ mod FaultKinds
 mod Files
 mod Lengths
 mod Prints
+mod Putting

@@ -174,3 +174,12 @@ piece_made_dirty {tiling} piece {marker} {old} {new} {before} {after} {tile} on 
           (subst (λ (rows : List TileWork). AreDirtyWhere (λ t. t ≡ tile) before rows) (sym is_after)
           (one_made_dirty before tile there));
     }
+
+-- no pixel of the span has risen, and no tile is made dirty
+pub piece_made_nowhere : {tiling : Tiles} (piece : Span) {marker old new : Raster} {work : List TileWork}
+    → IsOnTiling tiling old → IsMadeWhere (span_has piece) greater_value marker old new
+    → (RisesWhere (span_has piece) old new → ⊥) → IsRaisedWhere tiling (span_has piece) marker old new work work
+piece_made_nowhere piece on made none = record {
+  values = made;
+  work = all_dirty_stay (λ t risen. none (risen_in_piece piece on made risen));
+}

@@ -1,15 +1,19 @@
 -- How values that are taken over from the marker add up.
 use Rattle.std.proofs.Common.{◌≡◌, ℕ, ◌+◌, ◌-◌, ◌*◌, ◌<◌, ◌≤◌, Bool, true, false, max, length, sym, ap, ◌∙◌, refl}
 use Rattle.std.proofs.Common.{subst, arith, List, drop, get_or, length-drop, ◌||◌, ◌↔◌, IsTrue, slice_index}
-use Rattle.std.proofs.Common.{slice_range}
+use Rattle.std.proofs.Common.{slice_range, EachIndex}
 use Rattle.std.proofs.{lemmas.Bool.Decides.nat_tests, lemmas.List.get_or-take, lemmas.List.get_or-drop}
-use Rattle.std.proofs.lemmas.List.{length-take}
+use Rattle.std.proofs.lemmas.List.{length-take, length-take-le}
+use borrow.Rule.Slice.PartMut.{put_mid}
 use Rattle.grid_core.specs.{declared.pixel.Pixel.Pixel, Rects.AreCellsChanged}
+use Rattle.grid_core.specs.Lending.{CellsGivenBack, with_cells}
 use Rattle.grid_core.specs.Raster.{Raster, IsInside, IsFilled, index_of, value_at}
 use Rattle.stroke_core.specs.{declared.span.Span.Span, Spans.span_has}
 use Rattle.marker_tiles.proofs.CellSpans.{cell_of_span}
+use Rattle.row_scans.proofs.Replacing.{replaced_mid}
 use Rattle.core_rules.specs.Image.{IsOfSize}
 use Rattle.tile_work.specs.Renewing.{marker_value, greater_value, made_if, made_at, IsMadeWhere, RisesWhere, SomeIsLess}
+use Rattle.tile_work.specs.Renewing.{HaveCells}
 
 -- a change that leaves what it left at first where it comes again
 pub record IsSteady (make : ℕ → ℕ → ℕ) : Type 0 where
@@ -149,6 +153,43 @@ copied_already from to marker image same = record {
   before = λ k _. refl;
   after = λ k _ _. refl;
 }
+
+-- the same part of two lists of one length is as long
+pub parts_alike : (xs ys : List ℕ) (from to : ℕ) → length xs ≡ length ys
+    → length (slice_range xs from to) ≡ length (slice_range ys from to)
+parts_alike xs ys from to same = simp (length-take, length-drop) (omega (arith, same))
+
+-- where a part of the cells is made of the old values and the marker's, the cells of the part are changed
+pub made_in_part : (make : ℕ → ℕ → ℕ) {from to : ℕ} {marker image : Raster} (values cells part : List ℕ)
+    → HaveCells from to marker image → CellsGivenBack → values ≡ marker.cells → cells ≡ image.cells
+    → length part ≡ length (slice_range cells from to)
+    → EachIndex part (λ k. slice_index part k
+    ≡ make (slice_index (slice_range cells from to) k) (slice_index (slice_range values from to) k))
+    → AreCellsChanged from to (made_at make marker image) image (with_cells image (put_mid from (to - from) cells part))
+made_in_part make {from} {to} {marker} {image} values cells part have given_back is_values is_cells long made =
+    let order = have.order in
+    let count : length cells ≡ length image.cells = ap length is_cells in
+    let within : to ≤ length cells = omega (arith, have.within, count) in
+    let rest : to - from ≤ length (drop from cells) = omega (arith, length-drop from cells, within) in
+    let span : length part ≡ to - from = long ∙ length-take-le (to - from) (drop from cells) rest in
+    let is = replaced_mid from (to - from) part cells span (omega (arith, within, order)) in
+    let after = put_mid from (to - from) cells part in
+    subst (λ (r : Raster). AreCellsChanged from to (made_at make marker image) image r)
+    (sym (given_back image after (is.long ∙ count))) (record {
+      width = refl;
+      height = refl;
+      count = is.long ∙ count;
+      inside = λ k above below.
+          let place : from + (k - from) ≡ k = omega arith in
+          let here : k - from < length part = omega (arith, span) in
+          ap (λ i. slice_index after i) (sym place) ∙ is.inside (k - from) here ∙ made (k - from) here
+          ∙ ap (λ v. make v (slice_index (slice_range values from to) (k - from)))
+          (get_or-part cells from to k above below ∙ ap (λ xs. slice_index xs k) is_cells)
+          ∙ ap (make (slice_index image.cells k))
+          (get_or-part values from to k above below ∙ ap (λ xs. slice_index xs k) is_values);
+      before = λ k less. is.ahead k less ∙ ap (λ xs. slice_index xs k) is_cells;
+      after = λ k past _. is.behind k (omega (arith, span, order)) ∙ ap (λ xs. slice_index xs k) is_cells;
+    })
 
 pub some_is_less_in_part : (xs ys : List ℕ) (from to : ℕ) → from ≤ to → to ≤ length xs
     → SomeIsLess 0 (length (slice_range xs from to)) (slice_range xs from to) (slice_range ys from to)

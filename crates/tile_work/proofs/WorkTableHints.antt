@@ -2,10 +2,10 @@
 use Rattle.std.proofs.Common.{◌≡◌, ℕ, ◌+◌, ◌<◌, ◌≤◌, Bool, true, false, cond, List, ◌∷◌, ◌++◌, map, length, get_or, set}
 use Rattle.std.proofs.Common.{take, drop, refl, sym, ◌∙◌, ap, subst, arith, inl, inr, ◌⊎◌, Result, Ok, Err, OnOk, []}
 use Rattle.std.proofs.Common.{is_err, ◌↔◌, ◌==◌, is_some, All, Contains, slice_index}
-use Rattle.std.proofs.lemmas.Bool.{cases_eq, eq-eqb, eqb-true}
+use Rattle.std.proofs.lemmas.Bool.{cases_eq, cond-true, cond-false, eq-eqb, eqb-true, ne_eqb}
 use Rattle.std.proofs.lemmas.List.{length-map, get_or-map, get_or-set_same, get_or-set_other, set-get_or, map-set}
-use Rattle.std.proofs.lemmas.List.{ext_get_or, get_or_default, take_at}
-use Rattle.std.proofs.lemmas.List.Elements.{All-filter, filter_passes, All-head}
+use Rattle.std.proofs.lemmas.List.{append-nil, append_assoc, drop_more, ext_get_or, get_or_default, length-set, take_at}
+use Rattle.std.proofs.lemmas.List.Elements.{All-filter, filter_more, filter_passes, All-head}
 use Rattle.std.proofs.lemmas.List.Sums.{length-filter, count_by-le-length}
 use Rattle.tile_generations.specs.Generations.{max_generation}
 use Rattle.grid_core.specs.Tiles.{Tiles, AreTouching, count_of, tile_of}
@@ -13,7 +13,7 @@ use Rattle.border_queues.specs.declared.hint.Hint.{Hint}
 use Rattle.border_queues.specs.TileWork.{TileWork, idle, received, work_of, hints_at}
 use Rattle.tile_work.specs.declared.work_table.row.TileRow.{TileRow}
 use Rattle.tile_work.specs.WorkTable.{IsToTouching, AreReceived, as_work, works_of, rooms_of, is_some_hint, dirty_bits}
-use Rattle.tile_work.specs.WorkTable.{waiting_bits, AreInStep}
+use Rattle.tile_work.specs.WorkTable.{waiting_bits, AreInStep, HaveRoomFor, IsDelivered}
 use Rattle.tile_work.proofs.WorkTables.{row_with_inbox}
 
 -- ---- hints of a tile
@@ -185,6 +185,95 @@ pub record IsDelivery (tiles : Tiles) (hints : List Hint) (i : ℕ) (first now :
   pub came : AreReceived tiles (take i hints) (works_of first) (works_of now)
   pub in_step : waiting ≡ waiting_bits (works_of now)
   pub room : (t : ℕ) → t < length now → length (hints_at tiles t (drop i hints)) ≤ slice_index (rooms_of now) t
+
+-- none is yet
+pub delivery_starts : (tiles : Tiles) (hints : List Hint) (rows : List TileRow) (waiting : List Bool)
+    → HaveRoomFor tiles hints rows → waiting ≡ waiting_bits (works_of rows) → IsDelivery tiles hints 0 rows rows waiting
+delivery_starts tiles hints rows waiting room in_step = record {
+  came = record {
+    count = refl;
+    each = λ t within.
+        let work = work_of (works_of rows) t in
+        ap (λ inbox. record work { inbox = inbox }) (sym (append-nil work.inbox));
+  };
+  in_step = in_step;
+  room = room;
+}
+
+received_twice : (work : TileWork) (earlier later : List Hint)
+    → received (received work earlier) later ≡ received work (earlier ++ later)
+received_twice work earlier later =
+    ap (λ inbox. record work { inbox = inbox }) (append_assoc work.inbox earlier later)
+
+-- a hint ahead of others, of those that are counted or not
+counted_first : (test : Bool) (hint : Hint) (rest : List Hint)
+    → length (cond test (hint ∷ rest) rest) ≡ cond test 1 0 + length rest
+counted_first true hint rest = omega arith
+counted_first false hint rest = omega arith
+
+-- the next hint, which goes to this tile
+module _ {tiles : Tiles} {hints : List Hint} {i : ℕ} {first now : List TileRow} {waiting : List Bool} (default : Hint)
+    (tile : ℕ) (within : i < length hints) (is_tile : tile ≡ tile_of tiles (get_or hints i default).to_pixel)
+    (so_far : IsDelivery tiles hints i first now waiting) where
+  next_counted : (t : ℕ) → length (hints_at tiles t (drop i hints))
+      ≡ cond (tile == t) 1 0 + length (hints_at tiles t (drop (i + 1) hints))
+  next_counted t =
+      let hint = get_or hints i default in
+      ap (λ hs. length (hints_at tiles t hs)) (drop_more hints i default within)
+      ∙ counted_first (tile_of tiles hint.to_pixel == t) hint (hints_at tiles t (drop (i + 1) hints))
+      ∙ ap (λ u. cond (u == t) 1 0 + length (hints_at tiles t (drop (i + 1) hints))) (sym is_tile)
+
+  pub room_for_next : tile < length now → 0 < slice_index (rooms_of now) tile
+  room_for_next there =
+      let one = cond-true {A = ℕ} (tile == tile) 1 0 (eq-eqb tile tile refl) in
+      omega (arith, so_far.room tile there, next_counted tile, one)
+
+  module _ {after : List TileRow} {waits : List Bool}
+      (one : IsDelivered tile (get_or hints i default) now after waits) where
+    received_more : (t : ℕ) → t < length (works_of first) → work_of (works_of after) t
+        ≡ received (work_of (works_of first) t) (hints_at tiles t (take (i + 1) hints))
+    received_more t there =
+        let hint = get_or hints i default in
+        let becomes = received (work_of (works_of now) tile) (hint ∷ []) in
+        let before = work_of (works_of first) t in
+        let earlier = hints_at tiles t (take i hints) in
+        let to_t : Bool = tile_of tiles hint.to_pixel == t in
+        let more : hints_at tiles t (take (i + 1) hints) ≡ earlier ++ cond to_t (hint ∷ []) [] =
+        filter_more (λ (h : Hint). tile_of tiles h.to_pixel == t) hints i default within in
+        elim (cases_eq t tile) [
+          | inl same ↦
+              let to_it : to_t ≡ true = eq-eqb (tile_of tiles hint.to_pixel) t (sym (same ∙ is_tile)) in
+              let at_tile : work_of (works_of after) tile ≡ becomes =
+              ap (λ works. work_of works tile) one.works
+              ∙ get_or-set_same (works_of now) tile becomes idle (omega (arith, there, same, so_far.came.count)) in
+              subst (λ u. work_of (works_of after) u ≡ received (work_of (works_of now) u) (hint ∷ []))
+              (sym same) at_tile
+              ∙ ap (λ work. received work (hint ∷ [])) (so_far.came.each t there)
+              ∙ received_twice before earlier (hint ∷ [])
+              ∙ ap (λ hs. received before (earlier ++ hs)) (sym (cond-true to_t (hint ∷ []) [] to_it))
+              ∙ ap (received before) (sym more)
+          | inr other ↦
+              let to_another : to_t ≡ false =
+              ne_eqb (tile_of tiles hint.to_pixel) t (λ it. other (sym (is_tile ∙ it))) in
+              ap (λ works. work_of works t) one.works ∙ get_or-set_other (works_of now) tile t becomes idle other
+              ∙ so_far.came.each t there ∙ ap (received before) (sym (append-nil earlier))
+              ∙ ap (λ hs. received before (earlier ++ hs)) (sym (cond-false to_t (hint ∷ []) [] to_another))
+              ∙ ap (received before) (sym more)
+        ]
+
+    pub delivery_goes_on : IsDelivery tiles hints (i + 1) first after waits
+    delivery_goes_on =
+        let count : length (works_of after) ≡ length (works_of now) =
+        ap length one.works ∙ length-set (works_of now) tile _ in
+        let rows : length after ≡ length now =
+        sym (length-map after as_work) ∙ count ∙ length-map now as_work in
+        record {
+          came = record { count = count ∙ so_far.came.count; each = received_more };
+          in_step = one.waiting;
+          room = λ t there.
+              let had = so_far.room t (omega (arith, there, rows)) in
+              omega (arith, had, one.room t, next_counted t);
+        }
 
 -- what is known of an answer that is no error
 pub ok_part : {T E : Type 0} (answer : Result T E) (P : Type 0) → is_err answer ≡ false → OnOk answer P → P

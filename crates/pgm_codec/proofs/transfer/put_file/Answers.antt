@@ -3,7 +3,7 @@ use Rattle.std.proofs.KnownBytes.{Appends-nil}
 use Rattle.byte_devices.specs.Transfer.{AppendsFront}
 use Rattle.byte_devices.proofs.Shared.{OnErr-always}
 use Rattle.pgm_codec.specs.Writing.{sample_bytes, raw_header, raw_text}
-use Rattle.pgm_codec.proofs.Blocks.{front_behind, puts_behind}
+use Rattle.pgm_codec.proofs.{Blocks.front_behind, Blocks.puts_behind, Maxval.samples_are_within}
 use Rattle.pgm_codec.proofs.transfer.put_file.Goals as goal
 
 pub returns-in_err-put_all : goal.returns-in_err-put_all
@@ -37,3 +37,11 @@ returns g c =
     rw (c.requires.header, c.maxval-maxval.ensures.value, c.samples-samples.ensures.value) refl in
     puts_behind (raw_text image) c.args.header.now raster old mid new c.put_raster.result parts put.text put.steady
     c.put_raster.ensures
+
+pub put_raster-requires-clause-within : goal.put_raster-requires-clause-within
+put_raster-requires-clause-within g c = samples_are_within c.args.image.now c.samples-samples.result.now
+    c.maxval-maxval.result c.samples-samples.ensures.is_graymap c.samples-samples.ensures.value
+    c.maxval-maxval.ensures.value
+
+pub put_raster-requires-clause-room : goal.put_raster-requires-clause-room
+put_raster-requires-clause-room g c = c.requires.room

@@ -1,9 +1,9 @@
 use Rattle.std.proofs.Common.{◌≡◌, ◌++◌, ◌<◌, ◌≤◌, ◌^◌, inl, inr, refl, subst, ap, ◌∙◌, drop, take, length, arith, List}
 use Rattle.std.proofs.Common.{ℕ}
-use Rattle.std.proofs.lemmas.Result.{err_from_is_err_and}
+use Rattle.std.proofs.lemmas.Result.{IfOk-from_err, err_from_is_err_and}
 use Rattle.spd_codec.specs.{Faults.IsFault, Spelling.short}
 use Rattle.spd_codec.specs.StateFile.{behind_length, too_long, cut_short, in_frame}
-use Rattle.spd_codec.proofs.Files.{two_bytes, all_behind}
+use Rattle.spd_codec.proofs.Files.{two_bytes, all_behind, taken_behind}
 use Rattle.spd_codec.proofs.state_file.next_frame.Goals as goal
 
 pub returns-then-long-gt-MAX_BYTES-clause-fault : goal.returns-then-long-gt-MAX_BYTES-clause-fault
@@ -41,3 +41,21 @@ returns-in_err-decode-clause-fault c =
       | inr fault ↦ inr (behind_length c.from-long.result (drop 2 c.args.bytes.now) small parts
           (in_frame (omega arith) enough (subst (λ (t : List ℕ). IsFault t c.in_err-decode.field-0.0) text fault)))
     ])
+
+pub returns-in_err-decode-clause-found : goal.returns-in_err-decode-clause-found
+returns-in_err-decode-clause-found c = IfOk-from_err _ _ c.from_residual.ensures.0
+
+pub returns-in_err-decode-clause-shorter : goal.returns-in_err-decode-clause-shorter
+returns-in_err-decode-clause-shorter c = IfOk-from_err _ _ c.from_residual.ensures.0
+
+pub returns-clause-found : goal.returns-clause-found
+returns-clause-found c =
+    let parts : c.args.bytes.now ≡ short c.from-long.result ++ drop 2 c.args.bytes.now =
+    two_bytes c.args.bytes.now c.from-long.result c.in-len2-up.len_at_least c.type_inv.bytes
+    (c.from-long.ensures ∙ c.from_be_bytes.ensures) in
+    record {
+      text = c.split_at.result.0.now;
+      spells = c.in_ok-decode.ensures.found;
+      parts = taken_behind _ _ _ _ _ _ parts (all_behind c.args.bytes.now) c.split_at.ensures.front
+          c.split_at.ensures.back c.split_at.ensures.front_len;
+    }

@@ -1,4 +1,5 @@
-use Rattle.std.proofs.{Common.arith, lemmas.Result.err_from_is_err_and}
+use Rattle.std.proofs.Common.{◌≡◌, ℕ, ◌<◌, ◌≤◌, arith}
+use Rattle.std.proofs.lemmas.Result.{err_from_is_err_and}
 use Rattle.core_dispatch.proofs.Ends.{kept_themselves, kept_through, same_has_end, same_spent, same_back, taken_more}
 use Rattle.core_dispatch.proofs.GoingOn.{goes_itself, goes_through, edits_themselves, edits_through}
 use Rattle.core_dispatch.proofs.dispatcher.Dispatcher.take_edits_left.Goals as goal
@@ -17,6 +18,14 @@ pub take_edits_of-requires-clause-found : goal.take_edits_of-requires-clause-fou
 take_edits_of-requires-clause-found c =
     same_has_end c.args.ends.now.items c.loop-number.ends.items c.loop-number.number c.loop-number.invariant.ends.0
     (c.requires.each c.loop-number.number (omega (arith, c.loop-number-test.true, c.pens-number-end.ensures)))
+
+pub take_edits_of-requires-clause-ends : goal.take_edits_of-requires-clause-ends
+take_edits_of-requires-clause-ends c = c.loop-number.invariant.ends.1
+
+pub returns-in_err-take_edits_of-clause-whole : goal.returns-in_err-take_edits_of-clause-whole
+returns-in_err-take_edits_of-clause-whole c =
+    let p = err_from_is_err_and c.from_residual.result c.from_residual.ensures.1 in
+    rw p.1 tt
 
 pub returns-in_err-take_edits_of-clause-spent : goal.returns-in_err-take_edits_of-clause-spent
 returns-in_err-take_edits_of-clause-spent c =
@@ -64,3 +73,22 @@ loop-number-preserved c =
           goes_through c.args.self.now c.loop-number.self c.take_edits_of.new.self so_far.goes_on one.goes_on;
       edits = edits_through c.args.self.now c.loop-number.self c.take_edits_of.new.self so_far.edits one.taken;
     }
+
+-- once the loop has come to the end, each number lies before it
+before_end : (number desks now end at : ℕ) → number < now → now ≡ desks → end ≡ desks → end ≤ at → number < at
+before_end number desks now end at below same is_end past = omega arith
+
+pub returns-clause-whole : goal.returns-clause-whole
+returns-clause-whole c = λ number below.
+    c.loop-number.invariant.taken number
+    (before_end number _ _ _ _ below c.loop-number.invariant.goes_on.pens.count c.pens-number-end.ensures
+    c.loop-number-test.false)
+
+pub returns-clause-ends : goal.returns-clause-ends
+returns-clause-ends c = c.loop-number.invariant.ends
+
+pub returns-clause-goes_on : goal.returns-clause-goes_on
+returns-clause-goes_on c = c.loop-number.invariant.goes_on
+
+pub returns-clause-taken : goal.returns-clause-taken
+returns-clause-taken c = c.loop-number.invariant.edits

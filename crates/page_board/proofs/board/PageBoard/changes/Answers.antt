@@ -1,13 +1,79 @@
-use Rattle.std.proofs.Common.{◌≡◌, ℕ, List, [], ◌∷◌, ◌++◌, ◌∙◌, sym, ap, append_assoc, subst, flat_map}
-use Rattle.grid_core.specs.{declared.rect.Rect.Rect, Raster.Raster, Tiles.Tiles}
+use Rattle.std.proofs.Common.{◌≡◌, ℕ, List, [], ◌∷◌, ◌++◌, ◌∙◌, sym, ap, append_assoc, subst, flat_map, length}
+use Rattle.std.proofs.lemmas.Result.{IfOk-from_err}
+use Rattle.grid_core.specs.{declared.rect.Rect.Rect, Raster.Raster, Tiles.Tiles, Tiles.count_of}
 use Rattle.pgm_codec.specs.Spelling.{line_feed}
 use Rattle.stroke_lattice.specs.{State.State, Growth.AreTags}
 use Rattle.core_rules.specs.Work.{tiling}
 use Rattle.page_board.specs.{declared.news.News.News, Putting.PutsSamples, Stored.board_of, Strips.AreStrips}
-use Rattle.page_board.specs.Board.{PageBoard, image_of, since_of, HasTurned, HasTurnedIn}
+use Rattle.page_board.specs.Board.{PageBoard, IsWhole, image_of, since_of, HasTurned, HasTurnedIn}
 use Rattle.page_board.specs.Changes.{AreChanges, AreRectsSince, IsQuietDigit, numbers_line, rect_line, tag_line}
-use Rattle.page_board.proofs.{Answer.fits_at, Told.strips_tell}
+use Rattle.page_board.proofs.{Answer.fits_at, Told.strips_tell, Wholeness.image_graymap}
 use Rattle.page_board.proofs.board.PageBoard.changes.Goals as goal
+
+pub strips_since-requires : goal.strips_since-requires
+strips_since-requires c =
+    ap length c.deref.ensures.value ∙ c.self.invariant.whole.count ∙ c.self.invariant.whole.tiles
+    ∙ sym (ap count_of c.tiling.ensures.value)
+
+pub push_pixels-requires-clause-graymap : goal.push_pixels-requires-clause-graymap
+push_pixels-requires-clause-graymap c =
+    image_graymap (board_of c.self.inside) c.image.result.now c.below_keeps_maxval.ensures c.self.invariant.whole
+    c.image.ensures
+
+pub returns-in_err-rects-clause-changes : goal.returns-in_err-rects-clause-changes
+returns-in_err-rects-clause-changes c = IfOk-from_err c.from_residual.result _ c.from_residual.ensures.0
+
+pub returns-in_err-rects-clause-whole : goal.returns-in_err-rects-clause-whole
+returns-in_err-rects-clause-whole c = subst IsWhole c.self.view_is c.self.invariant.whole
+
+pub returns-in_err-tags-clause-changes : goal.returns-in_err-tags-clause-changes
+returns-in_err-tags-clause-changes c =
+    IfOk-from_err c.from_residual-in_err-tags.result _ c.from_residual-in_err-tags.ensures.0
+
+pub returns-in_err-tags-clause-whole : goal.returns-in_err-tags-clause-whole
+returns-in_err-tags-clause-whole c = subst IsWhole c.self.view_is c.self.invariant.whole
+
+pub returns-in_err-out-clause-changes : goal.returns-in_err-out-clause-changes
+returns-in_err-out-clause-changes c =
+    IfOk-from_err c.from_residual-in_err-out.result _ c.from_residual-in_err-out.ensures.0
+
+pub returns-in_err-out-clause-whole : goal.returns-in_err-out-clause-whole
+returns-in_err-out-clause-whole c = subst IsWhole c.self.view_is c.self.invariant.whole
+
+pub returns-in_err-push_rects-clause-changes : goal.returns-in_err-push_rects-clause-changes
+returns-in_err-push_rects-clause-changes c =
+    IfOk-from_err c.from_residual-in_err-push_rects.result _ c.from_residual-in_err-push_rects.ensures.0
+
+pub returns-in_err-push_rects-clause-whole : goal.returns-in_err-push_rects-clause-whole
+returns-in_err-push_rects-clause-whole c = subst IsWhole c.self.view_is c.self.invariant.whole
+
+pub returns-in_err-push_tags-clause-changes : goal.returns-in_err-push_tags-clause-changes
+returns-in_err-push_tags-clause-changes c =
+    IfOk-from_err c.from_residual-in_err-push_tags.result _ c.from_residual-in_err-push_tags.ensures.0
+
+pub returns-in_err-push_tags-clause-whole : goal.returns-in_err-push_tags-clause-whole
+returns-in_err-push_tags-clause-whole c = subst IsWhole c.self.view_is c.self.invariant.whole
+
+pub returns-in_err-push-clause-changes : goal.returns-in_err-push-clause-changes
+returns-in_err-push-clause-changes c =
+    IfOk-from_err c.from_residual-in_err-push.result _ c.from_residual-in_err-push.ensures.0
+
+pub returns-in_err-push-clause-whole : goal.returns-in_err-push-clause-whole
+returns-in_err-push-clause-whole c = subst IsWhole c.self.view_is c.self.invariant.whole
+
+pub returns-in_err-reserve_exact-clause-changes : goal.returns-in_err-reserve_exact-clause-changes
+returns-in_err-reserve_exact-clause-changes c =
+    IfOk-from_err c.from_residual-in_err-reserve_exact.result _ c.from_residual-in_err-reserve_exact.ensures.0
+
+pub returns-in_err-reserve_exact-clause-whole : goal.returns-in_err-reserve_exact-clause-whole
+returns-in_err-reserve_exact-clause-whole c = subst IsWhole c.self.view_is c.self.invariant.whole
+
+pub returns-in_err-push_pixels-clause-changes : goal.returns-in_err-push_pixels-clause-changes
+returns-in_err-push_pixels-clause-changes c =
+    IfOk-from_err c.from_residual-in_err-push_pixels.result _ c.from_residual-in_err-push_pixels.ensures.0
+
+pub returns-in_err-push_pixels-clause-whole : goal.returns-in_err-push_pixels-clause-whole
+returns-in_err-push_pixels-clause-whole c = subst IsWhole c.self.view_is c.self.invariant.whole
 
 pub push_pixels-requires-clause-fit : goal.push_pixels-requires-clause-fit
 push_pixels-requires-clause-fit c =
@@ -55,3 +121,6 @@ returns-clause-changes c =
           (append_assoc (numbers_line b numbers.0 ++ flat_map rect_line rects ++ flat_map (tag_line b.core.state) tags)
           (line_feed ∷ []) puts.bytes);
     })
+
+pub returns-clause-whole : goal.returns-clause-whole
+returns-clause-whole c = subst IsWhole c.self.view_is c.self.invariant.whole

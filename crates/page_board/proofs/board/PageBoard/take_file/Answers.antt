@@ -3,7 +3,8 @@ use Rattle.std.proofs.Common.{[], ◌++◌, ap, ◌∙◌, append-nil}
 use Rattle.std.proofs.lemmas.Result.{err_from_is_err_and}
 use Rattle.view_session.specs.Kept.{deltas_of, print_of}
 use Rattle.page_board.specs.Board.{PageBoard, mask_of}
-use Rattle.page_board.proofs.{Keeping.taken_has_all, Together.file_is_refused, Together.file_is_taken}
+use Rattle.page_board.proofs.{Keeping.taken_has_all, Later.each_is_later, Together.file_is_refused}
+use Rattle.page_board.proofs.Together.{file_is_taken}
 use Rattle.page_board.proofs.board.PageBoard.take_file.Goals as goal
 
 pub returns-in_err-take_delta-clause-refused : goal.returns-in_err-take_delta-clause-refused
@@ -37,3 +38,15 @@ pub returns-clause-has_all : goal.returns-clause-has_all
 returns-clause-has_all c =
     taken_has_all c.args.self.now c.take_delta.new.self c.args.bytes.now (returns-clause-taken c)
     c.in_ok-take_delta.ensures.later
+
+pub returns-in_err-frames-clause-later : goal.returns-in_err-frames-clause-later
+returns-in_err-frames-clause-later c = each_is_later c.args.self.now
+
+pub returns-in_err-all-clause-later : goal.returns-in_err-all-clause-later
+returns-in_err-all-clause-later c = each_is_later c.args.self.now
+
+pub returns-in_err-take_delta-clause-later : goal.returns-in_err-take_delta-clause-later
+returns-in_err-take_delta-clause-later c = c.take_delta.ensures.later
+
+pub returns-clause-later : goal.returns-clause-later
+returns-clause-later c = c.take_delta.ensures.later

@@ -1,4 +1,5 @@
 use Rattle.std.proofs.Common.{◌∷◌, [], refl, Some}
+use Rattle.std.proofs.lemmas.Result.{IfOk-from_err}
 use Rattle.reset_core.proofs.Scheduling.{taken_and_abandoned}
 use Rattle.replica_world.proofs.replica.Replica.take.Goals as goal
 
@@ -14,3 +15,6 @@ returns-in-Err-clause-err c =
     rw (← c.self.view_is)
     (taken_and_abandoned c.self.inside.core c.take.new.self c.abandon-was_out.new.self c.args.tile c.in-Some.job
     c.ticket-ticket.result c.abandon-was_out.result taken c.ticket-ticket.ensures c.abandon-was_out.ensures)
+
+pub returns-in_err-job-clause-taken : goal.returns-in_err-job-clause-taken
+returns-in_err-job-clause-taken c = IfOk-from_err _ _ c.from_residual.ensures.0

@@ -1,5 +1,5 @@
 use Rattle.std.proofs.Common.{◌<◌, length, refl, arith}
-use Rattle.std.proofs.lemmas.Option.{slice_get_read}
+use Rattle.std.proofs.lemmas.{Option.slice_get_read, Result.IfOk-from_err}
 use Rattle.core_rules.specs.Events.{GiveBack, OfGiveBack}
 use Rattle.replica_world.proofs.{Ground.happens_on, Worlds.stored_with, Worlds.moved}
 use Rattle.replica_world.proofs.world.World.give_back.Goals as goal
@@ -30,3 +30,6 @@ returns-clause-done c =
             (GiveBack swept) (OfGiveBack done.given.0) (done.swept, done.given.1) done.took,
       ),
     )
+
+pub returns-in_err-give_back-clause-done : goal.returns-in_err-give_back-clause-done
+returns-in_err-give_back-clause-done c = IfOk-from_err _ _ c.from_residual.ensures.0

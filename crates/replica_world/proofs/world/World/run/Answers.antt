@@ -1,5 +1,5 @@
 use Rattle.std.proofs.Common.{arith}
-use Rattle.replica_world.proofs.Events.{none_run, one_more_run, run_stops}
+use Rattle.replica_world.proofs.Events.{all_run, none_run, one_more_run, run_stops}
 use Rattle.replica_world.proofs.world.World.run.Goals as goal
 
 pub loop-i-init : goal.loop-i-init
@@ -38,3 +38,7 @@ loop-i-preserved c =
       omega (arith, few, more),
       omega (arith, room, places),
     )
+
+pub returns-clause-ran : goal.returns-clause-ran
+returns-clause-ran c = all_run c.args.self.now c.loop-i.self c.keep_steps-2.new.self c.args.events.now c.loop-i.i
+    c.loop-i.refusals.items c.loop-i.invariant.0 c.loop-i-test.false c.keep_steps-2.ensures

@@ -1,10 +1,27 @@
 -- What the tactics leave open of `join`.
-use Rattle.std.proofs.Common.{◌≡◌, slice_set, ap, ◌∙◌, arith}
+use Rattle.std.proofs.Common.{◌≡◌, slice_set, ap, refl, ◌∙◌, arith}
+use Rattle.std.proofs.lemmas.Result.{err_from_is_err_and}
 use Rattle.grid_core.specs.Bounds.{bounds_of}
 use Rattle.tile_generations.specs.declared.ticket.Ticket.{Ticket}
 use Rattle.reset_core.proofs.Sweeping.{tiling_is, stored_below, parts_joined, joined_is_stored}
 use Rattle.std.proofs.lemmas.Grind.{common_steps}
 use Rattle.reset_core.proofs.replica.Core.join.Goals as goal
+
+pub hints_once_joined-requires-clause-known : goal.hints_once_joined-requires-clause-known
+hints_once_joined-requires-clause-known c = c.requires.joinable.known
+
+pub hints_once_joined-requires-clause-unchanged : goal.hints_once_joined-requires-clause-unchanged
+hints_once_joined-requires-clause-unchanged c = c.requires.unchanged
+
+pub returns-in_err-hints-clause-joined : goal.returns-in_err-hints-clause-joined
+returns-in_err-hints-clause-joined c =
+    let p = err_from_is_err_and c.from_residual.result c.from_residual.ensures.1 in
+    rw p.1 tt
+
+pub returns-in_err-hints-clause-err : goal.returns-in_err-hints-clause-err
+returns-in_err-hints-clause-err c =
+    let p = err_from_is_err_and c.from_residual.result c.from_residual.ensures.1 in
+    rw p.1 refl
 
 pub receive-requires-clause-touching : goal.receive-requires-clause-touching
 receive-requires-clause-touching c =
@@ -17,6 +34,20 @@ receive-requires-clause-touching c =
     let t = swept.job.ticket.tile in
     let hints = c.in_ok-hints.hints.hints in
     rw (c.as_slice.ensures, tile_is, tiles) c.in_ok-hints.ensures.touching
+
+-- where there was no room for the hints, the core stays as it was
+pub invariant_of-self : goal.invariant_of-self
+invariant_of-self c = rw c.in_err-receive.ensures.err c.self.invariant
+
+pub returns-in_err-receive-clause-joined : goal.returns-in_err-receive-clause-joined
+returns-in_err-receive-clause-joined c =
+    let p = err_from_is_err_and c.from_residual-in_err-receive.result c.from_residual-in_err-receive.ensures.1 in
+    rw p.1 tt
+
+pub returns-in_err-receive-clause-err : goal.returns-in_err-receive-clause-err
+returns-in_err-receive-clause-err c =
+    let p = err_from_is_err_and c.from_residual-in_err-receive.result c.from_residual-in_err-receive.ensures.1 in
+    rw (p.1, c.in_err-receive.ensures.err) c.self.view_is
 
 pub raise_part-requires-clause-above : goal.raise_part-requires-clause-above
 raise_part-requires-clause-above c is_unchanged =

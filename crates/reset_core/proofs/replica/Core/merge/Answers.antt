@@ -32,7 +32,38 @@ is_marked c =
     c.self.view_is (tiles_are c) c.in_ok-check.ensures.fits c.in_ok-check.ensures.compatible c.mark_hits.ensures.count
     c.mark_hits.ensures.marks
 
+pub mark_hits-requires-clause-marks : goal.mark_hits-requires-clause-marks
+mark_hits-requires-clause-marks c =
+    let known = c.tiling-tiling.ensures in
+    let tiles = tiling_is c.self.inside (core_of c.self.inside) c.tiling-tiling.result refl known.value known.width
+    known.height in
+    c.self.invariant.no_marks
+    ∙ ap (λ n. replicate n false) (c.self.invariant.sound.shape.tiles ∙ ap count_of (sym tiles))
+
+pub mark_hits-requires-clause-queue : goal.mark_hits-requires-clause-queue
+mark_hits-requires-clause-queue c =
+    let known = c.tiling-tiling.ensures in
+    let tiles = tiling_is c.self.inside (core_of c.self.inside) c.tiling-tiling.result refl known.value known.width
+    known.height in
+    c.self.invariant.none_queued
+    ∙ ap (λ n. replicate n false) (c.self.invariant.sound.shape.tiles ∙ ap count_of (sym tiles))
+
 -- ---- refusals
+
+pub returns-in_err-check-clause-merged : goal.returns-in_err-check-clause-merged
+returns-in_err-check-clause-merged c =
+    let p = err_from_is_err_and c.from_residual.result c.from_residual.ensures.1 in
+    rw p.1 tt
+
+pub returns-in_err-check-clause-refused : goal.returns-in_err-check-clause-refused
+returns-in_err-check-clause-refused c =
+    let p = err_from_is_err_and c.from_residual.result c.from_residual.ensures.1 in
+    rw (p.1, p.2) (inl c.in_err-check.ensures.refused)
+
+pub returns-in_err-check-clause-err : goal.returns-in_err-check-clause-err
+returns-in_err-check-clause-err c =
+    let p = err_from_is_err_and c.from_residual.result c.from_residual.ensures.1 in
+    rw p.1 refl
 
 pub returns-in_err-check-clause-exactly : goal.returns-in_err-check-clause-exactly
 returns-in_err-check-clause-exactly c =
@@ -54,6 +85,16 @@ pub returns-then-is_one_spent-clause-exactly : goal.returns-then-is_one_spent-cl
 returns-then-is_one_spent-clause-exactly c =
     exactly_this c.args.self.now c.args.delta.now errors.GenerationsSpent (is_refused c)
 
+pub returns-then-is_one_spent-clause-err : goal.returns-then-is_one_spent-clause-err
+returns-then-is_one_spent-clause-err c = c.self.view_is
+
+pub invariant_of-self : goal.invariant_of-self
+invariant_of-self c =
+    let at = (goal.at.returns-then-is_one_spent-clause-refused c).After-mark_hits in
+    unmarked_is_stored c.self.inside c.clear.new.self c.mark_hits.new.queue c.self.invariant
+    (c.clear.ensures ∙ ap (λ n. replicate n false) ((is_marked at).count ∙ sym c.self.invariant.sound.shape.tiles))
+    (c.mark_hits.ensures.queue ∙ c.self.invariant.none_queued)
+
 is_acceptable : (c : After-into) → IsAcceptable c.args.self.now c.args.delta.now
 is_acceptable c =
     let at = (goal.at.returns-in-Err-clause-refused c).After-mark_hits in
@@ -68,6 +109,9 @@ returns-in-Err-clause-refused c = inr (c.into.ensures, is_acceptable c)
 pub returns-in-Err-clause-exactly : goal.returns-in-Err-clause-exactly
 returns-in-Err-clause-exactly c = λ e refused.
     absurd (refused_is_not_acceptable c.args.self.now c.args.delta.now e refused (is_acceptable c))
+
+pub returns-in-Err-clause-err : goal.returns-in-Err-clause-err
+returns-in-Err-clause-err c = rw c.in-Err.ensures.err c.self.view_is
 
 pub invariant_of-self-in-Err : goal.invariant_of-self-in-Err
 invariant_of-self-in-Err c =
@@ -119,6 +163,11 @@ renew-requires-clause-renew c =
           c.self.invariant.sound grown p
           (omega (arith, inside.0, image.width), omega (arith, inside.1, image.height)) out;
     }
+
+pub renew-requires-clause-bounds : goal.renew-requires-clause-bounds
+renew-requires-clause-bounds c =
+    let at = (goal.at.renew-requires-clause-bounds c).After-mark_hits in
+    c.self.invariant.bounded.count ∙ ap count_of (sym (tiles_are at) ∙ c.tiling-tiling.ensures.value)
 
 -- ---- what is merged
 

@@ -1,5 +1,5 @@
 -- What the tactics leave open of `share`.
-use Rattle.std.proofs.Common.{◌<◌, Some, sym, ◌∙◌, ap, subst}
+use Rattle.std.proofs.Common.{◌<◌, sym, ◌∙◌, ap, subst}
 use Rattle.std.specs.Arc.{arc_value}
 use Rattle.grid_core.specs.{Rects.IsPart, Tiles.rect_of}
 use Rattle.tile_generations.specs.CutMasks.{cut_mask}

@@ -1,9 +1,31 @@
 -- What the tactics leave open of `first_from`.
-use Rattle.std.proofs.Common.{◌≡◌, ℕ, ◌+◌, ◌/◌, ◌^◌, ◌<◌, ◌≤◌, arith}
+use Rattle.std.proofs.Common.{◌≡◌, ℕ, ◌+◌, ◌*◌, ◌/◌, ◌^◌, ◌<◌, ◌≤◌, subst, sym, arith}
 use Rattle.tile_work.specs.TileSet.{bit_of, IsLowestFrom}
 use Rattle.tile_work.proofs.TileSetWords.{HasNoneFrom-count, IsFirstFrom-here, HasNoneFrom-after, IsFirstFrom-after}
-use Rattle.tile_work.proofs.TileSetWords.{tile_after}
+use Rattle.tile_work.proofs.TileSetWords.{tile_after, word_within}
 use Rattle.tile_work.proofs.tile_set.TileSet.first_from.Goals as goal
+
+word_there : (start count words len : ℕ) → len ≡ words → words ≡ count / 64 + 1 → start < count → start / 64 < len
+word_there start count words len is_len is_words below = omega arith
+
+bit_fits : (start bit : ℕ) → start < 2 ^ 64 → bit < 64 → start / 64 * 64 + bit < 2 ^ 64
+bit_fits start bit start_fits below = omega arith
+
+pub index-requires : goal.index-requires
+index-requires c =
+    word_there c.args.start c.self.inside.count _ _ c.self.inside.words.ok.0 c.self.invariant.word_count
+    c.if-start-self.false
+
+pub overflow_add-result : goal.overflow_add-result
+overflow_add-result c =
+    record { fits = bit_fits c.args.start c.in-Some.bit c.ranges.start.fits c.in-Some.ensures.within }
+
+pub index-requires-2 : goal.index-requires-2
+index-requires-2 c =
+    let found : IsLowestFrom (bit_of c.self.inside.summary.items) (c.args.start / 64 + 1) c.in_ok-next.next =
+    rw (← c.deref.ensures.value) c.in_ok-next.ensures in
+    subst (λ n. c.in_ok-next.next < n) (sym c.self.inside.words.ok.0)
+    (word_within _ _ _ c.self.invariant c.in_ok-next.next found.bit)
 
 pub returns-then-start-self : goal.returns-then-start-self
 returns-then-start-self c =

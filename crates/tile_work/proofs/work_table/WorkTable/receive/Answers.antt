@@ -1,49 +1,80 @@
 -- What the tactics leave open of `receive`.
-use Rattle.std.proofs.Common.{List, ◌≡◌, ◌<◌, ◌≤◌, get_or, length, subst, sym, ◌∙◌, ap, arith, ◌↔◌, Contains}
+use Rattle.std.proofs.Common.{List, ◌≡◌, ◌<◌, ◌≤◌, get_or, length, subst, sym, ◌∙◌, ap, ◌↔◌, Contains}
 use Rattle.std.proofs.Common.{slice_index}
-use Rattle.std.proofs.{lemmas.List.length-map, lemmas.List.Elements.Contains-get_or}
+use Rattle.std.proofs.{lemmas.List.length-map, lemmas.List.Elements.Contains-get_or, lemmas.Result.err_from_is_err_and}
 use Rattle.grid_core.specs.Tiles.{AreTouching, count_of}
-use Rattle.tile_work.specs.WorkTable.{as_work, works_of, rooms_of, AreReceived, AreInStep}
+use Rattle.tile_work.specs.WorkTable.{as_work, works_of, rooms_of, waiting_bits, AreReceived, AreInStep}
 use Rattle.tile_work.specs.declared.work_table.row.TileRow.{TileRow}
 use Rattle.border_queues.specs.TileWork.{hints_at, TileWork}
 use Rattle.tile_work.proofs.WorkTableHints.{room_for_all, received_in_step, written_back}
 use Rattle.tile_work.proofs.work_table.WorkTable.receive.Goals.{After-deref_mut-2}
-use Rattle.std.proofs.lemmas.Grind.{common_steps}
 use Rattle.tile_work.proofs.work_table.WorkTable.receive.Goals as goal
+
+pub counts_at-counts-requires-clause-inside : goal.counts_at-counts-requires-clause-inside
+counts_at-counts-requires-clause-inside c = λ k d within. (c.requires.touching k d within).inside
 
 pub make_room-requires-clause-tiles : goal.make_room-requires-clause-tiles
 make_room-requires-clause-tiles c = λ k d h.
     let tiles = c.as_slice-tiles.result.now in
     let member = (c.touching-touching.ensures.members (get_or tiles k d)).0
     (subst (λ ts. Contains ts (get_or tiles k d)) c.as_slice-tiles.ensures.tiles (Contains-get_or tiles k d h)) in
-    let below = member.1 in
-    let lent = ap length c.deref_mut.ensures.value in
-    let seen = ap length c.self.view_is in
-    let mapped = length-map c.self.inside.rows.items as_work in
-    let count = c.requires.tiles in
-    omega (arith, below, lent, seen, mapped, count)
+    let count : length c.deref_mut.result.now ≡ count_of c.args.tiling.now =
+    ap length c.deref_mut.ensures.value ∙ sym (length-map c.self.inside.rows.items as_work) ∙ ap length c.self.view_is
+    ∙ c.requires.tiles in
+    subst (λ n. get_or tiles k d < n) (sym count) member.1
 
--- the rows with room for the hints
+-- where there was no room, the rows come back with the work that they had
+pub invariant_of-self : goal.invariant_of-self
+invariant_of-self c =
+    let works : works_of c.make_room.new.rows ≡ works_of c.self.inside.rows.items =
+    c.make_room.ensures.works ∙ ap works_of c.deref_mut.ensures.value in
+    subst (λ (rs : List TileRow). AreInStep (works_of rs) c.self.inside.dirty c.self.inside.out c.self.inside.waiting)
+    (sym (written_back c.make_room.new.rows _ c.self.inside.rows.len
+    (c.make_room.auto.rows ∙ c.deref_mut.ensures.len)))
+    (subst (λ (ws : List TileWork). AreInStep ws c.self.inside.dirty c.self.inside.out c.self.inside.waiting)
+    (sym works) c.self.invariant)
+
+pub returns-in_err-make_room-clause-ok : goal.returns-in_err-make_room-clause-ok
+returns-in_err-make_room-clause-ok c =
+    let p = err_from_is_err_and c.from_residual.result c.from_residual.ensures.1 in
+    rw p.1 tt
+
+pub returns-in_err-make_room-clause-err : goal.returns-in_err-make_room-clause-err
+returns-in_err-make_room-clause-err c =
+    let p = err_from_is_err_and c.from_residual.result c.from_residual.ensures.1 in
+    rw p.1
+    (ap works_of (written_back c.make_room.new.rows _ c.self.inside.rows.len
+    (c.make_room.auto.rows ∙ c.deref_mut.ensures.len))
+    ∙ c.make_room.ensures.works ∙ ap works_of c.deref_mut.ensures.value ∙ c.self.view_is)
+
+-- the rows with room for the hints, which hold the work that they had
 rows_with_room : (c : After-deref_mut-2) → c.deref_mut-2.result.now ≡ c.make_room.new.rows
 rows_with_room c =
-    let kept = c.make_room.auto.rows in
-    let lent = c.deref_mut.ensures.len in
-    c.deref_mut-2.ensures.value ∙ written_back c.make_room.new.rows _ c.self.inside.rows.len (omega (arith, kept, lent))
+    c.deref_mut-2.ensures.value
+    ∙ written_back c.make_room.new.rows _ c.self.inside.rows.len (c.make_room.auto.rows ∙ c.deref_mut.ensures.len)
+
+works_with_room : (c : After-deref_mut-2) → works_of c.deref_mut-2.result.now ≡ works_of c.self.inside.rows.items
+works_with_room c =
+    ap works_of (rows_with_room c) ∙ c.make_room.ensures.works ∙ ap works_of c.deref_mut.ensures.value
+
+count_with_room : (c : After-deref_mut-2) → length c.deref_mut-2.result.now ≡ count_of c.args.tiling.now
+count_with_room c =
+    sym (length-map c.deref_mut-2.result.now as_work) ∙ ap length (works_with_room c) ∙ ap length c.self.view_is
+    ∙ c.requires.tiles
+
+pub deliver-requires-clause-tiles : goal.deliver-requires-clause-tiles
+deliver-requires-clause-tiles c = count_with_room (goal.at.deliver-requires-clause-tiles c).After-deref_mut-2
+
+pub deliver-requires-clause-inside : goal.deliver-requires-clause-inside
+deliver-requires-clause-inside c = λ k d within. (c.requires.touching k d within).inside
 
 pub deliver-requires-clause-room : goal.deliver-requires-clause-room
 deliver-requires-clause-room c = λ t within.
     let here = (goal.at.deliver-requires-clause-room c).After-deref_mut-2 in
     let tiles = c.as_slice-tiles.result.now in
-    let rows = rows_with_room here in
-    let kept = c.make_room.auto.rows in
-    let lent = ap length c.deref_mut.ensures.value in
-    let seen = ap length c.self.view_is in
-    let mapped = length-map c.self.inside.rows.items as_work in
-    let count = c.requires.tiles in
-    let same = ap length rows in
-    let in_tiling : t < count_of c.args.tiling.now = omega (arith, within, same, kept, lent, seen, mapped, count) in
+    let in_tiling : t < count_of c.args.tiling.now = subst (λ n. t < n) (count_with_room here) within in
     subst (λ (rs : List TileRow). length (hints_at c.args.tiling.now t c.args.hints.now) ≤ slice_index (rooms_of rs) t)
-    (sym rows)
+    (sym (rows_with_room here))
     (room_for_all c.args.tiling.now c.args.from c.args.hints.now tiles c.counts_at-counts.result
     (rooms_of c.make_room.new.rows) c.requires.touching
     (λ other.
@@ -52,24 +83,28 @@ deliver-requires-clause-room c = λ t within.
     (sym c.as_slice-tiles.ensures.tiles) (c.touching-touching.ensures.members other))
     c.counts_at-counts.ensures c.in_ok-make_room.ensures.room t in_tiling)
 
+pub deliver-requires-clause-waiting : goal.deliver-requires-clause-waiting
+deliver-requires-clause-waiting c =
+    c.self.invariant.waiting_in_step
+    ∙ ap waiting_bits (sym (works_with_room (goal.at.deliver-requires-clause-waiting c).After-deref_mut-2))
+
 pub invariant_of-self-2 : goal.invariant_of-self-2
 invariant_of-self-2 c =
     let here = (goal.at.invariant_of-self-2 c).After-deref_mut-2 in
-    let works : works_of c.deref_mut-2.result.now ≡ works_of c.self.inside.rows.items =
-    ap works_of (rows_with_room here) ∙ c.make_room.ensures.works ∙ ap works_of c.deref_mut.ensures.value in
     let came : AreReceived c.args.tiling.now c.args.hints.now (works_of c.self.inside.rows.items)
     (works_of c.deliver.new.rows) =
     subst (λ (ws : List TileWork). AreReceived c.args.tiling.now c.args.hints.now ws (works_of c.deliver.new.rows))
-    works c.deliver.ensures.works in
+    (works_with_room here) c.deliver.ensures.works in
     let step = received_in_step came c.self.inside.dirty c.self.inside.out c.self.inside.waiting c.deliver.new.waiting
     c.self.invariant c.deliver.ensures.waiting in
-    let kept = c.deliver.auto.rows in
-    let lent = c.deref_mut-2.ensures.len in
     subst (λ (rs : List TileRow). AreInStep (works_of rs) c.self.inside.dirty c.self.inside.out c.deliver.new.waiting)
-    (sym (written_back c.deliver.new.rows _ c.self.inside.rows.len (omega (arith, kept, lent)))) step
-
-pub deliver-requires-clause-waiting : goal.deliver-requires-clause-waiting
-deliver-requires-clause-waiting c = grind (arith, common_steps)
+    (sym (written_back c.deliver.new.rows _ c.self.inside.rows.len (c.deliver.auto.rows ∙ c.deref_mut-2.ensures.len)))
+    step
 
 pub returns-clause-ok : goal.returns-clause-ok
-returns-clause-ok c = grind (arith, common_steps)
+returns-clause-ok c =
+    let here = (goal.at.returns-clause-ok c).After-deref_mut-2 in
+    subst (λ (rs : List TileRow). AreReceived c.args.tiling.now c.args.hints.now c.args.self.now (works_of rs))
+    (sym (written_back c.deliver.new.rows _ c.self.inside.rows.len (c.deliver.auto.rows ∙ c.deref_mut-2.ensures.len)))
+    (subst (λ (ws : List TileWork). AreReceived c.args.tiling.now c.args.hints.now ws (works_of c.deliver.new.rows))
+    (works_with_room here ∙ c.self.view_is) c.deliver.ensures.works)

@@ -1,0 +1,78 @@
+use Rattle.std.proofs.Common.{arith, false, refl, subst, sym, true, Bool, IsTrue, ◌↔◌, ◌≡◌}
+use Rattle.grid_core.specs.Raster.{IsBelow, Raster}
+use Rattle.studio.proofs.keeper.mirroring.bring.Goals as goal
+use Rattle.studio.proofs.keeper.mirroring.bring.Goals.{in-Err, in-Ok}
+
+-- a marker that was found not to be below
+falls : (old found marker : Raster) (is_below : Bool) → found ≡ old → (IsTrue is_below ↔ IsBelow found marker)
+    → is_below ≡ false → IsBelow old marker → ⊥
+falls old found marker is_below same is above below =
+    let true_is : is_below ≡ true = is.1 (subst (λ (r : Raster). IsBelow r marker) (sym same) below) in
+    absurd cc
+
+pub raise-requires-clause-keeper : goal.raise-requires-clause-keeper
+raise-requires-clause-keeper c = c.requires.seat
+
+pub raise-requires-clause-above : goal.raise-requires-clause-above
+raise-requires-clause-above c = subst (λ (old : Raster). IsBelow old c.args.marker) c.marker.ensures.value
+    (c.is_below.ensures.0 c.if-is_below.true)
+
+pub raise-requires-clause-below : goal.raise-requires-clause-below
+raise-requires-clause-below c = c.requires.below
+
+pub returns-then-is_below-clause-seat : goal.returns-then-is_below-clause-seat
+returns-then-is_below-clause-seat c = c.raise.ensures.keeper
+
+pub returns-then-is_below-clause-brought : goal.returns-then-is_below-clause-brought
+returns-then-is_below-clause-brought c =
+    let rises = subst (λ (old : Raster). IsBelow old c.args.marker) c.marker.ensures.value
+    (c.is_below.ensures.0 c.if-is_below.true) in
+    record {
+      marker_is = c.raise.ensures.risen.marker_is;
+      advanced_is = ((λ advanced. absurd cc), λ none. absurd (none rises));
+      generation = omega (arith, c.raise.ensures.risen.generation_is);
+      room = λ advanced. absurd cc;
+    }
+
+pub advance-requires-clause-keeper : goal.advance-requires-clause-keeper
+advance-requires-clause-keeper c = c.requires.seat
+
+pub advance-requires-clause-below : goal.advance-requires-clause-below
+advance-requires-clause-below c = c.requires.below
+
+pub returns-clause-seat : goal.returns-clause-seat
+returns-clause-seat c = c.advance.ensures.keeper
+
+pub returns-clause-brought : goal.returns-clause-brought
+returns-clause-brought c =
+    elim c.match-advance.branch [
+      | in-Ok w ↦ let advanced = w.in-Ok.ensures.advanced in
+          rw w.result-is (record {
+            marker_is = advanced.marker_is;
+            advanced_is = (
+              (λ yes. falls _ _ _ _ c.marker.ensures.value c.is_below.ensures c.if-is_below.false),
+              λ other. refl,
+            );
+            generation = omega (arith, advanced.generation_is);
+            room = λ yes. w.in-Ok.ensures.spent;
+          })
+      | in-Err w ↦ rw w.result-is tt
+    ]
+
+pub returns-clause-refused : goal.returns-clause-refused
+returns-clause-refused c =
+    elim c.match-advance.branch [
+      | in-Ok w ↦ rw w.result-is tt
+      | in-Err w ↦ rw w.result-is w.in-Err.ensures.unchanged
+    ]
+
+pub returns-clause-spent : goal.returns-clause-spent
+returns-clause-spent c =
+    elim c.match-advance.branch [
+      | in-Ok w ↦ rw w.result-is tt
+      | in-Err w ↦ rw w.result-is (
+        refl,
+        w.in-Err.ensures.spent,
+        falls _ _ _ _ c.marker.ensures.value c.is_below.ensures c.if-is_below.false,
+      )
+    ]
