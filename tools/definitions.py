@@ -79,7 +79,7 @@ Some words of clauses are defined by the kit, and some stand beside the type or 
 | `seen` (`byte_devices`) | what contracts see of a device: a `SourceSeen`, a `SinkSeen` |
 | `Strokes` (`view_session/src/joining.rt`) | a state, with the connectivity, the fingerprint and the sides of the mask that it is for |
 | `Keeps: makes, refuses` (`view_session/src/store.rt`) | what a keeper makes over the bytes that are found, and for which reason, never V2, it refuses them |
-| `Kept: spells, has, takes, notes` (`page_server/src/kept.rt`) | of a service and the bytes of a file: they keep all of its state; it has all that they keep; it takes what they keep; and it is told that its file keeps it, or why not |
+| `Kept: spells, has, takes, notes` (`page_service/src/kept.rt`) | of a service and the bytes of a file: they keep all of its state; it has all that they keep; it takes what they keep; and it is told that its file keeps it, or why not |
 """
 
 # The files of which only private contracts cite words, each with the words that public ones cite all the same.
