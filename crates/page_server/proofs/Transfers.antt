@@ -1,9 +1,10 @@
 -- Bytes that are read or written one part after another.
-use Rattle.std.proofs.Common.{◌≡◌, ℕ, Bool, List, [], ◌∷◌, ◌++◌, length, Option, ap, ◌∙◌, append_assoc, append-nil}
+use Rattle.std.proofs.Common.{◌≡◌, ℕ, Bool, true, false, List, [], ◌∷◌, ◌++◌, length, Option, ap, ◌∙◌, append_assoc, append-nil}
 use Rattle.std.proofs.Common.{length-append, arith, ◌↔◌, IsTrue}
-use Rattle.std.specs.Io.KnownBytes.{Consumes}
-use Rattle.http_server.proofs.KnownLemmas.{Consumes-then}
-use Rattle.page_server.specs.Peer.{HasGrown}
+use Rattle.std.specs.Io.KnownBytes.{Appends, Consumes}
+use Rattle.http_server.proofs.KnownLemmas.{Appends-then, Consumes-then}
+use Rattle.page_server.specs.{declared.transfer.Attempt.Attempt, Peer.HasGrown}
+use Rattle.page_server.specs.declared.transfer.Attempt.TheVariants.{Interrupted, Moved}
 
 module _ (u v w : Option (List ℕ)) (a b c : List ℕ) where
   pub read_on : ((more : List ℕ) × Consumes u v more × (b ≡ a ++ more))
@@ -11,6 +12,14 @@ module _ (u v w : Option (List ℕ)) (a b c : List ℕ) where
   read_on x y = (
     x.0 ++ y.0,
     Consumes-then u v w x.0 y.0 x.1 y.1,
+    y.2 ∙ ap (λ (t : List ℕ). t ++ y.0) x.2 ∙ append_assoc a x.0 y.0,
+  )
+
+  pub written_on : ((more : List ℕ) × Appends u v more × (b ≡ a ++ more))
+      → ((more : List ℕ) × Appends v w more × (c ≡ b ++ more)) → (more : List ℕ) × Appends u w more × (c ≡ a ++ more)
+  written_on x y = (
+    x.0 ++ y.0,
+    Appends-then u v w x.0 y.0 x.1 y.1,
     y.2 ∙ ap (λ (t : List ℕ). t ++ y.0) x.2 ∙ append_assoc a x.0 y.0,
   )
 
@@ -31,3 +40,9 @@ module _ {X : Type 0} (a b c : List X) where
   grown_as_before was next still grown =
       let same : length c ≡ length b = ap length (stays_unless_grown b c next still) in
       (λ is. let grew = grown.0 is in omega (arith, grew, same), λ grew. grown.1 (omega (arith, grew, same)))
+
+pub not_moved : (attempt : Attempt) → attempt ≡ Interrupted → attempt ≡ Moved → ⊥
+not_moved attempt still moved = cc
+
+pub not_down : (flag : Bool) → flag ≡ true → flag ≡ false → ⊥
+not_down flag up down = cc

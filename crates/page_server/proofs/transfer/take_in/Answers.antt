@@ -2,7 +2,7 @@ use Rattle.std.proofs.Common.{sym, subst, ◌∙◌, ◌↔◌, IsTrue}
 use Rattle.http_server.specs.Connection.{history}
 use Rattle.http_server.proofs.StreamLemmas.{Calls-then}
 use Rattle.page_server.specs.Peer.{HasGrown}
-use Rattle.page_server.proofs.Transfers.{read_on, grown_at_last, grown_as_before}
+use Rattle.page_server.proofs.Transfers.{read_on, grown_at_last, grown_as_before, not_moved}
 use Rattle.page_server.proofs.transfer.take_in.Goals.{in-Moved, in-Interrupted}
 use Rattle.page_server.proofs.transfer.take_in.Goals as goal
 
@@ -38,8 +38,7 @@ loop-preserved g c =
         | in-Interrupted w ↦
             subst (λ b. IsTrue b ↔ HasGrown a d) (sym w.came-is)
             (grown_as_before a b d c.loop.came (did.read.0, did.read.2)
-            (λ grew. absurd (let e = c.in_ok-read_once.ensures.moved.1 grew in
-            let f = w.in-Interrupted.is in cc)) so_far.came)
+            (λ grew. not_moved _ w.in-Interrupted.is (c.in_ok-read_once.ensures.moved.1 grew)) so_far.came)
       ];
       rests = did.rests so_far.rests;
       config = did.config ∙ so_far.config;
