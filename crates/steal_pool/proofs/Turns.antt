@@ -1,12 +1,13 @@
 -- A job more with its report.
-use Rattle.std.proofs.Common.{◌≡◌, ℕ, List, [], ◌∷◌, ◌++◌, Option, None, option_to_list, sym, refl, ap, ◌∙◌, subst}
+use Rattle.std.proofs.Common.{◌≡◌, ℕ, Bool, true, false, List, [], ◌∷◌, ◌++◌, Option, None, option_to_list, sym, refl}
+use Rattle.std.proofs.Common.{ap, ◌∙◌, subst}
 use Rattle.std.proofs.lemmas.List.{append-nil}
 use Rattle.std.specs.List.{AllZip}
 use Rattle.tile_generations.specs.{declared.ticket.Ticket.Ticket, Jobs.Job}
 use Rattle.steal_pool.specs.{declared.report.Report.Report, declared.report.Report.TheVariants.Done}
 use Rattle.steal_pool.specs.{declared.report.Report.TheVariants.Failed, declared.report.Turn.Turn, Views.HandView}
 use Rattle.steal_pool.specs.{Views.reports, Working.IsOutcome, Working.HasWorked}
-use Rattle.steal_pool.specs.Reports.{IsReportOf, AreReported, WorksSomehow, IsTurn, AreTurns}
+use Rattle.steal_pool.specs.Reports.{IsReportOf, AreReported, WorksSomehow, IsTurn, AreTurns, IsStep}
 use Rattle.steal_pool.specs.declared.report.Turn.TheVariants as turn
 
 pub zip_push : {A B : Type 0} (R : A → B → Type 0) (xs : List A) (ys : List B) (x : A) (y : B) → AllZip R xs ys
@@ -85,3 +86,19 @@ pub one_turn_more : (old now new : HandView) (answers : List Turn) (answer : Tur
 one_turn_more old now new [] answer h t = (new, subst (λ (v : HandView). IsTurn v answer new) h t, refl)
 one_turn_more old now new (first ∷ others) answer h t =
     (h.0, h.1, one_turn_more h.0 now new others answer h.2 t)
+
+-- turns were made, so many as it may be
+abbrev pub HaveTurned : HandView → HandView → Type 0
+HaveTurned old new = (answers : List Turn) × AreTurns old answers new
+
+-- running goes on by one turn, and ends by none
+pub one_step_more : (old now new : HandView) (ends : Bool) → HaveTurned old now → ends ≡ false → IsStep now ends new
+    → HaveTurned old new
+one_step_more old now new true h not_yet step = absurd cc
+one_step_more old now new false h not_yet step =
+    (h.0 ++ step.0 ∷ [], one_turn_more old now new h.0 step.0 h.1 step.1)
+
+pub no_step_more : (old now new : HandView) (ends : Bool) → HaveTurned old now → ends ≡ true → IsStep now ends new
+    → HaveTurned old new
+no_step_more old now new true h last step = subst (λ (v : HandView). HaveTurned old v) (sym step) h
+no_step_more old now new false h last step = absurd cc

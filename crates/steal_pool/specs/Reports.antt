@@ -1,5 +1,5 @@
 -- What a hand reports of the jobs that it got, and what its turns do.
-use Rattle.std.specs.Prelude.{◌≡◌, ◌≤◌, ◌⊎◌, ℕ, List, [], ◌∷◌, ◌++◌, length, None, IsSome}
+use Rattle.std.specs.Prelude.{◌≡◌, ◌≤◌, ◌⊎◌, ℕ, Bool, true, false, List, [], ◌∷◌, ◌++◌, length, None, IsSome}
 use Rattle.std.specs.List.{AllZip}
 use Rattle.tile_generations.specs.{declared.ticket.Ticket.Ticket, Jobs.Job, Jobs.Swept}
 use Rattle.steal_pool.specs.{declared.report.Report.Report, declared.report.Turn.Turn}
@@ -33,15 +33,21 @@ WorksSomehow old new = (ticket : Ticket) × (report : Report) × Works old ticke
 -- what a turn did, by its answer.
 -- Worked, Failed: one job was got, and its report was sent after all others, so that none is held
 -- Idle: no job was got, and all reports are sent
--- RingFull: a report is held at the end, and a ring's room of reports was sent. At most one job was got
+-- RingFull: a report is held at the end, no place in the ring was seen to be free, and a ring's room of reports was
+-- sent. At most one job was got
 abbrev pub IsTurn : HandView → Turn → HandView → Type 0
 IsTurn old (turn.Worked ticket) new = (swept : Swept) × Works old ticket (Done swept) new × (new.held ≡ None)
 IsTurn old (turn.Failed ticket) new = Works old ticket (Failed ticket) new × (new.held ≡ None)
 IsTurn old turn.Idle new = (new.got ≡ old.got) × (new.sent ≡ reports old) × (new.held ≡ None)
 IsTurn old turn.RingFull new =
-    IsSome new.held × (ring_room ≤ length new.sent) × ((new ≡ old) ⊎ WorksSomehow old new)
+    IsSome new.held × (new.free ≡ 0) × (ring_room ≤ length new.sent) × ((new ≡ old) ⊎ WorksSomehow old new)
 
 -- what turns did that followed one another, by their answers
 abbrev pub AreTurns : HandView → List Turn → HandView → Type 0
 AreTurns old [] new = new ≡ old
 AreTurns old (answer ∷ answers) new = (between : HandView) × IsTurn old answer between × AreTurns between answers new
+
+-- one turn was made; or none, where the flag was read as set
+abbrev pub IsStep : HandView → Bool → HandView → Type 0
+IsStep old true new = new ≡ old
+IsStep old false new = (answer : Turn) × IsTurn old answer new

@@ -5,9 +5,10 @@ ghost use Rattle.std.specs.Prelude.{Some, None, IfSome, IfNone, MatchOption};
 ghost use Rattle.rtrb.specs.Ring.{sent, known_free};
 ghost use Rattle.crossbeam_deque.specs.Handles.{view, IsPassOf, stealer_deque};
 ghost use Rattle.steal_pool.specs.declared.report.Turn.{Turn as Answer};
-ghost use Rattle.steal_pool.specs.Reports.{AreReported, AreTurns, IsTurn};
+ghost use Rattle.steal_pool.specs.Reports.{AreReported, AreTurns, IsStep, IsTurn};
 ghost use Rattle.steal_pool.specs.Working.{Adds, HasRoom, HasWorked, IsOutcome};
-ghost use Rattle.steal_pool.specs.Views.{fresh, reports, ring_room};
+ghost use Rattle.steal_pool.specs.Views.{fresh, reports, ring_room, IsSameHand};
+ghost use Rattle.steal_pool.specs.Names.{sent_into, stolen_from};
 
 use crate::gate::Gate;
 use crate::report::{Report, Turn};
@@ -33,7 +34,8 @@ impl Thief {
     /// An end of the deque that got nothing yet.
     #[tactic(auto, using(crate::proofs::Deals::admits))]
     pub(crate) fn new(stealer: Stealer<Job, Global, EndView, Deal>) -> Thief
-        ensures { (view result.pass).got ≡ [] }
+        ensures got { (view result.pass).got ≡ [] }
+        ensures deque { stolen_from result.stealer ≡ stolen_from stealer }
     {
         let pass = stealer.pass();
         Thief { stealer, pass }
@@ -42,16 +44,18 @@ impl Thief {
     // Gets the oldest job. It is None where there is none, and where another thread took a step at the same moment.
     #[tactic(auto, using(crate::proofs::Deals::gets))]
     fn steal(&mut self) -> Option<Job>
-        ensures { MatchOption result ((view self.new.pass).got ≡ (view self.old.pass).got)
+        ensures got { MatchOption result ((view self.new.pass).got ≡ (view self.old.pass).got)
             (Adds (view self.old.pass).got (view self.new.pass).got) }
+        ensures deque { stolen_from self.new.stealer ≡ stolen_from self.old.stealer }
     {
         self.stealer.steal_as::<Got>(&mut self.pass).success()
     }
 }
 
 /// Who sweeps jobs, mostly in a thread of its own. Contracts see the jobs that it got, each with its place among the
-/// pushed, the reports that it sent, and the one that it holds, if any. Each job that it got has its report, in that
-/// order, among those that it sent, followed by the one that it holds. It may outlive its owner.
+/// pushed, the reports that it sent, and the one that it holds, if any; how many free places of its ring it knows of;
+/// and which deque and which ring it has. Each job that it got has its report, in that order, among those that it sent,
+/// followed by the one that it holds. It may outlive its owner.
 #[derive(Drop)]
 pub struct Hand {
     alloc: Global,
@@ -67,10 +71,18 @@ impl Model for Hand {
     ghost use Rattle.steal_pool.specs.Reports.{AreReported};
     ghost use Rattle.steal_pool.specs.Working.{HasRoom};
     ghost use Rattle.steal_pool.specs.Views.{HandView};
+    ghost use Rattle.steal_pool.specs.Names.{sent_into, stolen_from};
 
     ghost Value = { HandView };
 
-    ghost view = { λ h. record { got = (pass_view h.thief.pass).got; sent = sent h.ring; held = h.held } };
+    ghost view = { λ h. record {
+      got = (pass_view h.thief.pass).got;
+      sent = sent h.ring;
+      held = h.held;
+      free = known_free h.ring;
+      deque = stolen_from h.thief.stealer;
+      ring = sent_into h.ring;
+    } };
 
     ghost invariant = { λ h.
         AreReported (pass_view h.thief.pass).got (sent h.ring ++ option_to_list h.held)
@@ -84,6 +96,8 @@ fn send(ring: &mut Producer<Report>, report: Report) -> Option<Report>
     ensures room { HasRoom (known_free ring.new) (sent ring.new) }
     ensures same { IfSome result (λ kept. (report ≡ kept) × (sent ring.new ≡ sent ring.old)) }
     ensures full { IfSome result (λ _. ring_room ≤ length (sent ring.new)) }
+    ensures none_free { IfSome result (λ _. (known_free ring.old ≡ 0) × (known_free ring.new ≡ 0)) }
+    ensures ring { sent_into ring.new ≡ sent_into ring.old }
 {
     match ring.push(report) {
         Ok(()) => None,
@@ -98,6 +112,8 @@ fn flush(ring: &mut Producer<Report>, held: Option<Report>) -> Option<Report>
     ensures room { HasRoom (known_free ring.new) (sent ring.new) }
     ensures same { IfSome result (λ kept. (held ≡ Some kept) × (sent ring.new ≡ sent ring.old)) }
     ensures full { IfSome result (λ _. ring_room ≤ length (sent ring.new)) }
+    ensures none_free { IfSome result (λ _. (known_free ring.old ≡ 0) × (known_free ring.new ≡ 0)) }
+    ensures ring { sent_into ring.new ≡ sent_into ring.old }
 {
     match held {
         Some(report) => send(ring, report),
@@ -131,6 +147,9 @@ fn work<G: Gate>(
         (view thief.new.pass).got (sent ring.new ++ option_to_list r.1)) }
     ensures room { HasRoom (known_free ring.new) (sent ring.new) }
     ensures full { IfSome result (λ r. IfSome r.1 (λ _. ring_room ≤ length (sent ring.new))) }
+    ensures none_free { IfSome result (λ r. IfSome r.1 (λ _. known_free ring.new ≡ 0)) }
+    ensures ring { sent_into ring.new ≡ sent_into ring.old }
+    ensures deque { stolen_from thief.new.stealer ≡ stolen_from thief.old.stealer }
 {
     let job = thief.steal()?;
     gate.pass(job.ticket());
@@ -143,8 +162,8 @@ impl Hand {
     pub(crate) fn new(alloc: Global, thief: Thief, ring: Producer<Report>) -> Hand
         requires got { (view thief.pass).got ≡ [] }
         requires sent { sent ring ≡ [] }
-        requires room { HasRoom (known_free ring) (sent ring) }
-        ensures { result ≡ fresh }
+        requires room { known_free ring ≡ ring_room }
+        ensures { result ≡ fresh (stolen_from thief.stealer) (sent_into ring) }
     {
         Hand {
             alloc,
@@ -163,6 +182,7 @@ impl Hand {
     pub fn turn<G: Gate>(&mut self, gate: &G) -> Turn
         ensures turn { IsTurn self.old result self.new }
         ensures reported { AreReported self.new.got (reports self.new) }
+        ensures same { IsSameHand self.old self.new }
     {
         if let Some(report) = flush(&mut self.ring, self.held.take()) {
             self.held = Some(report);
@@ -181,21 +201,38 @@ impl Hand {
     /// Makes turns until the flag is set. It looks at the flag before each turn, and yields its processor after each
     /// one that was not answered by `Worked`. A report that is held at the end is sent by a later turn, if there is
     /// one.
-    #[tactic(auto, using(crate::proofs::Turns::one_turn_more))]
+    #[tactic(auto, using(crate::proofs::Turns::one_step_more, crate::proofs::Turns::no_step_more))]
     pub fn run<G: Gate, R: Wait>(&mut self, rt: &R, gate: &G, done: &AtomicBool)
         ensures turns { (answers : List Answer) × AreTurns self.old answers self.new }
         ensures reported { AreReported self.new.got (reports self.new) }
+        ensures same { IsSameHand self.old self.new }
     {
         // What the hand keeps is known to the prover where a field of it is read.
         let _alloc = &self.alloc;
         for _ in rt.forever() {
-            if done.load(Ordering::SeqCst) {
+            let is_set = done.load(Ordering::SeqCst);
+            if self.ends(gate, is_set) {
                 return;
             }
-            match self.turn(gate) {
-                Turn::Worked(_) => {}
-                Turn::Idle | Turn::RingFull | Turn::Failed(_) => thread::yield_now(),
-            }
         }
+    }
+
+    // Makes one turn, or none where the flag was read as set. It says whether running ends: by the flag, and by nothing
+    // that a turn answers.
+    fn ends<G: Gate>(&mut self, gate: &G, is_set: bool) -> bool
+        ensures flag { result ≡ is_set }
+        ensures step { IsStep self.old result self.new }
+        ensures reported { AreReported self.new.got (reports self.new) }
+        ensures same { IsSameHand self.old self.new }
+    {
+        let _alloc = &self.alloc;
+        if is_set {
+            return true;
+        }
+        match self.turn(gate) {
+            Turn::Worked(_) => {}
+            Turn::Idle | Turn::RingFull | Turn::Failed(_) => thread::yield_now(),
+        }
+        false
     }
 }

@@ -19,8 +19,9 @@
 //! What a report is good for is for the caller to judge: a result may come too late, and a job may have failed for want
 //! of memory. Nothing is promised of when a job is got, by which hand, or that a report is collected.
 //!
-//! Read on in `specs/Deal.antt`, which says who got which job, and in `specs/Reports.antt`, which says what is reported
-//! and what each answer of a turn means.
+//! Read on in `specs/Views.antt`, which says what contracts see of owner and hands, and who belongs together; in
+//! `specs/Deal.antt`, which says who got which job; and in `specs/Reports.antt`, which says what is reported and what
+//! each answer of a turn means.
 
 mod gate;
 mod hand;

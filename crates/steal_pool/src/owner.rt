@@ -1,7 +1,7 @@
 //! The owner of the jobs.
 
-ghost use Rattle.std.specs.Prelude.{◌≡◌, ◌≤◌, ◌<◌, [], ◌∷◌, ◌++◌, length, slice_set, slice_index_or};
-ghost use Rattle.std.specs.Prelude.{OnOk, OnErr, IfErr, IfSome, IfNone};
+ghost use Rattle.std.specs.Prelude.{◌≡◌, ◌≤◌, ◌<◌, [], ◌∷◌, ◌++◌, length, OnOk, OnErr, IfErr, IfSome, IfNone};
+ghost use Rattle.steal_pool.specs.Views.{HasCollected, waiting_of};
 
 use crate::report::Report;
 use crate::rule::{Deal, EndView, Pushed};
@@ -11,8 +11,8 @@ use std::alloc::Global;
 use std::marker::Model;
 use tile_generations::Job;
 
-/// Who pushes jobs for the hands, and collects their reports. Contracts see the jobs that it pushed, the capacity, and
-/// the reports that it collected of each hand.
+/// Who pushes jobs for the hands, and collects their reports. Contracts see the jobs that it pushed, the capacity, the
+/// reports that it collected of each hand and those that it has seen besides, and which deque and which rings it has.
 #[derive(Drop)]
 pub struct Owner {
     pub(crate) deque: Worker<Job, Global, EndView, Deal>,
@@ -22,10 +22,11 @@ pub struct Owner {
 
 impl Model for Owner {
     ghost use Rattle.std.specs.Prelude.{◌≡◌, ◌≤◌, length, map};
-    ghost use Rattle.rtrb.specs.Ring.{received};
+    ghost use Rattle.rtrb.specs.Ring.{received, known_items};
     ghost use Rattle.crossbeam_deque.specs.Handles.{worker_view, worker_port, worker_flavor};
     ghost use Rattle.crossbeam_deque.specs.Handles.{worker_index, worker_capacity};
     ghost use Rattle.steal_pool.specs.Views.{OwnerView};
+    ghost use Rattle.steal_pool.specs.Names.{deque_of, read_from};
 
     ghost Value = { OwnerView };
 
@@ -33,6 +34,9 @@ impl Model for Owner {
       pushed = (worker_view o.deque).pushed;
       capacity = o.capacity;
       collected = map received o.rings.items;
+      waiting = map known_items o.rings.items;
+      deque = deque_of o.deque;
+      rings = map read_from o.rings.items;
     } };
 
     ghost invariant = { λ o.
@@ -62,23 +66,24 @@ impl Owner {
         self.deque.push_as::<Pushed>(job)
     }
 
-    /// The oldest report that this hand sent and that was not collected yet. Hands count from 0. It waits for nobody.
+    /// The oldest report that was sent into the ring of this hand and not collected yet. Hands count from 0. It waits
+    /// for nobody.
     ///
-    /// It is `None` where no such report has come, and where there is no such hand. Nothing is lost then.
-    #[tactic(auto, using(crate::proofs::Rings::map_set, crate::proofs::Rings::map_kept, crate::proofs::Rings::map_at))]
+    /// It is `None` where the ring is looked into and none is found, and where there is no such hand. Nothing is lost
+    /// then.
+    #[tactic(auto, using(crate::proofs::Rings::map_past))]
     pub fn collect(&mut self, hand: usize) -> Option<Report>
         ensures none { IfNone result (self.new ≡ self.old) }
+        ensures empty { IfNone result (waiting_of self.new hand ≡ []) }
         ensures some { IfSome result (λ report. hand < length self.old.collected) }
-        ensures collected { IfSome result (λ report. self.new ≡ record self.old {
-          collected = slice_set self.old.collected hand (slice_index_or self.old.collected hand [] ++ report ∷ []);
-        }) }
+        ensures collected { IfSome result (λ report. HasCollected self.old hand report self.new) }
     {
         if hand >= self.rings.len() {
             return None;
         }
-        match self.rings[hand].pop() {
-            Ok(report) => Some(report),
-            Err(_) => None,
-        }
+        let Ok(report) = self.rings[hand].pop() else {
+            return None;
+        };
+        Some(report)
     }
 }

@@ -1,7 +1,7 @@
 //! Pools.
 
-ghost use Rattle.std.specs.Prelude.{◌≡◌, ◌≤◌, [], replicate, IfOk};
-ghost use Rattle.steal_pool.specs.Views.{fresh};
+ghost use Rattle.std.specs.Prelude.{◌≡◌, ◌≤◌, [], length, replicate, IfOk};
+ghost use Rattle.steal_pool.specs.Views.{AreFresh};
 
 use crate::hand::{Hand, Thief};
 use crate::owner::Owner;
@@ -26,7 +26,8 @@ pub struct Pool {
 }
 
 impl Pool {
-    /// An owner, whose first `capacity` pushes succeed, and 1 to 16 hands that did nothing yet.
+    /// An owner, whose first `capacity` pushes succeed, and 1 to 16 hands that did nothing yet. The hands steal from
+    /// the owner's deque, and each has a ring of 64 places, which the owner reads.
     ///
     /// Errors: out of memory. A capacity above 2^39 is taken for that.
     #[tactic(auto, using(crate::proofs::Deals::begins))]
@@ -36,7 +37,9 @@ impl Pool {
         ensures pushed { IfOk result (λ pool. pool.owner.pushed ≡ []) }
         ensures capacity { IfOk result (λ pool. pool.owner.capacity ≡ capacity) }
         ensures collected { IfOk result (λ pool. pool.owner.collected ≡ replicate hands []) }
-        ensures hands { IfOk result (λ pool. pool.hands.items ≡ replicate hands fresh) }
+        ensures waiting { IfOk result (λ pool. pool.owner.waiting ≡ replicate hands []) }
+        ensures rings { IfOk result (λ pool. length pool.owner.rings ≡ hands) }
+        ensures hands { IfOk result (λ pool. AreFresh pool.owner pool.hands.items) }
     {
         let deque: Worker<Job, Global, EndView, Deal> = Worker::fifo_as(alloc, capacity)?;
         let mut rings = Vec::with_capacity(alloc, hands)?;

@@ -18,8 +18,9 @@ pub enum Turn {
     Worked(Ticket),
     /// No job was got: none was there, or just then another hand got one. No report is held.
     Idle,
-    /// A report is held at the end, since the ring is full: the one that was held before, and then no job was got, or
-    /// that of a job which was got in this turn. It never comes before the hand sent 64 reports.
+    /// A report is held at the end, since no place in the ring was seen to be free: the one that was held before, and
+    /// then no job was got, or that of a job which was got in this turn. It never comes before the hand sent 64
+    /// reports.
     RingFull,
     /// The job of this ticket was got, there was no memory to sweep it, and that was reported. No report is held.
     Failed(Ticket),

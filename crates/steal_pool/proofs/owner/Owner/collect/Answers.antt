@@ -1,0 +1,39 @@
+use Rattle.std.proofs.Common.{ℕ, [], Global, arith}
+use Rattle.crossbeam_deque.specs.{Handles.worker_view, declared.handles.Worker.Worker}
+use Rattle.tile_generations.specs.Jobs.{Job}
+use Rattle.steal_pool.specs.{declared.rule.Deal.Deal, declared.rule.EndView.EndView, Names.deque_of, Views.OwnerView}
+use Rattle.steal_pool.proofs.Rings.{none_left, not_popped, popped}
+use Rattle.steal_pool.proofs.owner.Owner.collect.Goals as goal
+
+-- the owner of this deque, without its ends of rings
+abbrev bare : Worker Job Global EndView Deal → ℕ → OwnerView
+bare deque capacity = record {
+  pushed = (worker_view deque).pushed;
+  capacity = capacity;
+  collected = [];
+  waiting = [];
+  deque = deque_of deque;
+  rings = [];
+}
+
+pub returns-in_default-clause-none : goal.returns-in_default-clause-none
+returns-in_default-clause-none c =
+    let was = c.self.inside in
+    rw (← c.self.view_is)
+    (not_popped (bare was.deque was.capacity) was.rings.items c.args.hand c.index_mut.result.now c.pop.new.self
+    (omega (arith, was.rings.ok.0)) c.index_mut.ensures.value c.pop.ensures.ring.0.2 c.in_default.ensures.empty.0
+    (λ some. let no = c.in_default.ensures.succeeds some in cc) c.in_default.ensures.empty.1)
+
+pub returns-in_default-clause-empty : goal.returns-in_default-clause-empty
+returns-in_default-clause-empty c =
+    let was = c.self.inside in
+    none_left (bare was.deque was.capacity) was.rings.items c.args.hand c.index_mut.result.now c.pop.new.self
+    (omega (arith, was.rings.ok.0)) c.index_mut.ensures.value c.pop.ensures.ring.0.2 c.in_default.ensures.empty.1
+
+pub returns-clause-collected : goal.returns-clause-collected
+returns-clause-collected c =
+    let was = c.self.inside in
+    rw (← c.self.view_is)
+    (popped (bare was.deque was.capacity) was.rings.items c.args.hand c.index_mut.result.now c.pop.new.self
+    (omega (arith, was.rings.ok.0)) c.index_mut.ensures.value c.pop.ensures.ring.0.2 c.in-Ok.report
+    c.in-Ok.ensures.ok.0 c.in-Ok.ensures.ok.1)
