@@ -77,10 +77,19 @@ same_taken a b books number same (place, end, at, is, (desk, there, all)) =
       (desk, ap (λ (n : ℕ). get_elem? books.desks n) like.number ∙ there, all ∙ sym like.submitted),
     )
 
-pub same_spent : (a b : List PenEnd) → AreSame a b → HasSpentCount a → HasSpentCount b
-same_spent a b same (place, end, at, more) =
-    let (other, here, like) = same_at a b place end same at in
-    (place, other, here, subst (λ (edits : _). most_edits < length edits) (sym like.submitted) more)
+pub same_spent : (a b : List PenEnd) (books : BooksView) → AreSame a b → HasSpentCount a books → HasSpentCount b books
+same_spent a b books same (place, end, at, (desk, there, most, more)) =
+    let (other, here, like) = same_at a b place end same at in (
+      place,
+      other,
+      here,
+      (
+        desk,
+        ap (λ (n : ℕ). get_elem? books.desks n) like.number ∙ there,
+        most,
+        subst (λ (edits : _). most_edits < length edits) (sym like.submitted) more,
+      ),
+    )
 
 -- ---- ends that are kept
 
@@ -192,9 +201,9 @@ one_whole ends new place number end is here whole =
 
 -- it submitted more than can be counted
 pub one_spent : (ends : List PenEnd) (new : BooksView) (place number : ℕ) (end : PenEnd) → IsPlaceOf ends number place
-    → end ≡ get_or ends place end → IsSpent new end → HasSpentCount ends
-one_spent ends new place number end is here (desk, there, most, more) =
-    (place, end, (same_number ends place number end is here).0, more)
+    → end ≡ get_or ends place end → IsSpent new end → HasSpentCount ends new
+one_spent ends new place number end is here spent =
+    (place, end, (same_number ends place number end is here).0, spent)
 
 -- one pen more
 pub taken_more : (start now : List PenEnd) (old new : BooksView) (number : ℕ) → AreSame start now

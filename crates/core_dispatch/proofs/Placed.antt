@@ -69,6 +69,10 @@ one_around t old Pushed new (job, taken, same) = record {
   rest = ap (λ (d : Dispatcher). d.books) same;
   capacity = ap (λ (d : Dispatcher). d.owner.capacity) same;
   pushed = omega (arith, ap (λ (d : Dispatcher). length d.owner.pushed) same, length-append {A = Job});
+  hands = record {
+    deque = ap (λ (d : Dispatcher). d.owner.deque) same;
+    rings = ap (λ (d : Dispatcher). d.owner.rings) same;
+  };
 }
 one_around t old Refused new (job, between, taken, abandoned, same, full) = around_core old new same
 one_around t old Wanting new (ready, same) = around_itself old new same

@@ -6,7 +6,7 @@ use Rattle.tile_generations.specs.{declared.ticket.Ticket.Ticket, Jobs.Swept}
 use Rattle.core_rules.specs.{declared.answers.Back.Back, Work.Core, Runs.Entry, Runs.IsRun}
 use Rattle.core_rules.specs.declared.answers.Back.TheVariants.{Joined, Again, Stale, Stranger}
 use Rattle.core_rules.proofs.Running.{run_append}
-use Rattle.steal_pool.specs.declared.report.Report.{Report}
+use Rattle.steal_pool.specs.{declared.report.Report.Report, Views.OwnerView}
 use Rattle.steal_pool.specs.declared.report.Report.TheVariants.{Done, Failed}
 use Rattle.core_dispatch.specs.{declared.dispatcher.Dispatcher.Dispatcher, Turns.AreOfReports}
 use Rattle.core_dispatch.specs.Reports.{IsDropped, IsAnswered, Leads, AreCollected, results_in}
@@ -23,13 +23,13 @@ pub reported : (hand : ℕ) (old : Dispatcher) (answers : List (Option Bool)) (n
     → AreCollected hand old answers new → HaveReported old.books.core (sum_by results_in answers) new.books.core
 reported hand old [] new same =
     record { log = []; are_reports = refl; run = ap (λ (d : Dispatcher). d.books.core) same }
-reported hand old (None ∷ answers) new (next, same, rest) =
+reported hand old (None ∷ answers) new (next, (same, none_left), rest) =
     let more = reported (hand + 1) next answers new rest in
     let counts = sum_by-cons results_in None answers in
     let count : sum_by results_in answers ≡ sum_by results_in (None ∷ answers) = omega (arith, counts) in
     subst (λ (n : ℕ). HaveReported old.books.core n new.books.core) count
     (subst (λ (d : Dispatcher). HaveReported d.books.core (sum_by results_in answers) new.books.core) same more)
-reported hand old (Some wanting ∷ answers) new (next, (report, judged, same), rest) =
+reported hand old (Some wanting ∷ answers) new (next, (report, collected, judged, same), rest) =
     let more = reported (hand + 1) next answers new rest in
     let counts = sum_by-cons results_in (Some wanting) answers in
     let count : suc (sum_by results_in answers) ≡ sum_by results_in (Some wanting ∷ answers) =
@@ -45,16 +45,19 @@ reported hand old (Some wanting ∷ answers) new (next, (report, judged, same), 
 pub collected_around : (hand : ℕ) (old : Dispatcher) (answers : List (Option Bool)) (new : Dispatcher)
     → AreCollected hand old answers new → KeepsAround old new
 collected_around hand old [] new same = around_itself old new same
-collected_around hand old (None ∷ answers) new (next, same, rest) =
+collected_around hand old (None ∷ answers) new (next, (same, none_left), rest) =
     around_through old next new (around_itself old next same)
     (collected_around (hand + 1) next answers new rest)
-collected_around hand old (Some wanting ∷ answers) new (next, (report, judged, same), rest) =
+collected_around hand old (Some wanting ∷ answers) new (next, (report, collected, judged, same), rest) =
+    let owner = collected.new_is in
     around_through old next new (record {
       rest = judged.rest;
-      capacity = ap (λ (d : Dispatcher). d.owner.capacity) same;
-      pushed =
-          let pushes = ap (λ (d : Dispatcher). length d.owner.pushed) same in
-          omega (arith, pushes);
+      capacity = ap (λ (o : OwnerView). o.capacity) owner;
+      pushed = let pushes = ap (λ (o : OwnerView). length o.pushed) owner in omega (arith, pushes);
+      hands = record {
+        deque = ap (λ (o : OwnerView). o.deque) owner;
+        rings = ap (λ (o : OwnerView). o.rings) owner;
+      };
     })
     (collected_around (hand + 1) next answers new rest)
 

@@ -5,6 +5,7 @@ use Rattle.std.proofs.lemmas.List.{length-append}
 use Rattle.core_rules.specs.{Work.Core, Sweeps.IsReady, Runs.Entry, Runs.IsRun, Runs.HasHints}
 use Rattle.core_rules.specs.Events.{Hand}
 use Rattle.core_rules.proofs.Running.{run_append}
+use Rattle.steal_pool.specs.Views.{IsSamePool}
 use Rattle.core_dispatch.specs.{declared.refusal.Refusal.Refusal, Books.BooksView, Handing.AreHands, Handing.Counts}
 use Rattle.core_dispatch.specs.{declared.turned.Turned.Turned, declared.turned.Results.Results}
 use Rattle.core_dispatch.specs.{declared.turned.Jobs.Jobs, declared.dispatcher.Dispatcher.Dispatcher}
@@ -114,6 +115,12 @@ module _ (old : Dispatcher) (turned : Turned) (new : Dispatcher) (h : HasTurned 
 
   pub turn_capacity : new.owner.capacity ≡ old.owner.capacity
   turn_capacity = after.capacity ∙ ap (λ (d : Dispatcher). d.owner.capacity) h.other
+
+  pub turn_hands : IsSamePool old.owner new.owner
+  turn_hands = record {
+    deque = after.hands.deque ∙ ap (λ (d : Dispatcher). d.owner.deque) h.other;
+    rings = after.hands.rings ∙ ap (λ (d : Dispatcher). d.owner.rings) h.other;
+  }
 
   -- ---- turns in which no edit was merged
 

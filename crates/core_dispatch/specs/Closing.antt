@@ -5,11 +5,11 @@ use mathlib.Core.Option.{some}
 use lib.ListN.{get_elem?}
 use Rattle.core_rules.specs.Runs.{Entry, IsRun}
 use Rattle.steal_pool.specs.Views.{ring_room}
-use Rattle.core_dispatch.specs.{declared.pen.PenEnd.PenEnd, Books.BooksView, Taking.HaveTakenEdits, Taking.most_edits}
+use Rattle.core_dispatch.specs.{declared.pen.PenEnd.PenEnd, Books.BooksView, Taking.HaveTakenEdits}
 use Rattle.core_dispatch.specs.{declared.error.CloseError.CloseError, declared.error.CloseError.TheVariants.EndMissing}
 use Rattle.core_dispatch.specs.{declared.error.CloseError.TheVariants.CountSpent, declared.turned.Results.Results}
 use Rattle.core_dispatch.specs.{declared.dispatcher.Dispatcher.Dispatcher, Reports.HaveCollected, Growing.GrowsOn}
-use Rattle.core_dispatch.specs.Pens.{IsEndOf, IsSameEnd, HasAllOf, KeepsPens, all_submitted, end_number}
+use Rattle.core_dispatch.specs.Pens.{IsEndOf, IsSameEnd, HasAllOf, IsSpent, KeepsPens, end_number}
 
 -- each end is of a pen of the books
 abbrev pub AreEndsOf : List PenEnd → BooksView → Type 0
@@ -81,10 +81,10 @@ pub record HasTakenRest (old new : Dispatcher) : Type 0 where
   pub edits : HasTakenEdits old edited
   pub reports : HasTakenReports edited new
 
--- one of the pens submitted more edits than can be counted
-abbrev pub HasSpentCount : List PenEnd → Type 0
-HasSpentCount ends =
-    (place : ℕ) × (end : PenEnd) × (get_elem? ends place ≡ some end) × (most_edits < length (all_submitted end))
+-- as many edits of one of the pens were taken as can be counted, and it submitted more
+abbrev pub HasSpentCount : List PenEnd → BooksView → Type 0
+HasSpentCount ends books =
+    (place : ℕ) × (end : PenEnd) × (get_elem? ends place ≡ some end) × IsSpent books end
 
 -- there was one end of each pen, and all that is left was taken: all that each pen submitted, and then the reports that
 -- may wait
@@ -98,6 +98,6 @@ pub record HasTakenAll (old : Dispatcher) (ends : List PenEnd) (new : Dispatcher
 pub record HasNotTakenAll (old : Dispatcher) (ends : List PenEnd) (new : Dispatcher) (why : CloseError) : Type 0 where
   pub missing : (why ≡ EndMissing) ↔ (IsOneOfEach ends old.books → ⊥)
   pub nothing : why ≡ EndMissing → new ≡ old
-  pub spent : why ≡ CountSpent → HasSpentCount ends
+  pub spent : why ≡ CountSpent → HasSpentCount ends new.books
   pub goes_on : HasGoneOn old new
   pub stays : HasTakenEdits old new

@@ -1,13 +1,12 @@
 -- What becomes of the reports that are taken of hands.
-use Rattle.std.specs.Prelude.{◌≡◌, ℕ, ◌+◌, Bool, true, false, List, [], ◌∷◌, ◌++◌, length, slice_set, slice_index_or}
-use Rattle.std.specs.Prelude.{Option, Some, None, IsTrue, sum_by}
+use Rattle.std.specs.Prelude.{◌≡◌, ℕ, ◌+◌, Bool, true, false, List, [], ◌∷◌, length, Option, Some, None, IsTrue, sum_by}
 use Rattle.std.specs.List.{list_any}
 use Rattle.tile_generations.specs.{declared.ticket.Ticket.Ticket, Jobs.Swept}
 use Rattle.core_rules.specs.{declared.answers.Back.Back, Work.Core, Runs.Entry, Runs.IsRun}
 use Rattle.core_rules.specs.declared.answers.Back.TheVariants.{Joined, Again, Stale, Stranger}
 use Rattle.core_rules.specs.Events.{GiveBack, Abandon, OfGiveBack, OfAbandon}
 use Rattle.reset_core.specs.Answers.{IsJoinable}
-use Rattle.steal_pool.specs.{declared.report.Report.Report, Views.OwnerView}
+use Rattle.steal_pool.specs.{declared.report.Report.Report, Views.HasCollected, Views.waiting_of}
 use Rattle.steal_pool.specs.declared.report.Report.TheVariants.{Done, Failed}
 use Rattle.core_dispatch.specs.Books.{BooksView, KeepsRest}
 use Rattle.core_dispatch.specs.{declared.turned.Results.Results, declared.dispatcher.Dispatcher.Dispatcher}
@@ -56,20 +55,13 @@ pub record IsJudged (old : BooksView) (report : Report) (wanting : Bool) (new : 
   pub memory : IsTrue wanting → CanWant old.core report
   pub rest : KeepsRest old new
 
--- this report was collected of the hand, and no other
-abbrev pub collecting : OwnerView → ℕ → Report → OwnerView
-collecting owner hand report =
-    record owner {
-      collected = slice_set owner.collected hand (slice_index_or owner.collected hand [] ++ report ∷ []);
-    }
-
--- the hand was asked for a report: there was none; or there was one, which was given to the core, and memory was
--- wanting for that or not
+-- the hand was asked for a report: there was none, and none that was seen in its ring is left; or there was one, which
+-- was collected and given to the core, and memory was wanting for that or not
 abbrev pub IsCollected : ℕ → Dispatcher → Option Bool → Dispatcher → Type 0
-IsCollected hand old None new = new ≡ old
+IsCollected hand old None new = (new ≡ old) × (waiting_of new.owner hand ≡ [])
 IsCollected hand old (Some wanting) new =
-    (report : Report) × IsJudged old.books report wanting new.books
-    × (new ≡ record old { books = new.books; owner = collecting old.owner hand report })
+    (report : Report) × HasCollected old.owner hand report new.owner × IsJudged old.books report wanting new.books
+    × (new ≡ record old { books = new.books; owner = new.owner })
 
 -- the hands, from the one of this number on, were asked for a report each, in order, and this is what they answered
 abbrev pub AreCollected : ℕ → Dispatcher → List (Option Bool) → Dispatcher → Type 0

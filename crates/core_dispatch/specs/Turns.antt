@@ -2,7 +2,7 @@
 use Rattle.std.specs.Prelude.{◌≡◌, ◌≤◌, ℕ, zero, suc, ◌+◌, ◌||◌, Bool, true, false, List, [], ◌∷◌, ◌++◌, length, Some}
 use Rattle.core_rules.specs.{Work.Core, Sweeps.IsReady, Events.Take, Events.Abandon, Events.OfTake, Events.OfAbandon}
 use Rattle.core_rules.specs.Runs.{Entry, IsRun, HasHints, jobs_of, abandons_of}
-use Rattle.steal_pool.specs.declared.report.Report.{Report}
+use Rattle.steal_pool.specs.{declared.report.Report.Report, Views.IsSamePool}
 use Rattle.core_dispatch.specs.{declared.taken.Edits.Edits, Growing.GrowsOn, Pens.KeepsPens, Handing.HaveHanded}
 use Rattle.core_dispatch.specs.{Handing.AreHands, Handing.Counts, Taking.IsRound, Taking.HaveTakenEdits}
 use Rattle.core_dispatch.specs.{Taking.AreMerges, declared.turned.Turned.Turned, declared.turned.Results.Results}
@@ -69,7 +69,7 @@ IsStill old turned new = HasMergedNone old turned new × (turned.results ≡ 0) 
 -- a turn was taken: what it did is a list of the core's events. Afterwards no hint waits, and where memory was not
 -- wanting each dirty tile is out, or as many jobs were pushed as surely find a place. Strokes only join; where no edit
 -- was merged they are as before, and where besides nothing else happened the image is. The strokes at opening, the
--- pool's capacity and the pens' desks stay
+-- pool's capacity and hands, and the pens' desks stay
 pub record TakesTurn (old : Dispatcher) (turned : Turned) (new : Dispatcher) : Type 0 where
   pub turned_is : HasTurned old turned new
   pub events : AreEvents old.books.core turned new.books.core
@@ -81,4 +81,5 @@ pub record TakesTurn (old : Dispatcher) (turned : Turned) (new : Dispatcher) : T
   pub image : IsStill old turned new → new.books.core.image ≡ old.books.core.image
   pub opening : new.books.opening ≡ old.books.opening
   pub capacity : new.owner.capacity ≡ old.owner.capacity
+  pub hands : IsSamePool old.owner new.owner
   pub pens : KeepsPens old.books new.books

@@ -41,7 +41,8 @@ impl Dispatcher {
         requires ends { AreEndsOf ends.old.items (books_by self.old) }
         requires each { HaveEach (length (books_by self.old).desks) ends.old.items }
         ensures whole { OnOk result (AreAllTaken (books_by self.new) ends.old.items) }
-        ensures spent { IfErr result (λ why. why ≡ errors.CountSpent → HasSpentCount ends.old.items) }
+        ensures spent { IfErr result
+            (λ why. why ≡ errors.CountSpent → HasSpentCount ends.old.items (books_by self.new)) }
         ensures why { IfErr result (λ why. why ≢ errors.EndMissing) }
         ensures ends { AreKept ends.old.items ends.new.items (books_by self.new) }
         ensures goes_on { HasGoneOn self.old self.new }
@@ -62,7 +63,8 @@ impl Dispatcher {
         ensures whole { OnOk result (IsAllTaken (books_by self.new) ends.old.items number) }
         ensures others { (n : ℕ) → n < number → IsAllTaken (books_by self.old) ends.old.items n
             → IsAllTaken (books_by self.new) ends.old.items n }
-        ensures spent { IfErr result (λ why. why ≡ errors.CountSpent → HasSpentCount ends.old.items) }
+        ensures spent { IfErr result
+            (λ why. why ≡ errors.CountSpent → HasSpentCount ends.old.items (books_by self.new)) }
         ensures why { IfErr result (λ why. why ≢ errors.EndMissing) }
         ensures ends { AreKept ends.old.items ends.new.items (books_by self.new) }
         ensures goes_on { HasGoneOn self.old self.new }

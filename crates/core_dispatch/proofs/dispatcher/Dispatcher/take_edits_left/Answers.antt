@@ -34,7 +34,7 @@ returns-in_err-take_edits_of-clause-spent c =
     let p = err_from_is_err_and c.from_residual.result c.from_residual.ensures.1 in
     rw (p.1, p.2)
     (λ is.
-    same_spent now start (same_back start now c.loop-number.invariant.ends.0)
+    same_spent now start c.take_edits_of.new.self.books (same_back start now c.loop-number.invariant.ends.0)
     (c.in_err-take_edits_of.ensures.spent is))
 
 pub returns-in_err-take_edits_of-clause-why : goal.returns-in_err-take_edits_of-clause-why

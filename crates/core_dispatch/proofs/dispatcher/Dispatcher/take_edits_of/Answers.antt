@@ -38,7 +38,7 @@ pub returns-in-Some-clause-spent : goal.returns-in-Some-clause-spent
 returns-in-Some-clause-spent c =
     let end = c.index_mut.result.now in
     IfErr-weaker c.take_rest.result (λ why. why ≡ errors.CountSpent → IsSpent c.take_rest.new.self end)
-    (λ why. why ≡ errors.CountSpent → HasSpentCount c.args.ends.now.items)
+    (λ why. why ≡ errors.CountSpent → HasSpentCount c.args.ends.now.items c.take_rest.new.self)
     (λ why spent is.
     one_spent c.args.ends.now.items c.take_rest.new.self c.in-Some.place c.args.number end c.in-Some.ensures
     c.index_mut.ensures.value (spent is)) c.take_rest.ensures.spent

@@ -8,7 +8,7 @@ use Rattle.core_dispatch.specs.{Reports.HaveCollected, Jobs.HavePushed, Jobs.wit
 use Rattle.core_dispatch.specs.{Turns.TakesTurn}
 use Rattle.core_dispatch.proofs.{Rounds.pens_through, Around.rest_pens}
 use Rattle.core_dispatch.proofs.Turning.{no_hints_after, after_edits, turn_events, turn_grows, turn_all_out}
-use Rattle.core_dispatch.proofs.Turning.{turn_opening, turn_capacity, turn_state, turn_image}
+use Rattle.core_dispatch.proofs.Turning.{turn_opening, turn_capacity, turn_hands, turn_state, turn_image}
 use Rattle.core_dispatch.proofs.dispatcher.Dispatcher.turn.Goals as goal
 
 module _ (old : Dispatcher) (edits : Edits) (edited : BooksView) (results : Results) (collected : Dispatcher)
@@ -65,6 +65,7 @@ module _ (old : Dispatcher) (edits : Edits) (edited : BooksView) (results : Resu
         image = turn_image old answer new turned;
         opening = turn_opening old answer new turned;
         capacity = turn_capacity old answer new turned;
+        hands = turn_hands old answer new turned;
         pens = pens_through old.books edited new.books pens (rest_pens edited new.books around.rest);
       }
 
