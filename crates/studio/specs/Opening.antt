@@ -1,7 +1,7 @@
 -- What a studio is when it is opened.
 use Rattle.std.specs.Prelude.{◌≡◌, ℕ, ◌<◌, ◌≤◌, List, [], ◌∷◌, ◌++◌, length, map, replicate, All}
 use Rattle.core_rules.specs.Work.{Core}
-use Rattle.steal_pool.specs.Views.{OwnerView, fresh}
+use Rattle.steal_pool.specs.Views.{OwnerView, AreFresh}
 use Rattle.core_dispatch.specs.{Books.BooksView, Books.ledger, Pens.submitted, Pens.HasItsDesk}
 use Rattle.core_dispatch.specs.{declared.dispatcher.Dispatcher.Dispatcher, Dispatching.core_by}
 use Rattle.studio.specs.{declared.shots.eye.Eye.Eye, Shots.Shot, declared.shots.publisher.Publisher.Publisher}
@@ -16,11 +16,13 @@ IsCount n = (1 ≤ n) × (n ≤ 16)
 abbrev pub AreCounts : ℕ → ℕ → ℕ → Type 0
 AreCounts pens hands eyes = IsCount pens × IsCount hands × IsCount eyes
 
--- the owner of a pool of so many hands has pushed and collected nothing, and its first 4,096 pushes succeed
+-- the owner of a pool of so many hands has pushed, seen and collected nothing, and its first 4,096 pushes succeed
 pub record IsNewOwner (hands : ℕ) (owner : OwnerView) : Type 0 where
   pub pushed : owner.pushed ≡ []
   pub capacity : owner.capacity ≡ 4096
   pub collected : owner.collected ≡ replicate hands []
+  pub waiting : owner.waiting ≡ replicate hands []
+  pub rings : length owner.rings ≡ hands
 
 -- the keeper showed the core once
 abbrev pub HasShownOnce : Keeper → Core → Type 0
@@ -57,11 +59,11 @@ pub record IsOver (books : BooksView) (hands eyes : ℕ) (over : Over) : Type 0 
   pub books_are : books_of over.keeper ≡ books
   pub owner : IsNewOwner hands (owner_of over.keeper)
   pub shown : HasShownOnce over.keeper books.core
-  pub hands_are : over.hands.items ≡ replicate hands fresh
+  pub hands_are : AreFresh (owner_of over.keeper) over.hands.items
   pub eyes_are : AreEyesOf over.keeper.publisher eyes over.eyes.items
 
 -- a studio of the core as it is, in which nobody did anything: no edit was submitted, taken or refused, each pen has
--- its desk, no job was pushed and no report sent, and the core was shown once
+-- its desk, no job was pushed and no report sent, the hands are those of the keeper's pool, and the core was shown once
 pub record IsOpened (core : Core) (pens hands eyes : ℕ) (studio : Studio) : Type 0 where
   pub core_is : core_of studio.keeper ≡ core
   pub opening : (books_of studio.keeper).opening ≡ core.state
@@ -70,6 +72,6 @@ pub record IsOpened (core : Core) (pens hands eyes : ℕ) (studio : Studio) : Ty
   pub sent : map submitted studio.pens.items ≡ replicate pens []
   pub desks : (i : ℕ) → i < pens → HasItsDesk studio.pens.items (books_of studio.keeper).desks i
   pub owner : IsNewOwner hands (owner_of studio.keeper)
-  pub hands_are : studio.hands.items ≡ replicate hands fresh
+  pub hands_are : AreFresh (owner_of studio.keeper) studio.hands.items
   pub eyes_are : AreEyesOf studio.keeper.publisher eyes studio.eyes.items
   pub shown : HasShownOnce studio.keeper core

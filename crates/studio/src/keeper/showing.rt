@@ -6,7 +6,7 @@ ghost use Rattle.studio.specs.Shots.{IsSound};
 ghost use Rattle.studio.specs.Words.{told_by, told_studio};
 ghost use Rattle.studio.specs.Keeping.{core_of, books_of, owner_of, chain_of, studio_of, IsShotOf, ShowsOneMore};
 ghost use Rattle.studio.specs.declared.refused.OpenError.TheVariants as errors;
-ghost use Rattle.studio.specs.Opening.{IsFirst, AreEyesOf, HasOneMore, ShowsTheSame};
+ghost use Rattle.studio.specs.Opening.{IsFirst, IsEyeOf, AreEyesOf, HasOneMore, ShowsTheSame};
 
 use super::Keeper;
 use crate::images::{Images, shared_copy};
@@ -169,11 +169,21 @@ fn add_eye(publisher: &mut Publisher, eyes: &mut Vec<Eye>) -> Result<(), OpenErr
     if eyes.reserve(1).is_err() {
         return Err(OpenError::Memory);
     }
+    let eye = eye_of(publisher)?;
+    eyes.push_reserved(eye);
+    Ok(())
+}
+
+// An eye of a publisher.
+//
+// Errors: a place was refused.
+fn eye_of(publisher: &mut Publisher) -> Result<Eye, OpenError>
+    ensures eye { IfOk result (IsEyeOf publisher.old) }
+    ensures why { IfErr result (λ why. why ≡ errors.NoPlace) }
+    ensures shows { ShowsTheSame publisher.old publisher.new }
+{
     match publisher.eye() {
-        Ok(eye) => {
-            eyes.push_reserved(eye);
-            Ok(())
-        }
+        Ok(eye) => Ok(eye),
         Err(_) => Err(OpenError::NoPlace),
     }
 }

@@ -1,4 +1,5 @@
 use Rattle.std.proofs.Common.{sym, ap, ◌∙◌, subst}
+use Rattle.steal_pool.specs.Views.{OwnerView, AreFresh}
 use Rattle.core_dispatch.specs.Dispatching.{books_by, owner_by}
 use Rattle.studio.specs.Opening.{IsNewOwner}
 use Rattle.studio.proofs.Beginnings.{eyes_kept, shown_once_kept}
@@ -16,11 +17,17 @@ returns-in-Ok-eyes-clause-over g c =
       books_are = ap books_by same ∙ made.books;
       owner =
           subst (IsNewOwner c.args.hands) (sym owner)
-          (record { pushed = pool.pushed; capacity = pool.capacity; collected = pool.collected });
+          (record {
+            pushed = pool.pushed;
+            capacity = pool.capacity;
+            collected = pool.collected;
+            waiting = pool.waiting;
+            rings = pool.rings;
+          });
       shown =
           shown_once_kept c.in-Ok-open.keeper c.eyes.new.self _ c.args.books.core kept
           (ap (λ b. b.core) made.books) first.shown;
-      hands_are = pool.hands;
+      hands_are = subst (λ (o : OwnerView). AreFresh o c.in-Ok.pool.hands.items) (sym owner) pool.hands;
       eyes_are =
           eyes_kept c.in-Ok-open.keeper.publisher c.eyes.new.self.publisher c.args.eyes _ kept
           c.in-Ok-eyes.ensures.eyes;
