@@ -1,7 +1,6 @@
 -- What a step leaves of the rule, whatever it is.
-use Rattle.std.proofs.Common.{◌+◌, ◌<◌, ◌++◌, List, [], arith, le_trans, length, refl, set, slice_index, subst, sym}
-use Rattle.std.proofs.Common.{ℕ, ◌∙◌, ◌∷◌}
-use Rattle.std.proofs.Common.{◌≡◌, ◌≢◌, ◌≤◌}
+use Rattle.std.proofs.Common.{◌+◌, ◌++◌, ◌<◌, List, [], ap, arith, le_trans, length, refl, set, slice_index, subst}
+use Rattle.std.proofs.Common.{subst₂, sym, ℕ, ◌∙◌, ◌∷◌, ◌≡◌, ◌≢◌, ◌≤◌}
 use Rattle.std.proofs.{lemmas.List.set-get_or, lemmas.List.Elements.Contains-push_cases}
 use Rattle.atomic_table.proofs.Lists.{at_set, at_snoc, set_else}
 use Rattle.atomic_table.specs.Table.{State, keeps, stepped}
@@ -10,7 +9,8 @@ use lib.ListN.{get_elem?}
 use mathlib.Core.Logic.{dite, ⊎_elim}
 use mathlib.Core.Option.{some, some-injective, some-ne-none}
 use native.Mathlib.Decide.{ℕ_discrete}
-use Rattle.live_board.specs.Rule.{IsBacked, IsBoard, IsHeld, IsKeptAt, Sits}
+use Rattle.live_board.proofs.Places.{place_after_0}
+use Rattle.live_board.specs.Rule.{AreFound, IsBacked, IsBoard, IsHeld, IsKeptAt, Sits}
 use Rattle.live_board.specs.{declared.board.Board.Board, Seats.ground_of, Seats.table_of}
 use Rattle.live_board.specs.Words.{IsOn, place_of, size_of, with_fact}
 use Rattle.live_board.specs.{declared.fact.Fact.Fact, declared.rule.Ground.Ground, declared.rule.SeatView.SeatView}
@@ -69,6 +69,25 @@ abbrev pub Up : Ground → List ℕ → List ℕ → Type 0
 Up base words after =
     (p : Pixel) → IsOn base p → slice_index words (place_of base p) ≤ slice_index after (place_of base p)
 
+pub found_up : (base : Ground) (words after : List ℕ) (steps : List (ℕ × ℕ)) → Up base words after
+    → AreFound base words steps → AreFound base after steps
+found_up base words after steps up old p n on known = le_trans (old p n on known) (up p on)
+
+-- one more step, on word 0 or on one that is no less than the number that it found there
+pub found_0 : (base : Ground) (words : List ℕ) (steps : List (ℕ × ℕ)) (found : ℕ) → AreFound base words steps
+    → AreFound base words (steps ++ (0, found) ∷ [])
+found_0 base words steps found old p n on known = ⊎_elim (old p n on)
+    (λ (is : ◌≡◌ {A = ℕ × ℕ} (0, found) (place_of base p, n)).
+    absurd (place_after_0 base p (ap (λ (e : ℕ × ℕ). e.0) is)))
+    (Contains-push_cases steps (0, found) (place_of base p, n) known)
+
+found_more : (base : Ground) (words : List ℕ) (steps : List (ℕ × ℕ)) (word found : ℕ) → AreFound base words steps
+    → found ≤ slice_index words word → AreFound base words (steps ++ (word, found) ∷ [])
+found_more base words steps word found old low p n on known = ⊎_elim (old p n on)
+    (λ (is : ◌≡◌ {A = ℕ × ℕ} (word, found) (place_of base p, n)).
+    subst₂ (λ (i k : ℕ). k ≤ slice_index words i) (ap (λ (e : ℕ × ℕ). e.0) is) (ap (λ (e : ℕ × ℕ). e.1) is) low)
+    (Contains-push_cases steps (word, found) (place_of base p, n) known)
+
 pub sits_up : (base : Ground) (words after : List ℕ) (g : ℕ) (m : Raster) → Up base words after → (v : SeatView)
     → Sits base words g m v → Sits base after g m v
 sits_up base words after g m up v s = record {
@@ -76,15 +95,18 @@ sits_up base words after g m up v s = record {
   facts = λ f f_in.
       let h = s.facts f f_in in
       record { on = h.on; small = h.small; kept = le_trans h.kept (up f.pixel h.on); reached = h.reached };
+  found = found_up base words after v.steps up s.found;
 }
 
--- a seat that knows one more fact, which holds
+-- a seat that knows one more fact, which holds, from a step on a word that is no less than it found there
 pub sits_more : (base : Ground) (words : List ℕ) (g : ℕ) (m : Raster) (v : SeatView) (word found : ℕ) (f : Fact)
-    → Sits base words g m v → IsHeld base words g m f → Sits base words g m (with_fact v word found f)
-sits_more base words g m v word found f old new = record {
+    → Sits base words g m v → IsHeld base words g m f → found ≤ slice_index words word
+    → Sits base words g m (with_fact v word found f)
+sits_more base words g m v word found f old new low = record {
   not_later = old.not_later;
   facts = λ y y_in. ⊎_elim (old.facts y) (λ (is : f ≡ y). subst (IsHeld base words g m) is new)
       (Contains-push_cases v.facts f y y_in);
+  found = found_more base words v.steps word found old.found low;
 }
 
 -- a seat has another view, and no word of a pixel is less: generation and marker stay

@@ -13,10 +13,11 @@ use mathlib.Core.Logic.{dite, ⊎_elim}
 use mathlib.Core.Option.{some, some-injective, some-ne-none}
 use native.Mathlib.Decide.{ℕ_discrete}
 use Rattle.live_board.proofs.{Boards.is_keeper, Places.number_is, Places.place_within, Places.small_value}
-use Rattle.live_board.specs.{Closing.IsImageOf, Rule.IsBacked, Rule.IsBoard, Seats.planted_fact}
+use Rattle.live_board.specs.{Closing.IsAboveFound, Closing.IsImageOf, Closing.IsReadFrom, Closing.IsValueIn}
+use Rattle.live_board.specs.{Rule.IsBacked, Rule.IsBoard, Seats.planted_fact}
 use Rattle.live_board.specs.{declared.fact.Fact.Fact, declared.rule.Ground.Ground, declared.rule.SeatView.SeatView}
-use Rattle.live_board.specs.Reading.{IsReadOff, IsValueIn}
-use Rattle.live_board.specs.Words.{IsOn, Supports, domain, mask_of, place_of, size_of}
+use Rattle.live_board.specs.Reading.{IsReadOff}
+use Rattle.live_board.specs.Words.{IsOn, Supports, domain, fact_of, mask_of, number, place_of, size_of}
 
 found_there : (l : List ℕ) (i n : ℕ) → get_elem? l i ≡ some n → slice_index l i ≡ n
 found_there [] i n e = absurd (some-ne-none n (sym e))
@@ -121,6 +122,23 @@ module _ (base : Ground) (v : SeatView) (image : Raster) (last : IsLast base v i
       (subst (λ (g : ℕ). g * 65536 + f.value ≤ n) (same ∙ mine.0) held.kept)
       (last.board.pixels f.pixel held.on).not_later (value f.pixel held.on)
 
+  above_found : IsAboveFound base v image
+  above_found p n on known_n same =
+      let word : ℕ = slice_index last.state.words (place_of base p) in
+      let low : number (fact_of p n) ≤ word =
+      subst (λ (k : ℕ). k ≤ word) (sym (number_is p n)) ((last.board.seats 0 v last.at).found p n on known_n) in
+      value_above last.board.generation word (value_at image p) (n % 65536) (small_value n)
+      (subst (λ (g : ℕ). g * 65536 + n % 65536 ≤ word) (same ∙ mine.0) low)
+      (last.board.pixels p on).not_later (value p on)
+
+  read_from : IsReadFrom base v image
+  read_from = record {
+    last = last.state;
+    rule = last.board;
+    keeper_is = last.at;
+    values = λ p on. last.read.values p on (omega (arith, place_within base p on));
+  }
+
   -- the image is nowhere above the mask
   pub within_mask : IsBelow image (mask_of base)
   within_mask = each_pixel_below image (mask_of base) last.read.filled last.read.width last.read.height (λ p inside.
@@ -139,8 +157,10 @@ module _ (base : Ground) (v : SeatView) (image : Raster) (last : IsLast base v i
     width = last.read.width;
     height = last.read.height;
     maxval = refl;
+    read = read_from;
     reached = reached;
     known = known;
+    found = above_found;
     above = λ planted. each_pixel_below v.marker image filled (below.width ∙ sym last.read.width)
         (below.height ∙ sym last.read.height)
         (λ p within.

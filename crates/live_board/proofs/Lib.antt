@@ -4,5 +4,6 @@ pub mod Stepping
 pub mod Allowed
 pub mod Telling
 pub mod Rounds
+pub mod Touching
 pub mod Endings
 pub mod Reached

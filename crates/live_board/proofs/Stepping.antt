@@ -11,7 +11,8 @@ use Rattle.grid_core.specs.{Raster.Raster, Raster.value_at, declared.pixel.Pixel
 use mathlib.Core.Logic.{dite, ⊎_elim}
 use mathlib.Core.Option.{none, some-ne-none}
 use native.Mathlib.Decide.{dec_le}
-use Rattle.live_board.proofs.Boards.{Up, each_push, each_set, is_keeper, keeper_now, moved, sits_more, sits_up, watched}
+use Rattle.live_board.proofs.Boards.{Up, each_push, each_set, found_0, found_up, is_keeper, keeper_now, moved}
+use Rattle.live_board.proofs.Boards.{sits_more, sits_up, watched}
 use Rattle.live_board.proofs.Places.{number_is, place_after_0, place_differs, place_within, risen, risen_else}
 use Rattle.live_board.proofs.Places.{risen_here, small_value}
 use Rattle.live_board.specs.Rule.{IsBacked, IsBoard, IsHeld, Sits}
@@ -99,7 +100,7 @@ lifts base slots id me p n on may s h hs at lt =
       moved base s h id v w after at (is_keeper s.views h.generation h.marker id v h.keeper at)
           (length-set s.words i (max found n)) (risen_else s.words i 0 n (place_after_0 base p)) up
           (backed_lift base s.words h.generation h.marker p n on inside h.pixels allowed)
-          (sits_more base after h.generation h.marker v i found (fact_of p n) old held),
+          (sits_more base after h.generation h.marker v i found (fact_of p n) old held (up p on)),
       refl,
     )
 
@@ -125,7 +126,7 @@ loads base slots id me p on s h hs at lt =
       tt,
       watched base s h i id v (with_fact v i n (fact_of p n)) at
           (is_keeper s.views h.generation h.marker id v h.keeper at)
-          (sits_more base s.words h.generation h.marker v i n (fact_of p n) mine held),
+          (sits_more base s.words h.generation h.marker v i n (fact_of p n) mine held (le_refl n)),
       (
         refl,
         λ f known e. subst (λ (z : Pixel). number f ≤ slice_index s.words (place_of base z)) e
@@ -150,8 +151,12 @@ learns base slots id me s h hs at lt =
       tt,
       watched base s h 0 id v w at
           (λ first. (same, (is_keeper s.views h.generation h.marker id v h.keeper at first).1))
-          (record { not_later = le_of_eq same; facts = (h.seats id v at).facts }),
-      refl,
+          (record {
+            not_later = le_of_eq same;
+            facts = (h.seats id v at).facts;
+            found = found_0 base s.words v.steps (slice_index s.words 0) (h.seats id v at).found;
+          }),
+      (refl, refl),
     )
 
 pub enters : (base : Ground) (slots : ℕ)
@@ -163,6 +168,8 @@ enters base slots s h hs lt =
     record {
       not_later = le_of_eq same;
       facts = λ f known. absurd (let past : known.0 < 0 = known.1 in omega arith);
+      found = found_0 base s.words [] (slice_index s.words 0)
+          (λ p n on known. absurd (let past : known.0 < 0 = known.1 in omega arith));
     } in (
       w,
       record {
@@ -175,7 +182,7 @@ enters base slots s h hs lt =
         pixels = h.pixels;
         seats = each_push (Sits base s.words h.generation h.marker) s.views w new h.seats;
       },
-      refl,
+      (refl, refl),
     )
 
 -- ---- additions to word 0
@@ -213,6 +220,7 @@ begins base slots id me marker first room s h hs at lt =
     let w : SeatView = begun v (slice_index s.words 0) (v.generation + 1) marker in
     let stays : (p : Pixel) → slice_index after (place_of base p) ≡ slice_index s.words (place_of base p) =
     λ p. get_or-set_other s.words 0 (place_of base p) n 0 (λ e. place_after_0 base p (sym e)) in
+    let up : Up base s.words after = λ p on. le_of_eq (sym (stays p)) in
     let older : (f : Fact) → IsHeld base s.words g h.marker f → IsHeld base after (g + 1) marker f =
     λ f held. held_older base s.words after g h.marker marker f (h.pixels f.pixel held.on) (stays f.pixel) held in (
       w,
@@ -230,12 +238,21 @@ begins base slots id me marker first room s h hs at lt =
             let same : slice_index after (place_of base p) ≡ slice_index s.words (place_of base p) = stays p in
             record { not_later = omega arith; reached = λ y y_small e. absurd (omega (arith, e)) };
         seats = each_set (Sits base after (g + 1) marker) s.views id w
-            (record { not_later = omega arith; facts = λ f known. older f ((h.seats id v at).facts f known) })
+            (record {
+              not_later = omega arith;
+              facts = λ f known. older f ((h.seats id v at).facts f known);
+              found = found_0 base after v.steps (slice_index s.words 0)
+                  (found_up base s.words after v.steps up (h.seats id v at).found);
+            })
             (λ j u e.
             let low : u.generation ≤ g = (h.seats j u e).not_later in
-            record { not_later = omega arith; facts = λ f known. older f ((h.seats j u e).facts f known) });
+            record {
+              not_later = omega arith;
+              facts = λ f known. older f ((h.seats j u e).facts f known);
+              found = found_up base s.words after u.steps up (h.seats j u e).found;
+            });
       },
-      refl,
+      (refl, refl),
     )
 
 -- the marker rises
@@ -265,6 +282,7 @@ rises base slots id me marker first above s h hs at lt =
             kept = held.kept;
             reached = λ e. higher f.pixel f.value (held.reached e);
           };
+      found = old.found;
     } in
     let own : Sits base s.words g marker v = sits v (h.seats id v at) in
     let keep : IsBoard base (record { words = s.words; homes = s.homes; views = set s.views id w }) = record {
@@ -279,14 +297,19 @@ rises base slots id me marker first above s h hs at lt =
         reached = λ y y_small e. higher p y ((h.pixels p on).reached y y_small e);
       };
       seats = each_set (Sits base s.words g marker) s.views id w
-          (record { not_later = own.not_later; facts = own.facts }) (λ j u e. sits u (h.seats j u e));
+          (record {
+            not_later = own.not_later;
+            facts = own.facts;
+            found = found_0 base s.words v.steps (slice_index s.words 0) own.found;
+          })
+          (λ j u e. sits u (h.seats j u e));
     } in (
       w,
       keeps,
       tt,
       subst (λ (l : List ℕ). IsBoard base (record { words = l; homes = s.homes; views = set s.views id w }))
           (sym stays) keep,
-      refl,
+      (refl, refl),
     )
 
 -- ---- the beginning
@@ -311,6 +334,7 @@ opens base words within wide head empty =
       seats = each_push (Sits base words base.first marker) [] (beginner base) (record {
         not_later = le_refl base.first;
         facts = λ f known. absurd (let past : known.0 < 0 = known.1 in omega arith);
+        found = λ p n on known. absurd (let past : known.0 < 0 = known.1 in omega arith);
       }) (λ j u there. absurd (some-ne-none u (sym there)));
     }
 

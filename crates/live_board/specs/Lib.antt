@@ -12,6 +12,6 @@ pub mod Steps
 pub mod Seats
 pub mod Rounds
 pub mod Opening
-pub mod Reading
 pub mod Closing
+pub mod Reading
 pub mod Laws

@@ -1,14 +1,10 @@
 -- How an image is read off the words of a board. Only private functions have these words in their contracts.
-use Rattle.std.specs.Prelude.{◌%◌, ◌/◌, ◌<◌, Bool, IsTrue, List, slice_index, ℕ, ◌↔◌, ◌≡◌}
+use Rattle.std.specs.Prelude.{◌<◌, Bool, IsTrue, List, slice_index, ℕ, ◌↔◌, ◌≡◌}
 use Rattle.grid_core.specs.Raster.{IsBelow, IsFilled, Raster, index_of, value_at}
 use Rattle.grid_core.specs.{Reconstruction.IsClosed, declared.pixel.Pixel.Pixel}
 use Rattle.pgm_codec.specs.Graymap.{Graymap}
-use Rattle.live_board.specs.{Words.IsOn, Words.domain, Words.mask_of, Words.place_of, declared.rule.Ground.Ground}
-
--- the value is that of the word, or 0 where the word is of another generation
-pub record IsValueIn (generation word value : ℕ) : Type 0 where
-  pub same : word / 65536 ≡ generation → value ≡ word % 65536
-  pub other : (word / 65536 ≡ generation → ⊥) → value ≡ 0
+use Rattle.live_board.specs.{Closing.IsValueIn, Words.IsOn, Words.domain, Words.mask_of, Words.place_of}
+use Rattle.live_board.specs.declared.rule.Ground.{Ground}
 
 -- the image has the mask's size, and at the first pixels, so many of them, the values of their words
 pub record IsReadOff (base : Ground) (generation : ℕ) (words : List ℕ) (count : ℕ) (image : Raster) : Type 0 where

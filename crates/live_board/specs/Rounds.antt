@@ -1,8 +1,10 @@
 -- A round: each pixel is read once, in raster order, and where it has a value, each neighbour is raised once.
-use Rattle.std.specs.Prelude.{◌%◌, ◌+◌, ◌/◌, Bool, Contains, List, [], false, true, ℕ, ◌↔◌, ◌∷◌, ◌≡◌}
+use Rattle.std.specs.Prelude.{◌%◌, ◌+◌, ◌++◌, ◌/◌, Bool, Contains, List, [], count_by, false, map, nat_lt, true, ℕ}
+use Rattle.std.specs.Prelude.{◌↔◌, ◌∷◌, ◌≡◌}
 use Prim.Native.Nat.{suc, zero}
 use Rattle.grid_core.specs.{Neighbours.AreNeighbours, Neighbours.IsInRasterOrder, declared.pixel.Pixel.Pixel}
-use Rattle.live_board.specs.{Seats.HasRaised, Seats.HasRead, Seats.HasStarted, Words.IsOn, Words.mask_of, Words.size_of}
+use Rattle.live_board.specs.Seats.{HasRaised, HasRead, HasStarted, IsBeside, IsOf, raised_fact}
+use Rattle.live_board.specs.Words.{IsOn, mask_of, number, place_of, size_of}
 use Rattle.live_board.specs.{declared.fact.Fact.Fact, declared.fact.Seen.Seen, declared.fact.Seen.TheVariants.Newer}
 use Rattle.live_board.specs.{declared.fact.Seen.TheVariants.Older, declared.fact.Seen.TheVariants.Value}
 use Rattle.live_board.specs.{declared.rule.Ground.Ground, declared.rule.SeatView.SeatView}
@@ -49,8 +51,46 @@ Goes base (suc k) count old new =
     (middle : SeatView) × (before here : ℕ) × Goes base k before old middle
     × Visits base (pixel_after base k) here middle new × (count ≡ before + here)
 
--- a round: the generation is learnt, and then all pixels are visited
+-- a round: the generation is learnt, and then all pixels are visited. So many of its raises rose, all of them counted
 pub record IsRound (base : Ground) (count : ℕ) (old new : SeatView) : Type 0 where
   pub started : SeatView
   pub start : HasStarted old started
   pub goes : Goes base (size_of base) count started new
+
+-- a step on the word of a pixel, by the fact that it left and the number that it found there
+abbrev pub Touch : Type 0
+Touch = Fact × ℕ
+
+-- its word, and what it found there
+abbrev pub entry_of : Ground → Touch → ℕ × ℕ
+entry_of base touch = (place_of base touch.0.pixel, touch.1)
+
+-- whether the pixel rose: less was found there than was left
+abbrev pub has_risen : Touch → Bool
+has_risen touch = nat_lt touch.1 (number touch.0)
+
+-- the seat took these steps on pixels, one after another, and no other
+pub record HasTouched (base : Ground) (touches : List Touch) (old new : SeatView) : Type 0 where
+  pub generation : new.generation ≡ old.generation
+  pub facts : new.facts ≡ old.facts ++ map (λ (touch : Touch). touch.0) touches
+  pub steps : new.steps ≡ old.steps ++ map (entry_of base) touches
+
+-- by one of these steps the pixel was read, and where it had a value of the generation, each neighbour was raised to
+-- that value, as far as the mask lets it
+pub record IsSpread (base : Ground) (generation : ℕ) (touches : List Touch) (p : Pixel) : Type 0 where
+  pub loaded : Fact
+  pub of : IsOf p loaded
+  pub read : Contains touches (loaded, number loaded)
+  pub raised :
+      loaded.generation ≡ generation → (q : Pixel) → IsBeside base p q
+      → (found : ℕ) × Contains touches (raised_fact base loaded q, found)
+
+-- what a round leaves, in whatever order: the generation was learnt, each pixel was read, and where it had a value each
+-- neighbour was raised. The count is that of the pixels that rose, each as often as it did
+pub record HasGoneRound (base : Ground) (count : ℕ) (old new : SeatView) : Type 0 where
+  pub started : SeatView
+  pub start : HasStarted old started
+  pub touches : List Touch
+  pub touched : HasTouched base touches started new
+  pub spread : (p : Pixel) → IsOn base p → IsSpread base new.generation touches p
+  pub count_is : count ≡ count_by has_risen touches

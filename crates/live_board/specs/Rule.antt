@@ -29,12 +29,19 @@ pub record IsBacked (base : Ground) (words : List ℕ) (generation : ℕ) (marke
       (value : ℕ) → value < 65536 → slice_index words (place_of base p) ≡ generation * 65536 + value
       → Supports base marker p value
 
--- a seat is of no later generation than the present one, and its facts hold
+-- no word of a pixel is less than what one of the steps found there
+abbrev pub AreFound : Ground → List ℕ → List (ℕ × ℕ) → Type 0
+AreFound base words steps =
+    (p : Pixel) (found : ℕ) → IsOn base p → Contains steps (place_of base p, found)
+    → found ≤ slice_index words (place_of base p)
+
+-- a seat is of no later generation than the present one, its facts hold, and no word is less than it found there
 pub record Sits (base : Ground) (words : List ℕ) (generation : ℕ) (marker : Raster) (v : SeatView) : Type 0 where
   pub not_later : v.generation ≤ generation
   pub facts : (f : Fact) → Contains v.facts f → IsHeld base words generation marker f
+  pub found : AreFound base words v.steps
 
--- word 0 has the keeper's generation, each pixel's word is backed by the keeper's marker, and each seat's facts hold
+-- word 0 has the keeper's generation, each pixel's word is backed by the keeper's marker, and what seats know holds
 pub record IsBoard (base : Ground) (s : State ℕ SeatView) : Type 0 where
   pub generation : ℕ
   pub marker : Raster

@@ -45,7 +45,8 @@ pub record HasBegun (generation : ℕ) (marker : Raster) (old new : SeatView) : 
   pub generation_is : new.generation ≡ generation
   pub marker_is : new.marker ≡ marker
   pub facts : new.facts ≡ old.facts
-  pub stepped : new.word ≡ 0
+  pub found : ℕ
+  pub stepped : new.steps ≡ old.steps ++ (0, found) ∷ []
 
 -- the next generation began, or the marker rose in the same one
 abbrev pub HasAdvanced : Raster → SeatView → SeatView → Type 0
@@ -54,12 +55,13 @@ HasAdvanced marker old new = HasBegun (old.generation + 1) marker old new
 abbrev pub HasRisen : Raster → SeatView → SeatView → Type 0
 HasRisen marker old new = HasBegun old.generation marker old new
 
--- one more fact is known, from a step on its pixel's word
+-- one more fact is known, from a step on its pixel's word, which found a number there
 pub record Adds (base : Ground) (f : Fact) (old new : SeatView) : Type 0 where
   pub facts : new.facts ≡ old.facts ++ f ∷ []
   pub generation : new.generation ≡ old.generation
   pub marker : new.marker ≡ old.marker
-  pub stepped : new.word ≡ place_of base f.pixel
+  pub found : ℕ
+  pub stepped : new.steps ≡ old.steps ++ (place_of base f.pixel, found) ∷ []
 
 -- the pixel has the marker's value, in the keeper's generation
 abbrev pub planted_fact : SeatView → Pixel → Fact
@@ -69,16 +71,17 @@ planted_fact keeper p = fact p keeper.generation (value_at keeper.marker p)
 abbrev pub raised_fact : Ground → Fact → Pixel → Fact
 raised_fact base from q = fact q from.generation (min from.value (value_at (mask_of base) q))
 
--- the seat's generation is the one that its last step found in word 0. What it knew it still knows
+-- the seat's generation is the one that a step found in word 0. What it knew it still knows
 pub record HasStarted (old new : SeatView) : Type 0 where
-  pub generation : new.generation ≡ new.found / 65536
+  pub found : ℕ
+  pub stepped : new.steps ≡ old.steps ++ (0, found) ∷ []
+  pub generation : new.generation ≡ found / 65536
   pub facts : new.facts ≡ old.facts
-  pub stepped : new.word ≡ 0
 
--- a neighbour was raised: the seat knows that it has the value, and the answer is true where less was found there
+-- a neighbour was raised: the seat knows that it has the value, and the answer is true where that step found less there
 pub record HasRaised (base : Ground) (from : Fact) (q : Pixel) (rose : Bool) (old new : SeatView) : Type 0 where
   pub adds : Adds base (raised_fact base from q) old new
-  pub rose_is : IsTrue rose ↔ (new.found < number (raised_fact base from q))
+  pub rose_is : IsTrue rose ↔ (adds.found < number (raised_fact base from q))
 
 -- of the pixel and the generation of the fact, no known value is greater
 abbrev pub IsTop : List Fact → Fact → Type 0
@@ -101,7 +104,7 @@ pub record HasRead (base : Ground) (p : Pixel) (seen : Seen) (old new : SeatView
   pub loaded : Fact
   pub of : IsOf p loaded
   pub adds : Adds base loaded old new
-  pub is_loaded : new.found ≡ number loaded
+  pub is_loaded : adds.found ≡ number loaded
   pub top : IsTop old.facts loaded
   pub seen_is : IsSeen old.generation loaded seen
 
@@ -116,10 +119,9 @@ pub record HasPeeked (base : Ground) (p : Pixel) (answer : Peek) (old new : Seat
   pub loaded : Fact
   pub of : IsOf p loaded
   pub facts : new.facts ≡ old.facts ++ loaded ∷ []
-  pub first_word : new.earlier_word ≡ place_of base p
-  pub is_loaded : new.earlier_found ≡ number loaded
-  pub last_word : new.word ≡ 0
-  pub generation : new.generation ≡ new.found / 65536
+  pub found : ℕ
+  pub stepped : new.steps ≡ old.steps ++ (place_of base p, number loaded) ∷ (0, found) ∷ []
+  pub generation : new.generation ≡ found / 65536
   pub top : IsTop old.facts loaded
   pub answer_is : IsAnswer new.generation loaded answer
 

@@ -20,17 +20,17 @@ Lifts p st m n m' = m' ≡ (with_fact m.0 st.word n (fact_of p st.first), m.1)
 abbrev pub Reads : Pixel → Step ℕ → Me ℕ SeatView → ℕ → Me ℕ SeatView → Type 0
 Reads p st m n m' = (m' ≡ (with_fact m.0 st.word n (fact_of p n), m.1)) × IsHighest m.0.facts p n
 
--- a load of word 0 teaches the generation
+-- a load teaches the generation, and is one of word 0
 abbrev pub Learns : Step ℕ → Me ℕ SeatView → ℕ → Me ℕ SeatView → Type 0
-Learns st m n m' = m' ≡ (taught m.0 n, m.1)
+Learns st m n m' = (st.word ≡ 0) × (m' ≡ (taught m.0 n, m.1))
 
--- an addition to word 0 brings the next generation and a marker
+-- an addition brings the next generation and a marker, and is one to word 0
 abbrev pub Advances : Raster → Step ℕ → Me ℕ SeatView → ℕ → Me ℕ SeatView → Type 0
-Advances marker st m n m' = m' ≡ (begun m.0 n (m.0.generation + 1) marker, m.1)
+Advances marker st m n m' = (st.word ≡ 0) × (m' ≡ (begun m.0 n (m.0.generation + 1) marker, m.1))
 
--- an addition of 0 to word 0 brings a marker
+-- the same, which brings a marker in the same generation
 abbrev pub Rises : Raster → Step ℕ → Me ℕ SeatView → ℕ → Me ℕ SeatView → Type 0
-Rises marker st m n m' = m' ≡ (begun m.0 n m.0.generation marker, m.1)
+Rises marker st m n m' = (st.word ≡ 0) × (m' ≡ (begun m.0 n m.0.generation marker, m.1))
 
 -- the seat is of this table, and holds no slot
 pub record IsBare (table : TableId) (seat : Seat ℕ SeatView) : Type 0 where

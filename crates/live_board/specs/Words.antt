@@ -57,15 +57,12 @@ beginner base = record {
   generation = base.first;
   marker = blank (mask_of base);
   facts = [];
-  word = 0;
-  found = 0;
-  earlier_word = 0;
-  earlier_found = 0;
+  steps = [];
 }
 
 -- a seat's view after a step on a word, where it found a number
 abbrev pub after_step : SeatView → ℕ → ℕ → SeatView
-after_step v word found = record v { word = word; found = found; earlier_word = v.word; earlier_found = v.found }
+after_step v word found = record v { steps = v.steps ++ (word, found) ∷ [] }
 
 -- the same, where it left a fact
 abbrev pub with_fact : SeatView → ℕ → ℕ → Fact → SeatView

@@ -2,8 +2,8 @@
 
 ghost use Rattle.std.specs.Prelude.{◌+◌, IfErr, IfOk, ◌≡◌};
 ghost use Rattle.core.specs.Mem.Slots.{IsFull, slots_items, slots_len};
-ghost use Rattle.live_board.specs.Closing.{IsImageOf};
-ghost use Rattle.live_board.specs.Reading.{IsEnding, IsReadOff, IsValueIn, IsWithin};
+ghost use Rattle.live_board.specs.Closing.{IsImageOf, IsValueIn};
+ghost use Rattle.live_board.specs.Reading.{IsEnding, IsReadOff, IsWithin};
 ghost use Rattle.live_board.specs.Seats.{IsKeeperOf, ground_of, keeper_view};
 ghost use Rattle.live_board.specs.Words.{mask_of, size_of};
 
@@ -19,8 +19,9 @@ use std::alloc::Global;
 
 impl Board {
     /// The image of the present generation, with the maxval of the mask, and whether no pixel can raise another in it.
-    /// A pixel whose word is of an older generation is 0. Where none can raise another and none is below the marker,
-    /// the image is the reconstruction of the mask from the marker.
+    /// A pixel has the value of its word, or 0 where that is of an older generation. So none is less than the keeper
+    /// found there in this one. Where none can raise another and none is below the marker, the image is the
+    /// reconstruction of the mask from the marker.
     ///
     /// Errors: out of memory, with the board and the seat handed back.
     pub fn close(

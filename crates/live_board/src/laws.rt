@@ -2,9 +2,10 @@
 
 ghost use Rattle.live_board.specs.Laws.{BoardLaws};
 
-/// While a board keeps its rule: the word of a pixel is no less than what a seat knows of it. What a seat knows of the
-/// keeper's generation, the pixel reaches from the keeper's marker. So does a live value that a peek finds, at the
-/// peek's last step.
+/// While a board keeps its rule: the word of a pixel is no less than what a seat knows of it or found there. What a
+/// seat knows of the keeper's generation, the pixel reaches from the keeper's marker. So does a live value that a peek
+/// finds, at the peek's last step. A round reads each pixel, raises each neighbour of one with a value, and counts the
+/// pixels that rose, each as often as it did: what a hand knows before it and after it leaves no other count.
 pub fn board_laws()
     ensures { BoardLaws }
 {}

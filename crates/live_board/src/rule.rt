@@ -29,12 +29,8 @@ pub struct SeatView {
     pub(crate) marker: Grid,
     /// What it knows of pixels, the oldest first.
     pub(crate) facts: LinkedList<Fact>,
-    /// The word of its last step, and what that found there.
-    pub(crate) word: u64,
-    pub(crate) found: u64,
-    /// The same of the step before.
-    pub(crate) earlier_word: u64,
-    pub(crate) earlier_found: u64,
+    /// Its steps, the oldest first: of each its word, and the number that it found there.
+    pub(crate) steps: LinkedList<(u64, u64)>,
 }
 
 /// No word of the present generation is more than its pixel reaches.

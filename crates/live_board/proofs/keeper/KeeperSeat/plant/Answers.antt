@@ -1,8 +1,8 @@
 use Rattle.std.proofs.Common.{◌*◌, ◌+◌, ◌<◌, ap, ap₂, subst, sym, ℕ, ◌∙◌, ◌≡◌}
 use Rattle.grid_core.proofs.Cells.{below_at_each_pixel}
 use Rattle.grid_core.specs.{Raster.IsBelow, Raster.IsFilled, Raster.Raster, Raster.value_at, declared.pixel.Pixel.Pixel}
-use Rattle.live_board.proofs.Allowed.{may_plant}
-use Rattle.live_board.specs.Seats.{ground_of, keeper_view}
+use Rattle.live_board.proofs.{Allowed.may_plant, Telling.adds_number}
+use Rattle.live_board.specs.Seats.{ground_of, keeper_view, planted_fact}
 use Rattle.live_board.specs.{Words.mask_of, declared.rule.Ground.Ground, declared.rule.SeatView.SeatView}
 use Rattle.live_board.proofs.keeper.KeeperSeat.plant.Goals as goal
 
@@ -25,3 +25,15 @@ lift-requires-clause-asked c =
     ))
     (subst (λ (k : ℕ). k < 65536) (sym c.from.ensures ∙ value) small)
     (ap₂ (λ (g k : ℕ). g * 65536 + k) (sym c.args.self.now.same) value)
+
+pub returns-clause-planted : goal.returns-clause-planted
+returns-clause-planted c =
+    let v : SeatView = keeper_view c.args.self.now in
+    let p : Pixel = c.args.pixel in
+    let value : c.from.result ≡ value_at v.marker p =
+    c.from.ensures ∙ c.get-value.ensures ∙ ap (λ (m : Raster). value_at m p) (sym c.args.self.now.marked) in
+    let small : c.get-value.result < 65536 = c.get-value.type_inv in
+    adds_number (ground_of c.args.board.now) v c.lift.new.seat.me.0 (c.args.self.now.generation * 65536 + c.from.result)
+    c.lift.result (planted_fact v p) c.lift.ensures.view
+    (ap₂ (λ (g k : ℕ). g * 65536 + k) (sym c.args.self.now.same) value)
+    (subst (λ (k : ℕ). k < 65536) (sym c.from.ensures ∙ value) small)
