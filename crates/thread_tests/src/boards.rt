@@ -7,7 +7,7 @@ ghost use Rattle.thread_tests.specs.Company.{AreOf};
 use crate::company::Seats;
 use crate::outcome::{NO_MEMORY, Outcome, right_if, told};
 use crate::peeks::{next_hand, next_peek};
-use crate::pictures::{BARE, Edit, GROWN, Mask};
+use crate::pictures::{BARE, Edit, GROWN, Mask, PLANTED};
 use crate::scene::{Scene, open_on, stop};
 use grid_core::{Conn, Grid, Pixel};
 use live_board::{Board, KeeperSeat, Opened, Peek};
@@ -140,11 +140,13 @@ fn peeks_all(board: &Board, seats: &mut Seats, mask: &Grid, answer: Peek) -> boo
     are_all
 }
 
-// What is played with a board, beside a studio on the same row, and the image that it is closed on.
+// What is played with a board, beside a studio on the same row, the image that it is closed on, and whether no pixel can
+// raise another in it.
 struct Play {
     name: &'static str,
     lines: &'static [Line],
     image: &'static [u16],
+    is_final: bool,
 }
 
 const PLAYS: &[Play] = &[
@@ -160,6 +162,13 @@ const PLAYS: &[Play] = &[
             Line::Round(0),
         ],
         image: GROWN,
+        is_final: true,
+    },
+    Play {
+        name: "a row that has not grown is closed as it stands",
+        lines: &[Line::Advance(5), Line::Plant],
+        image: PLANTED,
+        is_final: false,
     },
     Play {
         name: "what grew in an older generation is gone",
@@ -171,6 +180,7 @@ const PLAYS: &[Play] = &[
             Line::PeekAll(Peek::Moved),
         ],
         image: BARE,
+        is_final: true,
     },
     Play {
         name: "a board follows the strokes of a core",
@@ -183,6 +193,7 @@ const PLAYS: &[Play] = &[
             Line::Peek(Peek::Live(0)),
         ],
         image: BARE,
+        is_final: true,
     },
 ];
 
@@ -205,16 +216,22 @@ fn plays(
     true
 }
 
-/// Whether the board is closed on these values, and no pixel can raise another then: at the second try where there is
-/// no memory at the first.
-pub fn closes_on(alloc: Global, board: Board, keeper: KeeperSeat, values: &[u16]) -> bool
+/// Whether the board is closed on these values, and it is said of them whether no pixel can raise another: at the second
+/// try where there is no memory at the first.
+pub fn closes_on(
+    alloc: Global,
+    board: Board,
+    keeper: KeeperSeat,
+    values: &[u16],
+    is_final: bool,
+) -> bool
     requires { IsKeeperOf board keeper }
 {
     let closed = match board.close(alloc, keeper) {
         Ok(closed) => Some(closed),
         Err((board, keeper)) => board.close(alloc, keeper).ok(),
     };
-    matches!(closed, Some((image, is_final)) if is_final && image.samples() == values)
+    matches!(closed, Some((image, is_told)) if is_told == is_final && image.samples() == values)
 }
 
 impl Play {
@@ -223,7 +240,7 @@ impl Play {
             return false;
         };
         let is_so = plays(alloc, scene, &board, &mut seats, mask.grid(), self.lines);
-        is_so & closes_on(alloc, board, seats.keeper, self.image)
+        is_so & closes_on(alloc, board, seats.keeper, self.image, self.is_final)
     }
 
     // The same beside a studio, which is ended.
@@ -281,7 +298,7 @@ fn opens_and_closes(alloc: Global, mask: Mask, count: usize, zeros: &[u16]) -> O
     let are_counted = (hands.len() == count) & (peeks.len() == count);
     drop(hands);
     drop(peeks);
-    let is_closed = closes_on(alloc, board, keeper, zeros);
+    let is_closed = closes_on(alloc, board, keeper, zeros, true);
     right_if(are_counted & is_closed, "what a board is closed on")
 }
 

@@ -26,8 +26,10 @@ use std::thread::Threads;
 struct Found {
     rounds: AtomicU64,
     peeks: AtomicU64,
-    // How many peeks found a value above what grows from both strokes.
+    // How many peeks found a value above what may be live: what grows from both strokes, and once the first is gone
+    // what grows from the other.
     above: AtomicU64,
+    gone: AtomicBool,
     done: AtomicBool,
 }
 
@@ -59,9 +61,15 @@ fn peeks_along(board: &Board, peek: &mut PeekSeat, mask: &Grid, found: &Found)
     requires mask { mask_of (ground_of board.now) ≡ mask.now }
     ensures { IsPeekOf board.now peek.new }
 {
+    // What is gone before a peek begins is never live in it.
+    let values = if found.gone.load(Ordering::SeqCst) {
+        LEFT
+    } else {
+        BOTH
+    };
     for x in 0..mask.width() {
         if let Peek::Live(value) = peek.peek(board, Pixel { x, y: 0 }) {
-            let most = BOTH.get(x as usize).copied().unwrap_or(0);
+            let most = values.get(x as usize).copied().unwrap_or(0);
             found
                 .above
                 .fetch_add(u64::from(value > most), Ordering::SeqCst);
@@ -127,8 +135,9 @@ fn mirrors_all(
         return false;
     }
     let have_come = mirrors(alloc, scene, board, seat, COME, false) && found.are_ten_more();
-    let have_gone = mirrors(alloc, scene, board, seat, GO, true) && found.are_ten_more();
-    have_come & have_gone
+    let have_gone = mirrors(alloc, scene, board, seat, GO, true);
+    found.gone.store(have_gone, Ordering::SeqCst);
+    have_come & have_gone && found.are_ten_more()
 }
 
 // The same in a scope with two hands and a peek at work, and the seat.
@@ -202,7 +211,7 @@ pub fn next_peek(board: &Board, peeks: &mut Vec<PeekSeat>) -> Option<PeekSeat>
     peeks.pop()
 }
 
-// Whether no peek is above what grows from both strokes, and what grows in the end is what is left.
+// Whether no peek is ever above what may be live, and what grows in the end is what is left.
 fn grows<R: Threads + Wait + Sync>(
     rt: &R,
     alloc: Global,
@@ -237,7 +246,7 @@ fn grows<R: Threads + Wait + Sync>(
         None => false,
     };
     drop(last);
-    let closed = closes_on(alloc, board, seat, LEFT);
+    let closed = closes_on(alloc, board, seat, LEFT, true);
     mirrored & settled & closed & (found.above.load(Ordering::SeqCst) == 0)
 }
 

@@ -19,6 +19,9 @@ pub const BOTH: &[u16] = &[3, 5, 2, 3, 3];
 
 pub const LEFT: &[u16] = &[2, 2, 2, 3, 3];
 
+/// The first of these strokes before it grows.
+pub const PLANTED: &[u16] = &[0, 5, 0, 0, 0];
+
 /// The row without strokes.
 pub const BARE: &[u16] = &[0, 0, 0, 0, 0];
 
