@@ -1,5 +1,6 @@
 -- The cursor that is kept, as the eye goes on.
-use Rattle.std.proofs.Common.{◌≡◌, ℕ, List, [], Option, Some, None, MatchOption, IfSome, refl, sym, ap, subst, inr}
+use Rattle.std.proofs.Common.{◌≡◌, ℕ, ◌<◌, List, [], length, Option, Some, None, MatchOption, IfSome, refl, sym, ap}
+use Rattle.std.proofs.Common.{subst, inr, Result, Ok, Err, IfErr}
 use Rattle.std.specs.Option.{option_map_or}
 use Rattle.grid_core.specs.declared.conn.Conn.{Conn}
 use Rattle.spd_codec.specs.{declared.version.Version.TheVariants.Second, Spelling.frame_text}
@@ -9,7 +10,7 @@ use Rattle.stroke_lattice.specs.State.{State, IsBelow, nothing}
 use Rattle.stroke_lattice.proofs.Shared.{nothing_has_no_stroke, nothing_has_no_tombstone}
 use Rattle.link_nodes.specs.{declared.cursor.Cursor.Cursor, declared.sight.Next.Next}
 use Rattle.link_nodes.specs.Cursors.{IsCursorOf, IsOfLast, IsOfLower, last_state, frame_pieces, IsNextPiece}
-use Rattle.link_nodes.specs.Sending.{IsNextFrame, IsNext}
+use Rattle.link_nodes.specs.Sending.{HasPiece, IsNextFrame, IsNext}
 
 -- the strokes of what was seen before are below those of a later shot
 below_later : (before : Option Shot) (shot : Shot)
@@ -60,15 +61,29 @@ next_framed conn print s last number piece is (Some n) framed = record {
 }
 
 -- the next frame of what is seen
-pub next_seen : (conn : Conn) (print : List ℕ) (learnt before chain : List Shot) (last : Option ℕ) (shot : Shot)
-    (s : State) → last_of chain ≡ Some shot → s ≡ shot.state → Begins chain learnt → (next : Option Next)
+pub next_seen : (conn : Conn) (print : List ℕ) (learnt : List Shot) (vain vain' : ℕ) (before chain : List Shot)
+    (last : Option ℕ) (shot : Shot) (s : State) → last_of chain ≡ Some shot → s ≡ shot.state → Begins chain learnt
+    → (next : Option Next)
     → MatchOption next (frame_pieces s ≡ []) (λ n. IsNextFrame conn print s last n.piece n.frame.items)
-    → IsNext conn print learnt before chain last next
-next_seen conn print learnt before chain last shot s is_last is told None none =
+    → IsNext conn print learnt vain vain' before chain last next
+next_seen conn print learnt vain vain' before chain last shot s is_last is told None none =
     inr (shot, is_last, subst (λ (t : State). frame_pieces t ≡ []) is none)
-next_seen conn print learnt before chain last shot s is_last is told (Some n) next = record {
+next_seen conn print learnt vain vain' before chain last shot s is_last is told (Some n) next = record {
   shot = shot;
   is_last = is_last;
   told = told;
   next = subst (λ (t : State). IsNextFrame conn print t last n.piece n.frame.items) is next;
 }
+
+-- ---- where memory is wanting
+
+-- the shot that was seen last has a piece where its state has
+pub piece_seen : (chain : List Shot) (shot : Shot) (s : State) → last_of chain ≡ Some shot → s ≡ shot.state
+    → 0 < length (frame_pieces s) → HasPiece chain
+piece_seen chain shot s is_last is some =
+    (shot, is_last, subst (λ (t : State). 0 < length (frame_pieces t)) is some)
+
+-- what holds anyhow holds of an error
+pub of_error : {T E : Type 0} (result : Result T E) (P : Type 0) → P → IfErr result (λ _. P)
+of_error (Ok value) P holds = tt
+of_error (Err error) P holds = holds

@@ -12,6 +12,7 @@ pub use Rattle.studio.specs.Words as Sights
 pub mod Codes
 pub mod Links
 pub mod MemoryLinks
+pub mod UdpLinks
 pub mod Cursors
 pub mod Nodes
 pub mod Hearing

@@ -25,6 +25,10 @@ print_of n = n.print
 abbrev pub last_sent : Node → Option ℕ
 last_sent n = n.last
 
+-- how many of its looks gave no glimpse
+abbrev pub vain_looks : Node → ℕ
+vain_looks n = n.sight.vain
+
 -- the edits that its pen submitted, oldest first
 abbrev pub submitted_by : Node → List State
 submitted_by n = submitted (pen_of n)

@@ -1,6 +1,7 @@
 //! Where a node is among the pieces of a state, each short enough for a frame.
 
-ghost use Rattle.std.specs.Prelude.{◌≡◌, ◌+◌, ◌<◌, ◌≤◌, ◌^◌, [], drop, length, Some, IsTrue, IfOk, IfNone, IfSome};
+ghost use Rattle.std.specs.Prelude.{◌≡◌, ◌+◌, ◌<◌, ◌≤◌, ◌^◌, [], drop, length, Some, IsTrue};
+ghost use Rattle.std.specs.Prelude.{IfOk, IfErr, IfNone, IfSome};
 ghost use Rattle.stroke_lattice.specs.Pieces.{frame_length};
 ghost use Rattle.stroke_lattice.specs.Places.{pieces_from, pieces_behind};
 ghost use Rattle.spd_codec.specs.Spelling.{max_bytes};
@@ -128,7 +129,7 @@ fn next_place(kept: &Option<Cursor>, state: &State, last: Option<usize>) -> Opti
 /// The piece behind the one of this number, or piece 0 where there is none such, with a cursor at it. It is `None`
 /// where there is no piece.
 ///
-/// Errors: out of memory.
+/// Errors: out of memory, where there is one.
 pub(crate) fn next_piece(
     kept: &Option<Cursor>,
     alloc: Global,
@@ -140,6 +141,7 @@ pub(crate) fn next_piece(
     ensures cursor { IfOk result (λ found. IfSome found (λ next. IsCursorOf state.now next.0)) }
     ensures piece { IfOk result (λ found. IfSome found (λ next. IsNextPiece state.now last next.0.number next.1)) }
     ensures fits { IfOk result (λ found. IfSome found (λ next. frame_length next.1 ≤ max_bytes)) }
+    ensures wanted { IfErr result (λ _. 0 < length (frame_pieces state.now)) }
 {
     let Some((number, place)) = next_place(kept, state, last) else {
         return Ok(None);

@@ -1,10 +1,9 @@
 //! What becomes of a datagram.
 
-ghost use Rattle.std.specs.Prelude.{◌≡◌, ◌⊎◌, ℕ, List};
+ghost use Rattle.std.specs.Prelude.{◌≡◌, ◌⊎◌, ℕ, ◌≤◌, List, length};
 ghost use Rattle.grid_core.specs.declared.conn.Conn.{Conn as Neighbours};
 ghost use Rattle.core_dispatch.specs.Pens.{submitted, KeepsDesk};
-ghost use Rattle.spd_codec.specs.Spelling.{SpellsFrame};
-ghost use Rattle.spd_codec.specs.Faults.{IsFault};
+ghost use Rattle.spd_codec.specs.{Spelling.SpellsFrame, Spelling.max_bytes, Faults.IsFault};
 ghost use Rattle.spd_codec.specs.declared.error.SpdError.TheVariants as faults;
 ghost use Rattle.link_nodes.specs.Hearing.{Hears, IsAnswer, IsRefusal};
 
@@ -49,9 +48,10 @@ fn answer(alloc: Global, datagram: &[u8], conn: Conn, print: &Print, pen: &mut P
     }
 }
 
-// Why a datagram is refused, of which decoding gave this fault, or found no memory.
+// Why a datagram is refused, of which decoding gave this fault; or found no memory, as it may where it is not too long.
 fn refusal(fault: SpdError) -> NodeError
-    ensures { (conn : Neighbours) (print datagram : List ℕ) → (fault ≡ faults.Memory) ⊎ IsFault datagram fault
+    ensures { (conn : Neighbours) (print datagram : List ℕ)
+        → ((fault ≡ faults.Memory) × (length datagram ≤ max_bytes)) ⊎ IsFault datagram fault
         → IsRefusal conn print datagram result }
 {
     match fault {

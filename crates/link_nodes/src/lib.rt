@@ -32,6 +32,7 @@ mod cursor;
 mod datagram;
 mod error;
 mod hearing;
+mod laws;
 mod link;
 mod memory_link;
 mod node;
@@ -41,6 +42,7 @@ mod udp_link;
 
 pub use datagram::Datagram;
 pub use error::NodeError;
+pub use laws::too_long_is_refused;
 pub use link::{BUFFER_BYTES, Link};
 pub use memory_link::MemoryLink;
 pub use node::Node;

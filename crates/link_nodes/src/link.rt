@@ -5,7 +5,7 @@ ghost use Rattle.link_nodes.specs.Links.{LinkSeen, Polls, Sends};
 use byte_devices::Fault;
 
 /// How many bytes a poll has room for: one more than a frame may have, so that a longer datagram is seen to be too
-/// long.
+/// long ([`too_long_is_refused`](crate::too_long_is_refused)).
 pub const BUFFER_BYTES: usize = 1401;
 
 /// What sends datagrams and gives those that came. Any datagram may be lost, doubled or late. A link counts its polls

@@ -1,6 +1,6 @@
 //! Nodes.
 
-ghost use Rattle.std.specs.Prelude.{◌≡◌, None, IfOk};
+ghost use Rattle.std.specs.Prelude.{◌≡◌, None, IfOk, IfErr};
 ghost use Rattle.studio.specs.Chains.{Begins};
 ghost use Rattle.studio.specs.Words.{told_by, told_studio};
 
@@ -30,9 +30,9 @@ pub struct Node {
 }
 
 impl Node {
-    ghost use Rattle.link_nodes.specs.Sending.{IsNext};
+    ghost use Rattle.link_nodes.specs.Sending.{HasPiece, IsNext};
     ghost use Rattle.link_nodes.specs.Ticking.{SendsNext, Ticks, HasLooked};
-    ghost use Rattle.link_nodes.specs.Nodes.{pen_of, eye_of, conn_of, print_of, last_sent};
+    ghost use Rattle.link_nodes.specs.Nodes.{pen_of, eye_of, conn_of, print_of, last_sent, vain_looks};
     ghost use Rattle.link_nodes.specs.Nodes.{chain_seen, chain_learnt, node_studio, IsSameNode};
 
     /// A node that sent nothing yet, for the image of this fingerprint, with these neighbours.
@@ -41,6 +41,7 @@ impl Node {
         ensures eye { eye_of result ≡ eye }
         ensures image { (conn_of result ≡ conn) × (print_of result ≡ print) }
         ensures last { last_sent result ≡ None }
+        ensures vain { vain_looks result ≡ 0 }
     {
         Node {
             pen,
@@ -71,7 +72,7 @@ impl Node {
     ///
     /// What is refused changes nothing: D1 for a frame of another image, D2 for other bytes, with the reason (M6 for
     /// more than 1400 bytes), D3 where the link failed, D4 for want of memory. Strokes for which the pen's ring has no
-    /// place are dropped. A piece that was not sent is the next one still.
+    /// place are dropped. A piece that was not sent is the next one still. A look that gives no glimpse is counted.
     pub fn tick<L: Link>(&mut self, alloc: Global, link: &mut L) -> Ticked
         ensures ticks { Ticks self.old self.new (L.seen link.old) (L.seen link.new) result }
         ensures looked { HasLooked self.old self.new }
@@ -104,7 +105,9 @@ impl Node {
     // Looks, and makes the frame of the next piece.
     fn look(&mut self, alloc: Global) -> Result<Option<Next>, Memory>
         ensures next { IfOk result (IsNext (conn_of self.old) (print_of self.old) (chain_learnt self.old)
-            (chain_seen self.old) (chain_seen self.new) (last_sent self.old)) }
+            (vain_looks self.old) (vain_looks self.new) (chain_seen self.old) (chain_seen self.new)
+            (last_sent self.old)) }
+        ensures wanted { IfErr result (λ _. HasPiece (chain_seen self.new)) }
         ensures looked { HasLooked self.old self.new }
         ensures pen { pen_of self.new ≡ pen_of self.old }
         ensures last { last_sent self.new ≡ last_sent self.old }
@@ -116,6 +119,13 @@ impl Node {
             last: self.last,
         };
         replace_with(&mut self.sight, request, look_for_next)
+    }
+
+    /// How many of its looks gave no glimpse. The count stops at `u64::MAX`.
+    pub fn vain_looks(&self) -> u64
+        ensures { result ≡ vain_looks self.now }
+    {
+        self.sight.vain
     }
 
     /// The pen and the eye.

@@ -1,6 +1,6 @@
 //! What a node sees.
 
-ghost use Rattle.std.specs.Prelude.{◌≡◌, ◌≤◌, [], IfOk, IfSome, MatchOption};
+ghost use Rattle.std.specs.Prelude.{◌≡◌, ◌<◌, ◌≤◌, [], length, IfOk, IfErr, IfSome, MatchOption};
 ghost use Rattle.std.specs.Coded.{Coded-set, coded_list};
 ghost use Rattle.std.proofs.Props.{props};
 ghost use Rattle.stroke_core.specs.contracts.stroke.Stroke as stroke;
@@ -11,20 +11,23 @@ ghost use Rattle.spd_codec.specs.declared.version.Version.TheVariants.{Second};
 ghost use Rattle.studio.specs.Chains.{Begins};
 ghost use Rattle.studio.specs.Words.{seen_by, learnt_by, told_by, told_studio, eye_studio};
 ghost use Rattle.link_nodes.specs.Cursors.{IsOfLast, IsOfLower, IsCursorOf, frame_pieces};
-ghost use Rattle.link_nodes.specs.Sending.{IsNext, IsNextFrame};
+ghost use Rattle.link_nodes.specs.Sending.{HasPiece, IsNext, IsNextFrame};
 
 use crate::cursor::{Cursor, next_piece};
+use byte_devices::count_one;
 use grid_core::{Conn, Memory};
 use spd_codec::{Print, encode};
 use std::alloc::Global;
 use stroke_lattice::{Delta, State};
 use studio::{Eye, Told};
 
-/// An eye, and a cursor at a piece of the state that it saw last, if there is one.
+/// An eye, a cursor at a piece of the state that it saw last, if there is one, and how many looks gave no glimpse. The
+/// count stops at `u64::MAX`.
 #[derive(Drop)]
 pub(crate) struct Sight {
     pub(crate) eye: Eye,
     pub(crate) cursor: Option<Cursor>,
+    pub(crate) vain: u64,
     ghost of_last: { IsOfLast (seen_by eye) cursor } by { Prim.hlevel (
       props,
       Coded-set (coded_list (state_code stroke.the_row.coded)),
@@ -50,9 +53,14 @@ pub(crate) struct Next {
 impl Sight {
     /// An eye that may have seen something.
     pub(crate) fn new(eye: Eye) -> Sight
-        ensures { result.eye ≡ eye }
+        ensures eye { result.eye ≡ eye }
+        ensures vain { result.vain ≡ 0 }
     {
-        Sight { eye, cursor: None }
+        Sight {
+            eye,
+            cursor: None,
+            vain: 0,
+        }
     }
 
     /// Learns of a show.
@@ -70,7 +78,11 @@ impl Sight {
     pub(crate) fn leave(self) -> Eye
         ensures { result ≡ self.eye }
     {
-        let Sight { eye, cursor: _ } = self;
+        let Sight {
+            eye,
+            cursor: _,
+            vain: _,
+        } = self;
         eye
     }
 }
@@ -78,24 +90,32 @@ impl Sight {
 /// Looks, and makes the frame of the next piece of what is seen. It is `None` where there is no glimpse, and where the
 /// state that is seen has no piece. The glimpse is let go before anything is sent.
 ///
-/// Errors: out of memory.
+/// Errors: out of memory, where there is a piece.
 #[tactic(auto, using(crate::proofs::Seeing::of_lower, crate::proofs::Seeing::of_last))]
 pub(crate) fn look_for_next(sight: Sight, request: Request) -> (Sight, Result<Option<Next>, Memory>)
     ensures next { IfOk result.1
-        (IsNext request.conn request.print (learnt_by sight.eye) (seen_by sight.eye) (seen_by result.0.eye)
-        request.last) }
+        (IsNext request.conn request.print (learnt_by sight.eye) sight.vain result.0.vain (seen_by sight.eye)
+        (seen_by result.0.eye) request.last) }
+    ensures wanted { IfErr result.1 (λ _. HasPiece (seen_by result.0.eye)) }
     ensures seen { Begins (seen_by result.0.eye) (seen_by sight.eye) }
     ensures learnt { learnt_by result.0.eye ≡ learnt_by sight.eye }
     ensures studio { eye_studio result.0.eye ≡ eye_studio sight.eye }
 {
-    let Sight { eye, cursor } = sight;
+    let Sight {
+        eye,
+        cursor,
+        mut vain,
+    } = sight;
     let glimpse = match eye.look() {
         Ok(glimpse) => glimpse,
-        Err(eye) => return (Sight { eye, cursor }, Ok(None)),
+        Err(eye) => {
+            count_one(&mut vain);
+            return (Sight { eye, cursor, vain }, Ok(None));
+        }
     };
     let (cursor, next) = next_frame(&cursor, glimpse.state(), request);
     let eye = glimpse.leave();
-    (Sight { eye, cursor }, next)
+    (Sight { eye, cursor, vain }, next)
 }
 
 // The frame of the next piece of a state, and a cursor at it.
@@ -108,6 +128,7 @@ fn next_frame(
     ensures cursor { IfSome result.0 (λ cursor. IsCursorOf state.now cursor) }
     ensures next { IfOk result.1 (λ next. MatchOption next (frame_pieces state.now ≡ [])
         (λ n. IsNextFrame request.conn request.print state.now request.last n.piece n.frame.items)) }
+    ensures wanted { IfErr result.1 (λ _. 0 < length (frame_pieces state.now)) }
 {
     match next_piece(kept, request.alloc, state, request.last) {
         Ok(Some((cursor, piece))) => {

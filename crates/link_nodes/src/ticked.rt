@@ -18,7 +18,7 @@ pub enum Heard {
 /// What was sent.
 #[derive(Clone, Copy, Debug, PartialEq, Eq)]
 pub enum Sent {
-    /// Nothing: there was no glimpse, or the state that was seen is empty.
+    /// Nothing: the look gave no glimpse, which is counted, or the state that was seen is empty.
     Nothing,
     /// The frame of the piece of this number, from 0.
     Piece(usize),

@@ -2,6 +2,7 @@
 
 ghost use Rattle.std.specs.Prelude.{◌≡◌, ◌≤◌, length, None, IfOk, IfSome};
 ghost use Rattle.link_nodes.specs.Links.{fresh_link};
+ghost use Rattle.link_nodes.specs.UdpLinks.{port_of, peers_of};
 
 use crate::link::{BUFFER_BYTES, Link};
 use byte_devices::{Fault, count_one};
@@ -14,7 +15,8 @@ use std::net::{Ipv4Addr, Net, UdpSocket};
 #[derive(Drop)]
 pub struct UdpLink {
     socket: UdpSocket,
-    peers: Vec<u16>,
+    pub(crate) port: u16,
+    pub(crate) peers: Vec<u16>,
     polls: u64,
     sends: u64,
     failures: u64,
@@ -25,7 +27,8 @@ impl UdpLink {
     ///
     /// Errors: a fault, where the socket cannot be bound, or not be told not to wait.
     pub fn bind<R: Net>(net: &R, port: u16, peers: Vec<u16>) -> Result<UdpLink, Fault>
-        ensures { IfOk result (λ link. ⟦<UdpLink as Link>⟧.seen link ≡ fresh_link) }
+        ensures fresh { IfOk result (λ link. ⟦<UdpLink as Link>⟧.seen link ≡ fresh_link) }
+        ensures told { IfOk result (λ link. (port_of link ≡ port) × (peers_of link ≡ peers.items)) }
     {
         let Ok(socket) = UdpSocket::bind(net, (Ipv4Addr::LOCALHOST, port)) else {
             return Err(Fault);
@@ -35,11 +38,19 @@ impl UdpLink {
         }
         Ok(UdpLink {
             socket,
+            port,
             peers,
             polls: 0,
             sends: 0,
             failures: 0,
         })
+    }
+
+    /// The port.
+    pub fn port(&self) -> u16
+        ensures { result ≡ port_of self.now }
+    {
+        self.port
     }
 
     // Sends a datagram to every peer, and answers whether each took it whole.

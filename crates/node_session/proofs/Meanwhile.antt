@@ -45,7 +45,7 @@ sends_in_silence old new link link' (sents.Piece i) (frame, next, (is_sent, adds
     (is_sent.heard, is_sent.polls)
 sends_in_silence old new link link' (sents.Refused errors.Device) ((is_sent, same, failures), last) =
     (is_sent.heard, is_sent.polls)
-sends_in_silence old new link link' (sents.Refused errors.Memory) (same, last) =
+sends_in_silence old new link link' (sents.Refused errors.Memory) ((same, last), wanted) =
     (ap (λ (l : LinkSeen). l.heard) same, ap (λ (l : LinkSeen). l.polls) same)
 sends_in_silence old new link link' _ none = absurd none
 
