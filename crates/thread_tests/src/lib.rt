@@ -34,4 +34,6 @@ mod runs;
 #[cfg(test)]
 mod scene;
 #[cfg(test)]
+mod sockets;
+#[cfg(test)]
 mod turning;
