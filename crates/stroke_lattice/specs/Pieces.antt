@@ -4,7 +4,6 @@ use Rattle.std.specs.Prelude.{if◌then◌else◌, sum_by}
 use Rattle.std.specs.{Ordering.nat_cmp, List.AllByRecursion}
 use Rattle.std.specs.FinMap.{entries, keys, insert, from_entries}
 use Rattle.stroke_core.specs.Seed.{Seed, byte_len_of}
-use Rattle.stroke_lattice.specs.declared.split.TheConstants.{HEAD_BYTES, TOMBSTONE_BYTES}
 use Rattle.stroke_lattice.specs.State.{State, nothing}
 use Rattle.std.specs.FinSet as set
 
@@ -32,14 +31,15 @@ tombstone_items s = map (λ tag. Withdrawn tag) (tombstones_of s)
 abbrev pub items_of : State → List Item
 items_of s = stroke_items s ++ tombstone_items s
 
--- how many bytes an item takes in a frame: a tombstone is a tag
+-- how many bytes an item takes in a frame: a tombstone is a tag of 16
 abbrev pub item_length : Item → ℕ
 item_length (Placed tag seed) = byte_len_of seed.shape
-item_length (Withdrawn tag) = TOMBSTONE_BYTES
+item_length (Withdrawn tag) = 16
 
--- how many bytes the frame of the state has: those of its head and those of its items
+-- how many bytes the frame of the state has: 41 of its head and those of its items. The head is 4 of magic, 1 of
+-- connectivity, 32 of fingerprint, and 2 for the number of strokes and 2 for that of tombstones
 abbrev pub frame_length : State → ℕ
-frame_length s = HEAD_BYTES + sum_by item_length (items_of s)
+frame_length s = 41 + sum_by item_length (items_of s)
 
 -- the state with one item more
 abbrev pub with_item : State → Item → State

@@ -53,5 +53,5 @@ pub use laws::{
 };
 pub use live::Live;
 pub use piece::Place;
-pub use split::{HEAD_BYTES, MIN_PIECE_BYTES, TOMBSTONE_BYTES};
+pub use split::{HEAD_BYTES, MIN_PIECE_BYTES, TOMBSTONE_BYTES, lengths_in_frames};
 pub use state::{Delta, State};

@@ -22,6 +22,14 @@ pub const TOMBSTONE_BYTES: usize = 16;
 /// The least length that pieces may be cut to, in bytes: that of a frame with the longest stroke.
 pub const MIN_PIECE_BYTES: usize = 1022;
 
+/// The head of a frame has 41 bytes and a tombstone 16, and pieces may be cut to 1,022 bytes and to any greater length:
+/// the code measures by the numbers that `specs/Pieces.antt` has.
+pub fn lengths_in_frames()
+    ensures head { HEAD_BYTES ≡ 41 }
+    ensures tombstone { TOMBSTONE_BYTES ≡ 16 }
+    ensures least { MIN_PIECE_BYTES ≡ 1022 }
+{}
+
 impl State {
     /// Pieces whose join is the state ([`pieces_join`](crate::pieces_join)), and whose frames have at most
     /// `max_bytes` bytes. They are filled one after another, first with the strokes and then with the
