@@ -111,6 +111,12 @@ pub all_read : (bytes : List ℕ) (frames : List Frame) → IsRead bytes frames 
 all_read bytes frames so_far =
     subst (λ (t : List ℕ). SpellsFile t frames) (sym (so_far.parts ∙ append-nil so_far.before)) so_far.read
 
+-- where something is left, there were bytes
+pub some_bytes : (bytes : List ℕ) (frames : List Frame) (rest : List ℕ) → 0 < length rest → IsRead bytes frames rest
+    → 0 < length bytes
+some_bytes bytes frames rest left so_far =
+    omega (arith, left, ap length so_far.parts, length-append so_far.before rest)
+
 pub stopped : (bytes : List ℕ) (frames : List Frame) (rest : List ℕ) (e : SpdError) → IsNextFault rest e
     → IsRead bytes frames rest → IsFileFault bytes e
 stopped bytes frames rest e fault so_far = record {

@@ -4,7 +4,6 @@ use Rattle.std.specs.List.{AllByRecursion}
 use Rattle.grid_core.specs.declared.conn.Conn.{Conn}
 use Rattle.stroke_core.specs.Seed.{byte_len_of}
 use Rattle.stroke_lattice.specs.State.{State}
-use Rattle.stroke_lattice.specs.declared.split.TheConstants.{HEAD_BYTES, TOMBSTONE_BYTES}
 use Rattle.stroke_lattice.specs.Pieces.{frame_length, strokes_of, tombstones_of}
 use Rattle.spd_codec.specs.{declared.error.SpdError.SpdError, declared.frame.Frame.Frame}
 use Rattle.spd_codec.specs.{declared.version.Version.Version, declared.version.Version.TheVariants.Second}
@@ -35,13 +34,13 @@ abbrev pub NoSpellingBeginsAnother : Type 0
 NoSpellingBeginsAnother =
     (bytes more : List ℕ) (a b : Frame) → SpellsFrame bytes a → SpellsFrame (bytes ++ more) b → (more ≡ []) × (a ≡ b)
 
--- the text of a frame has the length that its strokes and tombstones say: that of the head, of each stroke and of each
--- tombstone
+-- the text of a frame has the length that its strokes and tombstones say: 41 bytes of head, those of each stroke, and
+-- 16 of each tombstone
 pub record FrameTextHasItsLength : Type 0 where
   pub text : (conn : Conn) (print : List ℕ) (s : State) → length print ≡ 32
       → length (frame_text Second conn print s) ≡ frame_length s
-  pub parts : (s : State) → frame_length s ≡ HEAD_BYTES + sum_by (λ e. byte_len_of e.1.shape) (strokes_of s)
-      + TOMBSTONE_BYTES * length (tombstones_of s)
+  pub parts : (s : State) → frame_length s ≡ 41 + sum_by (λ e. byte_len_of e.1.shape) (strokes_of s)
+      + 16 * length (tombstones_of s)
 
 -- the text of a frame that has one in the version spells that frame and no other
 pub record FrameTextIsRead : Type 0 where

@@ -7,7 +7,6 @@ use Rattle.grid_core.specs.declared.conn.Conn.TheVariants.{Four, Eight}
 use Rattle.stroke_core.specs.{declared.run.Run.Run, Seed.Seed, Seed.Shape, Seed.Runs, Seed.Disc, Seed.IsCanonical}
 use Rattle.stroke_lattice.specs.{State.State, Pieces.strokes_of, Pieces.tombstones_of}
 use Rattle.spd_codec.specs.{declared.frame.Frame.Frame, declared.version.Version.Version}
-use Rattle.spd_codec.specs.{declared.writing.TheConstants.MAX_BYTES}
 use Rattle.spd_codec.specs.declared.version.Version.TheVariants.{First, Second}
 
 -- ---- fields
@@ -68,7 +67,7 @@ frame_text version conn print s = frame_of version conn print (strokes_of s) (to
 
 -- the most bytes that a frame has
 abbrev pub max_bytes : ℕ
-max_bytes = MAX_BYTES
+max_bytes = 1400
 
 -- each of the run's numbers has two bytes
 pub record RunFits (run : Run) : Type 0 where

@@ -43,4 +43,4 @@ pub use state_file::{
     every_file, joined_files_spell_both, one_file, one_file_fault, read_frames, write_frames,
 };
 pub use version::Version;
-pub use writing::{MAX_BYTES, encode};
+pub use writing::{MAX_BYTES, encode, most_bytes_of_a_frame};

@@ -1,5 +1,5 @@
 //! State files: frames one after another, each behind its length.
-ghost use Rattle.std.specs.Prelude.{◌≡◌, ℕ, List, ◌<◌, ◌≤◌, ◌⊎◌, IfOk, IfErr, OnOk, MatchResult, length};
+ghost use Rattle.std.specs.Prelude.{◌≡◌, ℕ, List, ◌<◌, ◌≤◌, ◌⊎◌, IfOk, IfErr, OnOk, IsErrOf, MatchResult, length};
 ghost use Rattle.stroke_lattice.specs.Pieces.{frame_length, pieces_of};
 ghost use Rattle.spd_codec.specs.declared.error.SpdError.TheVariants as errors;
 ghost use Rattle.spd_codec.specs.declared.frame.Frame.{Frame as Read};
@@ -53,7 +53,7 @@ fn put_piece(out: &mut Vec<u8>, conn: Conn, print: &Print, piece: &Delta) -> Res
 }
 
 /// The frames of a state file, in their order. Frames of both versions may stand in it, and the empty file
-/// has none.
+/// has none, and takes no memory.
 ///
 /// Errors, those of the first frame that has one, behind frames that stand there rightly: M3 where the file
 /// ends inside the two bytes of its length, else M6 where the length is above [`MAX_BYTES`], else M3 where the file
@@ -67,6 +67,7 @@ pub fn read_frames(alloc: Global, bytes: &[u8]) -> Result<Vec<Frame>, SpdError>
     ensures only { (frames : List Read) → SpellsFile bytes.now frames
         → MatchResult result (λ found. found.items ≡ frames) (λ e. e ≡ errors.Memory) }
     ensures fault { IfErr result (λ e. (e ≡ errors.Memory) ⊎ IsFileFault bytes.now e) }
+    ensures some { IsErrOf result errors.Memory → 0 < length bytes.now }
 {
     // What is read is all that the bytes spell.
     one_file();
@@ -78,6 +79,7 @@ pub fn read_frames(alloc: Global, bytes: &[u8]) -> Result<Vec<Frame>, SpdError>
 fn read_each(alloc: Global, bytes: &[u8]) -> Result<Vec<Frame>, SpdError>
     ensures found { IfOk result (λ frames. SpellsFile bytes.now frames.items) }
     ensures fault { IfErr result (λ e. (e ≡ errors.Memory) ⊎ IsFileFault bytes.now e) }
+    ensures some { IsErrOf result errors.Memory → 0 < length bytes.now }
 {
     let mut frames = Vec::new(alloc);
     let mut rest = bytes;

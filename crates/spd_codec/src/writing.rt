@@ -21,6 +21,11 @@ use stroke_lattice::{Delta, HEAD_BYTES, TOMBSTONE_BYTES, walks_give_one_list};
 /// The most bytes that a frame may have.
 pub const MAX_BYTES: usize = 1400;
 
+/// A frame may have 1,400 bytes: the code measures by the number that `specs/Spelling.antt` has.
+pub fn most_bytes_of_a_frame()
+    ensures { MAX_BYTES ≡ 1400 }
+{}
+
 /// The frame of a delta, in the second version of the format. Memory of its exact length is taken.
 ///
 /// Errors: M6 where the frame has more than [`MAX_BYTES`] bytes, asked before any memory is taken, else M8.
@@ -51,7 +56,7 @@ pub(crate) fn frame_len(delta: &Delta) -> usize
 
 // The length of a frame with the strokes alone, or one byte more than a frame may have where it is longer.
 fn strokes_len(delta: &Delta) -> usize
-    ensures { result ≡ min (HEAD_BYTES + sum_by (λ e. byte_len_of e.1.shape) (strokes_of delta.now)) (max_bytes + 1) }
+    ensures { result ≡ min (41 + sum_by (λ e. byte_len_of e.1.shape) (strokes_of delta.now)) (max_bytes + 1) }
 {
     walks_give_one_list();
     let mut length = HEAD_BYTES;
