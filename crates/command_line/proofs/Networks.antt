@@ -16,8 +16,7 @@ use Rattle.command_line.specs.{Words.IsRefusalOfWords, declared.words.Call.Call,
 -- ---- which errors are which
 
 no_link_in_reading : IsReadingFault Link → ⊥
-no_link_in_reading (inl edit) = cc
-no_link_in_reading (inr image) = cc
+no_link_in_reading memory = cc
 
 no_link_in_transfer : IsTransferFault Link → ⊥
 no_link_in_transfer device = cc

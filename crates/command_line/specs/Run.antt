@@ -1,5 +1,5 @@
 -- What a run does: the call that the words say, on an input and over what its state file holds.
-use Rattle.std.specs.Prelude.{◌≡◌, ◌⊎◌, ◌++◌, ◌∷◌, [], ⊤, ℕ, List, Option, Some, None, Result, Ok, Err, String, IfOk}
+use Rattle.std.specs.Prelude.{◌≡◌, ◌⊎◌, ⊤, ℕ, List, Option, Some, None, Result, Ok, Err, String, IfOk}
 use Rattle.std.specs.Prelude.{IfSome}
 use Rattle.std.specs.{Io.KnownBytes.Appends, declared.vec.IntoIter.IntoIter}
 use Rattle.byte_devices.specs.{Device.SinkSeen, Device.HasRisen, Transfer.AppendsFront}
@@ -7,7 +7,7 @@ use Rattle.grid_core.specs.Tiles.{IsTileSide}
 use Rattle.stroke_lattice.specs.State.{State, nothing}
 use Rattle.view_session.specs.{Derive.IsDerivation, Derive.DerivationStops, Store.Held, View.IsView, View.InputStops}
 use Rattle.view_session.specs.Serving.{IsShownOver, IsStoredView, IsStoreFault, StoredStops, ToKeep}
-use Rattle.run_faults.specs.RunError.{fault_text, IsReadingFault}
+use Rattle.run_faults.specs.RunError.{error_line, IsReadingFault}
 use Rattle.run_faults.specs.declared.run_error.RunError.{RunError}
 use Rattle.run_faults.specs.declared.run_error.RunError.TheVariants.{Memory, Usage}
 use Rattle.link_nodes.specs.Links.{LinkSeen}
@@ -103,20 +103,12 @@ IfEnded (Err e) P = P (Err e)
 abbrev pub IfHandedBack : {X : Type 0} → Result (Option X) RunError → (X → Type 0) → Type 0
 IfHandedBack result P = IfOk result (λ back. IfSome back P)
 
--- the line of a fault, with its LF
-abbrev pub error_line : RunError → List ℕ
-error_line e = fault_text e ++ 10 ∷ []
-
 -- this line, all of it, or a front of it where the sink failed
 abbrev pub TellsLine : SinkSeen → SinkSeen → List ℕ → Type 0
 TellsLine old new line = Appends old.written new.written line
     ⊎ (HasRisen old.failures new.failures × AppendsFront old.written new.written line)
 
--- the line of a fault, or where no memory is left for that the line of want of memory
-abbrev pub TellsFault : RunError → SinkSeen → SinkSeen → Type 0
-TellsFault e old new = TellsLine old new (error_line e) ⊎ TellsLine old new (error_line Memory)
-
 -- what goes to standard error: nothing after a run that ended well, else the line of its fault
 abbrev pub Tells : {T : Type 0} → Result T RunError → SinkSeen → SinkSeen → Type 0
 Tells (Ok value) old new = new ≡ old
-Tells (Err e) old new = TellsFault e old new
+Tells (Err e) old new = TellsLine old new (error_line e)

@@ -1,12 +1,12 @@
 //! The run of a process: its words, its input, and what it says at the end.
 
-ghost use Rattle.std.specs.Prelude.{◌≡◌, IfOk, IsErrOf, MatchResult, string_bytes};
+ghost use Rattle.std.specs.Prelude.{◌≡◌, IsErrOf, MatchResult};
 ghost use Rattle.std.specs.Process.{exit_status};
-ghost use Rattle.run_faults.specs.RunError.{HasStatus};
+ghost use Rattle.run_faults.specs.RunError.{HasStatus, error_line};
 ghost use Rattle.view_session.specs.Serving.{AnswersOverStore};
 ghost use Rattle.node_session.specs.Network.{TellsNetwork};
-ghost use Rattle.command_line.specs.Run.{CanBeMade, EndsEarly, IsAnswer, IsShownBy, Leaves, StopsOn, error_line};
-ghost use Rattle.command_line.specs.Run.{IfEnded, IfHandedBack, IsSaid, Tells, TellsFault, TellsLine};
+ghost use Rattle.command_line.specs.Run.{CanBeMade, EndsEarly, IsAnswer, IsShownBy, Leaves, StopsOn};
+ghost use Rattle.command_line.specs.Run.{IfEnded, IfHandedBack, IsSaid, Tells, TellsLine};
 ghost use Rattle.command_line.specs.Run.{RunAnswers, RunEndsEarly, RunLeaves, RunShows, RunStops};
 ghost use Rattle.command_line.specs.Words.{ProcessSaysNone};
 ghost use Rattle.command_line.specs.declared.words.Call.TheVariants as call;
@@ -14,12 +14,11 @@ ghost use Rattle.grid_core.specs.Tiles.{IsTileSide};
 
 use crate::words::{Call, read_process_words};
 use band_growth::ManyThreads;
-use byte_devices::{Sink, Source, put_all};
-use grid_core::Memory;
+use byte_devices::{Sink, Source};
 use node_session::network::Network;
 use node_session::stored::{NodeCall, node_stored};
 use page_server::PaintCall;
-use run_faults::{RunError, fault_line, status};
+use run_faults::{RunError, put_fault, status};
 use std::alloc::Global;
 use std::process::ExitCode;
 use std::sync::Wait;
@@ -129,42 +128,23 @@ fn make<R: Threads + Wait + Clock + Sync, S: Source, T: StateStore, N: Network, 
 }
 
 /// The exit status of a run, told with its line on the sink of errors where it ended in a fault. A failure to
-/// write that line can be told to nobody.
-pub fn conclude<K: Sink>(alloc: Global, outcome: &Result<(), RunError>, errors: &mut K) -> ExitCode
+/// write that line can be told to nobody. It takes no memory, so that each fault is told by its own line.
+pub fn conclude<K: Sink>(outcome: &Result<(), RunError>, errors: &mut K) -> ExitCode
     ensures status { MatchResult outcome.now (λ _. exit_status result ≡ 0) (λ e. HasStatus e (exit_status result)) }
     ensures told { Tells outcome.now (K.seen errors.old) (K.seen errors.new) }
 {
     match outcome {
         Ok(()) => ExitCode::SUCCESS,
         Err(error) => {
-            tell(alloc, error, errors);
+            tell(error, errors);
             ExitCode::from(status(error))
         }
     }
 }
 
-// Puts the line of a fault.
-fn tell<K: Sink>(alloc: Global, error: &RunError, errors: &mut K)
-    ensures { TellsFault error.now (K.seen errors.old) (K.seen errors.new) }
+// Puts the line of a fault. A failure can be told to nobody.
+fn tell<K: Sink>(error: &RunError, errors: &mut K)
+    ensures { TellsLine (K.seen errors.old) (K.seen errors.new) (error_line error.now) }
 {
-    match error_line(alloc, error) {
-        Ok(line) => put_line(errors, line.as_bytes()),
-        Err(_) => put_line(errors, b"seedpaint: memory\n"),
-    }
-}
-
-// Puts a line. A failure can be told to nobody.
-fn put_line<K: Sink>(errors: &mut K, line: &[u8])
-    ensures { TellsLine (K.seen errors.old) (K.seen errors.new) line.now }
-{
-    let _ = put_all(errors, line);
-}
-
-// The line of a fault, with its LF.
-fn error_line(alloc: Global, error: &RunError) -> Result<String, Memory>
-    ensures { IfOk result (λ line. string_bytes line ≡ error_line error.now) }
-{
-    let mut line = fault_line(alloc, error)?;
-    line.push_str("\n")?;
-    Ok(line)
+    let _ = put_fault(error, errors);
 }

@@ -39,8 +39,7 @@ stops_at_no_link conn hands old input e (inl kept) link = let is = kept_stops_of
 stops_at_no_link conn hands old input e (inr (mask, first, gathered, (why, is, counts))) link = cc
 
 reading_is_no_link : (e : RunError) → IsReadingFault e → e ≡ Link → ⊥
-reading_is_no_link e (inl edit) link = cc
-reading_is_no_link e (inr image) link = cc
+reading_is_no_link e reading link = cc
 
 -- why the run itself was refused
 abbrev Refused : Conn → ℕ → List ℕ → Option (List ℕ) → RunError → Type 0

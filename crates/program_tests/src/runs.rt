@@ -126,7 +126,7 @@ const RUNS: &[Run] = &[
 
 fn is_told(alloc: Global, outcome: &Result<(), RunError>, status: u8, line: &[u8]) -> bool {
     let mut errors = MemorySink::new(alloc);
-    let code = conclude(alloc, outcome, &mut errors);
+    let code = conclude(outcome, &mut errors);
     code == ExitCode::from(status) && errors.written() == line
 }
 

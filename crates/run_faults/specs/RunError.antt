@@ -1,11 +1,13 @@
 -- What the program says of a fault: one line, and an exit status.
-use Rattle.std.specs.Prelude.{◌≡◌, ◌⊎◌, ℕ, List, ◌++◌, codes, decimal}
+use Rattle.std.specs.Prelude.{◌≡◌, ◌⊎◌, ℕ, List, [], ◌∷◌, ◌++◌, codes, decimal}
 use Rattle.edit_lang.specs.{declared.error.EditError.EditError, Code.code_of as edit_code_of}
 use Rattle.pgm_codec.specs.Code.{code_of as pgm_code_of}
 use Rattle.stroke_core.specs.{Code.code_of as stroke_code_of, Tag.text_of}
 use Rattle.core_rules.specs.{Codes.code_of as core_code_of, declared.error.CoreError.CoreError}
 use Rattle.spd_codec.specs.{Code.code_of as spd_code_of, declared.error.SpdError.SpdError}
-use Rattle.run_faults.specs.{declared.run_error.RunError.RunError, declared.run_error.StudioFault.StudioFault}
+use Rattle.run_faults.specs.{declared.detail.Detail.Detail, declared.run_error.RunError.RunError}
+use Rattle.run_faults.specs.{declared.run_error.StudioFault.StudioFault}
+use Rattle.run_faults.specs.declared.detail.Detail.TheVariants.{Nothing, Line, LineAndStroke, Stroke, Named}
 use Rattle.run_faults.specs.declared.run_error.RunError.TheVariants.{Usage, NoImage, Edit, Pgm, Core, Spd, OtherMask}
 use Rattle.run_faults.specs.declared.run_error.RunError.TheVariants.{StateFile, Memory, Studio, Link}
 use Rattle.edit_lang.specs.declared.error.EditError.TheVariants as edit
@@ -13,33 +15,6 @@ use Rattle.pgm_codec.specs.declared.error.PgmError.TheVariants as pgm
 use Rattle.core_rules.specs.declared.error.CoreError.TheVariants as core
 use Rattle.spd_codec.specs.declared.error.SpdError.TheVariants as spd
 use Rattle.run_faults.specs.declared.run_error.StudioFault.TheVariants as studio
-
--- the code, the number of the line, and of a stroke its code
-abbrev pub edit_text : EditError → List ℕ
-edit_text (edit.BadLine n) = edit_code_of (edit.BadLine n) ++ codes " " ++ decimal n
-edit_text (edit.BadTag n) = edit_code_of (edit.BadTag n) ++ codes " " ++ decimal n
-edit_text (edit.BadStroke n why) =
-    edit_code_of (edit.BadStroke n why) ++ codes " " ++ decimal n ++ codes " " ++ stroke_code_of why
-edit_text edit.Memory = edit_code_of edit.Memory
-
--- the code, and the text of the tag where one is named
-abbrev pub core_text : CoreError → List ℕ
-core_text (core.OutOfImage tag) = core_code_of (core.OutOfImage tag) ++ codes " " ++ text_of tag
-core_text (core.Conflict tag) = core_code_of (core.Conflict tag) ++ codes " " ++ text_of tag
-core_text core.GenerationsSpent = core_code_of core.GenerationsSpent
-core_text core.Memory = core_code_of core.Memory
-core_text core.BadSide = core_code_of core.BadSide
-
--- the code, and of a stroke that is refused its code
-abbrev pub frame_fault_text : SpdError → List ℕ
-frame_fault_text spd.BadMagic = spd_code_of spd.BadMagic
-frame_fault_text spd.BadConn = spd_code_of spd.BadConn
-frame_fault_text spd.Truncated = spd_code_of spd.Truncated
-frame_fault_text spd.TagOrder = spd_code_of spd.TagOrder
-frame_fault_text (spd.BadStroke why) = spd_code_of (spd.BadStroke why) ++ codes " " ++ stroke_code_of why
-frame_fault_text spd.TooLong = spd_code_of spd.TooLong
-frame_fault_text spd.Trailing = spd_code_of spd.Trailing
-frame_fault_text spd.Memory = spd_code_of spd.Memory
 
 -- a studio's: U where none was opened, B where it was not closed
 abbrev pub studio_code : StudioFault → List ℕ
@@ -50,32 +25,84 @@ studio_code studio.EndMissing = codes "B1"
 studio_code studio.CloseMemory = codes "B2"
 studio_code studio.CountSpent = codes "B3"
 
--- what stands behind `seedpaint: `
-abbrev pub code_text : RunError → List ℕ
-code_text Usage = codes "usage"
-code_text NoImage = codes "V1"
-code_text (Edit e) = edit_text e
-code_text (Pgm e) = pgm_code_of e
-code_text (Core e) = core_text e
-code_text (Spd e) = frame_fault_text e
-code_text OtherMask = codes "D1"
-code_text StateFile = codes "V2"
-code_text Memory = codes "memory"
-code_text (Studio why) = studio_code why
-code_text Link = codes "D3"
+-- the code of a fault, as documents name it; what has no number has a word
+abbrev pub code_of : RunError → List ℕ
+code_of Usage = codes "usage"
+code_of NoImage = codes "V1"
+code_of (Edit e) = edit_code_of e
+code_of (Pgm e) = pgm_code_of e
+code_of (Core e) = core_code_of e
+code_of (Spd e) = spd_code_of e
+code_of OtherMask = codes "D1"
+code_of StateFile = codes "V2"
+code_of Memory = codes "memory"
+code_of (Studio why) = studio_code why
+code_of Link = codes "D3"
 
--- the line of a fault, without its LF
+-- what is told of a fault in the edit text: the number of the line, and of a stroke its code
+abbrev pub edit_detail : EditError → Detail
+edit_detail (edit.BadLine n) = Line n
+edit_detail (edit.BadTag n) = Line n
+edit_detail (edit.BadStroke n why) = LineAndStroke n why
+edit_detail edit.Memory = Nothing
+
+-- of a core's refusal: the tag where one is named
+abbrev pub core_detail : CoreError → Detail
+core_detail (core.OutOfImage tag) = Named tag
+core_detail (core.Conflict tag) = Named tag
+core_detail core.GenerationsSpent = Nothing
+core_detail core.Memory = Nothing
+core_detail core.BadSide = Nothing
+
+-- of a fault in a state file: the code of a stroke that is refused
+abbrev pub frame_detail : SpdError → Detail
+frame_detail spd.BadMagic = Nothing
+frame_detail spd.BadConn = Nothing
+frame_detail spd.Truncated = Nothing
+frame_detail spd.TagOrder = Nothing
+frame_detail (spd.BadStroke why) = Stroke why
+frame_detail spd.TooLong = Nothing
+frame_detail spd.Trailing = Nothing
+frame_detail spd.Memory = Nothing
+
+-- and of any fault
+abbrev pub detail_of : RunError → Detail
+detail_of Usage = Nothing
+detail_of NoImage = Nothing
+detail_of (Edit e) = edit_detail e
+detail_of (Pgm e) = Nothing
+detail_of (Core e) = core_detail e
+detail_of (Spd e) = frame_detail e
+detail_of OtherMask = Nothing
+detail_of StateFile = Nothing
+detail_of Memory = Nothing
+detail_of (Studio why) = Nothing
+detail_of Link = Nothing
+
+-- each part of it behind a blank: a number in decimal, a code, the text of a tag
+abbrev pub detail_text : Detail → List ℕ
+detail_text Nothing = []
+detail_text (Line n) = codes " " ++ decimal n
+detail_text (LineAndStroke n why) = codes " " ++ decimal n ++ codes " " ++ stroke_code_of why
+detail_text (Stroke why) = codes " " ++ stroke_code_of why
+detail_text (Named tag) = codes " " ++ text_of tag
+
+-- the line of a fault, without its LF: the code, and what is told beside it
 abbrev pub fault_text : RunError → List ℕ
-fault_text e = codes "seedpaint: " ++ code_text e
+fault_text e = codes "seedpaint: " ++ code_of e ++ detail_text (detail_of e)
+
+-- the same with its LF
+abbrev pub error_line : RunError → List ℕ
+error_line e = fault_text e ++ 10 ∷ []
 
 -- want of memory, under each of its codes
 abbrev pub IsMemory : RunError → Type 0
 IsMemory e =
     (e ≡ Memory) ⊎ (e ≡ Edit edit.Memory) ⊎ (e ≡ Pgm pgm.Memory) ⊎ (e ≡ Core core.Memory) ⊎ (e ≡ Spd spd.Memory)
 
--- want of memory in reading an input or in writing an image, which may come whatever the input is
+-- want of memory in reading a source or an image file, or in writing an image, which may come whatever the input is
 abbrev pub IsReadingFault : RunError → Type 0
-IsReadingFault e = (e ≡ Edit edit.Memory) ⊎ (e ≡ Pgm pgm.Memory)
+IsReadingFault e = e ≡ Pgm pgm.Memory
 
 -- a source or a sink failed
 abbrev pub IsTransferFault : RunError → Type 0

@@ -1,18 +1,19 @@
 //! Why a run ended, and how the program says so.
 
-ghost use Rattle.std.specs.Prelude.{◌≡◌, ◌++◌, IfOk, OnOk, codes, decimal, string_bytes};
-ghost use Rattle.stroke_core.specs.Tag.{text_of};
-ghost use Rattle.run_faults.specs.RunError.{code_text, core_text, edit_text, fault_text, frame_fault_text};
-ghost use Rattle.run_faults.specs.RunError.{HasStatus, studio_code};
+ghost use Rattle.std.specs.Prelude.{◌≡◌, IfOk, string_bytes};
+ghost use Rattle.byte_devices.specs.Transfer.{PutsAll};
+ghost use Rattle.run_faults.specs.RunError.{HasStatus, code_of, core_detail, detail_of, edit_detail, error_line};
+ghost use Rattle.run_faults.specs.RunError.{fault_text, frame_detail, studio_code};
 ghost use Rattle.run_faults.specs.declared.run_error.RunError.TheVariants as errors;
 
+use crate::detail::Detail;
+use byte_devices::{Fault, Sink, put_all};
 use core_rules::CoreError;
 use edit_lang::EditError;
 use grid_core::Memory;
 use pgm_codec::PgmError;
 use spd_codec::SpdError;
 use std::alloc::Global;
-use stroke_core::Tag;
 use thiserror::Error;
 
 /// Why a run ended without its image.
@@ -132,6 +133,84 @@ impl From<Memory> for RunError {
     }
 }
 
+impl RunError {
+    // The code, as documents name it, or the word of what has none.
+    fn code(&self) -> &'static str
+        ensures { result.now ≡ code_of self.now }
+    {
+        match self {
+            RunError::Usage => "usage",
+            RunError::NoImage => "V1",
+            RunError::Edit(e) => e.code(),
+            RunError::Pgm(e) => e.code(),
+            RunError::Core(e) => e.code(),
+            RunError::Spd(e) => e.code(),
+            RunError::OtherMask => "D1",
+            RunError::StateFile => "V2",
+            RunError::Memory => "memory",
+            RunError::Studio(why) => why.code(),
+            RunError::Link => "D3",
+        }
+    }
+
+    // What is told beside it.
+    fn detail(&self) -> Detail
+        ensures { result ≡ detail_of self.now }
+    {
+        match self {
+            RunError::Edit(e) => edit_detail(e),
+            RunError::Core(e) => core_detail(e),
+            RunError::Spd(e) => frame_detail(e),
+            RunError::Usage
+            | RunError::NoImage
+            | RunError::Pgm(_)
+            | RunError::OtherMask
+            | RunError::StateFile
+            | RunError::Memory
+            | RunError::Studio(_)
+            | RunError::Link => Detail::Nothing,
+        }
+    }
+}
+
+// Of a fault in the edit text: the number of its line, and of a stroke why it is refused.
+fn edit_detail(error: &EditError) -> Detail
+    ensures { result ≡ edit_detail error.now }
+{
+    match error {
+        EditError::BadLine(n) | EditError::BadTag(n) => Detail::Line(*n),
+        EditError::BadStroke(n, why) => Detail::LineAndStroke(*n, *why),
+        EditError::Memory => Detail::Nothing,
+    }
+}
+
+// Of a core's refusal: the tag that is named, if one is.
+fn core_detail(error: &CoreError) -> Detail
+    ensures { result ≡ core_detail error.now }
+{
+    match error {
+        CoreError::OutOfImage(tag) => Detail::Named(*tag),
+        CoreError::Conflict(tag) => Detail::Named(*tag),
+        CoreError::GenerationsSpent | CoreError::Memory | CoreError::BadSide => Detail::Nothing,
+    }
+}
+
+// Of a fault in a state file: why a stroke is refused, if one is.
+fn frame_detail(error: &SpdError) -> Detail
+    ensures { result ≡ frame_detail error.now }
+{
+    match error {
+        SpdError::BadStroke(why) => Detail::Stroke(*why),
+        SpdError::BadMagic
+        | SpdError::BadConn
+        | SpdError::Truncated
+        | SpdError::TagOrder
+        | SpdError::TooLong
+        | SpdError::Trailing
+        | SpdError::Memory => Detail::Nothing,
+    }
+}
+
 /// The one line that the program writes on standard error, without its LF: `seedpaint: ` and the code.
 /// After E1 and E2 a blank and the number of the line, after E3 also a blank and the code of the stroke,
 /// after M5 a blank and the code of the stroke, after C1 and C2 a blank and the tag's text.
@@ -141,8 +220,21 @@ pub fn fault_line(alloc: Global, error: &RunError) -> Result<String, Memory>
     ensures { IfOk result (λ line. string_bytes line ≡ fault_text error.now) }
 {
     let mut line = String::from_str(alloc, "seedpaint: ")?;
-    push_fault(alloc, &mut line, error)?;
+    line.push_str(error.code())?;
+    error.detail().push_to(alloc, &mut line)?;
     Ok(line)
+}
+
+/// Puts the line of a fault into a sink, as [`fault_line`] gives it, with its LF. It takes no memory.
+///
+/// Errors: the sink failed. It took a front of the line.
+pub fn put_fault<K: Sink>(error: &RunError, sink: &mut K) -> Result<(), Fault>
+    ensures { PutsAll result (K.seen sink.old) (K.seen sink.new) (error_line error.now) }
+{
+    put_all(sink, b"seedpaint: ")?;
+    put_all(sink, error.code().as_bytes())?;
+    error.detail().put_to(sink)?;
+    put_all(sink, b"\n")
 }
 
 /// The exit status of the program: 1 for an input, a state file, a side of tiles or a count of hands that is refused, 2
@@ -164,94 +256,4 @@ pub fn status(error: &RunError) -> u8
         RunError::Studio(_) => 3,
         RunError::Edit(_) | RunError::Pgm(_) | RunError::Core(_) | RunError::Spd(_) => 1,
     }
-}
-
-// Adds the code of a fault, with what it names.
-fn push_fault(alloc: Global, line: &mut String, error: &RunError) -> Result<(), Memory>
-    ensures { OnOk result (string_bytes line.new ≡ string_bytes line.old ++ code_text error.now) }
-{
-    match error {
-        RunError::Usage => line.push_str("usage")?,
-        RunError::NoImage => line.push_str("V1")?,
-        RunError::Edit(e) => push_edit_fault(alloc, line, e)?,
-        RunError::Pgm(e) => line.push_str(e.code())?,
-        RunError::Core(e) => push_core_fault(alloc, line, e)?,
-        RunError::Spd(e) => push_frame_fault(line, e)?,
-        RunError::OtherMask => line.push_str("D1")?,
-        RunError::StateFile => line.push_str("V2")?,
-        RunError::Memory => line.push_str("memory")?,
-        RunError::Studio(why) => line.push_str(why.code())?,
-        RunError::Link => line.push_str("D3")?,
-    }
-    Ok(())
-}
-
-// Adds the code of a fault in the edit text, with the number of its line.
-fn push_edit_fault(alloc: Global, line: &mut String, error: &EditError) -> Result<(), Memory>
-    ensures { OnOk result (string_bytes line.new ≡ string_bytes line.old ++ edit_text error.now) }
-{
-    line.push_str(error.code())?;
-    match error {
-        EditError::BadLine(n) | EditError::BadTag(n) => push_number(alloc, line, *n),
-        EditError::BadStroke(n, why) => {
-            push_number(alloc, line, *n)?;
-            line.push_str(" ")?;
-            line.push_str(why.code())?;
-            Ok(())
-        }
-        EditError::Memory => Ok(()),
-    }
-}
-
-// Adds the code of a core's refusal, with the tag that is named, if one is.
-fn push_core_fault(alloc: Global, line: &mut String, error: &CoreError) -> Result<(), Memory>
-    ensures { OnOk result (string_bytes line.new ≡ string_bytes line.old ++ core_text error.now) }
-{
-    line.push_str(error.code())?;
-    match error {
-        CoreError::OutOfImage(tag) => push_tag(alloc, line, *tag),
-        CoreError::Conflict(tag) => push_tag(alloc, line, *tag),
-        CoreError::GenerationsSpent | CoreError::Memory | CoreError::BadSide => Ok(()),
-    }
-}
-
-// Adds the code of a fault in a state file, with that of the stroke, if one is refused.
-fn push_frame_fault(line: &mut String, error: &SpdError) -> Result<(), Memory>
-    ensures { OnOk result (string_bytes line.new ≡ string_bytes line.old ++ frame_fault_text error.now) }
-{
-    line.push_str(error.code())?;
-    match error {
-        SpdError::BadStroke(why) => {
-            line.push_str(" ")?;
-            line.push_str(why.code())?;
-            Ok(())
-        }
-        SpdError::BadMagic
-        | SpdError::BadConn
-        | SpdError::Truncated
-        | SpdError::TagOrder
-        | SpdError::TooLong
-        | SpdError::Trailing
-        | SpdError::Memory => Ok(()),
-    }
-}
-
-// Adds a blank and the text of a tag.
-fn push_tag(alloc: Global, line: &mut String, tag: Tag) -> Result<(), Memory>
-    ensures { OnOk result (string_bytes line.new ≡ string_bytes line.old ++ codes " " ++ text_of tag) }
-{
-    line.push_str(" ")?;
-    let text = tag.text(alloc).map_err(|_| Memory)?;
-    line.push_str(text.as_str())?;
-    Ok(())
-}
-
-// Adds a blank and a number in decimal.
-fn push_number(alloc: Global, line: &mut String, n: u64) -> Result<(), Memory>
-    ensures { OnOk result (string_bytes line.new ≡ string_bytes line.old ++ codes " " ++ decimal n) }
-{
-    line.push_str(" ")?;
-    let digits = n.to_string(alloc)?;
-    line.push_str(digits.as_str())?;
-    Ok(())
 }

@@ -44,5 +44,5 @@ fn main(rt: HostRuntime) -> ExitCode {
         Ok(None) => Ok(()),
         Err(error) => Err(error),
     };
-    conclude(rt.alloc(), &outcome, &mut StdSink::new(rt.stderr()))
+    conclude(&outcome, &mut StdSink::new(rt.stderr()))
 }

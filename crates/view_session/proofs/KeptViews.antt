@@ -1,5 +1,5 @@
 -- Where a view over a state file stops, and that it is one.
-use Rattle.std.proofs.Common.{◌≡◌, ℕ, List, [], ◌∷◌, ◌++◌, refl, sym, ap, ◌∙◌, subst, inl, inr, ◌⊎◌}
+use Rattle.std.proofs.Common.{◌≡◌, ℕ, ◌<◌, List, [], ◌∷◌, ◌++◌, length, refl, sym, ap, ◌∙◌, subst, inl, inr, ◌⊎◌}
 use Rattle.std.proofs.lemmas.List.{append-nil, map-append}
 use Rattle.std.proofs.lemmas.List.Elements.{All-append, All-map}
 use Rattle.grid_core.specs.declared.conn.Conn.{Conn}
@@ -106,18 +106,19 @@ pub kept_stops : (conn : Conn) (old input : List ℕ) (mask : Graymap) (deltas k
 kept_stops conn old input mask deltas kept e spells file (inl refused) =
     inl (refused_behind (OldIsRefused conn old) input mask deltas e spells (inr (inr (kept, file, refused))))
 kept_stops conn old input mask deltas kept e spells file (inr halts) =
-    inr (inr (mask, deltas, kept, spells, file, halts))
+    inr (inr (mask, deltas, spells, inr (kept, file, inl halts)))
 
 -- and so are the old bytes
 pub file_stops : (conn : Conn) (print old input : List ℕ) (mask : Graymap) (deltas : List State) (e : RunError)
     → print ≡ print_of mask → InputSpells input mask deltas
     → (e ≡ Spd spd.Memory) ⊎ ((why : SpdError) × (e ≡ Spd why) × IsFileFault old why) ⊎
     ((e ≡ OtherMask) × FileIsOfAnother conn print old)
-    → KeptStops conn old input e
-file_stops conn print old input mask deltas e is-print spells (inl memory) = inr (inl (memory, mask, deltas, spells))
-file_stops conn print old input mask deltas e is-print spells (inr (inl fault)) =
+    → (e ≡ Spd spd.Memory → 0 < length old) → KeptStops conn old input e
+file_stops conn print old input mask deltas e is-print spells (inl memory) some =
+    inr (inr (mask, deltas, spells, inl (memory, some memory)))
+file_stops conn print old input mask deltas e is-print spells (inr (inl fault)) some =
     inl (refused_behind (OldIsRefused conn old) input mask deltas e spells (inl fault))
-file_stops conn print old input mask deltas e is-print spells (inr (inr (is, other))) =
+file_stops conn print old input mask deltas e is-print spells (inr (inr (is, other))) some =
     inl (refused_behind (OldIsRefused conn old) input mask deltas e spells
     (inr (inl (is, subst (λ (p : List ℕ). FileIsOfAnother conn p old) is-print other))))
 
@@ -125,7 +126,13 @@ file_stops conn print old input mask deltas e is-print spells (inr (inr (is, oth
 pub memory_behind : (conn : Conn) (old input : List ℕ) (mask : Graymap) (state : State)
     → IsGathered conn old input mask state → KeptStops conn old input Memory
 memory_behind conn old input mask state g =
-    inr (inr (mask, g.deltas, g.kept, g.spelled, g.old_spelled, inr (refl, state, g.merged)))
+    inr (inr (mask, g.deltas, g.spelled, inr (g.kept, g.old_spelled, inl (inr (refl, state, g.merged)))))
+
+-- and in writing the new bytes
+pub writing_stops : (conn : Conn) (old input : List ℕ) (mask : Graymap) (state : State) (e : RunError)
+    → IsGathered conn old input mask state → e ≡ Spd spd.Memory → KeptStops conn old input e
+writing_stops conn old input mask state e g memory =
+    inr (inr (mask, g.deltas, g.spelled, inr (g.kept, g.old_spelled, inr (memory, state, g.merged))))
 
 -- no run stops at a device
 no_old_is_a_device : (conn : Conn) (old : List ℕ) (deltas : List State) (mask : Graymap)
@@ -139,14 +146,15 @@ stops_at_no_device : ((text : List ℕ) → PgmFault text Device → ⊥) → (c
     → KeptStops conn old input (Pgm Device) → ⊥
 stops_at_no_device law conn old input (inl refused) =
     refused_at_no_device law (OldIsRefused conn old) (no_old_is_a_device conn old) input refused
-stops_at_no_device law conn old input (inr (inl (memory, mask, deltas, spells))) = cc
-stops_at_no_device law conn old input (inr (inr (mask, deltas, kept, spells, file, halts))) =
+stops_at_no_device law conn old input (inr (inl (is, edits, file, split))) = cc
+stops_at_no_device law conn old input (inr (inr (mask, deltas, spells, inl (memory, some)))) = cc
+stops_at_no_device law conn old input (inr (inr (mask, deltas, spells, inr (kept, file, inl halts)))) =
     halts_at_no_device (kept ++ deltas) mask halts
+stops_at_no_device law conn old input (inr (inr (mask, deltas, spells, inr (kept, file, inr (memory, rest))))) = cc
 
 pub no_kept_device : ((text : List ℕ) → PgmFault text Device → ⊥)
     → (conn : Conn) (old input : List ℕ) (e : RunError) → e ≡ Pgm Device
     → IsReadingFault e ⊎ KeptStops conn old input e → ⊥
-no_kept_device law conn old input e is (inl (inl memory)) = cc
-no_kept_device law conn old input e is (inl (inr memory)) = cc
+no_kept_device law conn old input e is (inl memory) = cc
 no_kept_device law conn old input e is (inr stops) =
     stops_at_no_device law conn old input (subst (KeptStops conn old input) is stops)

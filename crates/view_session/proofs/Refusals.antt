@@ -180,17 +180,18 @@ pub input_stops : (old : State) (input : List ℕ) (mask : Graymap) (deltas : Li
     → DeltasAreRefused (old ∷ deltas) mask e ⊎ DeltasHalt (old ∷ deltas) mask e → InputStops old input e
 input_stops old input mask deltas e spells (inl refused) =
     inl (refused_behind (RefusedBehind old) input mask deltas e spells refused)
-input_stops old input mask deltas e spells (inr halts) = inr (mask, deltas, spells, halts)
+input_stops old input mask deltas e spells (inr halts) = inr (inr (mask, deltas, spells, halts))
 
 -- no input stops at a device
 stops_at_no_device : ((text : List ℕ) → PgmFault text Device → ⊥) → (old : State) (input : List ℕ)
     → InputStops old input (Pgm Device) → ⊥
 stops_at_no_device law old input (inl refused) =
     refused_at_no_device law (RefusedBehind old) (λ deltas mask. no_delta_is_a_device (old ∷ deltas) mask) input refused
-stops_at_no_device law old input (inr (mask, deltas, spells, halts)) = halts_at_no_device (old ∷ deltas) mask halts
+stops_at_no_device law old input (inr (inl (is, edits, file, split))) = cc
+stops_at_no_device law old input (inr (inr (mask, deltas, spells, halts))) =
+    halts_at_no_device (old ∷ deltas) mask halts
 
 pub no_device : ((text : List ℕ) → PgmFault text Device → ⊥) → (old : State) (input : List ℕ) (e : RunError)
     → e ≡ Pgm Device → IsReadingFault e ⊎ InputStops old input e → ⊥
-no_device law old input e is (inl (inl memory)) = cc
-no_device law old input e is (inl (inr memory)) = cc
+no_device law old input e is (inl memory) = cc
 no_device law old input e is (inr stops) = stops_at_no_device law old input (subst (InputStops old input) is stops)

@@ -16,7 +16,7 @@ memory_is_no_failure e memory failure = let first : Pgm e ≡ Pgm Memory = ap Pg
 -- a fault of the codec comes early, or of a device
 by_fault : (X : Type 0) (e : PgmError) → IsOfMemory e ⊎ IsOfDevice e
     → IsReadingFault (Pgm e) ⊎ IsTransferFault (Pgm e) ⊎ X
-by_fault X e (inl memory) = inl (inr (ap Pgm memory))
+by_fault X e (inl memory) = inl (ap Pgm memory)
 by_fault X e (inr device) = inr (inl (ap Pgm device))
 
 module _ {V U S K : Type 0} (answers : List ℕ → V → List ℕ → Type 0) (stops : List ℕ → RunError → Type 0)

@@ -17,7 +17,7 @@ use Rattle.run_faults.specs.declared.run_error.RunError.TheVariants.{StateFile, 
 
 -- V2 is none of these
 pub reading_is_no_file : (e : RunError) → IsReadingFault e → e ≡ StateFile → ⊥
-reading_is_no_file e reading file = grind arith
+reading_is_no_file e reading file = cc
 
 pub transfer_is_no_file : (e : RunError) → IsTransferFault e → e ≡ StateFile → ⊥
 transfer_is_no_file e device file = cc
@@ -71,15 +71,19 @@ old_of_input conn old deltas mask e (inr (inr (kept, spells, refused))) =
 pub input_stops_of_input : (old : State) (input : List ℕ) (e : RunError) → InputStops old input e → is_of_input e ≡ true
 input_stops_of_input old input e (inl refused) =
     refused_of_input _ (λ deltas mask why more. deltas_of_input (old ∷ deltas) mask why (inl more)) input e refused
-input_stops_of_input old input e (inr (mask, deltas, spelled, halts)) =
+input_stops_of_input old input e (inr (inl (is, edits, file, split))) = ap is_of_input is
+input_stops_of_input old input e (inr (inr (mask, deltas, spelled, halts))) =
     deltas_of_input (old ∷ deltas) mask e (inr halts)
 
 pub kept_stops_of_input : (conn : Conn) (old input : List ℕ) (e : RunError) → KeptStops conn old input e
     → is_of_input e ≡ true
 kept_stops_of_input conn old input e (inl refused) = refused_of_input _ (old_of_input conn old) input e refused
-kept_stops_of_input conn old input e (inr (inl (is, mask, deltas, spelled))) = ap is_of_input is
-kept_stops_of_input conn old input e (inr (inr (mask, deltas, kept, spelled, spells, halts))) =
+kept_stops_of_input conn old input e (inr (inl (is, edits, file, split))) = ap is_of_input is
+kept_stops_of_input conn old input e (inr (inr (mask, deltas, spelled, inl (is, some)))) = ap is_of_input is
+kept_stops_of_input conn old input e (inr (inr (mask, deltas, spelled, inr (kept, spells, inl halts)))) =
     deltas_of_input (kept ++ deltas) mask e (inr halts)
+kept_stops_of_input conn old input e (inr (inr (mask, deltas, spelled, inr (kept, spells, inr (is, state, merged))))) =
+    ap is_of_input is
 
 pub derivation_stops_of_input : (input : List ℕ) (e : RunError) → DerivationStops input e → is_of_input e ≡ true
 derivation_stops_of_input input e (inl (fault, is, first)) = ap is_of_input is
@@ -244,8 +248,7 @@ store_alone known seen sink sink' answers stops (Err e) store no_file r =
 -- ---- no run gives another error than those
 
 reading_of_input : (e : RunError) → IsReadingFault e → is_of_input e ≡ true
-reading_of_input e (inl edit) = ap is_of_input edit
-reading_of_input e (inr image) = ap is_of_input image
+reading_of_input e reading = ap is_of_input reading
 
 not_joined_of_input : (strokes : Strokes) (found : List ℕ) (e : RunError) → IsNotJoinedOver strokes found e
     → is_of_input e ≡ true

@@ -1,6 +1,6 @@
 -- A view whose strokes are kept in a state file: what it shows over the old bytes of the file, and the bytes that
 -- follow them.
-use Rattle.std.specs.Prelude.{◌≡◌, ℕ, List, ◌++◌, ◌⊎◌, map, All}
+use Rattle.std.specs.Prelude.{◌≡◌, ℕ, ◌<◌, List, ◌++◌, ◌⊎◌, length, map, All}
 use Rattle.grid_core.specs.declared.conn.Conn.{Conn}
 use Rattle.sha2.specs.Sha256.{sha256}
 use Rattle.pgm_codec.specs.{Graymap.Graymap, Writing.raw_text}
@@ -8,7 +8,7 @@ use Rattle.stroke_lattice.specs.{State.State, Pieces.pieces_of}
 use Rattle.spd_codec.specs.StateFile.{SpellsFile, IsFileFault, file_text}
 use Rattle.spd_codec.specs.{declared.frame.Frame.Frame, declared.error.SpdError.SpdError}
 use Rattle.view_session.specs.Merging.{AreMerged}
-use Rattle.view_session.specs.View.{InputSpells, Refusal, InputIsRefusedBy, DeltasAreRefused, DeltasHalt}
+use Rattle.view_session.specs.View.{InputSpells, Refusal, InputIsRefusedBy, DeltasAreRefused, DeltasHalt, EditsHalt}
 use Rattle.derived_views.specs.Shown.{IsShown}
 use Rattle.run_faults.specs.declared.run_error.RunError.{RunError}
 use Rattle.run_faults.specs.declared.run_error.RunError.TheVariants.{Spd, OtherMask}
@@ -82,11 +82,23 @@ OldIsRefused conn old deltas mask e =
 abbrev pub KeptIsRefused : Conn → List ℕ → List ℕ → RunError → Type 0
 KeptIsRefused conn old input e = InputIsRefusedBy (OldIsRefused conn old) input e
 
--- where a run on the input and the old bytes stops: at what refuses them; or for want of memory in reading the old
--- bytes or writing the new; or for want of it in merging or behind it
+-- where memory runs out behind the reading: in merging or behind it, or in writing the bytes of what is merged
+abbrev pub MergedHalts : Refusal
+MergedHalts deltas mask e =
+    DeltasHalt deltas mask e
+    ⊎ ((e ≡ Spd spd.Memory) × (state : State) × AreMerged mask.raster.width mask.raster.height deltas state)
+
+-- where it runs out over the old bytes: in reading them, if there are any; or behind them, where they are for this
+-- image
+abbrev pub OldHalts : Conn → List ℕ → Refusal
+OldHalts conn old deltas mask e =
+    ((e ≡ Spd spd.Memory) × (0 < length old))
+    ⊎ ((kept : List State) × FileSpells conn (print_of mask) old kept × MergedHalts (kept ++ deltas) mask e)
+
+-- where a run on the input and the old bytes stops: at what refuses them, or for want of memory in the edit text, or
+-- behind what the input spells
 abbrev pub KeptStops : Conn → List ℕ → List ℕ → RunError → Type 0
 KeptStops conn old input e =
     KeptIsRefused conn old input e
-    ⊎ ((e ≡ Spd spd.Memory) × (mask : Graymap) × (deltas : List State) × InputSpells input mask deltas)
-    ⊎ ((mask : Graymap) × (deltas kept : List State) × InputSpells input mask deltas
-    × FileSpells conn (print_of mask) old kept × DeltasHalt (kept ++ deltas) mask e)
+    ⊎ EditsHalt input e
+    ⊎ ((mask : Graymap) × (deltas : List State) × InputSpells input mask deltas × OldHalts conn old deltas mask e)

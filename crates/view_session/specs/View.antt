@@ -12,6 +12,7 @@ use Rattle.view_session.specs.Merging.{AreMerged, IsFirstRefusal, IsHalted}
 use Rattle.run_faults.specs.declared.run_error.RunError.{RunError}
 use Rattle.run_faults.specs.declared.run_error.RunError.TheVariants.{NoImage, Edit, Pgm, Core, Memory}
 use Rattle.core_rules.specs.declared.error.CoreError.TheVariants as core
+use Rattle.edit_lang.specs.declared.error.EditError.TheVariants as edit
 
 -- ---- what is shown
 
@@ -77,14 +78,19 @@ InputIsRefused old input e = InputIsRefusedBy (λ deltas mask why. DeltasAreRefu
 
 -- ---- where memory runs out
 
+-- in reading the edit text, which there is where the input has an `image` line
+abbrev pub EditsHalt : List ℕ → RunError → Type 0
+EditsHalt input e = (e ≡ Edit edit.Memory) × (edits file : List ℕ) × IsSplit input edits file
+
 -- in merging, at a delta that could be taken; or behind it, where all are merged
 abbrev pub DeltasHalt : Refusal
 DeltasHalt deltas mask e =
     ((e ≡ Core core.Memory) × IsHalted mask.raster.width mask.raster.height deltas)
     ⊎ ((e ≡ Memory) × (state : State) × AreMerged mask.raster.width mask.raster.height deltas state)
 
--- where a run on the input stops: at what refuses it, or for want of memory behind what it spells
+-- where a run on the input stops: at what refuses it, or for want of memory in its edit text or behind what it spells
 abbrev pub InputStops : State → List ℕ → RunError → Type 0
 InputStops old input e =
     InputIsRefused old input e
+    ⊎ EditsHalt input e
     ⊎ ((mask : Graymap) × (deltas : List State) × InputSpells input mask deltas × DeltasHalt (old ∷ deltas) mask e)

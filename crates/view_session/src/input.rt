@@ -4,7 +4,7 @@ ghost use Rattle.std.specs.Prelude.{◌≡◌, ◌≢◌, ℕ, ◌<◌, ◌≤�
 ghost use Rattle.std.specs.Prelude.{IsTrue, IfSome, IfNone, IfOk, IfErr};
 ghost use Rattle.view_session.specs.Input.{IsImageLine, IsSplit, HasNoImageLine};
 ghost use Rattle.run_faults.specs.RunError.{IsReadingFault};
-ghost use Rattle.view_session.specs.View.{InputSpells, InputIsRefusedBy, no_more};
+ghost use Rattle.view_session.specs.View.{EditsHalt, InputSpells, InputIsRefusedBy, no_more};
 
 use edit_lang::{LineDelta, parse_lines};
 use pgm_codec::{Image, pixels_in, read};
@@ -70,7 +70,8 @@ pub fn mask_pixels_in(input: &[u8]) -> usize {
 /// or P10 for want of memory.
 pub fn read_input(alloc: Global, input: &[u8]) -> Result<(Vec<LineDelta>, Image), RunError>
     ensures spelled { IfOk result (λ parts. InputSpells input.now parts.1 parts.0.items) }
-    ensures refused { IfErr result (λ e. IsReadingFault e ⊎ InputIsRefusedBy no_more input.now e) }
+    ensures refused { IfErr result (λ e. IsReadingFault e ⊎ EditsHalt input.now e
+        ⊎ InputIsRefusedBy no_more input.now e) }
 {
     let Some((edits, file)) = split(input) else {
         return Err(RunError::NoImage);
@@ -90,11 +91,13 @@ pub(crate) fn read_beside<G: Grower>(
     input: &[u8],
 ) -> Result<(Vec<LineDelta>, Image, Blanks), RunError>
     ensures spelled { IfOk result (λ parts. InputSpells input.now parts.1 parts.0.items) }
-    ensures refused { IfErr result (λ e. IsReadingFault e ⊎ InputIsRefusedBy no_more input.now e) }
+    ensures refused { IfErr result (λ e. IsReadingFault e ⊎ EditsHalt input.now e
+        ⊎ InputIsRefusedBy no_more input.now e) }
 {
     let read = || -> Result<(Vec<LineDelta>, Image), RunError>
         ensures { IfOk result (λ parts. InputSpells input.entry.now parts.1 parts.0.items)
-            × IfErr result (λ e. IsReadingFault e ⊎ InputIsRefusedBy no_more input.entry.now e) }
+            × IfErr result (λ e. IsReadingFault e ⊎ EditsHalt input.entry.now e
+            ⊎ InputIsRefusedBy no_more input.entry.now e) }
     { read_input(alloc, input) };
     let (read, blanks) = Blanks::beside(grower, alloc, 1, mask_pixels_in(input), read);
     let (deltas, mask) = read?;

@@ -1,6 +1,6 @@
 //! The frames that a state file keeps for a mask.
 
-ghost use Rattle.std.specs.Prelude.{◌≡◌, ◌⊎◌, ◌↔◌, IsTrue, All, IfOk, IfErr};
+ghost use Rattle.std.specs.Prelude.{◌≡◌, ◌<◌, ◌⊎◌, ◌↔◌, length, IsTrue, All, IfOk, IfErr, IsErrOf};
 ghost use Rattle.spd_codec.specs.StateFile.{IsFileFault};
 ghost use Rattle.spd_codec.specs.declared.error.SpdError.{SpdError};
 ghost use Rattle.spd_codec.specs.declared.error.SpdError.TheVariants as spd;
@@ -13,7 +13,7 @@ use std::alloc::Global;
 
 /// The frames that the bytes of a state file spell, where each of them is meant for this connectivity and fingerprint.
 ///
-/// Errors: M1 to M7 of the bytes; D1 where a frame is meant for another. M8 for want of memory.
+/// Errors: M1 to M7 of the bytes; D1 where a frame is meant for another. M8 for want of memory, where there are bytes.
 pub fn frames_for(
     alloc: Global,
     old: &[u8],
@@ -24,8 +24,20 @@ pub fn frames_for(
     ensures refused { IfErr result (λ e. (e ≡ RunError.Spd spd.Memory)
         ⊎ ((why : SpdError) × (e ≡ RunError.Spd why) × IsFileFault old.now why)
         ⊎ ((e ≡ RunError.OtherMask) × FileIsOfAnother conn print.now old.now)) }
+    ensures some { IsErrOf result (RunError.Spd spd.Memory) → 0 < length old.now }
 {
     let frames = read_frames(alloc, old)?;
+    own_frames(frames, conn, print)
+}
+
+// These frames, where each of them is meant for this connectivity and fingerprint. It takes no memory: D1 is the only
+// refusal.
+fn own_frames(frames: Vec<Frame>, conn: Conn, print: &Print) -> Result<Vec<Frame>, RunError>
+    ensures same { IfOk result (λ own. own.items ≡ frames.items) }
+    ensures all { IfOk result (λ _. All (IsFrameFor conn print.now) frames.items) }
+    ensures another { IfErr result (λ e. (e ≡ RunError.OtherMask)
+        × (All (IsFrameFor conn print.now) frames.items → ⊥)) }
+{
     if !are_all_for(&frames, conn, print) {
         return Err(RunError::OtherMask);
     }

@@ -24,9 +24,9 @@ use stroke_lattice::State;
 /// The input is edit lines, a line `image`, and one PGM file to the end.
 ///
 /// Errors, the first that is met: V1 without an `image` line; E1 to E3 of the edit text; P1 to P9 of the file; C1 or C2
-/// at the first delta that meets it. P11 where a device failed or the source did not end; E4 or P10 for want of memory
-/// in reading and writing; C4 at a delta that could be taken; plain want of memory where all deltas are. Nothing is
-/// written, unless the sink failed: then a front of the file.
+/// at the first delta that meets it. P11 where a device failed or the source did not end; P10 for want of memory in
+/// reading and writing, and E4 in the edit text; C4 at a delta that could be taken; plain want of memory where all
+/// deltas are. Nothing is written, unless the sink failed: then a front of the file.
 pub fn view_run<S: Source, K: Sink>(
     alloc: Global,
     source: &mut S,
@@ -100,9 +100,9 @@ pub fn view_tiled<S: Source, K: Sink>(
 /// Errors, the first that is met: C5 where the side is less than 8 or more than 256, with source and sink as they were;
 /// V1 without an `image` line; E1 to E3 of the edit text; P1 to P9 of the image file; M1 to M7 of the old bytes; D1
 /// where one of their frames is meant for another connectivity or mask; C1 or C2 at the first delta that meets it. P11
-/// where a device failed or the source did not end; E4 or P10 for want of memory in reading and writing; M8 for want of
-/// it at the old bytes or the new; C4 at a delta that could be taken; plain want of memory where all deltas are.
-/// Nothing is written, unless the sink failed: then a front of the file.
+/// where a device failed or the source did not end; P10 for want of memory in reading and writing, and E4 in the edit
+/// text; M8 for want of it at the old bytes, if there are any, or the new; C4 at a delta that could be taken; plain want
+/// of memory where all deltas are. Nothing is written, unless the sink failed: then a front of the file.
 pub fn view_kept<S: Source, K: Sink>(
     alloc: Global,
     source: &mut S,

@@ -1,5 +1,6 @@
 use Rattle.std.proofs.{Common.inl, Common.inr, Common.ap, lemmas.Result.err_from_is_err_and}
 use Rattle.run_faults.specs.declared.run_error.RunError.TheVariants.{Spd}
+use Rattle.view_session.proofs.KeptViews.{writing_stops}
 use Rattle.node_session.proofs.Paintings.{spelled_image}
 use Rattle.node_session.proofs.running.spelled.Goals as goal
 
@@ -12,12 +13,8 @@ pub returns-in_err-new-clause-refused : goal.returns-in_err-new-clause-refused
 returns-in_err-new-clause-refused g c =
     let p = err_from_is_err_and c.from_residual-in_err-new.result c.from_residual-in_err-new.ensures.1 in
     let shown = c.in_ok-image.ensures.shown.2 in
-    rw (p.1, p.2) (inr (inl (inr (inl (
-      ap Spd c.in_err-new.ensures.memory,
-      shown.mask,
-      shown.gathered.deltas,
-      shown.gathered.spelled,
-    )))))
+    rw (p.1, p.2) (inr (inl (writing_stops _ _ _ shown.mask shown.first _ shown.gathered
+    (ap Spd c.in_err-new.ensures.memory))))
 
 pub returns-clause-shown : goal.returns-clause-shown
 returns-clause-shown g c =

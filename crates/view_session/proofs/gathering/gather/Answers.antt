@@ -1,4 +1,4 @@
-use Rattle.std.proofs.Common.{◌++◌, List, ℕ, inl, inr, subst}
+use Rattle.std.proofs.Common.{◌++◌, List, ℕ, Err, ap, inl, inr, subst}
 use Rattle.std.proofs.lemmas.Result.{err_from_is_err_and}
 use Rattle.stroke_lattice.specs.State.{State}
 use Rattle.spd_codec.specs.declared.frame.Frame.{Frame}
@@ -39,7 +39,8 @@ returns-in_err-deltas-clause-refused c =
     let p = err_from_is_err_and c.from_residual.result c.from_residual.ensures.1 in
     rw (p.1, p.2) (elim c.in_err-deltas.ensures.refused [
       | inl memory ↦ inl memory
-      | inr fault ↦ inr (inl (faulty_input (OldIsRefused c.args.conn c.args.old.now) c.args.input.now
+      | inr (inl edits) ↦ inr (inr (inl edits))
+      | inr (inr fault) ↦ inr (inl (faulty_input (OldIsRefused c.args.conn c.args.old.now) c.args.input.now
           c.in_err-deltas.field-0.0 fault))
     ])
 
@@ -49,7 +50,7 @@ returns-in_err-frames-clause-refused c =
     rw (p.1, p.2) (inr (file_stops c.args.conn c.print_of-print.result c.args.old.now c.args.input.now
     c.in_ok-deltas.mask
     c.in_ok-deltas.deltas.items c.in_err-frames.field-0.0 c.print_of-print.ensures c.in_ok-deltas.ensures.spelled
-    c.in_err-frames.ensures.refused))
+    c.in_err-frames.ensures.refused (λ memory. c.in_err-frames.ensures.some (ap Err memory))))
 
 pub returns-in_err-state-clause-refused : goal.returns-in_err-state-clause-refused
 returns-in_err-state-clause-refused c =

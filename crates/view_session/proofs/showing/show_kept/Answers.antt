@@ -1,10 +1,10 @@
-use Rattle.std.proofs.Common.{◌≡◌, List, ℕ, inl, inr, ap, subst}
+use Rattle.std.proofs.Common.{◌≡◌, List, ℕ, inr, ap, subst}
 use Rattle.std.proofs.lemmas.Result.{err_from_is_err_and}
 use Rattle.stroke_lattice.specs.Pieces.{pieces_of}
 use Rattle.spd_codec.specs.StateFile.{file_text}
 use Rattle.run_faults.specs.declared.run_error.RunError.TheVariants.{Spd}
 use Rattle.view_session.specs.Kept.{FileSpells}
-use Rattle.view_session.proofs.KeptViews.{spells_pieces}
+use Rattle.view_session.proofs.KeptViews.{spells_pieces, writing_stops}
 use Rattle.view_session.proofs.showing.show_kept.Goals as goal
 
 pub returns-in_err-image-clause-refused : goal.returns-in_err-image-clause-refused
@@ -16,12 +16,8 @@ pub returns-in_err-new-clause-refused : goal.returns-in_err-new-clause-refused
 returns-in_err-new-clause-refused g c =
     let p = err_from_is_err_and c.from_residual-in_err-new.result c.from_residual-in_err-new.ensures.1 in
     let shown = c.in_ok-image.ensures.shown in
-    rw (p.1, p.2) (inr (inr (inl (
-      ap Spd c.in_err-new.ensures.memory,
-      shown.mask,
-      shown.gathered.deltas,
-      shown.gathered.spelled,
-    ))))
+    rw (p.1, p.2) (inr (writing_stops c.args.conn c.args.old.now c.args.input.now shown.mask
+    c.in_ok-image.strokes.state _ shown.gathered (ap Spd c.in_err-new.ensures.memory)))
 
 pub returns-clause-shown : goal.returns-clause-shown
 returns-clause-shown g c =

@@ -14,8 +14,9 @@ returns-in_err-deltas-clause-refused g c =
     let p = err_from_is_err_and c.from_residual.result c.from_residual.ensures.1 in
     rw (p.1, p.2) (elim c.in_err-deltas.ensures.refused [
       | inl memory ↦ inl memory
-      | inr fault ↦ inr (inl (faulty_input (RefusedBehind c.args.old.now) c.args.input.now c.in_err-deltas.field-0.0
-          fault))
+      | inr (inl edits) ↦ inr (inr (inl edits))
+      | inr (inr fault) ↦ inr (inl (faulty_input (RefusedBehind c.args.old.now) c.args.input.now
+          c.in_err-deltas.field-0.0 fault))
     ])
 
 pub returns-clause-shown : goal.returns-clause-shown

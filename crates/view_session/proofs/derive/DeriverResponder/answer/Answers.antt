@@ -6,6 +6,6 @@ pub returns-in_err-image-clause-refused : goal.returns-in_err-image-clause-refus
 returns-in_err-image-clause-refused g c =
     let p = err_from_is_err_and c.from_residual.result c.from_residual.ensures.1 in
     rw (p.1, p.2) (elim c.in_err-image.ensures.fault [
-      | inl memory ↦ inl (inr (ap Pgm memory))
+      | inl memory ↦ inl (ap Pgm memory)
       | inr fault ↦ inr (inl (_, refl, fault))
     ])
