@@ -150,7 +150,7 @@ stops_at_no_device law conn old input (inr (inl (is, edits, file, split))) = cc
 stops_at_no_device law conn old input (inr (inr (mask, deltas, spells, inl (memory, some)))) = cc
 stops_at_no_device law conn old input (inr (inr (mask, deltas, spells, inr (kept, file, inl halts)))) =
     halts_at_no_device (kept ++ deltas) mask halts
-stops_at_no_device law conn old input (inr (inr (mask, deltas, spells, inr (kept, file, inr (memory, rest))))) = cc
+stops_at_no_device law conn old input (inr (inr (mask, deltas, spells, inr (kept, file, inr (memory, s, merged))))) = cc
 
 pub no_kept_device : ((text : List ℕ) → PgmFault text Device → ⊥)
     → (conn : Conn) (old input : List ℕ) (e : RunError) → e ≡ Pgm Device
