@@ -34,7 +34,7 @@ use view_session::view::view_run_by;
 /// file of a view or a node that has one is loaded from the store before the source is read; after the image is written
 /// its strokes are saved, joined with what the file has by then. A node binds its port on the network, between the load
 /// and the reading. A painting is handed back, with source, store, network and sink as they were. A view and a
-/// derivation of a large image are grown in at most 8 threads, and no more than there are processors ([`ManyThreads`]).
+/// derivation of a large image are grown in threads ([`ManyThreads`]).
 ///
 /// Errors: usage or want of memory for the words, with source, store, network and sink as they were; else those of the
 /// call ([`view_run_by`], [`view_stored_by`], [`node_stored`], [`derive_run_by`]). After each the files are as they

@@ -65,7 +65,7 @@ impl HandSeat {
     }
 
     /// A round: learns the generation, reads each pixel, row by row, and raises the neighbours of each that has a value
-    /// of that generation. It answers how many rose.
+    /// of that generation. It answers how many of these raises found less than they left.
     pub fn round(&mut self, board: &Board) -> u64
         requires hand { IsHandOf board.now self.old }
         ensures hand { IsHandOf board.now self.new }

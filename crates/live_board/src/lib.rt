@@ -1,6 +1,6 @@
 #![tactic(auto)]
 //! A board of words that hands raise while others peek at it: pixels now, without a copy of the image and without
-//! waiting, and never a value that only a withdrawn stroke gave.
+//! waiting. What a peek tells as live, the pixel reaches from the keeper's marker as the peek ends.
 //!
 //! [`Board::open`] takes a mask, and gives the board with a seat for each thread that takes part:
 //!

@@ -17,9 +17,8 @@
 //!
 //! In the code,
 //!
-//! - `rounds` has a round of all who have a place: `kept` says which services have a file, `joiner` makes the file that
-//!   replaces what is found, `keeper` holds a service with its store, `transfer` moves the bytes of one connection, and
-//!   `peer` and `peers` are the connections that are open;
+//! - `rounds` has a round of all who have a place, over a service that `page_service` keeps with its file: `transfer`
+//!   moves the bytes of one connection, and `peer` and `peers` are the connections that are open;
 //! - `hall` has where those wait who have not shown the key, the `guest`s;
 //! - `html` has the page as a text, which `tools/embed_page.py` writes from `page/page.html`, and the policy that
 //!   allows its style and its script alone;

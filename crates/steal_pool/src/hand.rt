@@ -198,9 +198,9 @@ impl Hand {
         }
     }
 
-    /// Makes turns until the flag is set. It looks at the flag before each turn, and yields its processor after each
-    /// one that was not answered by `Worked`. A report that is held at the end is sent by a later turn, if there is
-    /// one.
+    /// Makes turns until it reads that the flag is set. It looks at the flag before each turn, and yields its processor
+    /// after each one that was not answered by `Worked`. A report that is held at the end is sent by a later turn, if
+    /// there is one.
     #[tactic(auto, using(crate::proofs::Turns::one_step_more, crate::proofs::Turns::no_step_more))]
     pub fn run<G: Gate, R: Wait>(&mut self, rt: &R, gate: &G, done: &AtomicBool)
         ensures turns { (answers : List Answer) × AreTurns self.old answers self.new }

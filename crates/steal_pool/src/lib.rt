@@ -1,5 +1,5 @@
 #![tactic(auto)]
-//! Hands that sweep tiles in threads of their own: each job goes to one hand, and its report comes back.
+//! Hands that sweep tiles in threads of their own: each job goes to one hand at most, which reports it.
 //!
 //! [`Pool::open`] gives an [`Owner`] and some [`Hand`]s. The owner pushes jobs into a work stealing deque (Chase and
 //! Lev, "Dynamic Circular Work-Stealing Deque", 2005), from which the hands steal them, one job a turn and the oldest
@@ -14,7 +14,7 @@
 //!
 //! The owner and each hand may stand in a thread of its own. [`Owner::push`], [`Owner::collect`] and [`Hand::turn`]
 //! wait for nobody: where its ring is full a hand holds the report, and sends it in a later turn. [`Hand::run`] makes
-//! turns until it is told to end. A [`Gate`] is passed before each sweep, so that tests can hold a hand up.
+//! turns until it reads that a flag is set. A [`Gate`] is passed before each sweep, so that tests can hold a hand up.
 //!
 //! What a report is good for is for the caller to judge: a result may come too late, and a job may have failed for want
 //! of memory. Nothing is promised of when a job is got, by which hand, or that a report is collected.

@@ -66,11 +66,11 @@ impl Owner {
         self.deque.push_as::<Pushed>(job)
     }
 
-    /// The oldest report that was sent into the ring of this hand and not collected yet. Hands count from 0. It waits
-    /// for nobody.
+    /// The next report in the ring of this hand: the oldest of those that were seen there and not collected yet, if any
+    /// were. Hands count from 0. It waits for nobody.
     ///
-    /// It is `None` where the ring is looked into and none is found, and where there is no such hand. Nothing is lost
-    /// then.
+    /// It is `None` where none is found, so that none is left that was seen, and where there is no such hand. Nothing
+    /// has changed then.
     #[tactic(auto, using(crate::proofs::Rings::map_past))]
     pub fn collect(&mut self, hand: usize) -> Option<Report>
         ensures none { IfNone result (self.new ≡ self.old) }

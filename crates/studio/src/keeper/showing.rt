@@ -78,8 +78,8 @@ impl Keeper {
         eyes_of(self.alloc, &mut self.publisher, count)
     }
 
-    /// Shows the core as it is: the chain of shots is longer by one. Who learns of the receipt sees that shot or a
-    /// later one, at each look. It may wait for glimpses that are held.
+    /// Shows the core as it is: the chain of shots is longer by one. Each glimpse of who learns of the receipt is that
+    /// shot or a later one. It may wait for glimpses that are held.
     ///
     /// The strokes are copied only where an edit was merged since the last show, and the image only where an edit was
     /// merged, a report was taken or a hint was handed over. The mask is never copied.

@@ -81,8 +81,8 @@ impl Publisher {
         &*self.writer.published().shot
     }
 
-    /// Shows a shot: the chain is longer by it. An eye that learns of the receipt finds that shot or a later one, at
-    /// each look. It may wait for glimpses that are held.
+    /// Shows a shot: the chain is longer by it. Each glimpse of an eye that learns of the receipt is that shot or a
+    /// later one. It may wait for glimpses that are held.
     ///
     /// Errors: out of memory, or 2^62 entries of the history are used up, two a shot. The chain is as it was then.
     #[tactic(auto, using(crate::proofs::Telling::announced, crate::proofs::Telling::announced_next, crate::proofs::Telling::confirmed_next))]
@@ -113,7 +113,8 @@ impl Publisher {
         })
     }
 
-    /// An eye that has seen and learnt all that was shown. It waits for nobody.
+    /// An eye that has seen and learnt all that was shown. It waits for nobody. Behind a show that found no memory it
+    /// looks in vain until the next show succeeds.
     ///
     /// Errors: each place for an eye is in use, as it may also seem while eyes are dropped in other threads.
     pub fn eye(&mut self) -> Result<Eye, NoPlace>
