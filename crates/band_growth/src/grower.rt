@@ -25,9 +25,10 @@ impl<R: Sync> Shared for R {
     ghost shared = { IsShared R.row };
 }
 
-/// Growing in bands of whole rows, as [`grow_in_place_on`] does (Vincent 1993), by at most as many threads as the system
-/// says that may run at once. An image of fewer than 2,000,000 pixels is grown in this thread alone, and so is any image
-/// where the system does not say that. What comes of it is the same, and in how many threads is in no public clause.
+/// Growing in bands of whole rows, as [`grow_in_place_on`] does (Vincent 1993), by at most as many threads as the
+/// system says that may run at once. An image of fewer than 2,000,000 pixels is grown in this thread alone, and so is
+/// any image where the system does not say that. What comes of it is the same, and in how many threads is in no public
+/// clause.
 #[derive(Drop)]
 pub struct ManyThreads<'a, R: Shared> {
     rt: &'a R,
