@@ -1,11 +1,11 @@
--- Rectangles that are added one after another, and what they cover.
+-- Rectangles that are added one after another: what they cover, and that they are apart.
 use Rattle.std.proofs.Common.{ℕ, ◌+◌, ◌<◌, ◌≤◌, ◌⊎◌, inl, inr, sym, subst, List, [], ◌∷◌, ◌++◌, arith, ◌↔◌, slice_index}
 use Rattle.std.proofs.{lemmas.Bool.cases_eq, lemmas.Bool.Decides.leb_tells}
 use Rattle.std.proofs.lemmas.List.Elements.{Contains-push, Contains-push_cases, Contains-append_left}
 use Rattle.grid_core.specs.{declared.pixel.Pixel.Pixel, declared.rect.Rect.Rect, Rects.IsInRect, Rects.RectFits}
 use Rattle.grid_core.specs.{Tiles.Tiles, Tiles.rect_of}
-use Rattle.page_board.specs.Changes.{IsCovered, AllFit}
-use Rattle.page_board.specs.Strips.{IsInTileSince, AreStripsTo, IsContinued, joined, IsAdded}
+use Rattle.page_board.specs.Changes.{IsCovered, AllFit, AreApart, IsContinued}
+use Rattle.page_board.specs.Strips.{IsInTileSince, AreStripsTo, joined, IsAdded}
 
 -- ---- one rectangle more
 
@@ -38,12 +38,21 @@ pub last_fits : (width height : ℕ) (rects : List Rect) (rect : Rect) → AllFi
     → RectFits width height rect
 last_fits width height rects rect all = all rect (Contains-push rects rect)
 
--- the rectangle is added behind the others
-pub added_behind : (tiles : Tiles) (rects : List Rect) (rect : Rect) → AllFit tiles.width tiles.height rects
-    → RectFits tiles.width tiles.height rect → IsAdded tiles rects rect (rects ++ rect ∷ [])
-added_behind tiles rects rect all fits = record {
-  fit = all_fit_push tiles.width tiles.height rects rect all fits;
-  cover = covered_push rects rect;
+apart_behind : (rects : List Rect) (last rect : Rect) → (IsContinued last rect → ⊥) → AreApart (rects ++ last ∷ [])
+    → AreApart ((rects ++ last ∷ []) ++ rect ∷ [])
+apart_behind [] last rect new apart = (new, tt)
+apart_behind (first ∷ []) last rect new apart = (apart.0, (new, tt))
+apart_behind (first ∷ (second ∷ rects)) last rect new apart =
+    (apart.0, apart_behind (second ∷ rects) last rect new apart.1)
+
+-- the rectangle is added behind the others, of which it does not continue the last one
+pub added_behind : (tiles : Tiles) (rects : List Rect) (last rect : Rect) → (IsContinued last rect → ⊥)
+    → AllFit tiles.width tiles.height (rects ++ last ∷ []) → RectFits tiles.width tiles.height rect
+    → IsAdded tiles (rects ++ last ∷ []) rect ((rects ++ last ∷ []) ++ rect ∷ [])
+added_behind tiles rects last rect new all fits = record {
+  fit = all_fit_push tiles.width tiles.height (rects ++ last ∷ []) rect all fits;
+  cover = covered_push (rects ++ last ∷ []) rect;
+  apart = apart_behind rects last rect new;
 }
 
 -- ---- a rectangle that continues the last one
@@ -80,6 +89,13 @@ in_joined left right p next = (
   ],
 )
 
+apart_joined : (rects : List Rect) (last rect : Rect) → AreApart (rects ++ last ∷ [])
+    → AreApart (rects ++ joined last rect ∷ [])
+apart_joined [] last rect apart = tt
+apart_joined (first ∷ []) last rect apart =
+    (λ next. apart.0 (record { top = next.top; rows = next.rows; beside = next.beside }), tt)
+apart_joined (first ∷ (second ∷ rects)) last rect apart = (apart.0, apart_joined (second ∷ rects) last rect apart.1)
+
 -- the last rectangle and the added one become one
 pub added_to_last : (tiles : Tiles) (rects : List Rect) (last rect : Rect) → IsContinued last rect
     → AllFit tiles.width tiles.height (rects ++ last ∷ []) → RectFits tiles.width tiles.height rect
@@ -104,6 +120,7 @@ added_to_last tiles rects last rect next all fits = record {
       ]
     ]),
   );
+  apart = apart_joined rects last rect;
 }
 
 -- ---- tile by tile
@@ -112,6 +129,7 @@ pub no_strips : (tiles : Tiles) (shown : List ℕ) (since : ℕ) → AreStripsTo
 no_strips tiles shown since = record {
   fit = λ rect there. absurd (omega (arith, there.1));
   cover = λ p. (λ covered. absurd (omega (arith, covered.1.1)), λ tile. absurd (omega (arith, tile.below)));
+  apart = tt;
 }
 
 module _ (tiles : Tiles) (shown : List ℕ) (since count : ℕ) (rects : List Rect)
@@ -143,6 +161,7 @@ module _ (tiles : Tiles) (shown : List ℕ) (since count : ℕ) (rects : List Re
         | inr before ↦ (so_far.cover p).1 before
       ],
     );
+    apart = so_far.apart;
   }
 
   -- it has: its rectangle is added
@@ -160,4 +179,5 @@ module _ (tiles : Tiles) (shown : List ℕ) (since count : ℕ) (rects : List Re
         | inr before ↦ inl ((so_far.cover p).1 before)
       ]),
     );
+    apart = added.apart so_far.apart;
   }

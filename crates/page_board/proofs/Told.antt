@@ -34,6 +34,7 @@ module _ (in_one : EachPixelInOneTile) where
             within = (at_p.1 (tile_of (tiling b.core) p) at_p.0).1 refl;
           }),
         );
+    apart = strips.apart;
   }
 
   module _ (old new : PageBoard) (text : List ℕ) (whole : IsWhole old) (later : IsLater old new)
