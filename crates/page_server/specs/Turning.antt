@@ -76,6 +76,7 @@ AreRounds now most false old new =
 pub record IsPageConfig (config : Config) : Type 0 where
   pub body : config.max_body_len ≡ 4 * 1024 * 1024
   pub head : config.limits.max_head_len ≡ 16 * 1024
+  pub waiting : config.max_pending ≡ 64 * 1024
 
 -- its first bytes show the key, it got its place at this moment, under the limits of a page, and nothing has moved over
 -- it

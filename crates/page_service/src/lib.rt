@@ -58,7 +58,7 @@ pub use keeper::StateKeeper;
 pub use kept::Kept;
 pub use key::Key;
 pub use laws::{answers_leave_later, nothing_is_taken_unkept, one_answer};
-pub use limits::{MAX_BODY_LEN, MAX_HEAD_LEN, config};
+pub use limits::{MAX_BODY_LEN, MAX_HEAD_LEN, MAX_WAITING, config};
 pub use painting::Painting;
 pub use reading::read_request;
 pub use refusal::RequestRefusal;

@@ -2,11 +2,12 @@
 
 ghost use Rattle.std.specs.Prelude.{◌≡◌, IfOk};
 
+use crate::limits::MAX_WAITING;
 use bytes::Bytes;
 use std::alloc::{AllocError, Global};
 
 // An answer of more bytes is large. A connection takes a further request only while no more wait on it.
-const LARGE: usize = 64 * 1024;
+const LARGE: usize = MAX_WAITING;
 
 // While fewer large answers are held than these, there is room for another, whatever they take.
 const FEW_ANSWERS: usize = 8;

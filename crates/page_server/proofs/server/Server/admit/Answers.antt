@@ -8,7 +8,7 @@ returns-in-Ok g c =
     lets_one_in c.args.now c.args.self.now c.args.caller c.new-connection.result c.admit.new.self c.admit.result
     c.requires
     (subst IsPageConfig (sym c.new-connection.ensures.config)
-    (record { body = c.config.ensures.body; head = c.config.ensures.head }))
+    (record { body = c.config.ensures.body; head = c.config.ensures.head; waiting = c.config.ensures.waiting }))
     c.new-connection.ensures.history c.admit.ensures.most c.admit.ensures.admitted c.admit.ensures.refused
 
 pub returns-in-Err : goal.returns-in-Err
