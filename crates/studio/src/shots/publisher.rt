@@ -1,6 +1,6 @@
 //! Who shows.
 
-ghost use Rattle.std.specs.Prelude.{◌≡◌};
+ghost use Rattle.std.specs.Prelude.{◌≡◌, ◌↔◌, ◌<◌, ◌^◌, IsTrue};
 ghost use Rattle.std.specs.Coded.{Coded-set, coded_list};
 ghost use Rattle.left_right.specs.Sides.{view};
 ghost use Rattle.studio.specs.contracts.shots.shot.Shot as shot_row;
@@ -22,6 +22,13 @@ use std::sync::{Arc, Wait};
 
 // So many entries a history may have, two for each shot.
 const MOST_ENTRIES: u64 = 1 << 62;
+
+// Whether a history of so many entries has room for a shot more.
+fn has_room(count: u64) -> bool
+    ensures { IsTrue result ↔ (count < 2 ^ 62) }
+{
+    count < MOST_ENTRIES
+}
 
 /// Who shows: the only writer of a chain of shots. It may stand in a thread of its own. End it by [`Publisher::close`].
 pub struct Publisher {
@@ -95,7 +102,7 @@ impl Publisher {
         ensures told_studio { IfOk result (λ t. told_studio t ≡ publisher_studio self.old) }
         ensures studio { publisher_studio self.new ≡ publisher_studio self.old }
     {
-        if self.prefix.count >= MOST_ENTRIES {
+        if !has_room(self.prefix.count) {
             return Err(Memory);
         }
         let Ok(shot) = Arc::new(self.alloc, shot) else {
