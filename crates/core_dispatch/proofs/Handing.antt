@@ -68,7 +68,7 @@ none_waits core none = inr (refl, refl, λ u hints. none u (omega arith) hints)
 
 hands_append : (first second : List Entry) → AreHands first → AreHands second → AreHands (first ++ second)
 hands_append [] second none more = more
-hands_append ((Hand t place, answer) ∷ log) second rest more = hands_append log second rest more
+hands_append ((Hand t place, OfHand handed) ∷ log) second rest more = (rest.0, hands_append log second rest.1 more)
 hands_append (entry ∷ log) second rest more = absurd rest
 
 count_more : (n m k : ℕ) → Counts n k → IsOneMore n m → Counts m (k + 1)
@@ -80,13 +80,21 @@ count_more n m k (inr (full, many)) (inr (full', still)) = inr (still, omega (ar
 pub none_handed : (core : Core) → HaveHanded core 0 core
 none_handed core = record { log = []; run = refl; are_hands = tt; count = inl refl }
 
+-- what is handed over is there where fewer hints wait afterwards
+pub is_there : (before : Core) (t i : ℕ) (handed : Handed) (after : Core) → IsHanded before t i handed after
+    → waiting_count after.tiles < waiting_count before.tiles → handed ≢ Nothing
+is_there before t i handed after happens less nothing =
+    let still : after ≡ before = (subst (λ (h : Handed). IsHanded before t i h after) nothing happens).1 in
+    let as_many = ap (λ (c : Core). waiting_count c.tiles) still in
+    omega (arith, as_many, less)
+
 -- one hint more is handed over
 pub one_more_handed : (before now next : Core) (n m : ℕ) (t i : ℕ) (handed : Handed) → HaveHanded before n now
-    → IsHanded now t i handed next → IsOneMore n m → HaveHanded before m next
-one_more_handed before now next n m t i handed so_far happens more = record {
+    → IsHanded now t i handed next → handed ≢ Nothing → IsOneMore n m → HaveHanded before m next
+one_more_handed before now next n m t i handed so_far happens there more = record {
   log = so_far.log ++ (Hand t i, OfHand handed) ∷ [];
   run = run_append before now next so_far.log ((Hand t i, OfHand handed) ∷ []) so_far.run (next, happens, refl);
-  are_hands = hands_append so_far.log ((Hand t i, OfHand handed) ∷ []) so_far.are_hands tt;
+  are_hands = hands_append so_far.log ((Hand t i, OfHand handed) ∷ []) so_far.are_hands (there, tt);
   count =
       let long : length (so_far.log ++ (Hand t i, OfHand handed) ∷ []) ≡ length so_far.log + 1 =
       length-append so_far.log ((Hand t i, OfHand handed) ∷ []) in

@@ -3,7 +3,7 @@ use Rattle.std.proofs.Common.{◌≡◌, ℕ, ◌≤◌, ◌||◌, true, false, 
 use Rattle.std.proofs.Common.{subst, inl, inr, arith}
 use Rattle.std.proofs.lemmas.List.{length-append}
 use Rattle.core_rules.specs.{Work.Core, Sweeps.IsReady, Runs.Entry, Runs.IsRun, Runs.HasHints}
-use Rattle.core_rules.specs.Events.{Hand}
+use Rattle.core_rules.specs.Events.{Hand, OfHand}
 use Rattle.core_rules.proofs.Running.{run_append}
 use Rattle.steal_pool.specs.Views.{IsSamePool}
 use Rattle.core_dispatch.specs.{declared.refusal.Refusal.Refusal, Books.BooksView, Handing.AreHands, Handing.Counts}
@@ -19,7 +19,7 @@ use Rattle.core_dispatch.proofs.{Marking.jobs_mark, Placed.no_hints_kept}
 
 hands_no_merges : (log : List Entry) → AreHands log → AreNoMerges log
 hands_no_merges [] none = tt
-hands_no_merges ((Hand t place, answer) ∷ log) more = hands_no_merges log more
+hands_no_merges ((Hand t place, OfHand handed) ∷ log) more = hands_no_merges log more.1
 hands_no_merges (entry ∷ log) more = absurd more
 
 nothing_happens : (before : Core) (log : List Entry) (after : Core) → log ≡ [] → IsRun before log after

@@ -1,17 +1,18 @@
 -- Hints that are handed over, one after another.
-use Rattle.std.specs.Prelude.{◌≡◌, ℕ, ◌+◌, ◌<◌, ◌≤◌, ◌⊎◌, Bool, true, false, List, [], ◌∷◌, length, sum_by}
+use Rattle.std.specs.Prelude.{◌≡◌, ◌≢◌, ℕ, ◌+◌, ◌<◌, ◌≤◌, ◌⊎◌, Bool, true, false, List, [], ◌∷◌, length, sum_by}
 use Rattle.border_queues.specs.TileWork.{TileWork}
-use Rattle.core_rules.specs.{declared.answers.Handed.Handed, Work.Core, Hints.IsHanded, Events.Hand}
+use Rattle.core_rules.specs.{declared.answers.Handed.Handed, Work.Core, Hints.IsHanded, Events.Hand, Events.OfHand}
+use Rattle.core_rules.specs.declared.answers.Handed.TheVariants.{Nothing}
 use Rattle.core_rules.specs.Runs.{Entry, IsRun, HasHints}
 
 -- the greatest count, 2^64 - 1
 abbrev pub most : ℕ
 most = 18446744073709551615
 
--- each of the events hands over a hint
+-- each of the events hands over a hint, which is there
 abbrev pub AreHands : List Entry → Type 0
 AreHands [] = Unit {0}
-AreHands ((Hand t place, answer) ∷ log) = AreHands log
+AreHands ((Hand t place, OfHand handed) ∷ log) = (handed ≢ Nothing) × AreHands log
 AreHands (entry ∷ log) = ⊥
 
 -- the count is this many, or the greatest count where there are more

@@ -2,7 +2,7 @@
 use Rattle.std.specs.Prelude.{◌≡◌, ℕ, ◌<◌, List, [], length, map, replicate, All}
 use mathlib.Core.Option.{some}
 use lib.ListN.{get_elem?}
-use Rattle.rtrb.specs.Ring.{sent, all_sent, IsPair, IsFinishedOf}
+use Rattle.rtrb.specs.Ring.{sent, all_sent, known_free, IsPair, IsFinishedOf}
 use Rattle.stroke_lattice.specs.State.{State}
 use Rattle.core_dispatch.specs.{declared.desk.PenDesk.PenDesk, declared.pen.Pen.Pen, declared.pen.PenEnd.PenEnd}
 use Rattle.core_dispatch.specs.{Books.BooksView, Books.edits_of, Taking.most_edits}
@@ -18,6 +18,10 @@ end_number end = end.number
 -- the edits that a pen submitted, oldest first
 abbrev pub submitted : Pen → List State
 submitted pen = sent pen.producer
+
+-- how many places in its ring a pen knows to be free
+abbrev pub free_places : Pen → ℕ
+free_places pen = known_free pen.producer
 
 -- the edits that a pen submitted before it finished
 abbrev pub all_submitted : PenEnd → List State

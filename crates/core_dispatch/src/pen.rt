@@ -31,7 +31,8 @@ pub struct PenEnd {
 }
 
 impl Pen {
-    ghost use Rattle.core_dispatch.specs.Pens.{number_of, submitted, all_submitted, KeepsDesk, KeepsDeskAtEnd};
+    ghost use Rattle.core_dispatch.specs.Pens.{number_of, submitted, all_submitted, free_places};
+    ghost use Rattle.core_dispatch.specs.Pens.{KeepsDesk, KeepsDeskAtEnd};
 
     /// The end of a ring into which nothing was sent, for the pen of this number.
     pub(crate) fn new(producer: Producer<Delta>, number: usize) -> Pen
@@ -52,12 +53,14 @@ impl Pen {
 
     /// Submits an edit. It waits for nobody.
     ///
-    /// Errors: the edit, where the ring is full. Nothing was submitted then. A pen's first 64 edits find a place.
+    /// Errors: the edit, where no place in the ring is seen to be free. Nothing was submitted then. A pen's first 64
+    /// edits find a place.
     pub fn submit(&mut self, delta: Delta) -> Result<(), Full>
         ensures ok { OnOk result (submitted self.new ≡ submitted self.old ++ delta ∷ []) }
         ensures err { OnErr result (submitted self.new ≡ submitted self.old) }
         ensures returned { IfErr result (λ full. full.0 ≡ delta) }
         ensures full { OnErr result (ring_room ≤ length (submitted self.old)) }
+        ensures none_free { OnErr result ((free_places self.old ≡ 0) × (free_places self.new ≡ 0)) }
         ensures desk { KeepsDesk self.old self.new }
     {
         match self.producer.push(delta) {

@@ -1,7 +1,7 @@
 use Rattle.std.proofs.Common.{◌≡◌, refl, sym, ◌∙◌, subst, inl, inr, true, false}
 use Rattle.core_rules.specs.{Work.Core, Runs.HasHints}
 use Rattle.core_dispatch.specs.Handing.{HaveHanded}
-use Rattle.core_dispatch.proofs.{Handing.none_handed, Handing.one_more_handed, Steady.rest_kept}
+use Rattle.core_dispatch.proofs.{Handing.is_there, Handing.none_handed, Handing.one_more_handed, Steady.rest_kept}
 use Rattle.core_dispatch.proofs.books.Books.hand_all.Goals as goal
 
 pub loop-hands-init : goal.loop-hands-init
@@ -18,7 +18,8 @@ loop-hands-preserved c = elim c.hand_next.ensures.next [
   | inl (found, (t, i, handed, happens, less)) ↦ record {
     handed =
         one_more_handed c.args.self.now.core c.loop-hands.self.core c.hand_next.new.self.core c.loop-hands.hands
-        c.one_more-hands.result t i handed c.loop-hands.invariant.handed happens c.one_more-hands.ensures;
+        c.one_more-hands.result t i handed c.loop-hands.invariant.handed happens
+        (is_there c.loop-hands.self.core t i handed c.hand_next.new.self.core happens less) c.one_more-hands.ensures;
     rest =
         rest_kept c.args.self.now c.loop-hands.self c.hand_next.new.self c.loop-hands.invariant.rest
         c.hand_next.ensures.rest;
