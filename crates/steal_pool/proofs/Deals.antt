@@ -1,4 +1,4 @@
--- Each step of the deque keeps the rule.
+-- Each step of the deque keeps the rule, and what it says.
 use Rattle.std.proofs.Common.{◌≡◌, ◌≢◌, ℕ, zero, suc, ◌+◌, ◌<◌, ◌≤◌, List, [], ◌∷◌, ◌++◌, length, drop, set, sym, refl}
 use Rattle.std.proofs.Common.{ap, ◌∙◌, subst, ⊎_elim, arith, cond, eqb, eq-eqb, ne_eqb}
 use Rattle.std.proofs.lemmas.List.{length-append}
@@ -10,7 +10,8 @@ use Rattle.crossbeam_deque.specs.Tasks.{Pushes, Takes, Admits}
 use Rattle.atomic_table.proofs.Lists.{at_set, at_snoc, at_longer, at_last, set_here, set_else}
 use Rattle.tile_generations.specs.Jobs.{Job}
 use Rattle.steal_pool.specs.declared.rule.EndView.{EndView}
-use Rattle.steal_pool.specs.Deal.{view_of, newcomer, Places, Holds, IsFound, IsDealt, Gets}
+use Rattle.steal_pool.specs.{Deal.view_of, Deal.newcomer, Deal.Places, Deal.Holds, Deal.IsFound, Deal.IsDealt}
+use Rattle.steal_pool.specs.{Deal.Gets, Laws.GotIsPushed, Laws.GotOnce}
 
 pub below : {A : Type 0} (l : List A) (i : ℕ) (a : A) → get_elem? l i ≡ some a → i < length l
 below [] i a e = absurd (some-ne-none a (sym e))
@@ -200,3 +201,19 @@ gets port v [] items views some_one one h at = absurd (omega arith)
 gets port v (x ∷ []) items views some_one one h at =
     (view_of v.pushed (v.got ++ (h.front, x) ∷ []), gets_one port v x items views h at, (h.front, x, refl, refl))
 gets port v (x ∷ (y ∷ ys)) items views some_one one h at = absurd (omega arith)
+
+-- ---- what the rule says
+
+pub got_is_pushed : GotIsPushed
+got_is_pushed items views owner port i k x dealt at got =
+    let same : dealt.owner.0 ≡ owner = some-injective dealt.owner.0 owner (sym dealt.owner.1 ∙ at) in
+    let held = dealt.held port got.end got.is_there i k x got.got in
+    subst (λ (v : EndView). get_elem? v.pushed k ≡ some x) same
+    (ap (λ (l : List Job). get_elem? l k) dealt.owner.2 ∙ held.1)
+
+pub got_once : GotOnce
+got_once items views port other i j k x y dealt one two =
+    let first = dealt.held port one.end one.is_there i k x one.got in
+    let second = dealt.held other two.end two.is_there j k y two.got in
+    let same : (port, i) ≡ (other, j) = sym first.2 ∙ second.2 in
+    (ap (λ (p : ℕ × ℕ). p.0) same, ap (λ (p : ℕ × ℕ). p.1) same)

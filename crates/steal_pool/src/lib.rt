@@ -20,11 +20,12 @@
 //! of memory. Nothing is promised of when a job is got, by which hand, or that a report is collected.
 //!
 //! Read on in `specs/Views.antt`, which says what contracts see of owner and hands, and who belongs together; in
-//! `specs/Deal.antt`, which says who got which job; and in `specs/Reports.antt`, which says what is reported and what
-//! each answer of a turn means.
+//! `specs/Deal.antt`, which says who got which job ([`pool_laws`] has what follows); and in `specs/Reports.antt`, which
+//! says what is reported and what each answer of a turn means.
 
 mod gate;
 mod hand;
+mod laws;
 mod owner;
 mod pool;
 mod report;
@@ -32,6 +33,7 @@ mod rule;
 
 pub use gate::{Gate, Open};
 pub use hand::Hand;
+pub use laws::pool_laws;
 pub use owner::Owner;
 pub use pool::Pool;
 pub use report::{Report, Turn};
