@@ -53,9 +53,8 @@ impl Eye {
 
     /// Looks at the shot that was shown last. It takes no memory, and waits for nobody.
     ///
-    /// Errors: the eye as it was, where the studio is closed, or where what is published lacks more than one entry of
-    /// what the eye was told. An eye that was made behind a show which found no memory meets that until the next show
-    /// succeeds.
+    /// Errors: the eye as it was, where the studio is closed; by its clauses also where what is published lacks more
+    /// than one entry of what the eye was told, which nothing brings about.
     pub fn look(self) -> Result<Glimpse, Eye>
         ensures chain { IfOk result (λ g. IsChain (glimpsed_by g)) }
         ensures last { IfOk result (λ g. last_of (glimpsed_by g) ≡ Some (shot_by g)) }
@@ -75,8 +74,8 @@ impl Eye {
         } = self;
         match reader.enter_as::<Look>() {
             Ok(reading) => {
-                // A receipt is given behind its shot, so none leads here. But a new eye knows what was announced, also
-                // where that was not published for want of memory.
+                // It never is: a receipt is given behind its shot, and so is what a new eye knows. But no rule ties
+                // what was told to what is published.
                 if reading.get().prefix.is_behind(&learnt) {
                     return Err(Eye {
                         reader: reading.leave(),

@@ -36,11 +36,16 @@ pub struct Publisher {
     pub(crate) writer: Writing,
     pub(crate) head: Head,
     pub(crate) prefix: Prefix,
+    // The history up to the last show that succeeded. What a later one announced in vain is not in it.
+    pub(crate) told: Prefix,
     ghost head_is: { head ≡ head_of prefix.reached.book },
     ghost informed: { view writer.desk.place ≡ informed (published writer.desk.shown.value) },
     ghost book: { writer.desk.shown.value.prefix.reached.book ≡ prefix.reached.book },
     ghost chain: { confirmed prefix.reached.log
         ≡ whole writer.desk.shown.value.prefix.reached.log } by { Coded-set (coded_list shot_row.the_row.coded) _ _ },
+    ghost told_book: { told.reached.book ≡ prefix.reached.book },
+    ghost told_chain: { confirmed told.reached.log
+        ≡ confirmed prefix.reached.log } by { Coded-set (coded_list shot_row.the_row.coded) _ _ },
 }
 
 impl Publisher {
@@ -73,11 +78,13 @@ impl Publisher {
         let prefix = add::<Shot, Announce, R>(rt, &head, &blank, &*shot);
         let writer = open_writing(rt, alloc, shot, &prefix, eyes)?;
         let prefix = add::<(), Confirm, R>(rt, &head, &prefix, &());
+        let told = prefix.again();
         Ok(Publisher {
             alloc,
             writer,
             head,
             prefix,
+            told,
         })
     }
 
@@ -115,13 +122,13 @@ impl Publisher {
         };
         replace_with(&mut self.writer, (rt, next), show_next)?;
         self.prefix = add::<(), Confirm, R>(rt, &self.head, &self.prefix, &());
+        self.told = self.prefix.again();
         Ok(Told {
             prefix: self.prefix.again(),
         })
     }
 
-    /// An eye that has seen and learnt all that was shown. It waits for nobody. Behind a show that found no memory it
-    /// looks in vain until the next show succeeds.
+    /// An eye that has seen and learnt all that was shown. It waits for nobody.
     ///
     /// Errors: each place for an eye is in use, as it may also seem while eyes are dropped in other threads.
     pub fn eye(&mut self) -> Result<Eye, NoPlace>
@@ -139,7 +146,7 @@ impl Publisher {
         Ok(Eye {
             reader,
             seen: self.writer.published().prefix.again(),
-            learnt: self.prefix.again(),
+            learnt: self.told.again(),
         })
     }
 
@@ -153,6 +160,7 @@ impl Publisher {
             writer,
             head: _,
             prefix: _,
+            told: _,
         } = self;
         Box::into_inner(writer.take(rt)).shot
     }
