@@ -107,6 +107,37 @@ pub fn close<R: Wait>(rt: &R, alloc: Global, scene: Scene) -> Option<Core>
     close_keeper(rt, keeper, ends)
 }
 
+/// Closes a studio, and says whether that was done and its eye, which is left, looks in vain then.
+pub fn closes_before_eye<R: Wait>(rt: &R, alloc: Global, scene: Scene) -> bool
+    requires { IsCompany scene }
+{
+    let Scene {
+        keeper,
+        pen,
+        eye,
+        hands,
+    } = scene;
+    drop(hands);
+    let core = close_keeper(rt, keeper, ends_of(alloc, pen));
+    let is_closed = core.is_some();
+    drop(core);
+    looks_in_vain(eye) & is_closed
+}
+
+// Whether a look gives no glimpse.
+fn looks_in_vain(eye: Eye) -> bool {
+    match eye.look() {
+        Ok(glimpse) => {
+            drop(glimpse.leave());
+            false
+        }
+        Err(eye) => {
+            drop(eye);
+            true
+        }
+    }
+}
+
 /// Closes a studio, and gives its core, where no edit was refused. Else the studio is ended.
 pub fn close_keeper<R: Wait>(rt: &R, keeper: Keeper, ends: Vec<PenEnd>) -> Option<Core>
     requires { AreEndsOf ends.items (books_of keeper) }
