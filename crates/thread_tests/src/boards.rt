@@ -140,8 +140,8 @@ fn peeks_all(board: &Board, seats: &mut Seats, mask: &Grid, answer: Peek) -> boo
     are_all
 }
 
-// What is played with a board, beside a studio on the same row, the image that it is closed on, and whether no pixel can
-// raise another in it.
+// What is played with a board, beside a studio on the same row, the image that it is closed on, and whether no pixel
+// can raise another in it.
 struct Play {
     name: &'static str,
     lines: &'static [Line],
@@ -216,8 +216,8 @@ fn plays(
     true
 }
 
-/// Whether the board is closed on these values, and it is said of them whether no pixel can raise another: at the second
-/// try where there is no memory at the first.
+/// Whether the board is closed on these values, and it is said of them whether no pixel can raise another: at the
+/// second try where there is no memory at the first.
 pub fn closes_on(
     alloc: Global,
     board: Board,

@@ -101,8 +101,8 @@ pub fn view_tiled<S: Source, K: Sink>(
 /// V1 without an `image` line; E1 to E3 of the edit text; P1 to P9 of the image file; M1 to M7 of the old bytes; D1
 /// where one of their frames is meant for another connectivity or mask; C1 or C2 at the first delta that meets it. P11
 /// where a device failed or the source did not end; P10 for want of memory in reading and writing, and E4 in the edit
-/// text; M8 for want of it at the old bytes, if there are any, or the new; C4 at a delta that could be taken; plain want
-/// of memory where all deltas are. Nothing is written, unless the sink failed: then a front of the file.
+/// text; M8 for want of it at the old bytes, if there are any, or the new; C4 at a delta that could be taken; plain
+/// want of memory where all deltas are. Nothing is written, unless the sink failed: then a front of the file.
 pub fn view_kept<S: Source, K: Sink>(
     alloc: Global,
     source: &mut S,
