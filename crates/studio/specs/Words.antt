@@ -1,5 +1,5 @@
 -- What contracts say of publishers, receipts, eyes and glimpses.
-use Rattle.std.specs.{Prelude.List, Arc.arc_value}
+use Rattle.std.specs.{Prelude.List, Prelude.length, Prelude.◌+◌, Prelude.◌≤◌, Arc.arc_value}
 use Rattle.logbook.specs.Pages.{Book}
 use Rattle.studio.specs.{declared.shots.publisher.Publisher.Publisher, declared.shots.told.Told.Told}
 use Rattle.studio.specs.{declared.shots.eye.Eye.Eye, declared.shots.eye.Glimpse.Glimpse, Shots.Shot}
@@ -28,6 +28,10 @@ learnt_by e = confirmed e.learnt.reached.log
 -- the chain whose last shot is glimpsed
 abbrev pub glimpsed_by : Glimpse → List Shot
 glimpsed_by g = whole g.reading.part.value.prefix.reached.log
+
+-- what is published lacks at most the last entry of what the eye was told: a look is in vain where it lacks more
+abbrev pub IsAbreast : Publisher → Eye → Type 0
+IsAbreast p e = length e.learnt.reached.log ≤ length p.writer.desk.shown.value.prefix.reached.log + 1
 
 -- the shot that is glimpsed
 abbrev pub shot_by : Glimpse → Shot

@@ -1,6 +1,6 @@
 //! Who shows.
 
-ghost use Rattle.std.specs.Prelude.{◌≡◌, ◌↔◌, ◌<◌, ◌^◌, IsTrue};
+ghost use Rattle.std.specs.Prelude.{◌≡◌, ◌↔◌, ◌<◌, ◌≤◌, ◌+◌, ◌^◌, length, IsTrue};
 ghost use Rattle.std.specs.Coded.{Coded-set, coded_list};
 ghost use Rattle.left_right.specs.Sides.{view};
 ghost use Rattle.studio.specs.contracts.shots.shot.Shot as shot_row;
@@ -46,6 +46,7 @@ pub struct Publisher {
     ghost told_book: { told.reached.book ≡ prefix.reached.book },
     ghost told_chain: { confirmed told.reached.log
         ≡ confirmed prefix.reached.log } by { Coded-set (coded_list shot_row.the_row.coded) _ _ },
+    ghost abreast: { length told.reached.log ≤ length writer.desk.shown.value.prefix.reached.log + 1 },
 }
 
 impl Publisher {
@@ -54,7 +55,7 @@ impl Publisher {
     ghost use Rattle.studio.specs.Shots.{IsSound};
     ghost use Rattle.studio.specs.Chains.{MayFollow};
     ghost use Rattle.studio.specs.Words.{shown_by, last_by, told_by, seen_by, learnt_by};
-    ghost use Rattle.studio.specs.Words.{publisher_studio, told_studio, eye_studio};
+    ghost use Rattle.studio.specs.Words.{publisher_studio, told_studio, eye_studio, IsAbreast};
 
     /// A studio whose chain is one shot, with places for so many eyes, 1 to 16.
     ///
@@ -134,6 +135,7 @@ impl Publisher {
     pub fn eye(&mut self) -> Result<Eye, NoPlace>
         ensures seen { IfOk result (λ e. seen_by e ≡ shown_by self.old) }
         ensures learnt { IfOk result (λ e. learnt_by e ≡ shown_by self.old) }
+        ensures abreast { IfOk result (IsAbreast self.old) }
         ensures eye_studio { IfOk result (λ e. eye_studio e ≡ publisher_studio self.old) }
         ensures chain { shown_by self.new ≡ shown_by self.old }
         ensures last { last_by self.new ≡ last_by self.old }
