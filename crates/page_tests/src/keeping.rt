@@ -1,11 +1,14 @@
-//! Ten requests, where a call of the store fails, or a growth of memory is refused; and boards that are refused.
+//! Ten requests, where a call of the store fails, or a growth of memory is refused; boards that are refused; and a file
+//! that becomes large.
 
 use crate::files::OLD;
 use crate::session::{BLANK, Scene, Session};
 use crate::spelling::begins;
-use crate::steps::{STEPS, Step};
+use crate::steps::{EDITS, PLACE, STEPS, Step};
+use grid_core::Memory;
 use pgm_codec::PgmError;
 use run_faults::{RunError, status};
+use std::alloc::Global;
 use std::test::Fail;
 
 // What the requests begin with: the file has a stroke on the fourth pixel.
@@ -102,6 +105,16 @@ fn play(rt: &HostRuntime, scene: &Scene) -> Result<(u32, u32), Fail> {
     }
 }
 
+// A text that withdraws so many tags that a file which keeps them has more than a MiB: each takes 16 bytes.
+fn withdrawals(alloc: Global) -> Result<Vec<u8>, Memory> {
+    let mut text = Vec::new(alloc);
+    for number in 10_000_000u32..10_070_000 {
+        let line = format!(in alloc; "withdraw 67e55044-10b1-426f-9247-bb68{number}\n")?;
+        text.extend_from_slice(line.as_bytes())?;
+    }
+    Ok(text)
+}
+
 #[test]
 fn boards_are_refused(rt: HostRuntime) {
     let cut = RunError::Pgm(PgmError::Device);
@@ -123,6 +136,19 @@ fn each_save_fails_in_turn(rt: HostRuntime) -> Result<(), Fail> {
         };
         assert!(rt; play(&rt, &scene)? == (asked, 0), "call {failing_call}");
     }
+    Ok(())
+}
+
+#[test]
+fn a_large_file_is_kept(rt: HostRuntime) -> Result<(), Fail> {
+    let text = withdrawals(rt.alloc())?;
+    let mut session = Session::open(rt.alloc(), &BLANK)?;
+    session.ask_ours(&rt, EDITS, &text);
+    let length = session.file_len();
+    session.ask_ours(&rt, EDITS, PLACE);
+    let is_longer = begins(session.told(), b"200") && session.file_len() > length;
+    drop(session);
+    assert!(rt; is_longer && length > 1024 * 1024);
     Ok(())
 }
 

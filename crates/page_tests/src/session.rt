@@ -197,4 +197,9 @@ impl Session {
     pub fn has_file(&self, bytes: &[u8]) -> bool {
         self.keeper.store().file(&self.name) == bytes
     }
+
+    /// How many bytes the file has.
+    pub fn file_len(&self) -> usize {
+        self.keeper.store().file(&self.name).len()
+    }
 }

@@ -1,19 +1,23 @@
-//! A client of a page that is served: it asks as soon as it is told the address.
+//! A client of a page that is served: it asks as soon as it is told the address, and says the rest later.
 
 use super::Play;
 use crate::spelling::Request;
 use std::alloc::Global;
+use std::cell::RefCell;
 use std::io::{self, ErrorKind, Read, Write};
 use std::net::{Ipv4Addr, Net, TcpStream};
 
-/// A client that is told the address of a page, with its LF, in one piece. It asks the question of a play there, and
-/// then the answer comes from its stream.
+/// The stream of a client, once it was told an address.
+pub type Line<S> = RefCell<Option<S>>;
+
+/// A client that is told the address of a page, with its LF, in one piece. It asks the question of a play there but for
+/// its rest, where nobody listens on that port at another address, and then the answer comes from its line.
 #[derive(Drop)]
 pub struct Caller<'a, R: Net> {
-    rt: &'a R,
-    alloc: Global,
-    play: &'static Play,
-    stream: Option<R::Stream>,
+    pub rt: &'a R,
+    pub alloc: Global,
+    pub play: &'static Play,
+    pub line: &'a Line<R::Stream>,
 }
 
 // The port and the key of an address.
@@ -23,7 +27,7 @@ fn place_of(line: &[u8]) -> Option<(u16, &str)> {
     Some((port.parse::<u16>().ok()?, rest.strip_suffix("/\n")?))
 }
 
-// Asks the question of a play at this port, all of it at once.
+// Asks the question of a play at this port, all but its rest.
 fn ask<W: Write>(alloc: Global, stream: &mut W, play: &Play, port: u16) -> io::Result<()> {
     let fields = format!(in alloc;
         "Host: 127.0.0.1:{port}\r\nOrigin: http://127.0.0.1:{port}\r\n"
@@ -34,34 +38,41 @@ fn ask<W: Write>(alloc: Global, stream: &mut W, play: &Play, port: u16) -> io::R
         body: play.body,
     };
     match request.spelled(alloc, play.key) {
-        Ok(spelled) => stream.write_all(&spelled),
+        Ok(mut spelled) => {
+            spelled.truncate(spelled.len().saturating_sub(play.rest.len()));
+            stream.write_all(&spelled)
+        }
         Err(_) => Err(ErrorKind::OutOfMemory.into()),
     }
 }
 
-impl<'a, R: Net> Caller<'a, R> {
-    /// A client of a play.
-    pub fn new(rt: &'a R, alloc: Global, play: &'static Play) -> Caller<'a, R> {
-        Caller {
-            rt,
-            alloc,
-            play,
-            stream: None,
-        }
+/// What is left of a question is said. Where the stream has ended nobody hears it.
+pub fn say_rest<S: Write>(line: &Line<S>, rest: &[u8]) {
+    let Ok(mut line) = line.try_borrow_mut() else {
+        return;
+    };
+    if let Some(stream) = line.as_mut() {
+        let _ = stream.write_all(rest);
     }
+}
 
-    /// All that comes from the stream is put behind the answer. Says whether there was a stream, and it ended.
-    pub fn hears(&mut self, answer: &mut Vec<u8>) -> bool {
-        match &mut self.stream {
-            Some(stream) => stream.read_to_end(answer).is_ok(),
-            None => false,
-        }
+/// All that comes from a stream is put behind the answer. Says whether there is a stream, and it ended.
+pub fn hears<S: Read>(stream: &mut Option<S>, answer: &mut Vec<u8>) -> bool {
+    match stream {
+        Some(stream) => stream.read_to_end(answer).is_ok(),
+        None => false,
     }
+}
 
+impl<R: Net> Caller<'_, R> {
+    // Asks at this port, unless somebody listens on it at another address of this machine.
     fn call(&mut self, port: u16) -> io::Result<()> {
+        if TcpStream::connect(self.rt, (Ipv4Addr::new(127, 0, 0, 2), port)).is_ok() {
+            return Err(ErrorKind::Other.into());
+        }
         let mut stream = TcpStream::connect(self.rt, (Ipv4Addr::LOCALHOST, port))?;
         let asked = ask(self.alloc, &mut stream, self.play, port);
-        self.stream = Some(stream);
+        let _ = self.line.try_replace(Some(stream));
         asked
     }
 }

@@ -1,42 +1,48 @@
-//! What a server runs on, so that it ends: a clock that stops, and chosen random bytes.
+//! What a server runs on, so that it ends: a clock that tells chosen moments and stops, and chosen random bytes.
 
+use super::Play;
+use super::caller::{Line, say_rest};
 use std::alloc::Allocator;
 use std::cell::Cell;
 use std::fs::{Metadata, OpenOptions};
-use std::io::{self, ErrorKind};
+use std::io::{self, ErrorKind, Read};
 use std::net::{Net, SocketAddr};
 use std::random::RandomSource;
 use std::rt::Files;
 use std::time::{Clock, Duration};
 
-// How often a server may look at the clock: when it starts, and once in each of two turns.
-const LOOKS: u64 = 3;
-
-/// A clock that stops after a few looks, random bytes that are all the same, and the network and the files of a
-/// runtime, which can only be opened.
+/// A clock that tells the moments of a play and then stops, random bytes that are the same at each draw, and the
+/// network and the files of a runtime, which can only be opened. As the clock tells its last moment, the client says
+/// the rest of its question.
 #[derive(Drop)]
-pub struct World<'a, R> {
+pub struct World<'a, R: Net> {
     rt: &'a R,
-    random: u8,
-    left: Cell<u64>,
+    play: &'static Play,
+    line: &'a Line<R::Stream>,
+    // Which moment is told next.
+    at: Cell<usize>,
 }
 
-impl<'a, R> World<'a, R> {
-    /// The world of this random byte, over this runtime.
-    pub fn new(rt: &'a R, random: u8) -> World<'a, R> {
-        let left = Cell::new(LOOKS);
-        World { rt, random, left }
+impl<'a, R: Net> World<'a, R> {
+    /// The world of a play whose client has this line, over this runtime.
+    pub fn new(rt: &'a R, play: &'static Play, line: &'a Line<R::Stream>) -> World<'a, R> {
+        let at = Cell::new(0);
+        World { rt, play, line, at }
     }
 }
 
-impl<R> Clock for World<'_, R> {
+impl<R: Net> Clock for World<'_, R> {
     fn monotonic(&self) -> io::Result<Duration> {
-        let left = self.left.get();
-        if left == 0 {
+        let (moments, at) = (self.play.moments, self.at.get());
+        let Some(moment) = moments.get(at) else {
             return Err(ErrorKind::TimedOut.into());
+        };
+        let next = at.saturating_add(1);
+        self.at.set(next);
+        if next == moments.len() {
+            say_rest(self.line, self.play.rest);
         }
-        self.left.set(left - 1);
-        Ok(Duration::ZERO)
+        Ok(Duration::from_millis(*moment))
     }
 
     fn since_1970(&self) -> io::Result<Duration> {
@@ -44,10 +50,10 @@ impl<R> Clock for World<'_, R> {
     }
 }
 
-impl<R> RandomSource for World<'_, R> {
+impl<R: Net> RandomSource for World<'_, R> {
     fn fill_bytes(&self, buf: &mut [u8]) -> io::Result<()> {
-        buf.fill(self.random);
-        Ok(())
+        let mut undrawn = self.play.random;
+        undrawn.read_exact(buf)
     }
 }
 
@@ -65,7 +71,7 @@ impl<R: Net> Net for World<'_, R> {
     }
 }
 
-impl<R: Files> Files for World<'_, R> {
+impl<R: Net + Files> Files for World<'_, R> {
     type File = R::File;
 
     type Dir = R::Dir;
