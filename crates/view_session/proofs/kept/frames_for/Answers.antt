@@ -31,11 +31,14 @@ returns-clause-spelled c =
 
 pub returns-clause-refused : goal.returns-clause-refused
 returns-clause-refused c =
-    IfErr-weaker c.own_frames.result _ _ (λ e other. inr (inr (other.0, record {
-      frames = c.in_ok-frames.frames.items;
-      spelled = c.in_ok-frames.ensures.found;
-      not_all_for = other.1;
-    }))) c.own_frames.ensures.another
+    IfErr-weaker c.own_frames.result _ _ (λ e other. inr (inr (
+      other.0,
+      record {
+        frames = c.in_ok-frames.frames.items;
+        spelled = c.in_ok-frames.ensures.found;
+        not_all_for = other.1;
+      },
+    ))) c.own_frames.ensures.another
 
 pub returns-clause-some : goal.returns-clause-some
 returns-clause-some c = λ is.
