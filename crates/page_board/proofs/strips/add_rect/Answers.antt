@@ -1,4 +1,4 @@
-use Rattle.std.proofs.Common.{◌∙◌, sym, [], ◌∷◌, ◌++◌}
+use Rattle.std.proofs.Common.{◌∙◌, sym}
 use Rattle.std.proofs.lemmas.Bool.{false≢true}
 use Rattle.page_board.proofs.Covering.{added_behind, added_to_last}
 use Rattle.page_board.proofs.strips.add_rect.Goals as goal
