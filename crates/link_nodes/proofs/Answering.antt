@@ -1,5 +1,5 @@
 -- Frames that are for the node's image, or not, and datagrams that are refused.
-use Rattle.std.proofs.Common.{◌≡◌, ◌⊎◌, ℕ, ◌<◌, ◌≤◌, List, length, min, Result, Err, IsErrOf, ap, subst, inl, inr}
+use Rattle.std.proofs.Common.{◌≡◌, ◌⊎◌, ℕ, ◌<◌, ◌≤◌, List, length, Err, IsErrOf, ap, subst, inl, inr}
 use Rattle.std.proofs.{Common.arith, Common.length-take, lemmas.Bool.cases_lt}
 use Rattle.grid_core.specs.declared.conn.Conn.{Conn}
 use Rattle.stroke_lattice.specs.State.{State}
@@ -20,11 +20,6 @@ for_this datagram frame conn print spells same =
     (subst (λ (p : List ℕ). Spells datagram frame.conn p frame.delta) same.1 spells)
 
 -- ---- refusals
-
--- memory may be wanting only where there are not too many bytes
-pub memory_fits : (datagram : List ℕ) → IsFault datagram faults.Memory → length datagram ≤ max_bytes
-memory_fits datagram (too_long long is) = absurd cc
-memory_fits datagram (in_frame within fault) = within
 
 pub refused_for : (datagram : List ℕ) (e : SpdError)
     → (max_bytes < length datagram → IsErrOf {T = Frame} (Err e) faults.TooLong)
