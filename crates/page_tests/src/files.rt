@@ -3,6 +3,9 @@
 /// The mask of most sessions: four pixels in a row, which have the levels 3, 9, 9 and 3 of 9.
 pub const FOUR: &[u8] = b"P2\n4 1\n9\n3 9 9 3\n";
 
+/// Sixteen pixels in a row, all of level 9: two tiles of the side 8.
+pub const SIXTEEN: &[u8] = b"P2\n16 1\n9\n9 9 9 9 9 9 9 9 9 9 9 9 9 9 9 9\n";
+
 /// A stroke of level 3 on the fourth pixel of `FOUR`, for four neighbours.
 pub const OLD: &[u8] = b"\
     \0\x44SPD2\x04\xe3\x06\xd5\x31\xd3\x44\x82\xe9\x92\x7d\xcb\xb0\xc8\xef\xac\x39\

@@ -105,6 +105,7 @@ fn rounds(keeper: &mut StateKeeper<Served, MemoryStore>, peers: &mut PeerList<Cl
 }
 
 impl Session {
+    /// A session that begins so.
     ///
     /// Errors: those of a board that is opened.
     pub fn open(alloc: Global, scene: &Scene) -> Result<Session, RunError> {

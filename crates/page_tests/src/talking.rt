@@ -1,6 +1,6 @@
 //! What is posted, and what a page is told.
 
-use crate::files::OLD;
+use crate::files::{FOUR, OLD, SIXTEEN};
 use crate::session::{BLANK, Scene, Session};
 use crate::spelling::{begins, body_of};
 use crate::steps::{EDITS, PLACE, WITHDRAW};
@@ -47,11 +47,22 @@ const BEGUN: &[Row] = &[
     ("GET /KEY/changes?run=5&since=1", b"", b"200 5 1 1 1 0\n\n"),
 ];
 
-// Names, state files, and requests, one after another.
-const TALKS: &[(&str, &[u8], &[Row])] = &[
-    ("an edit", b"", GROWN),
-    ("a state file", b"", JOINED),
-    ("a beginning", OLD, BEGUN),
+// Two tiles side by side, in which a stroke grew, are told as one rectangle.
+const BESIDE: &[Row] = &[
+    (EDITS, PLACE, b"200"),
+    (
+        "GET /KEY/changes?run=5&since=2",
+        b"",
+        b"200 5 2 3 1 0\n0 0 16 1\n\n\t\t\t\t\t\t\t\t\t\t\t\t\t\t\t\t",
+    ),
+];
+
+// Names, masks, state files, and requests, one after another.
+const TALKS: &[(&str, &[u8], &[u8], &[Row])] = &[
+    ("an edit", FOUR, b"", GROWN),
+    ("a state file", FOUR, b"", JOINED),
+    ("a beginning", FOUR, OLD, BEGUN),
+    ("two tiles", SIXTEEN, b"", BESIDE),
 ];
 
 // Whether an answer has this status and, where it is compared, this body.
@@ -75,8 +86,13 @@ fn first_wrong(rt: &HostRuntime, session: &mut Session, rows: &[Row]) -> Option<
 
 #[test]
 fn what_is_posted_is_told(rt: HostRuntime) -> Result<(), Fail> {
-    for &(name, kept, rows) in TALKS {
-        let mut session = Session::open(rt.alloc(), &Scene { kept, ..BLANK })?;
+    for &(name, mask, kept, rows) in TALKS {
+        let scene = Scene {
+            mask,
+            kept,
+            ..BLANK
+        };
+        let mut session = Session::open(rt.alloc(), &scene)?;
         let wrong = first_wrong(&rt, &mut session, rows);
         drop(session);
         assert!(rt; wrong.is_none(), "{name}: {wrong:?}");

@@ -161,7 +161,7 @@ fn ticks_over(
 
 // Whether the ticks of the node of a new studio, whose core has so many tombstones, come to these over one link after
 // another, each of which is fed these datagrams; the first call of the first link fails, the second of the second, and
-// so on, or none.
+// so on, or none; and whether no look was in vain.
 fn goes<R: Wait>(
     rt: &R,
     alloc: Global,
@@ -180,9 +180,10 @@ fn goes<R: Wait>(
         let link = link_with(alloc, fed, fails.then_some(call));
         are_so = ticks_over(alloc, &mut node, link, all) & are_so;
     }
+    let has_seen = node.vain_looks() == 0;
     drop(node);
     drop(keeper.end(rt));
-    are_so
+    are_so & has_seen
 }
 
 #[test]
@@ -215,7 +216,8 @@ const LISTENED: &[(Heard, Sent)] = &[
 ];
 
 // Whether two nodes tell each other their strokes, in two pieces each, of which each is sent twice. The one hears the
-// second piece twice and then the first, and the other the first twice and then the second. The others are lost.
+// second piece twice and then the first, and the other the first twice and then the second. The others are lost, and no
+// look is in vain.
 fn tell(alloc: Global, one: &mut Node, two: &mut Node) -> bool
     ensures one { IsSameNode one.old one.new }
     ensures two { IsSameNode two.old two.new }
@@ -229,7 +231,8 @@ fn tell(alloc: Global, one: &mut Node, two: &mut Node) -> bool
         & ticks(alloc, two, &mut there, LISTENED);
     drop(here);
     drop(there);
-    are_told & to & from & are_heard
+    let have_seen = (one.vain_looks() == 0) & (two.vain_looks() == 0);
+    are_told & to & from & are_heard & have_seen
 }
 
 fn close<R: Wait>(rt: &R, alloc: Global, desk: (Keeper, Node)) -> Option<Core>

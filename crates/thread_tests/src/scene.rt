@@ -124,6 +124,25 @@ pub fn closes_before_eye<R: Wait>(rt: &R, alloc: Global, scene: Scene) -> bool
     looks_in_vain(eye) & is_closed
 }
 
+/// Whether the core is shown so often, in a studio that then ends.
+pub fn shows_often<R: Wait>(rt: &R, scene: Scene, times: u32) -> bool {
+    let Scene {
+        mut keeper,
+        pen,
+        eye,
+        hands,
+    } = scene;
+    drop(hands);
+    drop(eye);
+    drop(pen);
+    let mut are_shown = true;
+    for _ in 0..times {
+        are_shown = are_shown & keeper.show(rt).is_ok();
+    }
+    drop(keeper.end(rt));
+    are_shown
+}
+
 // Whether a look gives no glimpse.
 fn looks_in_vain(eye: Eye) -> bool {
     match eye.look() {

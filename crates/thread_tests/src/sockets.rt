@@ -90,9 +90,15 @@ fn speaks<R: Clock>(rt: &R, links: &mut Links) -> bool {
     has_failed & one & two & hears(rt, &mut links.three, ONE)
 }
 
-// Whether what one of the others sends is heard.
+// A datagram that is longer than any frame, and as much of it as a link hears: a byte more than a frame has.
+const LONG: &[u8] = &[7; BUFFER_BYTES + 99];
+
+const HEARD_OF_LONG: &[u8] = &[7; BUFFER_BYTES];
+
+// Whether what one of the others sends is heard, a datagram that is too long as one that is too long.
 fn listens<R: Clock>(rt: &R, links: &mut Links) -> bool {
-    links.one.send(TWO).is_ok() && hears(rt, &mut links.speaker, TWO)
+    let is_heard = links.one.send(TWO).is_ok() && hears(rt, &mut links.speaker, TWO);
+    is_heard && links.one.send(LONG).is_ok() && hears(rt, &mut links.speaker, HEARD_OF_LONG)
 }
 
 #[test]

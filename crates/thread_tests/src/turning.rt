@@ -3,7 +3,7 @@
 use crate::outcome::{Outcome, right_if, told};
 use crate::pictures::{Edit, GROWN, Mask, settles};
 use crate::playing::{Barrier, Line, plays};
-use crate::scene::{close, closes_before_eye, open_on, shows};
+use crate::scene::{close, closes_before_eye, open_on, shows, shows_often};
 use grid_core::Conn;
 use std::alloc::Global;
 use std::sync::Wait;
@@ -90,6 +90,15 @@ fn an_edit_is_swept_and_shown(rt: HostRuntime) -> Result<(), Fail> {
     let shown = shows(&rt, &mut scene, GROWN);
     let is_settled = settles(rt.alloc(), close(&rt, rt.alloc(), scene), Some(GROWN));
     told(right_if(is_swept & is_settled, "an edit on its way").and(shown))
+}
+
+#[test]
+fn a_core_is_shown_forty_thousand_times(rt: HostRuntime) -> Result<(), Fail> {
+    let Some(scene) = open_on(&rt, rt.alloc(), Mask::Row, Conn::Four, 1) else {
+        return Err(Fail::new("no studio"));
+    };
+    assert!(rt; shows_often(&rt, scene, 40_000));
+    Ok(())
 }
 
 #[test]
