@@ -1,5 +1,5 @@
 -- What contracts see of an owner and of a hand.
-use Rattle.std.specs.Prelude.{◌≡◌, ℕ, List, [], ◌∷◌, ◌++◌, map, Option, None, option_to_list}
+use Rattle.std.specs.Prelude.{◌≡◌, ◌≤◌, ℕ, List, [], ◌∷◌, ◌++◌, length, map, All, Option, None, option_to_list}
 use Rattle.std.specs.Prelude.{slice_set, slice_index_or}
 use mathlib.Core.List.{IsPrefix}
 use Rattle.tile_generations.specs.Jobs.{Job}
@@ -44,6 +44,10 @@ fresh deque ring = record { got = []; sent = []; held = None; free = ring_room; 
 abbrev pub AreFresh : OwnerView → List HandView → Type 0
 AreFresh owner hands = hands ≡ map (fresh owner.deque) owner.rings
 
+-- each ring that the owner reads has `ring_room` places. The first number of a ring's name is how many it has
+abbrev pub HasRooms : OwnerView → Type 0
+HasRooms owner = All (λ ring. ring.0 ≡ ring_room) owner.rings
+
 -- the owner has the same hands as before: those at its deque, with its rings
 pub record IsSamePool (old new : OwnerView) : Type 0 where
   pub deque : new.deque ≡ old.deque
@@ -59,6 +63,14 @@ pub record IsSameHand (old new : HandView) : Type 0 where
 -- the reports of this hand that the owner has seen and not collected
 abbrev pub waiting_of : OwnerView → ℕ → List Report
 waiting_of owner hand = slice_index_or owner.waiting hand []
+
+-- how many places the ring has that the owner reads for this hand
+abbrev pub places_of : OwnerView → ℕ → ℕ
+places_of owner hand = (slice_index_or owner.rings hand (0, (0, 0))).0
+
+-- of the hand's reports the owner has seen, and not collected, at most as many as its ring has places
+abbrev pub FewWait : OwnerView → ℕ → Type 0
+FewWait owner hand = length (waiting_of owner hand) ≤ places_of owner hand
 
 -- this report was collected of the hand, and these are still seen in its ring
 abbrev pub collecting : OwnerView → ℕ → Report → List Report → OwnerView

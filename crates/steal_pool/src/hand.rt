@@ -89,7 +89,7 @@ impl Model for Hand {
         × HasRoom (known_free h.ring) (sent h.ring) };
 }
 
-// Sends a report, or gives it back where the ring is full.
+// Sends a report, or gives it back where no place in the ring was seen to be free.
 fn send(ring: &mut Producer<Report>, report: Report) -> Option<Report>
     requires { HasRoom (known_free ring.old) (sent ring.old) }
     ensures all { sent ring.new ++ option_to_list result ≡ sent ring.old ++ report ∷ [] }
@@ -105,7 +105,7 @@ fn send(ring: &mut Producer<Report>, report: Report) -> Option<Report>
     }
 }
 
-// Sends the report that is held, if there is one, or gives it back where the ring is full.
+// Sends the report that is held, if there is one, or gives it back where no place in the ring was seen to be free.
 fn flush(ring: &mut Producer<Report>, held: Option<Report>) -> Option<Report>
     requires { HasRoom (known_free ring.old) (sent ring.old) }
     ensures all { sent ring.new ++ option_to_list result ≡ sent ring.old ++ option_to_list held }
@@ -133,7 +133,7 @@ fn sweep(alloc: Global, job: Job) -> (Turn, Report)
 }
 
 // Gets one job, passes the gate, sweeps it and reports it. It gives the answer of the turn, and the report back where
-// the ring is full. It is None where no job was got.
+// no place in the ring was seen to be free. It is None where no job was got.
 fn work<G: Gate>(
     alloc: Global,
     thief: &mut Thief,
@@ -178,9 +178,11 @@ impl Hand {
     ///
     /// It answers `Worked` where one job was got and swept and its report was sent, `Failed` where there was no memory
     /// to sweep it and that was sent, `Idle` where no job was got, and `RingFull` where a report is held at the end,
-    /// since there is no place in the ring. `specs/Reports.antt` says in `IsTurn` what each means for the hand.
+    /// since no place in the ring was seen to be free. `specs/Reports.antt` says in `IsTurn` what each means for the
+    /// hand.
     pub fn turn<G: Gate>(&mut self, gate: &G) -> Turn
         ensures turn { IsTurn self.old result self.new }
+        ensures few { self.new.free ≤ self.new.ring.0 }
         ensures reported { AreReported self.new.got (reports self.new) }
         ensures same { IsSameHand self.old self.new }
     {

@@ -13,8 +13,9 @@
 //! ```
 //!
 //! The owner and each hand may stand in a thread of its own. [`Owner::push`], [`Owner::collect`] and [`Hand::turn`]
-//! wait for nobody: where its ring is full a hand holds the report, and sends it in a later turn. [`Hand::run`] makes
-//! turns until it reads that a flag is set. A [`Gate`] is passed before each sweep, so that tests can hold a hand up.
+//! wait for nobody: where a hand sees no free place in its ring it holds the report, and sends it in a later turn.
+//! [`Hand::run`] makes turns until it reads that a flag is set. A [`Gate`] is passed before each sweep, so that tests
+//! can hold a hand up.
 //!
 //! What a report is good for is for the caller to judge: a result may come too late, and a job may have failed for want
 //! of memory. Nothing is promised of when a job is got, by which hand, or that a report is collected.

@@ -1,7 +1,7 @@
 //! The owner of the jobs.
 
 ghost use Rattle.std.specs.Prelude.{◌≡◌, ◌≤◌, ◌<◌, [], ◌∷◌, ◌++◌, length, OnOk, OnErr, IfErr, IfSome, IfNone};
-ghost use Rattle.steal_pool.specs.Views.{HasCollected, waiting_of};
+ghost use Rattle.steal_pool.specs.Views.{FewWait, HasCollected, waiting_of};
 
 use crate::report::Report;
 use crate::rule::{Deal, EndView, Pushed};
@@ -67,7 +67,7 @@ impl Owner {
     }
 
     /// The next report in the ring of this hand: the oldest of those that were seen there and not collected yet, if any
-    /// were. Hands count from 0. It waits for nobody.
+    /// were, and never more of these than the ring has places. Hands count from 0. It waits for nobody.
     ///
     /// It is `None` where none is found, so that none is left that was seen, and where there is no such hand. Nothing
     /// has changed then.
@@ -75,6 +75,7 @@ impl Owner {
     pub fn collect(&mut self, hand: usize) -> Option<Report>
         ensures none { IfNone result (self.new ≡ self.old) }
         ensures empty { IfNone result (waiting_of self.new hand ≡ []) }
+        ensures few { FewWait self.new hand }
         ensures some { IfSome result (λ report. hand < length self.old.collected) }
         ensures collected { IfSome result (λ report. HasCollected self.old hand report self.new) }
     {

@@ -1,7 +1,7 @@
 //! Pools.
 
 ghost use Rattle.std.specs.Prelude.{◌≡◌, ◌≤◌, [], length, replicate, IfOk};
-ghost use Rattle.steal_pool.specs.Views.{AreFresh};
+ghost use Rattle.steal_pool.specs.Views.{AreFresh, HasRooms};
 
 use crate::hand::{Hand, Thief};
 use crate::owner::Owner;
@@ -39,6 +39,7 @@ impl Pool {
         ensures collected { IfOk result (λ pool. pool.owner.collected ≡ replicate hands []) }
         ensures waiting { IfOk result (λ pool. pool.owner.waiting ≡ replicate hands []) }
         ensures rings { IfOk result (λ pool. length pool.owner.rings ≡ hands) }
+        ensures rooms { IfOk result (λ pool. HasRooms pool.owner) }
         ensures hands { IfOk result (λ pool. AreFresh pool.owner pool.hands.items) }
     {
         let deque: Worker<Job, Global, EndView, Deal> = Worker::fifo_as(alloc, capacity)?;

@@ -2,7 +2,7 @@ use Rattle.std.proofs.Common.{ℕ, [], Global, arith}
 use Rattle.crossbeam_deque.specs.{Handles.worker_view, declared.handles.Worker.Worker}
 use Rattle.tile_generations.specs.Jobs.{Job}
 use Rattle.steal_pool.specs.{declared.rule.Deal.Deal, declared.rule.EndView.EndView, Names.deque_of, Views.OwnerView}
-use Rattle.steal_pool.proofs.Rings.{none_left, not_popped, popped}
+use Rattle.steal_pool.proofs.Rings.{few_left, none_left, not_popped, popped}
 use Rattle.steal_pool.proofs.owner.Owner.collect.Goals as goal
 
 -- the owner of this deque, without its ends of rings
@@ -29,6 +29,22 @@ returns-in_default-clause-empty c =
     let was = c.self.inside in
     none_left (bare was.deque was.capacity) was.rings.items c.args.hand c.index_mut.result.now c.pop.new.self
     (omega (arith, was.rings.ok.0)) c.index_mut.ensures.value c.pop.ensures.ring.0.2 c.in_default.ensures.empty.1
+
+pub returns-in_default-clause-few : goal.returns-in_default-clause-few
+returns-in_default-clause-few c =
+    let was = c.self.inside in
+    let ring = c.pop.new.self in
+    few_left (bare was.deque was.capacity) was.rings.items c.args.hand c.index_mut.result.now ring
+    (omega (arith, was.rings.ok.0)) c.index_mut.ensures.value c.pop.ensures.ring.0.2
+    (omega (arith, ring.counts, ring.reads.2))
+
+pub returns-clause-few : goal.returns-clause-few
+returns-clause-few c =
+    let was = c.self.inside in
+    let ring = c.pop.new.self in
+    few_left (bare was.deque was.capacity) was.rings.items c.args.hand c.index_mut.result.now ring
+    (omega (arith, was.rings.ok.0)) c.index_mut.ensures.value c.pop.ensures.ring.0.2
+    (omega (arith, ring.counts, ring.reads.2))
 
 pub returns-clause-collected : goal.returns-clause-collected
 returns-clause-collected c =
