@@ -1,5 +1,5 @@
 -- What a page is told that asks what changed: numbers, rectangles, strokes and pixels of one moment.
-use Rattle.std.specs.Prelude.{◌≡◌, ℕ, ◌+◌, ◌<◌, List, [], ◌∷◌, ◌++◌, ◌↔◌, ◌⊎◌, if◌then◌else◌, decimal, Contains, Option}
+use Rattle.std.specs.Prelude.{◌≡◌, ℕ, ◌+◌, ◌<◌, ◌≤◌, List, [], ◌∷◌, ◌++◌, ◌↔◌, ◌⊎◌, if◌then◌else◌, decimal, Contains, Option}
 use Rattle.std.specs.Prelude.{Some, None, flat_map}
 use Rattle.grid_core.specs.{declared.pixel.Pixel.Pixel, declared.rect.Rect.Rect, Raster.Raster, Raster.IsInside}
 use Rattle.grid_core.specs.{Rects.IsInRect, Rects.IsPart, Rects.RectFits, Tiles.tile_of}
@@ -20,20 +20,20 @@ AllFit width height rects = (rect : Rect) → Contains rects rect → RectFits w
 abbrev pub IsCovered : List Rect → Pixel → Type 0
 IsCovered rects p = (rect : Rect) × Contains rects rect × IsInRect rect p
 
--- the second rectangle stands right of the first, with the same rows
-pub record IsContinued (left right : Rect) : Type 0 where
-  pub top : left.y ≡ right.y
-  pub rows : left.h ≡ right.h
-  pub beside : left.x + left.w ≡ right.x
+-- the second rectangle lies below the first, or right of it, with the same rows and a gap between them
+abbrev pub IsBehind : Rect → Rect → Type 0
+IsBehind left right =
+    (left.y + left.h ≤ right.y) ⊎ (left.y ≡ right.y) × (left.h ≡ right.h) × (left.x + left.w < right.x)
 
--- no rectangle continues the one before it, so that tiles beside one another are one rectangle
+-- each rectangle lies behind the one before it: they come from the top, each row from the left, none of them has a
+-- pixel of another one, and tiles beside one another are one rectangle
 abbrev pub AreApart : List Rect → Type 0
 AreApart [] = Unit {0}
 AreApart (rect ∷ []) = Unit {0}
-AreApart (left ∷ (right ∷ rects)) = (IsContinued left right → ⊥) × AreApart (right ∷ rects)
+AreApart (left ∷ (right ∷ rects)) = IsBehind left right × AreApart (right ∷ rects)
 
--- the rectangles hold the pixels of the tiles that changed after this step, and no other pixel; and none of them
--- continues the one before it
+-- the rectangles hold the pixels of the tiles that changed after this step, and no other pixel; and each of them lies
+-- behind the one before it
 pub record AreRectsSince (b : PageBoard) (since : ℕ) (rects : List Rect) : Type 0 where
   pub fit : AllFit b.core.mask.width b.core.mask.height rects
   pub cover : (p : Pixel) → IsInside b.core.mask.width b.core.mask.height p

@@ -3,8 +3,8 @@
 ghost use Rattle.std.specs.Prelude.{◌≡◌, ◌+◌, ◌^◌, ◌<◌, ◌↔◌, length, IsTrue, IfOk, OnOk};
 ghost use Rattle.grid_core.specs.Rects.{RectFits};
 ghost use Rattle.grid_core.specs.Tiles.{count_of};
-ghost use Rattle.page_board.specs.Changes.{AllFit, IsContinued};
-ghost use Rattle.page_board.specs.Strips.{AreStrips, IsAdded, joined};
+ghost use Rattle.page_board.specs.Changes.{AllFit};
+ghost use Rattle.page_board.specs.Strips.{AreStrips, IsAdded, IsContinued, joined};
 
 use grid_core::{Memory, Rect, Tiling};
 use std::alloc::Global;
