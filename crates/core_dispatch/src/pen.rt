@@ -19,7 +19,7 @@ pub struct Pen {
     ghost room: { ring_room ≤ known_free producer + length (sent producer) },
 }
 
-/// An edit that was not submitted, since the pen's ring is full.
+/// An edit that was not submitted, since no place in the pen's ring was seen to be free.
 #[derive(Drop)]
 pub struct Full(pub Delta);
 
