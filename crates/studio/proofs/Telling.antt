@@ -45,6 +45,9 @@ announced_next old mid s is = ap whole is ∙ next_at None old s
 pub confirmed_next : (mid new : List Entry) → new ≡ mid ++ Confirmed ∷ [] → confirmed new ≡ whole mid
 confirmed_next mid new is = ap confirmed is
 
+-- what a show does to the history
+pub ruleset one_shown = (announced, announced_next, confirmed_next)
+
 -- no entry confirms more than a confirmation
 entry_at : (p : Option Shot) (xs : List Entry) (e : Entry)
     → IsPrefix (confirmed_from p (xs ++ e ∷ [])) (confirmed_from p (xs ++ Confirmed ∷ []))

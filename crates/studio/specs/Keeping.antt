@@ -5,7 +5,8 @@ use Rattle.core_rules.specs.Work.{Core, IsQuiet}
 use Rattle.steal_pool.specs.Views.{OwnerView}
 use Rattle.core_dispatch.specs.{Books.BooksView, declared.dispatcher.Dispatcher.Dispatcher}
 use Rattle.core_dispatch.specs.Dispatching.{books_by, owner_by, core_by}
-use Rattle.studio.specs.{Shots.Shot, Words.shown_by, Words.publisher_studio, declared.keeper.Keeper.Keeper}
+use Rattle.studio.specs.{Shots.Shot, Words.shown_by, Words.publisher_studio, Words.ShowsTold}
+use Rattle.studio.specs.{declared.keeper.Keeper.Keeper, declared.shots.told.Told.Told}
 
 -- who takes turns for the keeper
 abbrev pub dispatcher_of : Keeper → Dispatcher
@@ -40,6 +41,10 @@ pub record IsShotOf (core : Core) (shot : Shot) : Type 0 where
 -- a shot of the core as it is was shown after all others
 abbrev pub ShowsOneMore : Keeper → Keeper → Type 0
 ShowsOneMore old new = (shot : Shot) × IsShotOf (core_of old) shot × (chain_of new ≡ chain_of old ++ shot ∷ [])
+
+-- no eye looks in vain for having learnt of this receipt
+abbrev pub HasShown : Keeper → Told → Type 0
+HasShown k told = ShowsTold k.publisher told
 
 -- nothing was shown, and the studio is the same
 pub record IsUntouched (old new : Keeper) : Type 0 where

@@ -1,7 +1,7 @@
 -- What a studio is when it is opened.
 use Rattle.std.specs.Prelude.{◌≡◌, ℕ, ◌<◌, ◌≤◌, List, [], ◌∷◌, ◌++◌, length, map, replicate, All}
 use Rattle.core_rules.specs.Work.{Core}
-use Rattle.steal_pool.specs.Views.{OwnerView, AreFresh}
+use Rattle.steal_pool.specs.Views.{OwnerView, AreFresh, HasRooms}
 use Rattle.core_dispatch.specs.{Books.BooksView, Books.ledger, Pens.submitted, Pens.HasItsDesk}
 use Rattle.core_dispatch.specs.{declared.dispatcher.Dispatcher.Dispatcher, Dispatching.core_by}
 use Rattle.studio.specs.{declared.shots.eye.Eye.Eye, Shots.Shot, declared.shots.publisher.Publisher.Publisher}
@@ -16,13 +16,15 @@ IsCount n = (1 ≤ n) × (n ≤ 16)
 abbrev pub AreCounts : ℕ → ℕ → ℕ → Type 0
 AreCounts pens hands eyes = IsCount pens × IsCount hands × IsCount eyes
 
--- the owner of a pool of so many hands has pushed, seen and collected nothing, and its first 4,096 pushes succeed
+-- the owner of a pool of so many hands has pushed, seen and collected nothing, its first 4,096 pushes succeed, and each
+-- ring that it reads has 64 places
 pub record IsNewOwner (hands : ℕ) (owner : OwnerView) : Type 0 where
   pub pushed : owner.pushed ≡ []
   pub capacity : owner.capacity ≡ 4096
   pub collected : owner.collected ≡ replicate hands []
   pub waiting : owner.waiting ≡ replicate hands []
   pub rings : length owner.rings ≡ hands
+  pub rooms : HasRooms owner
 
 -- the keeper showed the core once
 abbrev pub HasShownOnce : Keeper → Core → Type 0

@@ -33,6 +33,10 @@ glimpsed_by g = whole g.reading.part.value.prefix.reached.log
 abbrev pub IsAbreast : Publisher → Eye → Type 0
 IsAbreast p e = length e.learnt.reached.log ≤ length p.writer.desk.shown.value.prefix.reached.log + 1
 
+-- what is published lacks at most the last entry of what was told: no eye looks in vain for having learnt it
+abbrev pub ShowsTold : Publisher → Told → Type 0
+ShowsTold p t = length t.prefix.reached.log ≤ length p.writer.desk.shown.value.prefix.reached.log + 1
+
 -- the shot that is glimpsed
 abbrev pub shot_by : Glimpse → Shot
 shot_by g = arc_value g.reading.part.value.shot

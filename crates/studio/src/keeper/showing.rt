@@ -4,7 +4,8 @@ ghost use Rattle.std.specs.Prelude.{◌≡◌, ◌≤◌, true, IfOk, IfErr, OnO
 ghost use Rattle.std.specs.Arc.{arc_value};
 ghost use Rattle.studio.specs.Shots.{IsSound};
 ghost use Rattle.studio.specs.Words.{told_by, told_studio};
-ghost use Rattle.studio.specs.Keeping.{core_of, books_of, owner_of, chain_of, studio_of, IsShotOf, ShowsOneMore};
+ghost use Rattle.studio.specs.Keeping.{core_of, books_of, owner_of, chain_of, studio_of};
+ghost use Rattle.studio.specs.Keeping.{HasShown, IsShotOf, ShowsOneMore};
 ghost use Rattle.studio.specs.declared.refused.OpenError.TheVariants as errors;
 ghost use Rattle.studio.specs.Opening.{IsFirst, IsEyeOf, AreEyesOf, HasOneMore, ShowsTheSame};
 
@@ -90,6 +91,7 @@ impl Keeper {
         ensures shown { MatchResult result (λ _. ShowsOneMore self.old self.new)
             (λ _. chain_of self.new ≡ chain_of self.old) }
         ensures told { IfOk result (λ told. told_by told ≡ chain_of self.new) }
+        ensures abreast { IfOk result (HasShown self.new) }
         ensures told_studio { IfOk result (λ told. told_studio told ≡ studio_of self.old) }
         ensures studio { studio_of self.new ≡ studio_of self.old }
         ensures books { books_of self.new ≡ books_of self.old }

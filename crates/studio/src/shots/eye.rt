@@ -53,8 +53,8 @@ impl Eye {
 
     /// Looks at the shot that was shown last. It takes no memory, and waits for nobody.
     ///
-    /// Errors: the eye as it was, where the studio is closed; by its clauses also where what is published lacks more
-    /// than one entry of what the eye was told, which nothing brings about.
+    /// Errors: the eye as it was, where the studio is closed; also where what is published lacks more than one entry of
+    /// what the eye was told, which nothing brings about. No clause of a look says when they come.
     pub fn look(self) -> Result<Glimpse, Eye>
         ensures chain { IfOk result (λ g. IsChain (glimpsed_by g)) }
         ensures last { IfOk result (λ g. last_of (glimpsed_by g) ≡ Some (shot_by g)) }

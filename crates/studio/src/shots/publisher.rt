@@ -55,7 +55,7 @@ impl Publisher {
     ghost use Rattle.studio.specs.Shots.{IsSound};
     ghost use Rattle.studio.specs.Chains.{MayFollow};
     ghost use Rattle.studio.specs.Words.{shown_by, last_by, told_by, seen_by, learnt_by};
-    ghost use Rattle.studio.specs.Words.{publisher_studio, told_studio, eye_studio, IsAbreast};
+    ghost use Rattle.studio.specs.Words.{publisher_studio, told_studio, eye_studio, IsAbreast, ShowsTold};
 
     /// A studio whose chain is one shot, with places for so many eyes, 1 to 16.
     ///
@@ -100,13 +100,14 @@ impl Publisher {
     /// later one. It may wait for glimpses that are held.
     ///
     /// Errors: out of memory, or 2^62 entries of the history are used up, two a shot. The chain is as it was then.
-    #[tactic(auto, using(crate::proofs::Telling::announced, crate::proofs::Telling::announced_next, crate::proofs::Telling::confirmed_next))]
+    #[tactic(auto, using(crate::proofs::Telling::one_shown))]
     pub fn show<R: Wait>(&mut self, rt: &R, shot: Shot) -> Result<Told, Memory>
         requires next { MayFollow (last_by self.old) shot }
         ensures chain { MatchResult result (λ _. shown_by self.new ≡ shown_by self.old ++ shot ∷ [])
             (λ _. shown_by self.new ≡ shown_by self.old) }
         ensures last { MatchResult result (λ _. last_by self.new ≡ shot) (λ _. last_by self.new ≡ last_by self.old) }
         ensures told { IfOk result (λ t. told_by t ≡ shown_by self.new) }
+        ensures abreast { IfOk result (ShowsTold self.new) }
         ensures told_studio { IfOk result (λ t. told_studio t ≡ publisher_studio self.old) }
         ensures studio { publisher_studio self.new ≡ publisher_studio self.old }
     {

@@ -23,6 +23,7 @@ returns-in-Ok-eyes-clause-over g c =
             collected = pool.collected;
             waiting = pool.waiting;
             rings = pool.rings;
+            rooms = pool.rooms;
           });
       shown =
           shown_once_kept c.in-Ok-open.keeper c.eyes.new.self _ c.args.books.core kept
