@@ -24,8 +24,7 @@ IsRefusal conn print datagram errors.Device = ⊥
 IsRefusal conn print datagram errors.Memory = length datagram ≤ max_bytes
 
 -- the answer to a datagram, where these edits were submitted before, and these afterwards: the strokes and tombstones
--- that it spells for this image are submitted; or the pen's ring is full, as it never is for the first 64; or it is
--- refused
+-- that it spells for this image are submitted; or they are dropped, as none of a pen's first 64 is; or it is refused
 abbrev pub IsAnswer : Conn → List ℕ → List State → List State → List ℕ → Heard → Type 0
 IsAnswer conn print before after datagram heards.Nothing = ⊥
 IsAnswer conn print before after datagram heards.Submitted =

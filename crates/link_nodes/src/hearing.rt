@@ -2,10 +2,11 @@
 
 ghost use Rattle.std.specs.Prelude.{◌≡◌, ◌⊎◌, ℕ, ◌≤◌, List, length};
 ghost use Rattle.grid_core.specs.declared.conn.Conn.{Conn as Neighbours};
-ghost use Rattle.core_dispatch.specs.Pens.{submitted, KeepsDesk};
+ghost use Rattle.core_dispatch.specs.Pens.{submitted, free_places, KeepsDesk};
 ghost use Rattle.spd_codec.specs.{Spelling.SpellsFrame, Spelling.max_bytes, Faults.IsFault};
 ghost use Rattle.spd_codec.specs.declared.error.SpdError.TheVariants as faults;
 ghost use Rattle.link_nodes.specs.Hearing.{Hears, IsAnswer, IsRefusal};
+ghost use Rattle.link_nodes.specs.declared.ticked.Heard.TheVariants as heards;
 
 use crate::error::NodeError;
 use crate::link::{BUFFER_BYTES, Link};
@@ -27,6 +28,7 @@ pub(crate) fn hear<L: Link>(
 ) -> Heard
     ensures heard { Hears conn print.now (submitted pen.old) (submitted pen.new) (L.seen link.old)
         (L.seen link.new) result }
+    ensures full { result ≡ heards.Full → free_places pen.new ≡ 0 }
     ensures desk { KeepsDesk pen.old pen.new }
 {
     let mut buffer = [0; BUFFER_BYTES];
@@ -40,6 +42,7 @@ pub(crate) fn hear<L: Link>(
 // Submits the strokes that a datagram spells.
 fn answer(alloc: Global, datagram: &[u8], conn: Conn, print: &Print, pen: &mut Pen) -> Heard
     ensures answer { IsAnswer conn print.now (submitted pen.old) (submitted pen.new) datagram.now result }
+    ensures full { result ≡ heards.Full → free_places pen.new ≡ 0 }
     ensures desk { KeepsDesk pen.old pen.new }
 {
     match decode(alloc, datagram) {
@@ -65,6 +68,7 @@ fn refusal(fault: SpdError) -> NodeError
 fn submit(frame: Frame, conn: Conn, print: &Print, pen: &mut Pen) -> Heard
     ensures answer { (datagram : List ℕ) → SpellsFrame datagram frame
         → IsAnswer conn print.now (submitted pen.old) (submitted pen.new) datagram result }
+    ensures full { result ≡ heards.Full → free_places pen.new ≡ 0 }
     ensures desk { KeepsDesk pen.old pen.new }
 {
     if !frame.is_for(conn, print) {

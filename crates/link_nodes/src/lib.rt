@@ -17,8 +17,8 @@
 //! once, in whatever order, and maybe some of them twice, has the state.
 //!
 //! Frames for another image are refused, and so are bytes that are no frame: only strokes that a frame for this image
-//! spells reach the pen. Where the pen's ring is full they are dropped, as if the datagram was lost. What a node
-//! refuses is a [`NodeError`], whose codes are D1 to D4, and changes nothing.
+//! spells reach the pen. Where no place in the pen's ring is seen to be free they are dropped, as if the datagram was
+//! lost. What a node refuses is a [`NodeError`], whose codes are D1 to D4, and changes nothing.
 //!
 //! No call waits for anybody. Nothing is promised of whether a datagram arrives.
 //!

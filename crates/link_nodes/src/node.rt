@@ -30,6 +30,8 @@ pub struct Node {
 }
 
 impl Node {
+    ghost use Rattle.core_dispatch.specs.Pens.{free_places};
+    ghost use Rattle.link_nodes.specs.declared.ticked.Heard.TheVariants as heards;
     ghost use Rattle.link_nodes.specs.Sending.{HasPiece, IsNext};
     ghost use Rattle.link_nodes.specs.Ticking.{SendsNext, Ticks, HasLooked};
     ghost use Rattle.link_nodes.specs.Nodes.{pen_of, eye_of, conn_of, print_of, last_sent, vain_looks};
@@ -71,10 +73,12 @@ impl Node {
     /// such. It waits for nobody.
     ///
     /// What is refused changes nothing: D1 for a frame of another image, D2 for other bytes, with the reason (M6 for
-    /// more than 1400 bytes), D3 where the link failed, D4 for want of memory. Strokes for which the pen's ring has no
-    /// place are dropped. A piece that was not sent is the next one still. A look that gives no glimpse is counted.
+    /// more than 1400 bytes), D3 where the link failed, D4 for want of memory. Strokes for which no place in the pen's
+    /// ring is seen to be free are dropped. A piece that was not sent is the next one still. A look that gives no
+    /// glimpse is counted.
     pub fn tick<L: Link>(&mut self, alloc: Global, link: &mut L) -> Ticked
         ensures ticks { Ticks self.old self.new (L.seen link.old) (L.seen link.new) result }
+        ensures full { result.heard ≡ heards.Full → free_places (pen_of self.new) ≡ 0 }
         ensures looked { HasLooked self.old self.new }
     {
         let heard = hear(alloc, link, self.conn, &self.print, &mut self.pen);

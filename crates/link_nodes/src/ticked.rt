@@ -9,7 +9,7 @@ pub enum Heard {
     Nothing,
     /// The strokes and tombstones of the datagram were submitted.
     Submitted,
-    /// The datagram is a frame for this image, and was dropped, since the pen's ring is full.
+    /// The datagram is a frame for this image, and was dropped, since no place in the pen's ring was seen to be free.
     Full,
     /// The datagram was refused: D1, D2 or D4; or the link failed: D3.
     Refused(NodeError),
