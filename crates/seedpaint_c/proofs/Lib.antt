@@ -1,0 +1,1 @@
+-- The lemmas of this crate: there are none.

@@ -1,0 +1,97 @@
+//! Answers in buffers that the caller lends.
+
+ghost use Rattle.std.specs.Prelude.{◌≡◌, ◌≤◌, ◌++◌, drop, length};
+ghost use Rattle.run_faults.specs.RunError.{HasStatus};
+ghost use Rattle.seedpaint_c.specs.Buffers.{SaysFault, StartsWith};
+
+use crate::codes::{NO_MEMORY, NO_ROOM, OK, REFUSED};
+use run_faults::{RunError, fault_line, status};
+use std::alloc::Global;
+
+/// How many bytes an answer has: those of the image file, of the new state file, and of the line of a fault. What an
+/// answer does not have has length 0.
+///
+/// Where a buffer is too short, its length is the one that it has to have.
+#[repr(C)]
+#[derive(Drop)]
+pub struct Lengths {
+    pub out: usize,
+    pub state: usize,
+    pub fault: usize,
+}
+
+/// Nothing is answered yet.
+pub(crate) fn clear(lengths: &mut Lengths)
+    ensures out { lengths.new.out ≡ 0 }
+    ensures state { lengths.new.state ≡ 0 }
+    ensures fault { lengths.new.fault ≡ 0 }
+{
+    lengths.out = 0;
+    lengths.state = 0;
+    lengths.fault = 0;
+}
+
+/// Puts a text into the front of a buffer, where it fits, and says how long it is.
+pub(crate) fn hand_out(text: &[u8], buffer: &mut [u8], count: &mut usize) -> u32
+    ensures put { result ≡ 0 → StartsWith buffer.old buffer.new count.new text.now }
+    ensures long { (result ≡ 0 → ⊥) → count.new ≡ length text.now }
+    ensures untouched { (result ≡ 0 → ⊥) → buffer.new ≡ buffer.old }
+{
+    *count = text.len();
+    if text.len() > buffer.len() {
+        return NO_ROOM;
+    }
+    put(text, buffer);
+    OK
+}
+
+/// Puts two texts into the fronts of two buffers, where both fit, and says how long they are.
+pub(crate) fn hand_out_both(
+    text: &[u8],
+    new: &[u8],
+    out: &mut [u8],
+    state: &mut [u8],
+    lengths: &mut Lengths,
+) -> u32
+    ensures out { result ≡ 0 → StartsWith out.old out.new lengths.new.out text.now }
+    ensures state { result ≡ 0 → StartsWith state.old state.new lengths.new.state new.now }
+    ensures untouched { (result ≡ 0 → ⊥) → (out.new ≡ out.old) × (state.new ≡ state.old) }
+{
+    lengths.out = text.len();
+    lengths.state = new.len();
+    if text.len() > out.len() || new.len() > state.len() {
+        return NO_ROOM;
+    }
+    put(text, out);
+    put(new, state);
+    OK
+}
+
+// Puts a text into the front of a buffer.
+fn put(text: &[u8], buffer: &mut [u8])
+    requires { length text.now ≤ length buffer.old }
+    ensures { buffer.new ≡ text.now ++ drop (length text.now) buffer.old }
+{
+    buffer[..text.len()].copy_from_slice(text);
+}
+
+/// Puts the line of a fault into the front of a buffer, where it fits and there is memory to make it, and answers
+/// [`REFUSED`] where the program ends with status 1, else [`NO_MEMORY`].
+pub(crate) fn tell(
+    alloc: Global,
+    error: &RunError,
+    buffer: &mut [u8],
+    count: &mut usize,
+) -> u32
+    ensures refused { result ≡ 1 → HasStatus error.now result }
+    ensures some { result ≡ 0 → ⊥ }
+    ensures line { SaysFault buffer.old buffer.new count.new error.now }
+{
+    if let Ok(line) = fault_line(alloc, error) {
+        let _ = hand_out(line.as_bytes(), buffer, count);
+    }
+    match status(error) {
+        1 => REFUSED,
+        _ => NO_MEMORY,
+    }
+}

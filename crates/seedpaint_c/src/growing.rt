@@ -1,0 +1,76 @@
+//! Growing in the caller's cells.
+
+ghost use Rattle.std.specs.Prelude.{◌≡◌};
+ghost use Rattle.raster_sweeps.specs.Growth.{CanClose, rows_of};
+ghost use Rattle.raster_sweeps.specs.Regrowth.{IsRegrown};
+ghost use Rattle.seedpaint_c.specs.Cells.{HoldsUnder, all_pixels, image_of};
+
+use crate::cells::{are_below, fault_of_size};
+use crate::codes::{ABOVE_MASK, BAD_CONNECTIVITY, BAD_LENGTH, NO_MEMORY, OK};
+use grid_core::{Conn, Rect};
+use raster_sweeps::steps::{Size, Waiting, close};
+use std::alloc::Global;
+
+/// Raises an image until it is the reconstruction by dilation of `mask` from what it was (Vincent 1993), in place.
+///
+/// `mask` and `image` have `w * h` cells each, row by row from the top, each row from the left. `conn` is 4 or 8, the
+/// number of neighbours of a pixel. It takes memory of about half a bit a pixel, and copies neither of both.
+///
+/// It answers 0, or why the image is as it was: that `conn` is another number, that no image has such sides, that there
+/// are more or fewer cells, that the image is above the mask somewhere, or want of memory.
+#[unsafe(no_mangle)]
+pub extern "C" fn seedpaint_grow(
+    alloc: Global,
+    mask: &[u16],
+    image: &mut [u16],
+    w: u32,
+    h: u32,
+    conn: u32,
+) -> u32
+    ensures grown { result ≡ 0 → HoldsUnder conn
+        (λ c. IsRegrown c (image_of w h mask.now) (image_of w h image.old) (image_of w h image.new)) }
+    ensures untouched { (result ≡ 0 → ⊥) → image.new ≡ image.old }
+{
+    match conn {
+        4 => grow_cells(alloc, mask, image, w, h, Conn::Four),
+        8 => grow_cells(alloc, mask, image, w, h, Conn::Eight),
+        _ => BAD_CONNECTIVITY,
+    }
+}
+
+// The same under a connectivity.
+fn grow_cells(alloc: Global, mask: &[u16], image: &mut [u16], w: u32, h: u32, conn: Conn) -> u32
+    ensures grown { result ≡ 0
+        → IsRegrown conn (image_of w h mask.now) (image_of w h image.old) (image_of w h image.new) }
+    ensures untouched { (result ≡ 0 → ⊥) → image.new ≡ image.old }
+{
+    let fault = fault_of_size(image, w, h);
+    if fault != OK {
+        return fault;
+    }
+    if mask.len() != image.len() {
+        return BAD_LENGTH;
+    }
+    if !are_below(image, mask) {
+        return ABOVE_MASK;
+    }
+    let Ok(mut waiting) = Waiting::for_rows(alloc, w, h) else {
+        return NO_MEMORY;
+    };
+    grow_rows(mask, image, Size { w, h }, conn, &mut waiting);
+    OK
+}
+
+// Raises whole rows until they are the reconstruction.
+fn grow_rows(mask: &[u16], image: &mut [u16], size: Size, conn: Conn, waiting: &mut Waiting)
+    requires { CanClose (all_pixels size) (rows_of size mask.now) (rows_of size image.old) }
+    ensures { IsRegrown conn (rows_of size mask.now) (rows_of size image.old) (rows_of size image.new) }
+{
+    let all = Rect {
+        x: 0,
+        y: 0,
+        w: size.w,
+        h: size.h,
+    };
+    close(mask, image, size, all, conn, waiting);
+}
