@@ -34,7 +34,7 @@ extern "C" {
 /* What a function answers. Unless it is SEEDPAINT_OK, images, `out` and `state` are as they were. */
 enum seedpaint_code {
     SEEDPAINT_OK = 0,
-    SEEDPAINT_REFUSED = 1,          /* an input, lines or a state file are refused: `fault` has the line that says why */
+    SEEDPAINT_REFUSED = 1,          /* what is read is refused: `fault` has the line that says why */
     SEEDPAINT_BAD_CONNECTIVITY = 2, /* it is neither 4 nor 8 */
     SEEDPAINT_NO_MEMORY = 3,        /* out of memory */
     SEEDPAINT_NO_ROOM = 4,          /* `out` or `state` is too short: the lengths say how long each has to be */

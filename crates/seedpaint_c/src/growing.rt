@@ -14,7 +14,7 @@ use std::alloc::Global;
 /// Raises an image until it is the reconstruction by dilation of `mask` from what it was (Vincent 1993), in place.
 ///
 /// `mask` and `image` have `w * h` cells each, row by row from the top, each row from the left. `conn` is 4 or 8, the
-/// number of neighbours of a pixel. It takes memory of about half a bit a pixel, and copies neither of both.
+/// number of neighbours of a pixel. It takes memory of about half a byte a pixel, and copies neither of both.
 ///
 /// It answers 0, or why the image is as it was: that `conn` is another number, that no image has such sides, that there
 /// are more or fewer cells, that the image is above the mask somewhere, or want of memory.

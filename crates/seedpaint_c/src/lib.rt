@@ -4,9 +4,9 @@
 //! `seedpaint.h` beside this crate declares each function for C, and says what a caller owes: pointers that are not
 //! null, cells that lie at even addresses, and buffers of which none overlaps another.
 //!
-//! No function asks anything of the values that it is given: each is tested inside. Each answers 0, or one of [`codes`],
-//! which says why nothing was done: then what the caller lent for the answer is as it was, but for the lengths and the
-//! line of a fault where a function has these.
+//! No function asks anything of the values that it is given: each is tested inside. Each answers one of [`codes`],
+//! where all but 0 say why nothing was done: then what the caller lent for the answer is as it was, but for lengths and
+//! the line of a fault where a function has these.
 //!
 //! - [`growing`] raises an image in place, in the caller's cells: the reconstruction by dilation of a mask (Vincent,
 //!   "Morphological Grayscale Reconstruction in Image Analysis", 1993). It copies neither of the two.

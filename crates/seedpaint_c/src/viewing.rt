@@ -24,7 +24,7 @@ const SIDE: u32 = 64;
 /// Shows an input, which is edit lines, a line `image` and a PGM file: puts the raw PGM file of the reconstruction by
 /// dilation of its mask from its live strokes (Vincent 1993) into the front of `out`. `conn` is 4 or 8.
 ///
-/// It answers 0, or why `out` is as it was: that `conn` is another number; that the input is refused, or want of memory,
+/// It answers 0, or why `out` is as it was: that `conn` is another number; that the input is refused, or no memory,
 /// where the front of `fault` has the line that the program would write, without an LF, if it fits; or that `out` is
 /// too short. `lengths` tells how long the file and the line are.
 #[unsafe(no_mangle)]

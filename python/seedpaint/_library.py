@@ -1,0 +1,204 @@
+"""The shared library, and its functions as this package calls them.
+
+Each wrapper takes arrays and bytes that are fit for the library, keeps them
+alive while it runs, and turns its answer into a result or an exception. ctypes
+lets go of the interpreter's lock during a call.
+"""
+
+from __future__ import annotations
+
+import ctypes
+import os
+import pathlib
+
+import numpy
+
+from seedpaint.errors import Fault
+
+OK, REFUSED, BAD_CONNECTIVITY, NO_MEMORY, NO_ROOM, BAD_SIZE, BAD_LENGTH, ABOVE_MASK = (
+    range(8)
+)
+MAX_SIDE = 16384
+MAX_PIXELS = 1 << 26
+MAX_LEVEL = 65535
+
+_FAULT_BYTES = 64
+_HEADER_BYTES = 20  # (the longest header of a raw PGM file)
+
+
+class Lengths(ctypes.Structure):
+    """How many bytes an answer has."""
+
+    _fields_ = [(name, ctypes.c_size_t) for name in ("out", "state", "fault")]
+
+
+_CELLS = [ctypes.c_void_p, ctypes.c_size_t]  # (a slice: a pointer and a length)
+_BYTES = [ctypes.c_void_p, ctypes.c_size_t]
+_SIDES = [ctypes.c_uint32, ctypes.c_uint32]
+_CONN = [ctypes.c_uint32]
+_LENGTHS = [ctypes.POINTER(Lengths)]
+
+_ARGUMENTS = {
+    "seedpaint_grow": _CELLS + _CELLS + _SIDES + _CONN,
+    "seedpaint_fill": _CELLS + _SIDES + _CONN,
+    "seedpaint_hmax": _CELLS + _SIDES + [ctypes.c_uint16] + _CONN,
+    "seedpaint_regmax": _CELLS + _SIDES + _CONN,
+    "seedpaint_view": _BYTES + _CONN + 2 * _BYTES + _LENGTHS,
+    "seedpaint_view_kept": 2 * _BYTES + _CONN + 3 * _BYTES + _LENGTHS,
+    "seedpaint_merge": 3 * _BYTES + _SIDES + _CONN + 2 * _BYTES + _LENGTHS,
+}
+
+
+def _load():
+    """The shared library beside this file, or the one SEEDPAINT_LIBRARY names."""
+    beside = pathlib.Path(__file__).with_name("libseedpaint.so")
+    library = ctypes.CDLL(os.environ.get("SEEDPAINT_LIBRARY") or str(beside))
+    for name, arguments in _ARGUMENTS.items():
+        function = getattr(library, name)
+        function.argtypes = arguments
+        function.restype = ctypes.c_uint32
+    return library
+
+
+_library = _load()
+
+
+# ---- Arrays ----
+
+
+def grow(mask, image, conn):
+    """Grow an image in place, and answer the code.
+
+    Both are arrays of uint16, C-contiguous and aligned, of one shape.
+    """
+    h, w = image.shape
+    return _library.seedpaint_grow(
+        mask.ctypes.data, mask.size, image.ctypes.data, image.size, w, h, conn
+    )
+
+
+def fill(image, conn):
+    """Fill the holes of an image in place, and answer the code."""
+    h, w = image.shape
+    return _library.seedpaint_fill(image.ctypes.data, image.size, w, h, conn)
+
+
+def hmax(image, height, conn):
+    """Cut the domes of an image down in place, and answer the code."""
+    h, w = image.shape
+    return _library.seedpaint_hmax(image.ctypes.data, image.size, w, h, height, conn)
+
+
+def regmax(image, conn):
+    """Mark the regional maxima of an image in place, and answer the code."""
+    h, w = image.shape
+    return _library.seedpaint_regmax(image.ctypes.data, image.size, w, h, conn)
+
+
+# ---- Bytes ----
+
+
+def view(data: bytes, conn: int, pixels: int) -> bytes:
+    """The raw PGM file that an input shows, of a mask of so many pixels."""
+    fault = _Buffer(_FAULT_BYTES)
+    lengths = Lengths()
+    room = _HEADER_BYTES + 2 * pixels
+    while True:
+        out = _Buffer(room)
+        code = _library.seedpaint_view(
+            data, len(data), conn, *out.slice, *fault.slice, ctypes.byref(lengths)
+        )
+        if code != NO_ROOM:
+            break
+        room = lengths.out
+    judge(code, fault.front(lengths.fault))
+    return out.front(lengths.out)
+
+
+def view_kept(data: bytes, old: bytes, conn: int, pixels: int) -> tuple[bytes, bytes]:
+    """The raw PGM file that an input shows over a state file, and its new bytes."""
+    fault = _Buffer(_FAULT_BYTES)
+    lengths = Lengths()
+    room = _HEADER_BYTES + 2 * pixels
+    state_room = _state_room(old, max(len(data) - pixels, 0))
+    while True:
+        out, state = _Buffer(room), _Buffer(state_room)
+        code = _library.seedpaint_view_kept(
+            *(data, len(data), old, len(old), conn),
+            *(*out.slice, *state.slice, *fault.slice),
+            ctypes.byref(lengths),
+        )
+        if code != NO_ROOM:
+            break
+        room, state_room = lengths.out, lengths.state
+    judge(code, fault.front(lengths.fault))
+    return out.front(lengths.out), state.front(lengths.state)
+
+
+def merge(edits: bytes, old: bytes, fingerprint: bytes, shape, conn: int) -> bytes:
+    """The bytes of a state file with the strokes of edit lines joined in."""
+    h, w = shape
+    fault = _Buffer(_FAULT_BYTES)
+    lengths = Lengths()
+    room = _state_room(old, len(edits))
+    while True:
+        state = _Buffer(room)
+        code = _library.seedpaint_merge(
+            *(edits, len(edits), old, len(old), fingerprint, len(fingerprint)),
+            *(w, h, conn, *state.slice, *fault.slice),
+            ctypes.byref(lengths),
+        )
+        if code != NO_ROOM:
+            break
+        room = lengths.state
+    judge(code, fault.front(lengths.fault))
+    return state.front(lengths.state)
+
+
+class _Buffer:
+    """Bytes that the library writes. It is never empty, so it has an address."""
+
+    def __init__(self, room):
+        self._array = numpy.empty(max(room, 1), dtype=numpy.uint8)
+        self.slice = (self._array.ctypes.data, self._array.size)
+
+    def front(self, count) -> bytes:
+        """The first bytes, where the library wrote so many."""
+        return self._array[: min(count, self._array.size)].tobytes()
+
+
+def _state_room(old, more):
+    """Room that a state file mostly fits into, of old bytes and of more text."""
+    return 1024 + len(old) + len(old) // 8 + min(more, 1 << 20)
+
+
+# ---- Answers ----
+
+
+def judge(code: int, line: bytes = b"") -> None:
+    """Raise what an answer says, where it is not 0.
+
+    Raises
+    ------
+    Fault
+        Where what was read is refused.
+    MemoryError
+        Where memory is wanting.
+    ValueError
+        Where an argument is refused.
+    """
+    if code == OK:
+        return
+    if code == REFUSED:
+        raise Fault(line.decode("ascii", "replace"))
+    if code == NO_MEMORY:
+        raise MemoryError("out of memory")
+    raise ValueError(_SENTENCES.get(code, f"the library answered {code}"))
+
+
+_SENTENCES = {
+    BAD_CONNECTIVITY: "connectivity is 4 or 8",
+    BAD_SIZE: "an image has sides from 1 to 16384, and at most 2**26 pixels",
+    BAD_LENGTH: "there are not as many cells as pixels",
+    ABOVE_MASK: "the image is above the mask somewhere",
+}

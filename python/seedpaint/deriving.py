@@ -1,0 +1,161 @@
+"""Images that are derived from one image."""
+
+from __future__ import annotations
+
+import numpy
+
+from seedpaint import _arrays, _library
+
+__all__ = ["fill_holes", "h_maxima_reconstruction", "regional_maxima"]
+
+
+def fill_holes(image, *, connectivity: int | None = None) -> numpy.ndarray:
+    """Fill the holes of an image.
+
+    Each pixel becomes the least level at which a path leads from it to the
+    border of the image, with no value on the path above that level [1]_. A
+    dark spot that brighter pixels enclose is filled up to the lowest way out.
+
+    Parameters
+    ----------
+    image : (H, W) array of integers or bool
+        Values are 0 to 65535; H and W are 1 to 16384, H * W at most 2**26.
+    connectivity : {1, 2, 4, 8}, optional
+        The neighbours along which paths lead: 1 or 4 for an edge, 2 or 8 for
+        an edge or a corner. 8 where none is given.
+
+    Returns
+    -------
+    (H, W) array
+        A new image of the same type.
+
+    Raises
+    ------
+    TypeError, ValueError, MemoryError
+        As `reconstruction` raises them.
+
+    Notes
+    -----
+    The neighbours are those of the ways out. `scipy.ndimage.binary_fill_holes`
+    has 4 of them by default.
+
+    References
+    ----------
+    .. [1] P. Soille, "Morphological Image Analysis", Springer.
+
+    Examples
+    --------
+    >>> import numpy
+    >>> ring = numpy.array([[5, 5, 5], [5, 1, 4], [5, 5, 5]], dtype=numpy.uint8)
+    >>> fill_holes(ring, connectivity=4)
+    array([[5, 5, 5],
+           [5, 4, 4],
+           [5, 5, 5]], dtype=uint8)
+    """
+    conn = _arrays.connectivity_of(connectivity)
+    image = _arrays.integer_image("image", image)
+    cells = _arrays.cells_of(image)
+    _library.judge(_library.fill(cells, conn))
+    return _as(cells, image)
+
+
+def h_maxima_reconstruction(
+    image, h: int, *, connectivity: int | None = None
+) -> numpy.ndarray:
+    """Cut the domes of an image down: reconstruct it from itself less `h`.
+
+    Each dome loses up to `h` at its top [1]_.
+
+    Parameters
+    ----------
+    image : (H, W) array of integers or bool
+        Values are 0 to 65535; H and W are 1 to 16384, H * W at most 2**26.
+    h : int
+        How much a dome loses, 0 to 65535. With 0 the answer is the image.
+    connectivity : {1, 2, 4, 8}, optional
+        The neighbours of a pixel. 8 where none is given.
+
+    Returns
+    -------
+    (H, W) array
+        A new image of the same type.
+
+    Raises
+    ------
+    TypeError, ValueError, MemoryError
+        As `reconstruction` raises them; ValueError for `h`, too.
+
+    Notes
+    -----
+    `skimage.morphology.h_maxima` answers another question: it marks the tops
+    of the domes that are at least `h` high. Those are
+    ``image - h_maxima_reconstruction(image, h) >= h``, for `h` above 0.
+
+    References
+    ----------
+    .. [1] L. Vincent, "Morphological Grayscale Reconstruction in Image
+       Analysis: Applications and Efficient Algorithms", IEEE Transactions on
+       Image Processing 2, 1993.
+
+    Examples
+    --------
+    >>> import numpy
+    >>> image = numpy.array([[1, 4, 3, 5, 1]], dtype=numpy.uint8)
+    >>> h_maxima_reconstruction(image, 2)
+    array([[1, 3, 3, 3, 1]], dtype=uint8)
+    """
+    conn = _arrays.connectivity_of(connectivity)
+    if int(h) != h or not 0 <= h <= _library.MAX_LEVEL:
+        raise ValueError(f"h is {h!r}, and it is an integer from 0 to 65535")
+    image = _arrays.integer_image("image", image)
+    cells = _arrays.cells_of(image)
+    _library.judge(_library.hmax(cells, int(h), conn))
+    return _as(cells, image)
+
+
+def regional_maxima(image, *, connectivity: int | None = None) -> numpy.ndarray:
+    """Mark the regional maxima of an image.
+
+    A regional maximum is a plateau that strictly lower pixels surround [1]_. A
+    plateau that is the whole image counts, where
+    `skimage.morphology.local_maxima` marks none.
+
+    Parameters
+    ----------
+    image : (H, W) array of integers or bool
+        Values are 0 to 65535; H and W are 1 to 16384, H * W at most 2**26.
+    connectivity : {1, 2, 4, 8}, optional
+        The neighbours of a pixel. 8 where none is given.
+
+    Returns
+    -------
+    (H, W) array of bool
+        True on the regional maxima.
+
+    Raises
+    ------
+    TypeError, ValueError, MemoryError
+        As `reconstruction` raises them.
+
+    References
+    ----------
+    .. [1] L. Vincent, "Morphological Grayscale Reconstruction in Image
+       Analysis: Applications and Efficient Algorithms", IEEE Transactions on
+       Image Processing 2, 1993.
+
+    Examples
+    --------
+    >>> import numpy
+    >>> image = numpy.array([[1, 4, 3, 5, 1]], dtype=numpy.uint8)
+    >>> regional_maxima(image)
+    array([[False,  True, False,  True, False]])
+    """
+    conn = _arrays.connectivity_of(connectivity)
+    cells = _arrays.cells_of(_arrays.integer_image("image", image))
+    _library.judge(_library.regmax(cells, conn))
+    return cells.astype(bool)
+
+
+def _as(cells, image):
+    """The cells, of the type of an image."""
+    return cells.astype(image.dtype.newbyteorder("="), copy=False)

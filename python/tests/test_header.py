@@ -1,0 +1,83 @@
+"""The header, the exports and what Python declares say the same."""
+
+import ctypes
+import pathlib
+import re
+import unittest
+
+from seedpaint import _library
+
+CRATE = pathlib.Path(__file__).parents[2] / "crates/seedpaint_c"
+
+# A parameter of an export, as C declares it: its types, one or two.
+IN_C = {
+    "Global": [],
+    "&[u16]": ["const uint16_t *", "size_t"],
+    "&mut [u16]": ["uint16_t *", "size_t"],
+    "&[u8]": ["const uint8_t *", "size_t"],
+    "&mut [u8]": ["uint8_t *", "size_t"],
+    "u16": ["uint16_t"],
+    "u32": ["uint32_t"],
+    "&mut Lengths": ["struct seedpaint_lengths *"],
+}
+IN_PYTHON = {
+    "uint16_t": ctypes.c_uint16,
+    "uint32_t": ctypes.c_uint32,
+    "size_t": ctypes.c_size_t,
+    "struct seedpaint_lengths *": ctypes.POINTER(_library.Lengths),
+}
+
+
+def exports():
+    """The types of each export's parameters, as C has them."""
+    found = {}
+    for source in sorted((CRATE / "src").glob("*.rt")):
+        text = source.read_text()
+        for name, words in re.findall(
+            r'#\[unsafe\(no_mangle\)\]\npub extern "C" fn (\w+)\((.*?)\) -> u32', text, re.S
+        ):
+            kinds = [word.split(":")[1].strip() for word in words.split(",") if ":" in word]
+            found[name] = [kind for word in kinds for kind in IN_C[word]]
+    return found
+
+
+def declared():
+    """The types of each prototype's parameters."""
+    text = re.sub(r"/\*.*?\*/", "", (CRATE / "seedpaint.h").read_text(), flags=re.S)
+    found = {}
+    for name, words in re.findall(r"uint32_t (\w+)\((.*?)\);", text, re.S):
+        found[name] = [
+            re.sub(r"\w+$", "", " ".join(word.split())).strip() for word in words.split(",")
+        ]
+    return found
+
+
+class TheSame(unittest.TestCase):
+    def test_header_and_exports(self):
+        self.assertEqual(declared(), exports())
+        self.assertEqual(len(exports()), 7)
+
+    def test_python_and_exports(self):
+        for name, kinds in exports().items():
+            expected = [IN_PYTHON.get(kind, ctypes.c_void_p) for kind in kinds]
+            self.assertEqual(_library._ARGUMENTS[name], expected, name)
+
+    def test_codes(self):
+        codes = (CRATE / "src/codes.rt").read_text()
+        header = (CRATE / "seedpaint.h").read_text()
+        in_rattle = dict(re.findall(r"pub const (\w+): u32 = (\d+);", codes))
+        in_c = dict(re.findall(r"SEEDPAINT_(\w+) = (\d)", header))
+        self.assertEqual(in_rattle, in_c)
+        for name, value in in_rattle.items():
+            self.assertEqual(getattr(_library, name), int(value))
+
+    def test_lengths(self):
+        source = (CRATE / "src/buffers.rt").read_text()
+        names = re.findall(r"pub (\w+): usize", source)
+        header = (CRATE / "seedpaint.h").read_text()
+        self.assertEqual(names, re.findall(r"^    size_t (\w+);", header, re.M))
+        self.assertEqual(names, [name for name, _ in _library.Lengths._fields_])
+
+
+if __name__ == "__main__":
+    unittest.main()
