@@ -2,8 +2,9 @@
  * Calls each function of seedpaint.h with each growth of memory refused in turn, and then with none refused. After each
  * call all memory has to be given back, and after each refusal what the caller lent has to be as it was.
  *
- * tools/build_python.sh --test links it, with malloc, realloc and free wrapped, and runs it by itself, under the address
- * sanitizer and under valgrind. It ends with 0 and a line, or at the first thing that is wrong with 1 and another one.
+ * tools/build_python.sh --test links it, with malloc, realloc and free wrapped, and runs it by itself, under the
+ * address sanitizer and under valgrind. It ends with 0 and a line, or with 1 and another one at the first thing that is
+ * wrong.
  */
 #include "seedpaint.h"
 
@@ -77,7 +78,8 @@ static void begin(void) {
     memcpy(state_before, state, BYTES);
     int n = 0;
     for (int i = 0; i < 5; i++)
-        n += snprintf((char *)input + n, BYTES - n, "disc 00000000-0000-4000-8000-00000000000%d 9 %d:%d+3\n", i, 9 * i, i);
+        n += snprintf((char *)input + n, BYTES - n, "disc 00000000-0000-4000-8000-00000000000%d 9 %d:%d+3\n", i,
+                      9 * i, i);
     edits_bytes = n;
     n += snprintf((char *)input + n, BYTES - n, "image\nP5\n%d %d\n255\n", W, H);
     for (int i = 0; i < CELLS; i++) input[n++] = mask[i];

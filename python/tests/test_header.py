@@ -9,6 +9,10 @@ from seedpaint import _library
 
 CRATE = pathlib.Path(__file__).parents[2] / "crates/seedpaint_c"
 
+EXPORT = re.compile(
+    r'#\[unsafe\(no_mangle\)\]\npub extern "C" fn (\w+)\((.*?)\) -> u32', re.S
+)
+
 # A parameter of an export, as C declares it: its types, one or two.
 IN_C = {
     "Global": [],
@@ -28,15 +32,18 @@ IN_PYTHON = {
 }
 
 
+def split(words):
+    """The parameters, each on one line."""
+    return [" ".join(word.split()) for word in words.split(",") if word.strip()]
+
+
 def exports():
     """The types of each export's parameters, as C has them."""
     found = {}
     for source in sorted((CRATE / "src").glob("*.rt")):
         text = source.read_text()
-        for name, words in re.findall(
-            r'#\[unsafe\(no_mangle\)\]\npub extern "C" fn (\w+)\((.*?)\) -> u32', text, re.S
-        ):
-            kinds = [word.split(":")[1].strip() for word in words.split(",") if ":" in word]
+        for name, words in EXPORT.findall(text):
+            kinds = [word.split(":")[1].strip() for word in split(words)]
             found[name] = [kind for word in kinds for kind in IN_C[word]]
     return found
 
@@ -46,9 +53,7 @@ def declared():
     text = re.sub(r"/\*.*?\*/", "", (CRATE / "seedpaint.h").read_text(), flags=re.S)
     found = {}
     for name, words in re.findall(r"uint32_t (\w+)\((.*?)\);", text, re.S):
-        found[name] = [
-            re.sub(r"\w+$", "", " ".join(word.split())).strip() for word in words.split(",")
-        ]
+        found[name] = [re.sub(r"\w+$", "", word).strip() for word in split(words)]
     return found
 
 
@@ -66,7 +71,7 @@ class TheSame(unittest.TestCase):
         codes = (CRATE / "src/codes.rt").read_text()
         header = (CRATE / "seedpaint.h").read_text()
         in_rattle = dict(re.findall(r"pub const (\w+): u32 = (\d+);", codes))
-        in_c = dict(re.findall(r"SEEDPAINT_(\w+) = (\d)", header))
+        in_c = dict(re.findall(r"^    SEEDPAINT_(\w+) = (\d)", header, re.M))
         self.assertEqual(in_rattle, in_c)
         for name, value in in_rattle.items():
             self.assertEqual(getattr(_library, name), int(value))

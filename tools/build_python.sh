@@ -1,0 +1,88 @@
+#!/usr/bin/env bash
+# Proves the library seedpaint_c, links it into a shared one, and makes a wheel of the Python package over it:
+#
+#     tools/build_python.sh            dist/libseedpaint.so and dist/seedpaint-*.whl
+#     tools/build_python.sh --test     the same, and all tests of them, in a virtual environment of their own
+#
+# It needs the kit's rt, and of Debian gcc, binutils, python3-pip, python3-setuptools and python3-wheel; for the tests
+# also python3-venv, python3-numpy and valgrind, and python3-skimage where the results are to be compared with
+# scikit-image's. It fetches nothing.
+set -euo pipefail
+cd "$(dirname "$0")/.."
+
+KIT=$(dirname "$(dirname "$(readlink -f "$(command -v rt)")")")
+CRATE=crates/seedpaint_c
+ARCHIVES=("$CRATE/out/libseedpaint_c.a" "$KIT/c/liblibc_c.a")
+WORK=$(mktemp -d)
+trap 'rm -rf "$WORK"' EXIT
+
+# The names of the exports, as the header declares them.
+exports() {
+  sed -n 's/^uint32_t \(seedpaint_[a-z_]*\)(.*/\1/p' "$CRATE/seedpaint.h"
+}
+
+# Links the archive into a shared library that shows the exports and nothing else.
+link_library() {
+  {
+    echo '{ global:'
+    exports | sed 's/$/;/'
+    echo 'local: *; };'
+  } > "$WORK/exports.map"
+  local wanted
+  mapfile -t wanted < <(exports | sed 's/^/-Wl,-u,/')
+  mkdir -p dist
+  cc -shared -o dist/libseedpaint.so "${wanted[@]}" "${ARCHIVES[@]}" -Wl,-z,defs -Wl,-z,relro,-z,now \
+    -Wl,--version-script="$WORK/exports.map" -Wl,-soname,libseedpaint.so
+}
+
+# The shared library shows each export and nothing else, and asks for no glibc after 2.17.
+check_library() {
+  diff <(exports | sort) <(nm -D --defined-only dist/libseedpaint.so | awk '{print $3}' | sort)
+  local newest
+  newest=$(objdump -T dist/libseedpaint.so | grep -o 'GLIBC_[0-9.]*' | sort -Vu | tail -1)
+  if [ -n "$newest" ] && [ "$(printf '%s\nGLIBC_2.17\n' "$newest" | sort -V | tail -1)" != GLIBC_2.17 ]; then
+    echo "build_python.sh: the library needs $newest, and the wheel says glibc 2.17" >&2
+    exit 1
+  fi
+}
+
+# Makes the wheel from a copy of the package, so that nothing is left in the repository.
+make_wheel() {
+  cp -r python "$WORK/python"
+  cp dist/libseedpaint.so "$WORK/python/seedpaint/"
+  rm -f dist/seedpaint-*.whl
+  python3 -m pip wheel --quiet --no-index --no-deps --no-build-isolation -w dist "$WORK/python"
+}
+
+# The first Python lines of the package's README, as a newcomer types them.
+run_readme() {
+  sed -n 's/^    //p' python/README.md | "$1" - | diff <(echo '[[3 5 2 2 2]]') -
+}
+
+# Refuses each growth of memory in turn: plainly, under the address sanitizer and under valgrind.
+run_refusals() {
+  local words=(-O1 -g -Wall -Werror -I "$CRATE" python/tests/refusals.c "${ARCHIVES[@]}"
+    -Wl,--wrap=malloc,--wrap=realloc,--wrap=free)
+  cc -o "$WORK/refusals" "${words[@]}"
+  cc -fsanitize=address -o "$WORK/refusals_asan" "${words[@]}"
+  "$WORK/refusals"
+  "$WORK/refusals_asan"
+  valgrind --quiet --error-exitcode=1 --leak-check=full "$WORK/refusals"
+}
+
+run_tests() {
+  python3 -m venv --system-site-packages "$WORK/venv"
+  "$WORK/venv/bin/pip" install --quiet --no-index --no-deps dist/seedpaint-*.whl
+  run_readme "$WORK/venv/bin/python"
+  run_refusals
+  "$WORK/venv/bin/python" -m unittest discover -s python/tests
+}
+
+(cd "$CRATE" && rt lib)
+link_library
+check_library
+make_wheel
+ls -l dist
+if [ "${1:-}" = --test ]; then
+  run_tests
+fi
