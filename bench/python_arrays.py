@@ -6,8 +6,8 @@
 Prints a table: of each family and each number of bits the least processor milliseconds of the package, and those of
 scikit-image, OpenCV and ITK as multiples of it, as far as they are installed. Each result is compared with the
 package's, and one value of difference ends the script. Behind it stands what a call on 64 by 64 pixels takes, and what
-of that is the library's. OpenCV has no reconstruction: it dilates and takes the minimum until nothing rises, and is left
-out where `--slow` is not given, since a maze takes it hours.
+of that is the library's. OpenCV has no reconstruction: it dilates and takes the minimum until nothing rises, and is
+left out where `--slow` is not given, since a maze takes it hours.
 """
 
 import argparse

@@ -116,11 +116,12 @@ class Refuses(unittest.TestCase):
 
     def test_strokes(self):
         place, disc = self.session.place, self.session.disc
+        many = [(y, 0, 0) for y in range(161)]
         self.refused("E1", "spelled", lambda: place([(-1, 0, 0)], 9))
         self.refused("E1", "spelled", lambda: place([], 9))
         self.refused("E2", "UUID", lambda: disc(1, 1, 1, 5, tag="me"))
         self.refused("E3", "level", lambda: disc(1, 1, 1, 0))
-        self.refused("E3", "160", lambda: place([(0, 0, 0)] * 161, 9))
+        self.refused("E3", "160", lambda: place(many, 9))
         self.refused("E3", "order", lambda: place([(0, 3, 2)], 9))
         self.refused("E3", "radius", lambda: disc(1, 1, 256))
         self.refused("C1", "lie in", lambda: disc(4, 0, 0, 5))

@@ -1,1 +1,2 @@
--- The lemmas of this crate: there are none.
+-- The lemmas of this crate.
+pub mod Viewed

@@ -34,7 +34,8 @@ pub(crate) fn clear(lengths: &mut Lengths)
 /// Puts a text into the front of a buffer, where it fits, and says how long it is.
 pub(crate) fn hand_out(text: &[u8], buffer: &mut [u8], count: &mut usize) -> u32
     ensures put { result ≡ 0 → StartsWith buffer.old buffer.new count.new text.now }
-    ensures long { (result ≡ 0 → ⊥) → count.new ≡ length text.now }
+    ensures long { count.new ≡ length text.now }
+    ensures not_refused { result ≡ 1 → ⊥ }
     ensures untouched { (result ≡ 0 → ⊥) → buffer.new ≡ buffer.old }
 {
     *count = text.len();
@@ -55,6 +56,7 @@ pub(crate) fn hand_out_both(
 ) -> u32
     ensures out { result ≡ 0 → StartsWith out.old out.new lengths.new.out text.now }
     ensures state { result ≡ 0 → StartsWith state.old state.new lengths.new.state new.now }
+    ensures not_refused { result ≡ 1 → ⊥ }
     ensures untouched { (result ≡ 0 → ⊥) → (out.new ≡ out.old) × (state.new ≡ state.old) }
 {
     lengths.out = text.len();
@@ -87,11 +89,16 @@ pub(crate) fn tell(
     ensures some { result ≡ 0 → ⊥ }
     ensures line { SaysFault buffer.old buffer.new count.new error.now }
 {
-    if let Ok(line) = fault_line(alloc, error) {
-        let _ = hand_out(line.as_bytes(), buffer, count);
-    }
-    match status(error) {
+    let code = match status(error) {
         1 => REFUSED,
         _ => NO_MEMORY,
+    };
+    let Ok(line) = fault_line(alloc, error) else {
+        return code;
+    };
+    *count = line.len();
+    if line.len() <= buffer.len() {
+        put(line.as_bytes(), buffer);
     }
+    code
 }
