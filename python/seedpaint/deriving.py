@@ -3,13 +3,16 @@
 from __future__ import annotations
 
 import numpy
+from numpy.typing import ArrayLike
 
 from seedpaint import _arrays, _library
 
 __all__ = ["fill_holes", "h_maxima_reconstruction", "regional_maxima"]
 
 
-def fill_holes(image, *, connectivity: int | None = None) -> numpy.ndarray:
+def fill_holes(
+    image: ArrayLike, *, connectivity: int | None = None
+) -> numpy.ndarray:
     """Fill the holes of an image.
 
     Each pixel becomes the least level at which a path leads from it to the
@@ -60,7 +63,7 @@ def fill_holes(image, *, connectivity: int | None = None) -> numpy.ndarray:
 
 
 def h_maxima_reconstruction(
-    image, h: int, *, connectivity: int | None = None
+    image: ArrayLike, h: int, *, connectivity: int | None = None
 ) -> numpy.ndarray:
     """Cut the domes of an image down: reconstruct it from itself less `h`.
 
@@ -113,7 +116,9 @@ def h_maxima_reconstruction(
     return _as(cells, image)
 
 
-def regional_maxima(image, *, connectivity: int | None = None) -> numpy.ndarray:
+def regional_maxima(
+    image: ArrayLike, *, connectivity: int | None = None
+) -> numpy.ndarray:
     """Mark the regional maxima of an image.
 
     A regional maximum is a plateau that strictly lower pixels surround [1]_. A

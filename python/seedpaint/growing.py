@@ -3,6 +3,7 @@
 from __future__ import annotations
 
 import numpy
+from numpy.typing import ArrayLike
 
 from seedpaint import _arrays, _library
 
@@ -10,10 +11,10 @@ __all__ = ["reconstruction"]
 
 
 def reconstruction(
-    seed,
-    mask,
+    seed: ArrayLike,
+    mask: ArrayLike,
     method: str = "dilation",
-    footprint=None,
+    footprint: ArrayLike | None = None,
     *,
     connectivity: int | None = None,
     out: numpy.ndarray | None = None,

@@ -4,8 +4,10 @@ from __future__ import annotations
 
 import hashlib
 import uuid
+from collections.abc import Iterable
 
 import numpy
+from numpy.typing import ArrayLike
 
 from seedpaint import _arrays, _labels, _library, _pgm, _state_files
 from seedpaint.errors import Fault
@@ -63,7 +65,12 @@ class Session:
     """
 
     def __init__(
-        self, mask, connectivity: int, *, state: bytes = b"", maxval: int | None = None
+        self,
+        mask: ArrayLike,
+        connectivity: int,
+        *,
+        state: bytes = b"",
+        maxval: int | None = None,
     ):
         if connectivity is None:
             raise ValueError("connectivity is 4 or 8 (or 1 or 2)")
@@ -83,7 +90,13 @@ class Session:
 
     # ---- Strokes ----
 
-    def place(self, runs, level: int | None = None, *, tag=None) -> uuid.UUID:
+    def place(
+        self,
+        runs: Iterable[tuple[int, int, int]],
+        level: int | None = None,
+        *,
+        tag: uuid.UUID | str | None = None,
+    ) -> uuid.UUID:
         """Place a stroke of runs.
 
         Parameters
@@ -111,7 +124,13 @@ class Session:
         return self._add(Stroke(_tag_of(tag), level, runs=runs))
 
     def disc(
-        self, y: int, x: int, radius: int, level: int | None = None, *, tag=None
+        self,
+        y: int,
+        x: int,
+        radius: int,
+        level: int | None = None,
+        *,
+        tag: uuid.UUID | str | None = None,
     ) -> uuid.UUID:
         """Place a disc.
 
@@ -138,7 +157,7 @@ class Session:
         disc = (int(y), int(x), int(radius))
         return self._add(Stroke(_tag_of(tag), level, disc=disc))
 
-    def add(self, strokes) -> None:
+    def add(self, strokes: Iterable[Stroke]) -> None:
         """Place strokes, as `strokes_from_labels` gives them: all, or none.
 
         Parameters
@@ -153,7 +172,7 @@ class Session:
         """
         self.edit("".join(f"{stroke.line()}\n" for stroke in strokes))
 
-    def withdraw(self, tag) -> None:
+    def withdraw(self, tag: uuid.UUID | str) -> None:
         """Withdraw a stroke, whether it is there or still to come.
 
         Parameters

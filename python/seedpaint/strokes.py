@@ -8,6 +8,7 @@ import uuid
 from typing import NamedTuple
 
 import numpy
+from numpy.typing import ArrayLike
 
 from seedpaint import _arrays, _library
 
@@ -60,7 +61,9 @@ class Stroke(NamedTuple):
         ]
 
 
-def seed_from_labels(label_image, mask, *, level: int | None = None) -> numpy.ndarray:
+def seed_from_labels(
+    label_image: ArrayLike, mask: ArrayLike, *, level: int | None = None
+) -> numpy.ndarray:
     """The seed that a label image paints on a mask, for `reconstruction`.
 
     Parameters
@@ -103,7 +106,11 @@ def seed_from_labels(label_image, mask, *, level: int | None = None) -> numpy.nd
 
 
 def strokes_from_labels(
-    label_image, mask=None, *, level: int | None = None, name: str = "labels"
+    label_image: ArrayLike,
+    mask: ArrayLike | None = None,
+    *,
+    level: int | None = None,
+    name: str = "labels",
 ) -> list[Stroke]:
     """The strokes that a label image paints, as napari or ImageJ have it.
 
