@@ -24,8 +24,6 @@ pub stops_at_bytes : {V : Type 0} (answers : List ℕ → V → List ℕ → Typ
 stops_at_bytes answers stops (Ok v) input piece most source' sink' run = tt
 stops_at_bytes answers stops (Err e) input piece most source' sink' run = elim run.responds.refused [
   | inl early ↦ inl early
-  | inr later ↦ elim later [
-    | inl failed ↦ inr (inl failed)
-    | inr stopped ↦ inr (inr (subst (λ (read : List ℕ). stops read e) stopped.2.1 stopped.2.2))
-  ]
+  | inr (inl failed) ↦ inr (inl failed)
+  | inr (inr stopped) ↦ inr (inr (subst (λ (read : List ℕ). stops read e) stopped.2.1 stopped.2.2))
 ]

@@ -1,6 +1,6 @@
 //! What is derived from an image, in the caller's cells.
 
-ghost use Rattle.std.specs.Prelude.{◌≡◌, IfOk, OnErr, OnOk};
+ghost use Rattle.std.specs.Prelude.{◌≡◌, OnErr, OnOk};
 ghost use Rattle.grid_core.specs.Path.{domain_of};
 ghost use Rattle.grid_core.specs.Raster.{IsSized};
 ghost use Rattle.derived_views.specs.HMaxima.{IsHMaxima};
