@@ -3,74 +3,87 @@
 from __future__ import annotations
 
 import math
+from typing import Any
 
 import numpy
+from numpy.typing import NDArray
 
 from seedpaint import _arrays, _library
+from seedpaint.strokes import Stroke
+
+Numbers = NDArray[numpy.int64]  # (of strokes, from 1; 0 is none)
 
 _MOST_NUMBERS = _library.MAX_LEVEL  # (that one growth tells apart)
 
 
-def by_level(image, strokes, level, conn):
+def by_level(
+    image: _arrays.Image, strokes: list[Stroke], level: int, conn: int
+) -> Numbers:
     """For each pixel of at least a level the least stroke that reaches it there.
 
-    Strokes are counted from 1; a pixel below the level has 0.
+    A pixel below the level has 0.
     """
     return _spread(image >= level, _painted(strokes, image.shape), len(strokes), conn)
 
 
-def by_share(image, mask, strokes, share, conn):
-    """For each pixel the least stroke that keeps it.
+def by_share(
+    image: _arrays.Image,
+    mask: _arrays.Cells,
+    strokes: list[Stroke],
+    share: float,
+    conn: int,
+) -> Numbers:
+    """For each pixel the least stroke that keeps it, or 0.
 
     A stroke keeps what a path leads to from it, on which no value is below the
     share of the brightest that the stroke itself shows.
     """
-    numbers = _painted(strokes, image.shape)
     thresholds = [_threshold(stroke, mask, share) for stroke in strokes]
     result = numpy.zeros(image.shape, dtype=numpy.int64)
     for threshold in sorted(set(thresholds)):
-        own = numpy.append([False], numpy.equal(thresholds, threshold))
-        these = _painted(strokes, image.shape, own) if not own[1:].all() else numbers
-        kept = _spread(image >= threshold, these, len(strokes), conn)
+        own = [number for number, t in enumerate(thresholds, 1) if t == threshold]
+        numbers = _painted(strokes, image.shape, own)
+        kept = _spread(image >= threshold, numbers, len(strokes), conn)
         better = (kept > 0) & ((result == 0) | (kept < result))
         result[better] = kept[better]
     return result
 
 
-def _threshold(stroke, mask, share):
+def _threshold(stroke: Stroke, mask: _arrays.Cells, share: float) -> int:
     """The least value that a stroke keeps: a share of the brightest it shows."""
     spans = stroke.spans(mask.shape)
     brightest = max(int(mask[y, first : last + 1].max()) for y, first, last in spans)
     return max(1, math.ceil(share * min(stroke.level, brightest)))
 
 
-def _painted(strokes, shape, own=None):
-    """For each pixel the number of the first stroke on it, from 1, or 0.
+def _painted(
+    strokes: list[Stroke], shape: _arrays.Shape, own: list[int] | None = None
+) -> Numbers:
+    """For each pixel the least number of a stroke on it, or 0.
 
-    Where `own` is given, only strokes for whose number it is true are painted.
+    Only the strokes of these numbers are painted, or all where none are given.
     """
-    numbers = numpy.zeros(shape, dtype=numpy.int64)
-    for number in range(len(strokes), 0, -1):
-        if own is None or own[number]:
-            for y, first, last in strokes[number - 1].spans(shape):
-                numbers[y, first : last + 1] = number
-    return numbers
+    image = numpy.zeros(shape, dtype=numpy.int64)
+    for number in reversed(range(1, len(strokes) + 1) if own is None else own):
+        for y, first, last in strokes[number - 1].spans(shape):
+            image[y, first : last + 1] = number
+    return image
 
 
-def _spread(kept, numbers, count, conn):
+def _spread(kept: NDArray[Any], numbers: Numbers, count: int, conn: int) -> Numbers:
     """For each pixel that is kept the least number in its region, or 0.
 
     A region is a connected part of what is kept. The greatest value spreads
     through it: so the least number is given the greatest value, for as many
     numbers at once as there are values.
     """
-    limits = _arrays.cells_of(kept)
-    limits *= _library.MAX_LEVEL
+    limits = numpy.where(kept, numpy.uint16(_library.MAX_LEVEL), numpy.uint16(0))
     result = numpy.zeros(kept.shape, dtype=numpy.int64)
     for base in reversed(range(0, count, _MOST_NUMBERS)):
         here = kept & (numbers > base) & (numbers <= base + _MOST_NUMBERS)
-        grown = _arrays.cells_of(numpy.where(here, base + 65536 - numbers, 0))
-        _library.judge(_library.grow(limits, grown, conn))
+        top = base + _MOST_NUMBERS + 1
+        grown = _arrays.cells_of(numpy.where(here, top - numbers, 0))
+        _library.grow(limits, grown, conn)
         reached = grown > 0
-        result[reached] = base + 65536 - grown[reached].astype(numpy.int64)
+        result[reached] = top - grown[reached].astype(numpy.int64)
     return result

@@ -7,19 +7,18 @@ __all__ = ["Fault"]
 # The codes of the program, as docs/FORMATS.md has them.
 _SENTENCES = {
     "V1": "the input has no line `image`",
-    "E1": "a line is none of place, disc or withdraw, or is spelled otherwise",
+    "E1": "a line is no place, disc or withdraw with numbers from 0 to 65535",
     "E2": "a tag is no UUID",
     "E3": "a stroke is refused",
     "P1": "the image does not begin with P2 or P5",
     "P2": "the header of the image is spelled otherwise",
     "P3": "a side of the image is 0",
-    "P4": "a side is above 16384, or there are more than 2**26 pixels",
-    "P5": "maxval is 0 or above 65535",
+    "P4": "a side of the image is above 16384, or it has more than 2**26 pixels",
+    "P5": "the maxval of the image is 0 or above 65535",
     "P6": "the image ends too early",
-    "P7": "a sample is above maxval",
-    "P8": "a sample is no number",
+    "P7": "a sample of the image is above its maxval",
+    "P8": "a sample of the image is no number",
     "P9": "something stands behind the image",
-    "P11": "a device failed",
     "C1": "a stroke does not lie in the mask",
     "C2": "another stroke has this tag already",
     "M1": "the state file does not begin as one",
@@ -36,7 +35,7 @@ _STROKE_SENTENCES = {
     "S1": "its level is not from 1 to 65535",
     "S2": "it has no run",
     "S3": "it has more than 160 runs",
-    "S4": "a run ends before it starts, or the runs are not in order",
+    "S4": "a run ends before it starts, or is not in order with the one before it",
     "S7": "its radius is above 255",
     "S8": "it is of no kind that is known",
 }
@@ -59,23 +58,28 @@ class Fault(ValueError):
         The whole line.
     sentence : str
         What the code says, in words.
+
+    Examples
+    --------
+    >>> raise Fault("seedpaint: E3 1 S1")
+    Traceback (most recent call last):
+    seedpaint.errors.Fault: E3 1 S1: a stroke is refused: its level is not from 1 to \
+65535
     """
 
-    def __init__(self, line: str):
+    def __init__(self, line: str) -> None:
         words = line.removeprefix("seedpaint: ").split()
         self.line = line
-        self.code = words[0] if words else ""
-        self.sentence = _sentence(words)
+        self.code = words[0]
+        self.sentence = ": ".join(_sentences(words))
         super().__init__(f"{' '.join(words)}: {self.sentence}")
 
-    def __reduce__(self):
+    def __reduce__(self) -> tuple[type[Fault], tuple[str]]:
         return Fault, (self.line,)
 
 
-def _sentence(words):
+def _sentences(words: list[str]) -> list[str]:
     """What the words of a fault say."""
-    sentence = _SENTENCES.get(words[0] if words else "", "the input is refused")
-    for word in words[1:]:
-        if word in _STROKE_SENTENCES:
-            sentence += f": {_STROKE_SENTENCES[word]}"
-    return sentence
+    sentences = [_SENTENCES.get(words[0], "the input is refused")]
+    sentences += [_STROKE_SENTENCES[w] for w in words[1:] if w in _STROKE_SENTENCES]
+    return sentences

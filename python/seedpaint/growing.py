@@ -2,8 +2,10 @@
 
 from __future__ import annotations
 
+from typing import Any, Literal
+
 import numpy
-from numpy.typing import ArrayLike
+from numpy.typing import ArrayLike, NDArray
 
 from seedpaint import _arrays, _library
 
@@ -13,13 +15,13 @@ __all__ = ["reconstruction"]
 def reconstruction(
     seed: ArrayLike,
     mask: ArrayLike,
-    method: str = "dilation",
+    method: Literal["dilation", "erosion"] = "dilation",
     footprint: ArrayLike | None = None,
     *,
     connectivity: int | None = None,
-    out: numpy.ndarray | None = None,
-) -> numpy.ndarray:
-    """Morphological reconstruction of an image, by dilation or by erosion.
+    out: NDArray[Any] | None = None,
+) -> NDArray[Any]:
+    """Reconstruct an image from a seed, by dilation or by erosion.
 
     The values of `seed` spread from pixel to neighbouring pixel, as far as
     `mask` lets them: by dilation they rise, up to the mask; by erosion they
@@ -27,44 +29,51 @@ def reconstruction(
 
     Parameters
     ----------
-    seed : (H, W) array of integers or bool
+    seed : (H, W) array_like of int or bool
         What spreads. By dilation it is at most the mask everywhere, by erosion
-        at least.
-    mask : (H, W) array of integers or bool
-        What bounds it. Values are 0 to 65535, whatever the type; H and W are 1
-        to 16384, and H * W is at most 2**26.
+        at least. Values are 0 to 65535, whatever the type; H and W are 1 to
+        16384, and H * W is at most 2**26.
+    mask : (H, W) array_like of int or bool
+        What bounds it.
     method : {'dilation', 'erosion'}, optional
         Whether values rise or fall.
-    footprint : (3, 3) array, optional
+    footprint : (3, 3) array_like, optional
         The neighbours of a pixel: the cross, or the square. No other one is
         taken.
     connectivity : {1, 2, 4, 8}, optional
         The neighbours by a number: 1 or 4 for the four that share an edge, 2
         or 8 for the eight that share an edge or a corner. Where neither this
-        nor a footprint is given it is 8, as scikit-image has it. (The program
+        nor a footprint is given there are 8, as in scikit-image. (The program
         `seedpaint` has 4.)
-    out : (H, W) array, optional
+    out : (H, W) ndarray, optional
         Where the result goes, of the result's type. It may be `seed`: where
-        that has 16 bits without sign and is contiguous, it is grown in place,
-        and nothing is copied. After an error it is as it was.
+        that is C-contiguous and of `uint16`, it is grown where it stands, with
+        no copy. After an error it is as it was.
 
     Returns
     -------
-    (H, W) array
+    (H, W) ndarray
         The reconstruction: `out` where one is given, else a new array. Its
         type is that of seed and mask, or the one that numpy gives both.
 
     Raises
     ------
     TypeError
-        Where values are no integers, as floats are: the message says what to
-        do.
+        Where values are neither integers nor booleans: of floats the message
+        says what to do.
     ValueError
-        Where shapes differ, are not those of an image, a value is no level,
-        the seed passes the mask, or footprint, connectivity, method or out is
-        refused.
+        Where shapes differ or are not those of an image, a value is below 0 or
+        above 65535, the seed passes the mask somewhere, or method, footprint,
+        connectivity or out is refused.
     MemoryError
         Where memory is wanting.
+
+    See Also
+    --------
+    fill_holes : Reconstruction by erosion from the border.
+    h_maxima_reconstruction : Reconstruction of an image from itself less a
+        height.
+    seed_from_labels : A seed that a label image paints.
 
     Notes
     -----
@@ -84,6 +93,7 @@ def reconstruction(
     Examples
     --------
     >>> import numpy
+    >>> from seedpaint import reconstruction
     >>> mask = numpy.array([[3, 5, 2, 5, 4]], dtype=numpy.uint8)
     >>> seed = numpy.array([[0, 5, 0, 0, 0]], dtype=numpy.uint8)
     >>> reconstruction(seed, mask)
@@ -99,56 +109,65 @@ def reconstruction(
     kind = _arrays.kind_of_both(seed, mask)
     if out is not None:
         _check_out(out, seed.shape, kind)
-    if method == "dilation" and out is seed and _is_fit(out, mask):
-        _judge(_library.grow(_arrays.cells_over(mask), out, conn), method)
-        return out
-    grown = _grown(seed, mask, method, conn)
+    try:
+        if out is not None and method == "dilation" and _is_in_place(out, seed, mask):
+            _library.grow(_arrays.cells_over(mask), out, conn)
+            return out
+        grown = _grown(seed, mask, method, conn)
+    except _library.AboveMask:
+        raise ValueError(_where_it_passes(seed, mask, method)) from None
     if out is None:
         return grown.astype(kind, copy=False)
     out[...] = grown
     return out
 
 
-def _grown(seed, mask, method, conn):
+def _grown(
+    seed: _arrays.Image, mask: _arrays.Image, method: str, conn: int
+) -> _arrays.Cells:
     """New cells, grown from the seed."""
+    grown, limits = _arrays.cells_of(seed), _arrays.cells_over(mask)
     if method == "dilation":
-        grown = _arrays.cells_of(seed)
-        _judge(_library.grow(_arrays.cells_over(mask), grown, conn), method)
+        _library.grow(limits, grown, conn)
         return grown
-    grown, limits = ~_arrays.cells_of(seed), ~_arrays.cells_of(mask)
-    _judge(_library.grow(limits, grown, conn), method)
+    numpy.invert(grown, out=grown)
+    _library.grow(~limits, grown, conn)
     return numpy.invert(grown, out=grown)
 
 
-def _is_fit(out, mask):
-    """Whether the library can grow this array in place."""
+def _is_in_place(
+    out: _arrays.Image, seed: _arrays.Image, mask: _arrays.Image
+) -> bool:
+    """Whether `out` is the seed's memory, and the library can grow it there."""
     return (
-        out.dtype == numpy.uint16
-        and out.dtype.isnative
-        and out.flags.carray
+        _arrays.is_fit(out)
+        and _arrays.is_fit(seed)
+        and out.ctypes.data == seed.ctypes.data
         and not numpy.may_share_memory(out, mask)
     )
 
 
-def _check_out(out, shape, kind):
-    """Refuse an array that the result does not go into."""
+def _check_out(
+    out: NDArray[Any], shape: _arrays.Shape, kind: numpy.dtype[Any]
+) -> None:
+    """Refuse what the result does not go into."""
     if not isinstance(out, numpy.ndarray):
-        raise TypeError("out is a numpy array")
+        raise TypeError(f"out is a {type(out).__name__}, and not a numpy array")
     if out.shape != shape:
         raise ValueError(f"out has the shape {out.shape}, and the result {shape}")
-    if out.dtype.newbyteorder("=") != kind:
-        raise ValueError(f"out has {out.dtype}, and the result {kind}")
+    if _arrays.native(out.dtype) != kind:
+        raise ValueError(f"out has the type {out.dtype}, and the result {kind}")
     if not out.flags.writeable:
         raise ValueError("out is read-only")
 
 
-def _judge(code, method):
-    """Raise what the library answered."""
-    if code == _library.ABOVE_MASK:
-        side = "above" if method == "dilation" else "below"
-        most = "at most" if method == "dilation" else "at least"
-        raise ValueError(
-            f"the seed is {side} the mask somewhere, and for reconstruction by "
-            f"{method} it is {most} the mask everywhere"
-        )
-    _library.judge(code)
+def _where_it_passes(seed: _arrays.Image, mask: _arrays.Image, method: str) -> str:
+    """A sentence about the first pixel at which the seed passes the mask."""
+    passes = seed > mask if method == "dilation" else seed < mask
+    y, x = (int(n) for n in numpy.unravel_index(numpy.argmax(passes), seed.shape))
+    words = ("above", "most") if method == "dilation" else ("below", "least")
+    return (
+        f"seed is {words[0]} mask in row {y}, column {x}: {seed[y, x]} there, and mask "
+        f"{mask[y, x]}; for reconstruction by {method} it is at {words[1]} the mask "
+        "everywhere"
+    )

@@ -3,57 +3,74 @@
 from __future__ import annotations
 
 import hashlib
+import operator
 import uuid
 from collections.abc import Iterable
+from typing import Any, SupportsIndex
 
 import numpy
-from numpy.typing import ArrayLike
+from numpy.typing import ArrayLike, NDArray
 
 from seedpaint import _arrays, _labels, _library, _pgm, _state_files
 from seedpaint.errors import Fault
-from seedpaint.strokes import Stroke, check_level, painted_label
+from seedpaint.strokes import Stroke, are_of_one_picture, painted_label, whole_level
 
 __all__ = ["Session"]
+
+_IMAGE_LINE = b"image\n"
 
 
 class Session:
     """Strokes over a mask, and the image that they show.
 
     The image is the reconstruction by dilation of the mask from the strokes.
-    Strokes and withdrawals count in any order and however often: two people's
-    states are joined, and none is lost.
+    Strokes and withdrawals count in any order and however often: the states of
+    two people are joined, and nothing is lost.
 
     Parameters
     ----------
-    mask : (H, W) array of integers or bool
+    mask : (H, W) array_like of int or bool
         Values are 0 to 65535; H and W are 1 to 16384, H * W at most 2**26. It
         is copied.
     connectivity : {1, 2, 4, 8}
         The neighbours of a pixel: 1 or 4 for an edge, 2 or 8 for an edge or a
         corner. (The program `seedpaint` has 4 where none is named.)
     state : bytes, optional
-        A state file to begin with, as `state` gives it and as the program and
-        the page write it.
+        A state file to begin with, as the method `state` gives it, and as the
+        program and the page write it.
     maxval : int, optional
-        The maxval of the mask's PGM file, 1 to 65535, which a state file
-        depends on. Where none is given it is 1 for bool, 255 for other types
-        of 8 bits, and else 65535.
+        The maxval of the mask's PGM file, 1 to 65535, on which a state file
+        depends. Where none is given it is 1 for bool, 255 for other types of 8
+        bits, and else 65535.
 
     Raises
     ------
     Fault
-        Where the state file is refused; D1 where it is for another mask.
-    TypeError, ValueError, MemoryError
-        As `reconstruction` raises them.
+        Where the state file is refused: M1 to M7, or D1 where it is for
+        another mask or connectivity.
+    TypeError
+        Where values are neither integers nor booleans, or state no bytes.
+    ValueError
+        Where the shape is not that of an image, a value is below 0 or above
+        65535 or maxval, or connectivity or maxval is refused.
+    MemoryError
+        Where memory is wanting. So may each method that makes or reads
+        strokes, or grows.
+
+    See Also
+    --------
+    reconstruction : The image of any seed, without strokes.
+    strokes_from_labels : The strokes that a label image paints.
 
     Notes
     -----
-    A session writes no file. Threads that share one take turns; sessions of
-    their own run side by side.
+    A session reads and writes no file. Threads that share one have to take
+    turns; sessions of their own run side by side.
 
     Examples
     --------
     >>> import numpy
+    >>> from seedpaint import Session
     >>> mask = numpy.array([[3, 5, 2, 5, 4]], dtype=numpy.uint8)
     >>> session = Session(mask, 4)
     >>> tag = session.disc(0, 1, 0)
@@ -70,38 +87,37 @@ class Session:
         connectivity: int,
         *,
         state: bytes = b"",
-        maxval: int | None = None,
-    ):
-        if connectivity is None:
-            raise ValueError("connectivity is 4 or 8 (or 1 or 2)")
-        self._conn = _arrays.connectivity_of(connectivity)
+        maxval: SupportsIndex | None = None,
+    ) -> None:
         mask = _arrays.integer_image("mask", mask)
-        self._kind = mask.dtype.newbyteorder("=")
+        self._kind = _arrays.native(mask.dtype)
         self._mask = _arrays.cells_of(mask)
-        maxval = _maxval_of(mask) if maxval is None else maxval
-        if int(maxval) != maxval or not 1 <= maxval <= _library.MAX_LEVEL:
-            raise ValueError(f"maxval is {maxval!r}, and it is from 1 to 65535")
-        if self._mask.max() > maxval:
-            raise ValueError(f"mask has the value {self._mask.max()}, above {maxval}")
-        self._file = _pgm.spelled(self._mask, int(maxval))
-        self._print = hashlib.sha256(self._file).digest()
-        self._state = self._merged(b"", bytes(state))
-        self._image = None
+        self._shape = mask.shape
+        self._conn = _arrays.of_number(connectivity)
+        file = _pgm.spelled(self._mask, self._whole_maxval(maxval))
+        self._input = _IMAGE_LINE + file
+        self._fingerprint = hashlib.sha256(file).digest()
+        self._image: _arrays.Image | None = None
+        self._state = self._merged(b"", _bytes_of("state", state))
+
+    def __repr__(self) -> str:
+        h, w = self._shape
+        return f"<Session: {h} rows of {w}, {self._conn} neighbours>"
 
     # ---- Strokes ----
 
     def place(
         self,
-        runs: Iterable[tuple[int, int, int]],
-        level: int | None = None,
+        runs: Iterable[tuple[SupportsIndex, SupportsIndex, SupportsIndex]],
+        level: SupportsIndex | None = None,
         *,
         tag: uuid.UUID | str | None = None,
     ) -> uuid.UUID:
-        """Place a stroke of runs.
+        """Place a stroke of runs of pixels.
 
         Parameters
         ----------
-        runs : sequence of (int, int, int)
+        runs : iterable of (int, int, int)
             Row, first and last column of each run, from 0, by row and then by
             column; 1 to 160 of them. On one row a pixel lies between two.
         level : int, optional
@@ -119,16 +135,19 @@ class Session:
         ------
         Fault
             E1 to E3, C1 or C2: the strokes are then as they were.
+        TypeError
+            Where a number is no integer, or tag is neither of both.
         """
-        runs = tuple((int(y), int(first), int(last)) for y, first, last in runs)
-        return self._add(Stroke(_tag_of(tag), level, runs=runs))
+        index = operator.index
+        triples = tuple((index(y), index(a), index(b)) for y, a, b in runs)
+        return self._add(Stroke(_tag_of(tag), 1, runs=triples), level)
 
     def disc(
         self,
-        y: int,
-        x: int,
-        radius: int,
-        level: int | None = None,
+        y: SupportsIndex,
+        x: SupportsIndex,
+        radius: SupportsIndex,
+        level: SupportsIndex | None = None,
         *,
         tag: uuid.UUID | str | None = None,
     ) -> uuid.UUID:
@@ -141,7 +160,9 @@ class Session:
         radius : int
             0 to 255. It covers the pixels of the mask that are no farther from
             the centre.
-        level, tag
+        level : int, optional
+            As for `place`.
+        tag : uuid.UUID or str, optional
             As for `place`.
 
         Returns
@@ -153,9 +174,11 @@ class Session:
         ------
         Fault
             E1 to E3, C1 or C2: the strokes are then as they were.
+        TypeError
+            Where a number is no integer, or tag is neither of both.
         """
-        disc = (int(y), int(x), int(radius))
-        return self._add(Stroke(_tag_of(tag), level, disc=disc))
+        disc = (operator.index(y), operator.index(x), operator.index(radius))
+        return self._add(Stroke(_tag_of(tag), 1, disc=disc), level)
 
     def add(self, strokes: Iterable[Stroke]) -> None:
         """Place strokes, as `strokes_from_labels` gives them: all, or none.
@@ -163,7 +186,7 @@ class Session:
         Parameters
         ----------
         strokes : iterable of Stroke
-            Each with its tag and level.
+            Each with its tag and level. One that is there already is no fault.
 
         Raises
         ------
@@ -179,6 +202,13 @@ class Session:
         ----------
         tag : uuid.UUID or str
             The stroke's tag. It is no fault to withdraw it again.
+
+        Raises
+        ------
+        Fault
+            E2, where the tag is no UUID.
+        TypeError
+            Where it is neither of both.
         """
         self.edit(f"withdraw {_tag_of(tag)}\n")
 
@@ -193,10 +223,11 @@ class Session:
         Raises
         ------
         Fault
-            E1 to E3 of the first faulty line, else C1 or C2.
+            E1 to E3 of the first faulty line, else C1 or C2: the strokes are
+            then as they were.
         """
-        lines = text.encode() if isinstance(text, str) else bytes(text)
-        self._become(self._merged(lines, self._state))
+        data = text.encode() if isinstance(text, str) else _bytes_of("text", text)
+        self._become(self._merged(data, self._state))
 
     def join(self, state: bytes) -> None:
         """Join the strokes and withdrawals of another state file.
@@ -204,31 +235,35 @@ class Session:
         Parameters
         ----------
         state : bytes
-            What `state` gave, or a state file of the program or the page.
+            What the method `state` gave, or a state file of the program or the
+            page.
 
         Raises
         ------
         Fault
-            M1 to M7, D1 where it is for another mask or connectivity, C2 where
-            it has another stroke of a tag: the strokes are then as they were.
+            M1 to M7, D1 where it is for another mask or connectivity, C1 or C2
+            where a stroke does not fit: the strokes are then as they were.
+        TypeError
+            Where it is no bytes.
         """
-        self._become(self._merged(b"", self._state + bytes(state)))
+        both = self._state + _bytes_of("state", state)
+        self._become(self._merged(b"", both))
 
     # ---- What there is ----
 
-    def image(self) -> numpy.ndarray:
-        """The image that the strokes show.
+    def image(self) -> NDArray[Any]:
+        """Give the image that the strokes show.
 
         Returns
         -------
-        (H, W) array
-            The reconstruction by dilation of the mask from the strokes; of the
-            mask's type. It is the caller's own.
+        (H, W) ndarray
+            The reconstruction by dilation of the mask from the strokes; a new
+            array of the mask's type.
         """
         return self._cells().astype(self._kind)
 
     def state(self) -> bytes:
-        """The bytes of a state file of all strokes and withdrawals.
+        """Give the bytes of a state file of all strokes and withdrawals.
 
         Returns
         -------
@@ -238,7 +273,7 @@ class Session:
         return self._state
 
     def strokes(self) -> list[Stroke]:
-        """The strokes that are not withdrawn.
+        """Give the strokes that are not withdrawn.
 
         Returns
         -------
@@ -250,11 +285,11 @@ class Session:
     def labels(
         self,
         *,
-        level: int | None = None,
+        level: SupportsIndex | None = None,
         share: float | None = None,
         painted: bool = False,
-    ) -> numpy.ndarray:
-        """The regions of the strokes as a label image.
+    ) -> NDArray[Any]:
+        """Give the regions of the strokes as a label image.
 
         Parameters
         ----------
@@ -270,91 +305,118 @@ class Session:
 
         Returns
         -------
-        (H, W) array of int32, or of uint32 where `painted`
+        (H, W) ndarray of int32, or of uint32 where `painted`
             0 where nothing is kept, and else the number of the stroke: its
-            place in `strokes`, from 1. Where several reach a pixel it is that
+            place in `strokes`, from 1. Where several keep a pixel it is that
             of the one with the least tag.
 
         Raises
         ------
+        TypeError
+            Where level is no integer.
         ValueError
-            Where not exactly one of both is given, or it is out of its range.
+            Where not exactly one of level and share is given, or it is out of
+            its range; with `painted`, where strokes are not those that
+            `strokes_from_labels` made of one picture.
 
         Notes
         -----
-        `tools/labels_from_result.py` cuts regions in which several strokes
-        meet by a watershed, which this does not.
+        A region in which several strokes meet is not cut apart; the tool
+        `tools/labels_from_result.py` of the repository does so. The time of
+        `share` goes by the number of different values that strokes show.
         """
         if (level is None) == (share is None):
             raise ValueError("give one of level and share")
         strokes = self.strokes()
-        cells = self._cells()
-        if level is not None:
-            check_level(level)
-            numbers = _labels.by_level(cells, strokes, level, self._conn)
-        else:
-            if not 0 < share <= 1:
-                raise ValueError(f"share is {share!r}, and it is above 0, at most 1")
-            numbers = _labels.by_share(cells, self._mask, strokes, share, self._conn)
+        if painted and not are_of_one_picture([stroke.tag for stroke in strokes]):
+            raise ValueError(
+                "painted is for strokes that strokes_from_labels made of one picture"
+            )
+        numbers = self._numbers(strokes, level, share)
         if not painted:
             return numbers.astype(numpy.int32)
-        if any(stroke.tag.version != 8 for stroke in strokes):
-            raise ValueError("painted needs strokes that strokes_from_labels made")
-        names = [0, *(painted_label(stroke.tag) for stroke in strokes)]
-        return numpy.array(names, dtype=numpy.uint32)[numbers]
+        labels = [0, *(painted_label(stroke.tag) for stroke in strokes)]
+        return numpy.array(labels, dtype=numpy.uint32)[numbers]
 
     # ---- Within ----
 
-    def _cells(self):
-        """The image as cells that nobody changes."""
+    def _numbers(
+        self, strokes: list[Stroke], level: SupportsIndex | None, share: float | None
+    ) -> _labels.Numbers:
+        """The number of the stroke that keeps each pixel, from 1, or 0."""
+        if level is not None:
+            least = whole_level(level)
+            return _labels.by_level(self._cells(), strokes, least, self._conn)
+        assert share is not None
+        if not 0 < share <= 1:
+            raise ValueError(f"share is {share!r}, and it is above 0, at most 1")
+        return _labels.by_share(self._cells(), self._mask, strokes, share, self._conn)
+
+    def _cells(self) -> _arrays.Image:
+        """The image, grown once and kept until strokes change. Nobody writes in it."""
         if self._image is None:
-            data = b"image\n" + self._file
-            size = self._mask.size
-            file, _ = _library.view_kept(data, self._state, self._conn, size)
+            pixels = self._mask.size
+            file, _ = _library.view_kept(self._input, self._state, self._conn, pixels)
             self._image = _pgm.read(file)
         return self._image
 
-    def _add(self, stroke):
-        """Take a stroke, with a level where it has none, and give its tag."""
-        if stroke.level is None:
-            stroke = stroke._replace(level=self._level_under(stroke))
-        self.edit(f"{stroke.line()}\n")
+    def _add(self, stroke: Stroke, level: SupportsIndex | None) -> uuid.UUID:
+        """Take a stroke at a level, or at that of the mask, and give its tag."""
+        own = self._level_under(stroke) if level is None else operator.index(level)
+        self.edit(f"{stroke._replace(level=own).line()}\n")
         return stroke.tag
 
-    def _level_under(self, stroke):
+    def _level_under(self, stroke: Stroke) -> int:
         """The greatest value of the mask under a stroke, and at least 1.
 
-        Where the stroke does not lie in the mask it is 1: the library says so.
+        What lies beside the mask is passed over: the library refuses it.
         """
-        h, w = self._mask.shape
+        h, w = self._shape
         under = [1]
-        for y, first, last in stroke.spans(self._mask.shape):
+        for y, first, last in stroke.spans(self._shape):
             if 0 <= y < h and 0 <= first <= last < w:
                 under.append(int(self._mask[y, first : last + 1].max()))
         return max(under)
 
-    def _merged(self, lines, state):
+    def _merged(self, lines: bytes, state: bytes) -> bytes:
         """The bytes of a state file with lines joined in."""
-        return _library.merge(lines, state, self._print, self._mask.shape, self._conn)
+        return _library.merge(lines, state, self._fingerprint, self._shape, self._conn)
 
-    def _become(self, state):
+    def _become(self, state: bytes) -> None:
         """Go on with other bytes."""
         if state != self._state:
             self._state, self._image = state, None
 
+    def _whole_maxval(self, maxval: SupportsIndex | None) -> int:
+        """The maxval of the mask's file, by its type where none is given."""
+        if maxval is not None:
+            most = _arrays.whole_number("maxval", maxval, 1, _library.MAX_LEVEL)
+        elif self._kind.kind == "b":
+            most = 1
+        else:
+            most = 255 if self._kind.itemsize == 1 else _library.MAX_LEVEL
+        greatest = int(self._mask.max())
+        if greatest > most:
+            raise ValueError(f"mask has the value {greatest}, and maxval is {most}")
+        return most
 
-def _tag_of(tag):
+
+def _tag_of(tag: uuid.UUID | str | None) -> uuid.UUID:
     """A tag, or a new one."""
     if tag is None:
         return uuid.uuid4()
+    if isinstance(tag, uuid.UUID):
+        return tag
+    if not isinstance(tag, str):
+        raise TypeError(f"tag is {tag!r}, and it is a uuid.UUID or its text")
     try:
-        return tag if isinstance(tag, uuid.UUID) else uuid.UUID(tag)
+        return uuid.UUID(tag)
     except ValueError:
         raise Fault("seedpaint: E2 1") from None
 
 
-def _maxval_of(mask):
-    """The maxval of a mask's file, by its type."""
-    if mask.dtype.kind == "b":
-        return 1
-    return 255 if mask.dtype.itemsize == 1 else _library.MAX_LEVEL
+def _bytes_of(name: str, data: bytes) -> bytes:
+    """Bytes of the caller's."""
+    if not isinstance(data, (bytes, bytearray, memoryview)):
+        raise TypeError(f"{name} is a {type(data).__name__}, and not bytes")
+    return bytes(data)

@@ -5,17 +5,20 @@ from __future__ import annotations
 import hashlib
 import math
 import uuid
-from typing import NamedTuple
+from typing import Any, NamedTuple, Optional, SupportsIndex
 
 import numpy
-from numpy.typing import ArrayLike
+from numpy.typing import ArrayLike, NDArray
 
 from seedpaint import _arrays, _library
 
 __all__ = ["Stroke", "seed_from_labels", "strokes_from_labels"]
 
-MOST_RUNS = 160
-_NUMBER_BITS = 28  # (of a painted tag: the label stands above the stroke's number)
+Run = tuple[int, int, int]  # (row, first and last column)
+Disc = tuple[int, int, int]  # (row and column of the centre, and radius)
+
+_MOST_RUNS = 160
+_NUMBER_BITS, _LABEL_BITS = 28, 32  # (of a painted tag: two zero bits stand above)
 
 
 class Stroke(NamedTuple):
@@ -36,91 +39,119 @@ class Stroke(NamedTuple):
 
     tag: uuid.UUID
     level: int
-    runs: tuple = ()
-    disc: tuple | None = None
+    runs: tuple[Run, ...] = ()
+    disc: Optional[Disc] = None
 
     def line(self) -> str:
-        """The edit line of the stroke, without a newline."""
+        """Spell the stroke as an edit line.
+
+        Returns
+        -------
+        str
+            The line, without a newline.
+        """
         if self.disc is not None:
             y, x, radius = self.disc
             return f"disc {self.tag} {self.level} {y}:{x}+{radius}"
         runs = ",".join(f"{y}:{first}-{last}" for y, first, last in self.runs)
         return f"place {self.tag} {self.level} {runs}"
 
-    def spans(self, shape) -> list:
-        """Row, first and last column of what it covers in a picture of a shape."""
+    def spans(self, shape: _arrays.Shape) -> list[Run]:
+        """Give the pixels that the stroke covers in a picture.
+
+        Parameters
+        ----------
+        shape : (int, int)
+            Rows and columns of the picture, in which the stroke lies.
+
+        Returns
+        -------
+        list of (int, int, int)
+            Row, first and last column of each run of pixels.
+        """
         if self.disc is None:
             return list(self.runs)
         y, x, radius = self.disc
         h, w = shape
-        rows = range(max(y - radius, 0), min(y + radius + 1, h))
-        reaches = [math.isqrt(radius * radius - (row - y) ** 2) for row in rows]
-        return [
-            (row, max(x - reach, 0), min(x + reach, w - 1))
-            for row, reach in zip(rows, reaches)
-        ]
+        spans = []
+        for row in range(max(y - radius, 0), min(y + radius + 1, h)):
+            reach = math.isqrt(radius * radius - (row - y) ** 2)
+            spans.append((row, max(x - reach, 0), min(x + reach, w - 1)))
+        return spans
+
+
+# ---- Label images ----
 
 
 def seed_from_labels(
-    label_image: ArrayLike, mask: ArrayLike, *, level: int | None = None
-) -> numpy.ndarray:
-    """The seed that a label image paints on a mask, for `reconstruction`.
+    label_image: ArrayLike, mask: ArrayLike, *, level: SupportsIndex | None = None
+) -> NDArray[Any]:
+    """Make the seed that a label image paints on a mask, for `reconstruction`.
 
     Parameters
     ----------
-    label_image : (H, W) array of integers or bool
-        Each pixel that is not 0 is painted. Labels are of any size.
-    mask : (H, W) array of integers or bool
-        What bounds the growth, 0 to 65535.
+    label_image : (H, W) array_like of int or bool
+        Each pixel that is not 0 is painted.
+    mask : (H, W) array_like of int or bool
+        What bounds the growth. Values are 0 to 65535; H and W are 1 to 16384,
+        H * W at most 2**26.
     level : int, optional
         How bright painted pixels may be, 1 to 65535. Where none is given, they
         have the mask's values.
 
     Returns
     -------
-    (H, W) array
+    (H, W) ndarray
         On painted pixels the mask's values, at most `level`, and 0 elsewhere;
         of the mask's type.
 
     Raises
     ------
-    TypeError, ValueError
-        Where an array or the level is refused, or shapes differ.
+    TypeError
+        Where values are neither integers nor booleans, or `level` is no
+        integer.
+    ValueError
+        Where shapes differ or are not those of an image, a value of the mask
+        is below 0 or above 65535, a label below 0 or above 2**32 - 1, or
+        `level` is not from 1 to 65535.
+
+    See Also
+    --------
+    strokes_from_labels : The strokes that a label image paints, for a session.
 
     Examples
     --------
     >>> import numpy
+    >>> from seedpaint import seed_from_labels
     >>> mask = numpy.array([[3, 5, 2, 5, 4]], dtype=numpy.uint8)
     >>> seed_from_labels([[0, 7, 0, 0, 0]], mask)
     array([[0, 5, 0, 0, 0]], dtype=uint8)
     """
     mask = _arrays.integer_image("mask", mask)
-    labels = _labels_on("label_image", label_image, mask.shape)
-    if level is None:
-        limited = mask
-    else:
-        check_level(level)
-        limited = numpy.minimum(mask, level)
-    seed = numpy.where(labels != 0, limited, 0)
-    return seed.astype(mask.dtype.newbyteorder("="), copy=False)
+    labels = _labels_on(mask.shape, label_image)
+    seed = numpy.where(labels != 0, mask, mask.dtype.type(0))
+    if level is not None:
+        most = whole_level(level)
+        seed[seed > most] = most
+    return seed.astype(_arrays.native(mask.dtype), copy=False)
 
 
 def strokes_from_labels(
     label_image: ArrayLike,
     mask: ArrayLike | None = None,
     *,
-    level: int | None = None,
+    level: SupportsIndex | None = None,
     name: str = "labels",
 ) -> list[Stroke]:
-    """The strokes that a label image paints, as napari or ImageJ have it.
+    """Turn a label image, as napari or ImageJ have it, into strokes.
 
     Parameters
     ----------
-    label_image : (H, W) array of integers
+    label_image : (H, W) array_like of int or bool
         Each label above 0, up to 2**32 - 1, becomes a stroke, or several where
-        it has more than 160 runs.
-    mask : (H, W) array of integers, optional
-        Gives each stroke its level where `level` does not: the greatest value
+        it has more than 160 runs of pixels side by side on a row.
+    mask : (H, W) array_like of int or bool, optional
+        Gives each label its level where `level` does not: the greatest value
         under the label, and at least 1.
     level : int, optional
         The level of each stroke, 1 to 65535.
@@ -136,36 +167,122 @@ def strokes_from_labels(
 
     Raises
     ------
-    TypeError, ValueError
-        Where an array or the level is refused, shapes differ, or neither mask
-        nor level is given.
+    TypeError
+        Where values are neither integers nor booleans, or `level` is no
+        integer.
+    ValueError
+        Where shapes differ or are not those of an image, a value of the mask
+        is below 0 or above 65535, a label below 0 or above 2**32 - 1, `level`
+        is not from 1 to 65535, or neither mask nor level is given.
+
+    See Also
+    --------
+    Session.add : Place strokes.
+    Session.labels : The regions of strokes as a label image.
+    seed_from_labels : A seed of the same pixels, without strokes.
+
+    Examples
+    --------
+    >>> import numpy
+    >>> from seedpaint import strokes_from_labels
+    >>> mask = numpy.array([[3, 5, 2, 5, 4]], dtype=numpy.uint8)
+    >>> for stroke in strokes_from_labels([[7, 7, 0, 0, 9]], mask):
+    ...     print(stroke.level, stroke.runs)
+    5 ((0, 0, 1),)
+    4 ((0, 4, 4),)
     """
     if level is None and mask is None:
         raise ValueError("give a mask or a level: a stroke needs one")
-    if level is not None:
-        check_level(level)
+    all_levels = 0 if level is None else whole_level(level)
     if mask is not None:
         mask = _arrays.integer_image("mask", mask)
-    shape = None if mask is None else mask.shape
-    labels = _labels_on("label_image", label_image, shape)
-    found, rows, firsts, lasts, brightest = _runs_of(labels, mask)
-    edges = numpy.flatnonzero(numpy.diff(found)) + 1
-    strokes = []
-    for begin, end in zip([0, *edges], [*edges, len(found)]):
-        if begin == end:
-            continue
-        own = level or max(1, int(brightest[begin:end].max()))
-        label = int(found[begin])
-        for number, first in enumerate(range(begin, end, MOST_RUNS)):
-            part = slice(first, min(first + MOST_RUNS, end))
-            runs = zip(rows[part].tolist(), firsts[part].tolist(), lasts[part].tolist())
-            tag = painted_tag(name, label, number)
-            strokes.append(Stroke(tag, own, runs=tuple(runs)))
+    labels = _labels_on(None if mask is None else mask.shape, label_image)
+    runs = _runs_of(labels, mask)
+    edges = numpy.flatnonzero(numpy.diff(runs.labels, prepend=0, append=0))
+    strokes: list[Stroke] = []
+    for begin, end in zip(edges[:-1], edges[1:]):
+        brightest = int(runs.brightest[begin:end].max())
+        strokes += _strokes_of(runs, begin, end, all_levels or max(1, brightest), name)
     return strokes
 
 
+def whole_level(level: SupportsIndex) -> int:
+    """The level of a stroke, where it is one."""
+    return _arrays.whole_number("level", level, 1, _library.MAX_LEVEL)
+
+
+def _labels_on(shape: _arrays.Shape | None, label_image: ArrayLike) -> _arrays.Image:
+    """A label image as an array, of this shape where one is given."""
+    labels = numpy.asarray(label_image)
+    if labels.dtype.kind not in "biu":
+        raise TypeError(
+            f"label_image has values of type {labels.dtype}, and labels are integers"
+        )
+    _arrays.check_shape("label_image", labels)
+    if shape is not None and labels.shape != shape:
+        raise ValueError(f"label_image has the shape {labels.shape}, and mask {shape}")
+    least, greatest = int(labels.min()), int(labels.max())
+    if least < 0 or greatest >= 1 << _LABEL_BITS:
+        value = least if least < 0 else greatest
+        raise ValueError(f"label_image has the label {value}: labels are 0 to 2**32-1")
+    return labels
+
+
+# ---- Runs of labels ----
+
+
+class _Runs(NamedTuple):
+    """Runs of equal labels above 0, by label and then from the top.
+
+    Of each its label, row, first and last column, and the greatest value of
+    the mask under it, or 0 where there is none.
+    """
+
+    labels: NDArray[Any]
+    rows: NDArray[Any]
+    firsts: NDArray[Any]
+    lasts: NDArray[Any]
+    brightest: NDArray[Any]
+
+
+def _runs_of(labels: _arrays.Image, mask: _arrays.Image | None) -> _Runs:
+    """The runs of a label image."""
+    h, w = labels.shape
+    begins = numpy.ones(labels.shape, dtype=bool)
+    begins[:, 1:] = labels[:, 1:] != labels[:, :-1]
+    starts = numpy.flatnonzero(begins)
+    lengths = numpy.diff(starts, append=h * w)
+    found = labels.ravel()[starts].astype(numpy.int64)
+    if mask is None:
+        brightest = numpy.zeros_like(found)
+    else:
+        brightest = numpy.maximum.reduceat(mask.ravel(), starts)
+    order = numpy.argsort(found, kind="stable")
+    order = order[found[order] > 0]
+    rows, firsts = numpy.divmod(starts[order], w)
+    lasts = firsts + lengths[order] - 1
+    return _Runs(found[order], rows, firsts, lasts, brightest[order])
+
+
+def _strokes_of(
+    runs: _Runs, begin: int, end: int, level: int, name: str
+) -> list[Stroke]:
+    """The strokes of a label, which has these of the runs."""
+    label = int(runs.labels[begin])
+    strokes = []
+    for number, first in enumerate(range(begin, end, _MOST_RUNS)):
+        part = slice(first, min(first + _MOST_RUNS, end))
+        columns = (runs.rows[part], runs.firsts[part], runs.lasts[part])
+        triples = tuple(zip(*(column.tolist() for column in columns)))
+        strokes.append(Stroke(painted_tag(name, label, number), level, runs=triples))
+    return strokes
+
+
+# ---- Tags of painted strokes: RFC 9562, version 8, as docs/LABELS.md says ----
+
+
 def painted_tag(name: str, label: int, number: int) -> uuid.UUID:
-    """The tag of a painted stroke: RFC 9562, version 8, as docs/LABELS.md says."""
+    """The tag of a stroke of a label that was painted in a picture of a name."""
     digest = int.from_bytes(hashlib.sha256(name.encode()).digest(), "big")
     front, middle = digest >> 208, digest >> 196 & 0xFFF
     low = 0b10 << 62 | label << _NUMBER_BITS | number
@@ -174,50 +291,10 @@ def painted_tag(name: str, label: int, number: int) -> uuid.UUID:
 
 def painted_label(tag: uuid.UUID) -> int:
     """The label in the tag of a painted stroke."""
-    return tag.int >> _NUMBER_BITS & 0xFFFF_FFFF
+    return tag.int >> _NUMBER_BITS & (1 << _LABEL_BITS) - 1
 
 
-def check_level(level):
-    """Refuse a number that is no level of a stroke."""
-    if int(level) != level or not 1 <= level <= _library.MAX_LEVEL:
-        raise ValueError(f"level is {level!r}, and it is an integer from 1 to 65535")
-
-
-def _labels_on(name, label_image, shape):
-    """A label image as an array, of this shape where one is given."""
-    labels = numpy.asarray(label_image)
-    if labels.dtype.kind not in "biu":
-        raise TypeError(f"{name} has {labels.dtype}, and labels are integers")
-    if labels.ndim != 2:
-        raise ValueError(f"{name} has {labels.ndim} dimensions, and an image has 2")
-    _arrays.check_size(name, labels.shape)
-    if shape is not None and labels.shape != shape:
-        raise ValueError(f"{name} has the shape {labels.shape}, and mask {shape}")
-    least, greatest = int(labels.min()), int(labels.max())
-    if least < 0 or greatest >= 1 << 32:
-        value = least if least < 0 else greatest
-        raise ValueError(f"{name} has the label {value}, and labels are below 2**32")
-    return labels
-
-
-def _runs_of(labels, mask):
-    """The runs of equal labels above 0, by label and then from the top.
-
-    Of each: its label, row, first and last column, and the greatest value of
-    the mask, or 0 where there is none.
-    """
-    h, w = labels.shape
-    begins = numpy.ones(labels.shape, dtype=bool)
-    begins[:, 1:] = labels[:, 1:] != labels[:, :-1]
-    starts = numpy.flatnonzero(begins)
-    ends = numpy.append(starts[1:], h * w)
-    if mask is None:
-        brightest = numpy.zeros(len(starts), dtype=int)
-    else:
-        brightest = numpy.maximum.reduceat(mask.ravel(), starts)
-    found = labels.ravel()[starts]
-    order = numpy.flatnonzero(found)
-    order = order[numpy.argsort(found[order], kind="stable")]
-    rows, firsts = numpy.divmod(starts[order], w)
-    lasts = firsts + (ends - starts)[order] - 1
-    return found[order], rows, firsts, lasts, brightest[order]
+def are_of_one_picture(tags: list[uuid.UUID]) -> bool:
+    """Whether all are tags of strokes that were painted in one picture."""
+    bits = {tag.int >> _NUMBER_BITS + _LABEL_BITS for tag in tags}
+    return all(tag.version == 8 for tag in tags) and len(bits) <= 1
