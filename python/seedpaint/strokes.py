@@ -129,10 +129,9 @@ def seed_from_labels(
     """
     mask = _arrays.integer_image("mask", mask)
     labels = _labels_on(mask.shape, label_image)
-    seed = numpy.where(labels != 0, mask, mask.dtype.type(0))
+    seed = numpy.where(labels != 0, mask, 0)
     if level is not None:
-        most = whole_level(level)
-        seed[seed > most] = most
+        seed = numpy.minimum(seed, min(whole_level(level), int(mask.max())))
     return seed.astype(_arrays.native(mask.dtype), copy=False)
 
 

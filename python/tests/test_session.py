@@ -62,6 +62,16 @@ class Shows(unittest.TestCase):
         session.disc(0, 0, 0)
         self.assertEqual(session.image().min(), 5)
 
+    def test_kinds_of_masks(self):
+        for kind, maxval in (("?", 1), ("u1", 255), (">u2", 65535), ("i8", 65535)):
+            mask = numpy.array([[0, 1, 1]], dtype=kind)
+            session = seedpaint.Session(mask, 8)
+            session.disc(0, 2, 0)
+            self.assertEqual(session.image().dtype, mask.dtype.newbyteorder("="))
+            self.assertEqual(session.image().tolist(), mask.tolist())
+            named = seedpaint.Session(mask, 8, maxval=maxval, state=session.state())
+            self.assertEqual(named.state(), session.state())
+
     def test_a_level_of_its_own(self):
         mask = numpy.array([[0, 7, 9]], dtype=numpy.uint8)
         session = seedpaint.Session(mask, 4)
@@ -112,24 +122,47 @@ class Refuses(unittest.TestCase):
             call()
         self.assertEqual(caught.exception.code, code)
         self.assertIn(words, str(caught.exception))
+        self.assertTrue(str(caught.exception).endswith(caught.exception.sentence))
         self.assertEqual(self.session.state(), before)
 
     def test_strokes(self):
         place, disc = self.session.place, self.session.disc
         many = [(y, 0, 0) for y in range(161)]
-        self.refused("E1", "spelled", lambda: place([(-1, 0, 0)], 9))
-        self.refused("E1", "spelled", lambda: place([], 9))
+        self.refused("E1", "from 0 to 65535", lambda: place([(-1, 0, 0)], 9))
+        self.refused("E1", "from 0 to 65535", lambda: place([(-1, 0, 0)]))
+        self.refused("E1", "from 0 to 65535", lambda: disc(0, -1, 2))
+        self.refused("E1", "from 0 to 65535", lambda: disc(0, 0, -1))
+        self.refused("E1", "from 0 to 65535", lambda: place([], 9))
         self.refused("E2", "UUID", lambda: disc(1, 1, 1, 5, tag="me"))
         self.refused("E3", "level", lambda: disc(1, 1, 1, 0))
         self.refused("E3", "160", lambda: place(many, 9))
         self.refused("E3", "order", lambda: place([(0, 3, 2)], 9))
+        self.refused("E3", "order", lambda: place([(0, 3, 2)]))
         self.refused("E3", "radius", lambda: disc(1, 1, 256))
         self.refused("C1", "lie in", lambda: disc(4, 0, 0, 5))
+        self.refused("C1", "lie in", lambda: place([(0, 3, 5)]))
         self.refused("C2", "tag", lambda: disc(1, 1, 2, 5, tag=TAG))
+
+    def test_numbers_that_are_not_whole(self):
+        place, disc = self.session.place, self.session.disc
+        for call in (
+            lambda: place([(0.5, 0, 0)]),
+            lambda: place([(0, 0, 0)], 2.5),
+            lambda: disc(0, 0, 1.5),
+            lambda: disc(0, 0, 1, tag=7),
+            lambda: self.session.withdraw(7),
+            lambda: self.session.join("state"),
+            lambda: self.session.join(5),
+            lambda: self.session.edit(5),
+        ):
+            with self.assertRaises(TypeError):
+                call()
+        runs = numpy.array([[0, 0, 1], [2, 3, 3]], dtype=numpy.uint8)
+        place(runs, numpy.uint16(7))
 
     def test_all_lines_or_none(self):
         lines = f"disc {uuid.UUID(int=2)} 5 0:0+0\nplaces\n"
-        self.refused("E1", "spelled", lambda: self.session.edit(lines))
+        self.refused("E1", "from 0 to 65535", lambda: self.session.edit(lines))
 
     def test_states(self):
         state = self.session.state()
@@ -142,58 +175,28 @@ class Refuses(unittest.TestCase):
         other = seedpaint.Session(self.mask, 8)
         other.disc(0, 0, 0)
         self.refused("D1", "connectivity", lambda: join(other.state()))
+        other = seedpaint.Session(self.mask, 4)
+        other.disc(0, 0, 0, tag=TAG)
+        self.refused("C2", str(TAG), lambda: join(other.state()))
+
+    def test_masks(self):
+        for connectivity in (None, 3):
+            with self.assertRaisesRegex(ValueError, "connectivity"):
+                seedpaint.Session(self.mask, connectivity)
+        for maxval in (0, 65536):
+            with self.assertRaisesRegex(ValueError, "maxval"):
+                seedpaint.Session(self.mask, 4, maxval=maxval)
+        with self.assertRaisesRegex(ValueError, "value 9, and maxval is 8"):
+            seedpaint.Session(self.mask, 4, maxval=8)
+        with self.assertRaisesRegex(TypeError, "floats"):
+            seedpaint.Session(self.mask / 2, 4)
+        with self.assertRaises(seedpaint.Fault):
+            seedpaint.Session(self.mask, 4, state=b"none")
 
     def test_a_fault_can_be_sent_to_another_process(self):
         fault = seedpaint.Fault("seedpaint: E3 1 S1")
         again = pickle.loads(pickle.dumps(fault))
         self.assertEqual((again.code, str(again)), (fault.code, str(fault)))
-
-
-class Labels(unittest.TestCase):
-    def setUp(self):
-        self.mask = numpy.array(
-            [[9, 9, 0, 5, 5, 0, 4], [9, 9, 0, 5, 1, 1, 4]], dtype=numpy.uint8
-        )
-        self.session = seedpaint.Session(self.mask, 4)
-        for number, (y, x) in enumerate([(0, 0), (0, 3), (0, 6)], 1):
-            self.session.disc(y, x, 0, tag=uuid.UUID(int=number))
-
-    def test_by_level(self):
-        expected = [[1, 1, 0, 2, 2, 0, 0], [1, 1, 0, 2, 0, 0, 0]]
-        self.assertEqual(self.session.labels(level=5).tolist(), expected)
-        expected = [[1, 1, 0, 2, 2, 0, 2], [1, 1, 0, 2, 2, 2, 2]]
-        self.assertEqual(self.session.labels(level=1).tolist(), expected)
-
-    def test_by_share(self):
-        expected = [[1, 1, 0, 2, 2, 0, 3], [1, 1, 0, 2, 0, 0, 3]]
-        self.assertEqual(self.session.labels(share=0.9).tolist(), expected)
-
-    def test_words(self):
-        for words in ({}, {"level": 1, "share": 1}, {"level": 0}, {"share": 0}):
-            with self.assertRaises(ValueError):
-                self.session.labels(**words)
-        with self.assertRaisesRegex(ValueError, "strokes_from_labels"):
-            self.session.labels(level=1, painted=True)
-
-    def test_painted_labels_come_back(self):
-        layer = numpy.zeros((40, 500), dtype=numpy.int32)
-        layer[2:18] = 70_000
-        layer[22:38, ::2] = 3
-        mask = numpy.where(layer > 0, 200, 0).astype(numpy.uint8)
-        mask[30, :] = 200
-        session = seedpaint.Session(mask, 8)
-        strokes = seedpaint.strokes_from_labels(layer, mask)
-        session.add(reversed(strokes))
-        labels = session.labels(level=200, painted=True)
-        self.assertEqual(set(labels[2:18].ravel()), {70_000})
-        self.assertEqual(set(labels[22:38, ::2].ravel()), {3})
-        self.assertEqual(labels[20].max(), 0)
-
-    def test_a_seed_from_labels(self):
-        layer = numpy.array([[0, 1, 0, 0, 8, 0, 0], [0] * 7])
-        seed = seedpaint.seed_from_labels(layer, self.mask, level=6)
-        self.assertEqual(seed[0].tolist(), [0, 6, 0, 0, 5, 0, 0])
-        self.assertEqual(seed.dtype, numpy.uint8)
 
 
 if __name__ == "__main__":

@@ -1,0 +1,237 @@
+"""Label images into strokes and seeds, and regions of strokes as labels."""
+
+import pathlib
+import sys
+import unittest
+import uuid
+
+import numpy
+
+import seedpaint
+import slow
+from seedpaint import strokes as seedpaint_strokes
+
+TOOLS = pathlib.Path(__file__).parents[2] / "tools"
+
+
+def regions(kept, conn):
+    """The connected parts of what is kept, as sets of pixels, pixel by pixel."""
+    left = set(zip(*(axis.tolist() for axis in numpy.nonzero(kept))))
+    while left:
+        region, border = set(), [left.pop()]
+        while border:
+            y, x = border.pop()
+            region.add((y, x))
+            for down, right in slow.STEPS[conn]:
+                other = (y + down, x + right)
+                if other in left:
+                    left.remove(other)
+                    border.append(other)
+        yield region
+
+
+def kept_by(stroke, image, threshold, conn):
+    """What a path leads to from a stroke, on which no value is below a threshold."""
+    covered = {
+        (y, x)
+        for y, first, last in stroke.spans(image.shape)
+        for x in range(first, last + 1)
+    }
+    found = set()
+    for region in regions(image >= threshold, conn):
+        if region & covered:
+            found |= region
+    return found
+
+
+def numbered(shape, kept):
+    """A label image of what each stroke keeps: the least number counts."""
+    labels = numpy.zeros(shape, dtype=int)
+    for number in range(len(kept), 0, -1):
+        for pixel in kept[number - 1]:
+            labels[pixel] = number
+    return labels
+
+
+class Labels(unittest.TestCase):
+    def setUp(self):
+        self.mask = numpy.array(
+            [[9, 9, 0, 5, 5, 0, 4], [9, 9, 0, 5, 1, 1, 4]], dtype=numpy.uint8
+        )
+        self.session = seedpaint.Session(self.mask, 4)
+        for number, (y, x) in enumerate([(0, 0), (0, 3), (0, 6)], 1):
+            self.session.disc(y, x, 0, tag=uuid.UUID(int=number))
+
+    def test_by_level(self):
+        expected = [[1, 1, 0, 2, 2, 0, 0], [1, 1, 0, 2, 0, 0, 0]]
+        self.assertEqual(self.session.labels(level=5).tolist(), expected)
+        expected = [[1, 1, 0, 2, 2, 0, 2], [1, 1, 0, 2, 2, 2, 2]]
+        self.assertEqual(self.session.labels(level=1).tolist(), expected)
+
+    def test_by_share(self):
+        expected = [[1, 1, 0, 2, 2, 0, 3], [1, 1, 0, 2, 0, 0, 3]]
+        self.assertEqual(self.session.labels(share=0.9).tolist(), expected)
+        self.assertEqual(self.session.labels(share=0.9).dtype, numpy.int32)
+
+    def test_without_strokes(self):
+        session = seedpaint.Session(self.mask, 4)
+        for words in ({"level": 1}, {"share": 1}, {"level": 1, "painted": True}):
+            self.assertEqual(session.labels(**words).max(), 0)
+
+    def test_random_strokes_beside_slow_floods(self):
+        random = numpy.random.default_rng(13)
+        for conn in 20 * (4, 8):
+            mask = random.integers(0, 40, (16, 20)).astype(numpy.uint8)
+            session = seedpaint.Session(mask, conn)
+            for y, x, radius in random.integers(0, [16, 20, 4], (8, 3)):
+                session.disc(y, x, radius, int(random.integers(1, 50)))
+            image, strokes = session.image(), session.strokes()
+            level = int(random.integers(1, 40))
+            kept = [kept_by(s, image, level, conn) for s in strokes]
+            got = session.labels(level=level)
+            numpy.testing.assert_array_equal(got, numbered(mask.shape, kept))
+            kept = []
+            for s in strokes:
+                spans = s.spans(mask.shape)
+                shown = max(int(image[y, a : b + 1].max()) for y, a, b in spans)
+                own = max(int(mask[y, a : b + 1].max()) for y, a, b in spans)
+                threshold = max(1, -(-min(s.level, own) // 2))
+                self.assertLessEqual(min(s.level, own), shown)
+                kept.append(kept_by(s, image, threshold, conn))
+            got = session.labels(share=0.5)
+            numpy.testing.assert_array_equal(got, numbered(mask.shape, kept))
+
+    def test_more_strokes_than_levels(self):
+        shape, count = (500, 400), 70_000
+        mask = numpy.zeros(shape, dtype=numpy.uint8)
+        mask[:, ::2] = 9
+        strokes = []
+        for n in range(count):
+            y, x = divmod(n, 200)
+            run = (y, 2 * x, 2 * x)
+            strokes.append(seedpaint.Stroke(uuid.UUID(int=n + 1), 9, runs=(run,)))
+        image = numpy.where(numpy.arange(500)[:, None] < 350, mask, 0)
+        image[1::2] = 0
+        got = seedpaint.session._labels.by_level(image, strokes, 5, 4)
+        expected = numpy.zeros(shape, dtype=int)
+        expected[:, ::2] = numpy.arange(100_000).reshape(500, 200) + 1
+        expected[image == 0] = 0
+        numpy.testing.assert_array_equal(got, expected)
+
+    def test_words(self):
+        for words in ({}, {"level": 1, "share": 1}, {"level": 0}, {"share": 0}):
+            with self.assertRaises(ValueError):
+                self.session.labels(**words)
+        with self.assertRaisesRegex(TypeError, "level is 1.5"):
+            self.session.labels(level=1.5)
+        with self.assertRaisesRegex(ValueError, "strokes_from_labels"):
+            self.session.labels(level=1, painted=True)
+        for name in ("one", "other"):
+            strokes = seedpaint.strokes_from_labels([[3] * 7, [0] * 7], level=9, name=name)
+            session = seedpaint.Session(self.mask, 4)
+            session.add(strokes)
+            session.labels(level=1, painted=True)
+            self.session.add(strokes)
+        with self.assertRaisesRegex(ValueError, "one picture"):
+            self.session.labels(level=1, painted=True)
+
+
+class Painted(unittest.TestCase):
+    def test_painted_labels_come_back(self):
+        layer = numpy.zeros((40, 500), dtype=numpy.int32)
+        layer[2:18] = 70_000
+        layer[22:38, ::2] = 3
+        mask = numpy.where(layer > 0, 200, 0).astype(numpy.uint8)
+        mask[30, :] = 200
+        session = seedpaint.Session(mask, 8)
+        session.add(reversed(seedpaint.strokes_from_labels(layer, mask)))
+        labels = session.labels(level=200, painted=True)
+        self.assertEqual(labels.dtype, numpy.uint32)
+        self.assertEqual(set(labels[2:18].ravel()), {70_000})
+        self.assertEqual(set(labels[22:38, ::2].ravel()), {3})
+        self.assertEqual(labels[20].max(), 0)
+
+    def test_strokes_cover_their_labels(self):
+        random = numpy.random.default_rng(14)
+        for kind in ("?", "u1", ">i4", "u8"):
+            for _ in range(20):
+                h, w = random.integers(1, 60, 2)
+                layer = random.integers(0, 2 if kind == "?" else 4, (h, w)).astype(kind)
+                mask = random.integers(0, 300, (h, w))
+                painted = numpy.zeros((h, w), dtype=int)
+                for stroke in seedpaint.strokes_from_labels(layer, mask):
+                    label = seedpaint_strokes.painted_label(stroke.tag)
+                    under = mask[layer.astype(int) == label]
+                    self.assertEqual(stroke.level, max(1, under.max()))
+                    self.assertLessEqual(len(stroke.runs), 160)
+                    for y, first, last in stroke.spans((h, w)):
+                        painted[y, first : last + 1] += label
+                numpy.testing.assert_array_equal(painted, layer.astype(int))
+
+    def test_tags_are_those_of_the_tool(self):
+        sys.path.insert(0, str(TOOLS))
+        try:
+            import strokes as tool
+        except ImportError as why:
+            self.skipTest(str(why))
+        finally:
+            sys.path.remove(str(TOOLS))
+        for words in (("painted.png", 3, 0), ("", 2**32 - 1, 2**28 - 1), ("ü.tif", 0, 7)):
+            tag = seedpaint_strokes.painted_tag(*words)
+            self.assertEqual(tag, tool.painted_tag(*words))
+            self.assertEqual((tag.version, tag.variant), (8, uuid.RFC_4122))
+            self.assertEqual(seedpaint_strokes.painted_label(tag), words[1])
+
+    def test_a_level_for_all(self):
+        layer = [[1, 0, 2]]
+        levels = [s.level for s in seedpaint.strokes_from_labels(layer, level=7)]
+        self.assertEqual(levels, [7, 7])
+
+    def test_the_greatest_label(self):
+        layer = numpy.array([[2**32 - 1, 0]], dtype=numpy.uint64)
+        (stroke,) = seedpaint.strokes_from_labels(layer, level=9)
+        self.assertEqual(seedpaint_strokes.painted_label(stroke.tag), 2**32 - 1)
+
+    def test_what_is_refused(self):
+        strokes_from_labels = seedpaint.strokes_from_labels
+        with self.assertRaisesRegex(ValueError, "a mask or a level"):
+            strokes_from_labels([[1]])
+        with self.assertRaisesRegex(ValueError, "label -1"):
+            strokes_from_labels([[-1]], level=9)
+        with self.assertRaisesRegex(ValueError, "label 4294967296"):
+            strokes_from_labels([[2**32]], level=9)
+        with self.assertRaisesRegex(ValueError, r"\(1, 1\), and mask \(1, 2\)"):
+            strokes_from_labels([[1]], [[1, 2]])
+        with self.assertRaisesRegex(TypeError, "float64"):
+            strokes_from_labels([[1.0]], level=9)
+        for level in (0, 65536):
+            with self.assertRaisesRegex(ValueError, "level"):
+                strokes_from_labels([[1]], level=level)
+
+
+class Seeds(unittest.TestCase):
+    def test_a_seed_from_labels(self):
+        mask = numpy.array([[9, 9, 0, 5, 5, 0, 4]], dtype=numpy.uint8)
+        layer = [[0, 1, 0, 0, 8, 0, 0]]
+        seed = seedpaint.seed_from_labels(layer, mask, level=6)
+        self.assertEqual(seed.tolist(), [[0, 6, 0, 0, 5, 0, 0]])
+        self.assertEqual(seed.dtype, numpy.uint8)
+        seed = seedpaint.seed_from_labels(layer, mask, level=60_000)
+        self.assertEqual(seed.tolist(), [[0, 9, 0, 0, 5, 0, 0]])
+        seed = seedpaint.seed_from_labels(layer, mask > 0, level=1)
+        self.assertEqual(seed.dtype, bool)
+
+    def test_it_shows_what_the_strokes_show(self):
+        random = numpy.random.default_rng(15)
+        for kind in ("u1", ">u2", "i8"):
+            mask = random.integers(0, 200, (30, 40)).astype(kind)
+            layer = random.integers(0, 30, (30, 40)) * (random.random((30, 40)) < 0.05)
+            session = seedpaint.Session(mask, 8)
+            session.add(seedpaint.strokes_from_labels(layer, level=150))
+            seed = seedpaint.seed_from_labels(layer, mask, level=150)
+            grown = seedpaint.reconstruction(seed, mask)
+            numpy.testing.assert_array_equal(session.image(), grown)
+
+
+if __name__ == "__main__":
+    unittest.main()
