@@ -24,16 +24,16 @@ _NUMBER_BITS, _LABEL_BITS = 28, 32  # (of a painted tag: two zero bits stand abo
 class Stroke(NamedTuple):
     """A stroke over a picture.
 
-    Attributes
+    Parameters
     ----------
     tag : uuid.UUID
         Its name, for good.
     level : int
         How bright it may light up what it touches, 1 to 65535.
-    runs : tuple of (int, int, int)
+    runs : tuple of (int, int, int), optional
         Row, first and last column of each run, by row and then by column;
         empty where it is a disc.
-    disc : (int, int, int) or None
+    disc : (int, int, int), optional
         Row and column of the centre, and radius.
     """
 

@@ -21,9 +21,9 @@ try:
 except ImportError:
     mypy = None
 
-# What numpydoc asks for and is not kept: a summary on the first line's end, sections
-# that a small method does not need, and types spelled as it knows them.
-NOT_KEPT = {"GL01", "GL08", "SA01", "SA04", "EX01", "ES01", "PR01", "PR02", "YD01"}
+# What its validation asks for and is not kept: a summary on the second line, and three
+# sections that a small method does not need.
+NOT_KEPT = {"GL01", "SA01", "EX01", "ES01"}
 
 
 def public():
