@@ -3,14 +3,16 @@
 
     python3 examples/python_chunks.py 32768 32768
 
-makes a picture of so many columns and rows in two files, grows it, and says how long it took. With `--dask` the chunks
-of a round are grown by dask, and else by threads. docs/PYTHON.md says why the result is the reconstruction.
+makes a picture of soft hills of so many columns and rows and a seed of some pixels, in two files that are thrown away,
+grows it, and says how long that took. By `--dask` the chunks are grown by dask, and else by threads. `--compare` grows
+it in one call, too, where it is not too large, and compares. docs/PYTHON.md says why the result is the reconstruction.
 """
 
 import argparse
 import concurrent.futures
 import itertools
 import pathlib
+import sys
 import tempfile
 import time
 
@@ -19,73 +21,68 @@ import numpy
 import seedpaint
 
 SIDE = 2048
+BATCH = 16  # chunks that are grown before what they gave is written
 
 
-def by_threads(calls):
-    """Make calls side by side; each is a function and its arguments."""
+def by_threads(pairs, connectivity):
+    """Grow pairs of a seed and a mask side by side in threads."""
     with concurrent.futures.ThreadPoolExecutor() as pool:
-        return list(pool.map(lambda call: call[0](*call[1:]), calls))
+        return list(pool.map(lambda pair: seedpaint.reconstruction(*pair, connectivity=connectivity), pairs))
 
 
-def by_dask(calls):
-    """The same by dask, on the scheduler that it has at the moment."""
+def by_dask(pairs, connectivity):
+    """The same by dask, on the scheduler that it has at the moment. Masks may be dask arrays."""
     import dask
 
-    return dask.compute(*[dask.delayed(function)(*words) for function, *words in calls])
+    grow = dask.delayed(seedpaint.reconstruction)
+    return dask.compute(*[grow(*pair, connectivity=connectivity) for pair in pairs])
 
 
 def grow_in_chunks(image, mask, side=SIDE, compute=by_threads, connectivity=8):
     """Raise an image in place until it is the reconstruction by dilation of the mask from what it was.
 
     Both are arrays, or maps of files, of one shape and of any size. A chunk is grown with a rim of one pixel of its
-    neighbours, which may rise, too, but is not kept: so what crosses a border is met again from the other side. A chunk
-    is grown again where a pixel beside its border rose. When no chunk is left, nothing can rise any more.
+    neighbours, and of what that gives the rim is not kept. Where a pixel on the border of a chunk rose, the chunks that
+    touch it there are grown again. When none is left nothing can rise any more.
     """
-    rows, columns = (range(0, length, side) for length in image.shape)
-    waiting = set(itertools.product(range(len(rows)), range(len(columns))))
+    counts = [-(-length // side) for length in image.shape]
+    waiting = dict.fromkeys(itertools.product(*map(range, counts)))
     while waiting:
-        chunks = sorted(waiting)
-        calls = [(_grown, image, mask, chunk, side, connectivity) for chunk in chunks]
-        waiting = set()
-        for chunk, part in zip(chunks, compute(calls)):
-            inner, _ = _windows(image.shape, chunk, side)
-            before = image[inner]
-            risen = part > before
-            if risen.any():
-                waiting |= _neighbours(chunk, risen, len(rows), len(columns))
-                image[inner] = part
+        batch = list(itertools.islice(waiting, BATCH))
+        for chunk in batch:
+            del waiting[chunk]
+        windows = [window(chunk, side, 1) for chunk in batch]
+        grown = compute([(image[outer], mask[outer]) for outer in windows], connectivity)
+        for chunk, outer, part in zip(batch, windows, grown):
+            risen = write(image, window(chunk, side, 0), outer, part)
+            waiting.update(dict.fromkeys(beside(chunk, risen, counts)))
     return image
 
 
-def _windows(shape, chunk, side):
-    """The pixels of a chunk, and those with a rim of one pixel."""
-    inner, outer = [], []
-    for length, place in zip(shape, chunk):
-        first, last = place * side, min((place + 1) * side, length)
-        inner.append(slice(first, last))
-        outer.append(slice(max(first - 1, 0), min(last + 1, length)))
-    return tuple(inner), tuple(outer)
+def window(chunk, side, rim):
+    """The pixels of a chunk, with a rim of so many around it."""
+    return tuple(slice(max(place * side - rim, 0), (place + 1) * side + rim) for place in chunk)
 
 
-def _grown(image, mask, chunk, side, connectivity):
-    """The pixels of a chunk, grown with its rim."""
-    inner, outer = _windows(image.shape, chunk, side)
-    grown = seedpaint.reconstruction(image[outer], mask[outer], connectivity=connectivity)
-    return grown[tuple(slice(i.start - o.start, i.stop - o.start) for i, o in zip(inner, outer))]
+def write(image, inner, outer, part):
+    """Write what was grown over a chunk, without its rim, and say which pixels rose."""
+    offset = [i.start - o.start for i, o in zip(inner, outer)]
+    h, w = image[inner].shape
+    part = part[offset[0]:offset[0] + h, offset[1]:offset[1] + w]
+    risen = part > image[inner]
+    if risen.any():
+        image[inner] = part
+    return risen
 
 
-def _neighbours(chunk, risen, rows, columns):
-    """The chunks that touch a chunk where pixels on its border rose."""
-    edges = {-1: 0, 1: -1}
-    found = set()
-    for down, right in itertools.product((-1, 0, 1), repeat=2):
-        if (down, right) == (0, 0):
-            continue
-        border = risen[edges.get(down, slice(None)), edges.get(right, slice(None))]
+def beside(chunk, risen, counts):
+    """The chunks that touch a chunk at a pixel that rose."""
+    edges = {-1: 0, 0: slice(None), 1: -1}
+    for down, right in itertools.product(edges, repeat=2):
         y, x = chunk[0] + down, chunk[1] + right
-        if 0 <= y < rows and 0 <= x < columns and numpy.any(border):
-            found.add((y, x))
-    return found
+        is_there = (down, right) != (0, 0) and 0 <= y < counts[0] and 0 <= x < counts[1]
+        if is_there and numpy.any(risen[edges[down], edges[right]]):
+            yield y, x
 
 
 def hills(file, width, height):
@@ -95,6 +92,14 @@ def hills(file, width, height):
     for y in range(height):
         mask[y] = 128 + across + 60 * numpy.sin(y / 131 + across / 40)
     return mask
+
+
+def timed(words, function, *arguments, **named):
+    """What a function gives; how long it took is told."""
+    begin = time.monotonic()
+    result = function(*arguments, **named)
+    print(f"{words}: {time.monotonic() - begin:.1f} s", flush=True)
+    return result
 
 
 def main():
@@ -107,16 +112,16 @@ def main():
     parser.add_argument("--compare", action="store_true", help="with one call on the whole picture")
     words = parser.parse_args()
     with tempfile.TemporaryDirectory() as folder:
-        mask = hills(pathlib.Path(folder) / "mask.npy", words.width, words.height)
+        mask = timed("the picture is made", hills, pathlib.Path(folder) / "mask.npy", words.width, words.height)
         file = pathlib.Path(folder) / "image.npy"
         image = numpy.lib.format.open_memmap(file, "w+", numpy.uint8, mask.shape)
         image[::1024, ::1024] = mask[::1024, ::1024]
-        whole = seedpaint.reconstruction(image, mask) if words.compare else None
-        begin = time.monotonic()
-        grow_in_chunks(image, mask, words.side, by_dask if words.dask else by_threads)
-        print(f"{image.size / 1e6:.0f} million pixels in {time.monotonic() - begin:.1f} s")
-        if whole is not None:
-            print("equal to one call" if (image == whole).all() else "NOT EQUAL to one call")
+        if words.compare:
+            whole = timed("grown in one call", seedpaint.reconstruction, image, mask)
+        compute = by_dask if words.dask else by_threads
+        timed("grown in chunks", grow_in_chunks, image, mask, words.side, compute)
+        if words.compare and not (image == whole).all():
+            sys.exit("python_chunks.py: the two are not equal")
 
 
 if __name__ == "__main__":
