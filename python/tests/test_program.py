@@ -1,111 +1,125 @@
-"""The views of the library beside those of the program: bytes and fault lines."""
+"""Views and merging of the library beside the plain simulator of bench/fuzz, and beside the program.
+
+Inputs and state files are those of bench/fuzz, good ones and mutated ones. Bytes and
+lines of faults have to be equal. The program is the one that SEEDPAINT names, or that
+`rt run` made; without it that comparison is left out.
+"""
 
 import os
 import pathlib
-import subprocess
+import random
+import sys
 import tempfile
 import unittest
-import uuid
-
-import numpy
 
 import seedpaint
 from seedpaint import _library
 
 TOP = pathlib.Path(__file__).parents[2]
+sys.path.insert(0, str(TOP / "bench/fuzz"))
+import cases as fuzz  # noqa: E402
+import run as makers  # noqa: E402
+import simulator  # noqa: E402
+from readers import Refused, split_input  # noqa: E402
+
 PROGRAM = os.environ.get("SEEDPAINT", str(TOP / "crates/seedpaint/out/seedpaint"))
-RUNS = int(os.environ.get("SEEDPAINT_RUNS", "2000"))
+KINDS = ("pgm", "edits", "frames", "states", "script")
+BESIDE_SIMULATOR = 4000  # cases of each kind
+BESIDE_PROGRAM = 400
 
 
-def some_line(random, tags):
-    """An edit line, mostly a good one."""
-    tag = tags[random.integers(len(tags))] if random.random() < 0.3 else uuid.uuid4()
-    tags.append(tag)
-    y, x, level = (int(n) for n in random.integers(0, [9, 9, 300]))
-    shape = f"{y}:{x}-{x + int(random.integers(-1, 3))}"
-    lines = [
-        f"place {tag} {level} {shape}",
-        f"place {tag} {level} 0:0-1,{shape}",
-        f"disc {tag} {level} {y}:{x}+{random.integers(0, 300)}",
-        f"withdraw {tag}",
-        "; a comment",
-        "",
-        f"place {tag} {level}",
-        f"disc {str(tag)[1:]} 1 0:0+0",
-    ]
-    shares = [30, 10, 30, 15, 5, 5, 1, 1]
-    return str(random.choice(lines, p=[n / sum(shares) for n in shares]))
+def views(count):
+    """So many cases of each kind that are views and that no trouble with files befalls."""
+    for kind in KINDS:
+        for number in range(count):
+            case = getattr(makers, kind)(random.Random(f"{kind} {number}"))
+            if not case.call.kind and not case.trouble:
+                yield case
 
 
-def some_input(random, tags, mask):
-    """An input of the program, mostly a good one."""
-    lines = "".join(some_line(random, tags) + "\n" for _ in range(random.integers(9)))
-    data = lines.encode() + b"image\n" + mask
-    if random.random() < 0.2:
-        place = int(random.integers(len(data)))
-        change = [b"", bytes([int(random.integers(256))])][int(random.integers(2))]
-        data = data[:place] + change + data[place + 1 :]
-    return data
-
-
-def some_mask(random):
-    """A PGM file."""
-    maxval = int(random.choice([1, 9, 255, 256, 65535]))
-    image = random.integers(0, maxval + 1, (10, 10))
-    kind = numpy.uint8 if maxval < 256 else numpy.dtype(">u2")
-    return b"P5\n10 10\n%d\n" % maxval + image.astype(kind).tobytes()
-
-
-def answer(call):
-    """What a call answers, or the line of its fault."""
+def by_library(case, pixels):
+    """What the library answers: the line of a fault, the image's file and the state file."""
+    old = case.old or b""
     try:
-        return call()
+        if not case.has_file:
+            return b"", _library.view(case.stdin, case.call.conn, pixels), None
+        return b"", *_library.view_kept(case.stdin, old, case.call.conn, pixels)
     except seedpaint.Fault as fault:
-        return fault.line
+        return fault.line.encode() + b"\n", b"", case.old if case.has_file else None
 
 
-@unittest.skipUnless(os.path.exists(PROGRAM), "the program is not built")
-class BesideTheProgram(unittest.TestCase):
-    def run_program(self, words, data):
-        done = subprocess.run(
-            [PROGRAM, "view", *words], input=data, capture_output=True, check=False
+def same_form(answer):
+    """The same of an answer of the simulator or the program."""
+    return answer.line, answer.output, answer.kept
+
+
+def by_merging(text, mask, fingerprint, case):
+    """What merging answers: the line of a fault, or the state file."""
+    shape = (mask.height, mask.width)
+    try:
+        return _library.merge(text, case.old or b"", fingerprint, shape, case.call.conn)
+    except seedpaint.Fault as fault:
+        return fault.line.encode() + b"\n"
+
+
+class Views(unittest.TestCase):
+    def test_beside_the_simulator(self):
+        codes = set()
+        for number, case in enumerate(views(BESIDE_SIMULATOR)):
+            expected = fuzz.expected(case)
+            codes.add(fuzz.code_of(expected))
+            got = by_library(case, (0, 5000)[number % 2])
+            self.assertEqual(got, same_form(expected), case)
+        for code in ("written", "V1", "E1", "E2", "E3 S4", "P6", "P7", "C1", "C2"):
+            self.assertIn(code, codes)
+        for code in ("M1", "M2", "M3", "M4", "M5 S4", "M6", "M7", "D1"):
+            self.assertIn(code, codes)
+
+    @unittest.skipUnless(os.path.exists(PROGRAM), "the program is not built")
+    def test_beside_the_program(self):
+        with tempfile.TemporaryDirectory() as name:
+            folder = pathlib.Path(name) / "case"
+            for case in views(BESIDE_PROGRAM):
+                answer = fuzz.play(PROGRAM, folder, case)
+                self.assertEqual(by_library(case, 5000), same_form(answer), case)
+
+    def test_merging(self):
+        tried = 0
+        for case in views(BESIDE_SIMULATOR // 4):
+            try:
+                text, file = split_input(case.stdin)
+                mask, fingerprint = simulator.mask_of(file)
+            except Refused:
+                continue
+            answer = simulator.view(case.stdin, case.call.conn, case.old or b"")
+            got = by_merging(text, mask, fingerprint, case)
+            self.assertEqual(got, answer.line or answer.kept, case)
+            tried += 1
+        self.assertGreater(tried, BESIDE_SIMULATOR // 2)
+
+
+class Buffers(unittest.TestCase):
+    def test_one_that_is_too_short_is_told_and_left_alone(self):
+        data = b"image\nP5\n3 2\n255\nabcdef"
+        code, out, lengths = self.view(data, 5)
+        self.assertEqual(code, _library.NO_ROOM)
+        self.assertEqual(lengths.out, len(data) - 6)
+        self.assertEqual(bytes(out), 5 * b"\7")
+        code, out, lengths = self.view(data, 25)
+        self.assertEqual((code, lengths.out), (_library.OK, len(data) - 6))
+        self.assertEqual(bytes(out), b"P5\n3 2\n255\n" + 6 * b"\0" + 8 * b"\7")
+
+    def view(self, data, room):
+        """The code, the buffer and the lengths of a view into a buffer of this length."""
+        out = (_library.ctypes.c_ubyte * room)(*room * [7])
+        fault = (_library.ctypes.c_ubyte * 64)()
+        lengths = _library.Lengths()
+        address = _library.ctypes.addressof
+        code = _library._library.seedpaint_view(
+            *(data, len(data), 4, address(out), room, address(fault), 64),
+            _library.ctypes.byref(lengths),
         )
-        if done.returncode:
-            return done.stderr.decode().rstrip("\n")
-        return done.stdout
-
-    def test_view(self):
-        random = numpy.random.default_rng(21)
-        for _ in range(RUNS):
-            data = some_input(random, [uuid.uuid4()], some_mask(random))
-            conn = int(random.choice([4, 8]))
-            expected = self.run_program(["--conn", str(conn)], data)
-            got = answer(lambda: _library.view(data, conn, 100))
-            self.assertEqual(got, expected, data)
-
-    def test_view_kept(self):
-        random = numpy.random.default_rng(22)
-        with tempfile.TemporaryDirectory() as folder:
-            file = pathlib.Path(folder) / "state.spd"
-            for _ in range(RUNS // 10):
-                file.write_bytes(b"")
-                tags, mask, old = [uuid.uuid4()], some_mask(random), b""
-                conn = int(random.choice([4, 8]))
-                for _ in range(10):
-                    data = some_input(random, tags, mask)
-                    words = ["--conn", str(conn), "--state", str(file)]
-                    expected = self.run_program(words, data)
-                    got = answer(lambda: _library.view_kept(data, old, conn, 100))
-                    if isinstance(got, tuple):
-                        got, old = got
-                    self.assertEqual(got, expected, data)
-                    self.assertEqual(old, file.read_bytes())
-
-    def test_short_buffers_are_told_and_left_alone(self):
-        data = b"image\n" + some_mask(numpy.random.default_rng(23))
-        self.assertEqual(_library.view(data, 4, 0), _library.view(data, 4, 100))
-        both = [_library.view_kept(data, b"", 4, pixels) for pixels in (0, 100)]
-        self.assertEqual(both[0], both[1])
+        return code, out, lengths
 
 
 if __name__ == "__main__":
