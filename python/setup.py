@@ -1,6 +1,6 @@
-"""The wheel has a shared library for x86-64, and needs no special Python."""
+"""The wheel has a shared library for x86-64, and asks for no Python of one kind."""
 
-from setuptools import setup
+from setuptools import Distribution, setup
 
 try:
     from setuptools.command.bdist_wheel import bdist_wheel
@@ -11,12 +11,15 @@ except ImportError:  # (setuptools before 70)
 class Wheel(bdist_wheel):
     """A wheel for any Python 3 on Linux with glibc 2.17 or later."""
 
-    def finalize_options(self):
-        super().finalize_options()
-        self.root_is_pure = False
-
     def get_tag(self):
         return "py3", "none", "manylinux_2_17_x86_64"
 
 
-setup(cmdclass={"bdist_wheel": Wheel})
+class WithLibrary(Distribution):
+    """A package that is not of Python alone, so that it is installed with such ones."""
+
+    def has_ext_modules(self):
+        return True
+
+
+setup(cmdclass={"bdist_wheel": Wheel}, distclass=WithLibrary)

@@ -4,12 +4,14 @@
 #     tools/build_python.sh            dist/libseedpaint.so and dist/seedpaint-*.whl
 #     tools/build_python.sh --test     the same, and all tests of them, in a virtual environment of their own
 #
-# It needs the kit's rt, and of Debian gcc, binutils, python3-pip, python3-setuptools and python3-wheel; for the tests
-# also python3-venv, python3-numpy and valgrind, and python3-skimage where the results are to be compared with
-# scikit-image's. It fetches nothing.
+# It needs the kit's rt, and of Debian gcc, binutils, python3-numpy, python3-pip, python3-setuptools and python3-wheel;
+# for the tests also python3-venv, libasan (with gcc) and valgrind, and python3-skimage, python3-dask, python3-numpydoc
+# and python3-mypy, without which the tests that ask for them are left out. PYTHON names another Python than Debian's.
+# It fetches nothing.
 set -euo pipefail
 cd "$(dirname "$0")/.."
 
+PYTHON=${PYTHON:-/usr/bin/python3}
 KIT=$(dirname "$(dirname "$(readlink -f "$(command -v rt)")")")
 CRATE=crates/seedpaint_c
 ARCHIVES=("$CRATE/out/libseedpaint_c.a" "$KIT/c/liblibc_c.a")
@@ -39,8 +41,8 @@ link_library() {
 check_library() {
   diff <(exports | sort) <(nm -D --defined-only dist/libseedpaint.so | awk '{print $3}' | sort)
   local newest
-  newest=$(objdump -T dist/libseedpaint.so | grep -o 'GLIBC_[0-9.]*' | sort -Vu | tail -1)
-  if [ -n "$newest" ] && [ "$(printf '%s\nGLIBC_2.17\n' "$newest" | sort -V | tail -1)" != GLIBC_2.17 ]; then
+  newest=$({ objdump -T dist/libseedpaint.so | grep -o 'GLIBC_[0-9.]*' || true; } | sort -Vu | tail -1)
+  if [ "$(printf '%s\nGLIBC_2.17\n' "$newest" | sort -V | tail -1)" != GLIBC_2.17 ]; then
     echo "build_python.sh: the library needs $newest, and the wheel says glibc 2.17" >&2
     exit 1
   fi
@@ -48,15 +50,11 @@ check_library() {
 
 # Makes the wheel from a copy of the package, so that nothing is left in the repository.
 make_wheel() {
-  cp -r python "$WORK/python"
+  mkdir "$WORK/python"
+  cp -r python/pyproject.toml python/setup.py python/README.md python/seedpaint "$WORK/python"
   cp dist/libseedpaint.so "$WORK/python/seedpaint/"
   rm -f dist/seedpaint-*.whl
-  python3 -m pip wheel --quiet --no-index --no-deps --no-build-isolation -w dist "$WORK/python"
-}
-
-# The first Python lines of the package's README, as a newcomer types them.
-run_readme() {
-  sed -n 's/^    //p' python/README.md | "$1" - | diff <(echo '[[3 5 2 2 2]]') -
+  "$PYTHON" -m pip wheel --quiet --no-index --no-deps --no-build-isolation -w dist "$WORK/python"
 }
 
 # Refuses each growth of memory in turn: plainly, under the address sanitizer and under valgrind.
@@ -70,12 +68,15 @@ run_refusals() {
   valgrind --quiet --error-exitcode=1 --leak-check=full "$WORK/refusals"
 }
 
-run_tests() {
-  python3 -m venv --system-site-packages "$WORK/venv"
-  "$WORK/venv/bin/pip" install --quiet --no-index --no-deps dist/seedpaint-*.whl
-  run_readme "$WORK/venv/bin/python"
-  run_refusals
-  "$WORK/venv/bin/python" -m unittest discover -s python/tests
+# Installs the wheel in a virtual environment that has Debian's packages beside it, as docs/PYTHON.md does.
+install_wheel() {
+  "$PYTHON" -m venv --system-site-packages "$WORK/venv"
+  "$WORK/venv/bin/pip" install --quiet --no-index dist/seedpaint-*.whl
+}
+
+# The Python lines of the package's README, as a newcomer types them.
+run_readme() {
+  sed -n '/^    import/,/^$/s/^    //p' python/README.md | "$WORK/venv/bin/python" - | diff <(echo '[[3 5 2 2 2]]') -
 }
 
 (cd "$CRATE" && rt lib)
@@ -84,5 +85,8 @@ check_library
 make_wheel
 ls -l dist
 if [ "${1:-}" = --test ]; then
-  run_tests
+  run_refusals
+  install_wheel
+  run_readme
+  "$WORK/venv/bin/python" -m unittest discover --verbose -s python/tests
 fi
