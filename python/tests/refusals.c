@@ -1,10 +1,11 @@
 /*
- * Calls each function of seedpaint.h with each growth of memory refused in turn, and then with none refused. After each
- * call all memory has to be given back, and after each refusal what the caller lent has to be as it was.
+ * Calls each function of seedpaint.h with no growth of memory refused, and then with each one in turn. After each call
+ * all memory has to be given back. The answer is that of want of memory, and what the caller lent is as it was; or the
+ * call went on with less memory, and left there what it leaves with none refused.
  *
  * tools/build_python.sh --test links it, with malloc, realloc and free wrapped, and runs it by itself, under the
- * address sanitizer and under valgrind. It ends with 0 and a line, or with 1 and another one at the first thing that is
- * wrong.
+ * address sanitizer and under valgrind. It ends with 0 and a line for each function, or with 1 and another line at the
+ * first thing that is wrong.
  */
 #include "seedpaint.h"
 
@@ -12,11 +13,13 @@
 #include <stdlib.h>
 #include <string.h>
 
+/* ---- Memory ---- */
+
 void *__real_malloc(size_t bytes);
 void *__real_realloc(void *block, size_t bytes);
 void __real_free(void *block);
 
-static long growths, refused, live;
+static long growths, refused, live, went_on;
 static int counting;
 
 static int is_refused(void) { return counting && ++growths == refused; }
@@ -38,26 +41,35 @@ void __wrap_free(void *block) {
     __real_free(block);
 }
 
+/* ---- Calls ---- */
+
 enum { W = 40, H = 70, CELLS = W * H, BYTES = 8000 };
 
-static uint16_t mask[CELLS], image[CELLS], image_before[CELLS];
-static uint8_t input[BYTES], out[BYTES], state[BYTES], out_before[BYTES], state_before[BYTES], fault[64], print[32];
-static size_t input_bytes, edits_bytes;
+/* What a caller lends to be written. */
+struct lent {
+    uint16_t image[CELLS];
+    uint8_t out[BYTES], state[BYTES];
+};
+
+static struct lent lent, before;
+static uint16_t mask[CELLS];
+static uint8_t input[BYTES], old[BYTES], print[32], fault[SEEDPAINT_FAULT_BYTES];
+static size_t input_bytes, edits_bytes, old_bytes;
 static struct seedpaint_lengths lengths;
 
-static uint32_t grow(void) { return seedpaint_grow(mask, CELLS, image, CELLS, W, H, 4); }
-static uint32_t fill(void) { return seedpaint_fill(image, CELLS, W, H, 8); }
-static uint32_t hmax(void) { return seedpaint_hmax(image, CELLS, W, H, 3, 4); }
-static uint32_t regmax(void) { return seedpaint_regmax(image, CELLS, W, H, 8); }
+static uint32_t grow(void) { return seedpaint_grow(mask, CELLS, lent.image, CELLS, W, H, 4); }
+static uint32_t fill(void) { return seedpaint_fill(lent.image, CELLS, W, H, 8); }
+static uint32_t hmax(void) { return seedpaint_hmax(lent.image, CELLS, W, H, 3, 4); }
+static uint32_t regmax(void) { return seedpaint_regmax(lent.image, CELLS, W, H, 8); }
 static uint32_t view(void) {
-    return seedpaint_view(input, input_bytes, 4, out, BYTES, fault, sizeof fault, &lengths);
+    return seedpaint_view(input, input_bytes, 4, lent.out, BYTES, fault, sizeof fault, &lengths);
 }
 static uint32_t view_kept(void) {
-    return seedpaint_view_kept(input, input_bytes, input, 0, 4, out, BYTES, state, BYTES, fault, sizeof fault,
-                               &lengths);
+    return seedpaint_view_kept(input, input_bytes, old, old_bytes, 4, lent.out, BYTES, lent.state, BYTES, fault,
+                               sizeof fault, &lengths);
 }
 static uint32_t merge(void) {
-    return seedpaint_merge(input, edits_bytes, input, 0, print, 32, W, H, 4, state, BYTES, fault, sizeof fault,
+    return seedpaint_merge(input, edits_bytes, old, 0, print, 32, W, H, 4, lent.state, BYTES, fault, sizeof fault,
                            &lengths);
 }
 
@@ -67,55 +79,71 @@ static const struct {
 } functions[] = {{"grow", grow}, {"fill", fill},           {"hmax", hmax},  {"regmax", regmax},
                  {"view", view}, {"view_kept", view_kept}, {"merge", merge}};
 
-static void begin(void) {
-    for (int i = 0; i < CELLS; i++) {
-        mask[i] = 5 + i * 7919 % 23;
-        image_before[i] = image[i] = i % 97 ? 0 : mask[i];
-    }
-    memset(out, 1, BYTES);
-    memset(state, 2, BYTES);
-    memcpy(out_before, out, BYTES);
-    memcpy(state_before, state, BYTES);
-    int n = 0;
-    for (int i = 0; i < 5; i++)
-        n += snprintf((char *)input + n, BYTES - n, "disc 00000000-0000-4000-8000-00000000000%d 9 %d:%d+3\n", i,
-                      9 * i, i);
-    edits_bytes = n;
-    n += snprintf((char *)input + n, BYTES - n, "image\nP5\n%d %d\n255\n", W, H);
-    for (int i = 0; i < CELLS; i++) input[n++] = mask[i];
-    input_bytes = n;
-}
-
-static int is_untouched(void) {
-    return !memcmp(image, image_before, sizeof image) && !memcmp(out, out_before, BYTES) &&
-           !memcmp(state, state_before, BYTES);
-}
-
 static void fail(const char *name, const char *why) {
     printf("%s, growth %ld refused: %s\n", name, refused, why);
     exit(1);
 }
 
-int main(void) {
-    long all = 0;
-    for (size_t f = 0; f < sizeof functions / sizeof *functions; f++) {
-        const char *name = functions[f].name;
-        for (refused = 1;; refused++) {
-            begin();
-            growths = live = 0;
-            counting = 1;
-            uint32_t code = functions[f].call();
-            counting = 0;
-            if (live) fail(name, "memory is not given back");
-            if (growths < refused) {
-                if (code != SEEDPAINT_OK) fail(name, "with no growth refused it is refused");
-                break;
-            }
-            if (code != SEEDPAINT_NO_MEMORY && code != SEEDPAINT_OK) fail(name, "another code");
-            if (code == SEEDPAINT_NO_MEMORY && !is_untouched()) fail(name, "something was changed");
-            all++;
-        }
+/* A mask, an input of five discs on it, and a state file of a sixth. */
+static void begin(void) {
+    for (int i = 0; i < CELLS; i++) {
+        mask[i] = 5 + i * 7919 % 23;
+        lent.image[i] = i % 97 ? 0 : mask[i];
     }
-    printf("%ld refusals\n", all);
+    memset(lent.out, 1, BYTES);
+    memset(lent.state, 2, BYTES);
+    const char *disc = "disc 00000000-0000-4000-8000-00000000000%d 9 %d:%d+3\n";
+    int n = 0;
+    for (int i = 0; i < 5; i++) n += snprintf((char *)input + n, BYTES - n, disc, i, 9 * i, i);
+    edits_bytes = n;
+    n += snprintf((char *)input + n, BYTES - n, "image\nP5\n%d %d\n255\n", W, H);
+    for (int i = 0; i < CELLS; i++) input[n++] = mask[i];
+    input_bytes = n;
+    before = lent;
+}
+
+/* The old bytes of a state file: those that a view of one more disc keeps. */
+static void make_old(void) {
+    uint8_t first[BYTES];
+    begin();
+    int n = snprintf((char *)first, BYTES, "disc 00000000-0000-4000-8000-000000000009 7 60:20+9\n");
+    memcpy(first + n, input + edits_bytes, input_bytes - edits_bytes);
+    n += input_bytes - edits_bytes;
+    if (seedpaint_view_kept(first, n, old, 0, 4, lent.out, BYTES, old, BYTES, fault, sizeof fault, &lengths))
+        fail("view_kept", "the state file is refused");
+    old_bytes = lengths.state;
+}
+
+/* Makes a call with one growth refused, after which all memory has to be given back. Gives its code. */
+static uint32_t call_refused(const char *name, uint32_t (*call)(void)) {
+    begin();
+    growths = live = 0;
+    counting = 1;
+    uint32_t code = call();
+    counting = 0;
+    if (live) fail(name, "memory is not given back");
+    return code;
+}
+
+/* Refuses each growth of a function in turn, and gives how many there were. A function may go on with less memory. */
+static long refuse_each(const char *name, uint32_t (*call)(void)) {
+    refused = 0;
+    if (call_refused(name, call) != SEEDPAINT_OK) fail(name, "it answers another code");
+    struct lent after = lent;
+    long all = growths;
+    for (refused = 1; refused <= all; refused++) {
+        uint32_t code = call_refused(name, call);
+        if (code != SEEDPAINT_OK && code != SEEDPAINT_NO_MEMORY) fail(name, "it answers another code");
+        if (memcmp(&lent, code == SEEDPAINT_OK ? &after : &before, sizeof lent)) fail(name, "it leaves something else");
+        went_on += code == SEEDPAINT_OK;
+    }
+    return all;
+}
+
+int main(void) {
+    make_old();
+    for (size_t f = 0; f < sizeof functions / sizeof *functions; f++)
+        printf("%s: %ld growths refused\n", functions[f].name, refuse_each(functions[f].name, functions[f].call));
+    printf("after %ld of them the call went on with less memory, and gave the same\n", went_on);
     return 0;
 }
