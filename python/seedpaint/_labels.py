@@ -3,6 +3,7 @@
 from __future__ import annotations
 
 import math
+from collections.abc import Iterator
 from typing import Any
 
 import numpy
@@ -23,7 +24,11 @@ def by_level(
 
     A pixel below the level has 0.
     """
-    return _spread(image >= level, _painted(strokes, image.shape), len(strokes), conn)
+    numbers = numpy.zeros(image.shape, dtype=numpy.int64)
+    for number in range(len(strokes), 0, -1):
+        for y, first, last in strokes[number - 1].spans(image.shape):
+            numbers[y, first : last + 1] = number
+    return _spread(image >= level, numbers, len(strokes), conn)
 
 
 def by_share(
@@ -36,38 +41,59 @@ def by_share(
     """For each pixel the least stroke that keeps it, or 0.
 
     A stroke keeps what a path leads to from it, on which no value is below the
-    share of the brightest that the stroke itself shows.
+    share of the brightest that the stroke itself shows: its threshold. What it
+    keeps lies in regions of the lowest threshold of all, so strokes in other
+    ones are looked at in the same round.
     """
     thresholds = [_threshold(stroke, mask, share) for stroke in strokes]
+    regions = by_level(image, strokes, min(thresholds, default=1), conn)
     result = numpy.zeros(image.shape, dtype=numpy.int64)
-    for threshold in sorted(set(thresholds)):
-        own = [number for number, t in enumerate(thresholds, 1) if t == threshold]
-        numbers = _painted(strokes, image.shape, own)
-        kept = _spread(image >= threshold, numbers, len(strokes), conn)
+    for threshold_of in _rounds(strokes, thresholds, regions):
+        limits = threshold_of[regions]
+        numbers = _painted_at(limits, strokes, thresholds)
+        kept = _spread(image >= limits, numbers, len(strokes), conn)
         better = (kept > 0) & ((result == 0) | (kept < result))
         result[better] = kept[better]
     return result
 
 
 def _threshold(stroke: Stroke, mask: _arrays.Cells, share: float) -> int:
-    """The least value that a stroke keeps: a share of the brightest it shows."""
+    """The least value that a stroke keeps."""
     spans = stroke.spans(mask.shape)
     brightest = max(int(mask[y, first : last + 1].max()) for y, first, last in spans)
     return max(1, math.ceil(share * min(stroke.level, brightest)))
 
 
-def _painted(
-    strokes: list[Stroke], shape: _arrays.Shape, own: list[int] | None = None
-) -> Numbers:
-    """For each pixel the least number of a stroke on it, or 0.
+def _rounds(
+    strokes: list[Stroke], thresholds: list[int], regions: Numbers
+) -> Iterator[NDArray[numpy.int64]]:
+    """Thresholds of strokes, one for each region in which one is left, round by round.
 
-    Only the strokes of these numbers are painted, or all where none are given.
+    Where none is left it is above all levels.
     """
-    image = numpy.zeros(shape, dtype=numpy.int64)
-    for number in reversed(range(1, len(strokes) + 1) if own is None else own):
-        for y, first, last in strokes[number - 1].spans(shape):
-            image[y, first : last + 1] = number
-    return image
+    left: dict[int, set[int]] = {}
+    for stroke, threshold in zip(strokes, thresholds):
+        for y, first, last in stroke.spans(regions.shape):
+            for region in set(regions[y, first : last + 1].tolist()) - {0}:
+                left.setdefault(region, set()).add(threshold)
+    while left:
+        threshold_of = numpy.full(len(strokes) + 1, _library.MAX_LEVEL + 1)
+        for region, own in left.items():
+            threshold_of[region] = own.pop()
+        left = {region: own for region, own in left.items() if own}
+        yield threshold_of
+
+
+def _painted_at(
+    limits: NDArray[numpy.int64], strokes: list[Stroke], thresholds: list[int]
+) -> Numbers:
+    """For each pixel the least number of a stroke on it whose threshold is there."""
+    numbers = numpy.zeros(limits.shape, dtype=numpy.int64)
+    for number in range(len(strokes), 0, -1):
+        for y, first, last in strokes[number - 1].spans(limits.shape):
+            part = slice(first, last + 1)
+            numbers[y, part][limits[y, part] == thresholds[number - 1]] = number
+    return numbers
 
 
 def _spread(kept: NDArray[Any], numbers: Numbers, count: int, conn: int) -> Numbers:

@@ -17,9 +17,8 @@ from numpy.typing import NDArray
 
 from seedpaint.errors import Fault
 
-OK, REFUSED, BAD_CONNECTIVITY, NO_MEMORY, NO_ROOM, BAD_SIZE, BAD_LENGTH, ABOVE_MASK = (
-    range(8)
-)
+OK, REFUSED, BAD_CONNECTIVITY, NO_MEMORY = range(4)
+NO_ROOM, BAD_SIZE, BAD_LENGTH, ABOVE_MASK = range(4, 8)
 MAX_SIDE = 16384
 MAX_PIXELS = 1 << 26
 MAX_LEVEL = 65535
@@ -58,7 +57,12 @@ _ARGUMENTS: dict[str, list[Any]] = {
 def _load() -> ctypes.CDLL:
     """The shared library beside this file, or the one SEEDPAINT_LIBRARY names."""
     beside = pathlib.Path(__file__).with_name("libseedpaint.so")
-    library = ctypes.CDLL(os.environ.get("SEEDPAINT_LIBRARY") or str(beside))
+    try:
+        library = ctypes.CDLL(os.environ.get("SEEDPAINT_LIBRARY") or str(beside))
+    except OSError as why:
+        raise ImportError(
+            f"{why}: the wheel that tools/build_python.sh makes has the library"
+        ) from None
     for name, arguments in _ARGUMENTS.items():
         function = getattr(library, name)
         function.argtypes = arguments
@@ -72,9 +76,7 @@ _library = _load()
 # ---- Arrays ----
 
 
-def grow(
-    mask: NDArray[numpy.uint16], image: NDArray[numpy.uint16], conn: int
-) -> None:
+def grow(mask: NDArray[numpy.uint16], image: NDArray[numpy.uint16], conn: int) -> None:
     """Grow an image in place.
 
     Both are C-contiguous and aligned, of one shape.

@@ -135,9 +135,7 @@ def _grown(
     return numpy.invert(grown, out=grown)
 
 
-def _is_in_place(
-    out: _arrays.Image, seed: _arrays.Image, mask: _arrays.Image
-) -> bool:
+def _is_in_place(out: _arrays.Image, seed: _arrays.Image, mask: _arrays.Image) -> bool:
     """Whether `out` is the seed's memory, and the library can grow it there."""
     return (
         _arrays.is_fit(out)
@@ -147,9 +145,7 @@ def _is_in_place(
     )
 
 
-def _check_out(
-    out: NDArray[Any], shape: _arrays.Shape, kind: numpy.dtype[Any]
-) -> None:
+def _check_out(out: NDArray[Any], shape: _arrays.Shape, kind: numpy.dtype[Any]) -> None:
     """Refuse what the result does not go into."""
     if not isinstance(out, numpy.ndarray):
         raise TypeError(f"out is a {type(out).__name__}, and not a numpy array")

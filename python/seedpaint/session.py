@@ -322,8 +322,8 @@ class Session:
         Notes
         -----
         A region in which several strokes meet is not cut apart; the tool
-        `tools/labels_from_result.py` of the repository does so. The time of
-        `share` goes by the number of different values that strokes show.
+        `tools/labels_from_result.py` of the repository does so. By `share` it
+        takes the longer, the more strokes meet in one.
         """
         if (level is None) == (share is None):
             raise ValueError("give one of level and share")

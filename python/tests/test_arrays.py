@@ -128,7 +128,9 @@ class Kinds(unittest.TestCase):
         mask = numpy.full((2, 2), 65535, dtype=numpy.int64)
         seed = numpy.array([[65535, 0], [0, 0]])
         self.assertTrue((seedpaint.reconstruction(seed, mask) == 65535).all())
-        self.assertTrue((seedpaint.reconstruction(mask, seed, "erosion") == 65535).all())
+        self.assertTrue(
+            (seedpaint.reconstruction(mask, seed, "erosion") == 65535).all()
+        )
 
 
 class Out(unittest.TestCase):

@@ -40,7 +40,8 @@ def modules():
     """The modules of the package."""
     yield seedpaint
     for found in pkgutil.iter_modules(seedpaint.__path__):
-        yield importlib.import_module(f"seedpaint.{found.name}")
+        if found.name != "libseedpaint":
+            yield importlib.import_module(f"seedpaint.{found.name}")
 
 
 class Docstrings(unittest.TestCase):

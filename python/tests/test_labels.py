@@ -127,7 +127,9 @@ class Labels(unittest.TestCase):
         with self.assertRaisesRegex(ValueError, "strokes_from_labels"):
             self.session.labels(level=1, painted=True)
         for name in ("one", "other"):
-            strokes = seedpaint.strokes_from_labels([[3] * 7, [0] * 7], level=9, name=name)
+            strokes = seedpaint.strokes_from_labels(
+                [[3] * 7, [0] * 7], level=9, name=name
+            )
             session = seedpaint.Session(self.mask, 4)
             session.add(strokes)
             session.labels(level=1, painted=True)
@@ -176,7 +178,11 @@ class Painted(unittest.TestCase):
             self.skipTest(str(why))
         finally:
             sys.path.remove(str(TOOLS))
-        for words in (("painted.png", 3, 0), ("", 2**32 - 1, 2**28 - 1), ("ü.tif", 0, 7)):
+        for words in (
+            ("painted.png", 3, 0),
+            ("", 2**32 - 1, 2**28 - 1),
+            ("ü.tif", 0, 7),
+        ):
             tag = seedpaint_strokes.painted_tag(*words)
             self.assertEqual(tag, tool.painted_tag(*words))
             self.assertEqual((tag.version, tag.variant), (8, uuid.RFC_4122))

@@ -1,4 +1,4 @@
-"""Views and merging of the library beside the plain simulator of bench/fuzz, and beside the program.
+"""Views and merging beside the plain simulator of bench/fuzz and beside the program.
 
 Inputs and state files are those of bench/fuzz, good ones and mutated ones. Bytes and
 lines of faults have to be equal. The program is the one that SEEDPAINT names, or that
@@ -29,7 +29,7 @@ BESIDE_PROGRAM = 400
 
 
 def views(count):
-    """So many cases of each kind that are views and that no trouble with files befalls."""
+    """Of so many cases of each kind those that are views, without troubles of files."""
     for kind in KINDS:
         for number in range(count):
             case = getattr(makers, kind)(random.Random(f"{kind} {number}"))
@@ -38,7 +38,7 @@ def views(count):
 
 
 def by_library(case, pixels):
-    """What the library answers: the line of a fault, the image's file and the state file."""
+    """What the library answers: a fault's line, the image's file and the state file."""
     old = case.old or b""
     try:
         if not case.has_file:
@@ -110,7 +110,7 @@ class Buffers(unittest.TestCase):
         self.assertEqual(bytes(out), b"P5\n3 2\n255\n" + 6 * b"\0" + 8 * b"\7")
 
     def view(self, data, room):
-        """The code, the buffer and the lengths of a view into a buffer of this length."""
+        """The code, buffer and lengths of a view into a buffer of this length."""
         out = (_library.ctypes.c_ubyte * room)(*room * [7])
         fault = (_library.ctypes.c_ubyte * 64)()
         lengths = _library.Lengths()

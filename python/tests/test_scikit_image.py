@@ -110,7 +110,9 @@ class ItsExamples(unittest.TestCase):
         h = round(0.4 * 65535)
         seed = numpy.where(image > h, image - h, 0).astype(numpy.uint16)
         expected = morphology.reconstruction(seed, image)
-        numpy.testing.assert_array_equal(seedpaint.reconstruction(seed, image), expected)
+        numpy.testing.assert_array_equal(
+            seedpaint.reconstruction(seed, image), expected
+        )
         got = seedpaint.h_maxima_reconstruction(image, h)
         numpy.testing.assert_array_equal(got, expected)
 
