@@ -13,7 +13,7 @@ import tempfile
 import unittest
 
 import seedpaint
-from seedpaint import _library
+from seedpaint import _library, errors
 
 TOP = pathlib.Path(__file__).parents[2]
 sys.path.insert(0, str(TOP / "bench/fuzz"))
@@ -70,6 +70,7 @@ class Views(unittest.TestCase):
             codes.add(fuzz.code_of(expected))
             got = by_library(case, (0, 5000)[number % 2])
             self.assertEqual(got, same_form(expected), case)
+        self.assertLessEqual({code[:2] for code in codes}, {"wr", *errors._SENTENCES})
         for code in ("written", "V1", "E1", "E2", "E3 S4", "P6", "P7", "C1", "C2"):
             self.assertIn(code, codes)
         for code in ("M1", "M2", "M3", "M4", "M5 S4", "M6", "M7", "D1"):
