@@ -9,6 +9,7 @@ import numpy
 
 import seedpaint
 import slow
+from seedpaint import _labels
 from seedpaint import strokes as seedpaint_strokes
 
 TOOLS = pathlib.Path(__file__).parents[2] / "tools"
@@ -112,7 +113,7 @@ class Labels(unittest.TestCase):
             strokes.append(seedpaint.Stroke(uuid.UUID(int=n + 1), 9, runs=(run,)))
         image = numpy.where(numpy.arange(500)[:, None] < 350, mask, 0)
         image[1::2] = 0
-        got = seedpaint.session._labels.by_level(image, strokes, 5, 4)
+        got = _labels.by_level(image, strokes, 5, 4)
         expected = numpy.zeros(shape, dtype=int)
         expected[:, ::2] = numpy.arange(100_000).reshape(500, 200) + 1
         expected[image == 0] = 0
