@@ -6,6 +6,7 @@ import resource
 import subprocess
 import sys
 import threading
+import time
 import unittest
 
 import numpy
@@ -77,26 +78,25 @@ class SideBySide(unittest.TestCase):
             self.assertTrue(all(pool.map(play, range(40))))
 
     def test_the_interpreter_goes_on_meanwhile(self):
-        # While one thread is in the library this one counts: were the lock held, it
-        # could count before and after the call alone.
+        # Were its lock held, no other thread could look at the clock during the call.
         random = numpy.random.default_rng(10)
-        mask = random.integers(0, 65536, (1500, 1500)).astype(numpy.uint16)
+        mask = random.integers(0, 65536, (2000, 2000)).astype(numpy.uint16)
         seed = numpy.where(random.random(mask.shape) < 1e-5, mask, 0).astype("u2")
-        begun, ended = threading.Event(), threading.Event()
+        call, looks = [], []
 
         def grow():
-            begun.set()
-            seedpaint._library.grow(mask, seed, 4)
-            ended.set()
+            call.append(time.monotonic())
+            seedpaint.reconstruction(seed, mask, out=seed)
+            call.append(time.monotonic())
 
         thread = threading.Thread(target=grow)
         thread.start()
-        begun.wait()
-        counted = 0
-        while not ended.is_set():
-            counted += 1
-        thread.join()
-        self.assertGreater(counted, 10_000)
+        while thread.is_alive():
+            looks.append(time.monotonic())
+            time.sleep(0.001)
+        quarter = (call[1] - call[0]) / 4
+        within = [t for t in looks if call[0] + quarter < t < call[1] - quarter]
+        self.assertTrue(within)
 
 
 class Memory(unittest.TestCase):
