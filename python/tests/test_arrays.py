@@ -159,6 +159,13 @@ class Out(unittest.TestCase):
         seedpaint.reconstruction(both, both, out=both)
         self.assertEqual(both.tolist(), self.mask.tolist())
 
+    def test_a_seed_in_place_that_the_mask_overlaps(self):
+        room = numpy.array([[0, 1, 5, 5, 5, 7, 9, 9]], dtype=numpy.uint16)
+        seed, mask = room[:, :-1], room[:, 1:]
+        expected = slow.reconstruction(seed, mask.copy(), 8)
+        seedpaint.reconstruction(seed, mask, out=seed)
+        numpy.testing.assert_array_equal(seed, expected)
+
     def test_in_other_kinds_and_layouts(self):
         for kind in ("u1", ">u2", "i4"):
             seed, mask = self.seed.astype(kind), self.mask.astype(kind)
