@@ -6,6 +6,7 @@ import numpy
 
 import seedpaint
 import slow
+from seedpaint import _arrays
 
 KINDS = ["?", "i1", "u1", "<i2", ">i2", "<u2", ">u2"]
 KINDS += ["<i4", ">i4", "<u4", ">u4", "<i8", ">i8", "<u8", ">u8"]
@@ -112,6 +113,13 @@ class Kinds(unittest.TestCase):
             self.assertEqual(got.dtype, native if got.dtype != bool else bool)
         numpy.testing.assert_array_equal(seed, before[0])
         numpy.testing.assert_array_equal(mask, before[1])
+
+    def test_which_memory_the_library_reads(self):
+        cells = numpy.ones((5, 6), dtype=numpy.uint16)
+        fit = {name for name, array in layouts(cells) if _arrays.is_fit(array)}
+        self.assertEqual(fit, {"contiguous", "read-only"})
+        for kind in KINDS:
+            self.assertEqual(_arrays.is_fit(cells.astype(kind)), kind == "<u2")
 
     def test_lists(self):
         grown = seedpaint.reconstruction([[0, 5, 0, 0, 0]], [[3, 5, 2, 5, 4]])
