@@ -12,7 +12,7 @@ from numpy.typing import NDArray
 from seedpaint import _arrays, _library
 from seedpaint.strokes import Stroke
 
-Numbers = NDArray[numpy.int64]  # (of strokes, from 1; 0 is none)
+Numbers = NDArray[numpy.int32]  # (of strokes, from 1; 0 is none)
 
 _MOST_NUMBERS = _library.MAX_LEVEL  # (that one growth tells apart)
 
@@ -24,7 +24,7 @@ def by_level(
 
     A pixel below the level has 0.
     """
-    numbers = numpy.zeros(image.shape, dtype=numpy.int64)
+    numbers = numpy.zeros(image.shape, dtype=numpy.int32)
     for number in range(len(strokes), 0, -1):
         for y, first, last in strokes[number - 1].spans(image.shape):
             numbers[y, first : last + 1] = number
@@ -47,7 +47,7 @@ def by_share(
     """
     thresholds = [_threshold(stroke, mask, share) for stroke in strokes]
     regions = by_level(image, strokes, min(thresholds, default=1), conn)
-    result = numpy.zeros(image.shape, dtype=numpy.int64)
+    result = numpy.zeros(image.shape, dtype=numpy.int32)
     for threshold_of in _rounds(strokes, thresholds, regions):
         limits = threshold_of[regions]
         numbers = _painted_at(limits, strokes, thresholds)
@@ -66,18 +66,19 @@ def _threshold(stroke: Stroke, mask: _arrays.Cells, share: float) -> int:
 
 def _rounds(
     strokes: list[Stroke], thresholds: list[int], regions: Numbers
-) -> Iterator[NDArray[numpy.int64]]:
+) -> Iterator[NDArray[numpy.int32]]:
     """Thresholds of strokes, one for each region in which one is left, round by round.
 
     Where none is left it is above all levels.
     """
+    above_all = _library.MAX_LEVEL + 1
     left: dict[int, set[int]] = {}
     for stroke, threshold in zip(strokes, thresholds):
         for y, first, last in stroke.spans(regions.shape):
             for region in set(regions[y, first : last + 1].tolist()) - {0}:
                 left.setdefault(region, set()).add(threshold)
     while left:
-        threshold_of = numpy.full(len(strokes) + 1, _library.MAX_LEVEL + 1)
+        threshold_of = numpy.full(len(strokes) + 1, above_all, dtype=numpy.int32)
         for region, own in left.items():
             threshold_of[region] = own.pop()
         left = {region: own for region, own in left.items() if own}
@@ -85,10 +86,10 @@ def _rounds(
 
 
 def _painted_at(
-    limits: NDArray[numpy.int64], strokes: list[Stroke], thresholds: list[int]
+    limits: NDArray[numpy.int32], strokes: list[Stroke], thresholds: list[int]
 ) -> Numbers:
     """For each pixel the least number of a stroke on it whose threshold is there."""
-    numbers = numpy.zeros(limits.shape, dtype=numpy.int64)
+    numbers = numpy.zeros(limits.shape, dtype=numpy.int32)
     for number in range(len(strokes), 0, -1):
         for y, first, last in strokes[number - 1].spans(limits.shape):
             part = slice(first, last + 1)
@@ -104,12 +105,12 @@ def _spread(kept: NDArray[Any], numbers: Numbers, count: int, conn: int) -> Numb
     numbers at once as there are values.
     """
     limits = numpy.where(kept, numpy.uint16(_library.MAX_LEVEL), numpy.uint16(0))
-    result = numpy.zeros(kept.shape, dtype=numpy.int64)
+    result = numpy.zeros(kept.shape, dtype=numpy.int32)
     for base in reversed(range(0, count, _MOST_NUMBERS)):
         here = kept & (numbers > base) & (numbers <= base + _MOST_NUMBERS)
         top = base + _MOST_NUMBERS + 1
         grown = _arrays.cells_of(numpy.where(here, top - numbers, 0))
         _library.grow(limits, grown, conn)
         reached = grown > 0
-        result[reached] = top - grown[reached].astype(numpy.int64)
+        result[reached] = top - grown[reached].astype(numpy.int32)
     return result

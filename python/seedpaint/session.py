@@ -334,7 +334,7 @@ class Session:
             )
         numbers = self._numbers(strokes, level, share)
         if not painted:
-            return numbers.astype(numpy.int32)
+            return numbers
         labels = [0, *(painted_label(stroke.tag) for stroke in strokes)]
         return numpy.array(labels, dtype=numpy.uint32)[numbers]
 
