@@ -112,12 +112,20 @@ class Labels(unittest.TestCase):
             run = (y, 2 * x, 2 * x)
             strokes.append(seedpaint.Stroke(uuid.UUID(int=n + 1), 9, runs=(run,)))
         image = numpy.where(numpy.arange(500)[:, None] < 350, mask, 0)
-        image[1::2] = 0
+        image[::2] = 0
         got = _labels.by_level(image, strokes, 5, 4)
         expected = numpy.zeros(shape, dtype=int)
         expected[:, ::2] = numpy.arange(100_000).reshape(500, 200) + 1
         expected[image == 0] = 0
         numpy.testing.assert_array_equal(got, expected)
+
+    def test_the_least_of_more_strokes_than_levels(self):
+        near, far = ((0, 0, 0),), ((0, 1, 1),)
+        tags = [uuid.UUID(int=n) for n in range(1, 65_538)]
+        strokes = [seedpaint.Stroke(tag, 9, runs=near) for tag in tags[:-1]]
+        strokes.append(seedpaint.Stroke(tags[-1], 9, runs=far))
+        image = numpy.full((1, 2), 9, dtype=numpy.uint8)
+        self.assertEqual(_labels.by_level(image, strokes, 5, 4).tolist(), [[1, 1]])
 
     def test_words(self):
         for words in ({}, {"level": 1, "share": 1}, {"level": 0}, {"share": 0}):

@@ -5,12 +5,14 @@ lines of faults have to be equal. The program is the one that SEEDPAINT names, o
 `rt run` made; without it that comparison is left out.
 """
 
+import hashlib
 import os
 import pathlib
 import random
 import sys
 import tempfile
 import unittest
+import unittest.mock
 
 import seedpaint
 from seedpaint import _library, errors
@@ -109,6 +111,20 @@ class Buffers(unittest.TestCase):
         code, out, lengths = self.view(data, 25)
         self.assertEqual((code, lengths.out), (_library.OK, len(data) - 6))
         self.assertEqual(bytes(out), b"P5\n3 2\n255\n" + 6 * b"\0" + 8 * b"\7")
+
+    def test_a_state_file_is_asked_for_again_where_it_has_no_room(self):
+        data = b"image\nP5\n3 2\n255\nabcdef"
+        edits = b"disc 00000000-0000-4000-8000-000000000001 9 0:0+1\n"
+        print_of_mask = hashlib.sha256(data[6:]).digest()
+
+        def both():
+            state = _library.merge(edits, b"", print_of_mask, (2, 3), 4)
+            return state, *_library.view_kept(edits + data, b"", 4, 6)
+
+        expected = both()
+        self.assertEqual(expected[0], expected[2])
+        with unittest.mock.patch.object(_library, "_state_room", return_value=1):
+            self.assertEqual(both(), expected)
 
     def view(self, data, room):
         """The code, buffer and lengths of a view into a buffer of this length."""

@@ -56,11 +56,32 @@ class Shows(unittest.TestCase):
         self.assertEqual(session.image().max(), 0)
 
     def test_the_mask_is_copied(self):
-        mask = numpy.full((2, 2), 5, dtype=numpy.uint8)
+        for kind in (numpy.uint8, numpy.uint16):
+            mask = numpy.full((2, 2), 5, dtype=kind)
+            session = seedpaint.Session(mask, 4)
+            mask[...] = 0
+            session.disc(0, 0, 0)
+            self.assertEqual(session.strokes()[0].level, 5)
+            self.assertEqual(session.image().min(), 5)
+
+    def test_strokes_come_and_go(self):
+        mask = numpy.array([[9, 9, 0, 7, 7]], dtype=numpy.uint8)
         session = seedpaint.Session(mask, 4)
-        mask[...] = 0
-        session.disc(0, 0, 0)
-        self.assertEqual(session.image().min(), 5)
+        self.assertEqual(session.image().tolist(), [[0, 0, 0, 0, 0]])
+        first, second = session.disc(0, 0, 0), session.disc(0, 4, 0)
+        self.assertEqual(session.image().tolist(), mask.tolist())
+        session.withdraw(first)
+        self.assertEqual(session.image().tolist(), [[0, 0, 0, 7, 7]])
+        session.withdraw(str(second))
+        self.assertEqual(session.image().max(), 0)
+        self.assertEqual(session.strokes(), [])
+
+    def test_a_byte_or_two_for_a_sample(self):
+        mask = numpy.array([[200, 100]], dtype=numpy.uint8)
+        for maxval in (200, 255, 256, 65535):
+            session = seedpaint.Session(mask, 4, maxval=maxval)
+            session.disc(0, 0, 1)
+            self.assertEqual(session.image().tolist(), mask.tolist())
 
     def test_kinds_of_masks(self):
         for kind, maxval in (("?", 1), ("u1", 255), (">u2", 65535), ("i8", 65535)):
