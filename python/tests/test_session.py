@@ -1,5 +1,6 @@
 """Sessions: what they show, keep and refuse."""
 
+import itertools
 import pickle
 import unittest
 import uuid
@@ -49,6 +50,15 @@ class Shows(unittest.TestCase):
                 )
                 numpy.testing.assert_array_equal(session.image(), expected)
                 self.assertEqual(session.image().dtype, kind)
+
+    def test_the_pixels_of_a_disc(self):
+        h, w = 7, 9
+        for y, x, radius in itertools.product(range(h), range(w), (0, 1, 2, 3, 5, 20)):
+            spans = seedpaint.Stroke(TAG, 9, disc=(y, x, radius)).spans((h, w))
+            covered = {(row, c) for row, a, b in spans for c in range(a, b + 1)}
+            rows, columns = numpy.mgrid[:h, :w]
+            near = (rows - y) ** 2 + (columns - x) ** 2 <= radius**2
+            self.assertEqual(covered, set(zip(*numpy.nonzero(near))))
 
     def test_the_image_is_the_callers_own(self):
         session = seedpaint.Session(numpy.full((2, 2), 5, dtype=numpy.uint8), 4)
