@@ -1,26 +1,39 @@
-//! A caller's cells, tested, and as pictures of their own.
+//! A caller's cells and connectivity, tested, and cells as a picture of their own.
 
-ghost use Rattle.std.specs.Prelude.{◌≡◌, ◌≤◌, ◌↔◌, length, slice_index, IfOk, IsTrue, EachIndex};
+ghost use Rattle.std.specs.Prelude.{◌≡◌, ◌≤◌, ◌⊎◌, ◌↔◌, length, slice_index, IsTrue, EachIndex, MatchOption};
+ghost use Rattle.std.specs.Prelude.{MatchResult};
 ghost use Rattle.grid_core.specs.Raster.{IsSized};
-ghost use Rattle.seedpaint_c.specs.Cells.{image_of, picture_of};
+ghost use Rattle.seedpaint_c.specs.Cells.{IsSizeFault, Names, NamesNone, image_of, picture_of};
 
-use crate::codes::{BAD_LENGTH, BAD_SIZE, OK};
-use grid_core::{Grid, MAX_LEVEL, Memory, is_image_size};
+use crate::codes::{BAD_LENGTH, BAD_SIZE, NO_MEMORY};
+use grid_core::{Conn, Grid, MAX_LEVEL, is_image_size};
 use pgm_codec::Image;
 use std::alloc::Global;
 
-/// What is wrong with sides and a number of cells: nothing, that no image has such sides, or that there is not a cell
-/// for each pixel.
-pub(crate) fn fault_of_size(cells: &[u16], w: u32, h: u32) -> u32
-    ensures { result ≡ 0 → IsSized (image_of w h cells.now) }
+/// The connectivity that a number names, which is how many neighbours a pixel has: 4 or 8.
+pub(crate) fn conn_of(number: u32) -> Option<Conn>
+    ensures { MatchOption result (NamesNone number) (Names number) }
+{
+    match number {
+        4 => Some(Conn::Four),
+        8 => Some(Conn::Eight),
+        _ => None,
+    }
+}
+
+/// Tests whether an image may have these sides, and whether there is a cell for each of its pixels.
+///
+/// Errors: the code that says why not.
+pub(crate) fn test_size(cells: &[u16], w: u32, h: u32) -> Result<(), u32>
+    ensures { MatchResult result (λ _. IsSized (image_of w h cells.now)) (IsSizeFault w h cells.now) }
 {
     if !is_image_size(w, h) {
-        return BAD_SIZE;
+        return Err(BAD_SIZE);
     }
     if cells.len() != w as usize * h as usize {
-        return BAD_LENGTH;
+        return Err(BAD_LENGTH);
     }
-    OK
+    Ok(())
 }
 
 /// Whether no cell is greater than the one in the same place of others, of which there are as many.
@@ -33,11 +46,16 @@ pub(crate) fn are_below(cells: &[u16], limits: &[u16]) -> bool
 
 /// The picture of these cells, of 16 bits.
 ///
-/// Errors: out of memory.
-pub(crate) fn picture(alloc: Global, cells: &[u16], w: u32, h: u32) -> Result<Image, Memory>
-    requires { IsSized (image_of w h cells.now) }
-    ensures { IfOk result (λ image. image ≡ picture_of w h 65535 cells.now) }
+/// Errors: the code that says why there is none.
+pub(crate) fn picture(alloc: Global, cells: &[u16], w: u32, h: u32) -> Result<Image, u32>
+    ensures { MatchResult result (λ image. image ≡ picture_of w h 65535 cells.now)
+        (λ code. IsSizeFault w h cells.now code ⊎ (code ≡ 3)) }
 {
-    let grid = Grid::from_cells(w, h, Vec::from_slice(alloc, cells)?);
-    Image::from_grid(alloc, &grid, MAX_LEVEL).map_err(|_| Memory)
+    if let Err(code) = test_size(cells, w, h) {
+        return Err(code);
+    }
+    let Ok(cells) = Vec::from_slice(alloc, cells) else {
+        return Err(NO_MEMORY);
+    };
+    Ok(Image::over(Grid::from_cells(w, h, cells), MAX_LEVEL))
 }

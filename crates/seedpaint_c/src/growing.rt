@@ -1,13 +1,12 @@
 //! Growing in the caller's cells.
 
 ghost use Rattle.std.specs.Prelude.{◌≡◌};
-ghost use Rattle.raster_sweeps.specs.Growth.{CanClose, rows_of};
 ghost use Rattle.raster_sweeps.specs.Regrowth.{IsRegrown};
-ghost use Rattle.seedpaint_c.specs.Cells.{HoldsUnder, all_pixels, image_of};
+ghost use Rattle.seedpaint_c.specs.Cells.{HoldsUnder, IsGrowFault, image_of};
 
-use crate::cells::{are_below, fault_of_size};
+use crate::cells::{are_below, conn_of, test_size};
 use crate::codes::{ABOVE_MASK, BAD_CONNECTIVITY, BAD_LENGTH, NO_MEMORY, OK};
-use grid_core::{Conn, Rect};
+use grid_core::Rect;
 use raster_sweeps::steps::{Size, Waiting, close};
 use std::alloc::Global;
 
@@ -29,24 +28,14 @@ pub extern "C" fn seedpaint_grow(
 ) -> u32
     ensures grown { result ≡ 0 → HoldsUnder conn
         (λ c. IsRegrown c (image_of w h mask.now) (image_of w h image.old) (image_of w h image.new)) }
+    ensures refused { (result ≡ 0 → ⊥) → IsGrowFault conn w h mask.now image.old result }
     ensures untouched { (result ≡ 0 → ⊥) → image.new ≡ image.old }
 {
-    match conn {
-        4 => grow_cells(alloc, mask, image, w, h, Conn::Four),
-        8 => grow_cells(alloc, mask, image, w, h, Conn::Eight),
-        _ => BAD_CONNECTIVITY,
-    }
-}
-
-// The same under a connectivity.
-fn grow_cells(alloc: Global, mask: &[u16], image: &mut [u16], w: u32, h: u32, conn: Conn) -> u32
-    ensures grown { result ≡ 0
-        → IsRegrown conn (image_of w h mask.now) (image_of w h image.old) (image_of w h image.new) }
-    ensures untouched { (result ≡ 0 → ⊥) → image.new ≡ image.old }
-{
-    let fault = fault_of_size(image, w, h);
-    if fault != OK {
-        return fault;
+    let Some(connectivity) = conn_of(conn) else {
+        return BAD_CONNECTIVITY;
+    };
+    if let Err(code) = test_size(image, w, h) {
+        return code;
     }
     if mask.len() != image.len() {
         return BAD_LENGTH;
@@ -57,20 +46,8 @@ fn grow_cells(alloc: Global, mask: &[u16], image: &mut [u16], w: u32, h: u32, co
     let Ok(mut waiting) = Waiting::for_rows(alloc, w, h) else {
         return NO_MEMORY;
     };
-    grow_rows(mask, image, Size { w, h }, conn, &mut waiting);
+    let size = Size { w, h };
+    let whole = Rect { x: 0, y: 0, w, h };
+    close(mask, image, size, whole, connectivity, &mut waiting);
     OK
-}
-
-// Raises whole rows until they are the reconstruction.
-fn grow_rows(mask: &[u16], image: &mut [u16], size: Size, conn: Conn, waiting: &mut Waiting)
-    requires { CanClose (all_pixels size) (rows_of size mask.now) (rows_of size image.old) }
-    ensures { IsRegrown conn (rows_of size mask.now) (rows_of size image.old) (rows_of size image.new) }
-{
-    let all = Rect {
-        x: 0,
-        y: 0,
-        w: size.w,
-        h: size.h,
-    };
-    close(mask, image, size, all, conn, waiting);
 }
