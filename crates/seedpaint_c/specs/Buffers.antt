@@ -1,6 +1,7 @@
--- A text in a buffer that a caller lends, and the line of a fault in another one.
-use Rattle.std.specs.Prelude.{◌≡◌, ◌⊎◌, ℕ, ◌≤◌, List, ◌++◌, drop, length}
+-- A text in a buffer that a caller lends, the line of a fault in another one, and the code that goes with them.
+use Rattle.std.specs.Prelude.{◌≡◌, ◌⊎◌, ℕ, ◌<◌, ◌≤◌, List, ◌++◌, drop, length}
 use Rattle.run_faults.specs.{declared.run_error.RunError.RunError, RunError.HasStatus, RunError.fault_text}
+use Rattle.seedpaint_c.specs.Cells.{NamesNone}
 
 -- the buffer begins with this text, of this length, and has behind it what it had before
 pub record StartsWith (old new : List ℕ) (count : ℕ) (text : List ℕ) : Type 0 where
@@ -8,13 +9,46 @@ pub record StartsWith (old new : List ℕ) (count : ℕ) (text : List ℕ) : Typ
   pub fits : count ≤ length old
   pub bytes : new ≡ text ++ drop count old
 
--- the buffer begins with the line of this fault; or it is too short for it, or memory was wanting, and it is as it was
-abbrev pub SaysFault : List ℕ → List ℕ → ℕ → RunError → Type 0
-SaysFault old new count e = StartsWith old new count (fault_text e) ⊎ (new ≡ old)
+-- the buffer is too short for this text, of this length, and it is as it was
+pub record IsTooShort (old new : List ℕ) (count : ℕ) (text : List ℕ) : Type 0 where
+  pub count_is : count ≡ length text
+  pub short : length old < count
+  pub same : new ≡ old
 
--- a run ended by a fault that stops it: the answer is the program's status, and the buffer has the line of the fault
-pub record IsEndedBy (Stops : RunError → Type 0) (answer : ℕ) (old new : List ℕ) (count : ℕ) : Type 0 where
+-- the code is 0, and the buffer begins with the text; or it is 4, and the buffer is too short for it
+abbrev pub IsHandedOut : List ℕ → List ℕ → ℕ → List ℕ → ℕ → Type 0
+IsHandedOut old new count text code =
+    ((code ≡ 0) × StartsWith old new count text) ⊎ ((code ≡ 4) × IsTooShort old new count text)
+
+-- the same of two buffers: with 4, one of them is too short, and both are as they were
+pub record AreTooShort (a a' : List ℕ) (count : ℕ) (text : List ℕ) (b b' : List ℕ) (other_count : ℕ) (other : List ℕ)
+    : Type 0 where
+  pub count_is : count ≡ length text
+  pub other_count_is : other_count ≡ length other
+  pub short : (length a < count) ⊎ (length b < other_count)
+  pub same : a' ≡ a
+  pub other_same : b' ≡ b
+
+abbrev pub AreHandedOut : List ℕ → List ℕ → ℕ → List ℕ → List ℕ → List ℕ → ℕ → List ℕ → ℕ → Type 0
+AreHandedOut a a' count text b b' other_count other code =
+    ((code ≡ 0) × StartsWith a a' count text × StartsWith b b' other_count other)
+    ⊎ ((code ≡ 4) × AreTooShort a a' count text b b' other_count other)
+
+-- the buffer begins with the line of this fault, or is too short for it; or memory was wanting for the line, and the
+-- buffer is as it was
+abbrev pub SaysFault : List ℕ → List ℕ → ℕ → RunError → Type 0
+SaysFault old new count e =
+    StartsWith old new count (fault_text e) ⊎ IsTooShort old new count (fault_text e) ⊎ ((count ≡ 0) × (new ≡ old))
+
+-- a run ended by a fault, and the buffer has its line. With code 1 the fault is a reason to refuse, with 3 one with
+-- which the program does not end with status 1: want of memory
+pub record IsEndedBy (Refuses : RunError → Type 0) (old new : List ℕ) (count code : ℕ) : Type 0 where
   pub fault : RunError
-  pub stops : Stops fault
-  pub status : HasStatus fault answer
+  pub refused : code ≡ 1 → HasStatus fault 1 × Refuses fault
+  pub memory : code ≡ 3 → HasStatus fault 1 → ⊥
   pub line : SaysFault old new count fault
+
+-- the code is one of those of a view, and it is 2 only of a number that names no connectivity
+abbrev pub IsAnswerCode : ℕ → ℕ → Type 0
+IsAnswerCode number code =
+    (code ≡ 0) ⊎ (code ≡ 1) ⊎ ((code ≡ 2) × NamesNone number) ⊎ (code ≡ 3) ⊎ (code ≡ 4)

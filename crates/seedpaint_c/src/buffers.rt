@@ -1,8 +1,8 @@
 //! Answers in buffers that the caller lends.
 
-ghost use Rattle.std.specs.Prelude.{◌≡◌, ◌≤◌, ◌++◌, drop, length};
+ghost use Rattle.std.specs.Prelude.{◌≡◌, ◌⊎◌, ◌≤◌, ◌++◌, drop, length};
 ghost use Rattle.run_faults.specs.RunError.{HasStatus};
-ghost use Rattle.seedpaint_c.specs.Buffers.{SaysFault, StartsWith};
+ghost use Rattle.seedpaint_c.specs.Buffers.{AreHandedOut, IsHandedOut, SaysFault};
 
 use crate::codes::{NO_MEMORY, NO_ROOM, OK, REFUSED};
 use run_faults::{RunError, fault_line, status};
@@ -20,23 +20,18 @@ pub struct Lengths {
     pub fault: usize,
 }
 
-/// Nothing is answered yet.
-pub(crate) fn clear(lengths: &mut Lengths)
-    ensures out { lengths.new.out ≡ 0 }
-    ensures state { lengths.new.state ≡ 0 }
-    ensures fault { lengths.new.fault ≡ 0 }
-{
-    lengths.out = 0;
-    lengths.state = 0;
-    lengths.fault = 0;
+impl Lengths {
+    /// Nothing is answered yet.
+    pub(crate) fn clear(&mut self) {
+        self.out = 0;
+        self.state = 0;
+        self.fault = 0;
+    }
 }
 
 /// Puts a text into the front of a buffer, where it fits, and says how long it is.
 pub(crate) fn hand_out(text: &[u8], buffer: &mut [u8], count: &mut usize) -> u32
-    ensures put { result ≡ 0 → StartsWith buffer.old buffer.new count.new text.now }
-    ensures long { count.new ≡ length text.now }
-    ensures not_refused { result ≡ 1 → ⊥ }
-    ensures untouched { (result ≡ 0 → ⊥) → buffer.new ≡ buffer.old }
+    ensures { IsHandedOut buffer.old buffer.new count.new text.now result }
 {
     *count = text.len();
     if text.len() > buffer.len() {
@@ -54,10 +49,8 @@ pub(crate) fn hand_out_both(
     state: &mut [u8],
     lengths: &mut Lengths,
 ) -> u32
-    ensures out { result ≡ 0 → StartsWith out.old out.new lengths.new.out text.now }
-    ensures state { result ≡ 0 → StartsWith state.old state.new lengths.new.state new.now }
-    ensures not_refused { result ≡ 1 → ⊥ }
-    ensures untouched { (result ≡ 0 → ⊥) → (out.new ≡ out.old) × (state.new ≡ state.old) }
+    ensures { AreHandedOut out.old out.new lengths.new.out text.now
+        state.old state.new lengths.new.state new.now result }
 {
     lengths.out = text.len();
     lengths.state = new.len();
@@ -77,28 +70,20 @@ fn put(text: &[u8], buffer: &mut [u8])
     buffer[..text.len()].copy_from_slice(text);
 }
 
-/// Puts the line of a fault into the front of a buffer, where it fits and there is memory to make it, and answers
-/// [`REFUSED`] where the program ends with status 1, else [`NO_MEMORY`].
-pub(crate) fn tell(
-    alloc: Global,
-    error: &RunError,
-    buffer: &mut [u8],
-    count: &mut usize,
-) -> u32
-    ensures refused { result ≡ 1 → HasStatus error.now result }
-    ensures some { result ≡ 0 → ⊥ }
+/// Puts the line of a fault into the front of a buffer, where it fits and there is memory to make it, and says how long
+/// it is. It answers [`REFUSED`] where the program ends with status 1, else [`NO_MEMORY`].
+pub(crate) fn tell(alloc: Global, error: &RunError, buffer: &mut [u8], count: &mut usize) -> u32
+    ensures refused { result ≡ 1 → HasStatus error.now 1 }
+    ensures memory { result ≡ 3 → HasStatus error.now 1 → ⊥ }
+    ensures one { (result ≡ 1) ⊎ (result ≡ 3) }
     ensures line { SaysFault buffer.old buffer.new count.new error.now }
 {
-    let code = match status(error) {
+    *count = 0;
+    if let Ok(line) = fault_line(alloc, error) {
+        let _room = hand_out(line.as_bytes(), buffer, count);
+    }
+    match status(error) {
         1 => REFUSED,
         _ => NO_MEMORY,
-    };
-    let Ok(line) = fault_line(alloc, error) else {
-        return code;
-    };
-    *count = line.len();
-    if line.len() <= buffer.len() {
-        put(line.as_bytes(), buffer);
     }
-    code
 }

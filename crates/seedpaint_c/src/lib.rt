@@ -10,7 +10,7 @@
 //!
 //! - [`growing`] raises an image in place, in the caller's cells: the reconstruction by dilation of a mask (Vincent,
 //!   "Morphological Grayscale Reconstruction in Image Analysis", 1993). It copies neither of the two.
-//! - [`deriving`] puts in the place of an image its holes filled, its h-maxima or its regional maxima.
+//! - [`derived`] puts in the place of an image its holes filled, its h-maxima or its regional maxima.
 //! - [`viewing`] shows an input, as the program does, over no strokes or over the bytes of a state file.
 //! - [`merging`] joins edit lines into the bytes of a state file, without an image.
 //!
@@ -18,9 +18,9 @@
 //! none keeps anything from one call to the next: threads of the caller may call them side by side.
 
 mod buffers;
-pub mod codes;
 mod cells;
-pub mod deriving;
+pub mod codes;
+pub mod derived;
 pub mod growing;
 pub mod merging;
 pub mod viewing;

@@ -1,11 +1,13 @@
 //! Edit lines joined into the bytes of a state file, without an image.
 
-ghost use Rattle.std.specs.Prelude.{◌≡◌, List, ℕ, IfErr, IfOk};
-ghost use Rattle.seedpaint_c.specs.Buffers.{IsEndedBy, StartsWith};
+ghost use Rattle.std.specs.Prelude.{◌≡◌, ◌⊎◌, List, ℕ, IfErr, IfOk};
+ghost use Rattle.run_faults.specs.RunError.{HasStatus};
+ghost use Rattle.seedpaint_c.specs.Buffers.{IsEndedBy, IsHandedOut};
 ghost use Rattle.seedpaint_c.specs.Cells.{HoldsUnder};
-ghost use Rattle.seedpaint_c.specs.Merged.{IsMergedInto, MergingStops};
+ghost use Rattle.seedpaint_c.specs.Merged.{IsMergeCode, IsMergedInto, MergingIsRefused};
 
-use crate::buffers::{Lengths, clear, hand_out, tell};
+use crate::buffers::{Lengths, hand_out, tell};
+use crate::cells::conn_of;
 use crate::codes::{BAD_CONNECTIVITY, BAD_LENGTH, BAD_SIZE};
 use edit_lang::parse_lines;
 use grid_core::{Conn, is_image_size};
@@ -14,9 +16,6 @@ use spd_codec::{Print, write_frames};
 use std::alloc::Global;
 use view_session::kept::frames_for;
 use view_session::merging::merge_all;
-
-// How many bytes a fingerprint has.
-const PRINT_BYTES: usize = 32;
 
 /// Joins the strokes and withdrawals of edit lines into those that the old bytes of a state file keep: puts the new
 /// bytes into the front of `state`. The mask is known by its sides and by its fingerprint, the SHA-256 of its raw PGM
@@ -39,31 +38,29 @@ pub extern "C" fn seedpaint_merge(
     fault: &mut [u8],
     lengths: &mut Lengths,
 ) -> u32
-    ensures merged { result ≡ 0 → HoldsUnder conn (λ c. (new : List ℕ)
+    ensures merged { (result ≡ 0) ⊎ (result ≡ 4) → HoldsUnder conn (λ c. (new : List ℕ)
         × IsMergedInto c print.now w h old.now edits.now new
-        × StartsWith state.old state.new lengths.new.state new) }
-    ensures refused { result ≡ 1 → HoldsUnder conn (λ c. IsEndedBy
-        (MergingStops c print.now w h old.now edits.now) result fault.old fault.new lengths.new.fault) }
+        × IsHandedOut state.old state.new lengths.new.state new result) }
+    ensures ended { (result ≡ 1) ⊎ (result ≡ 3) → HoldsUnder conn (λ c.
+        IsEndedBy (MergingIsRefused c print.now w h old.now edits.now) fault.old fault.new lengths.new.fault result) }
+    ensures code { IsMergeCode conn w h print.now result }
     ensures untouched { (result ≡ 0 → ⊥) → state.new ≡ state.old }
+    ensures quiet { (result ≡ 1 → ⊥) → (result ≡ 3 → ⊥) → fault.new ≡ fault.old }
 {
-    clear(lengths);
+    lengths.clear();
+    let Some(connectivity) = conn_of(conn) else {
+        return BAD_CONNECTIVITY;
+    };
     if !is_image_size(w, h) {
         return BAD_SIZE;
     }
-    if print.len() != PRINT_BYTES {
+    let Ok(bytes) = <[u8; 32]>::try_from(print) else {
         return BAD_LENGTH;
-    }
-    let mut bytes = [0; PRINT_BYTES];
-    bytes.copy_from_slice(print);
-    let mask = Mask {
-        print: Print::from_bytes(bytes),
-        w,
-        h,
     };
-    match conn {
-        4 => merge_under(alloc, edits, old, &mask, Conn::Four, state, fault, lengths),
-        8 => merge_under(alloc, edits, old, &mask, Conn::Eight, state, fault, lengths),
-        _ => BAD_CONNECTIVITY,
+    let print = Print::from_bytes(bytes);
+    match merge(alloc, edits, old, &Mask { print, w, h }, connectivity) {
+        Ok(new) => hand_out(&new, state, &mut lengths.state),
+        Err(error) => tell(alloc, &error, fault, &mut lengths.fault),
     }
 }
 
@@ -73,31 +70,6 @@ struct Mask {
     print: Print,
     w: u32,
     h: u32,
-}
-
-// The same under a connectivity.
-fn merge_under(
-    alloc: Global,
-    edits: &[u8],
-    old: &[u8],
-    mask: &Mask,
-    conn: Conn,
-    state: &mut [u8],
-    fault: &mut [u8],
-    lengths: &mut Lengths,
-) -> u32
-    ensures merged { result ≡ 0 → (new : List ℕ)
-        × IsMergedInto conn mask.now.print mask.now.w mask.now.h old.now edits.now new
-        × StartsWith state.old state.new lengths.new.state new }
-    ensures refused { result ≡ 1 → IsEndedBy
-        (MergingStops conn mask.now.print mask.now.w mask.now.h old.now edits.now)
-        result fault.old fault.new lengths.new.fault }
-    ensures untouched { (result ≡ 0 → ⊥) → state.new ≡ state.old }
-{
-    match merge(alloc, edits, old, mask, conn) {
-        Ok(new) => hand_out(&new, state, &mut lengths.state),
-        Err(error) => tell(alloc, &error, fault, &mut lengths.fault),
-    }
 }
 
 // The new bytes.
@@ -113,7 +85,8 @@ fn merge(
 ) -> Result<Vec<u8>, RunError>
     ensures merged { IfOk result (λ new.
         IsMergedInto conn mask.now.print mask.now.w mask.now.h old.now edits.now new.items) }
-    ensures refused { IfErr result (MergingStops conn mask.now.print mask.now.w mask.now.h old.now edits.now) }
+    ensures refused { IfErr result (λ e. HasStatus e 1
+        → MergingIsRefused conn mask.now.print mask.now.w mask.now.h old.now edits.now e) }
 {
     let deltas = parse_lines(alloc, edits)?;
     let frames = frames_for(alloc, old, conn, &mask.print)?;

@@ -1,15 +1,16 @@
 //! What an input shows, from bytes to bytes, as the program shows it.
 
-ghost use Rattle.std.specs.Prelude.{◌≡◌, ◌⊎◌, List, ℕ, IfErr, IfOk, OnOk};
-ghost use Rattle.byte_devices.specs.MemoryDevice.{fresh_input, fresh_output};
+ghost use Rattle.std.specs.Prelude.{◌≡◌, ◌⊎◌, List, ℕ, IfErr, IfOk};
+ghost use Rattle.byte_devices.specs.MemoryDevice.{fresh_input};
 ghost use Rattle.stroke_lattice.specs.State.{State, nothing};
-ghost use Rattle.run_faults.specs.RunError.{IsReadingFault, IsTransferFault};
-ghost use Rattle.seedpaint_c.specs.Buffers.{IsEndedBy, StartsWith};
+ghost use Rattle.run_faults.specs.RunError.{HasStatus};
+ghost use Rattle.seedpaint_c.specs.Buffers.{AreHandedOut, IsAnswerCode, IsEndedBy, IsHandedOut};
 ghost use Rattle.seedpaint_c.specs.Cells.{HoldsUnder};
-ghost use Rattle.view_session.specs.Kept.{IsKeptView, KeptStops};
-ghost use Rattle.view_session.specs.View.{InputStops, IsView};
+ghost use Rattle.view_session.specs.Kept.{IsKeptView, KeptIsRefused};
+ghost use Rattle.view_session.specs.View.{InputIsRefused, IsView};
 
-use crate::buffers::{Lengths, clear, hand_out, hand_out_both, tell};
+use crate::buffers::{Lengths, hand_out, hand_out_both, tell};
+use crate::cells::conn_of;
 use crate::codes::BAD_CONNECTIVITY;
 use byte_devices::{MemorySink, MemorySource};
 use grid_core::Conn;
@@ -36,52 +37,33 @@ pub extern "C" fn seedpaint_view(
     fault: &mut [u8],
     lengths: &mut Lengths,
 ) -> u32
-    ensures shown { result ≡ 0 → HoldsUnder conn (λ c. (state : State) × (text : List ℕ)
-        × IsView c nothing input.now state text × StartsWith out.old out.new lengths.new.out text) }
-    ensures refused { result ≡ 1 → HoldsUnder conn (λ c. IsEndedBy
-        (λ e. IsReadingFault e ⊎ IsTransferFault e ⊎ InputStops nothing input.now e)
-        result fault.old fault.new lengths.new.fault) }
+    ensures shown { (result ≡ 0) ⊎ (result ≡ 4) → HoldsUnder conn (λ c. (state : State) × (text : List ℕ)
+        × IsView c nothing input.now state text × IsHandedOut out.old out.new lengths.new.out text result) }
+    ensures ended { (result ≡ 1) ⊎ (result ≡ 3)
+        → IsEndedBy (InputIsRefused nothing input.now) fault.old fault.new lengths.new.fault result }
+    ensures code { IsAnswerCode conn result }
     ensures untouched { (result ≡ 0 → ⊥) → out.new ≡ out.old }
+    ensures quiet { (result ≡ 1 → ⊥) → (result ≡ 3 → ⊥) → fault.new ≡ fault.old }
 {
-    clear(lengths);
-    match conn {
-        4 => view_under(alloc, input, Conn::Four, out, fault, lengths),
-        8 => view_under(alloc, input, Conn::Eight, out, fault, lengths),
-        _ => BAD_CONNECTIVITY,
-    }
-}
-
-// The same under a connectivity.
-fn view_under(
-    alloc: Global,
-    input: &[u8],
-    conn: Conn,
-    out: &mut [u8],
-    fault: &mut [u8],
-    lengths: &mut Lengths,
-) -> u32
-    ensures shown { result ≡ 0 → (state : State) × (text : List ℕ) × IsView conn nothing input.now state text
-        × StartsWith out.old out.new lengths.new.out text }
-    ensures refused { result ≡ 1 → IsEndedBy
-        (λ e. IsReadingFault e ⊎ IsTransferFault e ⊎ InputStops nothing input.now e)
-        result fault.old fault.new lengths.new.fault }
-    ensures untouched { (result ≡ 0 → ⊥) → out.new ≡ out.old }
-{
-    let mut sink = MemorySink::new(alloc);
-    match show(alloc, input, conn, &mut sink) {
-        Ok(()) => hand_out(sink.written(), out, &mut lengths.out),
+    lengths.clear();
+    let Some(connectivity) = conn_of(conn) else {
+        return BAD_CONNECTIVITY;
+    };
+    match show(alloc, input, connectivity) {
+        Ok(sink) => hand_out(sink.written(), out, &mut lengths.out),
         Err(error) => tell(alloc, &error, fault, &mut lengths.fault),
     }
 }
 
-// Shows an input in an empty sink.
-fn show(alloc: Global, input: &[u8], conn: Conn, sink: &mut MemorySink) -> Result<(), RunError>
-    requires { sink.old ≡ fresh_output usize.MAX }
-    ensures shown { OnOk result ((state : State) × IsView conn nothing input.now state sink.new.written) }
-    ensures refused { IfErr result (λ e. IsReadingFault e ⊎ IsTransferFault e ⊎ InputStops nothing input.now e) }
+// Shows an input in a sink.
+fn show(alloc: Global, input: &[u8], conn: Conn) -> Result<MemorySink, RunError>
+    ensures shown { IfOk result (λ sink. (state : State) × IsView conn nothing input.now state sink.written) }
+    ensures refused { IfErr result (λ e. HasStatus e 1 → InputIsRefused nothing input.now e) }
 {
     let mut source = source_of(alloc, input)?;
-    view_run(alloc, &mut source, conn, sink)
+    let mut sink = MemorySink::new(alloc);
+    view_run(alloc, &mut source, conn, &mut sink)?;
+    Ok(sink)
 }
 
 /// Shows an input over the old bytes of a state file, which may be empty: puts the raw PGM file of the reconstruction
@@ -101,62 +83,39 @@ pub extern "C" fn seedpaint_view_kept(
     fault: &mut [u8],
     lengths: &mut Lengths,
 ) -> u32
-    ensures shown { result ≡ 0 → HoldsUnder conn (λ c. (text new : List ℕ) × IsKeptView c old.now input.now text new
-        × StartsWith out.old out.new lengths.new.out text
-        × StartsWith state.old state.new lengths.new.state new) }
-    ensures refused { result ≡ 1 → HoldsUnder conn (λ c. IsEndedBy
-        (λ e. IsReadingFault e ⊎ IsTransferFault e ⊎ KeptStops c old.now input.now e)
-        result fault.old fault.new lengths.new.fault) }
+    ensures shown { (result ≡ 0) ⊎ (result ≡ 4) → HoldsUnder conn (λ c. (text new : List ℕ)
+        × IsKeptView c old.now input.now text new
+        × AreHandedOut out.old out.new lengths.new.out text state.old state.new lengths.new.state new result) }
+    ensures ended { (result ≡ 1) ⊎ (result ≡ 3) → HoldsUnder conn (λ c.
+        IsEndedBy (KeptIsRefused c old.now input.now) fault.old fault.new lengths.new.fault result) }
+    ensures code { IsAnswerCode conn result }
     ensures untouched { (result ≡ 0 → ⊥) → (out.new ≡ out.old) × (state.new ≡ state.old) }
+    ensures quiet { (result ≡ 1 → ⊥) → (result ≡ 3 → ⊥) → fault.new ≡ fault.old }
 {
-    clear(lengths);
-    match conn {
-        4 => keep_under(alloc, input, old, Conn::Four, out, state, fault, lengths),
-        8 => keep_under(alloc, input, old, Conn::Eight, out, state, fault, lengths),
-        _ => BAD_CONNECTIVITY,
-    }
-}
-
-// The same under a connectivity.
-fn keep_under(
-    alloc: Global,
-    input: &[u8],
-    old: &[u8],
-    conn: Conn,
-    out: &mut [u8],
-    state: &mut [u8],
-    fault: &mut [u8],
-    lengths: &mut Lengths,
-) -> u32
-    ensures shown { result ≡ 0 → (text new : List ℕ) × IsKeptView conn old.now input.now text new
-        × StartsWith out.old out.new lengths.new.out text
-        × StartsWith state.old state.new lengths.new.state new }
-    ensures refused { result ≡ 1 → IsEndedBy
-        (λ e. IsReadingFault e ⊎ IsTransferFault e ⊎ KeptStops conn old.now input.now e)
-        result fault.old fault.new lengths.new.fault }
-    ensures untouched { (result ≡ 0 → ⊥) → (out.new ≡ out.old) × (state.new ≡ state.old) }
-{
-    let mut sink = MemorySink::new(alloc);
-    match keep(alloc, input, old, conn, &mut sink) {
-        Ok(new) => hand_out_both(sink.written(), &new, out, state, lengths),
+    lengths.clear();
+    let Some(connectivity) = conn_of(conn) else {
+        return BAD_CONNECTIVITY;
+    };
+    match keep(alloc, input, old, connectivity) {
+        Ok((new, sink)) => hand_out_both(sink.written(), &new, out, state, lengths),
         Err(error) => tell(alloc, &error, fault, &mut lengths.fault),
     }
 }
 
-// Shows an input over old bytes in an empty sink, and answers the new bytes.
+// Shows an input over old bytes in a sink, and gives the new bytes.
 fn keep(
     alloc: Global,
     input: &[u8],
     old: &[u8],
     conn: Conn,
-    sink: &mut MemorySink,
-) -> Result<Vec<u8>, RunError>
-    requires { sink.old ≡ fresh_output usize.MAX }
-    ensures shown { IfOk result (λ new. IsKeptView conn old.now input.now sink.new.written new.items) }
-    ensures refused { IfErr result (λ e. IsReadingFault e ⊎ IsTransferFault e ⊎ KeptStops conn old.now input.now e) }
+) -> Result<(Vec<u8>, MemorySink), RunError>
+    ensures shown { IfOk result (λ kept. IsKeptView conn old.now input.now kept.1.written kept.0.items) }
+    ensures refused { IfErr result (λ e. HasStatus e 1 → KeptIsRefused conn old.now input.now e) }
 {
     let mut source = source_of(alloc, input)?;
-    view_kept(alloc, &mut source, old, conn, SIDE, sink)
+    let mut sink = MemorySink::new(alloc);
+    let new = view_kept(alloc, &mut source, old, conn, SIDE, &mut sink)?;
+    Ok((new, sink))
 }
 
 // A source of these bytes.
@@ -164,7 +123,7 @@ fn keep(
 // Errors: P10.
 fn source_of(alloc: Global, input: &[u8]) -> Result<MemorySource, RunError>
     ensures source { IfOk result (λ source. source ≡ fresh_input input.now usize.MAX) }
-    ensures memory { IfErr result IsReadingFault }
+    ensures memory { IfErr result (λ e. HasStatus e 1 → ⊥) }
 {
     let Ok(bytes) = Vec::from_slice(alloc, input) else {
         return Err(RunError::Pgm(PgmError::Memory));
