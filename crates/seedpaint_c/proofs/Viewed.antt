@@ -1,6 +1,6 @@
 -- What a run says that reads bytes in memory to their end, and writes into an empty sink in memory; and which of its
 -- faults end the program with status 1.
-use Rattle.std.proofs.Common.{◌≡◌, ◌⊎◌, ◌++◌, ◌∙◌, ℕ, List, Result, Ok, Err, inl, inr, subst, sym, ap, arith}
+use Rattle.std.proofs.Common.{◌≡◌, ◌⊎◌, ◌++◌, ◌∙◌, ℕ, List, Ok, Err, inl, inr, subst, sym, ap, arith}
 use Rattle.byte_devices.specs.MemoryDevice.{MemoryInput, MemoryOutput, fresh_input, fresh_output, input_seen}
 use Rattle.byte_devices.specs.MemoryDevice.{output_seen}
 use Rattle.grid_core.specs.declared.conn.Conn.{Conn}
