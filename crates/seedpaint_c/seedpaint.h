@@ -67,7 +67,7 @@ uint32_t seedpaint_grow(const uint16_t *mask, size_t mask_cells, uint16_t *image
 
 /*
  * Fills the holes of `image`, in place: each cell becomes the least level at which a path leads from it to the border,
- * with no cell on the path above that level (Soille). Takes three images of memory.
+ * with no cell on the path above that level (Soille). Takes memory of about two more images.
  *
  * Answers 0, or BAD_CONNECTIVITY, BAD_SIZE, BAD_LENGTH or NO_MEMORY.
  */
@@ -75,7 +75,7 @@ uint32_t seedpaint_fill(uint16_t *image, size_t image_cells, uint32_t w, uint32_
 
 /*
  * Cuts the domes of `image` down, in place: it becomes its reconstruction from itself less `height`, where no cell
- * falls below 0 (Vincent 1993, the h-maxima). Takes three images of memory.
+ * falls below 0 (Vincent 1993, the h-maxima). Takes memory of about two more images.
  *
  * Answers as seedpaint_fill does.
  */
@@ -84,7 +84,7 @@ uint32_t seedpaint_hmax(uint16_t *image, size_t image_cells, uint32_t w, uint32_
 
 /*
  * Marks the regional maxima of `image`, in place: each cell becomes 1 on a plateau that strictly lower cells surround,
- * and 0 elsewhere (Vincent 1993). A plateau that is the whole image counts. Takes three images of memory.
+ * and 0 elsewhere (Vincent 1993). A plateau that is the whole image counts. Takes memory of about two more images.
  *
  * Answers as seedpaint_fill does.
  */

@@ -1,7 +1,7 @@
 -- A text in a buffer that a caller lends, the line of a fault in another one, and the code that goes with them.
 use Rattle.std.specs.Prelude.{◌≡◌, ◌⊎◌, ℕ, ◌<◌, ◌≤◌, List, ◌++◌, drop, length}
 use Rattle.run_faults.specs.{declared.run_error.RunError.RunError, RunError.HasStatus, RunError.fault_text}
-use Rattle.seedpaint_c.specs.Cells.{NamesNone}
+use Rattle.seedpaint_c.specs.{Cells.NamesNone, declared.buffers.Lengths.Lengths}
 
 -- the buffer begins with this text, of this length, and has behind it what it had before
 pub record StartsWith (old new : List ℕ) (count : ℕ) (text : List ℕ) : Type 0 where
@@ -47,6 +47,11 @@ pub record IsEndedBy (Refuses : RunError → Type 0) (old new : List ℕ) (count
   pub refused : code ≡ 1 → HasStatus fault 1 × Refuses fault
   pub memory : code ≡ 3 → HasStatus fault 1 → ⊥
   pub line : SaysFault old new count fault
+
+-- no text is told of but with 0 and 4, and no line of a fault but with 1 and 3
+pub record HasNoOther (lengths : Lengths) (code : ℕ) : Type 0 where
+  pub text : (code ≡ 0 → ⊥) → (code ≡ 4 → ⊥) → (lengths.out ≡ 0) × (lengths.state ≡ 0)
+  pub fault : (code ≡ 1 → ⊥) → (code ≡ 3 → ⊥) → lengths.fault ≡ 0
 
 -- the code is one of those of a view, and it is 2 only of a number that names no connectivity
 abbrev pub IsAnswerCode : ℕ → ℕ → Type 0

@@ -20,6 +20,7 @@ pub record IsMergedInto (conn : Conn) (print : List ℕ) (w h : ℕ) (old edits 
   pub state : State
   pub merged : AreMerged w h (kept ++ deltas) state
   pub new_is : new ≡ file_text conn print (pieces_of 1400 state)
+  pub new_spelled : FileSpells conn print new (pieces_of 1400 state)
 
 -- the old bytes have a fault, or are for another image, or spell deltas with which those of the lines are refused
 abbrev pub OldIsRefused : Conn → List ℕ → ℕ → ℕ → List ℕ → List State → RunError → Type 0

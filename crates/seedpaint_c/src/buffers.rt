@@ -22,7 +22,11 @@ pub struct Lengths {
 
 impl Lengths {
     /// Nothing is answered yet.
-    pub(crate) fn clear(&mut self) {
+    pub(crate) fn clear(&mut self)
+        ensures out { self.new.out ≡ 0 }
+        ensures state { self.new.state ≡ 0 }
+        ensures fault { self.new.fault ≡ 0 }
+    {
         self.out = 0;
         self.state = 0;
         self.fault = 0;
@@ -49,8 +53,9 @@ pub(crate) fn hand_out_both(
     state: &mut [u8],
     lengths: &mut Lengths,
 ) -> u32
-    ensures { AreHandedOut out.old out.new lengths.new.out text.now
+    ensures put { AreHandedOut out.old out.new lengths.new.out text.now
         state.old state.new lengths.new.state new.now result }
+    ensures rest { lengths.new.fault ≡ lengths.old.fault }
 {
     lengths.out = text.len();
     lengths.state = new.len();

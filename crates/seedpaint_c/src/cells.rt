@@ -41,7 +41,12 @@ pub(crate) fn are_below(cells: &[u16], limits: &[u16]) -> bool
     requires { length cells.now ≡ length limits.now }
     ensures { IsTrue result ↔ EachIndex cells.now (λ k. slice_index cells.now k ≤ slice_index limits.now k) }
 {
-    cells.iter().zip(limits).all(|(a, b)| a <= b)
+    // Without a way out of it, the loop becomes vector code.
+    let mut excess = 0;
+    for i in 0..cells.len() {
+        excess = excess.max(cells[i].saturating_sub(limits[i]));
+    }
+    excess == 0
 }
 
 /// The picture of these cells, of 16 bits.

@@ -2,7 +2,7 @@
 
 ghost use Rattle.std.specs.Prelude.{◌≡◌, ◌⊎◌, List, ℕ, IfErr, IfOk};
 ghost use Rattle.run_faults.specs.RunError.{HasStatus};
-ghost use Rattle.seedpaint_c.specs.Buffers.{IsEndedBy, IsHandedOut};
+ghost use Rattle.seedpaint_c.specs.Buffers.{HasNoOther, IsEndedBy, IsHandedOut};
 ghost use Rattle.seedpaint_c.specs.Cells.{HoldsUnder};
 ghost use Rattle.seedpaint_c.specs.Merged.{IsMergeCode, IsMergedInto, MergingIsRefused};
 
@@ -44,6 +44,7 @@ pub extern "C" fn seedpaint_merge(
     ensures ended { (result ≡ 1) ⊎ (result ≡ 3) → HoldsUnder conn (λ c.
         IsEndedBy (MergingIsRefused c print.now w h old.now edits.now) fault.old fault.new lengths.new.fault result) }
     ensures code { IsMergeCode conn w h print.now result }
+    ensures lengths { HasNoOther lengths.new result × (lengths.new.out ≡ 0) }
     ensures untouched { (result ≡ 0 → ⊥) → state.new ≡ state.old }
     ensures quiet { (result ≡ 1 → ⊥) → (result ≡ 3 → ⊥) → fault.new ≡ fault.old }
 {

@@ -4,7 +4,7 @@ ghost use Rattle.std.specs.Prelude.{◌≡◌, ◌⊎◌, List, ℕ, IfErr, IfOk
 ghost use Rattle.byte_devices.specs.MemoryDevice.{fresh_input};
 ghost use Rattle.stroke_lattice.specs.State.{State, nothing};
 ghost use Rattle.run_faults.specs.RunError.{HasStatus};
-ghost use Rattle.seedpaint_c.specs.Buffers.{AreHandedOut, IsAnswerCode, IsEndedBy, IsHandedOut};
+ghost use Rattle.seedpaint_c.specs.Buffers.{AreHandedOut, HasNoOther, IsAnswerCode, IsEndedBy, IsHandedOut};
 ghost use Rattle.seedpaint_c.specs.Cells.{HoldsUnder};
 ghost use Rattle.view_session.specs.Kept.{IsKeptView, KeptIsRefused};
 ghost use Rattle.view_session.specs.View.{InputIsRefused, IsView};
@@ -42,6 +42,7 @@ pub extern "C" fn seedpaint_view(
     ensures ended { (result ≡ 1) ⊎ (result ≡ 3)
         → IsEndedBy (InputIsRefused nothing input.now) fault.old fault.new lengths.new.fault result }
     ensures code { IsAnswerCode conn result }
+    ensures lengths { HasNoOther lengths.new result × (lengths.new.state ≡ 0) }
     ensures untouched { (result ≡ 0 → ⊥) → out.new ≡ out.old }
     ensures quiet { (result ≡ 1 → ⊥) → (result ≡ 3 → ⊥) → fault.new ≡ fault.old }
 {
@@ -89,6 +90,7 @@ pub extern "C" fn seedpaint_view_kept(
     ensures ended { (result ≡ 1) ⊎ (result ≡ 3) → HoldsUnder conn (λ c.
         IsEndedBy (KeptIsRefused c old.now input.now) fault.old fault.new lengths.new.fault result) }
     ensures code { IsAnswerCode conn result }
+    ensures lengths { HasNoOther lengths.new result }
     ensures untouched { (result ≡ 0 → ⊥) → (out.new ≡ out.old) × (state.new ≡ state.old) }
     ensures quiet { (result ≡ 1 → ⊥) → (result ≡ 3 → ⊥) → fault.new ≡ fault.old }
 {

@@ -2,6 +2,8 @@ use Rattle.std.proofs.Common.{◌++◌, List, inl, inr, subst}
 use Rattle.std.proofs.lemmas.Result.{err_from_is_err_and}
 use Rattle.stroke_lattice.specs.State.{State}
 use Rattle.spd_codec.specs.declared.frame.Frame.{Frame}
+use Rattle.stroke_lattice.specs.Pieces.{pieces_of}
+use Rattle.view_session.proofs.KeptViews.{spells_pieces}
 use Rattle.view_session.specs.{Kept.deltas_of, Merging.AreMerged}
 use Rattle.seedpaint_c.proofs.Viewed.{memory_is_not_refused}
 use Rattle.seedpaint_c.proofs.merging.merge.Goals as goal
@@ -33,4 +35,6 @@ returns-clause-merged c =
           (subst (λ (fs : List Frame). AreMerged mask.w mask.h (deltas_of fs ++ c.deref-2.result.now) state)
           c.deref.ensures.value c.in_ok-state.ensures.merged);
       new_is = c.in_ok-new.ensures.text;
+      new_spelled = spells_pieces c.args.conn mask.print c.in_ok-new.new.items (pieces_of 1400 state)
+          c.in_ok-new.ensures.spells;
     }

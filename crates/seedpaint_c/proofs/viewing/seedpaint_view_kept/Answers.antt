@@ -17,7 +17,7 @@ returns-in-Ok-clause-shown c =
         c.in-Ok.new.items,
         c.in-Ok.ensures.shown,
         subst (λ (text : List ℕ). is_put text c.in-Ok.new.items) c.written.ensures
-            (subst (λ (new : List ℕ). is_put c.written.result.now new) c.deref.ensures.value put.ensures),
+            (subst (λ (new : List ℕ). is_put c.written.result.now new) c.deref.ensures.value put.ensures.put),
       );
     }
 
