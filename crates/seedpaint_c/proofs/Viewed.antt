@@ -69,10 +69,10 @@ kept_is_refused conn old input e (inr (inr (inr (inr (mask, deltas, spelled, inl
     absurd (memory_is_not_refused e (inr (inr (inr (inr file.0)))) status)
 kept_is_refused conn old input e
     (inr (inr (inr (inr (mask, deltas, spelled, inr (kept, old_spelled, inl (inl merging))))))) status =
-        absurd (memory_is_not_refused e (inr (inr (inr (inl merging.0)))) status)
+    absurd (memory_is_not_refused e (inr (inr (inr (inl merging.0)))) status)
 kept_is_refused conn old input e
     (inr (inr (inr (inr (mask, deltas, spelled, inr (kept, old_spelled, inl (inr behind))))))) status =
-        absurd (memory_is_not_refused e (inl behind.0) status)
+    absurd (memory_is_not_refused e (inl behind.0) status)
 kept_is_refused conn old input e
     (inr (inr (inr (inr (mask, deltas, spelled, inr (kept, old_spelled, inr writing)))))) status =
-        absurd (memory_is_not_refused e (inr (inr (inr (inr writing.0)))) status)
+    absurd (memory_is_not_refused e (inr (inr (inr (inr writing.0)))) status)

@@ -23,13 +23,7 @@ use std::alloc::Global;
 /// It answers 0, or why the image is as it was: that `conn` is another number, that no image has such sides, that there
 /// are more or fewer cells, or want of memory.
 #[unsafe(no_mangle)]
-pub extern "C" fn seedpaint_fill(
-    alloc: Global,
-    image: &mut [u16],
-    w: u32,
-    h: u32,
-    conn: u32,
-) -> u32
+pub extern "C" fn seedpaint_fill(alloc: Global, image: &mut [u16], w: u32, h: u32, conn: u32) -> u32
     ensures filled { result ≡ 0 → HoldsUnder conn (λ c. IsView (picture_of w h 65535 image.old) 65535
         (IsFill (domain_of (image_of w h image.old) c)) (picture_of w h 65535 image.new)) }
     ensures refused { (result ≡ 0 → ⊥) → IsCellsFault conn w h image.old result }

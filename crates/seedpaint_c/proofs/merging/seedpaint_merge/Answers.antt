@@ -12,11 +12,11 @@ returns-in-Err-clause-ended c =
       holds = record {
         fault = e;
         refused = λ one. (
-              c.tell.ensures.refused one,
-              subst (λ (print : List ℕ). MergingIsRefused c.in-Some.connectivity print c.args.w c.args.h
-                  c.args.old.now c.args.edits.now e) print_is
-                  (c.in-Err.ensures.refused (c.tell.ensures.refused one)),
-            );
+          c.tell.ensures.refused one,
+          subst (λ (print : List ℕ). MergingIsRefused c.in-Some.connectivity print c.args.w c.args.h
+              c.args.old.now c.args.edits.now e) print_is
+              (c.in-Err.ensures.refused (c.tell.ensures.refused one)),
+        );
         memory = c.tell.ensures.memory;
         line = c.tell.ensures.line;
       };
