@@ -25,9 +25,10 @@ const SIDE: u32 = 64;
 /// Shows an input, which is edit lines, a line `image` and a PGM file: puts the raw PGM file of the reconstruction by
 /// dilation of its mask from its live strokes (Vincent 1993) into the front of `out`. `conn` is 4 or 8.
 ///
-/// It answers 0, or why `out` is as it was: that `conn` is another number; that the input is refused, or no memory,
-/// where the front of `fault` has the line that the program would write, without an LF, if it fits; or that `out` is
-/// too short. `lengths` tells how long the file and the line are.
+/// It answers 0, or why `out` is as it was: 2 where `conn` is another number; 1 where the input is refused (V1, E1 to
+/// E3, P1 to P9, C1, C2) and 3 for want of memory, and then the front of `fault` has the line that the program would
+/// write, without an LF, if it fits; 4 where `out` is too short. `lengths` tells how many bytes the file and the line
+/// have: with 4, how many `out` has to have.
 #[unsafe(no_mangle)]
 pub extern "C" fn seedpaint_view(
     alloc: Global,
@@ -71,8 +72,9 @@ fn show(alloc: Global, input: &[u8], conn: Conn) -> Result<MemorySink, RunError>
 /// from the join of the strokes of both into the front of `out`, and the new bytes of the state file, which keep that
 /// join, into the front of `state`. `conn` is 4 or 8.
 ///
-/// It answers 0, or why `out` and `state` are as they were, as [`seedpaint_view`] does. `lengths` tells how long the
-/// file, the new bytes and the line of a fault are.
+/// It answers 0, or why `out` and `state` are as they were, as [`seedpaint_view`] does, and 1 also where the old bytes
+/// are refused (M1 to M7, D1); 4 where one of both is too short. `lengths` tells how many bytes the file, the new state
+/// and the line of a fault have.
 #[unsafe(no_mangle)]
 pub extern "C" fn seedpaint_view_kept(
     alloc: Global,
