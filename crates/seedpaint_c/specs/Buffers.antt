@@ -20,7 +20,7 @@ abbrev pub IsHandedOut : List ℕ → List ℕ → ℕ → List ℕ → ℕ → 
 IsHandedOut old new count text code =
     ((code ≡ 0) × StartsWith old new count text) ⊎ ((code ≡ 4) × IsTooShort old new count text)
 
--- the same of two buffers: with 4, one of them is too short, and both are as they were
+-- of two buffers one is too short for its text, and both are as they were
 pub record AreTooShort (a a' : List ℕ) (count : ℕ) (text : List ℕ) (b b' : List ℕ) (other_count : ℕ) (other : List ℕ)
     : Type 0 where
   pub count_is : count ≡ length text
@@ -29,6 +29,7 @@ pub record AreTooShort (a a' : List ℕ) (count : ℕ) (text : List ℕ) (b b' :
   pub same : a' ≡ a
   pub other_same : b' ≡ b
 
+-- the code is 0, and both buffers begin with their texts; or it is 4, and one of both is too short
 abbrev pub AreHandedOut : List ℕ → List ℕ → ℕ → List ℕ → List ℕ → List ℕ → ℕ → List ℕ → ℕ → Type 0
 AreHandedOut a a' count text b b' other_count other code =
     ((code ≡ 0) × StartsWith a a' count text × StartsWith b b' other_count other)
