@@ -17,8 +17,8 @@ use std::alloc::Global;
 /// Fills the holes of an image: each pixel becomes the least level at which a path leads from it to the border, with no
 /// value on the path above that level (Soille, "Morphological Image Analysis").
 ///
-/// `image` has `w * h` cells, levels from 0 to 65535, row by row from the top, each row from the left. `w` and `h` are 1
-/// to 16384, with at most 2^26 pixels. `conn` is 4 or 8. It takes memory of about two more images.
+/// `image` has `w * h` cells, levels from 0 to 65535, row by row from the top, each row from the left. `w` and `h` are
+/// 1 to 16384, with at most 2^26 pixels. `conn` is 4 or 8. It takes memory of about two more images.
 ///
 /// It answers 0, or why the image is as it was: 2 where `conn` is another number, 5 where no image has such sides, 6
 /// where there are more or fewer cells, 3 for want of memory.
@@ -46,8 +46,8 @@ pub extern "C" fn seedpaint_fill(alloc: Global, image: &mut [u16], w: u32, h: u3
 /// Cuts the domes of an image down: it becomes its reconstruction from itself less `height`, where no value falls below
 /// 0 (Vincent 1993). `height` is 0 to 65535; with 0 the image stays as it is.
 ///
-/// `image` has `w * h` cells, levels from 0 to 65535, row by row from the top, each row from the left. `w` and `h` are 1
-/// to 16384, with at most 2^26 pixels. `conn` is 4 or 8. It takes memory of about two more images.
+/// `image` has `w * h` cells, levels from 0 to 65535, row by row from the top, each row from the left. `w` and `h` are
+/// 1 to 16384, with at most 2^26 pixels. `conn` is 4 or 8. It takes memory of about two more images.
 ///
 /// It answers 0, or why the image is as it was: 2 where `conn` is another number, 5 where no image has such sides, 6
 /// where there are more or fewer cells, 3 for want of memory.
@@ -82,8 +82,8 @@ pub extern "C" fn seedpaint_hmax(
 /// Marks the regional maxima of an image: each pixel becomes 1 on a plateau that strictly lower pixels surround, and 0
 /// elsewhere (Vincent 1993). A plateau that is the whole image counts.
 ///
-/// `image` has `w * h` cells, levels from 0 to 65535, row by row from the top, each row from the left. `w` and `h` are 1
-/// to 16384, with at most 2^26 pixels. `conn` is 4 or 8. It takes memory of about two more images.
+/// `image` has `w * h` cells, levels from 0 to 65535, row by row from the top, each row from the left. `w` and `h` are
+/// 1 to 16384, with at most 2^26 pixels. `conn` is 4 or 8. It takes memory of about two more images.
 ///
 /// It answers 0, or why the image is as it was: 2 where `conn` is another number, 5 where no image has such sides, 6
 /// where there are more or fewer cells, 3 for want of memory.

@@ -13,8 +13,8 @@ use std::alloc::Global;
 /// Raises an image until it is the reconstruction by dilation of `mask` from what it was (Vincent 1993), in place.
 ///
 /// `mask` and `image` have `w * h` cells each, levels from 0 to 65535, row by row from the top, each row from the left.
-/// `w` and `h` are 1 to 16384, with at most 2^26 pixels. `conn` is 4 or 8, the number of neighbours of a pixel. It takes
-/// memory of about half a byte a pixel, and copies neither of both.
+/// `w` and `h` are 1 to 16384, with at most 2^26 pixels. `conn` is 4 or 8, the number of neighbours of a pixel. It
+/// takes memory of about half a byte a pixel, and copies neither of both.
 ///
 /// It answers 0, or why the image is as it was: 2 where `conn` is another number, 5 where no image has such sides, 6
 /// where there are more or fewer cells, 7 where the image is above the mask somewhere, 3 for want of memory.

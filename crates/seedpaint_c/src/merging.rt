@@ -21,10 +21,10 @@ use view_session::merging::merge_all;
 /// bytes into the front of `state`. The mask is known by its sides and by its fingerprint, the SHA-256 of its raw PGM
 /// file: 32 bytes. `conn` is 4 or 8. Its time goes by the lines and the bytes, and not by the pixels.
 ///
-/// It answers 0, or why `state` is as it was: 2 where `conn` is another number, 5 where no image has such sides, 6 where
-/// a fingerprint has not 32 bytes; 1 where lines or bytes are refused (E1 to E3, M1 to M7, D1, C1, C2) and 3 for want of
-/// memory, and then the front of `fault` has the line that the program would write, without an LF, if it fits; 4 where
-/// `state` is too short. `lengths` tells how many bytes the new state and the line have.
+/// It answers 0, or why `state` is as it was: 2 where `conn` is another number, 5 where no image has such sides, 6
+/// where a fingerprint has not 32 bytes; 1 where lines or bytes are refused (E1 to E3, M1 to M7, D1, C1, C2) and 3 for
+/// want of memory, and then the front of `fault` has the line that the program would write, without an LF, if it fits;
+/// 4 where `state` is too short. `lengths` tells how many bytes the new state and the line have.
 #[unsafe(no_mangle)]
 pub extern "C" fn seedpaint_merge(
     alloc: Global,
