@@ -1,12 +1,13 @@
 -- What a run says that reads bytes in memory to their end, and writes into an empty sink in memory; and which of its
--- faults end the program with status 1.
+-- faults are want of memory, which does not end the program with status 1.
 use Rattle.std.proofs.Common.{◌≡◌, ◌⊎◌, ◌++◌, ◌∙◌, ℕ, List, Ok, Err, inl, inr, subst, sym, ap, arith}
 use Rattle.byte_devices.specs.MemoryDevice.{MemoryInput, MemoryOutput, fresh_input, fresh_output, input_seen}
 use Rattle.byte_devices.specs.MemoryDevice.{output_seen}
 use Rattle.grid_core.specs.declared.conn.Conn.{Conn}
 use Rattle.stroke_lattice.specs.State.{State}
 use Rattle.run_faults.specs.{declared.run_error.RunError.RunError, RunError.HasStatus, RunError.IsMemory}
-use Rattle.run_faults.specs.RunError.{IsDeviceFault, IsReadingFault, IsTransferFault}
+use Rattle.run_faults.specs.RunError.{IsReadingFault, IsTransferFault}
+use Rattle.seedpaint_c.specs.Buffers.{IsEndedBy, IsShortage, SaysFault}
 use Rattle.view_session.specs.Answering.{Answers}
 use Rattle.view_session.specs.Kept.{KeptIsRefused, KeptStops}
 use Rattle.view_session.specs.View.{InputIsRefused, InputStops}
@@ -34,45 +35,57 @@ module _ {V : Type 0} (answers : List ℕ → V → List ℕ → Type 0) (stops 
         (stopped.1 ∙ ap (λ (s : MemoryInput). s.left) whole) stopped.2))
   ]
 
--- want of memory, and a device that failed, do not end the program with status 1
+-- want of memory does not end the program with status 1
 pub memory_is_not_refused : (e : RunError) → IsMemory e → HasStatus e 1 → ⊥
 memory_is_not_refused e memory status = absurd (omega (arith, status.memory memory))
 
-pub device_is_not_refused : (e : RunError) → IsDeviceFault e → HasStatus e 1 → ⊥
-device_is_not_refused e device status = absurd (omega (arith, status.device device))
+pub shortage_is_not_refused : (e : RunError) → IsShortage e → HasStatus e 1 → ⊥
+shortage_is_not_refused e (inl memory) status = memory_is_not_refused e memory status
+shortage_is_not_refused e (inr transfer) status = absurd (omega (arith, status.device (inl transfer)))
 
--- a view that ends with status 1 is refused for its input
-pub view_is_refused : (old : State) (input : List ℕ) (e : RunError)
-    → IsReadingFault e ⊎ IsTransferFault e ⊎ InputStops old input e → HasStatus e 1 → InputIsRefused old input e
-view_is_refused old input e (inl memory) status =
-    absurd (memory_is_not_refused e (inr (inr (inl memory))) status)
-view_is_refused old input e (inr (inl device)) status = absurd (device_is_not_refused e (inl device) status)
-view_is_refused old input e (inr (inr (inl refused))) status = refused
-view_is_refused old input e (inr (inr (inr (inl edits)))) status =
-    absurd (memory_is_not_refused e (inr (inl edits.0)) status)
-view_is_refused old input e (inr (inr (inr (inr (mask, deltas, spelled, inl merging))))) status =
-    absurd (memory_is_not_refused e (inr (inr (inr (inl merging.0)))) status)
-view_is_refused old input e (inr (inr (inr (inr (mask, deltas, spelled, inr behind))))) status =
-    absurd (memory_is_not_refused e (inl behind.0) status)
+-- a run ended by a fault of which this is told
+pub is_ended_by : (Refuses Wants : RunError → Type 0) (old new : List ℕ) (count code : ℕ) (e : RunError)
+    → (Wants e → HasStatus e 1 → ⊥) → Refuses e ⊎ Wants e → (code ≡ 1 → HasStatus e 1)
+    → (code ≡ 3 → (HasStatus e 1 → ⊥) ⊎ (count ≡ 0)) → SaysFault old new count code e
+    → IsEndedBy Refuses Wants old new count code
+is_ended_by Refuses Wants old new count code e not_refused why one three line = record {
+  fault = e;
+  why = why;
+  refused = λ is_one. elim why [
+    | inl refuses ↦ (one is_one, refuses)
+    | inr wants ↦ absurd (not_refused wants (one is_one))
+  ];
+  memory = three;
+  line = line;
+}
 
--- and one over the old bytes of a state file for its input or for these
-pub kept_is_refused : (conn : Conn) (old input : List ℕ) (e : RunError)
-    → IsReadingFault e ⊎ IsTransferFault e ⊎ KeptStops conn old input e → HasStatus e 1
-    → KeptIsRefused conn old input e
-kept_is_refused conn old input e (inl memory) status =
-    absurd (memory_is_not_refused e (inr (inr (inl memory))) status)
-kept_is_refused conn old input e (inr (inl device)) status = absurd (device_is_not_refused e (inl device) status)
-kept_is_refused conn old input e (inr (inr (inl refused))) status = refused
-kept_is_refused conn old input e (inr (inr (inr (inl edits)))) status =
-    absurd (memory_is_not_refused e (inr (inl edits.0)) status)
-kept_is_refused conn old input e (inr (inr (inr (inr (mask, deltas, spelled, inl file))))) status =
-    absurd (memory_is_not_refused e (inr (inr (inr (inr file.0)))) status)
-kept_is_refused conn old input e
-    (inr (inr (inr (inr (mask, deltas, spelled, inr (kept, old_spelled, inl (inl merging))))))) status =
-    absurd (memory_is_not_refused e (inr (inr (inr (inl merging.0)))) status)
-kept_is_refused conn old input e
-    (inr (inr (inr (inr (mask, deltas, spelled, inr (kept, old_spelled, inl (inr behind))))))) status =
-    absurd (memory_is_not_refused e (inl behind.0) status)
-kept_is_refused conn old input e
-    (inr (inr (inr (inr (mask, deltas, spelled, inr (kept, old_spelled, inr writing)))))) status =
-    absurd (memory_is_not_refused e (inr (inr (inr (inr writing.0)))) status)
+-- a view ends since its input is refused, or for want of memory
+pub view_ends : (old : State) (input : List ℕ) (e : RunError)
+    → IsReadingFault e ⊎ IsTransferFault e ⊎ InputStops old input e → InputIsRefused old input e ⊎ IsShortage e
+view_ends old input e (inl reading) = inr (inl (inr (inr (inl reading))))
+view_ends old input e (inr (inl transfer)) = inr (inr transfer)
+view_ends old input e (inr (inr (inl refused))) = inl refused
+view_ends old input e (inr (inr (inr (inl edits)))) = inr (inl (inr (inl edits.0)))
+view_ends old input e (inr (inr (inr (inr (mask, deltas, spelled, inl merging))))) =
+    inr (inl (inr (inr (inr (inl merging.0)))))
+view_ends old input e (inr (inr (inr (inr (mask, deltas, spelled, inr behind))))) = inr (inl (inl behind.0))
+
+-- and one over the old bytes of a state file since its input or these are refused, or for want of memory
+pub kept_ends : (conn : Conn) (old input : List ℕ) (e : RunError)
+    → IsReadingFault e ⊎ IsTransferFault e ⊎ KeptStops conn old input e
+    → KeptIsRefused conn old input e ⊎ IsShortage e
+kept_ends conn old input e (inl reading) = inr (inl (inr (inr (inl reading))))
+kept_ends conn old input e (inr (inl transfer)) = inr (inr transfer)
+kept_ends conn old input e (inr (inr (inl refused))) = inl refused
+kept_ends conn old input e (inr (inr (inr (inl edits)))) = inr (inl (inr (inl edits.0)))
+kept_ends conn old input e (inr (inr (inr (inr (mask, deltas, spelled, inl file))))) =
+    inr (inl (inr (inr (inr (inr file.0)))))
+kept_ends conn old input e
+    (inr (inr (inr (inr (mask, deltas, spelled, inr (kept, old_spelled, inl (inl merging))))))) =
+    inr (inl (inr (inr (inr (inl merging.0)))))
+kept_ends conn old input e
+    (inr (inr (inr (inr (mask, deltas, spelled, inr (kept, old_spelled, inl (inr behind))))))) =
+    inr (inl (inl behind.0))
+kept_ends conn old input e
+    (inr (inr (inr (inr (mask, deltas, spelled, inr (kept, old_spelled, inr writing)))))) =
+    inr (inl (inr (inr (inr (inr writing.0)))))

@@ -1,6 +1,7 @@
 -- A text in a buffer that a caller lends, the line of a fault in another one, and the code that goes with them.
 use Rattle.std.specs.Prelude.{◌≡◌, ◌⊎◌, ℕ, ◌<◌, ◌≤◌, List, ◌++◌, drop, length}
 use Rattle.run_faults.specs.{declared.run_error.RunError.RunError, RunError.HasStatus, RunError.fault_text}
+use Rattle.run_faults.specs.RunError.{IsMemory, IsTransferFault}
 use Rattle.seedpaint_c.specs.{Cells.NamesNone, declared.buffers.Lengths.Lengths}
 
 -- the buffer begins with this text, of this length, and has behind it what it had before
@@ -35,19 +36,25 @@ AreHandedOut a a' count text b b' other_count other code =
     ((code ≡ 0) × StartsWith a a' count text × StartsWith b b' other_count other)
     ⊎ ((code ≡ 4) × AreTooShort a a' count text b b' other_count other)
 
--- the buffer begins with the line of this fault, or is too short for it; or memory was wanting for the line, and the
--- buffer is as it was
-abbrev pub SaysFault : List ℕ → List ℕ → ℕ → RunError → Type 0
-SaysFault old new count e =
-    StartsWith old new count (fault_text e) ⊎ IsTooShort old new count (fault_text e) ⊎ ((count ≡ 0) × (new ≡ old))
+-- the buffer begins with the line of this fault, or is too short for it; or the code is 3, since memory was wanting for
+-- the line, of which nothing is told
+abbrev pub SaysFault : List ℕ → List ℕ → ℕ → ℕ → RunError → Type 0
+SaysFault old new count code e =
+    StartsWith old new count (fault_text e) ⊎ IsTooShort old new count (fault_text e)
+    ⊎ ((code ≡ 3) × (count ≡ 0) × (new ≡ old))
 
--- a run ended by a fault, and the buffer has its line. With code 1 the fault is a reason to refuse, with 3 one with
--- which the program does not end with status 1: want of memory
-pub record IsEndedBy (Refuses : RunError → Type 0) (old new : List ℕ) (count code : ℕ) : Type 0 where
+-- want of memory; that of a sink in memory is told as the fault of a device
+abbrev pub IsShortage : RunError → Type 0
+IsShortage e = IsMemory e ⊎ IsTransferFault e
+
+-- a run ended by a fault, which is a reason to refuse or want of memory, and the buffer has its line. With code 1 it is
+-- a reason to refuse. With 3 it is none that ends the program with status 1, or memory was wanting for its line
+pub record IsEndedBy (Refuses Wants : RunError → Type 0) (old new : List ℕ) (count code : ℕ) : Type 0 where
   pub fault : RunError
+  pub why : Refuses fault ⊎ Wants fault
   pub refused : code ≡ 1 → HasStatus fault 1 × Refuses fault
-  pub memory : code ≡ 3 → HasStatus fault 1 → ⊥
-  pub line : SaysFault old new count fault
+  pub memory : code ≡ 3 → (HasStatus fault 1 → ⊥) ⊎ (count ≡ 0)
+  pub line : SaysFault old new count code fault
 
 -- no text is told of but with 0 and 4, and no line of a fault but with 1 and 3
 pub record HasNoOther (lengths : Lengths) (code : ℕ) : Type 0 where

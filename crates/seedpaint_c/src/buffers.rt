@@ -75,18 +75,20 @@ fn put(text: &[u8], buffer: &mut [u8])
     buffer[..text.len()].copy_from_slice(text);
 }
 
-/// Puts the line of a fault into the front of a buffer, where it fits and there is memory to make it, and says how long
-/// it is. It answers [`REFUSED`] where the program ends with status 1, else [`NO_MEMORY`].
+/// Puts the line of a fault into the front of a buffer, where it fits, and says how long it is. It answers [`REFUSED`]
+/// where the program ends with status 1, else [`NO_MEMORY`]; and that with a length of 0 where memory was wanting for
+/// the line.
 pub(crate) fn tell(alloc: Global, error: &RunError, buffer: &mut [u8], count: &mut usize) -> u32
     ensures refused { result ≡ 1 → HasStatus error.now 1 }
-    ensures memory { result ≡ 3 → HasStatus error.now 1 → ⊥ }
+    ensures memory { result ≡ 3 → (HasStatus error.now 1 → ⊥) ⊎ (count.new ≡ 0) }
     ensures one { (result ≡ 1) ⊎ (result ≡ 3) }
-    ensures line { SaysFault buffer.old buffer.new count.new error.now }
+    ensures line { SaysFault buffer.old buffer.new count.new result error.now }
 {
     *count = 0;
-    if let Ok(line) = fault_line(alloc, error) {
-        let _room = hand_out(line.as_bytes(), buffer, count);
-    }
+    let Ok(line) = fault_line(alloc, error) else {
+        return NO_MEMORY;
+    };
+    let _room = hand_out(line.as_bytes(), buffer, count);
     match status(error) {
         1 => REFUSED,
         _ => NO_MEMORY,

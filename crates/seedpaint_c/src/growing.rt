@@ -1,6 +1,7 @@
 //! Growing in the caller's cells.
 
-ghost use Rattle.std.specs.Prelude.{◌≡◌};
+ghost use Rattle.std.specs.Prelude.{◌≡◌, length};
+ghost use Rattle.grid_core.specs.Raster.{IsSized};
 ghost use Rattle.raster_sweeps.specs.Regrowth.{IsRegrown};
 ghost use Rattle.seedpaint_c.specs.Cells.{HoldsUnder, IsGrowFault, image_of};
 
@@ -14,7 +15,7 @@ use std::alloc::Global;
 ///
 /// `mask` and `image` have `w * h` cells each, levels from 0 to 65535, row by row from the top, each row from the left.
 /// `w` and `h` are 1 to 16384, with at most 2^26 pixels. `conn` is 4 or 8, the number of neighbours of a pixel. It
-/// takes memory of about half a byte a pixel, and copies neither of both.
+/// takes memory of about half a byte a pixel, and at least 4 KiB for each 32 rows, and copies neither of both.
 ///
 /// It answers 0, or why the image is as it was: 2 where `conn` is another number, 5 where no image has such sides, 6
 /// where there are more or fewer cells, 7 where the image is above the mask somewhere, 3 for want of memory.
@@ -29,6 +30,8 @@ pub extern "C" fn seedpaint_grow(
 ) -> u32
     ensures grown { result ≡ 0 → HoldsUnder conn
         (λ c. IsRegrown c (image_of w h mask.now) (image_of w h image.old) (image_of w h image.new)) }
+    ensures sized { result ≡ 0 → IsSized (image_of w h image.old) }
+    ensures mask_sized { result ≡ 0 → length mask.now ≡ length image.old }
     ensures refused { (result ≡ 0 → ⊥) → IsGrowFault conn w h mask.now image.old result }
     ensures untouched { (result ≡ 0 → ⊥) → image.new ≡ image.old }
 {

@@ -1,7 +1,8 @@
 //! Edit lines joined into the bytes of a state file, without an image.
 
-ghost use Rattle.std.specs.Prelude.{◌≡◌, ◌⊎◌, List, ℕ, IfErr, IfOk};
-ghost use Rattle.run_faults.specs.RunError.{HasStatus};
+ghost use Rattle.std.specs.Prelude.{◌≡◌, ◌⊎◌, List, ℕ, IfErr, IfOk, length};
+ghost use Rattle.grid_core.specs.Raster.{IsImageSize};
+ghost use Rattle.run_faults.specs.RunError.{IsMemory};
 ghost use Rattle.seedpaint_c.specs.Buffers.{HasNoOther, IsEndedBy, IsHandedOut};
 ghost use Rattle.seedpaint_c.specs.Cells.{HoldsUnder};
 ghost use Rattle.seedpaint_c.specs.Merged.{IsMergeCode, IsMergedInto, MergingIsRefused};
@@ -24,7 +25,8 @@ use view_session::merging::merge_all;
 /// It answers 0, or why `state` is as it was: 2 where `conn` is another number, 5 where no image has such sides, 6
 /// where a fingerprint has not 32 bytes; 1 where lines or bytes are refused (E1 to E3, M1 to M7, D1, C1, C2) and 3 for
 /// want of memory, and then the front of `fault` has the line that the program would write, without an LF, if it fits;
-/// 4 where `state` is too short. `lengths` tells how many bytes the new state and the line have.
+/// 4 where `state` is too short. `lengths` tells how many bytes the new state and the line have. Where memory is
+/// wanting for a line, it is 3 with a line of no bytes.
 #[unsafe(no_mangle)]
 pub extern "C" fn seedpaint_merge(
     alloc: Global,
@@ -42,7 +44,10 @@ pub extern "C" fn seedpaint_merge(
         × IsMergedInto c print.now w h old.now edits.now new
         × IsHandedOut state.old state.new lengths.new.state new result) }
     ensures ended { (result ≡ 1) ⊎ (result ≡ 3) → HoldsUnder conn (λ c.
-        IsEndedBy (MergingIsRefused c print.now w h old.now edits.now) fault.old fault.new lengths.new.fault result) }
+        IsEndedBy (MergingIsRefused c print.now w h old.now edits.now) IsMemory
+        fault.old fault.new lengths.new.fault result) }
+    ensures sides { (result ≡ 2 → ⊥) → (result ≡ 5 → ⊥) → IsImageSize w h }
+    ensures print { (result ≡ 2 → ⊥) → (result ≡ 5 → ⊥) → (result ≡ 6 → ⊥) → length print.now ≡ 32 }
     ensures code { IsMergeCode conn w h print.now result }
     ensures lengths { HasNoOther lengths.new result × (lengths.new.out ≡ 0) }
     ensures untouched { (result ≡ 0 → ⊥) → state.new ≡ state.old }
@@ -86,8 +91,8 @@ fn merge(
 ) -> Result<Vec<u8>, RunError>
     ensures merged { IfOk result (λ new.
         IsMergedInto conn mask.now.print mask.now.w mask.now.h old.now edits.now new.items) }
-    ensures refused { IfErr result (λ e. HasStatus e 1
-        → MergingIsRefused conn mask.now.print mask.now.w mask.now.h old.now edits.now e) }
+    ensures ended { IfErr result (λ e.
+        MergingIsRefused conn mask.now.print mask.now.w mask.now.h old.now edits.now e ⊎ IsMemory e) }
 {
     let deltas = parse_lines(alloc, edits)?;
     let frames = frames_for(alloc, old, conn, &mask.print)?;

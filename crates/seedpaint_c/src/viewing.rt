@@ -3,8 +3,8 @@
 ghost use Rattle.std.specs.Prelude.{◌≡◌, ◌⊎◌, List, ℕ, IfErr, IfOk};
 ghost use Rattle.byte_devices.specs.MemoryDevice.{fresh_input};
 ghost use Rattle.stroke_lattice.specs.State.{State, nothing};
-ghost use Rattle.run_faults.specs.RunError.{HasStatus};
-ghost use Rattle.seedpaint_c.specs.Buffers.{AreHandedOut, HasNoOther, IsAnswerCode, IsEndedBy, IsHandedOut};
+ghost use Rattle.run_faults.specs.RunError.{IsReadingFault};
+ghost use Rattle.seedpaint_c.specs.Buffers.{AreHandedOut, HasNoOther, IsAnswerCode, IsEndedBy, IsHandedOut, IsShortage};
 ghost use Rattle.seedpaint_c.specs.Cells.{HoldsUnder};
 ghost use Rattle.view_session.specs.Kept.{IsKeptView, KeptIsRefused};
 ghost use Rattle.view_session.specs.View.{InputIsRefused, IsView};
@@ -28,7 +28,7 @@ const SIDE: u32 = 64;
 /// It answers 0, or why `out` is as it was: 2 where `conn` is another number; 1 where the input is refused (V1, E1 to
 /// E3, P1 to P9, C1, C2) and 3 for want of memory, and then the front of `fault` has the line that the program would
 /// write, without an LF, if it fits; 4 where `out` is too short. `lengths` tells how many bytes the file and the line
-/// have: with 4, how many `out` has to have.
+/// have: with 4, how many `out` has to have. Where memory is wanting for a line, it is 3 with a line of no bytes.
 #[unsafe(no_mangle)]
 pub extern "C" fn seedpaint_view(
     alloc: Global,
@@ -41,7 +41,7 @@ pub extern "C" fn seedpaint_view(
     ensures shown { (result ≡ 0) ⊎ (result ≡ 4) → HoldsUnder conn (λ c. (state : State) × (text : List ℕ)
         × IsView c nothing input.now state text × IsHandedOut out.old out.new lengths.new.out text result) }
     ensures ended { (result ≡ 1) ⊎ (result ≡ 3)
-        → IsEndedBy (InputIsRefused nothing input.now) fault.old fault.new lengths.new.fault result }
+        → IsEndedBy (InputIsRefused nothing input.now) IsShortage fault.old fault.new lengths.new.fault result }
     ensures code { IsAnswerCode conn result }
     ensures lengths { HasNoOther lengths.new result × (lengths.new.state ≡ 0) }
     ensures untouched { (result ≡ 0 → ⊥) → out.new ≡ out.old }
@@ -60,7 +60,7 @@ pub extern "C" fn seedpaint_view(
 // Shows an input in a sink.
 fn show(alloc: Global, input: &[u8], conn: Conn) -> Result<MemorySink, RunError>
     ensures shown { IfOk result (λ sink. (state : State) × IsView conn nothing input.now state sink.written) }
-    ensures refused { IfErr result (λ e. HasStatus e 1 → InputIsRefused nothing input.now e) }
+    ensures ended { IfErr result (λ e. InputIsRefused nothing input.now e ⊎ IsShortage e) }
 {
     let mut source = source_of(alloc, input)?;
     let mut sink = MemorySink::new(alloc);
@@ -90,7 +90,7 @@ pub extern "C" fn seedpaint_view_kept(
         × IsKeptView c old.now input.now text new
         × AreHandedOut out.old out.new lengths.new.out text state.old state.new lengths.new.state new result) }
     ensures ended { (result ≡ 1) ⊎ (result ≡ 3) → HoldsUnder conn (λ c.
-        IsEndedBy (KeptIsRefused c old.now input.now) fault.old fault.new lengths.new.fault result) }
+        IsEndedBy (KeptIsRefused c old.now input.now) IsShortage fault.old fault.new lengths.new.fault result) }
     ensures code { IsAnswerCode conn result }
     ensures lengths { HasNoOther lengths.new result }
     ensures untouched { (result ≡ 0 → ⊥) → (out.new ≡ out.old) × (state.new ≡ state.old) }
@@ -114,7 +114,7 @@ fn keep(
     conn: Conn,
 ) -> Result<(Vec<u8>, MemorySink), RunError>
     ensures shown { IfOk result (λ kept. IsKeptView conn old.now input.now kept.1.written kept.0.items) }
-    ensures refused { IfErr result (λ e. HasStatus e 1 → KeptIsRefused conn old.now input.now e) }
+    ensures ended { IfErr result (λ e. KeptIsRefused conn old.now input.now e ⊎ IsShortage e) }
 {
     let mut source = source_of(alloc, input)?;
     let mut sink = MemorySink::new(alloc);
@@ -127,7 +127,7 @@ fn keep(
 // Errors: P10.
 fn source_of(alloc: Global, input: &[u8]) -> Result<MemorySource, RunError>
     ensures source { IfOk result (λ source. source ≡ fresh_input input.now usize.MAX) }
-    ensures memory { IfErr result (λ e. HasStatus e 1 → ⊥) }
+    ensures memory { IfErr result IsReadingFault }
 {
     let Ok(bytes) = Vec::from_slice(alloc, input) else {
         return Err(RunError::Pgm(PgmError::Memory));

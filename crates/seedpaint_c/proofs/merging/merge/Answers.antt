@@ -5,19 +5,17 @@ use Rattle.spd_codec.specs.declared.frame.Frame.{Frame}
 use Rattle.stroke_lattice.specs.Pieces.{pieces_of}
 use Rattle.view_session.proofs.KeptViews.{spells_pieces}
 use Rattle.view_session.specs.{Kept.deltas_of, Merging.AreMerged}
-use Rattle.seedpaint_c.proofs.Viewed.{memory_is_not_refused}
 use Rattle.seedpaint_c.proofs.merging.merge.Goals as goal
 
-pub returns-in_err-frames-clause-refused : goal.returns-in_err-frames-clause-refused
-returns-in_err-frames-clause-refused c =
+pub returns-in_err-frames-clause-ended : goal.returns-in_err-frames-clause-ended
+returns-in_err-frames-clause-ended c =
     let p = err_from_is_err_and c.from_residual-in_err-frames.result c.from_residual-in_err-frames.ensures.1 in
-    let e = c.in_err-frames.field-0.0 in
     let deltas = c.in_ok-deltas.deltas.items in
     let spelled = c.in_ok-deltas.ensures.spelled in
     rw (p.1, p.2) (elim c.in_err-frames.ensures.refused [
-      | inl memory ↦ λ status. absurd (memory_is_not_refused e (inr (inr (inr (inr memory)))) status)
-      | inr (inl fault) ↦ λ _. inr (deltas, spelled, inl fault)
-      | inr (inr other) ↦ λ _. inr (deltas, spelled, inr (inl other))
+      | inl memory ↦ inr (inr (inr (inr (inr memory))))
+      | inr (inl fault) ↦ inl (inr (deltas, spelled, inl fault))
+      | inr (inr other) ↦ inl (inr (deltas, spelled, inr (inl other)))
     ])
 
 pub returns-clause-merged : goal.returns-clause-merged

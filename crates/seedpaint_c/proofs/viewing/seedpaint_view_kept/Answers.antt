@@ -1,5 +1,7 @@
 use Rattle.std.proofs.Common.{ℕ, List, subst}
-use Rattle.seedpaint_c.specs.Buffers.{AreHandedOut}
+use Rattle.view_session.specs.Kept.{KeptIsRefused}
+use Rattle.seedpaint_c.specs.Buffers.{AreHandedOut, IsShortage}
+use Rattle.seedpaint_c.proofs.Viewed.{is_ended_by, shortage_is_not_refused}
 use Rattle.seedpaint_c.proofs.viewing.seedpaint_view_kept.Goals as goal
 
 pub returns-in-Ok-clause-shown : goal.returns-in-Ok-clause-shown
@@ -22,13 +24,13 @@ returns-in-Ok-clause-shown c =
     }
 
 pub returns-in-Err-clause-ended : goal.returns-in-Err-clause-ended
-returns-in-Err-clause-ended c = λ _. record {
-  conn = c.in-Some.connectivity;
-  named = c.in-Some.ensures;
-  holds = record {
-    fault = c.in-Err.error;
-    refused = λ one. (c.tell.ensures.refused one, c.in-Err.ensures.refused (c.tell.ensures.refused one));
-    memory = c.tell.ensures.memory;
-    line = c.tell.ensures.line;
-  };
-}
+returns-in-Err-clause-ended c =
+    let conn = c.in-Some.connectivity in
+    let e = c.in-Err.error in
+    λ _. record {
+      conn = conn;
+      named = c.in-Some.ensures;
+      holds = is_ended_by (KeptIsRefused conn c.args.old.now c.args.input.now) IsShortage _ _ _ _ e
+          (shortage_is_not_refused e) c.in-Err.ensures.ended c.tell.ensures.refused c.tell.ensures.memory
+          c.tell.ensures.line;
+    }
