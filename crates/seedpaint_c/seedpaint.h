@@ -12,6 +12,8 @@
  *   - each buffer has as many elements as the length beside it says, and cells lie at even addresses;
  *   - a buffer that is written overlaps no other argument;
  *   - no other thread writes what a running call reads, or touches what it writes;
+ *   - malloc, realloc and free are of one allocator, and blocks lie at each power of two up to 16 that divides their
+ *     size (as glibc's do);
  *   - no call comes from a signal handler, or from the forked child of a process with threads.
  * All else is tested inside: no value of a number, and no byte of an input, does harm.
  *
@@ -36,7 +38,7 @@ enum seedpaint_code {
     SEEDPAINT_OK = 0,
     SEEDPAINT_REFUSED = 1,          /* what is read is refused: `fault` has the line that says why */
     SEEDPAINT_BAD_CONNECTIVITY = 2, /* it is neither 4 nor 8 */
-    SEEDPAINT_NO_MEMORY = 3,        /* out of memory */
+    SEEDPAINT_NO_MEMORY = 3,        /* out of memory, also where what is read is refused and its line needs more */
     SEEDPAINT_NO_ROOM = 4,          /* `out` or `state` is too short: the lengths say how long each has to be */
     SEEDPAINT_BAD_SIZE = 5,         /* no image has these sides */
     SEEDPAINT_BAD_LENGTH = 6,       /* there are not w * h cells; or a fingerprint has not 32 bytes */
@@ -58,7 +60,8 @@ struct seedpaint_lengths {
 
 /*
  * Raises `image`, in place, until it is the reconstruction by dilation of `mask` from what it was (Vincent, 1993).
- * It has to be at most the mask, cell by cell. Neither is copied; beside them it takes about half a byte a cell.
+ * It has to be at most the mask, cell by cell. Neither is copied; beside them it takes about half a byte a cell, and
+ * at least 4 KiB for each 32 rows.
  *
  * Answers 0, or BAD_CONNECTIVITY, BAD_SIZE, BAD_LENGTH, ABOVE_MASK or NO_MEMORY.
  */
@@ -95,8 +98,10 @@ uint32_t seedpaint_regmax(uint16_t *image, size_t image_cells, uint32_t w, uint3
  * result into the front of `out`.
  *
  * Answers 0; or BAD_CONNECTIVITY; or REFUSED or NO_MEMORY, where the front of `fault` has the line that the program
- * would write, without a newline and without a 0 behind it; or NO_ROOM, where lengths->out says how long `out` has to
- * be. A file is never longer than 20 bytes and two for each pixel. docs/FORMATS.md has the formats and the faults.
+ * would write, without a newline and without a 0 behind it. Compare lengths->fault with fault_bytes first: of a longer
+ * line nothing is written. With NO_MEMORY it is 0 where memory was wanting for the line, too. Or NO_ROOM, where
+ * lengths->out says how long `out` has to be. A file is never longer than 20 bytes and two for each pixel.
+ * docs/FORMATS.md has the formats and the faults.
  */
 uint32_t seedpaint_view(const uint8_t *input, size_t input_bytes, uint32_t connectivity, uint8_t *out,
                         size_t out_bytes, uint8_t *fault, size_t fault_bytes, struct seedpaint_lengths *lengths);
@@ -118,8 +123,9 @@ uint32_t seedpaint_view_kept(const uint8_t *input, size_t input_bytes, const uin
  * the 32 bytes of the SHA-256 of its raw PGM file. Puts the new bytes into the front of `state`. No image is made: it
  * takes a time of about the lines and the bytes. Two state files one behind the other are one, of both.
  *
- * Answers 0; or BAD_CONNECTIVITY, BAD_SIZE or BAD_LENGTH; or REFUSED or NO_MEMORY, with the line of the fault; or
- * NO_ROOM.
+ * Answers 0; or BAD_CONNECTIVITY, BAD_SIZE or BAD_LENGTH; or REFUSED or NO_MEMORY, with the line of the fault. Compare
+ * lengths->fault with fault_bytes first, as behind seedpaint_view. Or NO_ROOM, where lengths->state says how long
+ * `state` has to be.
  */
 uint32_t seedpaint_merge(const uint8_t *edits, size_t edits_bytes, const uint8_t *old, size_t old_bytes,
                          const uint8_t *print, size_t print_bytes, uint32_t w, uint32_t h, uint32_t connectivity,
