@@ -17,6 +17,13 @@ Shape = tuple[int, ...]  # (rows and columns)
 _CONNECTIVITIES = {1: 4, 2: 8, 4: 4, 8: 8}
 _CROSS = numpy.array([[0, 1, 0], [1, 1, 1], [0, 1, 0]], dtype=bool)
 
+# What to do with other dimensions, by their number.
+_ADVICE = {
+    0: "",
+    1: ": pass {}[None]",
+    3: ": planes are grown one by one, and nothing spreads between them",
+}
+
 
 # ---- What is taken, and what is refused ----
 
@@ -46,7 +53,7 @@ def _check_kind(name: str, image: Image) -> None:
         raise TypeError(
             f"{name} has floats, and levels are integers from 0 to 65535: scale it, as "
             "by numpy.rint(image * 65535).astype(numpy.uint16) where it is from 0 to "
-            "1, or take the ranks of its values, as docs/PYTHON.md shows"
+            "1, or take the ranks of its values, as the package's README shows"
         )
     if image.dtype.kind not in "biu":
         raise TypeError(
@@ -58,7 +65,7 @@ def check_shape(name: str, image: Image) -> None:
     """Refuse shapes that no image has."""
     shape = image.shape
     if len(shape) != 2:
-        advice = ": pass its planes one by one" if len(shape) > 2 else ""
+        advice = _ADVICE[min(len(shape), 3)].format(name)
         raise ValueError(
             f"{name} has the shape {shape}, and an image has 2 dimensions{advice}"
         )
@@ -67,7 +74,8 @@ def check_shape(name: str, image: Image) -> None:
     if max(shape) > _library.MAX_SIDE or image.size > _library.MAX_PIXELS:
         raise ValueError(
             f"{name} has the shape {shape}, and an image has sides up to 16384 and at "
-            "most 2**26 pixels: docs/PYTHON.md grows a larger one in chunks"
+            "most 2**26 pixels: a larger one is grown in chunks, as the package's "
+            "README says"
         )
 
 
@@ -153,9 +161,10 @@ def of_number(connectivity: int) -> int:
 
 
 def _of_footprint(footprint: ArrayLike) -> int:
-    """4 or 8, by a footprint."""
-    inside = numpy.asarray(footprint).astype(bool)
+    """4 or 8, by a footprint; whether it has its centre is all the same."""
+    inside = numpy.array(footprint).astype(bool)
     if inside.shape == (3, 3):
+        inside[1, 1] = True
         if inside.all():
             return 8
         if (inside == _CROSS).all():

@@ -4,6 +4,7 @@ from __future__ import annotations
 
 import math
 from collections.abc import Iterator
+from fractions import Fraction
 from typing import Any
 
 import numpy
@@ -58,10 +59,11 @@ def by_share(
 
 
 def _threshold(stroke: Stroke, mask: _arrays.Cells, share: float) -> int:
-    """The least value that a stroke keeps."""
+    """The least value that a stroke keeps. The share counts as it is written."""
     spans = stroke.spans(mask.shape)
     brightest = max(int(mask[y, first : last + 1].max()) for y, first, last in spans)
-    return max(1, math.ceil(share * min(stroke.level, brightest)))
+    exact = Fraction(repr(float(share)))  # (so that 0.07 of 100 is 7)
+    return max(1, math.ceil(exact * min(stroke.level, brightest)))
 
 
 def _rounds(

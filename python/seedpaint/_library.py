@@ -200,9 +200,9 @@ def _judge(code: int, line: bytes = b"") -> None:
     """Raise what an answer says, where it is not 0."""
     if code == OK:
         return
-    if code == REFUSED and line:
+    if code == REFUSED:
         raise Fault(line.decode("ascii"))
-    if code in (REFUSED, NO_MEMORY):  # (no line, for want of memory to make it)
+    if code == NO_MEMORY:
         raise MemoryError("out of memory")
     if code == ABOVE_MASK:
         raise AboveMask("the image is above the mask somewhere")

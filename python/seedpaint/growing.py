@@ -54,7 +54,8 @@ def reconstruction(
     -------
     (H, W) ndarray
         The reconstruction: `out` where one is given, else a new array. Its
-        type is that of seed and mask, or the one that numpy gives both.
+        type is that of seed and mask, or the one that numpy gives both, or
+        int64 where that is no integer type.
 
     Raises
     ------
@@ -82,7 +83,8 @@ def reconstruction(
     least that level, with no value of the mask below it on the path. That the
     library answers this is proved.
 
-    The interpreter's lock is released while the library runs.
+    The interpreter's lock is released while the library runs. While a call
+    runs nobody may write its arrays, nor touch `out`.
 
     References
     ----------

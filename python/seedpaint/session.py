@@ -46,8 +46,8 @@ class Session:
     Raises
     ------
     Fault
-        Where the state file is refused: M1 to M7, or D1 where it is for
-        another mask or connectivity.
+        Where the state file is refused: M1 to M7, D1 where it is for another
+        mask or connectivity, C1 or C2 where a stroke does not fit.
     TypeError
         Where values are neither integers nor booleans, or state no bytes.
     ValueError
@@ -65,7 +65,8 @@ class Session:
     Notes
     -----
     A session reads and writes no file. Threads that share one have to take
-    turns; sessions of their own run side by side.
+    turns; sessions of their own run side by side. While a call runs nobody may
+    write its arrays.
 
     Examples
     --------
@@ -140,7 +141,9 @@ class Session:
         """
         index = operator.index
         triples = tuple((index(y), index(a), index(b)) for y, a, b in runs)
-        return self._add(Stroke(_tag_of(tag), 1, runs=triples), level)
+        if not triples:
+            raise Fault("seedpaint: E3 1 S2")  # (no edit line spells such a stroke)
+        return self._add(Stroke(_tag_or_new(tag), 1, runs=triples), level)
 
     def disc(
         self,
@@ -178,7 +181,7 @@ class Session:
             Where a number is no integer, or tag is neither of both.
         """
         disc = (operator.index(y), operator.index(x), operator.index(radius))
-        return self._add(Stroke(_tag_of(tag), 1, disc=disc), level)
+        return self._add(Stroke(_tag_or_new(tag), 1, disc=disc), level)
 
     def add(self, strokes: Iterable[Stroke]) -> None:
         """Place strokes, as `strokes_from_labels` gives them: all, or none.
@@ -322,8 +325,13 @@ class Session:
         Notes
         -----
         A region in which several strokes meet is not cut apart; the tool
-        `tools/labels_from_result.py` of the repository does so. By `share` it
-        takes the longer, the more strokes meet in one.
+        `tools/labels_from_result.py` of the repository does so.
+
+        By `share` it takes the longer, the more strokes meet in one. And each
+        stroke counts by itself: a stroke on a dim cell also keeps a brighter
+        cell that touches it, and if it has the lesser tag it takes that cell
+        whole, even from a stroke of the cell's own. There the tool's ``--share``
+        gives other regions, for it goes by the stroke that lights a pixel.
         """
         if (level is None) == (share is None):
             raise ValueError("give one of level and share")
@@ -401,10 +409,13 @@ class Session:
         return most
 
 
-def _tag_of(tag: uuid.UUID | str | None) -> uuid.UUID:
-    """A tag, or a new one."""
-    if tag is None:
-        return uuid.uuid4()
+def _tag_or_new(tag: uuid.UUID | str | None) -> uuid.UUID:
+    """A tag, or a new one where there is none."""
+    return uuid.uuid4() if tag is None else _tag_of(tag)
+
+
+def _tag_of(tag: uuid.UUID | str) -> uuid.UUID:
+    """A tag, by itself or by its text."""
     if isinstance(tag, uuid.UUID):
         return tag
     if not isinstance(tag, str):

@@ -74,6 +74,22 @@ class Labels(unittest.TestCase):
         self.assertEqual(self.session.labels(share=0.9).tolist(), expected)
         self.assertEqual(self.session.labels(share=0.9).dtype, numpy.int32)
 
+    def test_a_share_is_the_number_that_is_written(self):
+        for share in (0.07, 0.28, 0.55, 0.56):
+            least = round(100 * share)
+            mask = numpy.array([[100, least, least - 1]], dtype=numpy.uint8)
+            session = seedpaint.Session(mask, 4)
+            session.disc(0, 0, 0)
+            got = session.labels(share=share)
+            self.assertEqual(got.tolist(), [[1, 1, 0]], share)
+
+    def test_a_dim_stroke_keeps_a_bright_cell_that_touches_it(self):
+        mask = numpy.array([[2, 2, 9, 9]], dtype=numpy.uint8)
+        session = seedpaint.Session(mask, 4)
+        session.disc(0, 0, 0, tag=uuid.UUID(int=1))
+        session.disc(0, 3, 0, tag=uuid.UUID(int=2))
+        self.assertEqual(session.labels(share=0.9).tolist(), [[1, 1, 1, 1]])
+
     def test_without_strokes(self):
         session = seedpaint.Session(self.mask, 4)
         for words in ({"level": 1}, {"share": 1}, {"level": 1, "painted": True}):

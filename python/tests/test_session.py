@@ -163,7 +163,8 @@ class Refuses(unittest.TestCase):
         self.refused("E1", "from 0 to 65535", lambda: place([(-1, 0, 0)]))
         self.refused("E1", "from 0 to 65535", lambda: disc(0, -1, 2))
         self.refused("E1", "from 0 to 65535", lambda: disc(0, 0, -1))
-        self.refused("E1", "from 0 to 65535", lambda: place([], 9))
+        self.refused("E3", "it has no run", lambda: place([], 9))
+        self.refused("E3", "it has no run", lambda: place([]))
         self.refused("E2", "UUID", lambda: disc(1, 1, 1, 5, tag="me"))
         self.refused("E3", "level", lambda: disc(1, 1, 1, 0))
         self.refused("E3", "160", lambda: place(many, 9))
@@ -190,6 +191,13 @@ class Refuses(unittest.TestCase):
                 call()
         runs = numpy.array([[0, 0, 1], [2, 3, 3]], dtype=numpy.uint8)
         place(runs, numpy.uint16(7))
+
+    def test_nothing_is_withdrawn_by_no_tag(self):
+        before = self.session.state()
+        words = "tag is None, and it is a uuid.UUID or its text"
+        with self.assertRaisesRegex(TypeError, words):
+            self.session.withdraw(None)
+        self.assertEqual(self.session.state(), before)
 
     def test_all_lines_or_none(self):
         lines = f"disc {uuid.UUID(int=2)} 5 0:0+0\nplaces\n"
@@ -223,6 +231,11 @@ class Refuses(unittest.TestCase):
             seedpaint.Session(self.mask / 2, 4)
         with self.assertRaises(seedpaint.Fault):
             seedpaint.Session(self.mask, 4, state=b"none")
+        clash = seedpaint.Session(self.mask, 4)
+        clash.disc(0, 0, 0, tag=TAG)
+        both = self.session.state() + clash.state()
+        with self.assertRaisesRegex(seedpaint.Fault, "C2"):
+            seedpaint.Session(self.mask, 4, state=both)
 
     def test_a_fault_can_be_sent_to_another_process(self):
         fault = seedpaint.Fault("seedpaint: E3 1 S1")
