@@ -40,8 +40,12 @@ link_library() {
 # The shared library shows each export and nothing else, and asks for no glibc after 2.17.
 check_library() {
   diff <(exports | sort) <(nm -D --defined-only dist/libseedpaint.so | awk '{print $3}' | sort)
+  if ! objdump -T dist/libseedpaint.so > "$WORK/symbols"; then
+    echo "build_python.sh: objdump (binutils) is wanted to see which glibc the library needs" >&2
+    exit 1
+  fi
   local newest
-  newest=$({ objdump -T dist/libseedpaint.so | grep -o 'GLIBC_[0-9.]*' || true; } | sort -Vu | tail -1)
+  newest=$({ grep -o 'GLIBC_[0-9.]*' "$WORK/symbols" || true; } | sort -Vu | tail -1)
   if [ "$(printf '%s\nGLIBC_2.17\n' "$newest" | sort -V | tail -1)" != GLIBC_2.17 ]; then
     echo "build_python.sh: the library needs $newest, and the wheel says glibc 2.17" >&2
     exit 1
@@ -74,9 +78,10 @@ install_wheel() {
   "$WORK/venv/bin/pip" install --quiet --no-index dist/seedpaint-*.whl
 }
 
-# The Python lines of the package's README, as a newcomer types them.
+# The Python lines of the package's README, as a newcomer types them: they print what stands behind them.
 run_readme() {
-  sed -n '/^    import/,/^$/s/^    //p' python/README.md | "$WORK/venv/bin/python" - | diff <(echo '[[3 5 2 2 2]]') -
+  sed -n '/^    import/,/^$/s/^    //p' python/README.md > "$WORK/readme.py"
+  diff <(sed -n 's/^print(.*) *# //p' "$WORK/readme.py") <("$WORK/venv/bin/python" "$WORK/readme.py")
 }
 
 (cd "$CRATE" && rt lib)

@@ -30,6 +30,7 @@ sys.path.insert(0, str(ROOT / "examples"))
 import painted  # noqa: E402
 
 SCALE = 2
+SHELL = re.compile(r"(apt-get|cc -\S+|tools/\S+|/usr/bin/\S+|~/\S+|LD_LIBRARY_PATH=\S+)( |$)")
 
 
 def make_files():
@@ -48,13 +49,18 @@ def blocks():
     return [re.sub("^    ", "", block, flags=re.M) for block in re.findall("(?:^    .*\n)+", text, re.M)]
 
 
-def is_python(block):
-    """Whether a block is Python, and no commands of a shell."""
+def is_of_a_shell(block):
+    """Whether each line of a block is a command that the page gives a shell."""
+    return all(SHELL.match(line) for line in block.splitlines())
+
+
+def compiled(block):
+    """The code of a block of Python."""
     try:
-        compile(block, "block", "exec")
-    except SyntaxError:
-        return False
-    return True
+        return compile(block, "block", "exec")
+    except SyntaxError as why:
+        line = block.splitlines()[why.lineno - 1]
+        raise Fault(f"a line of the page is neither Python nor a command of a shell: {line}") from None
 
 
 def run_page(names):
@@ -64,8 +70,8 @@ def run_page(names):
         if block.startswith(">>>"):
             test = doctest.DocTestParser().get_doctest(block, names, "docs/PYTHON.md", None, 0)
             runner.run(test)
-        elif is_python(block):
-            exec(block, names)
+        elif not is_of_a_shell(block):
+            exec(compiled(block), names)
     if runner.failures:
         raise Fault("the page says another answer")
     return runner.tries

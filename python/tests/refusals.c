@@ -1,7 +1,8 @@
 /*
- * Calls each function of seedpaint.h with no growth of memory refused, and then with each one in turn. After each call
- * all memory has to be given back. The answer is that of want of memory, and what the caller lent is as it was; or the
- * call went on with less memory, and left there what it leaves with none refused.
+ * Calls each function of seedpaint.h with no growth of memory refused, and then with each one in turn; and so a view
+ * and a merge that are refused. After each call all memory has to be given back. The answer is that of want of memory,
+ * and what the caller lent is as it was, without the line of a refusal; or the call went on with less memory, and left
+ * there what it leaves with none refused.
  *
  * tools/build_python.sh --test links it, with malloc, realloc and free wrapped, and runs it by itself, under the
  * address sanitizer and under valgrind. It ends with 0 and a line for each function, or with 1 and another line at the
@@ -43,7 +44,7 @@ void __wrap_free(void *block) {
 
 /* ---- Calls ---- */
 
-enum { W = 40, H = 70, CELLS = W * H, BYTES = 8000 };
+enum { W = 40, H = 70, CELLS = W * H, BYTES = 8000, PRINT_AT = 7 }; /* (of a state file's first fingerprint) */
 
 /* What a caller lends to be written. */
 struct lent {
@@ -53,7 +54,7 @@ struct lent {
 
 static struct lent lent, before;
 static uint16_t mask[CELLS];
-static uint8_t input[BYTES], old[BYTES], print[32], fault[SEEDPAINT_FAULT_BYTES];
+static uint8_t input[BYTES], old[BYTES], print[32], other_print[32], fault[SEEDPAINT_FAULT_BYTES];
 static size_t input_bytes, edits_bytes, old_bytes;
 static struct seedpaint_lengths lengths;
 
@@ -69,15 +70,32 @@ static uint32_t view_kept(void) {
                                sizeof fault, &lengths);
 }
 static uint32_t merge(void) {
-    return seedpaint_merge(input, edits_bytes, old, 0, print, 32, W, H, 4, lent.state, BYTES, fault, sizeof fault,
-                           &lengths);
+    return seedpaint_merge(input, edits_bytes, old, old_bytes, print, 32, W, H, 4, lent.state, BYTES, fault,
+                           sizeof fault, &lengths);
 }
 
-static const struct {
+/* An input that ends before its line `image`, and old bytes that are for another mask. */
+static uint32_t view_refused(void) {
+    return seedpaint_view(input, edits_bytes, 4, lent.out, BYTES, fault, sizeof fault, &lengths);
+}
+static uint32_t merge_refused(void) {
+    return seedpaint_merge(input, edits_bytes, old, old_bytes, other_print, 32, W, H, 4, lent.state, BYTES, fault,
+                           sizeof fault, &lengths);
+}
+
+static const struct call {
     const char *name;
     uint32_t (*call)(void);
-} functions[] = {{"grow", grow}, {"fill", fill},           {"hmax", hmax},  {"regmax", regmax},
-                 {"view", view}, {"view_kept", view_kept}, {"merge", merge}};
+    const char *line; /* of the fault, where it is refused */
+} calls[] = {{"grow", grow, NULL},
+             {"fill", fill, NULL},
+             {"hmax", hmax, NULL},
+             {"regmax", regmax, NULL},
+             {"view", view, NULL},
+             {"view_kept", view_kept, NULL},
+             {"merge", merge, NULL},
+             {"a refused view", view_refused, "seedpaint: V1"},
+             {"a refused merge", merge_refused, "seedpaint: D1"}};
 
 static void fail(const char *name, const char *why) {
     printf("%s, growth %ld refused: %s\n", name, refused, why);
@@ -112,38 +130,47 @@ static void make_old(void) {
     if (seedpaint_view_kept(first, n, old, 0, 4, lent.out, BYTES, old, BYTES, fault, sizeof fault, &lengths))
         fail("view_kept", "the state file is refused");
     old_bytes = lengths.state;
+    memcpy(print, old + PRINT_AT, sizeof print);
 }
 
 /* Makes a call with one growth refused, after which all memory has to be given back. Gives its code. */
-static uint32_t call_refused(const char *name, uint32_t (*call)(void)) {
+static uint32_t call_refused(const struct call *it) {
     begin();
+    memset(fault, 0, sizeof fault);
     growths = live = 0;
     counting = 1;
-    uint32_t code = call();
+    uint32_t code = it->call();
     counting = 0;
-    if (live) fail(name, "memory is not given back");
+    if (live) fail(it->name, "memory is not given back");
     return code;
 }
 
-/* Refuses each growth of a function in turn, and gives how many there were. A function may go on with less memory. */
-static long refuse_each(const char *name, uint32_t (*call)(void)) {
+/* Whether the call told this line, and nothing else. */
+static int is_told(const char *line) {
+    return lengths.fault == strlen(line) && !memcmp(fault, line, lengths.fault);
+}
+
+/* Refuses each growth of a call in turn, and gives how many there were. A call may go on with less memory. */
+static long refuse_each(const struct call *it) {
+    const uint32_t own = it->line ? SEEDPAINT_REFUSED : SEEDPAINT_OK;
     refused = 0;
-    if (call_refused(name, call) != SEEDPAINT_OK) fail(name, "it answers another code");
+    if (call_refused(it) != own || (it->line && !is_told(it->line))) fail(it->name, "it answers another code or line");
     struct lent after = lent;
     long all = growths;
     for (refused = 1; refused <= all; refused++) {
-        uint32_t code = call_refused(name, call);
-        if (code != SEEDPAINT_OK && code != SEEDPAINT_NO_MEMORY) fail(name, "it answers another code");
-        if (memcmp(&lent, code == SEEDPAINT_OK ? &after : &before, sizeof lent)) fail(name, "it leaves something else");
-        went_on += code == SEEDPAINT_OK;
+        uint32_t code = call_refused(it);
+        if (code != own && code != SEEDPAINT_NO_MEMORY) fail(it->name, "it answers another code");
+        if (it->line && (code == own) != is_told(it->line)) fail(it->name, "it tells another line");
+        if (memcmp(&lent, code == own ? &after : &before, sizeof lent)) fail(it->name, "it leaves something else");
+        went_on += code == own;
     }
     return all;
 }
 
 int main(void) {
     make_old();
-    for (size_t f = 0; f < sizeof functions / sizeof *functions; f++)
-        printf("%s: %ld growths refused\n", functions[f].name, refuse_each(functions[f].name, functions[f].call));
+    for (const struct call *it = calls; it < calls + sizeof calls / sizeof *calls; it++)
+        printf("%s: %ld growths refused\n", it->name, refuse_each(it));
     printf("after %ld of them the call went on with less memory, and gave the same\n", went_on);
     return 0;
 }

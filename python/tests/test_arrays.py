@@ -1,5 +1,6 @@
 """The functions of arrays: values by slow answers, kinds of arrays, and refusals."""
 
+import importlib.metadata
 import unittest
 
 import numpy
@@ -77,13 +78,20 @@ class Values(unittest.TestCase):
         self.assertTrue((seed == 150).all())
 
     def test_eight_neighbours_where_none_are_named(self):
-        image = numpy.eye(3, dtype=numpy.uint8)
+        image = numpy.array(
+            [[5, 9, 1, 9, 1], [1, 5, 9, 1, 9], [1, 9, 1, 9, 1], [5, 1, 9, 5, 9]],
+            dtype=numpy.uint8,
+        )
         seed = numpy.zeros_like(image)
-        seed[0, 0] = 1
+        seed[0, 0] = 5
         grown = seedpaint.reconstruction(seed, image)
-        numpy.testing.assert_array_equal(grown, image)
+        expected = [slow.reconstruction(seed, image, conn) for conn in (4, 8)]
+        numpy.testing.assert_array_equal(grown, expected[1])
+        self.assertTrue((expected[0] != expected[1]).any())
         for function, slowly in functions(seed):
-            numpy.testing.assert_array_equal(function(image), slowly(image, 8))
+            expected = [slowly(image, conn) for conn in (4, 8)]
+            numpy.testing.assert_array_equal(function(image), expected[1])
+            self.assertTrue((expected[0] != expected[1]).any())
 
 
 class Kinds(unittest.TestCase):
@@ -127,7 +135,7 @@ class Kinds(unittest.TestCase):
 
     def test_two_kinds_give_one_that_has_both(self):
         kinds = [("u1", "u2", "u2"), ("i1", "u1", "i2"), ("?", "u1", "u1")]
-        kinds += [(">u2", "i4", "i4"), ("i8", "u8", "i8")]
+        kinds += [(">u2", "i4", "i4"), ("i8", "u8", "i8"), ("u8", "?", "u8")]
         for one, other, both in kinds:
             seed, mask = numpy.zeros((2, 3), one), numpy.ones((2, 3), other)
             self.assertEqual(seedpaint.reconstruction(seed, mask).dtype, both)
@@ -158,10 +166,20 @@ class Out(unittest.TestCase):
             self.assertIs(got, out)
             self.assertEqual(got.tolist(), self.grown)
 
+    def test_the_mask_as_out(self):
+        got = seedpaint.reconstruction(self.seed, self.mask, out=self.mask)
+        self.assertIs(got, self.mask)
+        self.assertEqual(got.tolist(), self.grown)
+        self.assertEqual(self.seed.tolist(), [[0, 5, 0, 0, 0]])
+
     def test_seed_mask_and_out_that_overlap(self):
         room = numpy.array([0, 5, 0, 0, 0, 9, 9], dtype=numpy.uint16)
         seed, out = room[None, :5], room[None, 2:]
         seedpaint.reconstruction(seed, self.mask, out=out)
+        self.assertEqual(out.tolist(), self.grown)
+        room = numpy.array([9, 3, 5, 2, 5, 4, 9], dtype=numpy.uint16)
+        mask, out = room[None, 1:6], room[None, :5]
+        seedpaint.reconstruction(self.seed, mask, out=out)
         self.assertEqual(out.tolist(), self.grown)
         both = self.mask.copy()
         seedpaint.reconstruction(both, both, out=both)
@@ -218,8 +236,11 @@ class Refusals(unittest.TestCase):
         self.refused(TypeError, "mask has floats.*ranks", ok, ok.astype("f2"))
         self.refused(TypeError, "complex128.*integers", ok.astype(complex), ok)
         self.refused(TypeError, "datetime", ok.astype("datetime64[s]"), ok)
-        self.refused(ValueError, r"\(3,\).*2 dimensions", ok[0], ok[0])
-        self.refused(ValueError, "planes one by one", ok[None], ok[None])
+        self.refused(ValueError, "2 dimensions$", ok[0, 0], ok[0, 0])
+        words = r"\(3,\).*2 dimensions: pass seed\[None\]"
+        self.refused(ValueError, words, ok[0], ok[0])
+        for stack in (ok[None], ok[None, None]):
+            self.refused(ValueError, "planes are grown one by one", stack, stack)
         self.refused(ValueError, r"\(3, 3\), and mask \(2, 3\)", ok, ok[:2])
         self.refused(ValueError, "no pixel", ok[:0], ok[:0])
         self.refused(ValueError, "no pixel", ok[:, :0], ok[:, :0])
@@ -248,7 +269,21 @@ class Refusals(unittest.TestCase):
         self.refused(ValueError, "connectivity is 3", ok, ok, connectivity=3)
         self.refused(ValueError, "connectivity is 'x'", ok, ok, connectivity="x")
         cross = slow.FOOTPRINTS[4]
+        hollow = [[1, 0, 1], [0, 1, 0], [1, 0, 1]]
+        self.refused(ValueError, "neither the cross", ok, ok, footprint=hollow)
         self.refused(ValueError, "agree", ok, ok, footprint=cross, connectivity=2)
+
+    def test_the_centre_of_a_footprint_is_all_the_same(self):
+        for conn, whole in slow.FOOTPRINTS.items():
+            footprint = whole.copy()
+            footprint[1, 1] = False
+            self.assertEqual(_arrays.connectivity_of(None, footprint), conn)
+            self.assertFalse(footprint[1, 1])
+
+    def test_messages_name_what_a_wheel_has(self):
+        readme = importlib.metadata.metadata("seedpaint")["Description"]
+        for words in ("## Floats", "## Larger pictures"):
+            self.assertIn(words, readme)
 
     def test_heights(self):
         for h in (-1, 65536):

@@ -13,17 +13,18 @@ EXPORT = re.compile(
     r'#\[unsafe\(no_mangle\)\]\npub extern "C" fn (\w+)\((.*?)\) -> u32', re.S
 )
 
-# A parameter of an export, as C declares it: its types, one or two.
+# A parameter of an export, as C declares it: one or two, of these types and names.
 IN_C = {
     "Global": [],
-    "&[u16]": ["const uint16_t *", "size_t"],
-    "&mut [u16]": ["uint16_t *", "size_t"],
-    "&[u8]": ["const uint8_t *", "size_t"],
-    "&mut [u8]": ["uint8_t *", "size_t"],
-    "u16": ["uint16_t"],
-    "u32": ["uint32_t"],
-    "&mut Lengths": ["struct seedpaint_lengths *"],
+    "&[u16]": ["const uint16_t *{}", "size_t {}_cells"],
+    "&mut [u16]": ["uint16_t *{}", "size_t {}_cells"],
+    "&[u8]": ["const uint8_t *{}", "size_t {}_bytes"],
+    "&mut [u8]": ["uint8_t *{}", "size_t {}_bytes"],
+    "u16": ["uint16_t {}"],
+    "u32": ["uint32_t {}"],
+    "&mut Lengths": ["struct seedpaint_lengths *{}"],
 }
+NAMED_IN_C = {"conn": "connectivity"}
 IN_PYTHON = {
     "uint16_t": ctypes.c_uint16,
     "uint32_t": ctypes.c_uint32,
@@ -37,24 +38,32 @@ def split(words):
     return [" ".join(word.split()) for word in words.split(",") if word.strip()]
 
 
+def in_c(parameter):
+    """A parameter of an export as C has it: types with names."""
+    name, kind = (word.strip() for word in parameter.split(":"))
+    return [words.format(NAMED_IN_C.get(name, name)) for words in IN_C[kind]]
+
+
 def exports():
-    """The types of each export's parameters, as C has them."""
+    """Each export's parameters, as C has them."""
     found = {}
     for source in sorted((CRATE / "src").glob("*.rt")):
         text = source.read_text()
         for name, words in EXPORT.findall(text):
-            kinds = [word.split(":")[1].strip() for word in split(words)]
-            found[name] = [kind for word in kinds for kind in IN_C[word]]
+            found[name] = [one for word in split(words) for one in in_c(word)]
     return found
 
 
 def declared():
-    """The types of each prototype's parameters."""
+    """Each prototype's parameters."""
     text = re.sub(r"/\*.*?\*/", "", (CRATE / "seedpaint.h").read_text(), flags=re.S)
-    found = {}
-    for name, words in re.findall(r"uint32_t (\w+)\((.*?)\);", text, re.S):
-        found[name] = [re.sub(r"\w+$", "", word).strip() for word in split(words)]
-    return found
+    prototypes = re.findall(r"uint32_t (\w+)\((.*?)\);", text, re.S)
+    return {name: split(words) for name, words in prototypes}
+
+
+def kind_of(parameter):
+    """The type of a parameter in C."""
+    return re.sub(r"\w+$", "", parameter).strip()
 
 
 class TheSame(unittest.TestCase):
@@ -63,7 +72,9 @@ class TheSame(unittest.TestCase):
         self.assertEqual(len(exports()), 7)
 
     def test_python_and_exports(self):
-        for name, kinds in exports().items():
+        self.assertEqual(set(_library._ARGUMENTS), set(exports()))
+        for name, parameters in exports().items():
+            kinds = map(kind_of, parameters)
             expected = [IN_PYTHON.get(kind, ctypes.c_void_p) for kind in kinds]
             self.assertEqual(_library._ARGUMENTS[name], expected, name)
 
@@ -75,6 +86,8 @@ class TheSame(unittest.TestCase):
         self.assertEqual(in_rattle, in_c)
         for name, value in in_rattle.items():
             self.assertEqual(getattr(_library, name), int(value))
+        (room,) = re.findall(r"SEEDPAINT_FAULT_BYTES = (\d+)", header)
+        self.assertEqual(_library._FAULT_BYTES, int(room))
 
     def test_lengths(self):
         source = (CRATE / "src/buffers.rt").read_text()
