@@ -17,6 +17,7 @@ from simulator import Answer
 
 SECONDS = 600  # after which a run counts as one that does not end; a busy machine is slow
 FILE = "kept.spd"  # the state file's name, in the folder of the run
+LOCK = FILE + ".lock"  # which runs lock in turns, and which stays
 KEPT = pathlib.Path(tempfile.gettempdir()) / "seedpaint-fuzz"  # where findings are kept
 
 
@@ -75,7 +76,7 @@ def kept_in(folder):
 
 def strays(folder, case):
     """The names of files that should not be there after a run."""
-    own = {FILE} | ({FILE + ".new"} if case.trouble == "new" else set())
+    own = {FILE, LOCK} | ({FILE + ".new"} if case.trouble == "new" else set())
     return sorted({path.name for path in folder.iterdir()} - own)
 
 

@@ -63,7 +63,7 @@ def ended(child, folder):
         child.kill()
         child.wait()
         status, note = None, b"did not end"
-    known = {"in", "out", "err", cases.FILE, cases.FILE + ".new"} if not note else set()
+    known = {"in", "out", "err", cases.FILE, cases.LOCK, cases.FILE + ".new"} if not note else set()
     left = sorted({path.name for path in folder.iterdir()} - known) if known else []
     note += f"left behind: {left}".encode() if left else b""
     return Answer(status, (folder / "err").read_bytes() + note, (folder / "out").read_bytes(), cases.kept_in(folder))
