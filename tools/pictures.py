@@ -9,11 +9,14 @@ import re
 import warnings
 from typing import NamedTuple
 
-import numpy
-import tifffile
-from PIL import Image
+from running import Fault, without
 
-from running import Fault
+try:
+    import numpy
+    import tifffile
+    from PIL import Image
+except ModuleNotFoundError as missing:
+    without(missing)
 
 MOST_SIDE, MOST_PIXELS = 16_384, 2**26
 MOST_LABEL = 2**32 - 1

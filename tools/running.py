@@ -34,6 +34,18 @@ def run(main):
     return 1
 
 
+LIBRARIES = {"PIL": "python3-pil"} | {name: f"python3-{name}" for name in ("numpy", "scipy", "skimage", "tifffile")}
+
+
+def without(missing):
+    """End a tool for which a library is missing, with a line that names its Debian package."""
+    library = (missing.name or "").partition(".")[0]
+    if library not in LIBRARIES:
+        raise missing
+    sys.exit(f"{pathlib.Path(sys.argv[0]).name}: {sys.executable} has no {library}: install Debian's package "
+             f"{LIBRARIES[library]}, and call the tool by /usr/bin/python3, which sees it")
+
+
 def level_of(word):
     """A level of the command line."""
     if not word.isascii() or not word.isdigit() or not 1 <= int(word) <= 65535:

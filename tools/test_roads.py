@@ -9,59 +9,33 @@ and floods pixel by pixel. Without a program the simulator grows the strokes.
 
 import argparse
 import collections
-import contextlib
 import csv
-import io
 import pathlib
 import random
 import subprocess
 import sys
-import tempfile
-import time
 import unittest
-import unittest.mock
 import uuid
 
-import numpy
-import tifffile
-from PIL import Image, ImageDraw
+from running import without
 
-TOOLS = pathlib.Path(__file__).resolve().parent
-TOP = TOOLS.parent
+try:
+    import numpy
+    import tifffile
+    from PIL import Image, ImageDraw
+except ModuleNotFoundError as missing:
+    without(missing)
+
+from testing import TOOLS, TOP, InFolder, pgm, tool
+
 sys.path.insert(0, str(TOP / "bench" / "fuzz"))
-
-import readers               # noqa: E402
-import simulator             # noqa: E402
-import labels_from_result    # noqa: E402
-import labels_over_picture   # noqa: E402
-import running               # noqa: E402
-import strokes_from_png      # noqa: E402
+import readers    # noqa: E402
+import simulator  # noqa: E402
 
 PROGRAM = None
 HAND_MASK = [[9, 9, 9, 0, 5],
              [0, 0, 9, 0, 5],
              [7, 7, 0, 5, 5]]
-
-
-def tool(name, *words):
-    """Status, standard output and standard error of a tool, which runs within this process."""
-    main = {"strokes_from_png.py": strokes_from_png.main, "labels_from_result.py": labels_from_result.main,
-            "labels_over_picture.py": labels_over_picture.main}[name]
-    text, fault = io.StringIO(), io.StringIO()
-    running.START = time.monotonic()
-    with (contextlib.redirect_stdout(text), contextlib.redirect_stderr(fault),
-          unittest.mock.patch("sys.argv", [name, *map(str, words)])):
-        try:
-            status = running.run(main)
-        except SystemExit as end:  # (of argparse)
-            status = end.code
-    return status, text.getvalue(), without_progress(fault.getvalue())
-
-
-def without_progress(text):
-    """What was said on standard error, without the steps that slow machines show."""
-    steps = (" runs", "live strokes on", "are flooded", "have their strokes", ": read ")
-    return "".join(line + "\n" for line in text.splitlines() if not any(step in line for step in steps))
 
 
 def grown(edits, mask, conn):
@@ -72,13 +46,6 @@ def grown(edits, mask, conn):
         return answer.status, answer.output
     done = subprocess.run([PROGRAM, "view", "--conn", str(conn)], input=data, capture_output=True, check=False)
     return done.returncode, done.stdout
-
-
-def pgm(samples, top=255):
-    """The raw PGM file of rows of samples."""
-    array = numpy.array(samples)
-    head = f"P5\n{array.shape[1]} {array.shape[0]}\n{top}\n".encode()
-    return head + array.astype(">u2" if top > 255 else "u1").tobytes()
 
 
 def strokes_in(text):
@@ -118,27 +85,8 @@ def steps_from(starts, kept, conn):
     return steps
 
 
-class InFolder(unittest.TestCase):
-    """A test with a folder of its own."""
-
-    def setUp(self):
-        folder = tempfile.TemporaryDirectory()
-        self.addCleanup(folder.cleanup)
-        self.folder = pathlib.Path(folder.name)
-
-    def put(self, name, content):
-        """Write a file into the folder: bytes, text, or an array as PNG or TIFF."""
-        path = self.folder / name
-        if isinstance(content, bytes):
-            path.write_bytes(content)
-        elif isinstance(content, str):
-            path.write_text(content, encoding="ascii")
-        elif path.suffix == ".png":
-            Image.fromarray(content).save(path)
-        else:
-            is_colour = content.ndim == 3 and content.shape[2] in (3, 4)
-            tifffile.imwrite(path, content, photometric="rgb" if is_colour else "minisblack")
-        return path
+class OnRoads(InFolder):
+    """A test of the tools that lead in and out."""
 
     def lines(self, *words):
         """The lines of strokes_from_png.py."""
@@ -155,16 +103,8 @@ class InFolder(unittest.TestCase):
         with open(table, newline="", encoding="ascii") as file:
             return image, list(csv.reader(file))
 
-    def refused(self, name, words, line, status=1):
-        """Check that a tool ends with this status and one line that has this text."""
-        found, text, fault = tool(name, *words)
-        self.assertEqual((found, text), (status, ""), fault)
-        self.assertIn(line, fault)
-        if status == 1:
-            self.assertEqual(fault.count("\n"), 1)
 
-
-class FromPictures(InFolder):
+class FromPictures(OnRoads):
     """strokes_from_png.py."""
 
     def test_by_hand(self):
@@ -275,7 +215,7 @@ class FromPictures(InFolder):
             self.refused(name, words, "usage:", 2)
 
 
-class ToLabels(InFolder):
+class ToLabels(OnRoads):
     """labels_from_result.py."""
 
     def hand(self, edits, *words, samples=HAND_MASK, conn=4):
@@ -386,7 +326,7 @@ class ToLabels(InFolder):
         self.assertFalse(labels.exists())
 
 
-class ThereAndBack(InFolder):
+class ThereAndBack(OnRoads):
     """Both tools, with the program or the simulator between them, on pictures of the examples."""
 
     def check_labels(self, strokes, result, kept, image, conn, is_split):
