@@ -9,7 +9,7 @@ open. Each time the file that is opened has to forward to a page that answers; n
 page's key, and no process may have it among its words. With a mask that is no PGM file, and without one, the commands
 have to end with the line of the fault and open nothing. All of it is done in sh and in bash. Then a file that no start
 wrote has the name of the one that forwards: it has to stay, and the program to end with the line of the fault. The
-first check that fails ends the script with status 1. It needs Python 3, Linux, and the package netpbm.
+first check that fails ends the script with status 1. It needs Linux, and the packages that README names.
 """
 
 import argparse
@@ -220,8 +220,9 @@ def main():
     parser = argparse.ArgumentParser(description="Run the commands of README's page.")
     parser.add_argument("program", type=pathlib.Path)
     chosen = parser.parse_args()
-    if not shutil.which("pngtopnm"):
-        raise Fault("the package netpbm is missing")
+    if subprocess.run(["/usr/bin/python3", "-c", "import numpy, PIL, tifffile"], stderr=subprocess.DEVNULL,
+                      check=False).returncode != 0:
+        raise Fault("a package is missing: python3-numpy, python3-pil or python3-tifffile")
     if not chosen.program.is_file():
         raise Fault(f"{chosen.program}: no such file")
     for shell in ("sh", "bash"):
