@@ -88,6 +88,8 @@ def main():
     parser.add_argument("--families", nargs="+", default=FAMILIES, choices=run.FAMILIES, metavar="FAMILY")
     parser.add_argument("--processors", type=int, nargs="+", default=[1, 2, 4], metavar="N")
     words = parser.parse_args()
+    if not words.program.is_file():
+        parser.error(f"{words.program} is not there; `rt run` in crates/seedpaint makes the program")
     run.KEPT.mkdir(exist_ok=True)
     baseline = run.compiled("baseline")
     if baseline is None:

@@ -93,6 +93,9 @@ def main():
     parser.add_argument("program", type=pathlib.Path, nargs="+", help="a built program of tests")
     parser.add_argument("--only", default="", help="a word that the name of each test has to contain")
     chosen = parser.parse_args()
+    for program in chosen.program:
+        if not program.is_file():
+            parser.error(f"{program} is not there; `rt test` in the folder of its crate makes it")
     rows, told = [], []
     with tempfile.TemporaryDirectory() as folder:
         for program in chosen.program:

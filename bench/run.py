@@ -35,8 +35,8 @@ def say(text):
 
 
 def stop(text):
-    """End the script as failed."""
-    sys.exit(f"run.py: {text}")
+    """End the script that was called as failed."""
+    sys.exit(f"{pathlib.Path(sys.argv[0]).name}: {text}")
 
 
 # ---- What is measured ----

@@ -83,6 +83,8 @@ def main():
     parser.add_argument("--side", type=int, default=300, metavar="N", help="their greatest side (300)")
     parser.add_argument("--seed", type=int, default=1, metavar="N", help="the seed of the random numbers (1)")
     words = parser.parse_args()
+    if not words.program.is_file():
+        parser.error(f"{words.program} is not there; `rt run` in crates/seedpaint makes the program")
     KEPT.mkdir(exist_ok=True)
     program, baseline = words.program.resolve(), compiled("baseline")
     generator = numpy.random.RandomState(words.seed)

@@ -197,6 +197,8 @@ def read_words():
     parser.add_argument("--port", type=int, default=42_000, help="the first of two ports a node (42000)")
     parser.add_argument("--seed", type=int, default=1, help="of the relay's chances (1)")
     words = parser.parse_args()
+    if not words.program.is_file():
+        parser.error(f"{words.program} is not there; `rt run` in crates/seedpaint makes the program")
     words.program = words.program.resolve()
     if not 2 <= words.nodes <= 16:
         parser.error("2 to 16 nodes")

@@ -57,6 +57,8 @@ def main():
     parser.add_argument("--runs", type=int, default=7, metavar="N", help="timed runs of each (7)")
     parser.add_argument("--size", type=int, default=4096, metavar="N", help="side of the image (4096)")
     words = parser.parse_args()
+    if not words.program.is_file():
+        parser.error(f"{words.program} is not there; `rt run` in crates/seedpaint makes the program")
     run.KEPT.mkdir(exist_ok=True)
     program = words.program.resolve()
     source = run.Input("discs", words.size, discs=STROKES)

@@ -23,6 +23,11 @@ SEPARATOR = rb"[ \t\r\n](?:[ \t\r\n]|#[^\r\n]*[\r\n])*"
 HEADER = re.compile(rb"P([25])" + 3 * (SEPARATOR + rb"(\d+)") + rb"[ \t\r\n]")
 
 
+def stop(text):
+    """End the script as failed, with one line."""
+    sys.exit(f"picture.py: {text}")
+
+
 def split_input(data):
     """The edit lines and the PGM file of an input; a PGM has no lines."""
     found = IMAGE_LINE.search(data)
@@ -35,15 +40,21 @@ def read_picture(data):
     """Width, height and the samples, brought to the range 0 to 255."""
     header = HEADER.match(data)
     if header is None:
-        sys.exit("picture.py: not a PGM file")
+        stop("not a PGM file")
     kind, width, height, maxval = map(int, header.groups())
     raster = data[header.end():]
-    if kind == 2:
-        samples = map(int, raster.split())
-    elif maxval < 256:
-        samples = raster
-    else:
-        samples = (sample for sample, in struct.iter_unpack(">H", raster))
+    try:
+        if kind == 2:
+            samples = list(map(int, raster.split()))
+        elif maxval < 256:
+            samples = raster
+        else:
+            samples = [sample for sample, in struct.iter_unpack(">H", raster)]
+    except (ValueError, struct.error):
+        samples = []
+    is_whole = len(samples) == width * height > 0 and maxval > 0
+    if not is_whole or min(samples) < 0 or max(samples) > maxval:
+        stop(f"the PGM file is cut, or has other samples than {width} by {height} from 0 to {maxval}")
     return width, height, [sample * 255 // maxval for sample in samples]
 
 
@@ -72,11 +83,14 @@ def read_strokes(lines):
     """The pixels to paint, each with its colour; strokes that live come last."""
     strokes, withdrawn = {}, set()
     shapes = {b"place": run_pixels, b"disc": disc_pixels}
-    for words in map(bytes.split, lines.split(b"\n")):
-        if words[:1] == [b"withdraw"]:
-            withdrawn.add(uuid.UUID(words[1].decode()))
-        elif words and words[0] in shapes:
-            strokes[uuid.UUID(words[1].decode())] = set(shapes[words[0]](words[3]))
+    for number, words in enumerate(map(bytes.split, lines.split(b"\n")), 1):
+        try:
+            if words[:1] == [b"withdraw"]:
+                withdrawn.add(uuid.UUID(words[1].decode()))
+            elif words and words[0] in shapes:
+                strokes[uuid.UUID(words[1].decode())] = set(shapes[words[0]](words[3]))
+        except (ValueError, IndexError):
+            stop(f"line {number} cannot be read")
     gone = ((pixel, WITHDRAWN_COLOUR) for tag in strokes.keys() & withdrawn
             for pixel in strokes[tag] - inner(inner(strokes[tag])))
     live = ((pixel, STROKE_COLOUR) for tag in strokes.keys() - withdrawn
@@ -134,4 +148,7 @@ def main():
 
 
 if __name__ == "__main__":
-    main()
+    try:
+        main()
+    except OSError as why:
+        stop(f"{why.filename}: {why.strerror}")

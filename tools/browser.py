@@ -39,6 +39,8 @@ class Browser:
         self.size = width, height
         words = ["chromium", *FLAGS, f"--user-data-dir={self.folder / 'profile'}", f"--window-size={width},{height}",
                  "about:blank"]
+        if not shutil.which("chromium"):
+            raise Fault("there is no chromium: install Debian's package chromium")
         self.process = subprocess.Popen(words, stdout=subprocess.DEVNULL, stderr=subprocess.DEVNULL)
         self.port = wait_for(self.read_port, "the port of Chromium")
 

@@ -872,6 +872,8 @@ def read_words():
     words = parser.parse_args()
     if not words.command:
         parser.error("the command that serves is missing")
+    if not shutil.which(words.command[0]):
+        parser.error(f"{words.command[0]} is not there; `rt run` in crates/seedpaint makes the program")
     return words
 
 

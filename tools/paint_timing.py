@@ -305,6 +305,8 @@ def read_words():
     words = parser.parse_args()
     if not words.command or words.strokes + words.edits > words.cells:
         parser.error("the command that serves is missing, or the cells do not suffice")
+    if not shutil.which(words.command[0]):
+        parser.error(f"{words.command[0]} is not there; `rt run` in crates/seedpaint makes the program")
     return words
 
 

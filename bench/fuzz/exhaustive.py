@@ -168,6 +168,8 @@ def main():
     parser.add_argument("--keep", type=pathlib.Path, default=cases.KEPT / "exhaustive",
                         help="the folder for findings (seedpaint-fuzz/exhaustive in the temporary folder)")
     words = parser.parse_args()
+    if not words.program.is_file():
+        parser.error(f"{words.program} is not there; `rt run` in crates/seedpaint makes the program")
     findings = cases.Findings(words.keep, str(words.program.resolve()))
     with tempfile.TemporaryDirectory() as folder, multiprocessing.Pool(words.workers) as pool:
         for name in words.sets:

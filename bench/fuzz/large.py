@@ -204,6 +204,8 @@ def main():
     parser.add_argument("program", type=pathlib.Path, help="crates/seedpaint/out/seedpaint")
     parser.add_argument("--only", default="", metavar="WORD", help="the rows whose name has this (all)")
     words = parser.parse_args()
+    if not words.program.is_file():
+        parser.error(f"{words.program} is not there; `rt run` in crates/seedpaint makes the program")
     program, is_good = str(words.program.resolve()), True
     print("| Input | Bytes | Answer | Seconds | Peak MB | Peak by the bytes |\n|---|---|---|---|---|---|", flush=True)
     with tempfile.TemporaryDirectory() as folder:

@@ -310,7 +310,10 @@ def read_words():
     parser.add_argument("--cases", type=int, default=10**9, help="how many cases at most")
     parser.add_argument("--keep", type=pathlib.Path, default=cases.KEPT,
                         help="the folder for findings (seedpaint-fuzz in the temporary folder)")
-    return parser.parse_args()
+    words = parser.parse_args()
+    if not words.program.is_file():
+        parser.error(f"{words.program} is not there; `rt run` in crates/seedpaint makes the program")
+    return words
 
 
 def main():
