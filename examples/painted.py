@@ -9,7 +9,10 @@ Pillow (Debian's python3-pil).
 
 import sys
 
-from PIL import Image, ImageDraw
+try:
+    from PIL import Image, ImageDraw
+except ModuleNotFoundError:
+    sys.exit("painted.py: Pillow is missing: install Debian's package python3-pil, and call it by /usr/bin/python3")
 
 SIZE = (320, 256)
 LINES = {  # colour: first and last pixel of the line, column and row each
@@ -32,7 +35,7 @@ def main():
     pencil = ImageDraw.Draw(layer)
     for colour, line in LINES.items():
         pencil.line(line, fill=colour, width=3)
-    layer.save(sys.argv[1])
+    layer.save(sys.argv[1], format="PNG")
 
 
 if __name__ == "__main__":

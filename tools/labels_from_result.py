@@ -13,12 +13,16 @@ import argparse
 import csv
 import sys
 
-import numpy
-from scipy import ndimage
-from skimage import measure, segmentation
+from running import Fault, level_of, run, tell, without
+
+try:
+    import numpy
+    from scipy import ndimage
+    from skimage import measure, segmentation
+except ModuleNotFoundError as missing:
+    without(missing)
 
 from pictures import read_grey, same_size, write_labels
-from running import Fault, level_of, run, tell
 from strokes import painted_label, picture_bits, read_live_strokes, seeds_of
 
 NOBODY = -1

@@ -10,12 +10,16 @@ import argparse
 import pathlib
 import sys
 
-import numpy
-from PIL import Image
-from skimage import segmentation
+from running import run, without
+
+try:
+    import numpy
+    from PIL import Image
+    from skimage import segmentation
+except ModuleNotFoundError as missing:
+    without(missing)
 
 from pictures import read_grey, read_picture, same_size, whole_numbers
-from running import run
 
 TURN = 0.618034  # of the circle of hues, from one label to the next
 SHARE = 0.45  # of a label's colour within it

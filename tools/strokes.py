@@ -11,10 +11,14 @@ import re
 import uuid
 from typing import NamedTuple
 
-import numpy
+from running import Fault, without
+
+try:
+    import numpy
+except ModuleNotFoundError as missing:
+    without(missing)
 
 from pictures import IMAGE_LINE
-from running import Fault
 from state_files import Stroke, read_state_file
 
 RUN = re.compile(rb"(\d{1,5}):(\d{1,5})-(\d{1,5})")

@@ -5,21 +5,27 @@
 
 The picture is a layer with transparency, whose every colour is a label, or a label image as napari or ImageJ write it,
 whose every value but 0 is one: PNG or TIFF. Each label becomes a stroke, or several where it has more than 160 runs.
-docs/LABELS.md leads through an example and says what the tags are.
+docs/LABELS.md leads through an example and says what the tags are. A picture that looks like a photograph is refused.
 """
 
 import argparse
 import pathlib
 import sys
 
-import numpy
-from skimage import measure
+from running import Fault, level_of, run, tell, without
+
+try:
+    import numpy
+    from skimage import measure
+except ModuleNotFoundError as missing:
+    without(missing)
 
 from pictures import read_grey, read_painted, same_size
-from running import Fault, level_of, run, tell
 from strokes import painted_tag
 
 MOST_RUNS = 160
+# A photograph is more than half painted, in many runs of few pixels on average.
+PHOTOGRAPH_SHARE, PHOTOGRAPH_RUNS, PHOTOGRAPH_LENGTH = 0.5, 10_000, 4
 
 
 def runs_of(keys, mask):
@@ -54,6 +60,15 @@ def lines_of(name, keys, mask, level):
             yield f"place {painted_tag(name, label, number)} {own} {runs}\n"
 
 
+def judge_photograph(name, keys):
+    """Refuse a picture whose painted pixels have nearly each another label than the one beside it."""
+    painted = numpy.count_nonzero(keys)
+    runs = numpy.count_nonzero((keys[:, 1:] != keys[:, :-1]) & (keys[:, 1:] > 0)) + numpy.count_nonzero(keys[:, 0])
+    if runs > PHOTOGRAPH_RUNS and painted > PHOTOGRAPH_SHARE * keys.size and painted < PHOTOGRAPH_LENGTH * runs:
+        raise Fault(f"{name} looks like a photograph: {100 * painted // keys.size} % of it are painted, in {runs} pieces. "
+                    f"Paint on a transparent layer of its own and give that, or add --anyway")
+
+
 def keys_of(name, threshold, is_apart):
     """For each pixel its label plus 1, or 0 where it is not painted."""
     labels, painted = read_painted(name, threshold)
@@ -83,6 +98,7 @@ def read_words():
                         help="painted is where alpha is above N, 0 to 254; 0 where none is named")
     parser.add_argument("--apart", action="store_true",
                         help="make each connected part a label of its own, numbered from the top: for one brush colour")
+    parser.add_argument("--anyway", action="store_true", help="take a picture that looks like a photograph, too")
     parser.add_argument("--name", help="the name that the tags are made of; the file's own where none is given")
     words = parser.parse_args()
     if words.mask is None and words.level is None:
@@ -95,6 +111,8 @@ def main():
     words = read_words()
     keys = keys_of(words.painted, words.threshold, words.apart)
     tell(f"read {words.painted}")
+    if not words.anyway:
+        judge_photograph(words.painted, keys)
     mask = None
     if words.mask is not None:
         mask = read_grey(words.mask)

@@ -191,6 +191,19 @@ class FromPictures(OnRoads):
             self.assertEqual(found, {label: {tuple(pixel) for pixel in numpy.argwhere(picture == label).tolist()}
                                      for label in set(picture.ravel().tolist()) - {0}})
 
+    def test_photograph(self):
+        chance = numpy.random.default_rng(1)
+        flat = numpy.kron(chance.integers(1, 250, (32, 32)), numpy.ones((5, 5))).astype(numpy.uint8)
+        self.assertGreaterEqual(self.lines(self.put("dense.png", flat), "--level", 9).count("\n"), 200)
+        lines = numpy.zeros((300, 200), numpy.uint8)
+        lines[:, ::5] = 7
+        self.assertEqual(self.lines(self.put("lines.png", lines), "--level", 9).count("\n"), -(-300 * 40 // 160))
+        noise = chance.integers(1, 250, (100, 120)).astype(numpy.uint8)
+        for name, photograph in (("grey.png", noise), ("colour.png", numpy.stack([noise, noise[::-1], noise], -1))):
+            path = self.put(name, photograph)
+            self.refused("strokes_from_png.py", [path, "--level", 9], "looks like a photograph: 100 % of it are")
+            self.assertGreater(self.lines(path, "--level", 9, "--anyway").count("\n"), 200)
+
     def test_faults(self):
         picture = self.put("one.png", numpy.ones((2, 3), numpy.uint8))
         mask = self.put("mask.pgm", pgm([[1, 2]]))
@@ -213,6 +226,49 @@ class FromPictures(OnRoads):
         self.refused(name, [self.put("float.tif", numpy.ones((2, 3, 3), numpy.float32)), "--level", 1], "no colours")
         for words in ([picture], [picture, "--level", 0], [picture, "--level", 65536], [], [picture, "--no"]):
             self.refused(name, words, "usage:", 2)
+
+
+class FromStates(OnRoads):
+    """strokes_from_state.py."""
+
+    def test_by_hand(self):
+        tags = [uuid.UUID(int=number << 100) for number in (1, 2, 3)]
+        edits = (f"disc {tags[1]} 200 2:4+1\nplace {tags[0]} 9 0:0-0,0:2-3,1:1-1\nplace {tags[2]} 7 0:1-1\n"
+                 f"withdraw {tags[0]}\n")
+        mask = pgm(HAND_MASK)
+        state = self.put("one.spd", simulator.view(edits.encode() + b"image\n" + mask, 4).kept)
+        live = f"disc {tags[1]} 200 2:4+1\nplace {tags[2]} 7 0:1-1\n"
+        self.assertEqual(tool("strokes_from_state.py", state), (0, live, ""))
+        told = f"place {tags[0]} 9 0:0-0,0:2-3,1:1-1\n{live}withdraw {tags[0]}\n"
+        self.assertEqual(tool("strokes_from_state.py", state, "--all"), (0, told, ""))
+        other = f"disc {tags[0]} 1 0:0+0\nimage\n".encode() + mask
+        other = self.put("other.spd", simulator.view(other, 4).kept)
+        self.refused("strokes_from_state.py", [state, other], "they cannot be joined")
+        self.refused("strokes_from_state.py", [self.put("none.spd", b"P5\n")], "is no state file, or is cut off")
+        self.refused("strokes_from_state.py", [self.folder / "nothing.spd"], "No such file")
+        self.assertEqual(tool("strokes_from_state.py", self.put("empty.spd", b"")), (0, "", ""))
+
+    def test_there_and_back(self):
+        chance, mask = random.Random(5), pgm([[9] * 60] * 50)
+        for _ in range(20):
+            files, both = [], b""
+            for number in range(2):
+                edits = ""
+                for _ in range(chance.randint(0, 40)):
+                    tag, y, x = uuid.UUID(int=chance.getrandbits(128)), chance.randrange(50), chance.randrange(40)
+                    edits += (f"disc {tag} {chance.randint(1, 65535)} {y}:{x}+{chance.randint(0, 9)}\n"
+                              if chance.random() < 0.5 else f"place {tag} 5 {y}:{x}-{x + 3},{y}:{x + 5}-{x + 6}\n")
+                    edits += f"withdraw {tag}\n" if chance.random() < 0.3 else ""
+                kept = simulator.view(edits.encode() + b"image\n" + mask, 4).kept
+                files.append(self.put(f"{number}.spd", kept))
+                both += kept
+            text = tool("strokes_from_state.py", *files, "--all")[1]
+            joined = simulator.view(b"image\n" + mask, 4, both).kept
+            self.assertEqual(simulator.view(text.encode() + b"image\n" + mask, 4).kept, joined)
+            lines = text.splitlines(keepends=True)
+            gone = {line.split()[1] for line in lines if line.startswith("withdraw")}
+            live = "".join(line for line in lines if line.split()[1] not in gone)
+            self.assertEqual(tool("strokes_from_state.py", *files), (0, live, ""))
 
 
 class ToLabels(OnRoads):
@@ -466,7 +522,7 @@ class ThereAndBack(OnRoads):
 
     def test_as_programs(self):
         picture = self.put("one.png", numpy.ones((1, 2), numpy.uint8))
-        for name in ("strokes_from_png.py", "labels_from_result.py", "labels_over_picture.py"):
+        for name in ("strokes_from_png.py", "labels_from_result.py", "labels_over_picture.py", "strokes_from_state.py"):
             done = subprocess.run([sys.executable, TOOLS / name, "--help"], capture_output=True, check=False)
             self.assertEqual((done.returncode, done.stderr), (0, b""))
         done = subprocess.run([sys.executable, TOOLS / "strokes_from_png.py", picture, "--level", "3"],
