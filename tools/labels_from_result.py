@@ -5,8 +5,8 @@
         --table labels.csv
 
 A region is a connected part of what is kept: the pixels of at least a level, or those of at least a share of what the
-stroke that lights them shows at its brightest. It has the number of its stroke. docs/LABELS.md leads through an
-example, and says what happens where several strokes meet.
+object that lights them shows at its brightest. It has the number of its object: a stroke, a gesture on the page with
+all its strokes, or a painted label. docs/LABELS.md leads through an example, and says what happens where several meet.
 """
 
 import argparse
@@ -23,7 +23,8 @@ except ModuleNotFoundError as missing:
     without(missing)
 
 from pictures import read_grey, same_size, write_labels
-from strokes import painted_label, picture_bits, read_live_strokes, seeds_of
+from strokes import read_live_strokes, seeds_of
+from tags import is_painted, painted_label, picture_bits
 
 NOBODY = -1
 
@@ -43,7 +44,7 @@ def flooded(relief, kept, places, owners, conn):
     shared = (least < greatest)[parts]
     result = least[parts]
     if shared.any():
-        tell("parts with several strokes are flooded")
+        tell("parts with several objects are flooded")
         markers = numpy.zeros(kept.shape, dtype=numpy.int32)
         markers.ravel()[places[::-1]] = owners[::-1] + 1
         basins = segmentation.watershed(relief, markers * shared, connectivity=1 if conn == 4 else 2, mask=shared)
@@ -63,7 +64,7 @@ def ends_of_owners(parts, places, owners):
 
 
 def kept_by_share(result, seeds, light, share, conn):
-    """The pixels whose result is at least a share of the brightest light of the stroke that lights them."""
+    """The pixels whose result is at least a share of the brightest light of the object that lights them."""
     own = numpy.zeros(len(seeds.tags), dtype=numpy.int64)
     numpy.maximum.at(own, seeds.owners, light)
     thresholds = numpy.maximum(share * own, 1)
@@ -74,7 +75,7 @@ def kept_by_share(result, seeds, light, share, conn):
 
 
 def owners_of(kept, seeds, conn, is_split):
-    """The stroke of each kept pixel: that with the least tag in its region, or the nearest in it. NOBODY elsewhere."""
+    """The object of each kept pixel: that with the least tag in its region, or the nearest in it. NOBODY elsewhere."""
     inside = kept.ravel()[seeds.places]
     places, owners = seeds.places[inside], seeds.owners[inside]
     parts = parts_of(kept, conn)
@@ -88,11 +89,11 @@ def owners_of(kept, seeds, conn, is_split):
     return least[parts]
 
 
-def numbers_of(tags, is_painted):
-    """The label of each stroke: its place in the order of tags, from 1, or the label that it was painted with."""
-    if not is_painted:
+def numbers_of(tags, has_painted):
+    """The label of each object: its place in the order of tags, from 1, or the label that it was painted with."""
+    if not has_painted:
         return numpy.arange(1, len(tags) + 1)
-    if any(tag.version != 8 for tag in tags) or len({picture_bits(tag) for tag in tags}) > 1:
+    if not all(map(is_painted, tags)) or len({picture_bits(tag) for tag in tags}) > 1:
         raise Fault("--painted needs strokes that strokes_from_png.py made of one picture")
     if painted_label(tags[0]) == 0:
         raise Fault("a stroke was painted in black, which is 0 and the ground of a label image: leave --painted out")
@@ -152,11 +153,11 @@ def read_words():
     kept = parser.add_mutually_exclusive_group(required=True)
     kept.add_argument("--level", type=level_of, metavar="N", help="keep the pixels of at least this level, 1 to 65535")
     kept.add_argument("--share", type=share_of, metavar="S",
-                      help="keep the pixels of at least this share of the brightest of their stroke, as 0.5")
+                      help="keep the pixels of at least this share of the brightest of their object, as 0.5")
     parser.add_argument("--conn", type=int, choices=(4, 8), default=4,
                         help="neighbours of a pixel, as for the result; 4 where none is named")
     parser.add_argument("--split", action="store_true",
-                        help="where several strokes meet in a region, give each pixel to the nearest of them")
+                        help="where several objects meet in a region, give each pixel to the nearest of them")
     parser.add_argument("--painted", action="store_true",
                         help="number the regions by the labels that the strokes were painted with")
     parser.add_argument("--table", metavar="CSV", help="write label, stroke, area, box and mean as a table")

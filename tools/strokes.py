@@ -1,11 +1,9 @@
-"""Strokes for the tools in this folder: their tags and edit lines, and the pixels that they cover.
+"""Strokes for the tools in this folder: their edit lines, and the pixels that they cover.
 
-docs/FORMATS.md says what the lines and the files are, and docs/LABELS.md what the bits of a painted stroke's tag say.
+docs/FORMATS.md says what the lines and the files are. Which strokes are one object is told by tags.py.
 """
 
-import hashlib
 import math
-import os
 import pathlib
 import re
 import uuid
@@ -20,47 +18,22 @@ except ModuleNotFoundError as missing:
 
 from pictures import IMAGE_LINE
 from state_files import Stroke, read_state_file
+from tags import object_of
 
 RUN = re.compile(rb"(\d{1,5}):(\d{1,5})-(\d{1,5})")
 DISC = re.compile(rb"(\d{1,5}):(\d{1,5})\+(\d{1,5})")
-NUMBER_BITS, LABEL_BITS = 28, 32  # (two zero bits stand before the label)
 
 
 class Seeds(NamedTuple):
-    """The pixels of live strokes, from the least tag on; strokes that were painted as one label count as one.
+    """The pixels of the objects that live strokes make, from the least tag on.
 
-    `tags` has the least tag of each. The arrays say of each pixel its place in the flat picture, the number of its
-    stroke in `tags`, and its level.
+    `tags` has the least tag of each object. The arrays say of each pixel its place in the flat picture, the number of
+    its object in `tags`, and its level.
     """
     tags: list
     places: numpy.ndarray
     owners: numpy.ndarray
     levels: numpy.ndarray
-
-
-# ---- Tags of painted strokes ----
-
-def painted_tag(name, label, number):
-    """The tag of a stroke that was painted in the file of this name: RFC 9562, version 8."""
-    digest = int.from_bytes(hashlib.sha256(os.fsencode(name)).digest(), "big")
-    front, middle = digest >> 208, digest >> 196 & 0xFFF  # (the first 48 bits, and the next 12)
-    low = 0b10 << 62 | label << NUMBER_BITS | number
-    return uuid.UUID(int=front << 80 | 8 << 76 | middle << 64 | low)
-
-
-def painted_label(tag):
-    """The label in the tag of a painted stroke."""
-    return tag.int >> NUMBER_BITS & (1 << LABEL_BITS) - 1
-
-
-def picture_bits(tag):
-    """What the tags of all strokes of one painted picture have in common."""
-    return tag.int >> NUMBER_BITS + LABEL_BITS
-
-
-def label_bits(tag):
-    """What the tags of all strokes of one painted label have in common; the whole tag where it was not painted."""
-    return tag.int >> NUMBER_BITS if tag.version == 8 else tag.int
 
 
 # ---- Reading ----
@@ -133,7 +106,7 @@ def seeds_of(strokes, width, height):
         stroke = strokes[tag]
         if not lies_in(stroke, width, height):
             raise Fault(f"the stroke {tag} does not lie in the picture of {width} by {height} pixels")
-        if not tags or label_bits(tags[-1]) != label_bits(tag):
+        if not tags or object_of(tags[-1]) != object_of(tag):
             tags.append(tag)
         spans += [(y * width + first, last - first + 1, len(tags) - 1, stroke.level)
                   for y, first, last in spans_of(stroke, width, height)]

@@ -21,7 +21,7 @@ except ModuleNotFoundError as missing:
     without(missing)
 
 from pictures import read_grey, read_painted, same_size
-from strokes import painted_tag
+from tags import painted_tag
 
 MOST_RUNS = 160
 # A photograph is more than half painted, in many runs of few pixels on average.
@@ -65,8 +65,8 @@ def judge_photograph(name, keys):
     painted = numpy.count_nonzero(keys)
     runs = numpy.count_nonzero((keys[:, 1:] != keys[:, :-1]) & (keys[:, 1:] > 0)) + numpy.count_nonzero(keys[:, 0])
     if runs > PHOTOGRAPH_RUNS and painted > PHOTOGRAPH_SHARE * keys.size and painted < PHOTOGRAPH_LENGTH * runs:
-        raise Fault(f"{name} looks like a photograph: {100 * painted // keys.size} % of it are painted, in {runs} pieces. "
-                    f"Paint on a transparent layer of its own and give that, or add --anyway")
+        raise Fault(f"{name} looks like a photograph: {100 * painted // keys.size} % of it are painted, in {runs} "
+                    f"pieces. Paint on a transparent layer of its own and give that, or add --anyway")
 
 
 def keys_of(name, threshold, is_apart):

@@ -32,7 +32,8 @@ def joined(names):
         its_strokes, its_withdrawn = read_state_file(name, pathlib.Path(name).read_bytes())
         for tag, stroke in its_strokes.items():
             if strokes.setdefault(tag, stroke) != stroke:
-                raise Fault(f"{name} has another stroke with the tag {tag} than a file before it: they cannot be joined")
+                raise Fault(f"{name} has another stroke with the tag {tag} than a file before it: they cannot be "
+                            f"joined")
         withdrawn |= its_withdrawn
     return strokes, withdrawn
 

@@ -10,6 +10,7 @@ and floods pixel by pixel. Without a program the simulator grows the strokes.
 import argparse
 import collections
 import csv
+import itertools
 import pathlib
 import random
 import subprocess
@@ -36,6 +37,16 @@ PROGRAM = None
 HAND_MASK = [[9, 9, 9, 0, 5],
              [0, 0, 9, 0, 5],
              [7, 7, 0, 5, 5]]
+
+
+def tag_of(number):
+    """A tag of an object of its own, rising with the number."""
+    return uuid.UUID(int=number << 16)
+
+
+def gestures_of(tags):
+    """The tags, as whole numbers, of each gesture: they differ in the last 16 bits alone."""
+    return [list(group) for _, group in itertools.groupby(sorted(tags), key=lambda tag: tag >> 16)]
 
 
 def grown(edits, mask, conn):
@@ -283,13 +294,13 @@ class ToLabels(OnRoads):
                            self.put("strokes.txt", edits), "--conn", conn, *words)
 
     def test_by_hand(self):
-        edits = f"place {uuid.UUID(int=9)} 9 0:0-0\nplace {uuid.UUID(int=3)} 200 2:4-4\n"
+        edits = f"place {tag_of(9)} 9 0:0-0\nplace {tag_of(3)} 200 2:4-4\n"
         image, table = self.hand(edits, "--level", 1)
         self.assertEqual(image.tolist(), [[2, 2, 2, 0, 1], [0, 0, 2, 0, 1], [0, 0, 0, 1, 1]])
         self.assertEqual(image.dtype, numpy.uint16)
         self.assertEqual(table, [["label", "stroke", "area", "left", "top", "right", "bottom", "mean"],
-                                 ["1", str(uuid.UUID(int=3)), "4", "3", "0", "4", "2", "5.000"],
-                                 ["2", str(uuid.UUID(int=9)), "4", "0", "0", "2", "1", "9.000"]])
+                                 ["1", str(tag_of(3)), "4", "3", "0", "4", "2", "5.000"],
+                                 ["2", str(tag_of(9)), "4", "0", "0", "2", "1", "9.000"]])
         image, _ = self.hand(edits, "--level", 1, conn=8)
         self.assertEqual(image.tolist(), [[1, 1, 1, 0, 1], [0, 0, 1, 0, 1], [1, 1, 0, 1, 1]])
         image, table = self.hand(edits, "--level", 6)
@@ -297,29 +308,50 @@ class ToLabels(OnRoads):
         self.assertEqual(len(table), 2)
 
     def test_split_and_withdrawn(self):
-        edits = f"place {uuid.UUID(int=2)} 9 0:0-0\ndisc {uuid.UUID(int=1)} 9 0:6+0\nplace {uuid.UUID(int=3)} 9 0:3-3\n"
-        edits += f"withdraw {uuid.UUID(int=3)}\n"
+        edits = f"place {tag_of(2)} 9 0:0-0\ndisc {tag_of(1)} 9 0:6+0\nplace {tag_of(3)} 9 0:3-3\n"
+        edits += f"withdraw {tag_of(3)}\n"
         row = [[9, 9, 9, 9, 9, 9, 9, 0]]
         self.assertEqual(self.hand(edits, "--level", 9, samples=row)[0].tolist(), [[1] * 7 + [0]])
         image, table = self.hand(edits, "--level", 9, "--split", samples=row)
         self.assertEqual((image[0, :3].tolist(), image[0, 4:].tolist()), ([2, 2, 2], [1, 1, 1, 0]))
         self.assertEqual([line[0] for line in table[1:]], ["1", "2"])
 
+    def test_gesture_is_one_object(self):
+        # two gestures of one author, of three strokes and of two, whose pixels stand in turns
+        author, row = "00f1e2d3c4b5a697", [[9] * 9]
+        tags = [uuid.UUID(f"{author}{gesture}{count:04x}") for gesture, count in
+                [("80a0b0c0d0e0", 0), ("80a0b0c0d0e0", 1), ("80a0b0c0d0e0", 2), ("80a0b0c0d0e1", 0),
+                 ("80a0b0c0d0e1", 1)]]
+        places = [1, 5, 8, 3, 7]
+        edits = "".join(f"place {tag} 9 0:{x}-{x}\n" for tag, x in zip(tags, places))
+        image, table = self.hand(edits, "--level", 1, "--split", samples=row)
+        self.assertEqual([image[0, x] for x in places], [1, 1, 1, 2, 2])
+        self.assertEqual([line[:2] for line in table[1:]], [["1", str(tags[0])], ["2", str(tags[3])]])
+        # the other way round: of version 8, with other digits where a painted tag has zeros
+        tags = [uuid.UUID(f"00f1e2d3c4b58697{digits}") for digits in ("90a0b0c0d0e00000", "90a0b0c0d1e00000")]
+        edits = "".join(f"place {tag} 9 0:{x}-{x}\n" for tag, x in zip(tags, (1, 7)))
+        image, _ = self.hand(edits, "--level", 1, "--split", samples=row)
+        self.assertEqual((image[0, 1], image[0, 7]), (1, 2))
+        # the share is of the brightest that the gesture shows, also where another stroke of it is darker
+        edits = f"place {tag_of(1)} 255 0:0-0\nplace {uuid.UUID(int=1 << 16 | 1)} 255 0:4-4\n"
+        image, _ = self.hand(edits, "--share", "0.5", samples=[[100, 40, 20, 20, 60, 49, 51]])
+        self.assertEqual(image.tolist(), [[1, 0, 0, 0, 1, 0, 0]])
+
     def test_split_on_common_pixels(self):
-        edits = f"place {uuid.UUID(int=5)} 9 0:0-3\nplace {uuid.UUID(int=4)} 9 0:2-5\n"
+        edits = f"place {tag_of(5)} 9 0:0-3\nplace {tag_of(4)} 9 0:2-5\n"
         image, _ = self.hand(edits, "--level", 1, "--split", samples=[[9, 9, 9, 9, 9, 9, 9]])
         self.assertEqual(image.tolist(), [[2, 2, 1, 1, 1, 1, 1]])
 
     def test_share(self):
         # the stroke of level 200 shows 100 at its brightest, the other 20: kept are 50 and above, and 10 and above
-        edits = f"place {uuid.UUID(int=1)} 200 0:0-0\nplace {uuid.UUID(int=2)} 20 0:8-8\n"
+        edits = f"place {tag_of(1)} 200 0:0-0\nplace {tag_of(2)} 20 0:8-8\n"
         row = [[100, 60, 50, 49, 10, 9, 10, 30, 40]]
         image, _ = self.hand(edits, "--share", "0.5", samples=row)
         self.assertEqual(image.tolist(), [[1, 1, 1, 0, 0, 0, 2, 2, 2]])
 
     def test_share_where_two_touch(self):
         # between the two the light sinks to 80, more than half of both: one region, or each pixel to the nearest
-        edits = f"place {uuid.UUID(int=7)} 255 0:0-0\nplace {uuid.UUID(int=8)} 255 0:4-4\n"
+        edits = f"place {tag_of(7)} 255 0:0-0\nplace {tag_of(8)} 255 0:4-4\n"
         row = [[100, 80, 90, 100, 120, 60, 59]]
         self.assertEqual(self.hand(edits, "--share", "0.5", samples=row)[0].tolist(), [[1, 1, 1, 1, 1, 1, 0]])
         split = self.hand(edits, "--share", "0.5", "--split", samples=row)[0].tolist()[0]
@@ -327,12 +359,12 @@ class ToLabels(OnRoads):
 
     def test_state_file(self):
         mask = pgm(HAND_MASK)
-        edits = f"place {uuid.UUID(int=9)} 9 0:0-0\ndisc {uuid.UUID(int=3)} 200 2:4+1\nwithdraw {uuid.UUID(int=9)}\n"
+        edits = f"place {tag_of(9)} 9 0:0-0\ndisc {tag_of(3)} 200 2:4+1\nwithdraw {tag_of(9)}\n"
         answer = simulator.view(edits.encode() + b"image\n" + mask, 4)
         image, table = self.labels(self.put("result.pgm", answer.output), "--mask", self.put("mask.pgm", mask),
                                    "--strokes", self.put("session.spd", answer.kept), "--level", 1, name="labels.png")
         self.assertEqual(image.tolist(), [[0, 0, 0, 0, 1], [0, 0, 0, 0, 1], [0, 0, 0, 1, 1]])
-        self.assertEqual(table[1][1], str(uuid.UUID(int=3)))
+        self.assertEqual(table[1][1], str(tag_of(3)))
 
     def test_wide_labels(self):
         labels = self.put("wide.tif", numpy.array([[70000, 0, 3]], numpy.uint32))
@@ -357,12 +389,12 @@ class ToLabels(OnRoads):
     def test_faults(self):
         mask, wrong = self.put("mask.pgm", pgm([[9, 0, 9]])), self.put("wrong.pgm", pgm([[9, 0]]))
         result, high = self.put("result.pgm", pgm([[9, 0, 0]])), self.put("high.pgm", pgm([[9, 1, 0]]))
-        strokes = self.put("strokes.txt", f"place {uuid.UUID(int=1)} 9 0:0-0\n")
-        other = self.put("other.txt", f"place {uuid.UUID(int=1)} 9 0:2-2\n")
-        less = self.put("less.txt", f"place {uuid.UUID(int=1)} 9 0:1-1\n")
+        strokes = self.put("strokes.txt", f"place {tag_of(1)} 9 0:0-0\n")
+        other = self.put("other.txt", f"place {tag_of(1)} 9 0:2-2\n")
+        less = self.put("less.txt", f"place {tag_of(1)} 9 0:1-1\n")
         labels, name = self.folder / "labels.tif", "labels_from_result.py"
         none, bad = self.put("none.txt", "; none\n"), self.put("bad.txt", "\nplace 1 9 0:0-0\n")
-        cut, out = self.put("cut.spd", b"\0\x50SPD2"), self.put("out.txt", f"disc {uuid.UUID(int=1)} 9 0:3+9\n")
+        cut, out = self.put("cut.spd", b"\0\x50SPD2"), self.put("out.txt", f"disc {tag_of(1)} 9 0:3+9\n")
         for words, line in [
                 ([wrong, labels, "--mask", mask, "--strokes", strokes, "--level", 1], "has 2 by 1 pixels"),
                 ([high, labels, "--mask", mask, "--strokes", strokes, "--level", 1], "is above"),
@@ -448,24 +480,29 @@ class ThereAndBack(OnRoads):
             self.assertEqual(part, set(map(tuple, numpy.argwhere(image == label).tolist())))
 
     def random_case(self, chance, conn):
-        """Mask, live strokes by number in the order of tags, result, and the words that a random input gives."""
+        """Mask, live gestures by number in the order of tags, result, and the words that a random input gives.
+
+        Of each gesture the level and the pixels of its strokes.
+        """
         height, width, top = chance.randint(1, 12), chance.randint(1, 12), chance.choice((3, 9, 700))
         samples = [[chance.randint(0, top) for _ in range(width)] for _ in range(height)]
         samples[0][0] = top
         edits = f"disc {uuid.UUID(int=1 << 100)} {chance.randint(1, top)} 0:0+1\n"
         for _ in range(chance.randint(0, 5)):
-            tag = uuid.UUID(int=chance.getrandbits(128), version=4)
-            y, x = chance.randrange(height), chance.randrange(width)
-            edits += f"disc {tag} {chance.randint(1, top + 3)} {y}:{x}+{chance.randint(0, 2)}\n"
-            if chance.random() < 0.3:
-                edits += f"withdraw {tag}\n"
+            gesture, level = chance.getrandbits(112), chance.randint(1, top + 3)
+            for count in range(chance.choice((1, 1, 2, 4))):
+                tag = uuid.UUID(int=gesture << 16 | count)
+                y, x = chance.randrange(height), chance.randrange(width)
+                edits += f"disc {tag} {level} {y}:{x}+{chance.randint(0, 2)}\n"
+                if chance.random() < 0.3:
+                    edits += f"withdraw {tag}\n"
         mask = readers.read_image(pgm(samples, top))
         states = readers.read_edits(edits.encode())
         gone = set().union(*(state.tombstones for state in states))
         live = {tag: stroke for state in states for tag, stroke in state.strokes.items() if tag not in gone}
-        strokes = {number: (live[tag].level, {divmod(place, width) for place in
-                                              simulator.pixels_of(live[tag].shape, width, height)})
-                   for number, tag in enumerate(sorted(live), 1)}
+        strokes = {number: (live[tags[0]].level, {divmod(place, width) for tag in tags for place in
+                                                  simulator.pixels_of(live[tag].shape, width, height)})
+                   for number, tags in enumerate(gestures_of(live), 1)}
         status, written = grown(edits, pgm(samples, top), conn)
         self.assertEqual(status, 0)
         result = numpy.array(readers.read_image(written).samples).reshape(height, width)
