@@ -22,6 +22,8 @@ try:
 except ModuleNotFoundError as missing:
     without(missing)
 
+logging.getLogger("tifffile").addHandler(logging.NullHandler())  # (it tells of oddities that do no harm)
+
 PNG_MAGIC, JPEG_MAGIC = b"\x89PNG\r\n\x1a\n", b"\xff\xd8\xff"
 PNG_GREY = 0  # the colour type, PNG 1.2, 4.1.1
 EXIF_ORIENTATION = 0x0112
@@ -47,6 +49,11 @@ class Channels(NamedTuple):
     notes: tuple = ()
     is_laid_on_black: bool = False
 
+    @property
+    def dtype(self):
+        """The dtype of the samples."""
+        return next(iter(self.planes.values())).dtype
+
 
 def read_channels(name, page=None):
     """The channels of a picture file; of a TIFF with several pages those of one page, counted from 1."""
@@ -60,7 +67,6 @@ def read_channels(name, page=None):
     reader = next((reader for magic, reader in readers.items() if data.startswith(magic)), None)
     if reader is None:
         raise Fault(f"{name} is no PNG, TIFF, JPEG or PGM: save it as one of these")
-    logging.getLogger("tifffile").addHandler(logging.NullHandler())  # (it tells of oddities that do no harm)
     try:
         with warnings.catch_warnings():
             warnings.simplefilter("ignore")
@@ -110,15 +116,25 @@ def read_grey_map(name, data):
 # ---- PNG and JPEG ----
 
 def read_png(name, data):
-    """The channels of a PNG: by Pillow, or by netpbm where Pillow would drop the lower half of 16 bits."""
+    """The channels of a PNG, by Pillow.
+
+    Netpbm reads what Pillow would not read whole: of 16 bits with colours or alpha the lower half, and of grey which
+    sample is transparent.
+    """
     width, height, bits, colour = struct.unpack_from(">IIBB", data, 16)
     check_size(name, width, height)
     chunks = dict(chunks_of(data))
-    if bits == 16 and (colour != PNG_GREY or b"tRNS" in chunks):
-        return read_deep_png(name, data, chunks)
-    with opened(name, "PNG") as picture:
-        found = from_pillow(picture, "PNG")
-    return found if bits in (8, 16) else found._replace(notes=(f"{bits} bits stretched to 8", *found.notes))
+    if (bits == 16 and colour != PNG_GREY) or (bits != 8 and colour == PNG_GREY and b"tRNS" in chunks):
+        found = read_by_netpbm(name, data, chunks)
+    else:
+        with opened(name, "PNG") as picture:
+            found = from_pillow(picture, "PNG")
+    return found._replace(notes=(stretched_bits(bits),)) if bits < 8 and colour == PNG_GREY else found
+
+
+def stretched_bits(bits):
+    """What was done with samples of so many bits, fewer than 8."""
+    return f"{bits}-bit samples stretched to 8 bits"
 
 
 def chunks_of(data):
@@ -130,10 +146,10 @@ def chunks_of(data):
         place += 12 + length
 
 
-def read_deep_png(name, data, chunks):
-    """The channels of a PNG with 16 bits and colours or alpha, by pngtopam."""
+def read_by_netpbm(name, data, chunks):
+    """The channels of a PNG and its alpha, by pngtopam; fewer bits than 8 are stretched."""
     if not shutil.which("pngtopam"):
-        raise Fault(f"{name} has 16 bits and colours or alpha, which pngtopam reads: install Debian's package netpbm")
+        raise Fault(f"{name} is a PNG of a kind that pngtopam reads: install Debian's package netpbm")
     if b"sBIT" in chunks:  # (where bits are said to be of no significance, pngtopam would shift them out)
         begin, end = chunks[b"sBIT"]
         data = data[:begin] + data[end:]
@@ -142,10 +158,11 @@ def read_deep_png(name, data, chunks):
         raise ValueError(done.stderr.decode(errors="replace"))
     head, _, raster = done.stdout.partition(b"ENDHDR\n")
     fields = dict(line.split(maxsplit=1) for line in head.splitlines()[1:])
-    height, width, depth = (int(fields[field]) for field in (b"HEIGHT", b"WIDTH", b"DEPTH"))
-    array = numpy.frombuffer(raster, ">u2").astype(numpy.uint16).reshape(height, width, depth)
+    height, width, depth, top = (int(fields[field]) for field in (b"HEIGHT", b"WIDTH", b"DEPTH", b"MAXVAL"))
+    array = numpy.frombuffer(raster, ">u2" if top > 255 else "u1").reshape(height, width, depth)
+    array = array.astype(numpy.uint16) if top > 255 else array * numpy.uint8(255 // top)
     names = (*GREY, "alpha") if depth == 2 else (*COLOURS, "alpha")
-    return Channels(in_planes(names, array), 65535, "PNG")
+    return Channels(in_planes(names, array), top_of(array.dtype), "PNG")
 
 
 def read_jpeg(name, _):
@@ -241,7 +258,7 @@ def from_page(page, array):
         array = colours_of(page.colormap, array[:, :, 0])
     elif page.bitspersample < 8:
         array = array * numpy.uint8(255 // (2 ** page.bitspersample - 1))
-        notes = (f"{page.bitspersample} bits stretched to 8",)
+        notes = (stretched_bits(page.bitspersample),)
     top = top_of(array.dtype)
     if page.photometric == PHOTOMETRIC.MINISWHITE and top:
         array = top - array

@@ -8,7 +8,7 @@ or 65535. Others need --range. Colours become grey by --grey, and --channel take
 dark objects on light ground. Where it fails nothing is written. docs/PAINT.md begins with it, and has all choices.
 
 It needs Debian's packages python3-numpy, python3-pil and python3-tifffile, and for a PNG of 16 bits with colours or
-alpha netpbm, too.
+transparency netpbm, too.
 """
 
 import argparse
@@ -105,7 +105,7 @@ def in_words(dtype):
     return f"{sign}{8 * dtype.itemsize} bits"
 
 
-def shown(value):
+def in_digits(value):
     """A value in few digits."""
     return f"{value:.6g}" if isinstance(value, (float, numpy.floating)) else str(value)
 
@@ -122,7 +122,7 @@ def without_gaps(name, grey, missing):
 
 
 def ends_of(name, grey, bounds):
-    """The two values of a range whose bounds are numbers or percentages of the pixels."""
+    """The two values of a range whose bounds are numbers or percentages of the pixels, which are floats."""
     with numpy.errstate(invalid="ignore"):  # (between infinite values there is no number)
         low, high = (float(numpy.percentile(grey, value)) if is_percentage else value
                      for value, is_percentage in bounds)
@@ -134,9 +134,10 @@ def ends_of(name, grey, bounds):
 
 def stretched(name, grey, bounds, top):
     """The plane brought from a range to 0 up to top, nearest whole numbers, and in words what was done."""
+    grey = grey.astype(numpy.float64)
     low, high = ends_of(name, grey, bounds)
     outside = numpy.count_nonzero((grey < low) | (grey > high))
-    values = (numpy.clip(grey, low, high).astype(numpy.float64) - low) * (top / (high - low))
+    values = (numpy.clip(grey, low, high) - low) * (top / (high - low))
     words = f"from {low:g} to {high:g} made 0 to {top}"
     if outside:
         words += f", {100 * outside / grey.size:.2g} % of the pixels beyond"
@@ -149,12 +150,12 @@ def mask_of(words):
     channels = read_channels(name, words.page)
     grey, steps = grey_of(name, channels, words.channel, words.grey, words.ground)
     top = channels.top
-    kind = f"{channels.kind}, {grey.shape[1]} by {grey.shape[0]}, {in_words(grey.dtype)}"
+    kind = f"{channels.kind}, {grey.shape[1]} by {grey.shape[0]}, {in_words(channels.dtype)}"
     page = [f"page {words.page}"] if words.page else []
     grey, gaps = without_gaps(name, grey, words.missing)
     if top is None and words.range is None:
-        raise Fault(f"{name} has samples of this kind: {in_words(grey.dtype)}, from {shown(grey.min())} to "
-                    f"{shown(grey.max())}. Say by --range LOW HIGH which become black and white, as by "
+        raise Fault(f"{name} has samples of this kind: {in_words(channels.dtype)}, from {in_digits(grey.min())} to "
+                    f"{in_digits(grey.max())}. Say by --range LOW HIGH which become black and white, as by "
                     f"--range 0% 100% the least and the greatest")
     steps = [*channels.notes, *steps, *gaps]
     if words.range is not None:
@@ -176,7 +177,7 @@ def pgm_of(grey, top):
 
 
 def preview_of(grey, top):
-    """A PNG of 8 bits as the page shows the mask, with no side above 1024 pixels."""
+    """A PNG of 8 bits with no side above 1024 pixels; of 16 bits the highest sample is white."""
     white = top if top < 256 else max(1, int(grey.max()))
     picture = Image.fromarray((grey.astype(numpy.uint32) * 255 // white).astype(numpy.uint8))
     picture.thumbnail((MOST_PREVIEW_SIDE, MOST_PREVIEW_SIDE), Image.Resampling.BOX)
@@ -193,6 +194,9 @@ def judge_targets(words):
     resolved = [path.resolve() for path in (pathlib.Path(words.picture), *targets)]
     if len(set(resolved)) < len(resolved):
         raise Fault("picture, mask and preview need names of their own: give another one")
+    for target in targets:
+        if target.exists() and not target.is_file():
+            raise Fault(f"{target} is no file, so none is put in its place: give the name of a file")
 
 
 def judge_state(mask, data):
@@ -205,13 +209,16 @@ def judge_state(mask, data):
 
 
 def write_all(files):
-    """Write these bytes under these names, all of them or none: first beside each, and then in its place."""
-    beside = {name: f"{name}.{os.getpid()}.new" for name in files}
+    """Write these bytes under these names, all of them or none: first beside each, and then in its place.
+
+    Of a link that is done where it leads to.
+    """
+    beside = {name: f"{os.path.realpath(name)}.{os.getpid()}.new" for name in files}
     try:
         for name, data in files.items():
             pathlib.Path(beside[name]).write_bytes(data)
         for name in files:
-            os.replace(beside[name], name)
+            os.replace(beside[name], os.path.realpath(name))
     except OSError as why:
         raise Fault(f"{', '.join(files)} cannot be written ({why.strerror}): name a folder that is there, in which you "
                     f"may write") from None
@@ -232,6 +239,14 @@ def bound_of(word):
     if not math.isfinite(value) or (is_percentage and not 0 <= value <= 100):
         raise argparse.ArgumentTypeError("an end of a range is a number, or a percentage from 0% to 100%")
     return value, is_percentage
+
+
+def value_of(word):
+    """A finite number of the command line."""
+    value = float(word)
+    if not math.isfinite(value):
+        raise argparse.ArgumentTypeError("a value is a finite number")
+    return value
 
 
 def page_number(word):
@@ -255,9 +270,10 @@ def read_words():
     parser.add_argument("--range", type=bound_of, nargs=2, metavar=("LOW", "HIGH"),
                         help="make these values black and white, and all between in proportion; each is a number, or "
                              "a percentage of the pixels, as 0%% 99.9%%")
-    parser.add_argument("--missing", type=float, metavar="VALUE", help="what a pixel without a number (NaN) counts as")
+    parser.add_argument("--missing", type=value_of, metavar="VALUE",
+                        help="what a pixel without a number (NaN) counts as")
     parser.add_argument("--inverse", action="store_true", help="make bright dark: for dark objects on light ground")
-    parser.add_argument("--preview", metavar="PNG", help="write how the page will show the mask")
+    parser.add_argument("--preview", metavar="PNG", help="write a small picture of the mask, to look at")
     return parser.parse_args()
 
 

@@ -11,6 +11,7 @@ fractions. It takes a few seconds, and needs Debian's packages python3-numpy, py
 import fractions
 import itertools
 import math
+import os
 import random
 import struct
 import subprocess
@@ -118,7 +119,7 @@ class Masks(InFolder):
             rows = self.random((5, 11), top, numpy.uint16).tolist()
             path = self.put(f"grey{bits}.png", png(rows, 0, bits))
             self.check(path, [[sample * shown // top for sample in row] for row in rows], shown,
-                       says="" if bits >= 8 else f"{bits} bits stretched to 8")
+                       says="" if bits >= 8 else f"{bits}-bit samples stretched to 8 bits")
 
     def test_png_colour(self):
         for bits in (8, 16):
@@ -160,6 +161,11 @@ class Masks(InFolder):
             self.check(path, by_pixel(array, grey), top)
 
     def test_png_one_transparent_value(self):
+        for bits in (1, 2, 4):
+            top, rows = 2 ** bits - 1, self.random((3, 10), 2 ** bits - 1).tolist()
+            path = self.put("few.png", png(rows, 0, bits, chunk(b"tRNS", struct.pack(">H", 1))))
+            self.check(path, [[0 if sample == 1 else sample * 255 // top for sample in row] for row in rows], 255,
+                       "--ground", "black", says=f"{bits}-bit samples stretched")
         rows = [[0, 300, 65535], [7, 300, 9]]
         path = self.put("one.png", png(rows, 0, 16, chunk(b"tRNS", struct.pack(">H", 300))))
         self.check(path, [[0, 0, 65535], [7, 0, 9]], 65535, "--ground", "black")
@@ -290,7 +296,7 @@ class Masks(InFolder):
         self.check(self.tiff("white.tif", array, photometric="miniswhite"), 65535 - array.astype(int), 65535,
                    says="its 0 is white")
         bits = self.random((3, 9), 1, bool)
-        self.check(self.tiff("bits.tif", bits), bits.astype(int) * 255, 255, says="1 bits stretched to 8")
+        self.check(self.tiff("bits.tif", bits), bits.astype(int) * 255, 255, says="1-bit samples stretched to 8 bits")
         self.check(self.tiff("fax.tif", bits, photometric="miniswhite"), 255 - bits.astype(int) * 255, 255)
 
     def test_tiff_palette(self):
@@ -344,6 +350,8 @@ class Masks(InFolder):
                    says="from 10 to 30 made 0 to 255, 40 % of the pixels beyond")
         rows = [[0, 1000, 2000, 4000]]
         self.check(self.put("deep.png", png(rows, 0, 16)), [[0, 16384, 32768, 65535]], 65535, "--range", 0, 4000)
+        signed = self.tiff("signed.tif", numpy.array([[-100, 120]], numpy.int8))
+        self.check(signed, [[0, 65535]], 65535, "--range", "0%", "50%", says="from -100 to 10 made 0 to 65535")
         hot = [[k for k in range(999)] + [65535]]
         found, _, said = self.made(self.put("hot.png", png(hot, 0, 16)), "--range", "0%", "99.8%")
         self.assertEqual((found[0][0], found[0][998], found[0][999]), (0, 65535, 65535))
@@ -352,8 +360,9 @@ class Masks(InFolder):
     def test_range_on_colours(self):
         array = self.chance.random((4, 5, 3)).astype(numpy.float32)
         path = self.tiff("float.tif", array, photometric="rgb")
-        found, top, _ = self.made(path, "--range", 0, 1)
+        found, top, said = self.made(path, "--range", 0, 1)
         self.assertEqual(top, 65535)
+        self.assertIn("floats of 32 bits", said)
         for row, pixels in zip(found, array.astype(float)):
             for sample, pixel in zip(row, pixels):
                 exact = 65535 * (0.299 * pixel[0] + 0.587 * pixel[1] + 0.114 * pixel[2])
@@ -371,7 +380,8 @@ class Masks(InFolder):
         self.fails([endless, target, "--range", "0%", "100%"], "finite")
         self.check(endless, [[32768, 65535, 0]], 65535, "--range", 0, 1)
         self.fails([self.tiff("complex.tif", numpy.ones((2, 3), numpy.complex64)), target], "no shades of grey")
-        for words in (["--range", 1], ["--range", "a", 1], ["--range", "0%", "101%"], ["--range", 0, "nan"]):
+        for words in (["--missing", "nan"], ["--missing", "none"], ["--range", 1], ["--range", "a", 1],
+                      ["--range", "0%", "101%"], ["--range", 0, "nan"]):
             self.fails([path, target, *words], "usage:", 2)
 
     # ---- Preview, state files, refusals ----
@@ -418,6 +428,10 @@ class Masks(InFolder):
         self.fails([picture, target, "--preview", target], "names of their own")
         self.fails([self.put("in.pgm", pgm([[1]])), self.folder / "in.pgm"], "names of their own")
         self.fails([picture, self.folder / "no" / "mask.pgm"], "cannot be written")
+        os.mkfifo(self.folder / "pipe")
+        for name in ("pipe", "."):
+            self.fails([picture, self.folder / name], "is no file, so none is put in its place")
+            self.fails([picture, target, "--preview", self.folder / name], "is no file")
         self.fails([picture, target, "--preview", self.folder / "no" / "seen.png"], "cannot be written")
         for words in ([picture], [], [picture, target, "--page", 0], [picture, target, "--grey", "hue"],
                       [picture, target, "--channel", "red", "--grey", "max"], [picture, target, "--ground", "red"]):
@@ -471,6 +485,12 @@ class Masks(InFolder):
             def grey(pixel, colour=colour):
                 return luma(pixel[:3]) if colour in (2, 6) else pixel[0]
             self.check(path, by_pixel(array, grey), top, "--ground", "none")
+
+    def test_link(self):
+        (self.folder / "link.pgm").symlink_to("place.pgm")
+        self.assertEqual(tool(TOOL, self.put("one.png", png([[1, 2]], 0, 8)), self.folder / "link.pgm")[0], 0)
+        self.assertTrue((self.folder / "link.pgm").is_symlink())
+        self.assertEqual((self.folder / "place.pgm").read_bytes(), pgm([[1, 2]]))
 
     def test_as_a_program(self):
         path = self.put("one.png", png([[1, 2]], 0, 8))
