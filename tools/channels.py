@@ -85,7 +85,9 @@ def unreadable(name, why):
 
 
 def check_size(name, width, height):
-    """Refuse a picture that is larger than Seedpaint takes, before it is unpacked."""
+    """Refuse a picture that is larger than Seedpaint takes, or has no pixel, before it is unpacked."""
+    if width * height == 0:
+        raise Fault(f"{name} has {width} by {height} pixels, so there is nothing to see: save it anew")
     if max(width, height) > MOST_SIDE or width * height > MOST_PIXELS:
         raise Fault(f"{name} has {width} by {height} pixels, and Seedpaint takes sides of up to {MOST_SIDE} and "
                     f"{MOST_PIXELS} pixels: cut it into parts, or scale it down")
