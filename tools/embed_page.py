@@ -1,11 +1,13 @@
 #!/usr/bin/env python3
-"""Write crates/page_server/src/html.rt from page/page.html: there is no `include_str!`.
+"""Write crates/page_server/src/html.rt from the files of page/: there is no `include_str!`.
 
     python3 tools/embed_page.py            writes it
     python3 tools/embed_page.py --check    ends with status 1 where it is not up to date
 
-Beside the page it writes the page's content security policy, which allows its one script and its one style by their
-SHA-256, and requests to where the page came from.
+page/page.html has the markup, and names the style and the scripts beside it. Where it names them they are put in, the
+style as one <style>, and the scripts in their order as one <script>, with an empty line between two. Beside the page it
+writes the page's content security policy, which allows its one script and its one style by their SHA-256, and requests
+to where the page came from.
 """
 
 import argparse
@@ -16,12 +18,17 @@ import re
 import sys
 
 TOP = pathlib.Path(__file__).resolve().parent.parent
-SOURCE, TARGET = TOP / "page" / "page.html", TOP / "crates" / "page_server" / "src" / "html.rt"
+SOURCE, TARGET = TOP / "page", TOP / "crates" / "page_server" / "src" / "html.rt"
+MOST_LINES = 600  # of each file of the page
+
+# How page.html names the style, and the scripts, one behind the other.
+STYLE = re.compile(r'<link rel="stylesheet" href="(\w+\.css)">\n')
+SCRIPTS = re.compile(r'(?:<script src="\w+\.js"></script>\n)+')
 
 # The widest line of the page's literal before the sign that it goes on, and what begins it, which does not count.
 WIDTH, INDENT = 119, "     "
 
-MODULE = '''//! The page and its policy, written by tools/embed_page.py from page/page.html.
+MODULE = '''//! The page and its policy, written by tools/embed_page.py from the files of page/.
 
 /// The page: HTML with its style and its script.
 pub const PAGE: &str = "{page}";
@@ -32,11 +39,34 @@ pub const POLICY: &str = "{policy}";
 '''
 
 
+def text_of(name):
+    """The text of a file of the page."""
+    text = (SOURCE / name).read_text(encoding="utf-8")
+    if text.count("\n") > MOST_LINES:
+        sys.exit(f"embed_page.py: page/{name} has more than {MOST_LINES} lines")
+    if not text.endswith("\n"):
+        sys.exit(f"embed_page.py: the last line of page/{name} does not end")
+    return text
+
+
+def put_together():
+    """The page as one text of HTML, which holds each file of the page once."""
+    page = text_of("page.html")
+    styles, scripts = STYLE.findall(page), re.findall(r'src="(\w+\.js)"', "".join(SCRIPTS.findall(page)))
+    named = sorted(styles + scripts)
+    there = sorted(path.name for path in [*SOURCE.glob("*.css"), *SOURCE.glob("*.js")])
+    if named != there:
+        sys.exit(f"embed_page.py: page/page.html names {named}, and there are {there}")
+    style, script = "".join(map(text_of, styles)), "\n".join(map(text_of, scripts))
+    page = STYLE.sub(lambda _: f"<style>\n{style}</style>\n", page)
+    return SCRIPTS.sub(lambda _: f"<script>\n{script}</script>\n", page)
+
+
 def hash_of(page, name):
     """The source expression that allows the one element of this name."""
     texts = re.findall(f"<{name}>(.*?)</{name}>", page, re.DOTALL)
     if len(texts) != 1:
-        sys.exit(f"embed_page.py: {SOURCE} has {len(texts)} times <{name}>, not once")
+        sys.exit(f"embed_page.py: the page has {len(texts)} times <{name}>, not once")
     return "'sha256-" + base64.b64encode(hashlib.sha256(texts[0].encode()).digest()).decode() + "'"
 
 
@@ -68,7 +98,7 @@ def main():
     parser = argparse.ArgumentParser(description="Write the page's module from the page.")
     parser.add_argument("--check", action="store_true", help="write nothing; status 1 where the module is another")
     words = parser.parse_args()
-    module = module_of(SOURCE.read_text(encoding="utf-8"))
+    module = module_of(put_together())
     if not words.check:
         TARGET.write_text(module, encoding="utf-8")
     elif not TARGET.is_file() or TARGET.read_text(encoding="utf-8") != module:

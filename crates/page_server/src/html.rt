@@ -1,4 +1,4 @@
-//! The page and its policy, written by tools/embed_page.py from page/page.html.
+//! The page and its policy, written by tools/embed_page.py from the files of page/.
 
 /// The page: HTML with its style and its script.
 pub const PAGE: &str = "\

@@ -20,7 +20,7 @@
 //! - `rounds` has a round of all who have a place, over a service that `page_service` keeps with its file: `transfer`
 //!   moves the bytes of one connection, and `peer` and `peers` are the connections that are open;
 //! - `hall` has where those wait who have not shown the key, the `guest`s;
-//! - `html` has the page as a text, which `tools/embed_page.py` writes from `page/page.html`, and the policy that
+//! - `html` has the page as a text, which `tools/embed_page.py` writes from the files of `page/`, and the policy that
 //!   allows its style and its script alone;
 //! - `server` has the turns. `call` has what is asked for, [`opening`] the board as it is opened, `page` the service
 //!   with its share of settling, `ports`, `door`, `site` and `forward` where it is served and who is told, and `caller`

@@ -1,0 +1,61 @@
+// ---- Requests ----
+
+// For how many milliseconds a request may move no byte, and what is added for each byte that is sent.
+const PATIENCE = 30000, PATIENCE_A_BYTE = .1;
+
+/** That a request has no answer that can be used. A program that does not know the address was started anew. */
+class Unanswered extends Error {
+  constructor(status) {
+    super(`status ${status}`);
+    this.isMoved = status === 404;
+  }
+}
+
+/** The status and the bytes of an answer. With each piece of it the time begins anew, and `told` has its size. */
+async function request(path, options = {}, told = () => {}) {
+  const controller = new AbortController(), sent = options.body?.length ?? 0;
+  const giveUpIn = milliseconds => setTimeout(() => controller.abort(), milliseconds);
+  let limit = giveUpIn(PATIENCE + sent * PATIENCE_A_BYTE);
+  try {
+    const response = await fetch(path, { cache: "no-store", signal: controller.signal, ...options });
+    const total = Number(response.headers.get("Content-Length"));
+    return { status: response.status, bytes: await readPieces(response, read => {
+      clearTimeout(limit);
+      limit = giveUpIn(PATIENCE);
+      told(read, total);
+    }) };
+  } catch (_) {
+    throw new Unanswered(0);
+  } finally {
+    clearTimeout(limit);
+  }
+}
+
+/** All bytes of an answer; behind each piece it is told how many were read. */
+async function readPieces(response, told) {
+  const reader = response.body.getReader(), pieces = [];
+  let count = 0;
+  for (let next = await reader.read(); !next.done; next = await reader.read()) {
+    pieces.push(next.value);
+    count += next.value.length;
+    told(count);
+  }
+  return pieces.length === 1 ? pieces[0] : inOne(pieces, count);
+}
+
+function inOne(pieces, count) {
+  const bytes = new Uint8Array(count);
+  let place = 0;
+  for (const piece of pieces) {
+    bytes.set(piece, place);
+    place += piece.length;
+  }
+  return bytes;
+}
+
+function bytesOf({ status, bytes }) {
+  if (status !== 200) throw new Unanswered(status);
+  return bytes;
+}
+
+const fetchBytes = async (path, told) => bytesOf(await request(path, {}, told));

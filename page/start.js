@@ -1,0 +1,57 @@
+// ---- Start ----
+
+function start() {
+  author = keptAuthor();
+  listenToButtons();
+  listenToPointer();
+  listenToKeys();
+  listenToFiles();
+  new ResizeObserver(resize).observe(element("stage"));
+  followRatio();
+  setTool("brush");
+  setRadius(brush.radius);
+  press("strokesShown", true);
+  open().catch(() => {
+    showBanner("The picture could not be fetched: the program does not answer at this address.", ["reload"]);
+  });
+}
+
+async function open() {
+  const [file, news] = await Promise.all([loadPart("mask"), loadPart("changes?run=0&since=0")]);
+  openBoard(readImage(file), await fingerprintOf(file));
+  board.isOpen = true;
+  resize();
+  fit();
+  setLevel(null);
+  recallActs();
+  takeAnswer(readAnswer(news));
+  recallEdits();
+  takeAlong();
+  sayBoard();
+  sayCounts();
+  sayPixel();
+  say(board.strokes.size === 0 ? "Paint over what is to be kept." : "");
+  document.title = `Seedpaint ${board.width} × ${board.height}`;
+  await converse();
+}
+
+const loads = new Map();  // of each part that is needed to begin, how many bytes came, and of how many
+
+/** Fetches a part of what is needed to begin, and says how much is there. */
+function loadPart(path) {
+  return fetchBytes(path, (read, total) => {
+    loads.set(path, [read, total]);
+    const [come, all] = [0, 1].map(k => [...loads.values()].reduce((sum, sizes) => sum + sizes[k], 0) / 1e6);
+    sayIn("message", `Loading: ${come.toFixed(1)} of ${all.toFixed(1)} MB`);
+  });
+}
+
+/** The start of the SHA-256 of a file, in hexadecimal. */
+async function fingerprintOf(file) {
+  const digest = new Uint8Array(await crypto.subtle.digest("SHA-256", file));
+  return Array.from(digest.subarray(0, 16), byte => byte.toString(16).padStart(2, "0")).join("");
+}
+
+// What a browser stores it stores for one host: the page is always at 127.0.0.1.
+if (location.hostname === "localhost") location.replace(location.href.replace("//localhost", "//127.0.0.1"));
+else start();

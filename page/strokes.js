@@ -1,0 +1,80 @@
+// ---- Strokes ----
+
+// Colours by author: none, one's own, and those of others.
+const COLOURS = [null, [56, 197, 242], [240, 98, 200], [110, 214, 108], [167, 139, 250], [255, 106, 84]];
+const cssColour = (colour, opacity = 1) => `rgb(${COLOURS[colour].join(" ")} / ${opacity})`;
+
+function colourOf(writer) {
+  return writer === author ? 1 : 2 + parseInt(writer.slice(-6), 16) % (COLOURS.length - 2);
+}
+
+/** The stroke that a line `place TAG LEVEL RUNS` or `disc TAG LEVEL y:x+r` spells. */
+function readStroke(line) {
+  const [kind, tag, level, shape] = line.split(" ");
+  const runs = kind === "disc" ? discRuns(shape) : shape.split(",").map(readRun);
+  const gesture = gestureOf(tag), colour = colourOf(authorOf(tag));
+  return { kind, tag, level, shape, runs, gesture, colour, box: boxOf(runs), outline: null };
+}
+
+function readRun(text) {
+  const [y, first, last] = text.split(/[:-]/).map(Number);
+  return { y, first, last };
+}
+
+function discRuns(shape) {
+  const [y, x, radius] = shape.split(/[:+]/).map(Number);
+  const rows = new Map();
+  addDisc(rows, { x, y }, limited(radius, 0, MOST_RADIUS));
+  return runsOf(rows);
+}
+
+function boxOf(runs) {
+  const box = { left: Infinity, top: Infinity, right: 0, bottom: 0 };
+  for (const { y, first, last } of runs) {
+    box.left = Math.min(box.left, first);
+    box.right = Math.max(box.right, last + 1);
+    box.top = Math.min(box.top, y);
+    box.bottom = Math.max(box.bottom, y + 1);
+  }
+  return box;
+}
+
+function putStroke(stroke) {
+  board.strokes.set(stroke.tag, stroke);
+  markWithin(stroke, stroke.box);
+  soil(stroke.box);
+}
+
+function dropStroke(tag) {
+  const gone = board.strokes.get(tag);
+  if (!gone) return;
+  board.strokes.delete(tag);
+  markWithin({ ...gone, colour: 0 }, gone.box);
+  for (const stroke of board.strokes.values()) if (meets(stroke.box, gone.box)) markWithin(stroke, gone.box);
+  soil(gone.box);
+}
+
+/** Marks the pixels of a stroke that lie in a box with its colour. */
+function markWithin({ runs, colour }, box) {
+  for (const { y, first, last } of runs) {
+    if (y < box.top || y >= box.bottom) continue;
+    const from = Math.max(first, box.left), to = Math.min(last + 1, box.right);
+    if (from < to) board.marks.fill(colour, y * board.width + from, y * board.width + to);
+  }
+}
+
+/** The topmost live stroke on a pixel, but for those whose withdrawal waits. */
+function strokeAt(pixel) {
+  const leaving = new Set(outbox.flatMap(edit => edit.withdrawn));
+  let topmost = null;
+  for (const stroke of board.strokes.values()) {
+    if (holds(stroke.box, pixel) && isUnder(stroke, pixel) && !leaving.has(stroke.tag)) topmost = stroke;
+  }
+  return topmost;
+}
+
+const isUnder = ({ runs }, { x, y }) => runs.some(run => run.y === y && run.first <= x && x <= run.last);
+
+function strokesOfGesture(gesture) {
+  return [...board.strokes.values()].filter(stroke => stroke.gesture === gesture);
+}
