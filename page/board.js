@@ -2,7 +2,6 @@
 
 const board = {
   isOpen: false, width: 0, height: 0, maxval: 255, fingerprint: "",
-  white: 255,               // the sample that is shown as white: with 16 bits the mask's highest
   mask: null, image: null,  // samples, row by row
   marks: null,              // for each pixel the colour of the topmost stroke on it, 0 for none
   strokes: new Map(),       // the live strokes by tag, the topmost last
@@ -11,18 +10,11 @@ const board = {
 
 function openBoard({ width, height, maxval, samples }, fingerprint) {
   Object.assign(board, { width, height, maxval, mask: samples, fingerprint });
-  board.white = maxval < 256 ? maxval : highestOf(samples);
   board.image = maxval < 256 ? new Uint8Array(width * height) : new Uint16Array(width * height);
   board.marks = new Uint8Array(width * height);
   makeBlocks();
+  openContrast();
   setView("kept");
-}
-
-/** The highest of the samples, and at least 1. */
-function highestOf(samples) {
-  let highest = 1;
-  for (let k = 0; k < samples.length; k++) if (samples[k] > highest) highest = samples[k];
-  return highest;
 }
 
 /** Nothing painted and nothing grown, as before the first answer. */

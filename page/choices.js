@@ -31,10 +31,9 @@ function setLevel(level) {
 
 function setView(name) {
   view.name = name;
-  view.maskShades = shadesOf(VIEWS[name].mask, 255);
-  view.resultShades = shadesOf(VIEWS[name].result, 0);
   for (const other of Object.keys(VIEWS)) press(`show${other[0].toUpperCase()}${other.slice(1)}`, other === name);
-  soil(wholeBoard());
+  sayTable();
+  recolour();
 }
 
 function nextView(direction) {

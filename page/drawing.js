@@ -70,7 +70,7 @@ function drawOverlay() {
   for (const edit of outbox) edit.strokes.forEach(drawWaiting);
   if (hand.gesture) drawRuns([...hand.gesture.rows.values()].flat(), cssColour(1, .6));
   if (hand.hovered) drawHovered(hand.hovered);
-  if (hand.pixel && hand.tool === "brush" && !hand.pan) drawBrush(hand.pixel);
+  if (hand.pixel && hand.tool === "brush" && !hand.pan && !hand.stretch) drawBrush(hand.pixel);
 }
 
 function drawRuns(runs, colour) {

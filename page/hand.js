@@ -1,8 +1,8 @@
-// ---- The hand: what the one pointer does that paints, withdraws or moves the picture ----
+// ---- The hand: what the one pointer does that paints, withdraws, moves the picture or changes its contrast ----
 
 const hand = {
   tool: "brush", pointer: null,  // the pointer that is down
-  point: null, pixel: null, gesture: null, pan: null, aim: null, hovered: null, isSpaceHeld: false,
+  point: null, pixel: null, gesture: null, pan: null, stretch: null, aim: null, hovered: null, isSpaceHeld: false,
 };
 
 const isOther = event => hand.pointer !== null && hand.pointer !== event.pointerId;
@@ -14,6 +14,7 @@ function pointerDown(event) {
   movePointer(event);
   hover();
   if (event.button === 1 || (event.button === 0 && hand.isSpaceHeld)) startPan();
+  else if (event.button === 2) startStretch();
   else if (event.button === 0 && hand.tool === "withdraw") hand.aim = hand.hovered;
   else if (event.button === 0 && event.altKey) takeLevel();
   else if (event.button === 0) startGesture();
@@ -22,6 +23,16 @@ function pointerDown(event) {
 
 function startPan() {
   hand.pan = { x: hand.point.x - sight.left, y: hand.point.y - sight.top };
+}
+
+/** From here on the pointer changes the window through which samples are shown. */
+function startStretch() {
+  hand.stretch = { from: hand.point, window: { ...contrast.look } };
+}
+
+function stretch({ from, window }) {
+  const across = (hand.point.x - from.x) / overlay.width, down = (hand.point.y - from.y) / overlay.height;
+  setLook(draggedWindow(window, across, down, board.maxval));
 }
 
 function takeLevel() {
@@ -38,6 +49,7 @@ function pointerMove(event) {
   if (!board.isOpen || !letsMove(event) || isOther(event)) return;
   const events = event.getCoalescedEvents?.() ?? [];
   for (const each of events.length > 0 ? events : [event]) movePointer(each);
+  if (hand.stretch) stretch(hand.stretch);
   hover();
   sayPixel();
   redrawOverlay();
@@ -87,6 +99,7 @@ function releaseHand() {
 function dropHand() {
   hand.gesture = null;
   hand.pan = null;
+  hand.stretch = null;
   hand.aim = null;
   showCursor();
   redrawOverlay();
@@ -101,7 +114,7 @@ function hover() {
 
 function showCursor() {
   const tool = hand.tool === "brush" ? "crosshair" : hand.hovered ? "pointer" : "default";
-  overlay.style.cursor = hand.pan ? "grabbing" : hand.isSpaceHeld ? "grab" : tool;
+  overlay.style.cursor = hand.pan ? "grabbing" : hand.stretch ? "move" : hand.isSpaceHeld ? "grab" : tool;
 }
 
 function pointerLeave(event) {

@@ -6,6 +6,8 @@ const KEYS = {
   a: () => setLevel(null),
   m: () => setLevel(board.maxval),
   h: () => showStrokes(!view.areStrokesShown),
+  c: () => toggleContrast(true),
+  p: setByPercentiles,
   "[": () => stepRadius(-1),
   "]": () => stepRadius(1),
   0: fit,
@@ -16,7 +18,7 @@ const KEYS = {
 };
 
 function keyDown(event) {
-  if (["number", "text"].includes(event.target.type) || !board.isOpen) return;
+  if (["number", "text"].includes(event.target.type) || isForPanel(event) || !board.isOpen) return;
   const action = actionOf(event);
   if (!action) return;
   event.preventDefault();
@@ -44,6 +46,7 @@ function toggleHelp() {
 
 const BUTTONS = {
   brush: KEYS.b, withdraw: KEYS.x, autoLevel: KEYS.a, mostLevel: KEYS.m, strokesShown: KEYS.h, fit, undo, redo,
+  contrastShown: () => toggleContrast(false),
   showKept: () => setView("kept"), showResult: () => setView("result"), showMask: () => setView("mask"),
   helpButton: toggleHelp, reload: () => location.reload(), goThere: () => goTo(element("newAddress").value.trim()),
   saveStray, saveWaiting: () => saveEdits(board.fingerprint, waitingBodies()),

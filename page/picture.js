@@ -5,22 +5,15 @@ const picture = element("picture"), pictureContext = picture.getContext("2d", { 
 const overlay = element("overlay"), overlayContext = overlay.getContext("2d");
 let blocks = [];
 
-// How much of red, green and blue the samples of mask and result give.
-const VIEWS = {
-  kept: { mask: [.4, .4, .41], result: [.6, .42, 0] },
-  result: { mask: [0, 0, 0], result: [1, 1, 1] },
-  mask: { mask: [1, 1, 1], result: [0, 0, 0] },
-};
-const view = { name: "kept", areStrokesShown: true, maskShades: null, resultShades: null };
-const packed = ([red, green, blue], alpha) => (alpha << 24 | blue << 16 | green << 8 | red) >>> 0;
+const view = { name: "kept", areStrokesShown: true, maskColours: null, resultColours: null };  // colours by samples
 const halfColours = COLOURS.map(colour => colour ? packed(colour.map(part => part >> 1), 128) : 0);
 
-/** For each sample its colour, as a number that begins with alpha. */
-function shadesOf(parts, alpha) {
-  return Uint32Array.from({ length: board.maxval + 1 }, (_, sample) => {
-    const grey = Math.floor(Math.min(sample, board.white) * 255 / board.white);
-    return packed(parts.map(part => Math.floor(part * grey)), alpha);
-  });
+/** Finds anew in which colours samples are shown. */
+function recolour() {
+  const { mask, result } = VIEWS[view.name], { look } = contrast, shades = shadesThrough(look, board.maxval);
+  view.maskColours = coloursOfSamples(shades, coloursOf("grey", mask, 255));
+  view.resultColours = coloursOfSamples(shades, coloursOf(look.tables[view.name] ?? "grey", result, 0));
+  soil(wholeBoard());
 }
 
 function makeBlocks() {
@@ -74,11 +67,11 @@ function newContext(width, height) {
 }
 
 function compose(colours, { left, top, right, bottom }) {
-  const { mask, image, marks, width } = board, { maskShades, resultShades, areStrokesShown } = view;
+  const { mask, image, marks, width } = board, { maskColours, resultColours, areStrokesShown } = view;
   let place = 0;
   for (let y = top; y < bottom; y++) {
     for (let pixel = y * width + left, end = y * width + right; pixel < end; pixel++) {
-      const colour = maskShades[mask[pixel]] + resultShades[image[pixel]];
+      const colour = maskColours[mask[pixel]] + resultColours[image[pixel]];
       const isMarked = areStrokesShown && marks[pixel] > 0;
       colours[place++] = isMarked ? (colour >>> 1 & 0x7f7f7f7f) + halfColours[marks[pixel]] : colour;
     }

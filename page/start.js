@@ -3,6 +3,7 @@
 function start() {
   author = keptAuthor();
   listenToButtons();
+  listenToContrast();
   listenToPointer();
   listenToKeys();
   listenToFiles();
@@ -11,6 +12,7 @@ function start() {
   setTool("brush");
   setRadius(brush.radius);
   press("strokesShown", true);
+  press("contrastShown", false);
   open().catch(() => {
     showBanner("The picture could not be fetched: the program does not answer at this address.", ["reload"]);
   });

@@ -21,6 +21,7 @@ import urllib.request
 
 ALT, CONTROL, SHIFT = 1, 2, 8  # modifiers of an event
 BUTTONS = {"none": 0, "left": 1, "right": 2, "middle": 4}
+CODES = {"Tab": 9, "ArrowLeft": 37, "ArrowRight": 39}  # of keys that the browser acts on itself
 FLAGS = ["--headless=new", "--no-sandbox", "--disable-gpu", "--disable-dev-shm-usage", "--no-first-run",
          "--remote-debugging-port=0", "--force-device-scale-factor=1", "--enable-precise-memory-info"]
 LISTEN_FOR_REPORTS = """window.reports = [];
@@ -175,11 +176,13 @@ class Tab:
 
     def key_down(self, key, modifiers=0):
         """Presses a key."""
-        self.call("Input.dispatchKeyEvent", type="rawKeyDown", key=key, modifiers=modifiers)
+        self.call("Input.dispatchKeyEvent", type="rawKeyDown", key=key, modifiers=modifiers,
+                  windowsVirtualKeyCode=CODES.get(key, 0))
 
     def key_up(self, key, modifiers=0):
         """Lets a key go."""
-        self.call("Input.dispatchKeyEvent", type="keyUp", key=key, modifiers=modifiers)
+        self.call("Input.dispatchKeyEvent", type="keyUp", key=key, modifiers=modifiers,
+                  windowsVirtualKeyCode=CODES.get(key, 0))
 
     def drop(self, x, y, path):
         """Drags a file into the window and drops it."""

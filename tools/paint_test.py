@@ -14,6 +14,7 @@ It needs Python 3 and Debian's package chromium.
 import argparse
 import base64
 import contextlib
+import math
 import pathlib
 import shutil
 import signal
@@ -175,13 +176,33 @@ class Page:
 
     def result_shades(self):
         """The shades of the result alone, without strokes, pixel for pixel."""
-        for key in ("h", "Tab", "0", "1"):
+        return self.shades_behind(1)
+
+    def mask_shades(self):
+        """The shades of the mask alone, without strokes, pixel for pixel."""
+        return self.shades_behind(2)
+
+    def shades_behind(self, tabs):
+        """The shades of the view to which so many tabs lead."""
+        for key in ("h", *("Tab",) * tabs, "0", "1"):
             self.tab.key(key)
         shades = self.shades()
-        self.tab.key("Tab", SHIFT)
+        for _ in range(tabs):
+            self.tab.key("Tab", SHIFT)
         self.tab.key("h")
         self.tab.key("0")
         return shades
+
+    def window(self):
+        """The low and the high value through which the picture is shown."""
+        return self.tab.run("[contrast.look.low, contrast.look.high]")
+
+    def slide(self, name, *values):
+        """Drags the handle of a slider from value to value. It is taken to be ten pixels wide."""
+        left, width, middle, least, most = self.tab.run(f"""(() => {{
+            const box = element('{name}').getBoundingClientRect(), {{ min, max }} = element('{name}');
+            return [box.x, box.width, box.y + box.height / 2, Number(min), Number(max)]; }})()""")
+        self.tab.drag([(left + 5 + (value - least) * (width - 10) / (most - least), middle) for value in values])
 
     def colour_at(self, x, y):
         """The colour of a pixel of the mask on the canvas."""
@@ -221,11 +242,31 @@ def reference(program, mask, view):
     return simulator.view(data, 4).output
 
 
+def percentiles(image, cut=0.1):
+    """The samples behind which so many percent lie at either end."""
+    samples = sorted(image.samples)
+    ranks = [math.ceil(share * len(samples)) for share in (cut / 100, 1 - cut / 100)]
+    return [samples[max(1, rank) - 1] for rank in ranks]
+
+
+def first_window(image):
+    """The low and the high value through which a mask is shown at first."""
+    return [0, image.maxval] if image.maxval < 256 else percentiles(image)
+
+
+def shades_through(window, samples, gamma=1):
+    """The grey shades in which samples are shown through a window."""
+    low, high = window
+    inside = [min(max(sample, low), high) - low for sample in samples]
+    if gamma == 1:
+        return [sample * 255 // (high - low) for sample in inside]
+    return [math.floor(255 * (sample / (high - low)) ** gamma) for sample in inside]
+
+
 def shades_of(raw, mask):
-    """The grey shades in which the samples of a raw file are shown: with 16 bits the mask's highest is white."""
-    image = readers.read_image(raw)
-    white = 255 if image.maxval == 255 else max(readers.read_image(mask.read_bytes()).samples)
-    return [sample * 255 // white for sample in image.samples]
+    """The grey shades in which the samples of a raw file are shown at first."""
+    window = first_window(readers.read_image(mask.read_bytes()))
+    return shades_through(window, readers.read_image(raw).samples)
 
 
 def check_shown(page, program, mask, view, name):
@@ -239,11 +280,12 @@ def check_shown(page, program, mask, view, name):
 # ---- The masks ----
 
 def write_masks(folder):
-    """The cells of the examples with 8 and with 16 bits, and grains as another mask."""
+    """The cells of the examples with 8 and with 16 bits, these with one hot pixel, and grains as another mask."""
     cells = readers.read_image(readers.split_input((TOP / "examples" / "cells.txt").read_bytes())[1])
     deep = cells._replace(maxval=65_535, samples=[sample * 16 + 15 for sample in cells.samples])
     grains = subprocess.run([sys.executable, str(TOP / "examples" / "grains.py")], stdout=subprocess.PIPE, check=True)
-    masks = {"cells": simulator.raw_file(cells), "deep": simulator.raw_file(deep),
+    hot = deep._replace(samples=[65_535, *deep.samples[1:]])
+    masks = {"cells": simulator.raw_file(cells), "deep": simulator.raw_file(deep), "hot": simulator.raw_file(hot),
              "grains": simulator.raw_file(readers.read_image(grains.stdout))}
     for name, data in masks.items():
         (folder / f"{name}.pgm").write_bytes(data)
@@ -642,6 +684,96 @@ def reload_page(sitting):
     check(sorted(page.strokes()) == before, "undo goes on behind it")
 
 
+def contrast(sitting):
+    """Window, gamma and colours change what is shown, and nothing else. A reload keeps them, and so does a restart."""
+    page, strokes, image = sitting.first, sorted(sitting.first.strokes()), sitting.program.get("image")
+    mask = readers.read_image(sitting.masks["cells"].read_bytes())
+    check(page.tab.text("shown") == "" and page.mask_shades() == mask.samples, "8 bits are shown at first as they are")
+    window_by_keys(page, mask)
+    window_by_pointer(page, mask)
+    gamma_and_colours(page, mask)
+    look = page.tab.run("JSON.stringify(contrast.look)")
+    page.tab.run("document.title = ''")
+    page.tab.call("Page.reload")
+    page.await_open()
+    check(page.tab.run("JSON.stringify(contrast.look)") == look, "a reload keeps the contrast")
+    sitting.open_anew("cells", sitting.program.state.name)
+    check(page.tab.run("JSON.stringify(contrast.look)") == look, "so does a restart")
+    page.settle(len(strokes))
+    check(sorted(page.strokes()) == strokes and sitting.program.get("image") == image, "strokes and result stay")
+    page.tab.click_element("contrastShown")
+    page.tab.click_element("resetLook")
+    page.tab.click_element("contrastShown")
+    check(page.tab.text("shown") == "" and page.tab.run("local.names().every(name => !name.startsWith('contrast'))"),
+          "and Reset keeps nothing")
+    sitting.shown("after Reset")
+
+
+def window_by_keys(page, mask):
+    """C leads the keys to the handles, Tab from one to the next, and Escape closes the panel."""
+    page.tab.key("c")
+    check(page.tab.run("!element('contrast').hidden && document.activeElement.id") == "low", "C opens the panel")
+    for _ in range(30):
+        page.tab.key("ArrowRight")
+    page.tab.key("Tab")
+    for _ in range(40):
+        page.tab.key("ArrowLeft")
+    check(page.window() == [30, 215] and page.tab.run("view.name") == "kept", "arrows move its handles, Tab goes on")
+    page.tab.key("Escape")
+    check(page.tab.run("element('contrast').hidden"), "Escape closes it")
+    check(page.mask_shades() == shades_through([30, 215], mask.samples), "the canvas shows the mask through the window")
+    check(page.tab.text("shown") == "shown 30 to 215", "and the foot says so")
+
+
+def window_by_pointer(page, mask):
+    """Handles, percentiles, and a drag with the right button."""
+    page.tab.click_element("contrastShown")
+    page.slide("high", 215, 180, 120)
+    low, high = page.window()
+    check(low == 30 and abs(high - 120) <= 1, "a handle is dragged over the histogram")
+    page.slide("low", 30, 100, 160)
+    low, high = page.window()
+    check(abs(low - 160) <= 1 and high == low + 1, "one that meets the other pushes it along")
+    page.tab.click_element("byPercentiles")
+    check(page.window() == percentiles(mask), "a button takes the window by percentiles")
+    page.tab.click_element("cut")
+    page.tab.run("element('cut').select()")
+    page.tab.type("5")
+    page.tab.key("Tab")
+    check(page.window() == percentiles(mask, 5), "and by others that are typed")
+    page.tab.key("Escape")
+    low, high = page.window()
+    page.drag((100, 100), (100, 92), (100, 88), button="right")
+    check(page.window()[0] <= low and page.window()[1] < high, "a drag upwards with the right button lowers the window")
+    narrow = page.window()[1] - page.window()[0]
+    page.drag((100, 100), (120, 100), (130, 100), button="right")
+    check(page.window()[1] - page.window()[0] > narrow, "one to the right makes it wider")
+    check(page.tab.run("outbox.length") == 0, "and neither paints")
+    check(page.mask_shades() == shades_through(page.window(), mask.samples), "the canvas shows that window")
+
+
+def gamma_and_colours(page, mask):
+    """A gamma below 1, and the result in blue over the mask, while it stays grey where it is shown alone."""
+    page.tab.click_element("contrastShown")
+    page.slide("gamma", 0, -.5, -1)
+    gamma = page.tab.run("contrast.look.gamma")
+    expected = shades_through(page.window(), mask.samples, gamma)
+    check(gamma < .7 and all(abs(seen - shade) <= 1 for seen, shade in zip(page.mask_shades(), expected)),
+          "a gamma below 1 makes what is dark brighter")
+    page.tab.key("h")
+    amber = page.colour_at(206, 188)
+    page.tab.click_element("iceTable")
+    ice = page.colour_at(206, 188)
+    check(amber[0] > amber[2] and ice[2] > amber[2] + 20, "what is kept is amber, and blue once that table is taken")
+    page.tab.key("Tab")
+    check(len(set(page.colour_at(206, 188)[:3])) == 1, "the result alone stays grey")
+    page.tab.key("Tab")
+    check(page.tab.run("element('iceTable').disabled"), "the mask alone has no table")
+    page.tab.key("Tab")
+    page.tab.key("h")
+    page.tab.click_element("contrastShown")
+
+
 def own_host(sitting):
     """The page at `localhost` goes to 127.0.0.1, and stores nothing before."""
     page, address = sitting.first, sitting.program.address
@@ -812,6 +944,22 @@ def deep_mask(sitting):
     check_shown(page, program, sitting.masks["deep"], sitting.words.view, "16 bits")
 
 
+def hot_pixel(sitting):
+    """One hot pixel in a mask of 16 bits does not darken the others."""
+    page, program = sitting.first, sitting.program
+    sitting.open_anew("hot", "hot.spd")
+    deep, hot = (readers.read_image(sitting.masks[name].read_bytes()) for name in ("deep", "hot"))
+    check(page.window() == first_window(hot), "a mask of 16 bits is shown through a window by percentiles")
+    check(page.window()[1] <= max(deep.samples), "which leaves the hot pixel out")
+    shades = page.mask_shades()
+    check(shades == shades_through(first_window(hot), hot.samples), "the canvas shows the mask through that window")
+    without = shades_through(first_window(deep), deep.samples)
+    check(shades[1:] == without[1:], "and the others as without the hot pixel")
+    page.drag((83, 66), (101, 77))
+    page.settle(1)
+    check_shown(page, program, sitting.masks["hot"], sitting.words.view, "16 bits with a hot pixel")
+
+
 def take_pictures(sitting):
     """The pictures of the README: the work of two people, what it grew into, and a stroke about to be withdrawn."""
     first, second, folder = sitting.first, sitting.second, sitting.words.pictures
@@ -831,6 +979,9 @@ def take_pictures(sitting):
     second.tab.key("h")
     second.tab.mouse("mouseMoved", *second.at(140, 195))
     second.tab.screenshot(folder / "paint-result.png")
+    second.tab.key("c")
+    second.tab.click_element("magmaTable")
+    second.tab.screenshot(folder / "paint-contrast.png")
     first.tab.key("x")
     first.tab.mouse("mouseMoved", *first.at(270, 228))
     first.tab.screenshot(folder / "paint-withdraw.png")
@@ -839,8 +990,8 @@ def take_pictures(sitting):
 
 CHECKS = [paint_run_and_disc, undo_and_redo, withdraw_the_others, levels, long_gesture, at_the_border, strokes_shown,
           join_files, save_copy, zoom_and_pan, another_ratio, one_finger, two_fingers, pen, no_storage, full_storage,
-          reload_page, own_host, restart, restart_elsewhere, along_to_another_mask, restart_with_another_mask,
-          back_to_the_mask, saves_that_fail, slow_link, deep_mask]
+          reload_page, contrast, own_host, restart, restart_elsewhere, along_to_another_mask, restart_with_another_mask,
+          back_to_the_mask, saves_that_fail, slow_link, deep_mask, hot_pixel]
 
 
 def sit(words, folder):
