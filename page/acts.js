@@ -9,7 +9,8 @@ function paint(gesture, begun) {
   if (runs.length === 0) return;
   const level = String(limited(brush.level ?? highestUnder(runs), 1, MOST_LEVEL));
   element("level").value = level;
-  perform({ areThere: false, tags: [], strokes: shapesOf(gesture, runs).map(shape => ({ ...shape, level })) }, begun);
+  const strokes = shapesOf(gesture, runs).map(shape => ({ ...shape, level, inClass: brush.inClass }));
+  perform({ areThere: false, tags: [], strokes }, begun);
 }
 
 function shapesOf({ isDisc, last, radius }, runs) {
@@ -23,7 +24,9 @@ function shapesOf({ isDisc, last, radius }, runs) {
 }
 
 function takeBack(strokes) {
-  const kept = strokes.map(({ tag, kind, level, shape }) => ({ author: authorOf(tag), kind, level, shape }));
+  const kept = strokes.map(({ tag, kind, level, shape }) => {
+    return { author: authorOf(tag), inClass: classOf(tag), kind, level, shape };
+  });
   perform({ areThere: true, tags: strokes.map(stroke => stroke.tag), strokes: kept });
 }
 

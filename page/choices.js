@@ -1,6 +1,6 @@
 // ---- Choices: tool, size, level, view ----
 
-const brush = { radius: 6, level: null };  // a level of null stands for the highest under the stroke
+const brush = { radius: 6, level: null, inClass: 1 };  // a level of null stands for the highest under the stroke
 const press = (id, isPressed) => element(id).setAttribute("aria-pressed", isPressed);
 
 function setTool(tool) {

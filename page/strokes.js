@@ -12,8 +12,8 @@ function colourOf(writer) {
 function readStroke(line) {
   const [kind, tag, level, shape] = line.split(" ");
   const runs = kind === "disc" ? discRuns(shape) : shape.split(",").map(readRun);
-  const gesture = gestureOf(tag), colour = colourOf(authorOf(tag));
-  return { kind, tag, level, shape, runs, gesture, colour, box: boxOf(runs), outline: null };
+  const gesture = gestureOf(tag), inClass = classOf(tag), colour = colourOf(authorOf(tag));
+  return { kind, tag, level, shape, runs, gesture, inClass, colour, box: boxOf(runs), outline: null };
 }
 
 function readRun(text) {

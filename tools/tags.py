@@ -9,13 +9,27 @@ import os
 import uuid
 
 NUMBER_BITS, LABEL_BITS = 28, 32  # of a painted tag; two zero bits stand before the label
-DIGITS_OF_GESTURE = 28  # with which the tags of one gesture on the page begin
+DIGITS_OF_GESTURE = 28  # with which the tags of one gesture on the page begin, where they tell no class
+DIGITS_OF_CLASSED = 27  # and where they do
+CLASS_MARK = "e"  # digit 17 of tags that tell a class
 DIGITS_OF_LABEL = 25  # with which the painted tags of one label begin
 
 
 def object_of(tag):
     """The digits, in lower case, that the tags of all strokes of one object begin with, and no others."""
-    return tag.hex[:DIGITS_OF_LABEL if is_painted(tag) else DIGITS_OF_GESTURE]
+    if is_painted(tag):
+        return tag.hex[:DIGITS_OF_LABEL]
+    return tag.hex[:DIGITS_OF_CLASSED if told_class(tag) else DIGITS_OF_GESTURE]
+
+
+def told_class(tag):
+    """The class, 1 to 255, that a tag of the page tells, or 0 where it tells none."""
+    return int(tag.hex[28:30], 16) if tag.hex[16] == CLASS_MARK else 0
+
+
+def class_of(tag):
+    """The class of a stroke, 1 to 255: 1 where its tag tells none."""
+    return told_class(tag) or 1
 
 
 def is_painted(tag):
