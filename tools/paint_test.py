@@ -8,28 +8,21 @@ The words are the command that serves. It is started with a mask, `--state FILE`
 reconstruction of bench/fuzz, or with the program's own view where `--view` names it. The first check that fails ends
 the script with status 1. With `--pictures FOLDER` it writes the pictures of the README.
 
+The checks of painting and of what is kept stand here. Those of each other concern stand in a file
+`paint_test_NAME.py` beside this one, and are run behind them; with `--concern NAME` those of that file alone, and with
+`--concern paint` those of this one. `paint_testing.py` has what all of them share.
+
 It needs Python 3 and Debian's package chromium.
 """
 
-import argparse
-import base64
-import contextlib
-import math
+import importlib
 import pathlib
 import shutil
-import signal
-import subprocess
-import sys
-import tempfile
 import time
-import urllib.request
 
 from browser import ALT, CONTROL, SHIFT, Browser, Fault, wait_for
-
-TOP = pathlib.Path(__file__).resolve().parent.parent
-sys.path.insert(0, str(TOP / "bench" / "fuzz"))
-import readers  # noqa: E402
-import simulator  # noqa: E402
+from paint_testing import (Page, author_of, brushed, check, check_shown, end_with_fault, first_window, parser_of,
+                           percentiles, read_words, readers, shades_through, sit, write_state)
 
 MOST_SECONDS_TO_THE_OTHER = 0.5
 MINE = [[(51, 54), (60, 44)], [(84, 68), (98, 74)], [(120, 140), (127, 136)], [(200, 30)], [(206, 188)],
@@ -46,292 +39,6 @@ TEN_TIMES_THE_HASTE = """{ const wait = setTimeout, limit = AbortSignal.timeout.
     window.setTimeout = (act, milliseconds) => wait(act, hasty(milliseconds));
     AbortSignal.timeout = milliseconds => limit(hasty(milliseconds)); }"""
 SLOW_LINK = 40_000  # bytes a second
-COLLEAGUE = [b"disc 7e57ab1e-0000-4000-8000-00000000000%d %d %d:%d+2\n" % (k, level, y, x)
-             for k, (level, y, x) in enumerate([(200, 30, 40), (255, 188, 206), (255, 142, 285)])]
-
-
-def check(holds, name):
-    """Says that a check passed, or ends."""
-    if not holds:
-        raise Fault(f"failed: {name}")
-    print(f"ok: {name}", flush=True)
-
-
-# ---- The program ----
-
-class Program:
-    """The program that serves, with its mask, its state file and its port."""
-
-    def __init__(self, words, folder):
-        self.words, self.state, self.port = words, folder / "strokes.spd", 0
-        self.process, self.address = None, None
-
-    def start(self, mask):
-        """Starts it, at the port that it had, or else at a free one; the address is its first line."""
-        command = [*self.words, str(mask), "--state", str(self.state), "--port", str(self.port)]
-        self.process = subprocess.Popen(command, stdout=subprocess.PIPE, text=True)
-        self.address = self.process.stdout.readline().strip()
-        if not self.address:
-            raise Fault(f"{' '.join(command)} printed no address")
-        self.port = int(self.address.split(":")[2].split("/")[0])
-
-    def start_elsewhere(self, mask):
-        """Starts it at another port than it had."""
-        before = self.port
-        while self.port == before:
-            self.stop()
-            self.port = 0
-            self.start(mask)
-
-    def stop(self):
-        """Ends it as a terminal does."""
-        if self.process and self.process.poll() is None:
-            self.process.send_signal(signal.SIGINT)
-            try:
-                self.process.wait(5)
-            except subprocess.TimeoutExpired:
-                self.process.kill()
-                self.process.wait()
-
-    @contextlib.contextmanager
-    def paused(self):
-        """Meanwhile it does nothing, and its connections stay."""
-        self.process.send_signal(signal.SIGSTOP)
-        try:
-            yield
-        finally:
-            self.process.send_signal(signal.SIGCONT)
-
-    def get(self, path):
-        """What it answers to GET."""
-        with urllib.request.urlopen(self.address + path) as answer:
-            return answer.read()
-
-
-# ---- The page ----
-
-class Page:
-    """A page in a tab, by the places of the mask's pixels."""
-
-    def __init__(self, tab):
-        self.tab = tab
-        self.await_open()
-
-    def await_open(self):
-        """Waits until the picture is there."""
-        self.tab.wait("board.isOpen && document.title.includes('×')")
-
-    def at(self, x, y):
-        """Where a pixel of the mask lies in the window."""
-        return self.tab.run(f"""(() => {{
-            const box = overlay.getBoundingClientRect(), ratio = overlay.width / box.width;
-            return [Math.round(box.left + (sight.left + ({x} + .5) * sight.zoom) / ratio - .5),
-                    Math.round(box.top + (sight.top + ({y} + .5) * sight.zoom) / ratio - .5)]; }})()""")
-
-    def drag(self, *pixels, **more):
-        """Presses the button at the first pixel and lets it go at the last."""
-        self.tab.drag([self.at(*pixel) for pixel in pixels], **more)
-
-    def go(self, address):
-        """Goes to an address, and waits until the picture is there."""
-        self.tab.run("document.title = ''")
-        self.tab.go(address)
-        self.await_open()
-
-    def move_to(self, address):
-        """Enters an address where the page asks for a new one, and waits until its picture is there."""
-        self.tab.run("element('newAddress').value = '', document.title = ''")
-        self.tab.click_element("newAddress")
-        self.tab.type(address)
-        self.tab.click_element("goThere")
-        self.await_open()
-
-    def strokes(self):
-        """The live strokes that the page knows, as lines."""
-        return self.tab.run("[...board.strokes.values()].map(({ kind, tag, level, shape }) =>"
-                            " `${kind} ${tag} ${level} ${shape}`)")
-
-    def author(self):
-        """What the tags of its own strokes begin with, as its cookie says."""
-        return self.tab.run("/seedpaint-author=([0-9a-f]{16})/.exec(document.cookie)?.[1]")
-
-    def painted(self, number):
-        """A stroke that the page knows, and its pixels."""
-        (stroke,) = readers.read_edits(self.strokes()[number].encode())[0].strokes.values()
-        size = self.tab.run("[board.width, board.height]")
-        return stroke, set(simulator.pixels_of(stroke.shape, *size))
-
-    def settle(self, count, seconds=20):
-        """Waits until all edits are answered and grown, and so many strokes are there."""
-        self.tab.wait(f"outbox.length === 0 && board.isQuiet && board.strokes.size === {count}", seconds)
-
-    def shades(self):
-        """The red parts of the picture on the canvas, row by row, where the zoom is 100 % and all is in sight."""
-        text = self.tab.run("""new Promise(done => requestAnimationFrame(() => requestAnimationFrame(() => {
-            const pixels = pictureContext.getImageData(screenX(0), screenY(0), board.width, board.height).data;
-            let text = "";
-            for (let k = 0; k < pixels.length; k += 4) text += String.fromCharCode(pixels[k]);
-            done(btoa(text)); })))""")
-        return list(base64.b64decode(text))
-
-    def result_shades(self):
-        """The shades of the result alone, without strokes, pixel for pixel."""
-        return self.shades_behind(1)
-
-    def mask_shades(self):
-        """The shades of the mask alone, without strokes, pixel for pixel."""
-        return self.shades_behind(2)
-
-    def shades_behind(self, tabs):
-        """The shades of the view to which so many tabs lead."""
-        for key in ("h", *("Tab",) * tabs, "0", "1"):
-            self.tab.key(key)
-        shades = self.shades()
-        for _ in range(tabs):
-            self.tab.key("Tab", SHIFT)
-        self.tab.key("h")
-        self.tab.key("0")
-        return shades
-
-    def window(self):
-        """The low and the high value through which the picture is shown."""
-        return self.tab.run("[contrast.look.low, contrast.look.high]")
-
-    def slide(self, name, *values):
-        """Drags the handle of a slider from value to value. It is taken to be ten pixels wide."""
-        left, width, middle, least, most = self.tab.run(f"""(() => {{
-            const box = element('{name}').getBoundingClientRect(), {{ min, max }} = element('{name}');
-            return [box.x, box.width, box.y + box.height / 2, Number(min), Number(max)]; }})()""")
-        self.tab.drag([(left + 5 + (value - least) * (width - 10) / (most - least), middle) for value in values])
-
-    def colour_at(self, x, y):
-        """The colour of a pixel of the mask on the canvas."""
-        return self.tab.run(f"""new Promise(done => requestAnimationFrame(() => requestAnimationFrame(() => {{
-            const data = pictureContext.getImageData(screenX({x}), screenY({y}), 1, 1).data;
-            done([...data]); }})))""")
-
-    def under_pointer(self):
-        """What the foot says of the pixel under the pointer."""
-        return self.tab.text("pixel").split(" · mask")[0]
-
-
-# ---- What is expected ----
-
-def author_of(line):
-    """The author in the tag of a stroke's line."""
-    return line.split(" ")[1].replace("-", "")[:16]
-
-
-def brushed(path, radius, width):
-    """The pixels of discs at all pixels of the lines between the pixels of a path, away from the picture's border."""
-    centres = set()
-    for (x0, y0), (x1, y1) in zip(path, path[1:]):
-        steps = max(abs(x1 - x0), abs(y1 - y0))
-        centres |= {((2 * (x0 * steps + (x1 - x0) * k) + steps) // (2 * steps),
-                     (2 * (y0 * steps + (y1 - y0) * k) + steps) // (2 * steps)) for k in range(steps + 1)}
-    around = range(-radius, radius + 1)
-    return {(y + down) * width + x + across for x, y in centres for down in around for across in around
-            if across * across + down * down <= radius * radius}
-
-
-def reference(program, mask, view):
-    """The raw file that the strokes of the program grow into, by the plain reference or by the program's view."""
-    data = program.get("strokes") + b"image\n" + mask.read_bytes()
-    if view:
-        return subprocess.run([view, "view"], input=data, stdout=subprocess.PIPE, check=True).stdout
-    return simulator.view(data, 4).output
-
-
-def percentiles(image, cut=0.1):
-    """The samples behind which so many percent lie at either end."""
-    samples = sorted(image.samples)
-    ranks = [math.ceil(share * len(samples)) for share in (cut / 100, 1 - cut / 100)]
-    return [samples[max(1, rank) - 1] for rank in ranks]
-
-
-def first_window(image):
-    """The low and the high value through which a mask is shown at first."""
-    return [0, image.maxval] if image.maxval < 256 else percentiles(image)
-
-
-def shades_through(window, samples, gamma=1):
-    """The grey shades in which samples are shown through a window."""
-    low, high = window
-    inside = [min(max(sample, low), high) - low for sample in samples]
-    if gamma == 1:
-        return [sample * 255 // (high - low) for sample in inside]
-    return [math.floor(255 * (sample / (high - low)) ** gamma) for sample in inside]
-
-
-def shades_of(raw, mask):
-    """The grey shades in which the samples of a raw file are shown at first."""
-    window = first_window(readers.read_image(mask.read_bytes()))
-    return shades_through(window, readers.read_image(raw).samples)
-
-
-def check_shown(page, program, mask, view, name):
-    """The canvas shows the reference, and `image` is it."""
-    raw = reference(program, mask, view)
-    check(program.get("image") == raw, f"{name}: `image` is the reference")
-    check(page.result_shades() == shades_of(raw, mask), f"{name}: the canvas's pixels are those of the reference")
-    check(sorted(page.strokes()) == sorted(program.get("strokes").decode().splitlines()), f"{name}: the strokes, too")
-
-
-# ---- The masks ----
-
-def write_masks(folder):
-    """The cells of the examples with 8 and with 16 bits, these with one hot pixel, and grains as another mask."""
-    cells = readers.read_image(readers.split_input((TOP / "examples" / "cells.txt").read_bytes())[1])
-    deep = cells._replace(maxval=65_535, samples=[sample * 16 + 15 for sample in cells.samples])
-    grains = subprocess.run([sys.executable, str(TOP / "examples" / "grains.py")], stdout=subprocess.PIPE, check=True)
-    hot = deep._replace(samples=[65_535, *deep.samples[1:]])
-    masks = {"cells": simulator.raw_file(cells), "deep": simulator.raw_file(deep), "hot": simulator.raw_file(hot),
-             "grains": simulator.raw_file(readers.read_image(grains.stdout))}
-    for name, data in masks.items():
-        (folder / f"{name}.pgm").write_bytes(data)
-    return {name: folder / f"{name}.pgm" for name in masks}
-
-
-def write_state(path, mask):
-    """A colleague's state file for a mask."""
-    raw = mask.read_bytes()
-    state = simulator.EMPTY
-    for delta in readers.read_edits(b"".join(COLLEAGUE)):
-        state = simulator.join(state, delta)
-    path.write_bytes(simulator.state_file(4, simulator.fingerprint_of(readers.read_image(raw)), state))
-
-
-# ---- The checks, in the order of a sitting ----
-
-class Sitting:
-    """Two people with a browser each, one program, and what a check of them needs."""
-
-    def __init__(self, words, folder, browsers):
-        self.words, self.folder, self.masks = words, folder, write_masks(folder)
-        self.program = Program(words.command, folder)
-        self.program.start(self.masks["cells"])
-        self.first, self.second = (Page(browser.open(self.program.address)) for browser in browsers)
-
-    def shown(self, name):
-        """The first page shows the reference."""
-        check_shown(self.first, self.program, self.masks["cells"], self.words.view, name)
-
-    def open_anew(self, mask, state):
-        """Starts the program over another mask or state file, and opens its page in both tabs."""
-        self.program.stop()
-        self.program.state = self.folder / state
-        self.program.start(self.masks[mask])
-        self.go_on()
-
-    def go_on(self):
-        """Opens the page under the program's address in both tabs."""
-        for page in (self.first, self.second):
-            page.go(self.program.address)
-
-    def both(self, count):
-        """Both pages have so many strokes, all of them grown."""
-        self.first.settle(count)
-        self.second.settle(count)
 
 
 def paint_run_and_disc(sitting):
@@ -674,9 +381,7 @@ def reload_page(sitting):
     page, before = sitting.first, sorted(sitting.first.strokes())
     page.drag((285, 200), (292, 204))
     page.settle(7)
-    page.tab.run("document.title = ''")
-    page.tab.call("Page.reload")
-    page.await_open()
+    page.reload()
     page.settle(7)
     check(True, "a reload loses nothing")
     page.tab.key("z", CONTROL)
@@ -693,9 +398,7 @@ def contrast(sitting):
     window_by_pointer(page, mask)
     gamma_and_colours(page, mask)
     look = page.tab.run("JSON.stringify(contrast.look)")
-    page.tab.run("document.title = ''")
-    page.tab.call("Page.reload")
-    page.await_open()
+    page.reload()
     check(page.tab.run("JSON.stringify(contrast.look)") == look, "a reload keeps the contrast")
     sitting.open_anew("cells", sitting.program.state.name)
     check(page.tab.run("JSON.stringify(contrast.look)") == look, "so does a restart")
@@ -919,7 +622,7 @@ def saves_that_fail(sitting):
 
 def slow_link(sitting):
     """Over a slow link the page opens all the same, and says how far it is; a program that stands still is told."""
-    sitting.open_anew("deep", "deep.spd")
+    sitting.open_anew("deep", "slow.spd")
     with Browser() as browser:
         tab = browser.open("about:blank", TEN_TIMES_THE_HASTE)
         tab.slow_down(SLOW_LINK)
@@ -937,6 +640,7 @@ def slow_link(sitting):
 def deep_mask(sitting):
     """A mask of 16 bits."""
     page, program = sitting.first, sitting.program
+    sitting.open_anew("deep", "deep.spd")
     page.drag((83, 66), (101, 77))
     page.drag((206, 188))
     page.settle(2)
@@ -994,50 +698,24 @@ CHECKS = [paint_run_and_disc, undo_and_redo, withdraw_the_others, levels, long_g
           back_to_the_mask, saves_that_fail, slow_link, deep_mask, hot_pixel]
 
 
-def sit(words, folder):
-    """All checks; behind each, neither page has thrown or broken its policy."""
-    with Browser() as one, Browser() as other:
-        sitting = Sitting(words, folder, (one, other))
-        try:
-            for each in CHECKS:
-                each(sitting)
-                faults = sitting.first.tab.faults() + sitting.second.tab.faults()
-                if faults:
-                    raise Fault(f"{each.__name__}: {faults}")
-            check(True, "no exception, and no report of the content security policy")
-            if words.pictures:
-                take_pictures(sitting)
-        finally:
-            if words.look:
-                sitting.first.tab.screenshot(words.look)
-            sitting.program.stop()
-
-
-def read_words():
-    """The words of the command line."""
-    parser = argparse.ArgumentParser(description="Test the page of `seedpaint paint` in Chromium.")
-    parser.add_argument("--view", metavar="PROGRAM", help="compare with `PROGRAM view`, not with the plain reference")
-    parser.add_argument("--pictures", type=pathlib.Path, metavar="FOLDER", help="write the README's pictures there")
-    parser.add_argument("--look", type=pathlib.Path, metavar="FILE", help="write a picture of the end, or of a failure")
-    parser.add_argument("command", nargs=argparse.REMAINDER, help="the words that serve, as `seedpaint paint`")
-    words = parser.parse_args()
-    if not words.command:
-        parser.error("the command that serves is missing")
-    if not shutil.which(words.command[0]):
-        parser.error(f"{words.command[0]} is not there; `rt run` in crates/seedpaint makes the program")
-    return words
+def concerns():
+    """The checks of each concern, by its name: those of this file, and of the files `paint_test_NAME.py` beside it."""
+    found = {"paint": CHECKS}
+    for path in sorted(pathlib.Path(__file__).resolve().parent.glob("paint_test_*.py")):
+        found[path.stem.removeprefix("paint_test_")] = importlib.import_module(path.stem).CHECKS
+    return found
 
 
 def main():
-    """Run the checks in a folder that is thrown away."""
-    words = read_words()
-    folder = pathlib.Path(tempfile.mkdtemp(prefix="paint-test-"))
-    try:
-        sit(words, folder)
-    except (Fault, OSError) as fault:
-        sys.exit(f"paint_test.py: {fault}")
-    finally:
-        shutil.rmtree(folder, ignore_errors=True)
+    """Run the checks of each concern in a sitting of its own."""
+    parser, found = parser_of(__doc__), concerns()
+    parser.add_argument("--pictures", type=pathlib.Path, metavar="FOLDER", help="write the README's pictures there")
+    parser.add_argument("--concern", action="append", choices=list(found), help="run the checks of this one alone")
+    words = read_words(parser)
+    for name in words.concern or found:
+        print(f"-- {name}", flush=True)
+        behind = take_pictures if words.pictures and name == "paint" else None
+        end_with_fault(lambda name=name, behind=behind: sit(words, found[name], behind))
 
 
 if __name__ == "__main__":
