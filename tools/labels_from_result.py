@@ -34,10 +34,12 @@ def parts_of(kept, conn):
     return measure.label(kept, connectivity=1 if conn == 4 else 2)
 
 
-def flooded(relief, kept, places, owners, conn):
-    """The owner of each kept pixel by a watershed of the relief from the seeds at these places.
+def flooded(values, kept, places, owners, conn):
+    """The owner of each kept pixel: who reaches it first, where the pixels are taken from the greatest value down.
 
-    Parts with seeds of one owner alone need no flood.
+    Of equal ones who was reached first is taken first, and the seeds at these places before all of them, from the least
+    owner on. So no order of neighbours counts, and none of the seeds of one owner. Parts with seeds of one owner alone
+    need no flood.
     """
     parts = parts_of(kept, conn)
     least, greatest = ends_of_owners(parts, places, owners)
@@ -47,6 +49,8 @@ def flooded(relief, kept, places, owners, conn):
         tell("parts with several objects are flooded")
         markers = numpy.zeros(kept.shape, dtype=numpy.int32)
         markers.ravel()[places[::-1]] = owners[::-1] + 1
+        relief = -values.astype(numpy.float64)
+        relief -= numpy.where(markers > 0, 0.5 - markers / (2 * (owners.max() + 2)), 0)
         basins = segmentation.watershed(relief, markers * shared, connectivity=1 if conn == 4 else 2, mask=shared)
         result[shared] = basins[shared] - 1
     return result
@@ -70,7 +74,7 @@ def kept_by_share(result, seeds, light, share, conn):
     thresholds = numpy.maximum(share * own, 1)
     floor = result >= thresholds.min()
     lit = (light == result.ravel()[seeds.places]) & floor.ravel()[seeds.places]
-    owners = flooded(-result, floor, seeds.places[lit], seeds.owners[lit], conn)
+    owners = flooded(result, floor, seeds.places[lit], seeds.owners[lit], conn)
     return floor & (result >= numpy.append(thresholds, 1)[owners])
 
 
