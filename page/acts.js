@@ -1,7 +1,19 @@
-// ---- Acts: gestures and withdrawals, which undo and redo take back in turns ----
+// ---- Acts, which undo and redo take back in turns: strokes placed, withdrawn, or put in the place of others ----
+
+// An act has sides. The strokes of a side are there, under tags, or they are not. Turning an act withdraws those that
+// are there and places the others, in one edit.
 
 let done = [], undone = [];
-const MOST_KEPT_ACTS = 100;
+const MOST_KEPT_ACTS = 100, MOST_KEPT_SIGNS = 1000000;
+const MOST_EDIT = 4 << 20;  // bytes that one request carries
+
+const sideThere = strokes => ({ areThere: true, tags: strokes.map(({ tag }) => tag), strokes: strokes.map(asPlaced) });
+const sideToCome = strokes => ({ areThere: false, tags: [], strokes });
+
+/** What places a live stroke once more, as its author's, in its class. Those of one gesture stay one. */
+function asPlaced({ tag, kind, level, shape, gesture }) {
+  return { author: authorOf(tag), inClass: classOf(tag), kind, level, shape, gesture };
+}
 
 /** Sends a gesture. A disc stays a disc; runs are cut into strokes. */
 function paint(gesture, begun) {
@@ -10,40 +22,57 @@ function paint(gesture, begun) {
   const level = String(limited(brush.level ?? highestUnder(runs), 1, MOST_LEVEL));
   element("level").value = level;
   const strokes = shapesOf(gesture, runs).map(shape => ({ ...shape, level, inClass: brush.inClass }));
-  perform({ areThere: false, tags: [], strokes }, begun);
+  perform([sideToCome(strokes)], begun);
 }
 
 function shapesOf({ isDisc, last, radius }, runs) {
   if (isDisc && holds(wholeBoard(), last)) return [{ kind: "disc", shape: `${last.y}:${last.x}+${radius}` }];
-  const shapes = [];
-  for (let from = 0; from < runs.length; from += MOST_RUNS) {
-    const shape = runs.slice(from, from + MOST_RUNS).map(({ y, first, last }) => `${y}:${first}-${last}`).join(",");
-    shapes.push({ kind: "place", shape });
-  }
-  return shapes;
+  return shapesOfRuns(runs).map(shape => ({ kind: "place", shape }));
 }
 
 function takeBack(strokes) {
-  const kept = strokes.map(({ tag, kind, level, shape }) => {
-    return { author: authorOf(tag), inClass: classOf(tag), kind, level, shape };
-  });
-  perform({ areThere: true, tags: strokes.map(stroke => stroke.tag), strokes: kept });
+  perform([sideThere(strokes)]);
+}
+
+/** Withdraws live strokes and places others (with author, inClass, kind, level and shape) for them. */
+function replaceStrokes(strokes, others, begun) {
+  const sides = [sideThere(strokes), sideToCome(others)].filter(side => side.strokes.length > 0);
+  if (sides.length > 0) perform(sides, begun);
 }
 
 function perform(act, begun) {
-  turn(act, begun);
+  if (!turn(act, begun)) return;
   done.push(act);
   undone = [];
   keepActs();
 }
 
-/** Withdraws the strokes of an act, or places them: under new tags, since a withdrawn tag never comes back. */
+/** Turns an act, under new tags, since a withdrawn tag never comes back. Says whether one request carries it. */
 function turn(act, begun = performance.now()) {
-  if (!act.areThere) act.tags = newTags(act.strokes);
-  const lines = act.areThere ? act.tags.map(tag => `withdraw ${tag}`)
-    : act.strokes.map(({ kind, level, shape }, k) => `${kind} ${act.tags[k]} ${level} ${shape}`);
-  act.areThere = !act.areThere;
-  sendEdit(`${lines.join("\n")}\n`, begun);
+  const turned = act.map(({ areThere, strokes }) => {
+    return { areThere: !areThere, tags: areThere ? [] : tagsFor(strokes), strokes };
+  });
+  const body = `${act.flatMap((side, k) => side.areThere ? withdrawing(side) : placing(turned[k])).join("\n")}\n`;
+  if (body.length > MOST_EDIT) {
+    sayFault("That is more than one request carries (4 MiB). Nothing was changed: do it in parts.");
+    return false;
+  }
+  act.splice(0, act.length, ...turned);
+  sendEdit(body, begun);
+  return true;
+}
+
+const withdrawing = ({ tags }) => tags.map(tag => `withdraw ${tag}`);
+const lineOf = ({ kind, level, shape }, tag) => `${kind} ${tag} ${level} ${shape}`;
+const placing = ({ tags, strokes }) => strokes.map((stroke, k) => lineOf(stroke, tags[k]));
+
+/** New tags for strokes. What was one gesture is one again, and strokes without one are a gesture of their own. */
+function tagsFor(strokes) {
+  const tags = new Map();
+  for (const gesture of Map.groupBy(strokes, stroke => stroke.gesture).values()) {
+    newTags(gesture).forEach((tag, k) => tags.set(gesture[k], tag));
+  }
+  return strokes.map(stroke => tags.get(stroke));
 }
 
 const undo = () => turnLast(done, undone);
@@ -52,24 +81,39 @@ const redo = () => turnLast(undone, done);
 /** Turns the last act that still counts: others may have withdrawn its strokes, or they were refused. */
 function turnLast(from, to) {
   let act = from.pop();
-  while (act && act.areThere && !act.tags.some(isThere)) act = from.pop();
-  if (act) {
-    turn(act);
-    to.push(act);
-  }
+  while (act && !stillCounts(act)) act = from.pop();
+  if (act) (turn(act) ? to : from).push(act);
   keepActs();
+}
+
+function stillCounts(act) {
+  const there = act.filter(side => side.areThere);
+  return there.length === 0 || there.some(side => side.tags.some(isThere));
 }
 
 const isThere = tag => board.strokes.has(tag) || outbox.some(edit => edit.strokes.some(stroke => stroke.tag === tag));
 
 /** Keeps the last acts over a reload of the page. */
 function keepActs() {
-  const last = [done, undone].map(acts => acts.slice(-MOST_KEPT_ACTS));
-  session.set(`acts ${board.fingerprint}`, JSON.stringify(last));
+  session.set(`acts ${board.fingerprint}`, JSON.stringify([done, undone].map(lastOf)));
   sayActs();
 }
 
+/** So many of the last acts, and no more than their texts allow. */
+function lastOf(acts) {
+  let first = acts.length, signs = 0;
+  while (first > 0 && acts.length - first < MOST_KEPT_ACTS && signs < MOST_KEPT_SIGNS) {
+    first--;
+    signs += lengthOf(acts[first]);
+  }
+  return acts.slice(first);
+}
+
+const lengthOf = act => act.flatMap(side => side.strokes).reduce((sum, { shape }) => sum + shape.length, 0);
+
+/** Reads what was kept. An act of earlier pages is its one side. */
 function recallActs() {
-  [done, undone] = JSON.parse(session.get(`acts ${board.fingerprint}`) ?? "[[],[]]");
+  const kept = JSON.parse(session.get(`acts ${board.fingerprint}`) ?? "[[],[]]");
+  [done, undone] = kept.map(acts => acts.map(act => Array.isArray(act) ? act : [act]));
   sayActs();
 }

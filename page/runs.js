@@ -45,9 +45,19 @@ function runsOf(rows) {
   return [...rows.values()].flat().sort((one, other) => one.y - other.y || one.first - other.first);
 }
 
+/** The texts of strokes that have the runs, of which one stroke takes so many. */
+function shapesOfRuns(runs) {
+  const shapes = [];
+  for (let from = 0; from < runs.length; from += MOST_RUNS) {
+    shapes.push(runs.slice(from, from + MOST_RUNS).map(({ y, first, last }) => `${y}:${first}-${last}`).join(","));
+  }
+  return shapes;
+}
+
 function highestUnder(runs) {
   let highest = 0;
   for (const { y, first, last } of runs) {
+    if (highest === board.maxval) break;
     for (let pixel = y * board.width + first, end = y * board.width + last; pixel <= end; pixel++) {
       if (board.mask[pixel] > highest) highest = board.mask[pixel];
     }

@@ -1,7 +1,7 @@
 // ---- Strokes ----
 
-// Colours by author: none, one's own, and those of others.
-const COLOURS = [null, [56, 197, 242], [240, 98, 200], [110, 214, 108], [167, 139, 250], [255, 106, 84]];
+// Colours by author: none, one's own, and those of others. Who sees no red, or no green, can tell them apart, too.
+const COLOURS = [null, [86, 180, 233], [240, 228, 66], [204, 121, 167], [213, 94, 0], [0, 158, 115]];
 const cssColour = (colour, opacity = 1) => `rgb(${COLOURS[colour].join(" ")} / ${opacity})`;
 
 function colourOf(writer) {
