@@ -14,6 +14,7 @@ function openBoard({ width, height, maxval, samples }, fingerprint) {
   board.marks = new Uint8Array(width * height);
   makeBlocks();
   openContrast();
+  openClasses();
   setView("kept");
 }
 
@@ -22,5 +23,6 @@ function clearBoard() {
   board.image.fill(0);
   board.marks.fill(0);
   board.strokes.clear();
+  liveClasses.clear();
   soil(wholeBoard());
 }

@@ -129,4 +129,4 @@ function giveKeysBack() {
 }
 
 /** Whether a key in the panel goes on to the next element of it, or acts on that which has the focus. */
-const isForPanel = ({ target, key }) => element("contrast").contains(target) && [" ", "Tab"].includes(key);
+const isForPanel = ({ target, key }) => target.closest?.("aside") && [" ", "Tab"].includes(key);

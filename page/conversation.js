@@ -75,7 +75,9 @@ function takeAnswer(answer) {
   answer.edits.forEach(takeLine);
   if (answer.rectangles.length > 0) sayPixel();
   if (answer.edits.length > 0) {
+    followClasses();
     sayCounts();
+    sayClasses();
     hover();
   }
   if (answer.isQuiet && !board.isQuiet) redrawOverlay();

@@ -68,8 +68,9 @@ function drawOverlay() {
   if (!board.isOpen) return;
   overlayContext.setTransform(sight.zoom, 0, 0, sight.zoom, Math.round(sight.left), Math.round(sight.top));
   for (const edit of outbox) edit.strokes.forEach(drawWaiting);
-  if (hand.gesture) drawRuns([...hand.gesture.rows.values()].flat(), cssColour(1, .6));
+  if (hand.gesture) drawRuns([...hand.gesture.rows.values()].flat(), cssInHand(.6));
   if (hand.hovered) drawHovered(hand.hovered);
+  drawPointed();
   if (hand.pixel && hand.tool === "brush" && !hand.pan && !hand.stretch) drawBrush(hand.pixel);
 }
 
@@ -79,7 +80,7 @@ function drawRuns(runs, colour) {
 }
 
 function drawWaiting(stroke) {
-  drawRuns(stroke.runs, cssColour(stroke.colour, .5));
+  drawRuns(stroke.runs, cssMark(stroke, .5));
   drawOutline(stroke, "#ffc46b", 1.5);
 }
 

@@ -15,7 +15,7 @@ function pointerDown(event) {
   hover();
   if (event.button === 1 || (event.button === 0 && hand.isSpaceHeld)) startPan();
   else if (event.button === 2) startStretch();
-  else if (event.button === 0 && hand.tool === "withdraw") hand.aim = hand.hovered;
+  else if (event.button === 0 && hand.tool === "withdraw") aim();
   else if (event.button === 0 && event.altKey) takeLevel();
   else if (event.button === 0) startGesture();
   showCursor();
@@ -35,11 +35,19 @@ function stretch({ from, window }) {
   setLook(draggedWindow(window, across, down, board.maxval));
 }
 
+/** Aims at the stroke under the pointer, or says that it is locked. */
+function aim() {
+  hand.aim = hand.hovered;
+  const locked = hand.aim ? null : strokeAt(hand.pixel, ({ inClass }) => isLockedClass(inClass));
+  if (locked) sayLocked(locked.inClass);
+}
+
 function takeLevel() {
   if (holds(wholeBoard(), hand.pixel)) setLevel(board.mask[hand.pixel.y * board.width + hand.pixel.x]);
 }
 
 function startGesture() {
+  if (!letsPaint()) return;
   hand.gesture = { rows: new Map(), last: hand.pixel, radius: brush.radius, isDisc: true };
   addDisc(hand.gesture.rows, hand.pixel, brush.radius);
   redrawOverlay();

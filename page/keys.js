@@ -10,8 +10,7 @@ const KEYS = {
   p: setByPercentiles,
   "[": () => stepRadius(-1),
   "]": () => stepRadius(1),
-  0: fit,
-  1: () => zoomTo(1, hand.point ?? screenMiddle()),
+  k: () => toggleClasses(true),
   "+": () => zoomStep(1, hand.point ?? screenMiddle()),
   "-": () => zoomStep(-1, hand.point ?? screenMiddle()),
   "?": () => toggleHelp(),
@@ -31,6 +30,8 @@ function actionOf(event) {
   if (isCommand && key === "y") return redo;
   if (key === " ") return () => holdSpace(true);
   if (key === "tab") return () => nextView(event.shiftKey ? -1 : 1);
+  if (key === "f" && !isCommand) return event.shiftKey ? pixelForPixel : fit;
+  if (/^\d$/.test(key) && !isCommand && !event.altKey) return () => typeDigit(event);
   if (key === "escape") return () => { dropHand(); element("help").hidden = true; };
   return isCommand && key !== "[" && key !== "]" ? undefined : KEYS[key];
 }
@@ -40,13 +41,16 @@ function holdSpace(isHeld) {
   showCursor();
 }
 
+const pixelForPixel = () => zoomTo(1, hand.point ?? screenMiddle());
+
 function toggleHelp() {
   element("help").hidden = !element("help").hidden;
 }
 
 const BUTTONS = {
   brush: KEYS.b, withdraw: KEYS.x, autoLevel: KEYS.a, mostLevel: KEYS.m, strokesShown: KEYS.h, fit, undo, redo,
-  contrastShown: () => toggleContrast(false),
+  contrastShown: () => toggleContrast(false), classesShown: () => toggleClasses(false),
+  byClass: () => markBy("class"), byAuthor: () => markBy("author"),
   showKept: () => setView("kept"), showResult: () => setView("result"), showMask: () => setView("mask"),
   helpButton: toggleHelp, reload: () => location.reload(), goThere: () => goTo(element("newAddress").value.trim()),
   saveStray, saveWaiting: () => saveEdits(board.fingerprint, waitingBodies()),

@@ -74,7 +74,7 @@ function sayIn(id, text) {
   if (element(id).textContent !== text) element(id).textContent = text;
 }
 
-/** How many strokes there are, one's own and those of others, each in its colour. */
+/** How many strokes there are, one's own and those of others, each in its colour where that is drawn. */
 function sayCounts() {
   const counts = COLOURS.map(() => 0);
   for (const { colour } of board.strokes.values()) counts[colour]++;
@@ -85,7 +85,7 @@ function sayCounts() {
 
 function count(colours, text) {
   const whole = document.createElement("span");
-  whole.append(...colours.map(dot), text);
+  whole.append(...marking.isByClass ? [] : colours.map(dot), text);
   return whole;
 }
 

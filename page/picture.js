@@ -6,7 +6,6 @@ const overlay = element("overlay"), overlayContext = overlay.getContext("2d");
 let blocks = [];
 
 const view = { name: "kept", areStrokesShown: true, maskColours: null, resultColours: null };  // colours by samples
-const halfColours = COLOURS.map(colour => colour ? packed(colour.map(part => part >> 1), 128) : 0);
 
 /** Finds anew in which colours samples are shown. */
 function recolour() {

@@ -4,6 +4,7 @@ function start() {
   author = keptAuthor();
   listenToButtons();
   listenToContrast();
+  listenToClasses();
   listenToPointer();
   listenToKeys();
   listenToFiles();
@@ -13,6 +14,7 @@ function start() {
   setRadius(brush.radius);
   press("strokesShown", true);
   press("contrastShown", false);
+  press("classesShown", false);
   open().catch(() => {
     showBanner("The picture could not be fetched: the program does not answer at this address.", ["reload"]);
   });

@@ -41,6 +41,7 @@ function boxOf(runs) {
 
 function putStroke(stroke) {
   board.strokes.set(stroke.tag, stroke);
+  addToObjects(stroke);
   markWithin(stroke, stroke.box);
   soil(stroke.box);
 }
@@ -49,32 +50,21 @@ function dropStroke(tag) {
   const gone = board.strokes.get(tag);
   if (!gone) return;
   board.strokes.delete(tag);
-  markWithin({ ...gone, colour: 0 }, gone.box);
+  takeFromObjects(gone);
+  fillMarks(gone.runs, gone.box, 0);
   for (const stroke of board.strokes.values()) if (meets(stroke.box, gone.box)) markWithin(stroke, gone.box);
   soil(gone.box);
 }
 
-/** Marks the pixels of a stroke that lie in a box with its colour. */
-function markWithin({ runs, colour }, box) {
-  for (const { y, first, last } of runs) {
-    if (y < box.top || y >= box.bottom) continue;
-    const from = Math.max(first, box.left), to = Math.min(last + 1, box.right);
-    if (from < to) board.marks.fill(colour, y * board.width + from, y * board.width + to);
-  }
-}
-
-/** The topmost live stroke on a pixel, but for those whose withdrawal waits. */
-function strokeAt(pixel) {
+/** The topmost live stroke on a pixel that a click can take, but for those whose withdrawal waits. */
+function strokeAt(pixel, isMeant = isWithinReach) {
   const leaving = new Set(outbox.flatMap(edit => edit.withdrawn));
   let topmost = null;
   for (const stroke of board.strokes.values()) {
-    if (holds(stroke.box, pixel) && isUnder(stroke, pixel) && !leaving.has(stroke.tag)) topmost = stroke;
+    const isHere = holds(stroke.box, pixel) && isUnder(stroke, pixel);
+    if (isHere && isMeant(stroke) && !leaving.has(stroke.tag)) topmost = stroke;
   }
   return topmost;
 }
 
 const isUnder = ({ runs }, { x, y }) => runs.some(run => run.y === y && run.first <= x && x <= run.last);
-
-function strokesOfGesture(gesture) {
-  return [...board.strokes.values()].filter(stroke => stroke.gesture === gesture);
-}
