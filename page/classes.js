@@ -4,7 +4,7 @@ const MOST_CLASS = 255, MOST_NAME = 60;
 
 const classes = {
   kept: new Map(),  // of each class what is not as at first: name, colour, isHidden, isLocked, isListed
-  listeners: [],    // called with the number of a class that changed, or with 0 where all may have
+  listeners: [],    // called with the number of a class and what changed of it, or with 0 where all may have
 
   /** What is known of a class. */
   get(number) {
@@ -18,15 +18,15 @@ const classes = {
     if (Object.keys(kept).length > 0) this.kept.set(number, kept);
     else this.kept.delete(number);
     keepClasses();
-    this.tell(number);
+    this.tell(number, change);
   },
 
   listen(listener) {
     this.listeners.push(listener);
   },
 
-  tell(number) {
-    for (const listener of this.listeners) listener(number);
+  tell(number, change) {
+    for (const listener of this.listeners) listener(number, change);
   },
 };
 
@@ -93,7 +93,7 @@ function keepClasses() {
 /** Takes up what was kept of the classes of this mask, here or in another tab. */
 function recallClasses() {
   classes.kept = readClasses(local.get(classesName()));
-  classes.tell(0);
+  classes.tell(0, {});
 }
 
 // ---- Numbers that are typed ----

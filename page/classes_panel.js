@@ -9,7 +9,7 @@ function showClasses(isShown, isByKey = false) {
   press("classesShown", isShown);
   if (!isShown) return;
   drawClasses();
-  if (isByKey) classRows.get(brush.inClass).name.previousElementSibling.previousElementSibling.focus();
+  if (isByKey) classRows.get(brush.inClass).pick.focus();
 }
 
 const toggleClasses = isByKey => showClasses(element("classes").hidden, isByKey);

@@ -230,7 +230,7 @@ def zoom_and_pan(sitting):
     page.tab.drag([goal, point], button="middle")
     check(page.under_pointer() == "x 123 · y 87", "so does the middle button")
     check_zoom_limits(page, point)
-    page.tab.key("0")
+    page.tab.key("f")
 
 
 def check_seen_pixel(page, point):
@@ -314,7 +314,7 @@ def two_fingers(sitting):
     page.tab.touch()
     time.sleep(0.3)
     check(page.strokes() == strokes and page.tab.run("outbox.length") == 0, "nothing of it is painted")
-    page.tab.key("0")
+    page.tab.key("f")
 
 
 def pen(sitting):

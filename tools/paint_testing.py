@@ -40,7 +40,7 @@ import tempfile
 import time
 import urllib.request
 
-from browser import Browser, Fault, wait_for
+from browser import SHIFT, Browser, Fault, wait_for
 
 TOP = pathlib.Path(__file__).resolve().parent.parent
 sys.path.insert(0, str(TOP / "bench" / "fuzz"))
@@ -202,11 +202,11 @@ class Page:
         """The shades of a view without strokes, pixel for pixel; then the view of before is shown again."""
         before = self.tab.run("view.name")
         self.show(view)
-        for key in ("h", "0", "1"):
-            self.tab.key(key)
+        for key, modifiers in (("h", 0), ("f", 0), ("F", SHIFT)):
+            self.tab.key(key, modifiers)
         shades = self.shades()
         self.show(before)
-        for key in ("h", "0"):
+        for key in ("h", "f"):
             self.tab.key(key)
         return shades
 

@@ -181,7 +181,7 @@ def frames(page, act, seconds=3):
 def frames_of_zoom(page):
     """The whole way in and out at the middle of the picture."""
     turns = [-120] * 16 + [120] * 16
-    page.tab.key("0")
+    page.tab.key("f")
     point = page.at(*page.tab.run("[board.width >> 1, board.height >> 1]"))
 
     def act():
