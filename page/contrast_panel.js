@@ -125,7 +125,7 @@ function listenToContrast() {
 /** What the pointer was used on gives the keys back to the picture, but for what is typed into. */
 function giveKeysBack() {
   const { activeElement } = document;
-  if (activeElement?.type !== "number") activeElement?.blur();
+  if (!["number", "text"].includes(activeElement?.type)) activeElement?.blur();
 }
 
 /** Whether a key in the panel goes on to the next element of it, or acts on that which has the focus. */

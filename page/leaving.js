@@ -9,10 +9,7 @@ const waitingBodies = () => outbox.filter(edit => edit.path === "edits").map(edi
 
 /** Gives edits as a file of their lines. Dropped on a page for their mask it is sent. */
 function saveEdits(mask, bodies) {
-  const file = new Blob([`; edits for the mask ${mask}\n`, ...bodies], { type: "text/plain" });
-  const link = Object.assign(document.createElement("a"), { href: URL.createObjectURL(file), download: "waiting.txt" });
-  link.click();
-  setTimeout(() => URL.revokeObjectURL(link.href), 60000);
+  giveFile("waiting.txt", new Blob([`; edits for the mask ${mask}\n`, ...bodies], { type: "text/plain" }));
 }
 
 /** Goes to the address that the program printed, with the edits that wait. */

@@ -5,6 +5,7 @@ function start() {
   listenToButtons();
   listenToContrast();
   listenToClasses();
+  listenToExports();
   listenToPointer();
   listenToKeys();
   listenToFiles();
@@ -15,6 +16,7 @@ function start() {
   press("strokesShown", true);
   press("contrastShown", false);
   press("classesShown", false);
+  press("exportsShown", false);
   open().catch(() => {
     showBanner("The picture could not be fetched: the program does not answer at this address.", ["reload"]);
   });
