@@ -53,6 +53,7 @@ const nameOfClass = number => typeof classes === "undefined" ? `Class ${number}`
 async function shownLabelling() {
   await untilGrown();
   if (board.strokes.size === 0) throw new NoExport("There are no labels yet: no stroke is kept.");
+  if (typeof currentLabelling !== "function") throw new NoExport("This page has no labels yet.");
   const labelling = await currentLabelling();
   if (!labelling?.objects.length) throw new NoExport("No pixel has a label: lower the level or the share.");
   return labelling;
