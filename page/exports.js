@@ -47,7 +47,7 @@ async function labelsCoco() {
   return cocoParts(await shownLabelling(), pictureName(), nameOfClass);
 }
 
-const nameOfClass = number => typeof classes === "undefined" ? `Class ${number}` : classes.get(number).name;
+const nameOfClass = number => classes.get(number).name;
 
 /** The labels that are shown now, or would be. */
 async function shownLabelling() {
