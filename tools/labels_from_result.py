@@ -11,7 +11,9 @@ all its strokes, or a painted label. docs/LABELS.md leads through an example, an
 
 import argparse
 import csv
+import pathlib
 import sys
+from decimal import ROUND_HALF_UP, Decimal
 
 from running import Fault, level_of, run, tell, without
 
@@ -24,9 +26,10 @@ except ModuleNotFoundError as missing:
 
 from pictures import read_grey, same_size, write_labels
 from strokes import read_live_strokes, seeds_of
-from tags import is_painted, painted_label, picture_bits
+from tags import class_of, is_painted, painted_label, picture_bits
 
 NOBODY = -1
+MOST_SAMPLE = 65535
 
 
 def parts_of(kept, conn):
@@ -115,25 +118,50 @@ def judge(result, mask, seeds, light, names):
         raise Fault(f"{names.result} is below a stroke at row {y}, column {x}: it is no result of these strokes")
 
 
-def rows_of(owners, mask, tags, numbers):
-    """The rows of the table, by label: label, tag, area, first and last column and row, and mean of the mask."""
-    boxes = ndimage.find_objects(owners + 1)
-    areas = numpy.bincount(owners.ravel() + 1)
-    sums = numpy.bincount(owners.ravel() + 1, weights=mask.ravel())
-    for owner, box in enumerate(boxes):
-        if box is not None:
-            rows, columns = box
-            mean = sums[owner + 1] / areas[owner + 1]
-            yield [numbers[owner], tags[owner], areas[owner + 1], columns.start, rows.start, columns.stop - 1,
-                   rows.stop - 1, f"{mean:.3f}"]
+def rows_of(owners, mask, seeds, numbers, names):
+    """The rows of the table, by label."""
+    boxes, inside = ndimage.find_objects(owners + 1), owners >= 0
+    met, samples = owners[inside], mask[inside]
+    y, x = numpy.nonzero(inside)
+    areas = numpy.bincount(met)
+    sums = {name: numpy.bincount(met, weights=values) for name, values in (("x", x), ("y", y), ("mean", samples))}
+    least, greatest = numpy.full(len(areas), MOST_SAMPLE), numpy.zeros(len(areas), dtype=mask.dtype)
+    numpy.minimum.at(least, met, samples)
+    numpy.maximum.at(greatest, met, samples)
+    for owner in numpy.flatnonzero(areas):
+        rows, columns = boxes[owner]
+        means = {name: shown(sums[name][owner] / areas[owner]) for name in sums}
+        in_class = class_of(seeds.tags[owner])
+        yield [numbers[owner], seeds.tags[owner], areas[owner], columns.start, rows.start, columns.stop - 1,
+               rows.stop - 1, means["mean"], in_class, names.get(in_class, ""), seeds.strokes[owner], means["x"],
+               means["y"], least[owner], greatest[owner]]
+
+
+def shown(mean):
+    """A mean with three decimals; a half is rounded up, as the page does."""
+    return Decimal(float(mean)).quantize(Decimal("0.001"), ROUND_HALF_UP)
 
 
 def write_table(name, rows):
     """Write the rows as comma-separated values, RFC 4180, with LF."""
-    with open(name, "w", newline="", encoding="ascii") as file:
+    with open(name, "w", newline="", encoding="utf-8") as file:
         table = csv.writer(file, lineterminator="\n")
-        table.writerow(["label", "stroke", "area", "left", "top", "right", "bottom", "mean"])
+        table.writerow(["label", "stroke", "area", "left", "top", "right", "bottom", "mean", "class", "name", "strokes",
+                        "x", "y", "min", "max"])
         table.writerows(rows)
+
+
+def read_names(name):
+    """The names of classes: lines with a number, a blank and a name."""
+    names = {}
+    for line in pathlib.Path(name).read_text(encoding="utf-8").splitlines():
+        number, _, called = line.strip().partition(" ")
+        if not number:
+            continue
+        if not number.isascii() or not number.isdigit() or not 1 <= int(number) <= 255 or not called.strip():
+            raise Fault(f"{name}: {line!r} is no class, 1 to 255, with a name")
+        names[int(number)] = called.strip()
+    return names
 
 
 def share_of(word):
@@ -164,7 +192,10 @@ def read_words():
                         help="where several objects meet in a region, give each pixel to the nearest of them")
     parser.add_argument("--painted", action="store_true",
                         help="number the regions by the labels that the strokes were painted with")
-    parser.add_argument("--table", metavar="CSV", help="write label, stroke, area, box and mean as a table")
+    parser.add_argument("--table", metavar="CSV",
+                        help="write label, stroke, area, box, class and measures of the mask as a table")
+    parser.add_argument("--names", metavar="FILE",
+                        help="names of the classes for the table: lines as `2 nuclei`")
     return parser.parse_args()
 
 
@@ -186,7 +217,8 @@ def main():
     numbers = numbers_of(seeds.tags, words.painted)
     write_labels(words.labels, numpy.append(numbers, 0)[owners])
     if words.table:
-        write_table(words.table, rows_of(owners, mask, seeds.tags, numbers))
+        names = read_names(words.names) if words.names else {}
+        write_table(words.table, rows_of(owners, mask, seeds, numbers, names))
 
 
 if __name__ == "__main__":

@@ -27,13 +27,14 @@ DISC = re.compile(rb"(\d{1,5}):(\d{1,5})\+(\d{1,5})")
 class Seeds(NamedTuple):
     """The pixels of the objects that live strokes make, from the least tag on.
 
-    `tags` has the least tag of each object. The arrays say of each pixel its place in the flat picture, the number of
-    its object in `tags`, and its level.
+    `tags` has the least tag of each object, and `strokes` how many strokes it has. The arrays say of each pixel its
+    place in the flat picture, the number of its object in `tags`, and its level.
     """
     tags: list
     places: numpy.ndarray
     owners: numpy.ndarray
     levels: numpy.ndarray
+    strokes: list
 
 
 # ---- Reading ----
@@ -101,16 +102,18 @@ def lies_in(stroke, width, height):
 
 def seeds_of(strokes, width, height):
     """The seeds of strokes by their tags, in a picture of this size."""
-    tags, spans = [], []
+    tags, counts, spans = [], [], []
     for tag in sorted(strokes):
         stroke = strokes[tag]
         if not lies_in(stroke, width, height):
             raise Fault(f"the stroke {tag} does not lie in the picture of {width} by {height} pixels")
         if not tags or object_of(tags[-1]) != object_of(tag):
             tags.append(tag)
+            counts.append(0)
+        counts[-1] += 1
         spans += [(y * width + first, last - first + 1, len(tags) - 1, stroke.level)
                   for y, first, last in spans_of(stroke, width, height)]
     starts, lengths, owners, levels = numpy.array(spans, dtype=numpy.int64).T
     within = numpy.arange(lengths.sum()) - numpy.repeat(numpy.cumsum(lengths) - lengths, lengths)
     return Seeds(tags, numpy.repeat(starts, lengths) + within, numpy.repeat(owners, lengths),
-                 numpy.repeat(levels, lengths))
+                 numpy.repeat(levels, lengths), counts)

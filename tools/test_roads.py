@@ -298,9 +298,12 @@ class ToLabels(OnRoads):
         image, table = self.hand(edits, "--level", 1)
         self.assertEqual(image.tolist(), [[2, 2, 2, 0, 1], [0, 0, 2, 0, 1], [0, 0, 0, 1, 1]])
         self.assertEqual(image.dtype, numpy.uint16)
-        self.assertEqual(table, [["label", "stroke", "area", "left", "top", "right", "bottom", "mean"],
-                                 ["1", str(tag_of(3)), "4", "3", "0", "4", "2", "5.000"],
-                                 ["2", str(tag_of(9)), "4", "0", "0", "2", "1", "9.000"]])
+        self.assertEqual(table, [["label", "stroke", "area", "left", "top", "right", "bottom", "mean", "class", "name",
+                                  "strokes", "x", "y", "min", "max"],
+                                 ["1", str(tag_of(3)), "4", "3", "0", "4", "2", "5.000", "1", "", "1", "3.750", "1.250",
+                                  "5", "5"],
+                                 ["2", str(tag_of(9)), "4", "0", "0", "2", "1", "9.000", "1", "", "1", "1.250", "0.250",
+                                  "9", "9"]])
         image, _ = self.hand(edits, "--level", 1, conn=8)
         self.assertEqual(image.tolist(), [[1, 1, 1, 0, 1], [0, 0, 1, 0, 1], [1, 1, 0, 1, 1]])
         image, table = self.hand(edits, "--level", 6)
@@ -463,7 +466,7 @@ class ThereAndBack(OnRoads):
             for split in ([], ["--split"]):
                 image, table = self.labels(*paths, "--conn", conn, "--level", level, *split)
                 self.check_labels(strokes, result, kept, image, conn, bool(split))
-                for label, _, area, left, top, right, bottom, mean in table[1:]:
+                for label, _, area, left, top, right, bottom, mean, *_ in table[1:]:
                     rows, columns = numpy.nonzero(image == int(label))
                     self.assertEqual([int(area), int(left), int(top), int(right), int(bottom)],
                                      [len(rows), columns.min(), rows.min(), columns.max(), rows.max()])

@@ -1,0 +1,33 @@
+"use strict";
+
+// Labels by page/labelling.js of cases that stand in a file:  node page/tests/labelling_cases.js CASES ANSWERS
+// Both files are JSON, a list; tools/test_labels_page.py writes the one and compares the other.
+
+const { readFileSync, writeFileSync } = require("node:fs");
+const { load } = require("./load.js");
+
+const { changeScene, classOf, gestureOf, labelling, measured, newScene } = load(
+  ["basics.js", "tags.js", "labelling.js"],
+  ["changeScene", "classOf", "gestureOf", "labelling", "measured", "newScene"]);
+
+/** The samples that a text holds in base 64, two bytes each with the less significant first. */
+function samplesOf(text, maxval) {
+  const bytes = Buffer.from(text, "base64"), samples = new Uint16Array(bytes.length / 2);
+  for (let k = 0; k < samples.length; k++) samples[k] = bytes.readUInt16LE(2 * k);
+  return maxval < 256 ? Uint8Array.from(samples) : samples;
+}
+
+function answerTo({ width, height, maxval, mask, result, strokes, choices }) {
+  const scene = newScene(width, height, samplesOf(mask, maxval), samplesOf(result, maxval));
+  changeScene(scene, strokes.map(({ tag, level, runs }) => {
+    return { tag, level, runs: Int32Array.from(runs), gesture: gestureOf(tag), inClass: classOf(tag) };
+  }));
+  return choices.map(choice => {
+    const labels = labelling(scene, choice);
+    return { numbers: [...labels.numbers], areas: [...labels.areas], lonely: labels.lonely,
+      rows: measured(labels, scene.mask) };
+  });
+}
+
+const [, , cases, answers] = process.argv;
+writeFileSync(answers, JSON.stringify(JSON.parse(readFileSync(cases, "utf8")).map(answerTo)));
