@@ -50,7 +50,8 @@ def paint_run_and_disc(sitting):
     first.drag((83, 66), (91, 71), (101, 77))
     first.settle(1)
     seen = second.tab.run("seen") - first.tab.run("performance.timeOrigin + timings[0].answered")
-    check(seen < 1000 * MOST_SECONDS_TO_THE_OTHER, f"the other page draws the stroke, {seen:.0f} ms after its answer")
+    most = 1000 * MOST_SECONDS_TO_THE_OTHER * sitting.words.slack
+    check(seen < most, f"the other page draws the stroke, {seen:.0f} ms after its answer")
     image, (stroke, pixels) = readers.read_image(sitting.masks["cells"].read_bytes()), first.painted(0)
     check(isinstance(stroke.shape, tuple) and pixels == brushed([(83, 66), (91, 71), (101, 77)], 6, image.width),
           "a drag is the runs of the brush along its path")
