@@ -8,37 +8,25 @@ The words are the command that serves. It is started with a mask, `--state FILE`
 reconstruction of bench/fuzz, or with the program's own view where `--view` names it. The first check that fails ends
 the script with status 1. With `--pictures FOLDER` it writes the pictures of the README.
 
-The checks of painting and of what is kept stand here. Those of each other concern stand in a file
-`paint_test_NAME.py` beside this one, and are run behind them; with `--concern NAME` those of that file alone, and with
-`--concern paint` those of this one. `paint_testing.py` has what all of them share.
+The checks of painting stand here. Those of each other concern stand in a file `paint_test_NAME.py` beside this one, and
+are run behind them; with `--concern NAME` those of that file alone, and with `--concern paint` those of this one.
+`paint_testing.py` has what all of them share.
 
 It needs Python 3 and Debian's package chromium.
 """
 
 import importlib
 import pathlib
-import shutil
 import time
 
-from browser import ALT, CONTROL, SHIFT, Browser, Fault, wait_for
-from paint_testing import (Page, author_of, brushed, check, check_shown, end_with_fault, first_window, parser_of,
-                           percentiles, read_words, readers, shades_through, sit, write_state)
+from browser import ALT, CONTROL, SHIFT, Fault
+from paint_testing import (author_of, brushed, check, check_shown, end_with_fault, parser_of, read_words, readers, sit,
+                           write_state)
 
 MOST_SECONDS_TO_THE_OTHER = 0.5
 MINE = [[(51, 54), (60, 44)], [(84, 68), (98, 74)], [(120, 140), (127, 136)], [(200, 30)], [(206, 188)],
         [(40, 162), (58, 168), (66, 170)]]  # the strokes of the pictures, each by its pixels
 THEIRS = [[(285, 138), (287, 148)], [(297, 42)], [(264, 222), (276, 234)]]
-NO_STORAGE = """for (const name of ["localStorage", "sessionStorage"]) {
-    Object.defineProperty(window, name, { get() { throw new DOMException("denied", "SecurityError"); } }); }"""
-FILL_STORAGE = """(() => { for (let k = 0, text = "x".repeat(1 << 22); text; k++) {
-    try { localStorage.setItem(`filler ${k}`, text); } catch (_) { text = text.slice(0, text.length >> 1); } } })()"""
-EMPTY_STORAGE = """Object.keys(localStorage).filter(name => name.startsWith("filler"))
-    .forEach(name => localStorage.removeItem(name))"""
-TEN_TIMES_THE_HASTE = """{ const wait = setTimeout, limit = AbortSignal.timeout.bind(AbortSignal);
-    const hasty = milliseconds => milliseconds < 30000 ? milliseconds : milliseconds / 10;
-    window.setTimeout = (act, milliseconds) => wait(act, hasty(milliseconds));
-    AbortSignal.timeout = milliseconds => limit(hasty(milliseconds)); }"""
-SLOW_LINK = 40_000  # bytes a second
 
 
 def paint_run_and_disc(sitting):
@@ -203,12 +191,8 @@ def join_long_text(sitting):
 def save_copy(sitting):
     """The state file as a download."""
     page = sitting.first
-    page.tab.download_to(sitting.folder / "downloads")
-    page.tab.click_element("save")
-    saved = sitting.folder / "downloads" / "strokes.spd"
-    wait_for(saved.is_file, "the download")
-    time.sleep(0.2)
-    check(saved.read_bytes() == sitting.program.get("state") == sitting.program.state.read_bytes(),
+    saved = sitting.download(page, "save", "strokes.spd")
+    check(saved == sitting.program.get("state") == sitting.program.state.read_bytes(),
           "the download is the state file")
 
 
@@ -236,14 +220,14 @@ def zoom_and_pan(sitting):
 
 def check_seen_pixel(page, point):
     """The canvas has under the pointer the colour of the mask's pixel."""
-    for key in ("h", "Tab", "Tab"):
-        page.tab.key(key)
+    page.tab.key("h")
+    page.show("mask")
     page.tab.run("new Promise(done => requestAnimationFrame(() => requestAnimationFrame(done)))")
     top = page.tab.run("overlay.getBoundingClientRect().top")
     seen = page.tab.run(f"pictureContext.getImageData({point[0]}, {point[1] - top}, 1, 1).data[0]")
     check(seen == page.tab.run("board.mask[87 * board.width + 123]"), "the canvas shows that pixel there")
-    for key in ("Tab", "h"):
-        page.tab.key(key)
+    page.show("kept")
+    page.tab.key("h")
 
 
 def check_zoom_limits(page, point):
@@ -348,296 +332,6 @@ def pen(sitting):
     sitting.both(count)
 
 
-def no_storage(sitting):
-    """A browser that refuses storage: the page says so, and goes on."""
-    count = len(sitting.first.strokes())
-    with Browser() as browser:
-        page = Page(browser.open(sitting.program.address, NO_STORAGE))
-        check("nothing outlives a reload" in page.tab.text("storage"), "without storage the page says what is lost")
-        page.drag((240, 70))
-        page.settle(count + 1)
-        page.tab.key("z", CONTROL)
-        page.settle(count)
-        check(page.tab.text("kept") == "all kept" and page.tab.faults() == [], "and it paints all the same")
-    sitting.both(count)
-
-
-def full_storage(sitting):
-    """A storage that is full: an edit that waits is told, and sent all the same."""
-    page, count = sitting.first, len(sitting.first.strokes())
-    page.tab.run(FILL_STORAGE)
-    with sitting.program.paused():
-        page.drag((240, 70))
-        page.tab.wait("element('storage').textContent.includes('nothing outlives a reload')")
-        check(page.tab.text("kept") == "1 not kept yet", "where storage is full the page says what is lost")
-    page.settle(count + 1)
-    check(page.tab.text("storage") == "", "and no more once all is kept")
-    page.tab.run(EMPTY_STORAGE)
-    page.tab.key("z", CONTROL)
-    sitting.both(count)
-
-
-def reload_page(sitting):
-    """A reload loses nothing, and undo goes on."""
-    page, before = sitting.first, sorted(sitting.first.strokes())
-    page.drag((285, 200), (292, 204))
-    page.settle(7)
-    page.reload()
-    page.settle(7)
-    check(True, "a reload loses nothing")
-    page.tab.key("z", CONTROL)
-    page.settle(6)
-    check(sorted(page.strokes()) == before, "undo goes on behind it")
-
-
-def contrast(sitting):
-    """Window, gamma and colours change what is shown, and nothing else. A reload keeps them, and so does a restart."""
-    page, strokes, image = sitting.first, sorted(sitting.first.strokes()), sitting.program.get("image")
-    mask = readers.read_image(sitting.masks["cells"].read_bytes())
-    check(page.tab.text("shown") == "" and page.mask_shades() == mask.samples, "8 bits are shown at first as they are")
-    window_by_keys(page, mask)
-    window_by_pointer(page, mask)
-    gamma_and_colours(page, mask)
-    look = page.tab.run("JSON.stringify(contrast.look)")
-    page.reload()
-    check(page.tab.run("JSON.stringify(contrast.look)") == look, "a reload keeps the contrast")
-    sitting.open_anew("cells", sitting.program.state.name)
-    check(page.tab.run("JSON.stringify(contrast.look)") == look, "so does a restart")
-    page.settle(len(strokes))
-    check(sorted(page.strokes()) == strokes and sitting.program.get("image") == image, "strokes and result stay")
-    page.tab.click_element("contrastShown")
-    page.tab.click_element("resetLook")
-    page.tab.click_element("contrastShown")
-    check(page.tab.text("shown") == "" and page.tab.run("local.names().every(name => !name.startsWith('contrast'))"),
-          "and Reset keeps nothing")
-    sitting.shown("after Reset")
-
-
-def window_by_keys(page, mask):
-    """C leads the keys to the handles, Tab from one to the next, and Escape closes the panel."""
-    page.tab.key("c")
-    check(page.tab.run("!element('contrast').hidden && document.activeElement.id") == "low", "C opens the panel")
-    for _ in range(30):
-        page.tab.key("ArrowRight")
-    page.tab.key("Tab")
-    for _ in range(40):
-        page.tab.key("ArrowLeft")
-    check(page.window() == [30, 215] and page.tab.run("view.name") == "kept", "arrows move its handles, Tab goes on")
-    page.tab.key("Escape")
-    check(page.tab.run("element('contrast').hidden"), "Escape closes it")
-    check(page.mask_shades() == shades_through([30, 215], mask.samples), "the canvas shows the mask through the window")
-    check(page.tab.text("shown") == "shown 30 to 215", "and the foot says so")
-
-
-def window_by_pointer(page, mask):
-    """Handles, percentiles, and a drag with the right button."""
-    page.tab.click_element("contrastShown")
-    page.slide("high", 215, 180, 120)
-    low, high = page.window()
-    check(low == 30 and abs(high - 120) <= 1, "a handle is dragged over the histogram")
-    page.slide("low", 30, 100, 160)
-    low, high = page.window()
-    check(abs(low - 160) <= 1 and high == low + 1, "one that meets the other pushes it along")
-    page.tab.click_element("byPercentiles")
-    check(page.window() == percentiles(mask), "a button takes the window by percentiles")
-    page.tab.click_element("cut")
-    page.tab.run("element('cut').select()")
-    page.tab.type("5")
-    page.tab.key("Tab")
-    check(page.window() == percentiles(mask, 5), "and by others that are typed")
-    page.tab.key("Escape")
-    low, high = page.window()
-    page.drag((100, 100), (100, 92), (100, 88), button="right")
-    check(page.window()[0] <= low and page.window()[1] < high, "a drag upwards with the right button lowers the window")
-    narrow = page.window()[1] - page.window()[0]
-    page.drag((100, 100), (120, 100), (130, 100), button="right")
-    check(page.window()[1] - page.window()[0] > narrow, "one to the right makes it wider")
-    check(page.tab.run("outbox.length") == 0, "and neither paints")
-    check(page.mask_shades() == shades_through(page.window(), mask.samples), "the canvas shows that window")
-
-
-def gamma_and_colours(page, mask):
-    """A gamma below 1, and the result in blue over the mask, while it stays grey where it is shown alone."""
-    page.tab.click_element("contrastShown")
-    page.slide("gamma", 0, -.5, -1)
-    gamma = page.tab.run("contrast.look.gamma")
-    expected = shades_through(page.window(), mask.samples, gamma)
-    check(gamma < .7 and all(abs(seen - shade) <= 1 for seen, shade in zip(page.mask_shades(), expected)),
-          "a gamma below 1 makes what is dark brighter")
-    page.tab.key("h")
-    amber = page.colour_at(206, 188)
-    page.tab.click_element("iceTable")
-    ice = page.colour_at(206, 188)
-    check(amber[0] > amber[2] and ice[2] > amber[2] + 20, "what is kept is amber, and blue once that table is taken")
-    page.tab.key("Tab")
-    check(len(set(page.colour_at(206, 188)[:3])) == 1, "the result alone stays grey")
-    page.tab.key("Tab")
-    check(page.tab.run("element('iceTable').disabled"), "the mask alone has no table")
-    page.tab.key("Tab")
-    page.tab.key("h")
-    page.tab.click_element("contrastShown")
-
-
-def own_host(sitting):
-    """The page at `localhost` goes to 127.0.0.1, and stores nothing before."""
-    page, address = sitting.first, sitting.program.address
-    elsewhere, author = address.replace("127.0.0.1", "localhost"), page.author()
-    page.tab.run("document.title = ''")
-    page.tab.go(elsewhere)
-    page.await_open()
-    check(page.tab.run("location.href") == address, "the page at localhost goes to 127.0.0.1")
-    check(page.tab.call("Network.getCookies", urls=[elsewhere])["cookies"] == [], "and leaves nothing at localhost")
-    check(page.author() == author, "so the author is the same")
-
-
-def restart(sitting):
-    """What is painted while the program is away is sent once it is there again, at the same port."""
-    page, program = sitting.first, sitting.program
-    address = program.address
-    program.stop()
-    page.drag((60, 200), (66, 203))
-    page.tab.wait("silence.failures > 0")
-    check(page.tab.text("kept") == "1 not kept yet", "an unanswered edit is told")
-    page.tab.wait("!element('banner').hidden")
-    check("does not answer" in page.tab.text("banner"), "a program that is away is told")
-    program.start(sitting.masks["cells"])
-    if program.address != address:
-        page.tab.wait("element('banner').textContent.includes('another address')")
-        check(True, "a restart under another address is told")
-        check_wrong_addresses(page, program)
-        sitting.go_on()
-    sitting.both(7)
-    check(page.tab.text("kept") == "all kept", "a restart loses nothing, and the edit is sent again")
-    sitting.shown("after a restart")
-
-
-def check_wrong_addresses(page, program):
-    """No other address is gone to than one that the program may have printed."""
-    right = program.address
-    for wrong in (right[:-1], right + "#", right.replace("http", "https"), right.replace("127.0.0.1", "localhost"),
-                  right.replace("127.0.0.1", "127.0.0.1.example")):
-        page.tab.run(f"element('newAddress').value = '{wrong}'")
-        page.tab.click_element("goThere")
-        if "no address" not in page.tab.text("moveFault"):
-            raise Fault(f"{wrong} is taken for an address of the program")
-    check(True, "other addresses are refused")
-
-
-def restart_elsewhere(sitting):
-    """A restart at another port: what waits comes along, and the author is the same."""
-    page, program, author = sitting.first, sitting.program, sitting.first.author()
-    program.stop()
-    page.drag((285, 100), (288, 104))
-    page.tab.wait("!element('banner').hidden")
-    program.start_elsewhere(sitting.masks["cells"])
-    page.move_to(program.address)
-    page.settle(8)
-    check(page.tab.text("kept") == "all kept", "at another port the edit comes along")
-    check(page.tab.run("location.href") == program.address, "and the address has nothing of it any more")
-    page.drag((285, 120))
-    page.settle(9)
-    line = next(line for line in page.strokes() if line.endswith(" 120:285+6"))
-    check(author_of(line) == author, "and the author is the same")
-    page.tab.key("z", CONTROL)
-    sitting.second.go(program.address)
-    sitting.both(8)
-
-
-def along_to_another_mask(sitting):
-    """What comes along to another mask is told, and not sent; it is saved, and dropped on its own mask's page."""
-    page, program = sitting.first, sitting.program
-    program.stop()
-    page.drag((60, 230), (66, 231))
-    page.tab.wait("!element('banner').hidden")
-    before, program.state = program.state, sitting.folder / "along.spd"
-    program.start_elsewhere(sitting.masks["grains"])
-    page.move_to(program.address)
-    check("for another picture" in page.tab.text("banner"), "what came along for another mask is told")
-    page.settle(0)
-    check(program.get("strokes") == b"", "and not sent")
-    page.tab.download_to(sitting.folder / "downloads")
-    page.tab.click_element("saveStray")
-    saved = sitting.folder / "downloads" / "waiting.txt"
-    wait_for(saved.is_file, "the download")
-    check(page.tab.run("location.hash") == "", "once it is saved the address has nothing of it any more")
-    page.tab.drop(*page.at(100, 100), saved)
-    page.tab.wait("element('message').textContent.includes('another picture')")
-    check(program.get("strokes") == b"", "the file is refused there")
-    sitting.open_anew("cells", before.name)
-    page.tab.drop(*page.at(100, 100), saved)
-    sitting.both(9)
-    check(True, "and is taken by a page for its mask")
-    page.tab.key("z", CONTROL)
-
-
-def restart_with_another_mask(sitting):
-    """Another mask under the same port is told, and nothing is sent to it."""
-    page, program = sitting.first, sitting.program
-    address = program.address
-    program.stop()
-    page.drag((60, 220), (66, 221))
-    program.state = sitting.folder / "other.spd"
-    program.start(sitting.masks["grains"])
-    told = "another mask" if program.address == address else "another address"
-    page.tab.wait(f"element('banner').textContent.includes('{told}')")
-    check(True, "a restart with another mask is told")
-    page.go(program.address)
-    page.settle(0)
-    check(program.get("strokes") == b"", "no stroke for the one mask goes to the other")
-
-
-def back_to_the_mask(sitting):
-    """The edit that was not sent to the other mask waits for its own."""
-    sitting.open_anew("cells", "strokes.spd")
-    sitting.first.tab.wheel(*sitting.first.at(100, 100), -120)
-    check(sitting.first.tab.run("sight.zoom") > 3, "the wheel zooms before the pointer has moved, too")
-    sitting.both(10)
-    sitting.shown("an edit that waited for its mask")
-
-
-def saves_that_fail(sitting):
-    """While the state file cannot be written, edits wait and the page says why; then they are kept."""
-    page, program, folder = sitting.first, sitting.program, sitting.folder / "gone"
-    folder.mkdir()
-    sitting.open_anew("cells", "gone/strokes.spd")
-    page.drag((206, 188))
-    sitting.both(1)
-    shutil.rmtree(folder)
-    page.drag((60, 200), (66, 203))
-    page.drag((285, 100), (288, 104))
-    page.tab.wait("element('kept').textContent.includes('(V2)')")
-    check(page.tab.text("kept").startswith("2 not kept: the state file cannot be written"), "what is not kept is told")
-    page.tab.wait("saves.failures >= 3 && silence.failures === 0")
-    check(page.tab.text("kept").startswith("2 not kept:"), "it is sent again and again, and the page is answered")
-    check(len(program.get("state")) > 0, "a copy can be saved")
-    page.tab.download_to(sitting.folder / "unkept")
-    page.tab.click_element("saveWaiting")
-    saved = sitting.folder / "unkept" / "waiting.txt"
-    wait_for(saved.is_file, "the download")
-    check(len(readers.read_edits(saved.read_bytes())) == 2, "and what waits, too")
-    folder.mkdir()
-    sitting.both(3)
-    check(page.tab.text("kept") == "all kept" and program.state.read_bytes() == program.get("state"),
-          "once the file can be written all is kept")
-
-
-def slow_link(sitting):
-    """Over a slow link the page opens all the same, and says how far it is; a program that stands still is told."""
-    sitting.open_anew("deep", "slow.spd")
-    with Browser() as browser:
-        tab = browser.open("about:blank", TEN_TIMES_THE_HASTE)
-        tab.slow_down(SLOW_LINK)
-        begun = time.monotonic()
-        tab.go(sitting.program.address)
-        tab.wait("element('message').textContent.startsWith('Loading: ')")
-        page = Page(tab)
-        check(time.monotonic() - begun > 5, "where an answer takes long and comes on, the page waits for it")
-        with sitting.program.paused():
-            tab.wait("silence.failures > 0")
-        tab.wait("silence.failures === 0")
-        check(page.tab.text("message") == "The program answers again.", "where nothing comes any more it is told")
-
-
 def deep_mask(sitting):
     """A mask of 16 bits."""
     page, program = sitting.first, sitting.program
@@ -647,22 +341,6 @@ def deep_mask(sitting):
     page.settle(2)
     check(max(int(line.split(" ")[2]) for line in page.strokes()) > 255, "levels of 16 bits")
     check_shown(page, program, sitting.masks["deep"], sitting.words.view, "16 bits")
-
-
-def hot_pixel(sitting):
-    """One hot pixel in a mask of 16 bits does not darken the others."""
-    page, program = sitting.first, sitting.program
-    sitting.open_anew("hot", "hot.spd")
-    deep, hot = (readers.read_image(sitting.masks[name].read_bytes()) for name in ("deep", "hot"))
-    check(page.window() == first_window(hot), "a mask of 16 bits is shown through a window by percentiles")
-    check(page.window()[1] <= max(deep.samples), "which leaves the hot pixel out")
-    shades = page.mask_shades()
-    check(shades == shades_through(first_window(hot), hot.samples), "the canvas shows the mask through that window")
-    without = shades_through(first_window(deep), deep.samples)
-    check(shades[1:] == without[1:], "and the others as without the hot pixel")
-    page.drag((83, 66), (101, 77))
-    page.settle(1)
-    check_shown(page, program, sitting.masks["hot"], sitting.words.view, "16 bits with a hot pixel")
 
 
 def take_pictures(sitting):
@@ -680,7 +358,7 @@ def take_pictures(sitting):
     first.tab.run("say(''), 0")
     first.tab.mouse("mouseMoved", *first.at(250, 118))
     first.tab.screenshot(folder / "paint-page.png")
-    second.tab.key("Tab")
+    second.show("result")
     second.tab.key("h")
     second.tab.mouse("mouseMoved", *second.at(140, 195))
     second.tab.screenshot(folder / "paint-result.png")
@@ -694,9 +372,7 @@ def take_pictures(sitting):
 
 
 CHECKS = [paint_run_and_disc, undo_and_redo, withdraw_the_others, levels, long_gesture, at_the_border, strokes_shown,
-          join_files, save_copy, zoom_and_pan, another_ratio, one_finger, two_fingers, pen, no_storage, full_storage,
-          reload_page, contrast, own_host, restart, restart_elsewhere, along_to_another_mask, restart_with_another_mask,
-          back_to_the_mask, saves_that_fail, slow_link, deep_mask, hot_pixel]
+          join_files, save_copy, zoom_and_pan, another_ratio, one_finger, two_fingers, pen, deep_mask]
 
 
 def concerns():

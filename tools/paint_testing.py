@@ -411,7 +411,7 @@ def parser_of(about):
     parser = argparse.ArgumentParser(description=about.partition("\n")[0])
     parser.add_argument("--view", metavar="PROGRAM", help="compare with `PROGRAM view`, not with the plain reference")
     parser.add_argument("--look", type=pathlib.Path, metavar="FILE", help="write a picture of the end, or of a failure")
-    parser.add_argument("--slack", type=float, default=1, metavar="N", help="let it take N times as long, as under load")
+    parser.add_argument("--slack", type=float, default=1, metavar="N", help="let it take N times as long")
     parser.add_argument("--screens", type=pathlib.Path, metavar="FOLDER", help="write pictures of the states there")
     parser.add_argument("command", nargs=argparse.REMAINDER, help="the words that serve, as `seedpaint paint`")
     return parser
