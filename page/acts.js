@@ -18,7 +18,7 @@ function asPlaced({ tag, kind, level, shape, gesture }) {
 /** Sends a gesture. A disc stays a disc; runs are cut into strokes. */
 function paint(gesture, begun) {
   const runs = runsOf(gesture.rows);
-  if (runs.length === 0) return;
+  if (runs.length === 0 || !letsPaint()) return;
   const level = String(limited(brush.level ?? highestUnder(runs), 1, MOST_LEVEL));
   element("level").value = level;
   const strokes = shapesOf(gesture, runs).map(shape => ({ ...shape, level, inClass: brush.inClass }));
@@ -82,7 +82,9 @@ const redo = () => turnLast(undone, done);
 function turnLast(from, to) {
   let act = from.pop();
   while (act && !stillCounts(act)) act = from.pop();
-  if (act) (turn(act) ? to : from).push(act);
+  const locked = act && lockedIn(act);
+  if (locked) sayLocked(locked);
+  if (act) (!locked && turn(act) ? to : from).push(act);
   keepActs();
 }
 

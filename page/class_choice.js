@@ -22,21 +22,21 @@ function typeDigit({ key, timeStamp, repeat }) {
 
 /** Draws strokes by their class, or by their author. */
 function markBy(kind) {
-  marking.isForced = kind;
+  marking.chosen = kind;
   keepChoice();
   followClasses();
-  sayCounts();
-  sayClass();
 }
 
 function keepChoice() {
-  local.set(choiceName(), JSON.stringify({ inClass: brush.inClass, by: marking.isForced }));
+  const { inClass } = brush, by = marking.chosen;
+  if (inClass === 1 && by === "") local.drop(choiceName());
+  else local.set(choiceName(), JSON.stringify({ inClass, by }));
 }
 
 function recallChoice() {
   const { inClass, by } = readObject(local.get(choiceName()));
   brush.inClass = isClass(inClass) ? inClass : 1;
-  marking.isForced = by === "class" || by === "author" ? by : "";
+  marking.chosen = by === "class" || by === "author" ? by : "";
   followClasses();
 }
 
@@ -46,20 +46,20 @@ function openClasses() {
   recallClasses();
 }
 
-/** Whether the class that is painted with takes a stroke: a hidden one is shown again, a locked one takes none. */
-function letsPaint() {
-  if (isLockedClass(brush.inClass)) {
-    sayLocked(brush.inClass);
-    return false;
-  }
-  if (isHiddenClass(brush.inClass)) classes.change(brush.inClass, { isHidden: false });
-  return true;
+/** Whether a class takes a stroke: a hidden one is shown again, a locked one takes none, which is said. */
+function letsPaint(inClass = brush.inClass) {
+  const { name, isHidden, isLocked } = classes.get(inClass);
+  if (isLocked) sayFault(`${name} is locked and takes no strokes: unlock it under Classes, or choose another class.`);
+  else if (isHidden) classes.change(inClass, { isHidden: false });
+  return !isLocked;
 }
 
 function sayLocked(inClass) {
-  const { name, number } = classes.get(inClass);
-  sayFault(`${name} is locked: unlock it under Classes${number === brush.inClass ? ", or paint with another" : ""}.`);
+  sayFault(`${classes.get(inClass).name} is locked and stays as it is: unlock it under Classes.`);
 }
+
+/** The locked class of a stroke of an act, or undefined where there is none. */
+const lockedIn = act => act.flatMap(side => side.strokes).map(({ inClass }) => inClass ?? 1).find(isLockedClass);
 
 /** Says which class is painted with. */
 function sayClass() {

@@ -63,9 +63,9 @@ function newRow(number) {
   const more = newPart("button", "more", whole);
   sayTo(pick, String(number));
   list.hidden = more.hidden = true;
-  const row = { number, whole, pick, colour, name, hide, lock, unfold, list, more, items: new Map(), most: 0 };
-  classRows.set(number, row);
-  return row;
+  const parts = { number, whole, pick, colour, name, hide, lock, unfold, list, more };
+  classRows.set(number, { ...parts, items: new Map(), most: 0 });
+  return classRows.get(number);
 }
 
 function sayRow(row) {

@@ -12,6 +12,7 @@ const KEYS = {
   "[": () => stepRadius(-1),
   "]": () => stepRadius(1),
   k: () => toggleClasses(true),
+  t: () => bringPointed(),
   "+": () => zoomStep(1, hand.point ?? screenMiddle()),
   "-": () => zoomStep(-1, hand.point ?? screenMiddle()),
   "?": () => toggleHelp(),

@@ -1,7 +1,7 @@
 // ---- Marks: for each pixel the colour of the topmost stroke on it that is shown, by its class or by its author ----
 
 // By class once there is another class than the first, or as it was chosen: "class", "author" or "".
-const marking = { isByClass: false, isForced: "" };
+const marking = { isByClass: false, chosen: "" };
 const halfColours = new Uint32Array(MOST_CLASS + 1);  // half of each colour, as a number that begins with alpha
 
 /** The number of the colour that marks a stroke, or 0 where it is not shown. */
@@ -53,9 +53,11 @@ function recolourMarks(inClass) {
 
 /** Goes by class once there is another than the first. */
 function followClasses() {
-  const isByClass = marking.isForced === "class" || marking.isForced !== "author"
+  const isByClass = marking.chosen === "class" || marking.chosen !== "author"
     && (marking.isByClass || brush.inClass !== 1 || isOtherThanFirst());
   if (isByClass === marking.isByClass) return;
   marking.isByClass = isByClass;
   remark();
+  sayCounts();
+  sayClass();
 }

@@ -42,7 +42,9 @@ function newItem(gesture) {
 
 function sayObject(item, strokes, inClass) {
   const [goTo, toClass] = item.children, place = placeOf(strokes), name = classes.get(brush.inClass).name;
-  sayTo(goTo, `x ${place.x} · y ${place.y} · ${counted(strokes.size, "stroke")}${place.isMine ? "" : " · another's"}`);
+  const size = counted(strokes.size, "stroke");
+  sayTo(goTo, `x ${place.x} · y ${place.y} · ${size}${place.isMine ? "" : " · of another"}`);
+  sayNamed(goTo, `Go to the object at x ${place.x}, y ${place.y}: ${size}${place.isMine ? "" : " of another"}`);
   sayTo(toClass, `to ${brush.inClass}`);
   sayNamed(toClass, `Bring the object at x ${place.x}, y ${place.y} to ${name}`);
   toClass.disabled = inClass === brush.inClass || isLockedClass(inClass) || isLockedClass(brush.inClass);
@@ -56,22 +58,31 @@ function placeOf(strokes) {
 
 const counted = (count, noun) => `${count} ${noun}${count === 1 ? "" : "s"}`;
 
-/** Up and Down go from object to object, Home and End to the first and the last. */
-function stepInList(event) {
-  const item = event.target.closest("li"), { key } = event;
-  const goal = { ArrowUp: item?.previousElementSibling, ArrowDown: item?.nextElementSibling,
-    Home: item?.parentElement.firstElementChild, End: item?.parentElement.lastElementChild }[key];
-  if (!item || !["ArrowUp", "ArrowDown", "Home", "End"].includes(key)) return false;
-  goal?.querySelector(`.${event.target.className}`).focus();
+// Where in a list keys go from an item.
+const STEPS = {
+  ArrowUp: item => item.previousElementSibling, ArrowDown: item => item.nextElementSibling,
+  Home: item => item.parentElement.firstElementChild, End: item => item.parentElement.lastElementChild,
+};
+
+/** Goes by a key from object to object, or from class to class. Says whether the key does that. */
+function stepInList({ target, key }) {
+  const item = target.closest("li"), isText = target.type === "text" && (key === "Home" || key === "End");
+  if (!item || isText || !Object.hasOwn(STEPS, key)) return false;
+  STEPS[key](item)?.querySelector(`.${target.className}`).focus();
   return true;
+}
+
+/** Brings the object under the pointer to the class that is painted with. */
+function bringPointed() {
+  const stroke = hand.pixel && strokeAt(hand.pixel, ({ inClass }) => !isHiddenClass(inClass));
+  if (stroke) bringToClass(stroke.gesture, brush.inClass);
 }
 
 /** Brings all strokes of an object to a class: they are withdrawn, and placed anew under its tags. */
 function bringToClass(gesture, inClass) {
   const strokes = strokesOfGesture(gesture).filter(stroke => stroke.inClass !== inClass);
   if (strokes.length === 0) return;
-  const locked = [inClass, ...strokes.map(stroke => stroke.inClass)].find(isLockedClass);
-  if (locked) return sayLocked(locked);
-  if (isHiddenClass(inClass)) classes.change(inClass, { isHidden: false });
-  replaceStrokes(strokes, strokes.map(stroke => ({ ...asPlaced(stroke), inClass })));
+  const locked = strokes.find(stroke => isLockedClass(stroke.inClass));
+  if (locked) return sayLocked(locked.inClass);
+  if (letsPaint(inClass)) replaceStrokes(strokes, strokes.map(stroke => ({ ...asPlaced(stroke), inClass })));
 }

@@ -18,7 +18,7 @@ function endPointing() {
   redrawOverlay();
 }
 
-/** Brings a box into the middle of what no panel at the left covers, and nearer or further away only where it has to. */
+/** Brings a box into the middle of what no panel at the left covers, nearer or further away only where it has to. */
 function lookAt(box) {
   const left = coveredAtLeft(), width = picture.width - left;
   const across = width / (box.right - box.left), down = picture.height / (box.bottom - box.top);

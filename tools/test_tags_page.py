@@ -34,7 +34,7 @@ def digits(chance, count):
 
 
 def odd_tags(chance):
-    """Tags of all kinds: random digits, random ones of RFC 9562, of earlier pages, of painted labels, and near these."""
+    """Tags of all kinds: random digits, those of RFC 9562, of earlier pages, of painted labels, and near these."""
     tags = [uuid.UUID(digits(chance, 32)) for _ in range(4000)]
     tags += [uuid.uuid4() for _ in range(1000)]
     for _ in range(300):

@@ -125,7 +125,8 @@ test("names are on one line, and not long", () => {
 test("a text that spells classes wrongly is left out, and breaks nothing", () => {
   for (const wrong of [null, "", "null", "3", "[]", "{", "\"text\"", "{\"0\":{\"name\":\"a\"}}", "[null,null]",
     "{\"256\":{\"name\":\"a\"}}", "{\"1.5\":{\"name\":\"a\"}}", "{\"2\":null}", "{\"2\":7}", "{\"2\":{}}",
-    "{\"2\":{\"name\":5,\"colour\":\"red\",\"isHidden\":\"yes\",\"isLocked\":1}}", "{\"__proto__\":{\"name\":\"a\"}}"]) {
+    "{\"2\":{\"name\":5,\"colour\":\"red\",\"isHidden\":\"yes\",\"isLocked\":1}}",
+    "{\"__proto__\":{\"name\":\"a\"}}"]) {
     assert.equal(readClasses(wrong).size, 0, wrong);
   }
   const text = "{\"2\":{\"name\":\"a\",\"colour\":\"#010203\",\"more\":[]},\"300\":{},\"4\":{\"isLocked\":true}}";
