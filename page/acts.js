@@ -15,14 +15,14 @@ function asPlaced({ tag, kind, level, shape, gesture }) {
   return { author: authorOf(tag), inClass: classOf(tag), kind, level, shape, gesture };
 }
 
-/** Sends a gesture. A disc stays a disc; runs are cut into strokes. */
+/** Sends a gesture, and says whether it did. A disc stays a disc; runs are cut into strokes. */
 function paint(gesture, begun) {
   const runs = runsOf(gesture.rows);
-  if (runs.length === 0 || !letsPaint()) return;
+  if (runs.length === 0 || !letsPaint()) return false;
   const level = String(limited(brush.level ?? highestUnder(runs), 1, MOST_LEVEL));
   element("level").value = level;
   const strokes = shapesOf(gesture, runs).map(shape => ({ ...shape, level, inClass: brush.inClass }));
-  perform([sideToCome(strokes)], begun);
+  return perform([sideToCome(strokes)], begun);
 }
 
 function shapesOf({ isDisc, last, radius }, runs) {
@@ -41,10 +41,11 @@ function replaceStrokes(strokes, others, begun) {
 }
 
 function perform(act, begun) {
-  if (!turn(act, begun)) return;
+  if (!turn(act, begun)) return false;
   done.push(act);
   undone = [];
   keepActs();
+  return true;
 }
 
 /** Turns an act, under new tags, since a withdrawn tag never comes back. Says whether one request carries it. */

@@ -3,10 +3,11 @@
 const brush = { radius: 6, level: null, inClass: 1 };  // a level of null stands for the highest under the stroke
 const press = (id, isPressed) => element(id).setAttribute("aria-pressed", isPressed);
 
+const TOOLS = ["brush", "line", "polygon", "eraser", "withdraw"];
+
 function setTool(tool) {
   hand.tool = tool;
-  press("brush", tool === "brush");
-  press("withdraw", tool === "withdraw");
+  for (const other of TOOLS) press(other, tool === other);
   hover();
 }
 

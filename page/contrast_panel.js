@@ -124,9 +124,5 @@ function listenToContrast() {
 
 /** What the pointer was used on gives the keys back to the picture, but for what is typed into. */
 function giveKeysBack() {
-  const { activeElement } = document;
-  if (!["number", "text"].includes(activeElement?.type)) activeElement?.blur();
+  if (!["number", "text"].includes(document.activeElement?.type)) keysToPicture();
 }
-
-/** Whether a key in the panel goes on to the next element of it, or acts on that which has the focus. */
-const isForPanel = ({ target, key }) => target.closest?.("aside") && [" ", "Tab"].includes(key);

@@ -68,10 +68,35 @@ function drawOverlay() {
   if (!board.isOpen) return;
   overlayContext.setTransform(sight.zoom, 0, 0, sight.zoom, Math.round(sight.left), Math.round(sight.top));
   for (const edit of outbox) edit.strokes.forEach(drawWaiting);
-  if (hand.gesture) drawRuns([...hand.gesture.rows.values()].flat(), cssInHand(.6));
+  drawShadow();
+  if (hand.gesture) drawRuns([...hand.gesture.rows.values()].flat(), colourInHand(hand.gesture));
   if (hand.hovered) drawHovered(hand.hovered);
   drawPointed();
-  if (hand.pixel && hand.tool === "brush" && !hand.pan && !hand.stretch) drawBrush(hand.pixel);
+  drawLineToPointer();
+  drawPolygon();
+  if (hand.pixel && hasBrush() && !hand.pan && !hand.stretch) drawBrush(hand.pixel);
+}
+
+const hasBrush = () => hand.gesture !== null || ["brush", "line", "eraser"].includes(hand.tool);
+const colourInHand = ({ tool }) => tool === "eraser" ? hatching() : cssInHand(.6);
+
+/** Black and white lines, equally wide at each zoom, for what the eraser takes. */
+function hatching() {
+  hatching.pattern ??= overlayContext.createPattern(hatchedCanvas(), "repeat");
+  hatching.pattern.setTransform(new DOMMatrix().scale(sight.ratio / sight.zoom));
+  return hatching.pattern;
+}
+
+function hatchedCanvas() {
+  const canvas = Object.assign(document.createElement("canvas"), { width: 8, height: 8 });
+  const context = canvas.getContext("2d");
+  for (let y = 0; y < 8; y++) {
+    for (let x = 0; x < 8; x++) {
+      context.fillStyle = (x + y) % 8 < 4 ? "#000b" : "#fffb";
+      context.fillRect(x, y, 1, 1);
+    }
+  }
+  return canvas;
 }
 
 function drawRuns(runs, colour) {
@@ -101,9 +126,14 @@ function drawOutline(stroke, colour, width) {
 function drawBrush({ x, y }) {
   overlayContext.beginPath();
   overlayContext.arc(x + .5, y + .5, brush.radius + .5, 0, 2 * Math.PI);
-  for (const [colour, width] of [["#000a", 3], ["#fff", 1.2]]) {
-    overlayContext.strokeStyle = colour;
-    overlayContext.lineWidth = width / sight.zoom;
+  strokeTwice("#fff", 1.2);
+}
+
+/** Strokes the path with a colour, over a wider dark line. */
+function strokeTwice(colour, width) {
+  for (const [edge, wider] of [["#000a", 1.8], [colour, 0]]) {
+    overlayContext.strokeStyle = edge;
+    overlayContext.lineWidth = (width + wider) / sight.zoom;
     overlayContext.stroke();
   }
 }

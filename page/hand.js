@@ -1,24 +1,39 @@
-// ---- The hand: what the one pointer does that paints, withdraws, moves the picture or changes its contrast ----
+// ---- The hand: what the one pointer does that paints, erases, withdraws, moves the picture or changes contrast ----
 
 const hand = {
   tool: "brush", pointer: null,  // the pointer that is down
   point: null, pixel: null, gesture: null, pan: null, stretch: null, aim: null, hovered: null, isSpaceHeld: false,
+  isAtCorner: false,  // whether a corner of the polygon is set once the pointer goes up
 };
+
+// The number of the other end of a pen as a button, and its bit among those that are pressed.
+const OTHER_END = 5, OTHER_END_BIT = 32;
 
 const isOther = event => hand.pointer !== null && hand.pointer !== event.pointerId;
 
 function pointerDown(event) {
   if (!board.isOpen || !letsIn(event) || isOther(event)) return;
+  if (hand.pointer === event.pointerId) pointerLost(event);
   overlay.setPointerCapture(event.pointerId);
+  keysToPicture();
   hand.pointer = event.pointerId;
   movePointer(event);
   hover();
   if (event.button === 1 || (event.button === 0 && hand.isSpaceHeld)) startPan();
   else if (event.button === 2) startStretch();
-  else if (event.button === 0 && hand.tool === "withdraw") aim();
-  else if (event.button === 0 && event.altKey) takeLevel();
-  else if (event.button === 0) startGesture();
+  else if (event.button === 0 || event.button === OTHER_END) takeTool(toolOf(event), event);
   showCursor();
+}
+
+/** The tool that a pointer has. The other end of a pen erases. */
+const toolOf = ({ button, buttons }) => button === OTHER_END || buttons & OTHER_END_BIT ? "eraser" : hand.tool;
+
+function takeTool(tool, { altKey, shiftKey }) {
+  if (tool === "withdraw") aim();
+  else if (altKey && tool !== "eraser") takeLevel();
+  else if (tool !== "eraser" && !letsPaint()) return;
+  else if (tool === "polygon") hand.isAtCorner = true;
+  else startGesture(tool, tool === "line" || (tool === "brush" && shiftKey));
 }
 
 function startPan() {
@@ -46,21 +61,30 @@ function takeLevel() {
   if (holds(wholeBoard(), hand.pixel)) setLevel(board.mask[hand.pixel.y * board.width + hand.pixel.x]);
 }
 
-function startGesture() {
-  if (!letsPaint()) return;
-  hand.gesture = { rows: new Map(), last: hand.pixel, radius: brush.radius, isDisc: true };
-  addDisc(hand.gesture.rows, hand.pixel, brush.radius);
+function startGesture(tool, isStraight) {
+  const from = tool === "line" && lineInHand.start ? lineInHand.start : hand.pixel;
+  hand.gesture = { tool, isStraight, from, point: hand.point, rows: new Map(), last: hand.pixel, radius: brush.radius,
+    isDisc: true };
+  if (isStraight) straighten(hand.gesture);
+  else addDisc(hand.gesture.rows, hand.pixel, brush.radius);
   redrawOverlay();
 }
 
 function pointerMove(event) {
   if (!board.isOpen || !letsMove(event) || isOther(event)) return;
+  if (isLetGo(event)) pointerLost(event);
   const events = event.getCoalescedEvents?.() ?? [];
   for (const each of events.length > 0 ? events : [event]) movePointer(each);
   if (hand.stretch) stretch(hand.stretch);
+  shadow.isResting = false;
   hover();
   sayPixel();
   redrawOverlay();
+}
+
+/** Whether the button went up where the page did not see it. */
+function isLetGo({ pointerId, pointerType, buttons }) {
+  return hand.pointer === pointerId && pointerType !== "touch" && buttons === 0;
 }
 
 function movePointer(event) {
@@ -78,6 +102,7 @@ function pan() {
 
 function extendGesture(gesture) {
   if (gesture.last.x === hand.pixel.x && gesture.last.y === hand.pixel.y) return;
+  if (gesture.isStraight) return straighten(gesture);
   addLine(gesture.rows, gesture.last, hand.pixel, gesture.radius);
   gesture.last = hand.pixel;
   gesture.isDisc = false;
@@ -86,16 +111,24 @@ function extendGesture(gesture) {
 function pointerUp(event) {
   liftFinger(event.pointerId);
   if (hand.pointer !== event.pointerId) return;
-  const { gesture, aim, hovered } = hand, begun = performance.now();
+  const { gesture, aim, hovered, isAtCorner } = hand, begun = performance.now();
   releaseHand();
-  if (gesture) paint(gesture, begun);
+  if (gesture) finishGesture(gesture, begun);
+  else if (isAtCorner) clickCorner();
   else if (aim && aim === hovered) takeBack(event.shiftKey ? strokesOfGesture(aim.gesture) : [aim]);
 }
 
-/** A pointer that is lost, or was let go, holds nothing any more. */
+function finishGesture(gesture, begun) {
+  shadow.isResting = true;
+  if (gesture.tool === "eraser") erase(gesture.rows, begun);
+  else if (gesture.tool === "line") finishLine(gesture, begun);
+  else paint(gesture, begun);
+}
+
+/** A pointer is lost that did not go up. What a mouse or a pen painted up to there stays, and nothing else counts. */
 function pointerLost(event) {
-  liftFinger(event.pointerId);
-  if (hand.pointer === event.pointerId) releaseHand();
+  if (hand.pointer === event.pointerId && (event.pointerType === "touch" || !hand.gesture)) releaseHand();
+  pointerUp(event);
 }
 
 function releaseHand() {
@@ -109,6 +142,7 @@ function dropHand() {
   hand.pan = null;
   hand.stretch = null;
   hand.aim = null;
+  hand.isAtCorner = false;
   showCursor();
   redrawOverlay();
 }
@@ -121,7 +155,7 @@ function hover() {
 }
 
 function showCursor() {
-  const tool = hand.tool === "brush" ? "crosshair" : hand.hovered ? "pointer" : "default";
+  const tool = hand.tool !== "withdraw" ? "crosshair" : hand.hovered ? "pointer" : "default";
   overlay.style.cursor = hand.pan ? "grabbing" : hand.stretch ? "move" : hand.isSpaceHeld ? "grab" : tool;
 }
 

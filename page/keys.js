@@ -2,10 +2,14 @@
 
 const KEYS = {
   b: () => setTool("brush"),
+  i: () => setTool("line"),
+  g: () => setTool("polygon"),
+  d: () => setTool("eraser"),
   x: () => setTool("withdraw"),
   a: () => setLevel(null),
   m: () => setLevel(board.maxval),
   h: () => showStrokes(!view.areStrokesShown),
+  s: () => showShadow(!shadow.isShown),
   c: () => toggleContrast(true),
   p: setByPercentiles,
   e: () => toggleExports(true),
@@ -19,23 +23,60 @@ const KEYS = {
 };
 
 function keyDown(event) {
-  if (["number", "text"].includes(event.target.type) || isForPanel(event) || !board.isOpen) return;
+  if (event.key === "Enter" && event.target.type === "number") return keysToPicture();
+  if (isForElement(event) || !board.isOpen) return;
   const action = actionOf(event);
   if (!action) return;
   event.preventDefault();
   action();
 }
 
+/** The picture has the keys, and no button, slider or panel. */
+const keysToPicture = () => overlay.focus({ preventScroll: true });
+
+// Elements that one types or chooses in, and those that are pressed.
+const TYPED_IN = "input:not([type=range]):not([type=file]):not([type=checkbox]):not([type=radio]), select, textarea";
+const PRESSED = "button, a, label, summary, input:not([type=range]), [role=button], [role=option]";
+
+/** Whether a key is for the element that has the focus: what is typed, what moves a slider, what presses a button. */
+function isForElement({ target, key }) {
+  if (key === "Escape" || !(target instanceof Element)) return false;
+  if (key === "Tab" || target.matches(TYPED_IN)) return true;
+  if (target.matches("input[type=range]")) return /^(Arrow|Home|End|Page)/.test(key);
+  return target.matches(PRESSED) && (key === " " || key === "Enter");
+}
+
+const ARROWS = { arrowleft: [-1, 0], arrowright: [1, 0], arrowup: [0, -1], arrowdown: [0, 1] };
+const SHORT_WAY = 1 / 12, LONG_WAY = 2 / 3;  // of the canvas, for one press of an arrow
+
+/** Moves what is seen of the picture to a side. */
+function lookAside([across, down], isFar) {
+  const way = Math.min(picture.width, picture.height) * (isFar ? LONG_WAY : SHORT_WAY);
+  sight.left -= across * way;
+  sight.top -= down * way;
+  followSight();
+}
+
 function actionOf(event) {
   const key = event.key.toLowerCase(), isCommand = event.ctrlKey || event.metaKey;
-  if (isCommand && key === "z") return event.shiftKey ? redo : undo;
+  if (isCommand && key === "z") return event.shiftKey ? redo : polygonAction("backspace") ?? undo;
   if (isCommand && key === "y") return redo;
   if (key === " ") return () => holdSpace(true);
-  if (key === "tab") return () => nextView(event.shiftKey ? -1 : 1);
+  if (polygonAction(key) && !hand.gesture) return polygonAction(key);
+  if (key === "escape") return escape;
+  if (key in ARROWS && !event.altKey && !isCommand) return () => lookAside(ARROWS[key], event.shiftKey);
   if (key === "f" && !isCommand) return event.shiftKey ? pixelForPixel : fit;
   if (/^\d$/.test(key) && !isCommand && !event.altKey) return () => typeDigit(event);
-  if (key === "escape") return () => { dropHand(); element("help").hidden = true; };
+  if (key === "v" && !isCommand) return () => nextView(event.shiftKey ? -1 : 1);
   return isCommand && key !== "[" && key !== "]" ? undefined : KEYS[key];
+}
+
+/** Drops what is in hand, closes the help, and gives the keys to the picture. */
+function escape() {
+  lineInHand.start = null;
+  dropHand();
+  element("help").hidden = true;
+  keysToPicture();
 }
 
 function holdSpace(isHeld) {
@@ -50,7 +91,8 @@ function toggleHelp() {
 }
 
 const BUTTONS = {
-  brush: KEYS.b, withdraw: KEYS.x, autoLevel: KEYS.a, mostLevel: KEYS.m, strokesShown: KEYS.h, fit, undo, redo,
+  brush: KEYS.b, line: KEYS.i, polygon: KEYS.g, eraser: KEYS.d, withdraw: KEYS.x, undo, redo, fit,
+  autoLevel: KEYS.a, mostLevel: KEYS.m, strokesShown: KEYS.h, shadowShown: KEYS.s,
   contrastShown: () => toggleContrast(false), classesShown: () => toggleClasses(false),
   byClass: () => markBy("class"), byAuthor: () => markBy("author"),
   exportsShown: () => toggleExports(false),
@@ -59,17 +101,17 @@ const BUTTONS = {
   saveStray, saveWaiting: () => saveEdits(board.fingerprint, waitingBodies()),
 };
 
-/** A button acts and gives the keys back to the picture. */
+/** A button acts. One that a pointer pressed gives the keys back to the picture. */
 function listenToButtons() {
   for (const [id, action] of Object.entries(BUTTONS)) {
-    element(id).addEventListener("click", () => { action(); element(id).blur(); });
+    element(id).addEventListener("click", event => {
+      action();
+      if (event.detail > 0) keysToPicture();
+    });
   }
   element("radius").addEventListener("input", event => setRadius(event.target.valueAsNumber));
-  element("radius").addEventListener("change", event => event.target.blur());
-  element("level").addEventListener("change", event => {
-    setLevel(event.target.valueAsNumber || null);
-    event.target.blur();
-  });
+  element("radius").addEventListener("pointerup", keysToPicture);
+  element("level").addEventListener("change", event => setLevel(event.target.valueAsNumber || null));
   element("newAddress").addEventListener("keydown", event => { if (event.key === "Enter") BUTTONS.goThere(); });
   element("file").addEventListener("change", event => {
     joinFiles([...event.target.files]);

@@ -14,6 +14,7 @@ function start() {
   setTool("brush");
   setRadius(brush.radius);
   press("strokesShown", true);
+  recallShadow();
   press("contrastShown", false);
   press("classesShown", false);
   press("exportsShown", false);

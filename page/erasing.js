@@ -1,0 +1,76 @@
+// ---- Erasing: what the eraser touches is taken off of one's own strokes ----
+
+// A gesture is one object. Where the eraser touches a stroke of it, all of its strokes are withdrawn, and what is left
+// of them is placed anew as one gesture.
+
+/** Erases the pixels of a set, as one act. Strokes of others, and those of classes that are locked or hidden, stay. */
+function erase(rows, begun) {
+  const erased = sortedRows(rows), live = liveStrokes();
+  const touched = strokesOn(live, erased), mine = new Set(touched.filter(mayErase).map(stroke => stroke.gesture));
+  if (mine.size === 0) return touched.length > 0 && sayWhatStays(touched);
+  const strokes = live.filter(stroke => mine.has(stroke.gesture) && mayErase(stroke));
+  replaceStrokes(strokes, restsOf(strokes, erased), begun);
+}
+
+const mayErase = stroke => authorOf(stroke.tag) === author && isWithinReach(stroke);
+
+function sayWhatStays(touched) {
+  const isMine = touched.some(({ tag }) => authorOf(tag) === author);
+  const areOthers = touched.some(({ tag }) => authorOf(tag) !== author);
+  const kept = "those of classes that are locked or hidden";
+  if (areOthers) sayFault(`The eraser leaves strokes of others${isMine ? `, and ${kept}` : ""}.`);
+  else sayFault(`The eraser leaves ${kept}.`);
+}
+
+/** The live strokes, with those that wait to be placed, and without those whose withdrawal waits. */
+function liveStrokes() {
+  const strokes = new Map(board.strokes);
+  for (const { strokes: coming } of outbox) for (const stroke of coming) strokes.set(stroke.tag, stroke);
+  for (const { withdrawn } of outbox) for (const tag of withdrawn) strokes.delete(tag);
+  return [...strokes.values()];
+}
+
+/** Those of some strokes that have a pixel of a set. */
+function strokesOn(strokes, rows) {
+  const box = boxOf([...rows.values()].flat());
+  return strokes.filter(stroke => meets(stroke.box, box) && restOf(stroke.runs, rows) !== null);
+}
+
+/** A set with the runs of each row in their order. */
+function sortedRows(rows) {
+  return new Map([...rows].map(([y, runs]) => [y, [...runs].sort((one, other) => one.first - other.first)]));
+}
+
+/** What is left of runs without the pixels of a set, or null where none of them is in it. */
+function restOf(runs, rows) {
+  const rest = [];
+  let isTouched = false;
+  for (const run of runs) {
+    const parts = rows.has(run.y) ? uncovered(run.first, run.last, rows.get(run.y)) : [[run.first, run.last + 1]];
+    if (parts.length !== 1 || parts[0][0] !== run.first || parts[0][1] !== run.last + 1) isTouched = true;
+    for (const [start, end] of parts) rest.push({ y: run.y, first: start, last: end - 1 });
+  }
+  return isTouched ? rest : null;
+}
+
+/** What places some strokes anew without the pixels of a set. Untouched ones stay as they are; the others are runs. */
+function restsOf(strokes, rows) {
+  const rests = [], touched = new Map();
+  for (const stroke of strokes) {
+    const rest = restOf(stroke.runs, rows), like = `${stroke.gesture} ${stroke.inClass} ${stroke.level}`;
+    if (rest === null) rests.push(asPlaced(stroke));
+    else if (touched.has(like)) touched.get(like).rest.push(...rest);
+    else touched.set(like, { stroke, rest });
+  }
+  for (const { stroke, rest } of touched.values()) {
+    for (const shape of shapesOfRuns(inOneSet(rest))) rests.push({ ...asPlaced(stroke), kind: "place", shape });
+  }
+  return rests;
+}
+
+/** The runs of all pixels of some runs, by row and column. */
+function inOneSet(runs) {
+  const rows = new Map();
+  for (const { y, first, last } of runs) addRun(rows, y, first, last);
+  return runsOf(rows);
+}
