@@ -4,9 +4,9 @@
     /usr/bin/python3 tools/test_exports_page.py
 
 Node.js writes files of made-up labellings with the page's own encoders, page/png.js, tiff.js, tables.js, coco.js and
-copies.js, and they are read by scikit-image, Pillow, tifffile and numpy, Python's csv, and a plain decoder of COCO's run
-lengths. It takes a minute at most, and needs Node.js and Debian's packages python3-numpy, python3-pil, python3-skimage
-and python3-tifffile.
+copies.js, and they are read by scikit-image, Pillow, tifffile and numpy, Python's csv, and the plain readers of
+reading_exports.py, which decode COCO's run lengths, too. It takes half a minute, and needs Node.js and Debian's
+packages python3-numpy, python3-pil, python3-skimage and python3-tifffile.
 """
 
 import csv
@@ -29,6 +29,7 @@ except ModuleNotFoundError as missing:
     without(missing)
 
 from pictures import read_grey
+from reading_exports import counts_of, places_of, read_png, read_tiff
 from strokes import read_live_strokes, spelled_stroke
 from testing import TOP
 
@@ -112,32 +113,11 @@ class Case:
         return [each for each in self.objects if each["number"] in there]
 
 
-# ---- COCO's run lengths, decoded as its definition says ----
-
-def counts_of(text):
-    """The counts that the characters of a compressed string spell: five bits each, and from the fourth on differences."""
-    counts, place = [], 0
-    while place < len(text):
-        value = shift = 0
-        is_more = True
-        while is_more:
-            code = ord(text[place]) - 48
-            assert 0 <= code < 64
-            value |= (code & 31) << shift
-            is_more, place, shift = bool(code & 32), place + 1, shift + 5
-        if code & 16:
-            value -= 1 << shift
-        counts.append(value + counts[-2] if len(counts) > 2 else value)
-    return counts
-
-
 def decoded(segmentation):
-    """The mask of a segmentation: counts of pixels outside and inside in turns, column by column."""
-    height, width = segmentation["size"]
-    counts = counts_of(segmentation["counts"])
-    assert all(count > 0 for count in counts[1:]) and counts[0] >= 0 and sum(counts) == height * width
-    flat = numpy.repeat(numpy.arange(len(counts)) % 2, counts)
-    return flat.reshape(width, height).T.astype(bool)
+    """The mask of a segmentation."""
+    mask = numpy.zeros(segmentation["size"], dtype=bool)
+    mask[tuple(numpy.array(places_of(segmentation)).T)] = True
+    return mask
 
 
 class Exports(unittest.TestCase):
@@ -165,6 +145,10 @@ class Exports(unittest.TestCase):
         numpy.testing.assert_array_equal(found.reshape(expected.shape), expected)
         self.assertEqual(found.shape, expected.shape)
 
+    def plain(self, samples, bits):
+        """What the plain readers find."""
+        return samples.shape[1], samples.shape[0], bits, samples.ravel().tolist()
+
     def test_label_png(self):
         for case in self.of_each():
             if case.labels.max() > 65535:
@@ -175,6 +159,7 @@ class Exports(unittest.TestCase):
                 self.assertIn(picture.mode, ("I", "I;16"))
                 numpy.testing.assert_array_equal(numpy.asarray(picture), case.labels)
             self.same(skimage.io.imread(case.file(".png")), case.labels, "u2")
+            self.assertEqual(read_png(case.file(".png").read_bytes()), self.plain(case.labels, 16))
 
     def test_label_tiff(self):
         for case in self.of_each():
@@ -189,6 +174,7 @@ class Exports(unittest.TestCase):
                                      ("<", 1, "MINISBLACK", 1))
                     self.same(page.asarray(), case.labels, f"u{bits // 8}")
                 self.same(skimage.io.imread(path), case.labels, f"u{bits // 8}")
+                self.assertEqual(read_tiff(path.read_bytes()), self.plain(case.labels, bits))
                 with Image.open(path) as picture:
                     numpy.testing.assert_array_equal(numpy.asarray(picture).astype("i8"), case.labels)
 
@@ -251,7 +237,7 @@ class Exports(unittest.TestCase):
 
 
 class Decoder(unittest.TestCase):
-    """The decoder of the tests, by strings that were spelled by hand."""
+    """The decoder of run lengths, by strings that were spelled by hand."""
 
     def test_counts(self):
         for text, counts in [("T3", [100]), ("0T3", [0, 100]), ("?", [15]), ("`0", [16]), ("n0", [30]), ("o0", [31]),

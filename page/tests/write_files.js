@@ -1,9 +1,9 @@
 "use strict";
 
-// Writes files of made-up pictures and labellings, for tools that read them back:  node page/tests/write_files.js FOLDER
+// Writes files of made-up labellings, for tools that read them back:  node page/tests/write_files.js FOLDER
 //
-// Each NAME.case of the folder is JSON: width, height, the bits of the numbers, the maxval of the mask, objects, the names
-// of classes, and strokes. NAME.numbers and NAME.mask have the samples, little endian. Beside them come NAME.png,
+// Each NAME.case of the folder is JSON: width, height, the bits of the numbers, the maxval of the mask, objects, the
+// names of classes, and strokes. NAME.numbers and NAME.mask have the samples, little endian. Beside them come NAME.png,
 // NAME.16.tif, NAME.32.tif, NAME.csv, NAME.json, NAME.pgm and NAME.mask.png of the mask, and NAME.txt.
 
 const { readFileSync, readdirSync, writeFileSync } = require("node:fs");
