@@ -40,7 +40,7 @@ function dropEdit(edit) {
 async function joinFile(file) {
   const bytes = new Uint8Array(await file.arrayBuffer()), text = editTextOf(bytes);
   if (text !== null) return joinText(text, file.name);
-  for (const body of partsOf(bytes)) {
+  for (const body of fileParts(bytes)) {
     addEdit({ path: "state", name: "", body, begun: performance.now(), subject: file.name, file });
   }
 }
@@ -78,7 +78,7 @@ function textParts(text) {
 }
 
 /** A state file in parts, cut between its frames, each of which stands behind its length. */
-function partsOf(bytes) {
+function fileParts(bytes) {
   const parts = [];
   let start = 0, end = 0;
   while (end + 2 <= bytes.length) {
