@@ -70,40 +70,45 @@ def is_plain(page, pixel):
     return seen == plain
 
 
-def digits_choose(sitting):
-    """Digits choose the class, strokes get it in their tags, and both pages show its colour."""
+def two_classes(sitting):
+    """A digit chooses the class, strokes get it in their tags, and both pages show its colour."""
     for mask in BOTH_DEPTHS:
-        sitting.open_anew(mask, f"digits-{mask}.spd")
+        sitting.open_anew(mask, f"two-classes-{mask}.spd")
         first, second = sitting.first, sitting.second
         first.drag(ONE)
         sitting.both(1)
         check(class_in(first.strokes()[0]) == 1, f"{mask}: what is painted at first is of class 1")
-        check(first.tab.text("counts").startswith("1 mine") and first.tab.run("marking.isByClass") is False,
-              f"{mask}: with class 1 alone strokes have the colours of authors")
-        press_digits(first, "2")
+        check(first.tab.run("marking.isByClass") is False, f"{mask}: with class 1 alone strokes are drawn by authors")
+        first.tab.key("2")
         check(first.tab.text("className") == "Class 2", f"{mask}: a digit chooses a class, and the header says so")
         first.drag(TWO)
         sitting.both(2)
-        check(class_in(first.strokes()[1]) == 2, f"{mask}: its tag tells the class")
+        check(class_in(first.strokes()[1]) == 2, f"{mask}: the tag of what is painted tells the class")
         check(all(is_marked(page, ONE, SKY) and is_marked(page, TWO, VERMILION) for page in (first, second)),
               f"{mask}: both pages draw each stroke in the colour of its class")
+        check(second.tab.text("counts") == "0 mine2 of others", f"{mask}: and tell one's own from those of others")
         sitting.look(f"classes-{mask}")
-        for text, expected in (("17", 17), ("255", 255), ("256", 6), ("040", 40), ("9", 9), ("0", 9)):
-            press_digits(first, text)
-            check(first.tab.run("brush.inClass") == expected, f"{mask}: {text} chooses class {expected}")
-        press_digits(first, "1")
-        press_digits(first, "2")
-        check(first.tab.run("brush.inClass") == 2, f"{mask}: a digit behind a pause begins anew")
-        check(first.tab.run("sight.zoom") == second.tab.run("sight.zoom"), f"{mask}: and no digit zooms any more")
-        first.tab.key("F", SHIFT)
-        check(first.tab.run("sight.zoom") == 1, f"{mask}: Shift+F goes pixel for pixel")
-        first.tab.key("f")
-        check(first.tab.run("sight.zoom") == second.tab.run("sight.zoom"), f"{mask}: F fits the whole picture")
-        press_digits(first, "255")
-        first.drag(THREE)
-        sitting.both(3)
-        check([class_in(line) for line in sorted(second.strokes(), key=class_in)] == [1, 2, 255],
-              f"{mask}: classes up to 255 reach the other page")
+
+
+def numbers_typed(sitting):
+    """Digits that come fast are one number; none of them zooms."""
+    sitting.open_anew("cells", "numbers.spd")
+    page, zoom = sitting.first, sitting.first.tab.run("sight.zoom")
+    for text, expected in (("17", 17), ("256", 6), ("040", 40), ("9", 9), ("0", 9)):
+        press_digits(page, text)
+        check(page.tab.run("brush.inClass") == expected, f"{text} chooses class {expected}")
+    press_digits(page, "1")
+    press_digits(page, "2")
+    check(page.tab.run("brush.inClass") == 2, "a digit behind a pause begins anew")
+    check(page.tab.run("sight.zoom") == zoom, "and no digit zooms")
+    page.tab.key("F", SHIFT)
+    check(page.tab.run("sight.zoom") == 1, "Shift+F goes pixel for pixel")
+    page.tab.key("f")
+    check(page.tab.run("sight.zoom") == zoom, "F fits the whole picture")
+    press_digits(page, "255")
+    page.drag(THREE)
+    sitting.both(1)
+    check(class_in(sitting.second.strokes()[0]) == 255, "class 255 reaches the other page")
 
 
 def undo_keeps_the_class(sitting):
@@ -340,7 +345,7 @@ def go_to_objects(sitting, page):
     page.tab.key("Escape")
 
 
-CHECKS = [digits_choose, undo_keeps_the_class, the_list, hidden_and_locked, to_another_class, many_objects]
+CHECKS = [two_classes, numbers_typed, undo_keeps_the_class, the_list, hidden_and_locked, to_another_class, many_objects]
 
 
 if __name__ == "__main__":
