@@ -122,12 +122,14 @@ const ROW_ACTIONS = {
 
 const rowOf = part => classRows.get(Number(part.closest(".classRow").dataset.number));
 
-function clickInClasses({ target }) {
+/** A button of a row acts. One that a pointer pressed gives the keys back to the picture. */
+function clickInClasses({ target, detail }) {
   const action = ROW_ACTIONS[target.className];
   if (!action) return;
   const row = rowOf(target);
   action(row, target.closest("[data-gesture]")?.dataset.gesture);
   sayRow(row);
+  if (detail > 0) keysToPicture();
 }
 
 function changeInClasses({ target }) {
@@ -158,9 +160,11 @@ function keyInClasses(event) {
   const isName = event.target.className === "name";
   if (event.key === "Escape" && isName) {
     event.target.value = classes.get(rowOf(event.target).number).name;
-    event.target.blur();
-  } else if (event.key === "Escape") showClasses(false);
-  else if (event.key === "Enter" && isName) event.target.blur();
+    keysToPicture();
+  } else if (event.key === "Escape") {
+    showClasses(false);
+    keysToPicture();
+  } else if (event.key === "Enter" && isName) keysToPicture();
   else if (!stepInList(event)) return;
   event.preventDefault();
   event.stopPropagation();
@@ -182,9 +186,6 @@ function listenToClasses() {
   list.addEventListener("change", changeInClasses);
   list.addEventListener("input", event => { if (event.target.className === "colour") changeInClasses(event); });
   element("classes").addEventListener("keydown", keyInClasses);
-  element("classes").addEventListener("pointerup", ({ target }) => {
-    if (target.closest("button")) document.activeElement?.blur();
-  });
   element("addClass").addEventListener("click", addClass);
   addEventListener("storage", ({ key }) => { if (board.isOpen && key === classesName()) recallClasses(); });
 }
