@@ -36,6 +36,11 @@ def row(number, part):
     return f"""document.querySelector("[data-number='{number}'] .{part}")"""
 
 
+def listed(page):
+    """The classes in the list, in their order."""
+    return page.tab.run("[...element('classList').children].map(row => Number(row.dataset.number))")
+
+
 def text_in_row(page, number, part):
     """What stands in a part of the row of a class."""
     return page.tab.run(row(number, part) + ".textContent")
@@ -156,7 +161,7 @@ def the_list(sitting):
         page.tab.key("k")
         check(page.tab.run("!element('classes').hidden && document.activeElement === "
                            + row(3, "pick")), f"{mask}: K opens the list, and leads the keys to the class")
-        check(page.tab.run("[...classRows.keys()]") == [1, 3], f"{mask}: it has the classes that are used")
+        check(listed(page) == [1, 3], f"{mask}: it has the classes that are used")
         check("3 objects · 4 strokes" in text_in_row(page, 1, "unfold"), f"{mask}: with their objects and strokes")
         name_class(page, 3, "Zellkern; „A“")
         check(page.tab.text("className") == "3 · Zellkern; „A“", f"{mask}: a class gets a name")
@@ -165,7 +170,7 @@ def the_list(sitting):
         click_row(page, 1, "pick")
         check(page.tab.run("brush.inClass") == 1, f"{mask}: a click picks a class to paint with")
         page.click("addClass")
-        check(page.tab.run("[...classRows.keys()]") == [1, 2, 3] and page.tab.run("brush.inClass") == 2,
+        check(listed(page) == [1, 2, 3] and page.tab.run("brush.inClass") == 2,
               f"{mask}: a class is added, and painted with")
         page.tab.type("Plate")
         page.tab.key("Enter")
