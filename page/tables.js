@@ -1,10 +1,10 @@
 // ---- Tables: of each label what it is and what it measures, as comma-separated values (RFC 4180, with LF) ----
 
 // Nothing here knows of the page. A labelling has its width and height, the number of a label for each pixel, 0 for
-// none, and the objects that the labels number.
+// none, and the objects that the labels number. The table is the one of tools/labels_from_result.py, byte for byte.
 
-const TABLE_COLUMNS = ["label", "class", "name", "stroke", "strokes", "area", "left", "top", "right", "bottom",
-  "x", "y", "mean", "min", "max"];
+const TABLE_COLUMNS = ["label", "stroke", "area", "left", "top", "right", "bottom", "mean", "class", "name", "strokes",
+  "x", "y", "min", "max"];
 const ROWS_AT_ONCE = 1000;
 
 /** The parts of the table of a labelling, by label. Labels without a pixel have no row. */
@@ -69,15 +69,9 @@ function addRunTo(sums, number, y, first, last, samples) {
 
 function tableLine({ number, inClass, tag, strokes }, sums, nameOf) {
   const area = sums.areas[number], box = [sums.lefts, sums.tops, sums.rights, sums.bottoms].map(side => side[number]);
-  const means = [sums.acrosses, sums.downs, sums.lights].map(sum => inThousandths(sum[number] / area));
-  const ends = [sums.leasts[number], sums.mosts[number]];
-  return `${[number, inClass, field(harmless(nameOf(inClass))), tag, strokes, area, ...box, ...means, ...ends]}\n`;
-}
-
-/** A number with three decimals. Where two are equally near it is the even one, as Python has it. */
-function inThousandths(value) {
-  const isBetween = value * 16 % 2 === 1;  // (no others are between two, as 1/16 = 0.0625 is)
-  return isBetween && "02468".includes(value.toFixed(4).at(-2)) ? value.toFixed(4).slice(0, -1) : value.toFixed(3);
+  const [x, y, mean] = [sums.acrosses, sums.downs, sums.lights].map(sum => (sum[number] / area).toFixed(3));
+  const name = field(harmless(nameOf(inClass))), ends = [sums.leasts[number], sums.mosts[number]];
+  return `${[number, tag, area, ...box, mean, inClass, name, strokes, x, y, ...ends]}\n`;
 }
 
 /** A text as it stands between two commas. */

@@ -16,6 +16,7 @@ import subprocess
 import tempfile
 import unittest
 import uuid
+from typing import NamedTuple
 
 from running import without
 
@@ -28,6 +29,7 @@ try:
 except ModuleNotFoundError as missing:
     without(missing)
 
+from labels_from_result import rows_of, shown, write_table
 from pictures import read_grey
 from reading_exports import counts_of, places_of, read_png, read_tiff
 from strokes import read_live_strokes, spelled_stroke
@@ -43,8 +45,13 @@ AS_WRITTEN = NAMES | {3: "'=1+2"}
 def objects_of(labels, chance):
     """The objects of labels, and some that have no pixel."""
     numbers = sorted({*numpy.unique(labels).tolist(), *range(1, 4)} - {0})
-    return [{"number": number, "gesture": f"{number:027x}", "tag": str(uuid.UUID(int=number << 20 | 1)),
-             "inClass": int(chance.integers(1, 6)), "strokes": int(chance.integers(1, 9))} for number in numbers]
+    return [object_of(number, int(chance.integers(1, 6)), int(chance.integers(1, 9))) for number in numbers]
+
+
+def object_of(number, in_class, strokes):
+    """An object by its tag, which tells its class."""
+    tag = uuid.UUID(f"{7:016x}e{number:010x}0{in_class:02x}00")
+    return {"number": number, "gesture": tag.hex[:27], "tag": str(tag), "inClass": in_class, "strokes": strokes}
 
 
 def strokes_of(objects, width, height, chance):
@@ -118,6 +125,12 @@ def decoded(segmentation):
     mask = numpy.zeros(segmentation["size"], dtype=bool)
     mask[tuple(numpy.array(places_of(segmentation)).T)] = True
     return mask
+
+
+class Known(NamedTuple):
+    """What the table of labels_from_result.py knows of objects."""
+    tags: list
+    strokes: list
 
 
 class Exports(unittest.TestCase):
@@ -199,11 +212,24 @@ class Exports(unittest.TestCase):
                 samples = case.mask[rows_in, columns_in][inside]
                 y, x = numpy.nonzero(inside)
                 sums = [x.sum() + columns_in.start * x.size, y.sum() + rows_in.start * y.size, samples.sum()]
-                means = [f"{total / x.size:.3f}" for total in sums]
-                self.assertEqual(list(row.values()), [str(value) for value in (
-                    known["number"], known["inClass"], AS_WRITTEN[known["inClass"]], known["tag"], known["strokes"],
-                    x.size, columns_in.start, rows_in.start, columns_in.stop - 1, rows_in.stop - 1, *means,
-                    samples.min(), samples.max())])
+                means = [str(shown(total / x.size)) for total in sums]
+                self.assertEqual(row, {name: str(value) for name, value in (
+                    ("label", known["number"]), ("class", known["inClass"]), ("name", AS_WRITTEN[known["inClass"]]),
+                    ("stroke", known["tag"]), ("strokes", known["strokes"]), ("area", x.size),
+                    ("left", columns_in.start), ("top", rows_in.start), ("right", columns_in.stop - 1),
+                    ("bottom", rows_in.stop - 1), ("x", means[0]), ("y", means[1]), ("mean", means[2]),
+                    ("min", samples.min()), ("max", samples.max()))})
+
+    def test_table_of_the_tool(self):
+        for case in self.of_each():
+            present = case.present()
+            owners = numpy.searchsorted([each["number"] for each in present], case.labels)
+            seeds = Known([uuid.UUID(each["tag"]) for each in present], [each["strokes"] for each in present])
+            rows = rows_of(numpy.where(case.labels == 0, -1, owners), case.mask, seeds,
+                           [each["number"] for each in present], AS_WRITTEN)
+            path = case.file(".tool.csv")
+            write_table(path, rows)
+            self.assertEqual(case.file(".csv").read_bytes(), path.read_bytes())
 
     def test_coco(self):
         for case in self.of_each():

@@ -8,10 +8,10 @@ const { test } = require("node:test");
 const { inflateSync } = require("node:zlib");
 const { load } = require("./load.js");
 
-const { SLICE_BYTES, checkSumOf, cocoParts, countsOfRuns, editParts, field, harmless, inThousandths, pgmParts, pngParts,
+const { SLICE_BYTES, checkSumOf, cocoParts, countsOfRuns, editParts, field, harmless, pgmParts, pngParts,
   sizeInWords, spelledCounts, stemOf, tableParts, tiffParts,
 } = load(["png.js", "tiff.js", "tables.js", "coco.js", "copies.js", "exports.js"],
-  ["SLICE_BYTES", "checkSumOf", "cocoParts", "countsOfRuns", "editParts", "field", "harmless", "inThousandths",
+  ["SLICE_BYTES", "checkSumOf", "cocoParts", "countsOfRuns", "editParts", "field", "harmless",
     "pgmParts", "pngParts", "sizeInWords", "spelledCounts", "stemOf", "tableParts", "tiffParts"]);
 
 const nameOf = number => `Class ${number}`;
@@ -81,12 +81,6 @@ test("labels above what 16 bits hold stay as they are in 32", async () => {
   assert.deepEqual([...new Uint32Array(parts.at(-1).part.buffer)], [...samples]);
 });
 
-test("three decimals, as Python rounds them", () => {
-  const cases = [[0, "0.000"], [1, "1.000"], [.0625, "0.062"], [.1875, "0.188"], [12.0625, "12.062"], [.3125, "0.312"],
-    [.4375, "0.438"], [.0005, "0.001"], [1 / 3, "0.333"], [2 / 3, "0.667"], [65534.9375, "65534.938"], [.5, "0.500"]];
-  for (const [value, text] of cases) assert.equal(inThousandths(value), text, String(value));
-});
-
 test("fields are quoted where they have to be, and no spreadsheet takes a name for a formula", () => {
   assert.deepEqual(["plain name", 'a "b"', "a,b", "a\nb", ""].map(field),
     ["plain name", '"a ""b"""', '"a,b"', '"a\nb"', ""]);
@@ -100,9 +94,9 @@ test("a table by hand", async () => {
   const numbers = Uint16Array.of(0, 1, 1, 3, 0, 1, 3, 3), mask = Uint8Array.of(9, 1, 2, 3, 9, 6, 50, 7);
   const labelling = { width: 4, height: 2, numbers, objects: objectsUpTo(4) };
   assert.equal(textOf(await partsOf(tableParts(labelling, mask, nameOf))), [
-    "label,class,name,stroke,strokes,area,left,top,right,bottom,x,y,mean,min,max",
-    `1,1,Class 1,${tagOf(1)},1,3,1,0,2,1,1.333,0.333,3.000,1,6`,
-    `3,3,Class 3,${tagOf(3)},3,3,2,0,3,1,2.667,0.667,20.000,3,50`, ""].join("\n"));
+    "label,stroke,area,left,top,right,bottom,mean,class,name,strokes,x,y,min,max",
+    `1,${tagOf(1)},3,1,0,2,1,3.000,1,Class 1,1,1.333,0.333,1,6`,
+    `3,${tagOf(3)},3,2,0,3,1,20.000,3,Class 3,3,2.667,0.667,3,50`, ""].join("\n"));
 });
 
 test("counts of run lengths, and how they are spelled", () => {
