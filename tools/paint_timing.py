@@ -22,7 +22,7 @@ import time
 import urllib.parse
 
 from browser import Browser, Fault
-from paint_test import Page, Program
+from paint_testing import Page, Program
 
 STROKES_A_POST = 2_000
 # A step that no board comes to.

@@ -18,12 +18,16 @@ import re
 import sys
 import tempfile
 
-import numpy
-import tifffile
-from PIL import Image, ImageDraw
+from running import Fault, run, without
+
+try:
+    import numpy
+    import tifffile
+    from PIL import Image, ImageDraw
+except ModuleNotFoundError as missing:
+    without(missing)
 
 from labels_over_picture import labels_over
-from running import Fault, run
 
 ROOT = pathlib.Path(__file__).resolve().parent.parent
 sys.path.insert(0, str(ROOT / "examples"))

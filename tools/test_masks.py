@@ -13,6 +13,7 @@ import itertools
 import math
 import os
 import random
+import shutil
 import struct
 import subprocess
 import sys
@@ -30,6 +31,9 @@ except ModuleNotFoundError as missing:
     without(missing)
 
 from testing import TOOLS, TOP, InFolder, pgm, tool
+
+if not shutil.which("pngtopam"):
+    sys.exit("test_masks.py: there is no pngtopam: install Debian's package netpbm")
 
 sys.path.insert(0, str(TOP / "bench" / "fuzz"))
 import readers    # noqa: E402
