@@ -186,6 +186,7 @@ function keepPictureName() {
   const name = element("pictureName").value.trim();
   if (name) local.set(nameOfName(), name);
   else local.drop(nameOfName());
+  showName();
 }
 
 // ---- The panel ----

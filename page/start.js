@@ -38,7 +38,7 @@ async function open() {
   sayCounts();
   sayPixel();
   say(board.strokes.size === 0 ? "Paint over what is to be kept." : "");
-  document.title = `Seedpaint ${board.width} × ${board.height}`;
+  showName();
   await converse();
 }
 

@@ -191,9 +191,27 @@ def join_long_text(sitting):
 def save_copy(sitting):
     """The state file as a download."""
     page = sitting.first
-    saved = sitting.download(page, "save", "strokes.spd")
+    name = page.tab.run("element('save').download")
+    check(name == f"mask-{page.tab.run('board.fingerprint')[:8]}.spd", "a copy is called by the mask's fingerprint")
+    saved = sitting.download(page, "save", name)
     check(saved == sitting.program.get("state") == sitting.program.state.read_bytes(),
           "the download is the state file")
+
+
+def name_of_the_picture(sitting):
+    """A name that is typed stands in the title and the footer, and what is saved is called by it."""
+    page, plain = sitting.first, sitting.first.tab.run("document.title")
+    page.click("exportsShown")
+    page.click("pictureName")
+    page.tab.type("wells: 7.tif")
+    page.click("exportsShown")
+    check(page.tab.run("document.title") == f"wells: 7.tif · {plain}", "a name that is typed stands in the title")
+    check(page.tab.text("name") == "wells: 7.tif", "and in the footer")
+    check(sitting.download(page, "save", "wells_ 7.spd") == sitting.program.get("state"), "a copy is called by it")
+    page.reload()
+    check(page.tab.text("name") == "wells: 7.tif", "a reload keeps it")
+    page.tab.run("element('pictureName').value = '', keepPictureName()")
+    check(page.tab.run("document.title") == plain and page.tab.text("name") == "", "and it can be taken away")
 
 
 def zoom_and_pan(sitting):
@@ -372,7 +390,7 @@ def take_pictures(sitting):
 
 
 CHECKS = [paint_run_and_disc, undo_and_redo, withdraw_the_others, levels, long_gesture, at_the_border, strokes_shown,
-          join_files, save_copy, zoom_and_pan, another_ratio, one_finger, two_fingers, pen, deep_mask]
+          join_files, save_copy, name_of_the_picture, zoom_and_pan, another_ratio, one_finger, two_fingers, pen, deep_mask]
 
 
 def concerns():
