@@ -390,7 +390,8 @@ def take_pictures(sitting):
 
 
 CHECKS = [paint_run_and_disc, undo_and_redo, withdraw_the_others, levels, long_gesture, at_the_border, strokes_shown,
-          join_files, save_copy, name_of_the_picture, zoom_and_pan, another_ratio, one_finger, two_fingers, pen, deep_mask]
+          join_files, save_copy, name_of_the_picture, zoom_and_pan, another_ratio, one_finger, two_fingers, pen,
+          deep_mask]
 
 
 def concerns():

@@ -4,8 +4,9 @@
     python3 tools/strokes_from_state.py mine.pgm.spd > strokes.txt
 
 The lines are those of the live strokes, rising by tag, as docs/FORMATS.md spells them; of several files they are those
-of the join. With --all strokes that are withdrawn come too, and a line `withdraw TAG` for each withdrawal behind them:
-from these lines and the mask the program makes the same state again. It needs Python alone.
+of the join. With --class N those of this class alone come, 1 to 255, as their tags tell it. With --all strokes that are
+withdrawn come too, and a line `withdraw TAG` for each withdrawal behind them: from these lines and the mask the program
+makes the same state again. It needs Python alone.
 """
 
 import argparse
@@ -14,6 +15,7 @@ import sys
 
 from running import Fault, run
 from state_files import read_state_file
+from tags import class_of
 
 
 def line_of(tag, stroke):
@@ -38,11 +40,20 @@ def joined(names):
     return strokes, withdrawn
 
 
+def class_number(word):
+    """A class of the command line."""
+    if not word.isascii() or not word.isdigit() or not 1 <= int(word) <= 255:
+        raise argparse.ArgumentTypeError("a class is a number from 1 to 255")
+    return int(word)
+
+
 def read_words():
     """What the words of the command line ask for."""
     parser = argparse.ArgumentParser(description="Write the strokes of state files as edit lines.")
     parser.add_argument("states", nargs="+", help="state files, for one mask")
-    parser.add_argument("--all", action="store_true", help="write withdrawn strokes and withdrawals, too")
+    which = parser.add_mutually_exclusive_group()
+    which.add_argument("--all", action="store_true", help="write withdrawn strokes and withdrawals, too")
+    which.add_argument("--class", type=class_number, dest="in_class", metavar="N", help="write this class alone")
     return parser.parse_args()
 
 
@@ -51,6 +62,8 @@ def main():
     words = read_words()
     strokes, withdrawn = joined(words.states)
     shown = sorted(tag for tag in strokes if words.all or tag not in withdrawn)
+    if words.in_class:
+        shown = [tag for tag in shown if class_of(tag) == words.in_class]
     sys.stdout.writelines(line_of(tag, strokes[tag]) for tag in shown)
     if words.all:
         sys.stdout.writelines(f"withdraw {tag}\n" for tag in sorted(withdrawn))

@@ -259,6 +259,20 @@ class FromStates(OnRoads):
         self.refused("strokes_from_state.py", [self.folder / "nothing.spd"], "No such file")
         self.assertEqual(tool("strokes_from_state.py", self.put("empty.spd", b"")), (0, "", ""))
 
+    def test_classes(self):
+        plain, two, last = (uuid.UUID(tag) for tag in ("00112233-4455-6677-8899-aabbccdd0200",
+                            "00112233-4455-6677-e899-aabbccd00200", "00112233-4455-6677-e899-aabbccdfff05"))
+        lines = {tag: f"disc {tag} 9 0:{x}+0\n" for x, tag in enumerate((plain, two, last))}
+        edits = "".join(lines.values()) + f"disc {uuid.UUID(int=two.int + 1)} 9 1:1+0\nwithdraw {plain}\n"
+        edits += f"withdraw {uuid.UUID(int=two.int + 1)}\ndisc {uuid.UUID(int=7)} 9 1:0+0\n"
+        state = self.put("one.spd", simulator.view(edits.encode() + b"image\n" + pgm(HAND_MASK), 4).kept)
+        for in_class, expected in ((1, f"disc {uuid.UUID(int=7)} 9 1:0+0\n"), (2, lines[two]), (255, lines[last]),
+                                   (3, "")):
+            self.assertEqual(tool("strokes_from_state.py", state, "--class", in_class), (0, expected, ""))
+        for wrong in (0, 256, "two"):
+            self.refused("strokes_from_state.py", [state, "--class", wrong], "a class is a number from 1 to 255", 2)
+        self.refused("strokes_from_state.py", [state, "--class", 2, "--all"], "not allowed with", 2)
+
     def test_there_and_back(self):
         chance, mask = random.Random(5), pgm([[9] * 60] * 50)
         for _ in range(20):
