@@ -11,7 +11,7 @@ function clickCorner() {
   if (isDouble || (corners.length > 2 && isNear(corners[0]))) return closePolygon();
   corners.push(hand.pixel);
   redrawOverlay();
-  say("Click or Enter: next corner, or close · Backspace: one back · Escape: drop it.");
+  if (corners.length === 1) say("Enter fills it. Backspace takes a corner back.");
 }
 
 /** Whether the pointer is at a corner: on its pixel, or hardly beside it. */
