@@ -114,7 +114,8 @@ def rub(sitting, mask, path):
     for point in points[1:]:
         tab.mouse("mouseMoved", *point, "left")
     tab.wait("hand.gesture?.tool === 'eraser' && !asked.frame")
-    check(tab.run("overlayContext.getImageData(screenX(149), screenY(133), 1, 1).data[3]") > 100, f"{mask}: the eraser's path is seen while it is dragged")
+    opacity = tab.run("overlayContext.getImageData(screenX(149), screenY(133), 1, 1).data[3]")
+    check(opacity > 100, f"{mask}: the eraser's path is seen while it is dragged")
     sitting.look(f"erasing-{mask}")
     tab.mouse("mouseReleased", *points[-1], "left")
 
