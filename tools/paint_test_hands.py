@@ -76,12 +76,19 @@ def filled(corners, width, height):
     return inside | border
 
 
+def begin(sitting, mask, state):
+    """Starts with a state file of its own, and with nothing to undo."""
+    sitting.open_anew(mask, state)
+    for page in (sitting.first, sitting.second):
+        page.tab.run("done = [], undone = [], keepActs(), setTool('brush'), setRadius(6), chooseClass(1), 0")
+
+
 # ---- The checks ----
 
 def erase(sitting):
     """The eraser takes off of own strokes what it touches; one undo brings them back, and redo takes it off again."""
     for mask in BOTH_DEPTHS:
-        sitting.open_anew(mask, f"erase-{mask}.spd")
+        begin(sitting, mask, f"erase-{mask}.spd")
         first, second, width = sitting.first, sitting.second, sitting.mask(mask).width
         first.drag(*STROKE)
         first.drag(DISC)
@@ -145,7 +152,7 @@ def undo_and_redo(sitting, mask, before, erased):
 
 def erase_long(sitting):
     """A long gesture that is erased in the middle stays one object of strokes that are short enough, and its class."""
-    sitting.open_anew("deep", "erase-long.spd")
+    begin(sitting, "deep", "erase-long.spd")
     page, width = sitting.first, sitting.mask("deep").width
     page.tab.run("chooseClass(7), 0")
     page.drag(*LONG)
@@ -171,12 +178,11 @@ def erase_long(sitting):
         page.tab.wait(f"undone.length === {count - 1}")
     all_kept(page)
     check(sets_of(painted_in(sitting, "deep")) == sets_of(before), "two undos bring all of it back")
-    page.tab.run("setRadius(6), 0")
 
 
 def erase_what_stays(sitting):
     """Locked and hidden classes, strokes of others, and what is not touched, stay as they are."""
-    sitting.open_anew("cells", "erase-stays.spd")
+    begin(sitting, "cells", "erase-stays.spd")
     first, second = sitting.first, sitting.second
     first.tab.run("chooseClass(3), 0")
     first.drag(DISC)
@@ -196,15 +202,12 @@ def erase_what_stays(sitting):
     time.sleep(0.3)
     check(painted_in(sitting, "cells") == before and second.tab.run("done.length") == 0,
           "another's stroke is not erased, and the page says so")
-    for page in (first, second):
-        page.tab.key("b")
-        page.tab.run("chooseClass(1), 0")
 
 
 def lines(sitting):
     """A line by two clicks, by a drag, and by Shift while painting."""
     for mask in BOTH_DEPTHS:
-        sitting.open_anew(mask, f"lines-{mask}.spd")
+        begin(sitting, mask, f"lines-{mask}.spd")
         page, width = sitting.first, sitting.mask(mask).width
         page.tab.key("i")
         page.drag((40, 40))
@@ -234,7 +237,7 @@ def lines(sitting):
 def polygons(sitting):
     """A polygon is filled by Enter, by a double click, and by a click on its first corner; a corner is taken back."""
     for mask in BOTH_DEPTHS:
-        sitting.open_anew(mask, f"polygons-{mask}.spd")
+        begin(sitting, mask, f"polygons-{mask}.spd")
         page, image = sitting.first, sitting.mask(mask)
         page.tab.key("g")
         for corner in [*CORNERS[:2], (20, 20), *CORNERS[2:]]:
@@ -312,7 +315,7 @@ def open_polygon(sitting):
 
 def too_much(sitting):
     """What no request carries is refused in words, and nothing of it is lost."""
-    sitting.open_anew("cells", "too-much.spd")
+    begin(sitting, "cells", "too-much.spd")
     page = sitting.first
     page.drag(DISC)
     page.settle(1)
@@ -326,7 +329,7 @@ def too_much(sitting):
 def shadow(sitting):
     """The shadow is what the brush would light: from its pixels on, over a mask of half their highest."""
     for mask in BOTH_DEPTHS:
-        sitting.open_anew(mask, f"shadow-{mask}.spd")
+        begin(sitting, mask, f"shadow-{mask}.spd")
         page, image = sitting.first, sitting.mask(mask)
         page.tab.mouse("mouseMoved", *page.at(*DISC))
         page.tab.wait("shadow.drawn !== null && !asked.frame")
@@ -375,7 +378,7 @@ def lit_by(own, image):
 def other_end(sitting):
     """The other end of a pen erases, whatever the tool; the page's tool stays."""
     for mask in BOTH_DEPTHS:
-        sitting.open_anew(mask, f"other-end-{mask}.spd")
+        begin(sitting, mask, f"other-end-{mask}.spd")
         page = sitting.first
         page.drag(DISC)
         page.settle(1)
@@ -392,7 +395,7 @@ def other_end(sitting):
 
 def lost_pointers(sitting):
     """A button that goes up unseen ends the stroke; a finger that the system takes away paints nothing."""
-    sitting.open_anew("cells", "lost.spd")
+    begin(sitting, "cells", "lost.spd")
     page, width = sitting.first, sitting.mask("cells").width
     page.tab.mouse("mousePressed", *page.at(*STROKE[0]), "left")
     page.tab.mouse("mouseMoved", *page.at(*STROKE[1]), "left")
@@ -433,7 +436,7 @@ def tab_order(page, most=120):
 
 def keys_alone(sitting):
     """Tab reaches every button and slider in their order, keys act on them, Escape gives the keys to the picture."""
-    sitting.open_anew("cells", "keys.spd")
+    begin(sitting, "cells", "keys.spd")
     page, tab = sitting.first, sitting.first.tab
     page.drag(DISC)
     page.settle(1)
@@ -464,7 +467,6 @@ def keys_alone(sitting):
     tab.key("V", SHIFT)
     check(tab.run("view.name") == "kept", "Shift+V goes back")
     panels_by_keys(page)
-    tab.run("setRadius(6), 0")
 
 
 def pan_and_zoom(tab):
@@ -510,7 +512,7 @@ def panels_by_keys(page):
 
 def names(sitting):
     """A screen reader finds a name for all that one can act on, with each panel open, and for the picture."""
-    sitting.open_anew("cells", "names.spd")
+    begin(sitting, "cells", "names.spd")
     page = sitting.first
     page.drag(DISC)
     page.settle(1)
