@@ -55,7 +55,7 @@ async function shownLabelling() {
   if (board.strokes.size === 0) throw new NoExport("There are no labels yet: no stroke is kept.");
   if (typeof currentLabelling !== "function") throw new NoExport("This page has no labels yet.");
   const labelling = await currentLabelling();
-  if (!labelling?.objects.length) throw new NoExport("No pixel has a label: lower the level or the share.");
+  if (!labelling.areas.some(area => area > 0)) throw new NoExport("No pixel has a label: lower the level or share.");
   return labelling;
 }
 
@@ -77,10 +77,7 @@ async function untilGrown() {
 }
 
 async function stateParts() {
-  const bytes = await fetchBytes("state").catch(() => {
-    throw new NoExport("The program does not answer, or has no memory for it now.");
-  });
-  return [{ share: 1, part: bytes }];
+  return [{ share: 1, part: await fetchBytes("state") }];
 }
 
 // ---- How a file is made ----
@@ -143,6 +140,7 @@ function giveFile(name, file) {
 
 function whyNoFile(name, fault) {
   if (fault instanceof NoExport) return `No ${name}: ${fault.message}`;
+  if (fault instanceof Unanswered) return `No ${name}: the program does not answer. Nothing painted is lost.`;
   if (fault instanceof RangeError) return `No ${name}: the browser has no memory for it. Nothing painted is lost.`;
   reportError(fault);
   return `No ${name}: ${fault.message}. Nothing painted is lost.`;
