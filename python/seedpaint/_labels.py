@@ -32,21 +32,15 @@ def by_level(
     return _spread(image >= level, numbers, len(strokes), conn)
 
 
-def by_share(
-    image: _arrays.Image,
-    mask: _arrays.Cells,
-    strokes: list[Stroke],
-    share: float,
-    conn: int,
+def by_thresholds(
+    image: _arrays.Image, strokes: list[Stroke], thresholds: list[int], conn: int
 ) -> Numbers:
     """For each pixel the least stroke that keeps it, or 0.
 
-    A stroke keeps what a path leads to from it, on which no value is below the
-    share of the brightest that the stroke itself shows: its threshold. What it
-    keeps lies in regions of the lowest threshold of all, so strokes in other
-    ones are looked at in the same round.
+    A stroke keeps what a path leads to from it, on which no value is below its
+    threshold. What it keeps lies in regions of the lowest threshold of all, so
+    strokes in other ones are looked at in the same round.
     """
-    thresholds = [_threshold(stroke, mask, share) for stroke in strokes]
     regions = by_level(image, strokes, min(thresholds, default=1), conn)
     result = numpy.zeros(image.shape, dtype=numpy.int32)
     for threshold_of in _rounds(strokes, thresholds, regions):
@@ -58,12 +52,26 @@ def by_share(
     return result
 
 
-def _threshold(stroke: Stroke, mask: _arrays.Cells, share: float) -> int:
-    """The least value that a stroke keeps. The share counts as it is written."""
+def thresholds_of(
+    mask: _arrays.Cells, strokes: list[Stroke], objects: list[int], share: float
+) -> list[int]:
+    """The least value that each stroke keeps.
+
+    It is the share of the brightest that its object itself shows. The share
+    counts as it is written.
+    """
+    exact = Fraction(repr(float(share)))  # (so that 0.07 of 100 is 7)
+    brightest: dict[int, int] = {}
+    for stroke, number in zip(strokes, objects):
+        brightest[number] = max(_shown(stroke, mask), brightest.get(number, 0))
+    return [max(1, math.ceil(exact * brightest[number])) for number in objects]
+
+
+def _shown(stroke: Stroke, mask: _arrays.Cells) -> int:
+    """The brightest that a stroke itself shows."""
     spans = stroke.spans(mask.shape)
     brightest = max(int(mask[y, first : last + 1].max()) for y, first, last in spans)
-    exact = Fraction(repr(float(share)))  # (so that 0.07 of 100 is 7)
-    return max(1, math.ceil(exact * min(stroke.level, brightest)))
+    return min(stroke.level, brightest)
 
 
 def _rounds(

@@ -13,7 +13,13 @@ from numpy.typing import ArrayLike, NDArray
 
 from seedpaint import _arrays, _labels, _library, _pgm, _state_files
 from seedpaint.errors import Fault
-from seedpaint.strokes import Stroke, are_of_one_picture, painted_label, whole_level
+from seedpaint.strokes import (
+    Stroke,
+    are_of_one_picture,
+    object_numbers,
+    painted_label,
+    whole_level,
+)
 
 __all__ = ["Session"]
 
@@ -300,18 +306,18 @@ class Session:
             Keep the pixels of the image of at least this value, 1 to 65535.
         share : float, optional
             Keep what a path leads to from a stroke, on which no value is below
-            this share of the brightest that the stroke itself shows: above 0,
+            this share of the brightest that its object itself shows: above 0,
             at most 1. Exactly one of level and share is given.
         painted : bool, optional
             Number regions by the labels that `strokes_from_labels` had, and
-            not by the order of the strokes.
+            not by the order of the objects.
 
         Returns
         -------
         (H, W) ndarray of int32, or of uint32 where `painted`
-            0 where nothing is kept, and else the number of the stroke: its
-            place in `strokes`, from 1. Where several keep a pixel it is that
-            of the one with the least tag.
+            0 where nothing is kept, and else the number of the object: from 1,
+            in the order of `strokes`. Where several keep a pixel it is that of
+            the one with the least tag.
 
         Raises
         ------
@@ -324,32 +330,44 @@ class Session:
 
         Notes
         -----
-        A region in which several strokes meet is not cut apart; the tool
+        An object is a stroke, or all strokes of one gesture on the page or of
+        one painted label; docs/FORMATS.md of the repository has the rule, under
+        "Tags".
+
+        A region in which several objects meet is not cut apart; the tool
         `tools/labels_from_result.py` of the repository does so.
 
         By `share` it takes the longer, the more strokes meet in one. And each
-        stroke counts by itself: a stroke on a dim cell also keeps a brighter
-        cell that touches it, and if it has the lesser tag it takes that cell
-        whole, even from a stroke of the cell's own. There the tool's ``--share``
-        gives other regions, for it goes by the stroke that lights a pixel.
+        object counts by itself: one on a dim cell also keeps a brighter cell
+        that touches it, and if it has the lesser tag it takes that cell whole,
+        even from an object of the cell's own. There the tool's ``--share``
+        gives other regions, for it goes by the object that lights a pixel.
         """
         if (level is None) == (share is None):
             raise ValueError("give one of level and share")
         strokes = self.strokes()
-        if painted and not are_of_one_picture([stroke.tag for stroke in strokes]):
+        tags = [stroke.tag for stroke in strokes]
+        if painted and not are_of_one_picture(tags):
             raise ValueError(
                 "painted is for strokes that strokes_from_labels made of one picture"
             )
-        numbers = self._numbers(strokes, level, share)
-        if not painted:
+        objects = object_numbers(tags)
+        numbers = self._numbers(strokes, objects, level, share)
+        if painted:
+            labels = [0, *map(painted_label, tags)]
+            return numpy.array(labels, dtype=numpy.uint32)[numbers]
+        if max(objects, default=0) == len(objects):
             return numbers
-        labels = [0, *(painted_label(stroke.tag) for stroke in strokes)]
-        return numpy.array(labels, dtype=numpy.uint32)[numbers]
+        return numpy.array([0, *objects], dtype=numpy.int32)[numbers]
 
     # ---- Within ----
 
     def _numbers(
-        self, strokes: list[Stroke], level: SupportsIndex | None, share: float | None
+        self,
+        strokes: list[Stroke],
+        objects: list[int],
+        level: SupportsIndex | None,
+        share: float | None,
     ) -> _labels.Numbers:
         """The number of the stroke that keeps each pixel, from 1, or 0."""
         if level is not None:
@@ -358,7 +376,8 @@ class Session:
         assert share is not None
         if not 0 < share <= 1:
             raise ValueError(f"share is {share!r}, and it is above 0, at most 1")
-        return _labels.by_share(self._cells(), self._mask, strokes, share, self._conn)
+        thresholds = _labels.thresholds_of(self._mask, strokes, objects, share)
+        return _labels.by_thresholds(self._cells(), strokes, thresholds, self._conn)
 
     def _cells(self) -> _arrays.Image:
         """The image, grown once and kept until strokes change. Nobody writes in it."""

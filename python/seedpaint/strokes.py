@@ -19,6 +19,8 @@ Disc = tuple[int, int, int]  # (row and column of the centre, and radius)
 
 _MOST_RUNS = 160
 _NUMBER_BITS, _LABEL_BITS = 28, 32  # (of a painted tag: two zero bits stand above)
+_DIGITS_OF_GESTURE, _DIGITS_OF_CLASSED, _DIGITS_OF_LABEL = 28, 27, 25
+_CLASS_MARK = "e"  # (digit 17 of tags that tell a class)
 
 
 class Stroke(NamedTuple):
@@ -277,7 +279,7 @@ def _strokes_of(
     return strokes
 
 
-# ---- Tags of painted strokes: RFC 9562, version 8, as docs/LABELS.md says ----
+# ---- Tags: docs/FORMATS.md has the rules, and tools/tags.py is the same for tools ----
 
 
 def painted_tag(name: str, label: int, number: int) -> uuid.UUID:
@@ -296,4 +298,36 @@ def painted_label(tag: uuid.UUID) -> int:
 def are_of_one_picture(tags: list[uuid.UUID]) -> bool:
     """Whether all are tags of strokes that were painted in one picture."""
     bits = {tag.int >> _NUMBER_BITS + _LABEL_BITS for tag in tags}
-    return all(tag.version == 8 for tag in tags) and len(bits) <= 1
+    return all(_is_painted(tag) for tag in tags) and len(bits) <= 1
+
+
+def object_numbers(tags: list[uuid.UUID]) -> list[int]:
+    """The object of each tag, from 1 on in the order in which they come."""
+    numbers: dict[str, int] = {}
+    return [numbers.setdefault(object_of(tag), len(numbers) + 1) for tag in tags]
+
+
+def object_of(tag: uuid.UUID) -> str:
+    """The digits that the tags of all strokes of one object begin with.
+
+    An object is a gesture of the page or a painted label, with all its strokes,
+    or a stroke of anybody else.
+    """
+    if _is_painted(tag):
+        return tag.hex[:_DIGITS_OF_LABEL]
+    return tag.hex[: _DIGITS_OF_CLASSED if _told_class(tag) else _DIGITS_OF_GESTURE]
+
+
+def class_of(tag: uuid.UUID) -> int:
+    """The class of a stroke, 1 to 255: 1 where its tag tells none."""
+    return _told_class(tag) or 1
+
+
+def _told_class(tag: uuid.UUID) -> int:
+    """The class that a tag of the page tells, or 0."""
+    return int(tag.hex[28:30], 16) if tag.hex[16] == _CLASS_MARK else 0
+
+
+def _is_painted(tag: uuid.UUID) -> bool:
+    """Whether a tag is that of a painted stroke: two zero bits behind the variant."""
+    return tag.hex[12] == tag.hex[16] == "8"

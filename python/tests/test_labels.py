@@ -1,5 +1,6 @@
 """Label images into strokes and seeds, and regions of strokes as labels."""
 
+import importlib
 import pathlib
 import sys
 import unittest
@@ -54,6 +55,17 @@ def numbered(shape, kept):
     return labels
 
 
+def tags_of_tools():
+    """The module tools/tags.py, where the package is tested beside it."""
+    if not (TOOLS / "tags.py").is_file():
+        raise unittest.SkipTest(f"{TOOLS} has no tags.py")
+    sys.path.insert(0, str(TOOLS))
+    try:
+        return importlib.import_module("tags")
+    finally:
+        sys.path.remove(str(TOOLS))
+
+
 class Labels(unittest.TestCase):
     def setUp(self):
         self.mask = numpy.array(
@@ -61,7 +73,7 @@ class Labels(unittest.TestCase):
         )
         self.session = seedpaint.Session(self.mask, 4)
         for number, (y, x) in enumerate([(0, 0), (0, 3), (0, 6)], 1):
-            self.session.disc(y, x, 0, tag=uuid.UUID(int=number))
+            self.session.disc(y, x, 0, tag=uuid.UUID(int=number << 64))
 
     def test_by_level(self):
         expected = [[1, 1, 0, 2, 2, 0, 0], [1, 1, 0, 2, 0, 0, 0]]
@@ -89,6 +101,19 @@ class Labels(unittest.TestCase):
         session.disc(0, 0, 0, tag=uuid.UUID(int=1))
         session.disc(0, 3, 0, tag=uuid.UUID(int=2))
         self.assertEqual(session.labels(share=0.9).tolist(), [[1, 1, 1, 1]])
+
+    def test_a_gesture_is_one_object(self):
+        front = "00112233-4455-6677-e899-aabbccd"
+        session = seedpaint.Session(self.mask, 4)
+        session.disc(0, 0, 0, tag=f"{front}00200")
+        session.disc(0, 3, 0, tag=f"{front}002ff")
+        session.disc(0, 6, 0, tag="f0112233-4455-6677-8899-aabbccddeeff")
+        expected = [[1, 1, 0, 1, 1, 0, 0], [1, 1, 0, 1, 0, 0, 0]]
+        self.assertEqual(session.labels(level=5).tolist(), expected)
+        expected = [[1, 1, 0, 0, 0, 0, 2], [1, 1, 0, 0, 0, 0, 2]]
+        self.assertEqual(session.labels(share=0.9).tolist(), expected)
+        expected = [[1, 1, 0, 1, 1, 0, 2], [1, 1, 0, 1, 0, 0, 2]]
+        self.assertEqual(session.labels(share=0.5).tolist(), expected)
 
     def test_without_strokes(self):
         session = seedpaint.Session(self.mask, 4)
@@ -196,13 +221,7 @@ class Painted(unittest.TestCase):
                 numpy.testing.assert_array_equal(painted, layer.astype(int))
 
     def test_tags_are_those_of_the_tool(self):
-        sys.path.insert(0, str(TOOLS))
-        try:
-            import strokes as tool
-        except ImportError as why:
-            self.skipTest(str(why))
-        finally:
-            sys.path.remove(str(TOOLS))
+        tool = tags_of_tools()
         for words in (
             ("painted.png", 3, 0),
             ("", 2**32 - 1, 2**28 - 1),
@@ -212,6 +231,29 @@ class Painted(unittest.TestCase):
             self.assertEqual(tag, tool.painted_tag(*words))
             self.assertEqual((tag.version, tag.variant), (8, uuid.RFC_4122))
             self.assertEqual(seedpaint_strokes.painted_label(tag), words[1])
+
+    def test_objects_and_classes_are_those_of_the_tool(self):
+        tool, random = tags_of_tools(), numpy.random.default_rng(16)
+        drawn = [bytearray(random.bytes(16)) for _ in range(3000)]
+        for number, digits in enumerate(drawn):
+            digits[6] = digits[6] & 0x0F | (0x40, 0x80, digits[6])[number % 3]
+            digits[8] = digits[8] & 0x0F | (0xE0, 0x80, digits[8])[number // 3 % 3]
+            digits[14] = (0, 1, 255, digits[14])[number % 4]
+        tags = [uuid.UUID(bytes=bytes(digits)) for digits in drawn]
+        classes = set()
+        for tag in tags:
+            self.assertEqual(seedpaint_strokes.object_of(tag), tool.object_of(tag))
+            self.assertEqual(seedpaint_strokes.class_of(tag), tool.class_of(tag))
+            painted = seedpaint_strokes.are_of_one_picture([tag])
+            self.assertEqual(painted, tool.is_painted(tag))
+            classes.add(seedpaint_strokes.class_of(tag))
+        self.assertGreater(len(classes), 50)
+        numbers = seedpaint_strokes.object_numbers([*tags[:9], *tags[:9]])
+        self.assertEqual(numbers, 2 * list(range(1, 10)))
+
+    def test_a_random_tag_of_version_8_is_none_of_a_painted_stroke(self):
+        tag = uuid.UUID("00112233-4455-8677-9899-aabbccddeeff")
+        self.assertFalse(seedpaint_strokes.are_of_one_picture([tag]))
 
     def test_a_level_for_all(self):
         layer = [[1, 0, 2]]
