@@ -7,19 +7,19 @@
 function erase(rows, begun) {
   const erased = sortedRows(rows), live = liveStrokes();
   const touched = strokesOn(live, erased), mine = new Set(touched.filter(mayErase).map(stroke => stroke.gesture));
-  if (mine.size === 0) return touched.length > 0 && sayWhatStays(touched);
+  if (mine.size === 0) return sayWhatStays(touched);
   const strokes = live.filter(stroke => mine.has(stroke.gesture) && mayErase(stroke));
   replaceStrokes(strokes, restsOf(strokes, erased), begun);
 }
 
 const mayErase = stroke => authorOf(stroke.tag) === author && isWithinReach(stroke);
 
+/** Says why nothing was erased, where there was something. */
 function sayWhatStays(touched) {
-  const isMine = touched.some(({ tag }) => authorOf(tag) === author);
   const areOthers = touched.some(({ tag }) => authorOf(tag) !== author);
-  const kept = "those of classes that are locked or hidden";
-  if (areOthers) sayFault(`The eraser leaves strokes of others${isMine ? `, and ${kept}` : ""}.`);
-  else sayFault(`The eraser leaves ${kept}.`);
+  const areMine = touched.some(({ tag }) => authorOf(tag) === author);
+  const kept = [...areOthers ? ["strokes of others"] : [], ...areMine ? ["those of locked or hidden classes"] : []];
+  if (kept.length > 0) sayFault(`The eraser leaves ${kept.join(" and ")}.`);
 }
 
 /** The live strokes, with those that wait to be placed, and without those whose withdrawal waits. */

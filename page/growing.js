@@ -3,7 +3,7 @@
 // A stroke of a level lights each pixel up to the least value on the best way there. So the pixels that it lights at
 // least so brightly are those that ways from its own reach on which the mask is never below that.
 
-const GROWN = { most: 60000, margin: 256, mostWindow: 1 << 21, mostOwn: 1 << 18 };  // pixels
+const GROWN = { most: 60000, margin: 256, mostWindow: 1 << 21, mostOwn: 1 << 16 };  // pixels
 const OUTSIDE = 1, BEYOND = 2, FOUND = 3;  // what a pixel of the window is: no pixel, none of the window, or grown into
 let growingRoom = null;  // for each pixel of the window what it is, and the pixels that were found, in their order
 

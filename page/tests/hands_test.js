@@ -234,6 +234,19 @@ test("strokes of others, and of classes out of reach, are not erased", () => {
   assert.deepEqual(takeSent(), [`withdraw ${mine.tag}`]);
 });
 
+test("a stroke that waits to be placed is erased, and none whose withdrawal waits", () => {
+  const [waiting, leaving] = [1, 2].map(level => {
+    return page.readStroke(`disc ${page.newTags([{ author: writer }])[0]} ${level} 20:20+4`);
+  });
+  const rows = new Map();
+  page.addLine(rows, { x: 20, y: 20 }, { x: 20, y: 20 }, 6);
+  begin([leaving]);
+  outbox.push({ strokes: [waiting], withdrawn: [] }, { strokes: [], withdrawn: [leaving.tag] });
+  page.erase(rows, 0);
+  outbox.length = 0;
+  assert.deepEqual(takeSent(), [`withdraw ${waiting.tag}`]);
+});
+
 test("acts of earlier pages are read, and what others withdrew is not brought back", () => {
   const strokes = someStrokes(numbersFrom(3)), [first] = strokes;
   begin(strokes);
