@@ -28,6 +28,9 @@ LISTEN_FOR_REPORTS = """window.reports = [];
     addEventListener("securitypolicyviolation", event => reports.push(event.violatedDirective));"""
 
 
+PATIENCE = [1]  # how many times as long is waited as on a machine that has nothing else to do
+
+
 class Fault(Exception):
     """What the browser refused, or did not do in time."""
 
@@ -263,12 +266,17 @@ class Wire:
                 return message
 
 
+def be_patient(times):
+    """Waits so many times as long from now on."""
+    PATIENCE[0] = times
+
+
 def wait_for(found, name, seconds=20):
     """What a function finds, once it does."""
-    end = time.monotonic() + seconds
+    end = time.monotonic() + seconds * PATIENCE[0]
     while time.monotonic() < end:
         value = found()
         if value:
             return value
         time.sleep(0.01)
-    raise Fault(f"not within {seconds} s: {name}")
+    raise Fault(f"not within {seconds * PATIENCE[0]:g} s: {name}")
