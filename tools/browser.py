@@ -26,8 +26,6 @@ FLAGS = ["--headless=new", "--no-sandbox", "--disable-gpu", "--disable-dev-shm-u
          "--remote-debugging-port=0", "--force-device-scale-factor=1", "--enable-precise-memory-info"]
 LISTEN_FOR_REPORTS = """window.reports = [];
     addEventListener("securitypolicyviolation", event => reports.push(event.violatedDirective));"""
-
-
 PATIENCE = [1]  # how many times as long is waited as on a machine that has nothing else to do
 
 

@@ -40,7 +40,7 @@ import tempfile
 import time
 import urllib.request
 
-from browser import SHIFT, Browser, Fault, wait_for
+from browser import SHIFT, Browser, Fault, be_patient, wait_for
 
 TOP = pathlib.Path(__file__).resolve().parent.parent
 sys.path.insert(0, str(TOP / "bench" / "fuzz"))
@@ -424,6 +424,7 @@ def read_words(parser):
         parser.error("the command that serves is missing")
     if not shutil.which(words.command[0]):
         parser.error(f"{words.command[0]} is not there; `rt run` in crates/seedpaint makes the program")
+    be_patient(words.slack)
     if words.screens:
         words.screens.mkdir(parents=True, exist_ok=True)
     return words
