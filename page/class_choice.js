@@ -65,7 +65,9 @@ const lockedIn = act => act.flatMap(side => side.strokes).map(({ inClass }) => i
 function sayClass() {
   const { number, name, colour, isHidden, isLocked } = classes.get(brush.inClass);
   const state = `${isHidden ? " · hidden" : ""}${isLocked ? " · locked" : ""}`;
-  sayIn("className", (name === `Class ${number}` ? name : `${number} · ${name}`) + state);
+  const told = (name === `Class ${number}` ? name : `${number} · ${name}`) + state;
+  sayIn("className", told);
+  sayNamed(element("classesShown"), `Painted with: ${told}. The list of classes`, " (K)");
   element("classSwatch").style.background = cssOf(colour);
   press("byClass", marking.isByClass);
   press("byAuthor", !marking.isByClass);
