@@ -15,6 +15,7 @@ function openBoard({ width, height, maxval, samples }, fingerprint) {
   makeBlocks();
   openContrast();
   openClasses();
+  openLabels();
   openExports();
   setView("kept");
 }

@@ -35,6 +35,7 @@ function setView(name) {
   for (const other of Object.keys(VIEWS)) press(`show${other[0].toUpperCase()}${other.slice(1)}`, other === name);
   sayTable();
   recolour();
+  followView();
 }
 
 function nextView(direction) {

@@ -21,6 +21,7 @@ const VIEWS = {
   kept: { mask: [.4, .4, .41], result: [.6, .6, .59] },
   result: { mask: [0, 0, 0], result: [1, 1, 1] },
   mask: { mask: [1, 1, 1], result: [0, 0, 0] },
+  labels: { mask: [.6, .6, .6], result: [0, 0, 0] },
 };
 
 /** How many of the samples have each value up to the maxval. */

@@ -81,6 +81,7 @@ function takeAnswer(answer) {
     hover();
   }
   if (answer.isQuiet && !board.isQuiet) redrawOverlay();
+  noteNews(answer);
   const { run, step, isQuiet, tilesLeft } = answer;
   Object.assign(board, { run, step, isQuiet, tilesLeft });
 }

@@ -53,6 +53,7 @@ function drawPicture() {
   pictureContext.imageSmoothingEnabled = sight.zoom < 1;
   const level = limited(Math.floor(-Math.log2(sight.zoom)), 0, HALVINGS);
   for (const block of blocks) drawBlock(block, level);
+  drawLabels();
 }
 
 function drawBlock(block, level) {

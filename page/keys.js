@@ -12,6 +12,7 @@ const KEYS = {
   s: () => showShadow(!shadow.isShown),
   c: () => toggleContrast(true),
   p: setByPercentiles,
+  l: () => setView("labels"),
   e: () => toggleExports(true),
   "[": () => stepRadius(-1),
   "]": () => stepRadius(1),
@@ -97,6 +98,7 @@ const BUTTONS = {
   byClass: () => markBy("class"), byAuthor: () => markBy("author"),
   exportsShown: () => toggleExports(false),
   showKept: () => setView("kept"), showResult: () => setView("result"), showMask: () => setView("mask"),
+  showLabels: KEYS.l,
   helpButton: toggleHelp, reload: () => location.reload(), goThere: () => goTo(element("newAddress").value.trim()),
   saveStray, saveWaiting: () => saveEdits(board.fingerprint, waitingBodies()),
 };

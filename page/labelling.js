@@ -147,13 +147,23 @@ function thresholdsOf(brightest, share) {
   return Int32Array.from(brightest, (value, object) => object === 0 ? 65536 : Math.ceil(Math.max(share * value, 1)));
 }
 
+/** The greatest value of each 64 pixels in turn. Where nothing is kept of them they are passed over at once. */
+function ceilingsOf(result) {
+  const ceilings = new Uint16Array(Math.ceil(result.length / 64));
+  for (let place = 0; place < result.length; place++) {
+    if (result[place] > ceilings[place >> 6]) ceilings[place >> 6] = result[place];
+  }
+  return ceilings;
+}
+
 /** The runs of the pixels of at least a level. */
-function runsByLevel({ width, result }, level) {
+function runsByLevel({ width, result, ceilings }, level) {
   const runs = newRuns();
   for (let row = 0; row < result.length; row += width) {
     const end = row + width;
     for (let place = row; place < end; place++) {
-      if (result[place] < level) continue;
+      if ((place & 63) === 0 && ceilings[place >> 6] < level) place += 63;
+      if (place >= end || result[place] < level) continue;
       const first = place;
       while (place < end && result[place] >= level) place++;
       addKept(runs, first, place);
@@ -163,12 +173,13 @@ function runsByLevel({ width, result }, level) {
 }
 
 /** The runs of the pixels of at least what is kept of their owners, which is nowhere below the floor. */
-function runsByOwner({ width, result }, owners, thresholds, floor) {
+function runsByOwner({ width, result, ceilings }, owners, thresholds, floor) {
   const runs = newRuns();
   for (let row = 0; row < result.length; row += width) {
     const end = row + width;
     for (let place = row; place < end; place++) {
-      if (result[place] < floor || result[place] < thresholds[owners[place]]) continue;
+      if ((place & 63) === 0 && ceilings[place >> 6] < floor) place += 63;
+      if (place >= end || result[place] < floor || result[place] < thresholds[owners[place]]) continue;
       const first = place;
       while (place < end && result[place] >= thresholds[owners[place]]) place++;
       addKept(runs, first, place);
@@ -177,7 +188,9 @@ function runsByOwner({ width, result }, owners, thresholds, floor) {
   return runs;
 }
 
-const newRuns = () => ({ count: 0, starts: new Int32Array(1 << 16), ends: new Int32Array(1 << 16) });
+function newRuns() {
+  return { count: 0, starts: new Int32Array(1 << 16), ends: new Int32Array(1 << 16) };
+}
 
 function addKept(runs, start, end) {
   if (runs.count === runs.starts.length) {
@@ -194,7 +207,7 @@ function addKept(runs, start, end) {
 // ---- Parts: runs that are connected, each part by the number of its first run ----
 
 /** For each run the first one of its part. */
-function partsOf({ count, starts, ends }, width, conn) {
+function connectedParts({ count, starts, ends }, width, conn) {
   const parts = new Int32Array(count), aside = conn === 8 ? 1 : 0;
   let above = 0;  // the first run that may touch one of those that follow
   for (let run = 0; run < count; run++) {
@@ -247,7 +260,7 @@ function endsOfParts(runs, parts, spans, inOrder) {
  */
 function labelsOf({ width, result }, { objects, spans, inOrder }, runs, { conn, isCut }) {
   const numbers = numbersFor(objects, result.length), areas = new Uint32Array(objects.length + 1);
-  const parts = partsOf(runs, width, conn), { least, greatest } = endsOfParts(runs, parts, spans, inOrder);
+  const parts = connectedParts(runs, width, conn), { least, greatest } = endsOfParts(runs, parts, spans, inOrder);
   const open = numbers.BYTES_PER_ELEMENT === 2 ? 65535 : 2 ** 32 - 1;
   let opened = 0, lonely = 0;
   for (let run = 0; run < runs.count; run++) {
@@ -322,8 +335,10 @@ function stepEight(place, width, numbers, open, queue, end) {
 
 // ---- All of it ----
 
-/** What is worked with. Seeds are made of strokes, and the flood where it is needed. */
-const newScene = (width, height, mask, result) => ({ width, height, mask, result, seeds: null, flood: null });
+/** What is worked with. Seeds are made of strokes, ceilings of the result, and the flood where it is needed. */
+function newScene(width, height, mask, result) {
+  return { width, height, mask, result, ceilings: null, seeds: null, flood: null };
+}
 
 /**
  * The labelling of a scene with its seeds by a choice: { kind: "level", level } or { kind: "share", share }, with conn,
@@ -331,6 +346,7 @@ const newScene = (width, height, mask, result) => ({ width, height, mask, result
  */
 function labelling(scene, choice) {
   const { width, height, seeds } = scene;
+  scene.ceilings ??= ceilingsOf(scene.result);
   const runs = choice.kind === "level" ? runsByLevel(scene, choice.level) : runsByShare(scene, choice);
   return { width, height, objects: seeds.objects, ...labelsOf(scene, seeds, runs, choice) };
 }
@@ -347,50 +363,6 @@ function runsByShare(scene, { share, conn }) {
 
 /** Says that result or strokes of a scene are others. */
 function changeScene(scene, strokes) {
-  scene.flood = null;
+  scene.ceilings = scene.flood = null;
   if (strokes) scene.seeds = seedsOf(strokes, scene);
-}
-
-// ---- Measures ----
-
-/**
- * Of each label that has a pixel: its object, its area, the first and the last column and row that it reaches, the mean
- * column and row of its pixels, and mean, least and greatest sample of the mask in it.
- */
-function measured({ width, height, numbers, objects }, mask) {
-  const rows = objects.map(({ number, tag, inClass, strokes }) => ({ label: number, tag, inClass, strokes, area: 0,
-    left: width, top: height, right: -1, bottom: -1, x: 0, y: 0, mean: 0, min: 65535, max: 0 }));
-  for (let y = 0, start = 0; y < height; y++, start += width) {
-    for (let x = 0; x < width; x++) {
-      const number = numbers[start + x];
-      if (number === 0) continue;
-      let end = x + 1;
-      while (end < width && numbers[start + end] === number) end++;
-      measureRun(rows[number - 1], x, end, y, mask, start);
-      x = end - 1;
-    }
-  }
-  const found = rows.filter(row => row.area > 0);
-  for (const row of found) for (const name of ["x", "y", "mean"]) row[name] /= row.area;
-  return found;
-}
-
-/** Adds a run to what is measured of its label; sums stand where the means will be. */
-function measureRun(row, first, end, y, mask, start) {
-  const length = end - first;
-  row.area += length;
-  row.left = Math.min(row.left, first);
-  row.right = Math.max(row.right, end - 1);
-  row.top = Math.min(row.top, y);
-  row.bottom = y;
-  row.x += length * (first + end - 1) / 2;
-  row.y += length * y;
-  let { mean: sum, min, max } = row;
-  for (let place = start + first; place < start + end; place++) {
-    const sample = mask[place];
-    sum += sample;
-    if (sample < min) min = sample;
-    if (sample > max) max = sample;
-  }
-  Object.assign(row, { mean: sum, min, max });
 }

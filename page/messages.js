@@ -101,6 +101,7 @@ function sayPixel() {
   if (!pixel || !holds(wholeBoard(), pixel)) {
     return sayIn("pixel", `${board.width} × ${board.height}`);
   }
+  if (areLabelsSeen()) return sayIn("pixel", `x ${pixel.x} · y ${pixel.y} · ${labelInWords(pixel)}`);
   const place = pixel.y * board.width + pixel.x, values = `mask ${board.mask[place]} · result ${board.image[place]}`;
   sayIn("pixel", `x ${pixel.x} · y ${pixel.y} · ${values}`);
 }

@@ -5,6 +5,7 @@ function start() {
   listenToButtons();
   listenToContrast();
   listenToClasses();
+  listenToLabels();
   listenToExports();
   listenToPointer();
   listenToKeys();

@@ -7,7 +7,7 @@
 page/page.html has the markup, and names the style and the scripts beside it. Where it names them they are put in, the
 style as one <style>, and the scripts in their order as one <script>, with an empty line between two. Beside the page it
 writes the page's content security policy, which allows its one script and its one style by their SHA-256, and requests
-to where the page came from.
+to where the page came from. A worker it may make of its own text alone.
 """
 
 import argparse
@@ -74,7 +74,7 @@ def policy_of(page):
     """The content security policy of a page."""
     return "; ".join(["default-src 'none'", f"script-src {hash_of(page, 'script')}",
                       f"style-src {hash_of(page, 'style')}", "connect-src 'self'", "img-src data:",
-                      "frame-ancestors 'none'", "base-uri 'none'", "form-action 'none'"])
+                      "worker-src blob:", "frame-ancestors 'none'", "base-uri 'none'", "form-action 'none'"])
 
 
 def literal_of(text):

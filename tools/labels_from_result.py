@@ -13,7 +13,6 @@ import argparse
 import csv
 import pathlib
 import sys
-from decimal import ROUND_HALF_UP, Decimal
 
 from running import Fault, level_of, run, tell, without
 
@@ -30,6 +29,8 @@ from tags import class_of, is_painted, painted_label, picture_bits
 
 NOBODY = -1
 MOST_SAMPLE = 65535
+COLUMNS = ["label", "stroke", "area", "left", "top", "right", "bottom", "mean", "class", "name", "strokes", "x", "y",
+           "min", "max"]
 
 
 def parts_of(kept, conn):
@@ -130,24 +131,18 @@ def rows_of(owners, mask, seeds, numbers, names):
     numpy.maximum.at(greatest, met, samples)
     for owner in numpy.flatnonzero(areas):
         rows, columns = boxes[owner]
-        means = {name: shown(sums[name][owner] / areas[owner]) for name in sums}
+        means = {name: f"{sums[name][owner] / areas[owner]:.3f}" for name in sums}
         in_class = class_of(seeds.tags[owner])
         yield [numbers[owner], seeds.tags[owner], areas[owner], columns.start, rows.start, columns.stop - 1,
                rows.stop - 1, means["mean"], in_class, names.get(in_class, ""), seeds.strokes[owner], means["x"],
                means["y"], least[owner], greatest[owner]]
 
 
-def shown(mean):
-    """A mean with three decimals; a half is rounded up, as the page does."""
-    return Decimal(float(mean)).quantize(Decimal("0.001"), ROUND_HALF_UP)
-
-
 def write_table(name, rows):
     """Write the rows as comma-separated values, RFC 4180, with LF."""
     with open(name, "w", newline="", encoding="utf-8") as file:
         table = csv.writer(file, lineterminator="\n")
-        table.writerow(["label", "stroke", "area", "left", "top", "right", "bottom", "mean", "class", "name", "strokes",
-                        "x", "y", "min", "max"])
+        table.writerow(COLUMNS)
         table.writerows(rows)
 
 

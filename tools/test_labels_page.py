@@ -1,5 +1,6 @@
 #!/usr/bin/env python3
-"""Tests of the labels of the page, outside the gate: page/labelling.js against labels_from_result.py, pixel for pixel.
+"""Tests of the labels of the page, outside the gate: page/labelling.js against labels_from_result.py, pixel for pixel,
+and the tables of both.
 
     python3 tools/test_labels_page.py
 
@@ -9,6 +10,8 @@ with few levels and many, with several strokes an object; each by levels and by 
 """
 
 import base64
+import csv
+import io
 import itertools
 import json
 import pathlib
@@ -29,11 +32,10 @@ try:
 except ModuleNotFoundError as missing:
     without(missing)
 
-from labels_from_result import kept_by_share, owners_of, rows_of
+from labels_from_result import COLUMNS, kept_by_share, owners_of, rows_of
 from pictures import read_grey
 from state_files import Stroke
 from strokes import seeds_of, spans_of
-from tags import class_of
 from testing import TOP
 
 PICTURES = 200
@@ -174,25 +176,16 @@ class OfPages(unittest.TestCase):
                 self.assertEqual(answer["areas"][1:], numpy.bincount(owners.ravel() + 1, minlength=len(seeds.tags) + 1)
                                  .tolist()[1:])
                 self.assertEqual(answer["lonely"], 0)
-                self.compare_rows(case, seeds, owners, answer["rows"])
+                self.compare_rows(case, seeds, owners, answer["table"])
                 several += (owners >= 0).any() and len(numpy.unique(owners[owners >= 0])) > 2
         return several
 
-    def compare_rows(self, case, seeds, owners, rows):
-        """Compare the rows of a table."""
-        if not (owners >= 0).any():
-            return self.assertEqual(rows, [])
-        expected = list(rows_of(owners, case.mask, seeds, range(1, len(seeds.tags) + 1), {}))
-        found = [[row["label"], uuid.UUID(row["tag"]), row["area"], row["left"], row["top"], row["right"],
-                  row["bottom"], row["mean"], row["inClass"], "", row["strokes"], row["x"], row["y"], row["min"],
-                  row["max"]] for row in rows]
-        self.assertEqual(len(found), len(expected))
-        for one, other in zip(found, expected):
-            for place in (7, 11, 12):
-                self.assertAlmostEqual(one[place], float(other[place]), delta=0.000501)
-                one[place] = other[place]
-            self.assertEqual(one, other)
-            self.assertEqual(one[8], class_of(one[1]))
+    def compare_rows(self, case, seeds, owners, table):
+        """Compare the rows of a table, which both have to the last digit."""
+        found = [[line[name] for name in COLUMNS] for line in csv.DictReader(io.StringIO(table))]
+        names = {number: f"Name of {number}" for number in range(1, 256)}
+        rows = rows_of(owners, case.mask, seeds, range(1, len(seeds.tags) + 1), names) if (owners >= 0).any() else []
+        self.assertEqual(found, [list(map(str, row)) for row in rows])
 
     def test_examples(self):
         chance = random.Random(5)

@@ -6,9 +6,9 @@
 const { readFileSync, writeFileSync } = require("node:fs");
 const { load } = require("./load.js");
 
-const { changeScene, classOf, gestureOf, labelling, measured, newScene } = load(
-  ["basics.js", "tags.js", "labelling.js"],
-  ["changeScene", "classOf", "gestureOf", "labelling", "measured", "newScene"]);
+const { changeScene, classOf, gestureOf, labelling, newScene, tableParts } = load(
+  ["basics.js", "tags.js", "labelling.js", "png.js", "tables.js"],
+  ["changeScene", "classOf", "gestureOf", "labelling", "newScene", "tableParts"]);
 
 /** The samples that a text holds in base 64, two bytes each with the less significant first. */
 function samplesOf(text, maxval) {
@@ -25,7 +25,7 @@ function answerTo({ width, height, maxval, mask, result, strokes, choices }) {
   return choices.map(choice => {
     const labels = labelling(scene, choice);
     return { numbers: [...labels.numbers], areas: [...labels.areas], lonely: labels.lonely,
-      rows: measured(labels, scene.mask) };
+      table: [...tableParts(labels, scene.mask, number => `Name of ${number}`)].map(({ part }) => part).join("") };
   });
 }
 

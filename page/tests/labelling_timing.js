@@ -5,8 +5,7 @@
 
 const { load } = require("./load.js");
 
-const { changeScene, labelling, measured, newScene } = load(["labelling.js"],
-  ["changeScene", "labelling", "measured", "newScene"]);
+const { changeScene, labelling, newScene } = load(["labelling.js"], ["changeScene", "labelling", "newScene"]);
 
 const side = Number(process.argv[2] ?? 4096), strokes = Number(process.argv[3] ?? 4000);
 const columns = Math.ceil(Math.sqrt(strokes)), step = side / columns;
@@ -59,8 +58,6 @@ for (let round = 0; round < 4; round++) {
   }
 }
 timed("all of it cut", () => labelling(scene, { kind: "level", level: 1, conn: 4, isCut: true }));
-const labels = labelling(scene, { kind: "share", share: .5, conn: 4, isCut: true });
-timed("measures", () => measured(labels, mask));
 changeScene(scene, null);
 timed("share 0.5, with the flood again", () => labelling(scene, { kind: "share", share: .5, conn: 4, isCut: true }));
 timed("share 0.01, the flood goes on", () => labelling(scene, { kind: "share", share: .01, conn: 4, isCut: true }));

@@ -1,0 +1,51 @@
+// ---- The worker of labels: it has a copy of mask, result and strokes, and labels them while the page goes on ----
+
+// All that it runs. Its text is made of theirs, so that it needs no file of its own.
+const LABELLING_PARTS = [objectsOf, seedsOf, addSpan, placesInOrder, numbersFor, brightestOf, newFlood, floodDownTo,
+  placesByValue, putLit, reachFour, reachEight, take, thresholdsOf, ceilingsOf, runsByLevel, runsByOwner, newRuns,
+  addKept, connectedParts, firstOf, join, endsOfParts, labelsOf, fillRun, shareOut, stepFour, stepEight, newScene,
+  labelling, runsByShare, changeScene, takeOpening, takeNews, listenAsWorker];
+
+const workerText = () => ['"use strict";', ...LABELLING_PARTS.map(String), "listenAsWorker();"].join("\n\n");
+
+function newLabelsWorker() {
+  const address = URL.createObjectURL(new Blob([workerText()], { type: "text/javascript" }));
+  const worker = new Worker(address);
+  worker.addEventListener("message", () => URL.revokeObjectURL(address), { once: true });
+  return worker;
+}
+
+/** Answers the page from within the worker: each question with a labelling, or with why there is none. */
+function listenAsWorker() {
+  const held = { scene: null, strokes: new Map() };
+  addEventListener("message", ({ data }) => {
+    try {
+      if (data.opening) takeOpening(held, data.opening);
+      if (data.news) takeNews(held, data.news);
+      if (!data.choice) return;
+      const labels = labelling(held.scene, data.choice);
+      postMessage({ labels }, [labels.numbers.buffer]);
+    } catch (fault) {
+      postMessage({ fault: String(fault) });
+    }
+  });
+}
+
+function takeOpening(held, { width, height, mask }) {
+  held.scene = newScene(width, height, mask, new mask.constructor(mask.length));
+  held.strokes.clear();
+}
+
+/** Takes boxes of the result with their samples, and strokes that came or went. */
+function takeNews({ scene, strokes }, { boxes, came, gone, isAnew }) {
+  if (isAnew) strokes.clear();
+  for (const { left, top, right, bottom, samples } of boxes) {
+    for (let y = top, place = 0; y < bottom; y++, place += right - left) {
+      scene.result.set(samples.subarray(place, place + right - left), y * scene.width + left);
+    }
+  }
+  for (const tag of gone) strokes.delete(tag);
+  for (const stroke of came) strokes.set(stroke.tag, stroke);
+  const areOthers = isAnew || came.length + gone.length > 0;
+  if (areOthers || boxes.length > 0) changeScene(scene, areOthers ? [...strokes.values()] : null);
+}
