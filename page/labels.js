@@ -88,14 +88,18 @@ async function askWorker() {
   if (labels.isWanted || labels.waiting.length > 0 && board.isQuiet) askLabels();
 }
 
-/** Gives up the worker: the next question begins with another one. */
+/** Says why there are no labels. A silent program is asked again; a worker is given up, and the next begins anew. */
 function endLabels(fault) {
-  labels.worker?.terminate();
-  Object.assign(labels, { worker: null, asked: 0, isWanted: false, isAnew: true });
+  const isSilence = fault instanceof Unanswered;
+  if (!isSilence) {
+    labels.worker?.terminate();
+    Object.assign(labels, { worker: null, isAnew: true });
+  }
+  Object.assign(labels, { asked: 0, isWanted: false });
   for (const { reject } of labels.waiting.splice(0)) reject(fault);
   sayLabels();
-  sayFault(fault instanceof Unanswered ? "No labels yet: the program does not answer."
-    : `There are no labels: ${fault.message}.`);
+  if (isSilence) setTimeout(askLabels, MOST_NEWS_REST);
+  else sayFault(`No labels: ${fault.message}. Nothing painted is lost; another choice begins anew.`);
 }
 
 /** Tells the worker what is new, and asks it. */
@@ -132,7 +136,12 @@ function newsForWorker() {
 
 function strokeForWorker({ tag, gesture, inClass, level, runs }) {
   const numbers = new Int32Array(3 * runs.length);
-  runs.forEach(({ y, first, last }, k) => numbers.set([y, first, last], 3 * k));
+  let place = 0;
+  for (const { y, first, last } of runs) {
+    numbers[place++] = y;
+    numbers[place++] = first;
+    numbers[place++] = last;
+  }
   return { tag, gesture, inClass, level: Number(level), runs: numbers };
 }
 
