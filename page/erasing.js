@@ -18,8 +18,8 @@ const mayErase = stroke => authorOf(stroke.tag) === author && isWithinReach(stro
 function sayWhatStays(touched) {
   const areOthers = touched.some(({ tag }) => authorOf(tag) !== author);
   const areMine = touched.some(({ tag }) => authorOf(tag) === author);
-  const kept = [...areOthers ? ["strokes of others"] : [], ...areMine ? ["those of locked or hidden classes"] : []];
-  if (kept.length > 0) sayFault(`The eraser leaves ${kept.join(" and ")}.`);
+  const kept = [...areOthers ? ["of others"] : [], ...areMine ? ["of locked or hidden classes"] : []];
+  if (kept.length > 0) sayFault(`The eraser leaves strokes ${kept.join(" and ")}.`);
 }
 
 /** The live strokes, with those that wait to be placed, and without those whose withdrawal waits. */
