@@ -43,7 +43,7 @@ const PRESSED = "button, a, label, summary, input:not([type=range]), [role=butto
 function isForElement({ target, key }) {
   if (key === "Escape" || !(target instanceof Element)) return false;
   if (key === "Tab" || target.matches(TYPED_IN)) return true;
-  if (target.matches("input[type=range]")) return /^(Arrow|Home|End|Page)/.test(key);
+  if (target.matches("input[type=range], input[type=radio]") && /^(Arrow|Home|End|Page)/.test(key)) return true;
   return target.matches(PRESSED) && (key === " " || key === "Enter");
 }
 

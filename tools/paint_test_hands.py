@@ -496,8 +496,11 @@ def panels_by_keys(page):
         page.tab.key(key)
         page.tab.wait(f"!element('{name}').hidden")
         check(page.tab.run(f"element('{name}').contains(document.activeElement)"), f"the keys go into the panel {name}")
-        inside = page.tab.run(f"""[...element('{name}').querySelectorAll("button, input, select, a")].filter(each =>
-            !each.disabled && each.offsetParent !== null).length""")
+        inside = page.tab.run(f"""(() => {{
+            const all = [...element('{name}').querySelectorAll("button, input, select, a")];
+            const usable = all.filter(each => !each.disabled && each.offsetParent !== null);
+            usable[0].focus();
+            return usable.length; }})()""")
         reached = 0
         while page.tab.run(f"element('{name}').contains(document.activeElement)") and reached <= inside:
             reached += 1
