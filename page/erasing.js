@@ -33,7 +33,11 @@ function liveStrokes() {
 /** Those of some strokes that have a pixel of a set. */
 function strokesOn(strokes, rows) {
   const box = boxOf([...rows.values()].flat());
-  return strokes.filter(stroke => meets(stroke.box, box) && restOf(stroke.runs, rows) !== null);
+  return strokes.filter(stroke => meets(stroke.box, box) && isOn(stroke, rows));
+}
+
+function isOn({ runs }, rows) {
+  return runs.some(({ y, first, last }) => rows.get(y)?.some(run => run.first <= last && first <= run.last));
 }
 
 /** A set with the runs of each row in their order. */
@@ -41,36 +45,26 @@ function sortedRows(rows) {
   return new Map([...rows].map(([y, runs]) => [y, [...runs].sort((one, other) => one.first - other.first)]));
 }
 
-/** What is left of runs without the pixels of a set, or null where none of them is in it. */
-function restOf(runs, rows) {
-  const rest = [];
-  let isTouched = false;
-  for (const run of runs) {
-    const parts = rows.has(run.y) ? uncovered(run.first, run.last, rows.get(run.y)) : [[run.first, run.last + 1]];
-    if (parts.length !== 1 || parts[0][0] !== run.first || parts[0][1] !== run.last + 1) isTouched = true;
-    for (const [start, end] of parts) rest.push({ y: run.y, first: start, last: end - 1 });
-  }
-  return isTouched ? rest : null;
-}
-
 /** What places some strokes anew without the pixels of a set. Untouched ones stay as they are; the others are runs. */
 function restsOf(strokes, rows) {
   const rests = [], touched = new Map();
   for (const stroke of strokes) {
-    const rest = restOf(stroke.runs, rows), like = `${stroke.gesture} ${stroke.inClass} ${stroke.level}`;
-    if (rest === null) rests.push(asPlaced(stroke));
-    else if (touched.has(like)) touched.get(like).rest.push(...rest);
-    else touched.set(like, { stroke, rest });
+    const like = `${stroke.gesture} ${stroke.inClass} ${stroke.level}`;
+    if (!isOn(stroke, rows)) rests.push(asPlaced(stroke));
+    else if (touched.has(like)) touched.get(like).runs.push(...stroke.runs);
+    else touched.set(like, { stroke, runs: [...stroke.runs] });
   }
-  for (const { stroke, rest } of touched.values()) {
-    for (const shape of shapesOfRuns(inOneSet(rest))) rests.push({ ...asPlaced(stroke), kind: "place", shape });
+  for (const { stroke, runs } of touched.values()) {
+    for (const shape of shapesOfRuns(restOf(runs, rows))) rests.push({ ...asPlaced(stroke), kind: "place", shape });
   }
   return rests;
 }
 
-/** The runs of all pixels of some runs, by row and column. */
-function inOneSet(runs) {
+/** The runs of all pixels of some runs that are in no run of a set, by row and column. */
+function restOf(runs, erased) {
   const rows = new Map();
-  for (const { y, first, last } of runs) addRun(rows, y, first, last);
+  for (const { y, first, last } of runs) {
+    for (const [start, end] of uncovered(first, last, erased.get(y) ?? [])) addRun(rows, y, start, end - 1);
+  }
   return runsOf(rows);
 }
