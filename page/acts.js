@@ -1,7 +1,7 @@
 // ---- Acts, which undo and redo take back in turns: strokes placed, withdrawn, or put in the place of others ----
 
-// An act has sides. The strokes of a side are there, under tags, or they are not. Turning an act withdraws those that
-// are there and places the others, in one edit.
+// An act has sides. The strokes of a side are there, or they were, under tags. Turning an act withdraws those that are
+// there and places the others, in one edit.
 
 let done = [], undone = [];
 const MOST_KEPT_ACTS = 100, MOST_KEPT_SIGNS = 1000000;
@@ -50,17 +50,25 @@ function perform(act, begun) {
 
 /** Turns an act, under new tags, since a withdrawn tag never comes back. Says whether one request carries it. */
 function turn(act, begun = performance.now()) {
-  const turned = act.map(({ areThere, strokes }) => {
-    return { areThere: !areThere, tags: areThere ? [] : tagsFor(strokes), strokes };
+  const turned = act.map(({ areThere, tags, strokes }) => {
+    return { areThere: !areThere, tags: areThere ? tags : tagsFor(strokes), strokes };
   });
   const body = `${act.flatMap((side, k) => side.areThere ? withdrawing(side) : placing(turned[k])).join("\n")}\n`;
   if (body.length > MOST_EDIT) {
     sayFault("That is more than one request carries (4 MiB). Nothing was changed: do it in parts.");
     return false;
   }
+  act.forEach((side, k) => { if (!side.areThere) rename(side.tags, turned[k].tags); });
   act.splice(0, act.length, ...turned);
   sendEdit(body, begun);
   return true;
+}
+
+/** In all acts, strokes that came back have their new tags: an act before takes them away, one behind once more. */
+function rename(before, now) {
+  const names = new Map(before.map((tag, k) => [tag, now[k]]));
+  if (names.size === 0) return;
+  for (const side of [...done, ...undone].flat()) side.tags = side.tags.map(tag => names.get(tag) ?? tag);
 }
 
 const withdrawing = ({ tags }) => tags.map(tag => `withdraw ${tag}`);

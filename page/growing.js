@@ -11,14 +11,14 @@ let growingRoom = null;  // for each pixel of the window what it is, and the pix
  * Grows runs over pixels of at least a threshold, from neighbour to neighbour, within a window around them, up to a
  * bound and to a time. The places that were found are those of the window, row by row, the runs' own ones first.
  */
-function grow({ mask, width, height }, runs, threshold, { until = Infinity, most = GROWN.most } = {}) {
+function grow({ mask, width, height }, runs, threshold, { until = Infinity, most = GROWN.most, conn = 4 } = {}) {
   const window = windowAround(runs, width, height);
   if (window === null) return null;
   growingRoom ??= { kinds: new Uint8Array(GROWN.mostWindow), places: new Int32Array(GROWN.mostOwn + GROWN.most + 4) };
   const { kinds, places } = growingRoom;
   markBorders(kinds, window, width, height);
   const own = takeOwn(mask, width, runs, threshold, window);
-  const rows = { mask, width, threshold, window, kinds, places };
+  const rows = { mask, width, threshold, window, kinds, places, conn };
   return { ...window, places, own, ...growOn(rows, own, Math.min(most, GROWN.most), until) };
 }
 
@@ -49,6 +49,7 @@ function markBorders(kinds, { left, top, width, height }, boardWidth, boardHeigh
   }
   kinds.fill(kindOf(top >= 0), 0, width);
   kinds.fill(kindOf(top + height <= boardHeight), end - width, end);
+  for (const corner of [0, width - 1, end - width, end - 1]) kinds[corner] = OUTSIDE;
 }
 
 /** Takes the pixels of the runs that reach the threshold, and tells how many they are. */
@@ -67,14 +68,14 @@ function takeOwn(mask, boardWidth, runs, threshold, { left, top, width }) {
 }
 
 /** Goes from pixel to pixel, the nearest first. It is whole where neither bound nor window nor time ended it. */
-function growOn({ mask, width, threshold, window, kinds, places }, own, most, until) {
-  const steps = [-window.width, -1, 1, window.width], boardSteps = [-width, -1, 1, width];
+function growOn({ mask, width, threshold, window, kinds, places, conn }, own, most, until) {
+  const steps = stepsIn(window.width, conn), boardSteps = stepsIn(width, conn);
   let count = own, isWhole = true;
   for (let next = 0; next < count; next++) {
     if (count - own >= most || (next % 4096 === 4095 && performance.now() > until)) return { count, isWhole: false };
     const row = Math.floor(places[next] / window.width), column = places[next] - row * window.width;
     const pixel = (window.top + row) * width + window.left + column;
-    for (let k = 0; k < 4; k++) {
+    for (let k = 0; k < conn; k++) {
       const place = places[next] + steps[k];
       if (kinds[place] === FOUND || kinds[place] === OUTSIDE || mask[pixel + boardSteps[k]] < threshold) continue;
       if (kinds[place] === BEYOND) isWhole = false;
@@ -83,4 +84,9 @@ function growOn({ mask, width, threshold, window, kinds, places }, own, most, un
     }
   }
   return { count, isWhole };
+}
+
+/** From a pixel to its 4 or 8 neighbours, in rows of this width. */
+function stepsIn(width, conn) {
+  return [-width, -1, 1, width, -width - 1, -width + 1, width - 1, width + 1].slice(0, conn);
 }

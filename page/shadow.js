@@ -1,6 +1,5 @@
 // ---- The shadow: an estimate of what the brush would light, seen before the button goes up ----
 
-const SHADOW_SHARE = .5;  // what is lit at least by so much of the stroke's light is in the shadow
 const SHADOW_TIME = 8, SHADOW_TIME_PAINTING = 4;  // milliseconds a frame
 const SHADOW_ALPHA = 90, SHADOW_CORE = .6;  // of 255; where it was cut off it fades behind this part of its pixels
 
@@ -24,7 +23,7 @@ function drawShadow() {
   if (!castsShadow()) return;
   const { gesture, pixel } = hand, ink = inkParts();
   const stroke = gesture ? ["down", gesture.rows.size] : [hand.tool, brush.radius];
-  const of = [...stroke, pixel.x, pixel.y, brush.level, ink].join();
+  const of = [...stroke, pixel.x, pixel.y, brush.level, ink, ...Object.values(labels.choice)].join();
   if (of !== shadow.of) {
     shadow.of = of;
     shadow.drawn = castShadow(runsOf(gesture ? gesture.rows : rowsAtPointer()), ink);
@@ -43,15 +42,21 @@ function castsShadow() {
 
 /** Puts the shadow of runs on its canvas, and tells where it lies. */
 function castShadow(runs, ink) {
-  const highest = highestUnder(runs), threshold = Math.max(1, SHADOW_SHARE * Math.min(brush.level ?? highest, highest));
+  const highest = highestUnder(runs), threshold = leastLight(Math.min(brush.level ?? highest, highest));
   const until = performance.now() + (hand.gesture ? SHADOW_TIME_PAINTING : SHADOW_TIME);
-  const grown = highest === 0 ? null : grow(board, runs, threshold, { until });
+  const grown = highest === 0 ? null : grow(board, runs, threshold, { until, conn: labels.conn || 4 });
   if (grown === null || grown.count === 0) return null;
   const box = boxOfPlaces(grown), width = box.right - box.left, height = box.bottom - box.top;
   const pixels = shadowContext(width, height).createImageData(width, height);
   colourPlaces(new Uint32Array(pixels.data.buffer), grown, box, packed(ink, 0));
   shadow.context.putImageData(pixels, 0, 0);
   return { left: grown.left + box.left, top: grown.top + box.top, width, height };
+}
+
+/** From which light on a pixel is in the shadow of a stroke that is so bright: as labels are made. */
+function leastLight(brightest) {
+  const { kind, share, level } = labels.choice;
+  return Math.max(1, kind === "share" ? share * brightest : level);
 }
 
 function boxOfPlaces({ places, count, width }) {

@@ -489,28 +489,38 @@ def pan_and_zoom(tab):
 
 def panels_by_keys(page):
     """Each panel is opened by its key, its elements are reached, and Escape closes it."""
-    panels = [("c", "contrast"), ("k", "classes"), ("e", "exports"), ("l", "labels")]
-    for key, name in panels:
-        if not page.tab.run(f"document.getElementById('{name}') !== null"):
-            continue
+    for key, name in [("c", "contrast"), ("k", "classes"), ("e", "exports")]:
         page.tab.key(key)
         page.tab.wait(f"!element('{name}').hidden")
         check(page.tab.run(f"element('{name}').contains(document.activeElement)"), f"the keys go into the panel {name}")
-        inside = page.tab.run(f"""(() => {{
-            const all = [...element('{name}').querySelectorAll("button, input, select, a")];
-            const usable = all.filter(each => !each.disabled && each.offsetParent !== null);
-            usable[0].focus();
-            return usable.length; }})()""")
-        reached = 0
-        while page.tab.run(f"element('{name}').contains(document.activeElement)") and reached <= inside:
-            reached += 1
-            page.tab.key("Tab")
-        check(reached == inside, f"Tab goes through the {inside} elements of the panel {name}")
+        tab_through(page, name)
         page.tab.key("Tab", SHIFT)
         page.tab.key("Escape")
         page.tab.wait(f"element('{name}').hidden")
         page.tab.key("Escape")
         check(page.tab.run("document.activeElement.id") == "overlay", f"Escape closes {name}: the picture has the keys")
+
+
+    page.tab.key("l")
+    page.tab.wait("!element('labels').hidden")
+    tab_through(page, "labels")
+    page.tab.key("Escape")
+    page.tab.key("v")
+    page.tab.wait("element('labels').hidden")
+
+
+def tab_through(page, name):
+    """Tab reaches each element of a panel that one can act on, from its first one on."""
+    inside = page.tab.run(f"""(() => {{
+        const all = [...element('{name}').querySelectorAll("button, input, select, a")];
+        const usable = all.filter(each => !each.disabled && each.offsetParent !== null);
+        usable[0].focus();
+        return usable.length; }})()""")
+    reached = 0
+    while page.tab.run(f"element('{name}').contains(document.activeElement)") and reached <= inside:
+        reached += 1
+        page.tab.key("Tab")
+    check(reached == inside, f"Tab goes through the {inside} elements of the panel {name}")
 
 
 def names(sitting):
@@ -519,9 +529,8 @@ def names(sitting):
     page = sitting.first
     page.drag(DISC)
     page.settle(1)
-    for button in ("helpButton", "contrastShown", "classesShown", "exportsShown", "labelsShown"):
-        if page.tab.run(f"document.getElementById('{button}') !== null"):
-            page.tab.run(f"element('{button}').click(), 0")
+    for button in ("helpButton", "contrastShown", "classesShown", "exportsShown", "showLabels"):
+        page.tab.run(f"element('{button}').click(), 0")
     page.tab.run("[...document.querySelectorAll('.unfold')].forEach(each => each.click()), 0")
     time.sleep(0.3)
     sitting.look("all-panels")

@@ -220,6 +220,33 @@ test("an erasure is one edit, its undo brings the same objects back under new ta
   assert.ok(erased > 100);
 });
 
+test("erasures one behind the other are undone and redone, step by step", () => {
+  const below = numbersFrom(29);
+  for (let round = 0; round < 100; round++) {
+    begin(someStrokes(below));
+    const states = [withoutGestures([...board.strokes.values()])];
+    for (let k = 0; k < 4; k++) {
+      page.erase(someRows(below), 0);
+      if (sent.length < states.length) continue;
+      takeSent();
+      states.push(withoutGestures([...board.strokes.values()]));
+    }
+    for (let turns = 0; turns < 2; turns++) {
+      for (const state of states.slice(0, -1).reverse()) {
+        page.undo();
+        takeSent();
+        assert.deepEqual(withoutGestures([...board.strokes.values()]), state);
+      }
+      for (const state of states.slice(1)) {
+        page.redo();
+        takeSent();
+        assert.deepEqual(withoutGestures([...board.strokes.values()]), state);
+        page.recallActs();
+      }
+    }
+  }
+});
+
 test("strokes of others, and of classes out of reach, are not erased", () => {
   const [mine, locked, theirs] = [[writer, 1], [writer, 9], ["f".repeat(16), 1]].map(
     ([author, inClass]) => page.readStroke(`disc ${page.newTags([{ author, inClass }])[0]} 5 20:20+4`));
@@ -273,7 +300,9 @@ test("what one request does not carry is refused, and changes nothing", () => {
 
 // ---- The shadow ----
 
-function slowGrowth(mask, runs, threshold) {
+const holds = (x, y) => x >= 0 && x < board.width && y >= 0 && y < board.height;
+
+function slowGrowth(mask, runs, threshold, conn) {
   const found = new Set(), todo = [...pixelsOf(runs)];
   while (todo.length > 0) {
     const pixel = todo.pop(), x = pixel % board.width, y = Math.floor(pixel / board.width);
@@ -283,6 +312,9 @@ function slowGrowth(mask, runs, threshold) {
     if (x + 1 < board.width) todo.push(pixel + 1);
     if (y > 0) todo.push(pixel - board.width);
     if (y + 1 < board.height) todo.push(pixel + board.width);
+    for (const down of conn === 8 ? [-1, 1] : []) {
+      for (const across of [-1, 1]) if (holds(x + across, y + down)) todo.push(pixel + across + down * board.width);
+    }
   }
   return found;
 }
@@ -299,8 +331,8 @@ test("the shadow is what can be reached over a mask of the threshold", () => {
     const mask = Uint8Array.from({ length: 64 * 48 }, () => below(10)), runs = page.runsOf(someRows(below));
     const threshold = 1 + below(6);
     page.GROWN.margin = round % 2 === 0 ? margin : 3;
-    const grown = page.grow({ ...board, mask }, runs, threshold), found = placesToPixels(grown);
-    const whole = slowGrowth(mask, runs, threshold);
+    const conn = round % 3 === 0 ? 8 : 4, grown = page.grow({ ...board, mask }, runs, threshold, { conn });
+    const whole = slowGrowth(mask, runs, threshold, conn), found = placesToPixels(grown);
     assert.equal(new Set(found).size, found.length);
     if (grown.isWhole) sameSet(found, whole);
     else assert.ok(page.GROWN.margin === 3 && found.length < whole.size && found.every(pixel => whole.has(pixel)));
