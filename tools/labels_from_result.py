@@ -13,6 +13,7 @@ import argparse
 import csv
 import pathlib
 import sys
+from decimal import ROUND_HALF_UP, Decimal
 
 from running import Fault, level_of, run, tell, without
 
@@ -131,11 +132,16 @@ def rows_of(owners, mask, seeds, numbers, names):
     numpy.maximum.at(greatest, met, samples)
     for owner in numpy.flatnonzero(areas):
         rows, columns = boxes[owner]
-        means = {name: f"{sums[name][owner] / areas[owner]:.3f}" for name in sums}
+        means = {name: shown(sums[name][owner] / areas[owner]) for name in sums}
         in_class = class_of(seeds.tags[owner])
         yield [numbers[owner], seeds.tags[owner], areas[owner], columns.start, rows.start, columns.stop - 1,
                rows.stop - 1, means["mean"], in_class, names.get(in_class, ""), seeds.strokes[owner], means["x"],
                means["y"], least[owner], greatest[owner]]
+
+
+def shown(mean):
+    """A mean with three decimals; what is in the middle is rounded up, as the page does."""
+    return Decimal(float(mean)).quantize(Decimal("0.001"), ROUND_HALF_UP)
 
 
 def write_table(name, rows):
