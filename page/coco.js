@@ -1,6 +1,6 @@
 // ---- COCO: a labelling as JSON with its masks as run lengths. Nothing here knows of the page ----
 
-const COLUMNS_AT_ONCE = 32, LABELS_AT_ONCE = 100;
+const COLUMNS_AT_ONCE = 32;
 
 /** The parts of the JSON of a labelling of a file. Each label with pixels is an annotation, its class the category. */
 function* cocoParts(labelling, fileName, nameOf) {
@@ -14,11 +14,9 @@ function* cocoParts(labelling, fileName, nameOf) {
     images: [{ id: 1, file_name: fileName, width, height }], categories: categoriesOf(objects, nameOf) };
   yield { share: 1, part: `${JSON.stringify(head).slice(0, -1)},"annotations":[` };
   const present = objects.filter(({ number }) => runs[number]).sort((one, other) => one.number - other.number);
-  for (let start = 0; start < present.length; start += LABELS_AT_ONCE) {
-    const texts = present.slice(start, start + LABELS_AT_ONCE).map(object => {
-      return JSON.stringify(annotationOf(object, runs[object.number], width, height));
-    });
-    yield { share: 1, part: `${start > 0 ? "," : ""}\n${texts.join(",\n")}` };
+  for (const object of present) {
+    const text = JSON.stringify(annotationOf(object, runs[object.number], width, height));
+    yield { share: 1, part: `${object === present[0] ? "" : ","}\n${text}` };
   }
   yield { share: 1, part: "\n]}\n" };
 }

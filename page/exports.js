@@ -103,17 +103,18 @@ async function exportFile(id) {
 
 /** One file of parts. Whenever some time is over, the page does what else there is to do. */
 async function fileOf(parts, type) {
-  const pieces = [];
+  const pieces = [], loose = [];
   let begun = performance.now();
   for await (const { share, part } of parts) {
-    if (part.length > 0) pieces.push(new Blob([part]));
+    loose.push(part);
     if (performance.now() - begun < SLICE_TIME) continue;
+    pieces.push(new Blob(loose.splice(0)));
     sayProgress(`${exporting.name} is being made.`, share);
     await breathe();
     stopHere();
     begun = performance.now();
   }
-  return new Blob(pieces, { type });
+  return new Blob([...pieces, ...loose], { type });
 }
 
 /** Goes on behind whatever else waits for the page, without the pause that a timer makes. */

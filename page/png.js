@@ -3,7 +3,7 @@
 // Files are made in parts, so that the page is never kept waiting. Each part stands with the share of the work that is
 // done behind it; where nothing is ready yet it is empty.
 
-const SLICE_BYTES = 1 << 18;  // of samples are taken at once
+const SLICE_BYTES = 1 << 16;  // of samples are taken at once
 const NOTHING = new Uint8Array(0);
 const PNG_SIGNATURE = [137, 80, 78, 71, 13, 10, 26, 10];
 const FILTER_UP = 2;  // each byte less the one above it: in label images most of them are 0

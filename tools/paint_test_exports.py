@@ -173,9 +173,10 @@ def names_and_keys(sitting):
     check(page.tab.run("document.activeElement.id") == "exportResultPgm", "Tab goes on from button to button")
     folder = sitting.folder / "by-key"
     page.tab.download_to(folder)
-    page.tab.run("document.activeElement.click(), 0")
-    wait_for((folder / "my cells-result.pgm").is_file, "the file of a button that was pressed by a key")
-    check(True, "a reload keeps the name")
+    for kind, more in (("keyDown", {"text": "\r"}), ("keyUp", {})):
+        page.tab.call("Input.dispatchKeyEvent", type=kind, key="Enter", windowsVirtualKeyCode=13, **more)
+    wait_for((folder / "my cells-result.pgm").is_file, "the file of a button that Enter pressed")
+    check(True, "Enter presses one, and a reload keeps the name")
     page.tab.key("Escape")
     check(page.tab.run("element('exports').hidden"), "Escape closes it")
 
