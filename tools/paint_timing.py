@@ -5,7 +5,8 @@
 
 The words are the command that serves. The picture has 5,000 cells and 4,000 strokes; `--size`, `--cells`, `--strokes`
 and `--bits` choose others. Strokes are painted with real mouse events, and the page itself takes the times, from button
-up to pixels drawn. With `--lit` the ground is nowhere 0, so that a withdrawal resets all tiles; then a withdrawal is
+up to pixels drawn, in the view of what is kept and in that of labels, for the slider of labels, and for the export of a
+label image. With `--lit` the ground is nowhere 0, so that a withdrawal resets all tiles; then a withdrawal is
 measured, too. It needs Python 3 and Debian's package chromium, and takes some minutes.
 """
 
@@ -160,6 +161,25 @@ def paint_strokes(page, cells, known):
     return page.tab.run("timings")
 
 
+def slide_labels(page, shares):
+    """The milliseconds from each share of the labels until they are drawn."""
+    return [page.tab.run(f"""new Promise(done => {{
+        const {{ stamp }} = labels, begun = performance.now();
+        setThreshold({share});
+        (function look() {{
+            if (labels.stamp === stamp || labels.asked) setTimeout(look);
+            else requestAnimationFrame(() => setTimeout(() => done(performance.now() - begun)));
+        }})(); }})""") for share in shares]
+
+
+def export_labels(page, count):
+    """The seconds from the button until each file of a label image is there."""
+    return [page.tab.run("""(async () => {
+        const begun = performance.now();
+        await exportFile("exportLabelsPng");
+        return (performance.now() - begun) / 1000; })()""") for _ in range(count)]
+
+
 def requests_of(page, name):
     """The milliseconds of the page's requests of this name."""
     return page.tab.run(f"""performance.getEntriesByType("resource").filter(entry => entry.name.includes("/{name}?"))
@@ -257,6 +277,7 @@ def measure(words, folder, browser):
     program.start(mask)
     try:
         page = Page(browser.open(program.address))
+        page.tab.download_to(folder)
         page.tab.wait("!asked.picture")
         shown = time.perf_counter() - begun
         print(f"| start until the page shows the mask, s | {shown:.2f} | | |", flush=True)
@@ -270,7 +291,9 @@ def measure(words, folder, browser):
 
 def tell(words, program, browser, page, client, cells):
     """The rows of the table, one by one."""
-    painted = paint_strokes(page, cells[words.strokes:words.strokes + words.edits], words.strokes)
+    half = words.edits // 2
+    tell_labels(page, cells[words.strokes:words.strokes + half], words.strokes)
+    painted = paint_strokes(page, cells[words.strokes + half:words.strokes + words.edits], words.strokes + half)
     for name, key in (("pixels drawn", "drawn"), ("all of it grown and drawn", "grown"), ("its answer", "answered")):
         times = [timing[key] - timing["begun"] for timing in painted]
         print(f"| a stroke, from button up to {name}, ms | {spread(times)} |", flush=True)
@@ -290,6 +313,20 @@ def tell(words, program, browser, page, client, cells):
         print(f"| most tiles left meanwhile | {max(looker.tiles_left)} | | |")
     print(f"| memory of the program, MB | {peak_size(program.process.pid):.0f} | | |")
     print(f"| memory of the page's tab, MB | {largest_renderer(browser):.0f} | | |", flush=True)
+
+
+def tell_labels(page, cells, known):
+    """The rows of the view of labels; behind them what is kept is shown again."""
+    page.show("labels")
+    page.tab.wait("labels.shown && !labels.asked", 120)
+    painted = paint_strokes(page, cells, known)
+    times = [timing["drawn"] - timing["begun"] for timing in painted]
+    print(f"| a stroke in the view of labels, from button up to pixels drawn, ms | {spread(times)} |", flush=True)
+    page.tab.run("currentLabelling().then(() => 0)")
+    shares = [.3 + .02 * number for number in range(20)]
+    print(f"| labels of another share, until they are drawn, ms | {spread(slide_labels(page, shares))} |", flush=True)
+    print(f"| the export of a label image as PNG, s | {spread(export_labels(page, 5))} |", flush=True)
+    page.show("kept")
 
 
 def read_words():
