@@ -106,7 +106,10 @@ function endLabels(fault) {
 function answerOfWorker(choice) {
   const { promise, resolve, reject } = newPromise();
   if (!labels.worker) openWorker();
-  labels.worker.onmessage = ({ data }) => data.fault ? reject(new Error(data.fault)) : resolve(data.labels);
+  labels.worker.onmessage = ({ data }) => {
+    if (data.fault) reject(new Error(data.fault));
+    else resolve({ objects: labels.shown?.objects, ...data.labels });  // (it tells the objects where they are others)
+  };
   labels.worker.onerror = event => {
     event.preventDefault();
     reject(new Error(event.message || "the browser lets no worker begin"));

@@ -15,15 +15,16 @@ function newLabelsWorker() {
   return worker;
 }
 
-/** Answers the page from within the worker: each question with a labelling, or with why there is none. */
+/** Answers the page from within the worker: each choice with a labelling, or with why there is none. */
 function listenAsWorker() {
-  const held = { scene: null, strokes: new Map() };
+  const held = { scene: null, strokes: new Map(), told: null };
   addEventListener("message", ({ data }) => {
     try {
       if (data.opening) takeOpening(held, data.opening);
       if (data.news) takeNews(held, data.news);
       if (!data.choice) return;
-      const labels = labelling(held.scene, data.choice);
+      const { objects, ...labels } = labelling(held.scene, data.choice);
+      if (objects !== held.told) labels.objects = held.told = objects;  // (which take their time where they are many)
       postMessage({ labels }, [labels.numbers.buffer]);
     } catch (fault) {
       postMessage({ fault: String(fault) });

@@ -1,6 +1,6 @@
 "use strict";
 
-// Tests of page/labelling.js and page/labels_worker.js:  node page/tests/labels_test.js
+// Tests of page/labelling.js, labels_worker.js and labels_panel.js:  node page/tests/labels_test.js
 // (tools/test_labels_page.py compares labels with those of labels_from_result.py.)
 
 const assert = require("node:assert/strict");
@@ -85,4 +85,15 @@ test("a worker has all that it needs: it follows the news, and answers each choi
 
 test("what a worker cannot do it says", () => {
   assert.match(answersOf({ choice: BY_LEVEL })[0].fault, /Error/);
+});
+
+test("a choice that was kept is read again, and nothing else is", () => {
+  const { readLabelChoice } = load(["basics.js", "classes.js", "contrast.js", "labels_panel.js"], ["readLabelChoice"]);
+  const kept = { kind: "share", share: .25, level: 300, isCut: true, areOwn: false };
+  assert.deepEqual(readLabelChoice(JSON.stringify(kept), 65535), kept);
+  const others = [{ kind: "other" }, { share: 0 }, { share: 1.5 }, { level: 0 }, { level: 1.5 }, { isCut: 1 },
+    { areOwn: null }];
+  for (const other of others) assert.equal(readLabelChoice(JSON.stringify({ ...kept, ...other }), 65535), null);
+  assert.equal(readLabelChoice(JSON.stringify(kept), 255), null);
+  for (const text of [null, "", "[]", "{", "7"]) assert.equal(readLabelChoice(text, 255), null);
 });
