@@ -333,7 +333,7 @@ def shadow(sitting):
         page, image = sitting.first, sitting.mask(mask)
         page.tab.mouse("mouseMoved", *page.at(*DISC))
         page.tab.wait("shadow.drawn !== null && !asked.frame")
-        own = brushed([DISC, DISC], 6, image.width)
+        own = set(simulator.pixels_of(readers.Disc(*DISC, 6), image.width, image.height))
         check(shadow_of(page, image.width) == lit_by(own, image), f"{mask}: the shadow is what the brush would light")
         sitting.look(f"shadow-{mask}")
         page.tab.key("s")
