@@ -60,11 +60,11 @@ function lookAside([across, down], isFar) {
 
 function actionOf(event) {
   const key = event.key.toLowerCase(), isCommand = event.ctrlKey || event.metaKey;
-  if (isCommand && key === "z") return event.shiftKey ? redo : polygonAction("backspace") ?? undo;
+  if (isCommand && key === "z") return event.shiftKey ? redo : cornerAction("backspace") ?? undo;
   if (isCommand && key === "y") return redo;
   if (key === " ") return () => holdSpace(true);
-  if (polygonAction(key) && !hand.gesture) return polygonAction(key);
-  if (key === "escape") return escape;
+  if (key === "escape") return () => escape(event);
+  if (isAtPicture(event) && cornerAction(key)) return cornerAction(key);
   if (key in ARROWS && !event.altKey && !isCommand) return () => lookAside(ARROWS[key], event.shiftKey);
   if (key === "f" && !isCommand) return event.shiftKey ? pixelForPixel : fit;
   if (/^\d$/.test(key) && !isCommand && !event.altKey) return () => typeDigit(event);
@@ -72,12 +72,19 @@ function actionOf(event) {
   return isCommand && key !== "[" && key !== "]" ? undefined : KEYS[key];
 }
 
-/** Drops what is in hand, closes the help, and gives the keys to the picture. */
-function escape() {
-  lineInHand.start = null;
-  dropHand();
-  element("help").hidden = true;
+/** Closes the table of keys, or drops what is in hand, or gives the keys to the picture where it does not have them. */
+function escape(event) {
+  if (!element("help").hidden) toggleHelp();
+  else if (isAtPicture(event)) dropWhatIsInHand();
   keysToPicture();
+}
+
+const isAtPicture = ({ target }) => target === overlay || target === document.body;
+
+function dropWhatIsInHand() {
+  lineInHand.start = null;
+  if (!hand.gesture) cornerAction("escape")?.();
+  dropHand();
 }
 
 function holdSpace(isHeld) {

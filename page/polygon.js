@@ -47,7 +47,7 @@ function takeCornerBack() {
 // What keys do while a polygon is in hand.
 const POLYGON_KEYS = { enter: closePolygon, backspace: takeCornerBack, escape: dropPolygon };
 
-const polygonAction = key => hand.tool === "polygon" && polygon.corners.length > 0 ? POLYGON_KEYS[key] : undefined;
+const cornerAction = key => hand.tool === "polygon" && polygon.corners.length > 0 ? POLYGON_KEYS[key] : undefined;
 
 /** Draws the corners, the sides, and what would be filled up to the pointer. */
 function drawPolygon() {
