@@ -9,7 +9,7 @@ const KEYS = {
   a: () => setLevel(null),
   m: () => setLevel(board.maxval),
   h: () => showStrokes(!view.areStrokesShown),
-  s: () => showShadow(!shadow.isShown),
+  s: () => toggleShadow(),
   c: () => toggleContrast(true),
   p: setByPercentiles,
   l: () => setView("labels"),
@@ -58,9 +58,12 @@ function lookAside([across, down], isFar) {
   followSight();
 }
 
+/** Takes back the last corner of a polygon in hand, or else the last act. */
+const undoInHand = () => (cornerAction("backspace") ?? undo)();
+
 function actionOf(event) {
   const key = event.key.toLowerCase(), isCommand = event.ctrlKey || event.metaKey;
-  if (isCommand && key === "z") return event.shiftKey ? redo : cornerAction("backspace") ?? undo;
+  if (isCommand && key === "z") return event.shiftKey ? redo : undoInHand;
   if (isCommand && key === "y") return redo;
   if (key === " ") return () => holdSpace(true);
   if (key === "escape") return () => escape(event);
@@ -99,7 +102,7 @@ function toggleHelp() {
 }
 
 const BUTTONS = {
-  brush: KEYS.b, line: KEYS.i, polygon: KEYS.g, eraser: KEYS.d, withdraw: KEYS.x, undo, redo, fit,
+  brush: KEYS.b, line: KEYS.i, polygon: KEYS.g, eraser: KEYS.d, withdraw: KEYS.x, undo: undoInHand, redo, fit,
   autoLevel: KEYS.a, mostLevel: KEYS.m, strokesShown: KEYS.h, shadowShown: KEYS.s,
   contrastShown: () => toggleContrast(false), classesShown: () => toggleClasses(false),
   byClass: () => markBy("class"), byAuthor: () => markBy("author"),

@@ -12,8 +12,13 @@ const shadow = {
 function showShadow(isShown) {
   shadow.isShown = isShown;
   press("shadowShown", isShown);
-  local.set("shadow", isShown ? "on" : "off");
   redrawOverlay();
+}
+
+/** Shows the shadow or hides it, and keeps that over a reload. */
+function toggleShadow() {
+  showShadow(!shadow.isShown);
+  local.set("shadow", shadow.isShown ? "on" : "off");
 }
 
 const recallShadow = () => showShadow(local.get("shadow") !== "off");
