@@ -223,6 +223,21 @@ def take_pictures(sitting):
     first.tab.mouse("mouseMoved", *first.at(270, 228))
     first.tab.screenshot(folder / "paint-withdraw.png")
     first.tab.key("b")
+    take_picture_of_labels(first, folder)
+
+
+def take_picture_of_labels(page, folder):
+    """The picture of labels: three of the objects are of another class."""
+    page.tab.key("2")
+    for pixel in ((206, 188), (200, 30), (58, 168)):
+        page.tab.mouse("mouseMoved", *page.at(*pixel))
+        page.tab.key("t")
+        page.tab.wait("outbox.length === 0 && board.isQuiet")
+    page.show("labels")
+    page.tab.wait("labels.shown && !labels.asked")
+    page.tab.run("say(''), 0")
+    page.tab.mouse("mouseMoved", *page.at(206, 180))
+    page.tab.screenshot(folder / "paint-labels.png")
 
 
 CHECKS = [paint_run_and_disc, undo_and_redo, withdraw_the_others, levels, long_gesture, at_the_border, strokes_shown,
