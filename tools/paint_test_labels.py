@@ -7,16 +7,25 @@ It needs Python 3, Debian's package chromium, and what labels_from_result.py nee
 """
 
 import csv
+import json
 import struct
 import subprocess
 
-from paint_testing import BOTH_DEPTHS, TOP, check, run_alone
+from paint_testing import TOP, check, run_alone
 
 # Strokes in cells: the third and the fourth lie in cells that touch, and the last one is of class 2.
 STROKES = [[(83, 66), (91, 71), (101, 77)], [(206, 188)], [(205, 68)], [(220, 101)], [(285, 142)]]
 QUIET = "labels.shown && labels.asked === 0 && !labels.isWanted && labels.newsFrom === 0"
 PYTHON = "/usr/bin/python3"  # which sees Debian's packages
-READ_TIFF = "import sys, tifffile; sys.stdout.buffer.write(tifffile.imread(sys.argv[1]).astype('<u4').tobytes())"
+
+# Runs the tool with each list of words, and writes the labels as plain numbers beside each label image.
+TOOL = """import json, pathlib, sys
+sys.path.insert(0, sys.argv[1])
+import labels_from_result, tifffile
+for words in json.loads(sys.argv[2]):
+    sys.argv = ["labels_from_result.py", *words]
+    labels_from_result.main()
+    pathlib.Path(words[1] + ".raw").write_bytes(tifffile.imread(words[1]).astype("<u4").tobytes())"""
 
 
 def begin(sitting, mask, state, strokes=STROKES):
@@ -32,31 +41,39 @@ def begin(sitting, mask, state, strokes=STROKES):
     return page
 
 
-def by_tool(sitting, mask, *words):
-    """The label of each pixel, and the table, as labels_from_result.py makes them of what the program has."""
-    names = ("result.pgm", "strokes.txt", "labels.tif", "labels.csv")
-    paths = {name: sitting.folder / f"tool-{name}" for name in names}
-    paths["result.pgm"].write_bytes(sitting.program.get("image"))
-    paths["strokes.txt"].write_bytes(sitting.program.get("strokes"))
-    subprocess.run([PYTHON, TOP / "tools" / "labels_from_result.py", paths["result.pgm"], paths["labels.tif"],
-                    "--mask", sitting.masks[mask], "--strokes", paths["strokes.txt"], "--table", paths["labels.csv"],
-                    *map(str, words)], check=True)
-    raw = subprocess.run([PYTHON, "-c", READ_TIFF, paths["labels.tif"]], stdout=subprocess.PIPE, check=True).stdout
-    return [number for number, in struct.iter_unpack("<I", raw)], list(csv.DictReader(paths["labels.csv"].open()))
+def by_tool(sitting, mask, *choices):
+    """The label of each pixel and the table, as labels_from_result.py makes them of what the program has, for each
+    choice, which is a list of its words."""
+    result, strokes = sitting.folder / "tool.pgm", sitting.folder / "tool.txt"
+    result.write_bytes(sitting.program.get("image"))
+    strokes.write_bytes(sitting.program.get("strokes"))
+    calls = [[result, sitting.folder / f"tool-{k}.tif", "--mask", sitting.masks[mask], "--strokes", strokes, "--table",
+              sitting.folder / f"tool-{k}.csv", *choice] for k, choice in enumerate(choices)]
+    words = json.dumps([list(map(str, call)) for call in calls])
+    subprocess.run([PYTHON, "-c", TOOL, TOP / "tools", words], check=True, stderr=subprocess.DEVNULL)
+    for k in range(len(choices)):
+        raw = (sitting.folder / f"tool-{k}.tif.raw").read_bytes()
+        with (sitting.folder / f"tool-{k}.csv").open() as table:
+            yield [number for number, in struct.iter_unpack("<I", raw)], list(csv.DictReader(table))
 
 
 def shown(page):
-    """The label of each pixel on the page, once the worker has nothing to do."""
+    """The label of each pixel on the page, once the worker has nothing to do, and what the panel says."""
     page.tab.wait(QUIET, 60)
-    return page.tab.run("[...labels.shown.numbers]")
+    return page.tab.run("[...labels.shown.numbers]"), page.tab.text("labelCount")
+
+
+def compare(sitting, mask, seen):
+    """Page and tool have the same labels. Of what was seen it takes a name, the tool's words, and what was shown."""
+    tables = by_tool(sitting, mask, *(words for _, words, _ in seen))
+    for (name, _, (numbers, count)), (expected, table) in zip(seen, tables, strict=True):
+        check(numbers == expected, f"{mask}: {name}: the same labels as the tool, pixel for pixel")
+        check(count.startswith(f"{len(table)} label"), f"{mask}: {name}: {count}")
 
 
 def same(sitting, mask, name, *words):
-    """Page and tool have the same labels. Gives the table of the tool."""
-    expected, table = by_tool(sitting, mask, *words)
-    check(shown(sitting.first) == expected, f"{mask}: {name}: the same labels as the tool, pixel for pixel")
-    check(sitting.first.tab.text("labelCount").startswith(f"{len(table)} label"), f"{mask}: and {len(table)} of them")
-    return table
+    """Page and tool have the same labels now."""
+    compare(sitting, mask, [(name, words, shown(sitting.first))])
 
 
 def put_value(page, text):
@@ -67,30 +84,40 @@ def put_value(page, text):
     page.tab.run("element('thresholdValue').blur(), 0")
 
 
-def as_by_the_tool(sitting):
+def as_by_the_tool(sitting, mask):
     """By share and by level, cut and joined."""
-    for mask in BOTH_DEPTHS:
-        page = begin(sitting, mask, f"labels-{mask}.spd")
-        check(page.tab.run("!element('labels').hidden && view.name") == "labels", f"{mask}: L shows labels")
-        table = same(sitting, mask, "at first", "--share", 0.5, "--split")
-        check(len(table) == len(STROKES), f"{mask}: each stroke has a label")
-        sitting.look(f"labels-{mask}")
-        page.slide("threshold", 0.5, 0.3, 0.15)
-        share = page.tab.run("labels.choice.share")
-        check(abs(share - 0.15) < 0.03, f"{mask}: the slider is dragged to a share, {share}")
-        same(sitting, mask, f"share {share}, cut", "--share", share, "--split")
-        page.click("ownColours")
-        sitting.look(f"labels-own-{mask}")
-        page.click("joinedUp")
-        same(sitting, mask, f"share {share}, joined", "--share", share)
-        page.click("byLevel")
-        level = page.tab.run("labels.choice.level")
-        same(sitting, mask, f"level {level}, joined", "--level", level)
-        put_value(page, level // 2)
-        same(sitting, mask, f"level {level // 2}, joined", "--level", level // 2)
-        page.click("cutApart")
-        same(sitting, mask, f"level {level // 2}, cut", "--level", level // 2, "--split")
-        sitting.look(f"labels-level-{mask}")
+    page = begin(sitting, mask, f"labels-{mask}.spd")
+    check(page.tab.run("!element('labels').hidden && view.name") == "labels", f"{mask}: L shows labels")
+    seen = [("at first", ["--share", 0.5, "--split"], shown(page))]
+    check(seen[0][2][1].startswith(f"{len(STROKES)} labels"), f"{mask}: each stroke has a label")
+    sitting.look(f"labels-{mask}")
+    page.slide("threshold", 0.5, 0.3, 0.15)
+    share = page.tab.run("labels.choice.share")
+    check(abs(share - 0.15) < 0.04, f"{mask}: the slider is dragged to a share, {share}")
+    seen.append((f"share {share}, cut", ["--share", share, "--split"], shown(page)))
+    page.click("ownColours")
+    sitting.look(f"labels-own-{mask}")
+    page.click("joinedUp")
+    seen.append((f"share {share}, joined", ["--share", share], shown(page)))
+    page.click("byLevel")
+    level = page.tab.run("labels.choice.level")
+    seen.append((f"level {level}, joined", ["--level", level], shown(page)))
+    put_value(page, level // 2)
+    seen.append((f"level {level // 2}, joined", ["--level", level // 2], shown(page)))
+    page.click("cutApart")
+    seen.append((f"level {level // 2}, cut", ["--level", level // 2, "--split"], shown(page)))
+    sitting.look(f"labels-level-{mask}")
+    compare(sitting, mask, seen)
+
+
+def with_8_bits(sitting):
+    """The cells with 8 bits."""
+    as_by_the_tool(sitting, "cells")
+
+
+def with_16_bits(sitting):
+    """The cells with 16 bits."""
+    as_by_the_tool(sitting, "deep")
 
 
 def painting_goes_on(sitting):
@@ -101,8 +128,8 @@ def painting_goes_on(sitting):
     page.drag((53, 158))
     sitting.both(3)
     page.tab.wait("labels.newsFrom !== 0 || labels.shown.objects.length === 3")
-    table = same(sitting, "cells", "a stroke that was painted in the view", "--share", share, "--split")
-    check(len(table) == 3, "it has a label")
+    same(sitting, "cells", "a stroke that was painted in the view", "--share", share, "--split")
+    check(page.tab.text("labelCount").startswith("3 labels"), "it has a label")
     sitting.second.drag((285, 142))
     sitting.both(4)
     page.tab.wait("labels.shown.objects.length === 4", 60)
@@ -143,7 +170,7 @@ def colours_and_words(sitting):
     check(two[0] > two[2] + 40, f"and one of class 2 vermilion: {two}")
     page.tab.mouse("mouseMoved", *page.at(285, 150))
     words = page.tab.text("pixel")
-    _, table = by_tool(sitting, "cells", "--share", 0.5, "--split")
+    (_, table), = by_tool(sitting, "cells", ["--share", 0.5, "--split"])
     (line,) = [line for line in table if line["class"] == "2"]
     expected = f"x 285 · y 150 · label {line['label']} · class 2 · {line['area']} pixels"
     check(words == expected, f"the foot says: {words}")
@@ -159,7 +186,7 @@ def colours_and_words(sitting):
     page.tab.key("h")
 
 
-CHECKS = [as_by_the_tool, painting_goes_on, eight_neighbours, colours_and_words]
+CHECKS = [with_8_bits, with_16_bits, painting_goes_on, eight_neighbours, colours_and_words]
 
 if __name__ == "__main__":
     run_alone(__doc__, CHECKS)
