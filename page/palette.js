@@ -33,6 +33,3 @@ function readHex(text) {
   if (!/^#[0-9a-f]{6}$/i.test(text)) return null;
   return [1, 3, 5].map(start => Number.parseInt(text.slice(start, start + 2), 16));
 }
-
-/** Whether dark text is read on a colour more easily than bright text. */
-const isBright = ([red, green, blue]) => .299 * red + .587 * green + .114 * blue > 140;
