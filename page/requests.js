@@ -24,8 +24,8 @@ async function request(path, options = {}, told = () => {}) {
       limit = giveUpIn(PATIENCE);
       told(read, total);
     }) };
-  } catch (_) {
-    throw new Unanswered(0);
+  } catch (fault) {
+    throw Object.assign(new Unanswered(0), { isForMemory: fault instanceof RangeError });
   } finally {
     clearTimeout(limit);
   }

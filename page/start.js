@@ -19,9 +19,20 @@ function start() {
   press("contrastShown", false);
   press("classesShown", false);
   press("exportsShown", false);
-  open().catch(() => {
-    showBanner("The picture could not be fetched: the program does not answer at this address.", ["reload"]);
+  open().catch(fault => {
+    if (!(fault instanceof Unanswered || fault instanceof RangeError)) reportError(fault);
+    showBanner(whyNotOpen(fault), ["reload"]);
   });
+}
+
+/** Why the picture is not there, or does not go on, in a sentence. */
+function whyNotOpen(fault) {
+  const isForMemory = fault instanceof RangeError || fault.isForMemory;
+  if (fault instanceof Unanswered && !isForMemory) {
+    return "The picture could not be fetched: the program does not answer at this address.";
+  }
+  const why = isForMemory ? "The browser has no memory for a picture of this size" : `The page failed: ${fault.message}`;
+  return `${why}. Nothing is lost: what was kept stands in the state file.`;
 }
 
 async function open() {

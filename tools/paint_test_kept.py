@@ -22,6 +22,11 @@ TEN_TIMES_THE_HASTE = """{ const wait = setTimeout, limit = AbortSignal.timeout.
     const hasty = milliseconds => milliseconds < 30000 ? milliseconds : milliseconds / 10;
     window.setTimeout = (act, milliseconds) => wait(act, hasty(milliseconds));
     AbortSignal.timeout = milliseconds => limit(hasty(milliseconds)); }"""
+NO_MEMORY = """{ const bytes = Uint8Array; window.Uint8Array = class extends bytes {
+    constructor(...words) {
+        if (words[0] > 60000) throw new RangeError("Array buffer allocation failed");
+        super(...words);
+    } }; }"""
 SLOW_LINK = 40_000  # bytes a second
 
 
@@ -45,6 +50,17 @@ def no_storage(sitting):
         page.settle(count)
         check(page.tab.text("kept") == "all kept" and page.tab.faults() == [], "and it paints all the same")
     sitting.both(count)
+
+
+def no_memory(sitting):
+    """A browser without memory for the picture: the page says so in words, and nothing is lost."""
+    strokes = sitting.program.get("strokes")
+    with Browser() as browser:
+        tab = browser.open(sitting.program.address, NO_MEMORY)
+        tab.wait("!element('banner').hidden")
+        check("no memory for a picture of this size" in tab.text("banner") and tab.faults() == [],
+              "where memory is wanting the page says so")
+    check(sitting.program.get("strokes") == strokes, "and nothing is lost")
 
 
 def full_storage(sitting):
@@ -235,7 +251,7 @@ def slow_link(sitting):
         check(page.tab.text("message") == "The program answers again.", "where nothing comes any more it is told")
 
 
-CHECKS = [six_strokes, no_storage, full_storage, reload_page, own_host, restart, restart_elsewhere,
+CHECKS = [six_strokes, no_storage, no_memory, full_storage, reload_page, own_host, restart, restart_elsewhere,
           along_to_another_mask, restart_with_another_mask, back_to_the_mask, saves_that_fail, slow_link]
 
 if __name__ == "__main__":
