@@ -31,7 +31,7 @@ function whyNotOpen(fault) {
   if (fault instanceof Unanswered && !isForMemory) {
     return "The picture could not be fetched: the program does not answer at this address.";
   }
-  const why = isForMemory ? "The browser has no memory for a picture of this size" : `The page failed: ${fault.message}`;
+  const why = isForMemory ? "The browser has no memory for a picture of this size" : `The page ends: ${fault.message}`;
   return `${why}. Nothing is lost: what was kept stands in the state file.`;
 }
 
