@@ -158,7 +158,7 @@ function sizeInWords(bytes) {
 
 function sayProgress(text, share) {
   sayIn("exportText", text);
-  for (const id of ["exportShare", "exportStop"]) element(id).hidden = !text;
+  element("exportProgress").hidden = !text;
   element("exportShare").value = share;
 }
 
