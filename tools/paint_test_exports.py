@@ -179,6 +179,7 @@ def names_and_keys(sitting):
     check(True, "Enter presses one, and a reload keeps the name")
     page.tab.key("Escape")
     check(page.tab.run("element('exports').hidden"), "Escape closes it")
+    page.tab.run("element('pictureName').value = '', keepPictureName()")
 
 
 def while_a_file_is_made(sitting):
