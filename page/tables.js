@@ -1,7 +1,7 @@
 // ---- Tables: of each label what it is and what it measures, as comma-separated values (RFC 4180, with LF) ----
 
 // Nothing here knows of the page. A labelling has its width and height, the number of a label for each pixel, 0 for
-// none, and the objects that the labels number. The table is the one of tools/labels_from_result.py, byte for byte.
+// none, and the objects that the labels number. The table is that of tools/labels_from_result.py with the same names.
 
 const TABLE_COLUMNS = ["label", "stroke", "area", "left", "top", "right", "bottom", "mean", "class", "name", "strokes",
   "x", "y", "min", "max"];
