@@ -5,8 +5,9 @@ const DOUBLE_CLICK = 400, AT_CORNER = 7;  // milliseconds, and CSS pixels
 
 /** Sets a corner where the pointer is, or closes the polygon. */
 function clickCorner() {
+  if (!hand.pixel) return;
   const { corners } = polygon, now = performance.now();
-  const isDouble = now - polygon.clicked < DOUBLE_CLICK && isNear(corners.at(-1));
+  const isDouble = isAt(corners.at(-1)) || (now - polygon.clicked < DOUBLE_CLICK && isNear(corners.at(-1)));
   polygon.clicked = now;
   if (isDouble || (corners.length > 2 && isNear(corners[0]))) return closePolygon();
   corners.push(hand.pixel);
@@ -14,12 +15,13 @@ function clickCorner() {
   if (corners.length === 1) say("Enter fills it. Backspace takes a corner back.");
 }
 
+const isAt = corner => corner?.x === hand.pixel?.x && corner?.y === hand.pixel?.y;
+
 /** Whether the pointer is at a corner: on its pixel, or hardly beside it. */
 function isNear(corner) {
   if (!corner || !hand.pixel) return false;
   const across = screenX(corner.x + .5) - hand.point.x, down = screenY(corner.y + .5) - hand.point.y;
-  const isOnIt = corner.x === hand.pixel.x && corner.y === hand.pixel.y;
-  return isOnIt || Math.hypot(across, down) <= AT_CORNER * sight.ratio;
+  return isAt(corner) || Math.hypot(across, down) <= AT_CORNER * sight.ratio;
 }
 
 /** Paints the polygon. It stays in hand where it is refused. */
