@@ -25,8 +25,8 @@ pub(crate) struct Page {
     pub(crate) jobs: u64,
 }
 
-// The page that is embedded. A function that names it costs the more to prove, the more else it does.
-fn embedded_page() -> &'static str
+// The page that is embedded, compressed. A function that names it costs the more to prove, the more else it does.
+fn embedded_page() -> &'static [u8]
     ensures { result.now ≡ constants.PAGE.now }
 {
     PAGE

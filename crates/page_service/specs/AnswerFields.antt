@@ -15,13 +15,18 @@ media_text Text = codes "text/plain; charset=utf-8"
 media_text Graymap = codes "image/x-portable-graymap"
 media_text Binary = codes "application/octet-stream"
 
+-- how a body is coded: a page is compressed (RFC 9110, section 8.4.1.3), and nothing else is
+abbrev pub coding_fields : Media → List Header
+coding_fields Html = (codes "content-encoding", codes "gzip") ∷ []
+coding_fields _ = []
+
 -- the fields of an answer
 abbrev pub answer_fields : Media → List ℕ → List Header
 answer_fields media policy =
     (codes "content-type", media_text media) ∷ (codes "cache-control", codes "no-store")
     ∷ (codes "x-content-type-options", codes "nosniff") ∷ (codes "x-frame-options", codes "DENY")
     ∷ (codes "cross-origin-resource-policy", codes "same-origin") ∷ (codes "referrer-policy", codes "no-referrer")
-    ∷ (codes "content-security-policy", policy) ∷ []
+    ∷ (codes "content-security-policy", policy) ∷ coding_fields media
 
 -- the status of a refusal
 abbrev pub status_of : RequestRefusal → ℕ

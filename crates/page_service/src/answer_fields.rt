@@ -1,9 +1,10 @@
 //! What every answer carries.
 
-ghost use Rattle.std.specs.Prelude.{◌≡◌, [], IsTrue, OnOk, OnErr};
+ghost use Rattle.std.specs.Prelude.{◌≡◌, ◌++◌, [], IsTrue, OnOk, OnErr};
 ghost use Rattle.http_header.specs.FieldValue.{is_visible_text};
 ghost use Rattle.http_server.specs.Response.{IsBlank, IsResponse, fields_of};
-ghost use Rattle.page_service.specs.AnswerFields.{media_text, answer_fields, refusal_fields, status_of, words_of};
+ghost use Rattle.page_service.specs.AnswerFields.{media_text, coding_fields, answer_fields};
+ghost use Rattle.page_service.specs.AnswerFields.{refusal_fields, status_of, words_of};
 
 use crate::refusal::{RequestRefusal, allow};
 use bytes::Bytes;
@@ -14,7 +15,7 @@ use std::alloc::AllocError;
 /// What a body is.
 #[derive(Clone, Copy, Debug, PartialEq, Eq)]
 pub enum Media {
-    /// A page.
+    /// A page, compressed as a gzip file (RFC 1952).
     Html,
     /// Lines of text.
     Text,
@@ -38,7 +39,22 @@ fn media_value(media: Media) -> HeaderValue
     }
 }
 
-/// Adds the fields that every answer has.
+/// Adds how a body is coded, where it is.
+fn add_coding(response: &mut Response, media: Media) -> Result<(), AllocError>
+    ensures fields { OnOk result (fields_of response.new ≡ fields_of response.old ++ coding_fields media) }
+    ensures status { response.new.status ≡ response.old.status }
+    ensures body { response.new.body ≡ response.old.body }
+{
+    match media {
+        Media::Html => response.add_header(
+            header::CONTENT_ENCODING,
+            HeaderValue::from_static("gzip"),
+        ),
+        Media::Text | Media::Graymap | Media::Binary => Ok(()),
+    }
+}
+
+/// Adds the fields that every answer has, and how its body is coded.
 fn add_fields(response: &mut Response, media: Media, policy: &'static str) -> Result<(), AllocError>
     requires blank { fields_of response.old ≡ [] }
     requires visible { IsTrue (is_visible_text policy.now) }
@@ -64,7 +80,8 @@ fn add_fields(response: &mut Response, media: Media, policy: &'static str) -> Re
     response.add_header(
         header::CONTENT_SECURITY_POLICY,
         HeaderValue::from_static(policy),
-    )
+    )?;
+    add_coding(response, media)
 }
 
 /// Adds the fields and the body of an answer.
@@ -83,7 +100,7 @@ fn fill(
 }
 
 /// Fills a blank response with the status, the fields that every answer has, the content security policy among
-/// them, and the body.
+/// them, how the body is coded, and the body.
 ///
 /// Errors: out of memory. The response is blank again.
 pub fn put_answer(

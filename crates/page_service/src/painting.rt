@@ -33,7 +33,7 @@ pub struct Painting {
     board: PageBoard,
     hosts: Hosts,
     key: Key,
-    page: &'static str,
+    page: &'static [u8],
     policy: &'static str,
     // Why what the board has is not kept, where it is not.
     unkept: Option<RunError>,
@@ -61,14 +61,14 @@ impl Model for Painting {
 }
 
 impl Painting {
-    /// The service of a board, asked at these hosts under this key; `page` is the page, `policy` its content security
-    /// policy. What the board has counts as kept.
+    /// The service of a board, asked at these hosts under this key; `page` is the page, compressed as a gzip file (RFC
+    /// 1952), `policy` its content security policy. What the board has counts as kept.
     pub fn new(
         alloc: Global,
         board: PageBoard,
         hosts: Hosts,
         key: Key,
-        page: &'static str,
+        page: &'static [u8],
         policy: &'static str,
     ) -> Painting
         requires visible { IsTrue (is_visible_text policy.now) }

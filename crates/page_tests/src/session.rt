@@ -128,7 +128,7 @@ impl Session {
             store,
         } = setting;
         let KeptBoard { board, kept } = opened;
-        let painting = Painting::new(alloc, board, hosts, key, "page", "default-src 'self'");
+        let painting = Painting::new(alloc, board, hosts, key, b"page", "default-src 'self'");
         let served = Served { alloc, painting };
         Session {
             keeper: StateKeeper::new(alloc, served, kept, store, path),

@@ -32,7 +32,7 @@ impl Painting {
     {
         match (asked, self.unkept) {
             (Asked::Page, _) => {
-                let page = Bytes::from_static(self.page.as_bytes());
+                let page = Bytes::from_static(self.page);
                 self.put(response, StatusCode::OK, Media::Html, page)
             }
             (Asked::Mask, _) => {
