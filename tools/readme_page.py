@@ -13,6 +13,7 @@ first check that fails ends the script with status 1. It needs Linux, and the pa
 """
 
 import argparse
+import gzip
 import os
 import pathlib
 import re
@@ -110,7 +111,7 @@ def is_answered(address):
     """Whether a page answers at an address."""
     try:
         with urllib.request.urlopen(address, timeout=SECONDS) as answer:
-            return answer.status == 200 and b"<canvas" in answer.read()
+            return answer.status == 200 and b"<canvas" in gzip.decompress(answer.read())
     except OSError:
         return False
 
