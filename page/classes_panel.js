@@ -153,6 +153,7 @@ function addClass() {
   classes.change(number, { isListed: true });
   chooseClass(number);
   drawClasses();
+  classRows.get(number).name.focus();
   classRows.get(number).name.select();
 }
 

@@ -22,8 +22,9 @@ function endPointing() {
 function lookAt(box) {
   const left = coveredAtLeft(), width = picture.width - left;
   const across = width / (box.right - box.left), down = picture.height / (box.bottom - box.top);
-  const whole = Math.min(across, down), isSeenWell = sight.zoom > whole / 30 && sight.zoom < whole / 1.5;
-  if (!isSeenWell) sight.zoom = limited(whole / 4, LEAST_ZOOM, NEAR * sight.ratio);
+  const whole = Math.min(across, down), isFar = sight.zoom < whole / 30;
+  const zoom = isFar ? Math.min(whole / 4, NEAR * sight.ratio) : Math.min(sight.zoom, whole / 1.5);
+  sight.zoom = limited(zoom, LEAST_ZOOM, MOST_ZOOM);
   sight.left = left + width / 2 - (box.left + box.right) / 2 * sight.zoom;
   sight.top = picture.height / 2 - (box.top + box.bottom) / 2 * sight.zoom;
   followSight();

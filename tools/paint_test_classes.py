@@ -268,6 +268,14 @@ def hidden_and_locked(sitting):
         page.click("classesShown")
 
 
+def both_have(sitting, number, count):
+    """Waits until both pages have so many strokes, all of them of this class."""
+    sitting.both(count)
+    for page in (sitting.first, sitting.second):
+        page.tab.wait(f"liveOf({number}).strokes === {count}")
+    sitting.both(count)
+
+
 def to_another_class(sitting):
     """An object goes to another class from the list, and by a key; one undo takes it back."""
     sitting.open_anew("cells", "bring.spd")
@@ -280,20 +288,17 @@ def to_another_class(sitting):
     click_row(first, 1, "unfold")
     check("of another" in text_in_row(first, 1, "goTo"), "the list says which object is another's")
     click_row(first, 1, "toClass")
-    sitting.both(2)
-    first.tab.wait("liveOf(4).strokes === 2")
+    both_have(sitting, 4, 2)
     lines = second.strokes()
     check({class_in(line) for line in lines} == {4} and {author_of(line) for line in lines} == {second.author()},
           "a button brings an object to the class that is painted with, and it stays its author's")
     check(len({object_of(uuid.UUID(line.split(" ")[1])) for line in lines}) == 1, "and one object")
     first.tab.key("z", CONTROL)
-    first.tab.wait("liveOf(1).strokes === 2 && outbox.length === 0")
-    sitting.both(2)
+    both_have(sitting, 1, 2)
     check({class_in(line) for line in first.strokes()} == {1}, "one undo takes that back")
     first.tab.mouse("mouseMoved", *first.at(*LONG[0]))
     first.tab.key("t")
-    first.tab.wait("liveOf(4).strokes === 2 && outbox.length === 0")
-    sitting.both(2)
+    both_have(sitting, 4, 2)
     check({class_in(line) for line in second.strokes()} == {4}, "T brings the object under the pointer there")
     first.click("classesShown")
 
