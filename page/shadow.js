@@ -31,12 +31,20 @@ function drawShadow() {
   const of = [...stroke, pixel.x, pixel.y, brush.level, ink, ...Object.values(labels.choice)].join();
   if (of !== shadow.of) {
     shadow.of = of;
-    shadow.drawn = castShadow(runsOf(gesture ? gesture.rows : rowsAtPointer()), ink);
+    const rows = gesture ? gesture.rows : rowsAtPointer();
+    shadow.drawn = isSmall(rows) ? castShadow(runsOf(rows), ink) : null;
   }
   if (shadow.drawn === null) return;
   const { left, top, width, height } = shadow.drawn;
   overlayContext.imageSmoothingEnabled = false;
   overlayContext.drawImage(shadow.context.canvas, 0, 0, width, height, left, top, width, height);
+}
+
+/** Whether a set has so few pixels that its shadow costs little. */
+function isSmall(rows) {
+  let count = 0;
+  for (const runs of rows.values()) for (const { first, last } of runs) count += last + 1 - first;
+  return count <= GROWN.mostOwn;
 }
 
 function castsShadow() {
