@@ -2,6 +2,7 @@
 
 // By class once there is another class than the first, or as it was chosen: "class", "author" or "".
 const marking = { isByClass: false, chosen: "" };
+const SHORT_RUN = 60;  // pixels: fewer are filled faster one by one
 const halfColours = new Uint32Array(MOST_CLASS + 1);  // half of each colour, as a number that begins with alpha
 
 /** The number of the colour that marks a stroke, or 0 where it is not shown. */
@@ -22,11 +23,13 @@ function markWithin(stroke, box) {
   if (mark > 0) fillMarks(stroke.runs, box, mark);
 }
 
-function fillMarks(runs, box, mark) {
+function fillMarks(runs, { left, top, right, bottom }, mark) {
+  const { marks, width } = board;
   for (const { y, first, last } of runs) {
-    if (y < box.top || y >= box.bottom) continue;
-    const from = Math.max(first, box.left), to = Math.min(last + 1, box.right);
-    if (from < to) board.marks.fill(mark, y * board.width + from, y * board.width + to);
+    if (y < top || y >= bottom) continue;
+    const from = y * width + Math.max(first, left), to = y * width + Math.min(last + 1, right);
+    if (to - from > SHORT_RUN) marks.fill(mark, from, to);
+    else for (let pixel = from; pixel < to; pixel++) marks[pixel] = mark;
   }
 }
 
