@@ -234,6 +234,7 @@ def take_picture_of_labels(page, folder):
         page.tab.key("t")
         page.tab.wait("outbox.length === 0 && board.isQuiet")
     page.show("labels")
+    page.tab.run("setThreshold(.3), 0")
     page.tab.wait("labels.shown && !labels.asked")
     page.tab.run("say(''), 0")
     page.tab.mouse("mouseMoved", *page.at(206, 180))
