@@ -96,6 +96,14 @@ function recallClasses() {
   classes.tell(0, {});
 }
 
+/** Takes up what another address kept of the classes of a mask, where nothing of them is kept here. */
+function bringClasses(mask, text) {
+  const name = `classes ${mask}`, kept = readClasses(text);
+  if (kept.size === 0 || local.get(name) !== null) return;
+  local.set(name, spellClasses(kept));
+  if (mask === board.fingerprint) recallClasses();
+}
+
 // ---- Numbers that are typed ----
 
 const TYPING = 500;  // milliseconds in which a further digit goes on with a number

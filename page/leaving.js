@@ -12,10 +12,11 @@ function saveEdits(mask, bodies) {
   giveFile("waiting.txt", new Blob([`; edits for the mask ${mask}\n`, ...bodies], { type: "text/plain" }));
 }
 
-/** Goes to the address that the program printed, with the edits that wait. */
+/** Goes to the address that the program printed, with the edits that wait and what is kept of classes. */
 function goTo(address) {
-  const waiting = { mask: board.fingerprint, bodies: waitingBodies() };
-  const fragment = waiting.bodies.length === 0 ? "" : `#waiting=${toBase64url(JSON.stringify(waiting))}`;
+  const waiting = { mask: board.fingerprint, bodies: waitingBodies(), classes: local.get(classesName()) ?? "" };
+  const isEmpty = waiting.bodies.length === 0 && waiting.classes === "";
+  const fragment = isEmpty ? "" : `#waiting=${toBase64url(JSON.stringify(waiting))}`;
   if (!ADDRESS.test(address)) sayIn("moveFault", "That is no address that the program prints.");
   else if (address === location.origin + location.pathname) sayIn("moveFault", "That is the address of this page.");
   else if (fragment.length > MOST_FRAGMENT) sayIn("moveFault", "Too much waits for that: save it, and drop it there.");
@@ -24,8 +25,9 @@ function goTo(address) {
 
 /** Takes in what came along from another address. What is for another mask stays in the fragment until it is saved. */
 function takeAlong() {
-  const { mask, bodies } = readFragment();
-  if (bodies.length === 0) return;
+  const { mask, bodies, keptOfClasses } = readFragment();
+  bringClasses(mask, keptOfClasses);
+  if (bodies.length === 0) return mask !== "" && dropFragment();
   if (mask !== board.fingerprint) {
     Object.assign(stray, { mask, bodies });
     return showStray();
@@ -38,10 +40,10 @@ function takeAlong() {
 function readFragment() {
   try {
     const [, text] = FRAGMENT.exec(location.hash);
-    const { mask, bodies } = JSON.parse(fromBase64url(text));
-    return { mask, bodies: bodies.filter(body => typeof body === "string") };
+    const { mask, bodies, classes: keptOfClasses } = JSON.parse(fromBase64url(text));
+    return { mask, keptOfClasses, bodies: bodies.filter(body => typeof body === "string") };
   } catch (_) {
-    return { mask: "", bodies: [] };
+    return { mask: "", keptOfClasses: "", bodies: [] };
   }
 }
 

@@ -355,7 +355,27 @@ def go_to_objects(sitting, page):
     page.tab.key("Escape")
 
 
-CHECKS = [two_classes, numbers_typed, undo_keeps_the_class, the_list, hidden_and_locked, to_another_class, many_objects]
+def at_another_port(sitting):
+    """What is kept of classes comes along to the address of a program that was started at another port."""
+    sitting.open_anew("cells", "moved.spd")
+    page = sitting.first
+    press_digits(page, "5")
+    page.drag(ONE)
+    page.settle(1)
+    page.tab.key("k")
+    name_class(page, 5, "Mitose")
+    page.tab.key("k")
+    sitting.program.stop()
+    page.tab.wait("!element('banner').hidden")
+    sitting.program.start_elsewhere(sitting.masks["cells"])
+    page.move_to(sitting.program.address)
+    page.settle(1)
+    check(page.tab.run("classes.get(5).name") == "Mitose", "at another port the names of classes come along")
+    check(page.tab.run("location.href") == sitting.program.address, "and the address has nothing of them any more")
+
+
+CHECKS = [two_classes, numbers_typed, undo_keeps_the_class, the_list, hidden_and_locked, to_another_class, many_objects,
+          at_another_port]
 
 
 if __name__ == "__main__":

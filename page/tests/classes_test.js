@@ -6,11 +6,11 @@ const assert = require("node:assert/strict");
 const { test } = require("node:test");
 const { load } = require("./load.js");
 
-const { FIRST_COLOURS, classColour, classes, firstColour, hexOf, isHiddenClass, isLockedClass, isWithinReach, local,
-  plainName, readClasses, readHex, recallClasses, spellClasses, typedNumber,
-} = load(["basics.js", "storage.js", "palette.js", "classes.js"], ["FIRST_COLOURS", "classColour", "classes",
-  "firstColour", "hexOf", "isHiddenClass", "isLockedClass", "isWithinReach", "local", "plainName", "readClasses",
-  "readHex", "recallClasses", "spellClasses", "typedNumber"]);
+const { FIRST_COLOURS, bringClasses, classColour, classes, firstColour, hexOf, isHiddenClass, isLockedClass,
+  isWithinReach, local, plainName, readClasses, readHex, recallClasses, spellClasses, typedNumber,
+} = load(["basics.js", "storage.js", "palette.js", "classes.js"], ["FIRST_COLOURS", "bringClasses", "classColour",
+  "classes", "firstColour", "hexOf", "isHiddenClass", "isLockedClass", "isWithinReach", "local", "plainName",
+  "readClasses", "readHex", "recallClasses", "spellClasses", "typedNumber"]);
 
 Object.assign(globalThis, { board: { fingerprint: "abc" }, sayStorage() {} });  // what of the page is asked for
 
@@ -132,6 +132,20 @@ test("a text that spells classes wrongly is left out, and breaks nothing", () =>
   const text = "{\"2\":{\"name\":\"a\",\"colour\":\"#010203\",\"more\":[]},\"300\":{},\"4\":{\"isLocked\":true}}";
   assert.deepEqual([...readClasses(text)], [[2, { name: "a", colour: [1, 2, 3] }], [4, { isLocked: true }]]);
   assert.deepEqual(readClasses(spellClasses(readClasses(text))), readClasses(text));
+});
+
+test("what another address kept is taken up where nothing is kept here, and nothing else is", () => {
+  board.fingerprint = "moved";
+  recallClasses();
+  for (const wrong of [undefined, null, 7, {}, "", "{}", "{\"0\":{}}"]) bringClasses("moved", wrong);
+  assert.equal(local.get("classes moved"), null);
+  bringClasses("elsewhere", "{\"2\":{\"name\":\"a\"}}");
+  assert.equal(classes.get(2).name, "Class 2");
+  bringClasses("moved", "{\"2\":{\"name\":\"nucleus\",\"more\":1}}");
+  assert.equal(classes.get(2).name, "nucleus");
+  bringClasses("moved", "{\"2\":{\"name\":\"another\"}}");
+  assert.equal(local.get("classes moved"), "{\"2\":{\"name\":\"nucleus\"}}");
+  assert.equal(local.get("classes elsewhere"), "{\"2\":{\"name\":\"a\"}}");
 });
 
 test("digits that come soon go on with a number, up to 255", () => {
