@@ -149,7 +149,7 @@ function whyNoFile(name, fault) {
 
 function notInIt() {
   const waiting = waitingBodies().length;
-  return waiting === 0 ? "" : `; ${waiting} edits that are not kept yet are not in it`;
+  return waiting === 0 ? "" : `; edits that are not kept yet, and not in it: ${waiting}`;
 }
 
 function sizeInWords(bytes) {
