@@ -36,6 +36,7 @@ def begin(sitting, mask, state, strokes=STROKES):
         page.tab.run(f"brush.inClass = {1 if number < len(strokes) else 2}, 0")
         page.drag(*stroke)
     sitting.both(len(strokes))
+    page.tab.run("local.drop(labelsName()), openLabels(), 0")  # (the check before may have left another choice)
     page.tab.key("l")
     page.tab.wait(QUIET, 60)
     return page
