@@ -202,8 +202,9 @@ def restart_with_another_mask(sitting):
 def back_to_the_mask(sitting):
     """The edit that was not sent to the other mask waits for its own."""
     sitting.open_anew("cells", "strokes.spd")
+    before = sitting.first.tab.run("sight.zoom")
     sitting.first.tab.wheel(*sitting.first.at(100, 100), -120)
-    check(sitting.first.tab.run("sight.zoom") > 3, "the wheel zooms before the pointer has moved, too")
+    check(sitting.first.tab.run("sight.zoom") > before, "the wheel zooms before the pointer has moved, too")
     sitting.both(10)
     sitting.shown("an edit that waited for its mask")
 
