@@ -98,8 +98,8 @@ class Labels(unittest.TestCase):
     def test_a_dim_stroke_keeps_a_bright_cell_that_touches_it(self):
         mask = numpy.array([[2, 2, 9, 9]], dtype=numpy.uint8)
         session = seedpaint.Session(mask, 4)
-        session.disc(0, 0, 0, tag=uuid.UUID(int=1))
-        session.disc(0, 3, 0, tag=uuid.UUID(int=2))
+        session.disc(0, 0, 0, tag=uuid.UUID(int=1 << 96))
+        session.disc(0, 3, 0, tag=uuid.UUID(int=2 << 96))
         self.assertEqual(session.labels(share=0.9).tolist(), [[1, 1, 1, 1]])
 
     def test_a_gesture_is_one_object(self):
