@@ -284,12 +284,12 @@ def measure(words, folder, browser):
         client = Client(program.address)
         place_discs(client, cells[:words.strokes])
         page.settle(words.strokes, 120)
-        tell(words, program, browser, page, client, cells)
+        tell(words, program, browser, page, cells)
     finally:
         program.stop()
 
 
-def tell(words, program, browser, page, client, cells):
+def tell(words, program, browser, page, cells):
     """The rows of the table, one by one."""
     half = words.edits // 2
     tell_labels(page, cells[words.strokes:words.strokes + half], words.strokes)
@@ -298,6 +298,7 @@ def tell(words, program, browser, page, client, cells):
         times = [timing[key] - timing["begun"] for timing in painted]
         print(f"| a stroke, from button up to {name}, ms | {spread(times)} |", flush=True)
     print(f"| `POST edits`, in the page, ms | {spread(requests_of(page, 'edits'))} |")
+    client = Client(program.address)  # (the one before was idle for longer than a connection may be)
     run, _, since, *_ = client.await_quiet()
     print(f"| a look with no news, ms | {spread([client.numbers(run, since)[1] for _ in range(500)])} |", flush=True)
     print(f"| between two frames of zooming, ms | {spread(frames_of_zoom(page))} |")
