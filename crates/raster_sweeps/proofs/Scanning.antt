@@ -1,13 +1,13 @@
 -- A scan, row by row.
-use Rattle.std.proofs.Common.{◌≡◌, ℕ, ◌+◌, ◌≤◌, Bool, IsTrue, List, [], length, min, refl, sym, ap, ◌∙◌, subst, inl}
-use Rattle.std.proofs.Common.{inr, arith, Contains}
+use Rattle.std.proofs.Common.{◌≡◌, ℕ, ◌+◌, ◌-◌, ◌<◌, ◌≤◌, Bool, IsTrue, List, [], length, min, refl, sym, ap, ◌∙◌}
+use Rattle.std.proofs.Common.{subst, inl, inr, arith, Contains}
 use Rattle.std.proofs.lemmas.Bool.{cases_lt}
-use Rattle.grid_core.specs.{declared.conn.Conn.Conn, declared.rect.Rect.Rect, Raster.Raster}
+use Rattle.grid_core.specs.{declared.conn.Conn.Conn, declared.pixel.Pixel.Pixel, declared.rect.Rect.Rect, Raster.Raster}
 use Rattle.raster_sweeps.specs.Growth.{IsOpenIn, WaitFrom, AllWait, AreInside, cell_of}
-use Rattle.raster_sweeps.specs.RowPairs.{IsDark, IsOpenCell, IsFromTo, IsScannedUp, IsUpper, NoneOpen, NoneOpenAlong}
-use Rattle.raster_sweeps.specs.RowPairs.{NoneOpenToLeft, NoneOpenToRight, IsRowGrown}
+use Rattle.raster_sweeps.specs.RowPairs.{IsDark, IsOpenCell, IsFromTo, IsNotUp, IsRowGrown, IsScannedUp, IsUpper}
+use Rattle.raster_sweeps.specs.RowPairs.{NoneOpen, NoneOpenAlong, NoneOpenToLeft, NoneOpenToRight}
 use Rattle.row_scans.specs.Rows.{HaveJoined}
-use Rattle.raster_sweeps.proofs.{Grown.grown_twice, ImageRows.aside_in_row, Spans.near_rows}
+use Rattle.raster_sweeps.proofs.{Grown.grown_twice, ImageRows.aside_in_row, ImageRows.rows_near, Spans.near_rows}
 
 -- a row that has grown twice
 pub row_grown_twice : {conn : Conn} {rect : Rect} {mask : Raster} {y : ℕ} {before between after : Raster}
@@ -126,3 +126,114 @@ dark_waits conn rect mask image waiting y upper lower waits p q raises from_p fr
             absurd (omega (arith, raises.lower, lower p raises.from_inside next))
       ]
     ]
+
+-- ---- pairs that do not lead up
+
+-- the first row lies no lower than the second, and both before this one
+abbrev pub IsNotUpAbove : ℕ → ℕ → ℕ → Type 0
+IsNotUpAbove y a b = (a ≤ b) × (b < y)
+
+-- the first row lies no lower than the second, and before this one
+abbrev pub IsNotUpFrom : ℕ → ℕ → ℕ → Type 0
+IsNotUpFrom y a b = (a ≤ b) × (a < y)
+
+-- an open pair of an image that has grown in one row is one of the image before, where its first pixel lies in another
+was_open : {conn : Conn} {rect : Rect} {mask before after : Raster} {y : ℕ} → IsRowGrown conn rect mask y before after
+    → (p q : Pixel) → IsOpenIn conn rect mask after p q → (p.y ≡ y → ⊥)
+    → IsOpenIn conn rect mask before p q
+was_open grown p q raises other = record {
+  from_inside = raises.from_inside;
+  to_inside = raises.to_inside;
+  beside = raises.beside;
+  lower =
+      omega (
+        arith,
+        raises.lower,
+        grown.others p raises.from_inside other,
+        (grown.grown.lawful q raises.to_inside).0,
+      );
+}
+
+module _ {conn : Conn} {rect : Rect} {mask before after : Raster} {y : ℕ}
+    (grown : IsRowGrown conn rect mask y before after) where
+  -- the raster scan of a row
+  pub scanned_down : 0 < y → NoneOpenAlong conn rect mask after y → NoneOpen conn rect mask after (IsFromTo (y - 1) y)
+      → NoneOpen conn rect mask before (IsNotUpAbove y) → NoneOpen conn rect mask after (IsNotUpAbove (y + 1))
+  scanned_down some along across above p q raises rows =
+      let near = rows_near conn p q raises.beside in
+      elim (cases_lt q.y y) [
+        | inl before ↦
+            above p q (was_open grown p q raises (λ same. omega (arith, same, rows.0, before))) (rows.0, before)
+        | inr not_before ↦ elim (cases_lt p.y y) [
+          | inl upper ↦
+              across p q raises
+              (omega (arith, some, near, upper, not_before, rows.1), omega (arith, not_before, rows.1))
+          | inr same ↦ along p q raises (omega (arith, same, rows.0, rows.1), omega (arith, not_before, rows.1))
+        ]
+      ]
+
+  -- behind the raster scan no more pairs are open in the rows before one that has grown
+  pub none_up_grown : NoneOpen conn rect mask before (IsNotUpFrom (y + 1))
+      → NoneOpen conn rect mask after (IsNotUpFrom y)
+  none_up_grown none p q raises rows =
+      none p q (was_open grown p q raises (λ same. omega (arith, same, rows.1))) (rows.0, omega (arith, rows.1))
+
+module _ (conn : Conn) (rect : Rect) (mask image : Raster) where
+  -- the raster scan of the first row
+  pub first_scanned_down : NoneOpenAlong conn rect mask image 0 → NoneOpen conn rect mask image (IsNotUpAbove 1)
+  first_scanned_down along p q raises rows = along p q raises (omega (arith, rows.0, rows.1), omega (arith, rows.1))
+
+  module _ (y : ℕ) where
+    -- a row that is 0 as is the one before it is passed over
+    pub dark_scanned_down : 0 < y → IsDark rect image (y - 1) → IsDark rect image y
+        → NoneOpen conn rect mask image (IsNotUpAbove y)
+        → NoneOpen conn rect mask image (IsNotUpAbove (y + 1))
+    dark_scanned_down some upper lower above p q raises rows =
+        let near = rows_near conn p q raises.beside in
+        elim (cases_lt q.y y) [
+          | inl before ↦ above p q raises (rows.0, before)
+          | inr not_before ↦ elim (cases_lt p.y y) [
+            | inl first ↦
+                omega (
+                  arith,
+                  raises.lower,
+                  upper p raises.from_inside (omega (arith, some, near, first, not_before, rows.1)),
+                )
+            | inr same ↦
+                omega (arith, raises.lower, lower p raises.from_inside (omega (arith, same, rows.0, rows.1)))
+          ]
+        ]
+
+    -- the scan of all rows
+    pub all_scanned_down : rect.h ≤ y → NoneOpen conn rect mask image (IsNotUpAbove y)
+        → NoneOpen conn rect mask image IsNotUp
+    all_scanned_down all above p q raises rows = above p q raises (rows, omega (arith, all, raises.to_inside.1))
+
+    -- behind it the rows before any one have no such pair
+    pub none_up_from : NoneOpen conn rect mask image IsNotUp → NoneOpen conn rect mask image (IsNotUpFrom y)
+    none_up_from none p q raises rows = none p q raises rows.0
+
+    pub none_up_above : NoneOpen conn rect mask image (IsNotUpFrom (y + 1))
+        → NoneOpen conn rect mask image (IsNotUpFrom y)
+    none_up_above none p q raises rows = none p q raises (rows.0, omega (arith, rows.1))
+
+    -- from the last row on nothing has to wait
+    pub last_waits : (waiting : List ℕ) → rect.h ≤ y + 1 → NoneOpen conn rect mask image IsNotUp
+        → WaitFrom conn rect mask image y waiting
+    last_waits waiting last none p q raises from_p from_q =
+        absurd (none p q raises (omega (arith, last, raises.from_inside.1, from_q)))
+
+    -- nor does more where the row below raises none of a row
+    pub passed_waits : (waiting : List ℕ) → NoneOpen conn rect mask image (IsFromTo (y + 1) y)
+        → NoneOpen conn rect mask image (IsNotUpFrom (y + 1)) → WaitFrom conn rect mask image (y + 1) waiting
+        → WaitFrom conn rect mask image y waiting
+    passed_waits waiting up none waits p q raises from_p from_q =
+        let near = rows_near conn p q raises.beside in
+        elim (cases_lt p.y (y + 1)) [
+          | inl own ↦ absurd (none p q raises (omega (arith, own, from_p, from_q), own))
+          | inr lower ↦ elim (cases_lt q.y (y + 1)) [
+            | inl above ↦
+                absurd (up p q raises (omega (arith, near, lower, above, from_q), omega (arith, above, from_q)))
+            | inr both ↦ waits p q raises lower both
+          ]
+        ]

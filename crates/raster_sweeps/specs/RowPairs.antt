@@ -46,6 +46,10 @@ IsFromTo y z a b = (a ≡ y) × (b ≡ z)
 abbrev pub IsUpper : ℕ → ℕ → ℕ → Type 0
 IsUpper y a b = min a b ≡ y
 
+-- the first row lies no lower than the second
+abbrev pub IsNotUp : ℕ → ℕ → Type 0
+IsNotUp a b = a ≤ b
+
 -- of the pairs of the rectangle whose two rows, counted from its top, are such none is open
 abbrev pub NoneOpen : Conn → Rect → Raster → Raster → (ℕ → ℕ → Type 0) → Type 0
 NoneOpen conn rect mask image AreRows = (p q : Pixel) → IsOpenIn conn rect mask image p q → AreRows p.y q.y → ⊥

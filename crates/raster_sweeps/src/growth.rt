@@ -10,7 +10,7 @@ ghost use Rattle.raster_sweeps.specs.Regrowth.{IsRegrown, IsRegrownIn};
 
 use crate::open_pairs::{queue_all, queue_open_pairs};
 use crate::raising::{drain, drain_within, spread};
-use crate::scans::{scan_down, scan_up};
+use crate::scans::{scan_back, scan_down};
 use crate::size::Size;
 use grid_core::laws::cells_given_back;
 use grid_core::{Bounds, Conn, Grid, Memory, Rect};
@@ -204,7 +204,7 @@ fn fill(
 {
     waiting.clear();
     scan_down(mask, image, size, rect, conn);
-    if scan_up(mask, image, size, rect, conn, waiting) {
+    if scan_back(mask, image, size, rect, conn, waiting) {
         return true;
     }
     waiting.clear();

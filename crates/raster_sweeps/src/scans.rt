@@ -5,24 +5,30 @@ ghost use Rattle.std.specs.Prelude.{◌≡◌, ◌<◌, ◌↔◌, [], IsTrue};
 ghost use Rattle.grid_core.specs.Raster.{IsSized};
 ghost use Rattle.grid_core.specs.Rects.{RectFits};
 ghost use Rattle.raster_sweeps.specs.Growth.{IsGrown, CanClose, IsScannedInto, rows_of};
-ghost use Rattle.raster_sweeps.specs.RowPairs.{CanGrowAcross, CanGrowRow, IsDark, IsFromTo, IsRowGrown};
-ghost use Rattle.raster_sweeps.specs.RowPairs.{NoneOpen, NoneOpenAlong, NoneOpenToLeft, NoneOpenToRight};
+ghost use Rattle.raster_sweeps.specs.RowPairs.{CanGrowAcross, CanGrowRow, IsDark, IsFromTo, IsNotUp};
+ghost use Rattle.raster_sweeps.specs.RowPairs.{IsRowGrown, NoneOpen, NoneOpenAlong, NoneOpenToLeft, NoneOpenToRight};
 
 use crate::open_pairs::queue_downward;
 use crate::size::{Size, row_in};
 use grid_core::{Conn, Rect};
 use row_scans::{
-    Waiting, greatest, is_closed_along, raise_cells_by, raise_from_left, raise_from_right,
+    Waiting, greatest, is_closed_along, is_closed_to, raise_cells_by, raise_from_left,
+    raise_from_right,
 };
+
+// From a greater width on, rows are raised without a look whether they can rise.
+const WIDE: u32 = 256;
 
 /// The raster scan: row by row from the top, each pixel of the rectangle is raised by its neighbours in the row above,
 /// and then along its row, as far as the mask lets it. A row that is 0 as is the one before it is passed over: nothing
 /// rises there.
 ///
-/// Vincent's scan runs along a row from the left alone. To run back from the right as well leaves less for later.
+/// Vincent's scan runs along a row from the left alone. To run back from the right as well leaves less for later: of the
+/// open pairs only those that lead up.
 pub fn scan_down(mask: &[u16], image: &mut [u16], size: Size, rect: Rect, conn: Conn)
     requires { CanClose rect (rows_of size mask.now) (rows_of size image.old) }
-    ensures { IsGrown conn rect (rows_of size mask.now) (rows_of size image.old) (rows_of size image.new) }
+    ensures grown { IsGrown conn rect (rows_of size mask.now) (rows_of size image.old) (rows_of size image.new) }
+    ensures closed { NoneOpen conn rect (rows_of size mask.now) (rows_of size image.new) IsNotUp }
 {
     raise_row_along(mask, image, size, rect, 0);
     let mut dark = is_dark(image, size, rect, 0);
@@ -66,6 +72,57 @@ pub fn scan_up(
         all = all && queue_downward(mask, image, size, rect, y, conn, waiting);
     }
     all
+}
+
+/// The anti-raster scan behind the raster scan, as [`scan_up`] by itself. A row that the one below it can not raise is
+/// passed over: of its pairs none is left that leads along the row or down. In wide rectangles nearly each row rises, so
+/// that it does not pay to look first.
+///
+/// It answers whether there was room for all pixels that can still raise one in the row below.
+pub fn scan_back(
+    mask: &[u16],
+    image: &mut [u16],
+    size: Size,
+    rect: Rect,
+    conn: Conn,
+    waiting: &mut Waiting,
+) -> bool
+    requires close { CanClose rect (rows_of size mask.now) (rows_of size image.old) }
+    requires scanned { NoneOpen conn rect (rows_of size mask.now) (rows_of size image.old) IsNotUp }
+    requires empty { waiting.old ≡ [] }
+    ensures { IsScannedInto conn rect (rows_of size mask.now) (rows_of size image.old)
+        (rows_of size image.new) result waiting.new }
+{
+    if rect.w > WIDE {
+        return scan_up(mask, image, size, rect, conn, waiting);
+    }
+    let mut all = true;
+    for y in (0..rect.h - 1).rev() {
+        if is_closed_from(mask, image, size, rect, y + 1, y, conn) {
+            continue;
+        }
+        raise_row(mask, image, size, rect, y + 1, y, conn);
+        all = all && queue_downward(mask, image, size, rect, y, conn, waiting);
+    }
+    all
+}
+
+// Whether no pixel of the rectangle's row `from` raises a neighbour in its row `to`, which touches it.
+fn is_closed_from(
+    mask: &[u16],
+    image: &[u16],
+    size: Size,
+    rect: Rect,
+    from: u32,
+    to: u32,
+    conn: Conn,
+) -> bool
+    requires { CanGrowAcross rect (rows_of size mask.now) (rows_of size image.now) from to }
+    ensures { IsTrue result → NoneOpen conn rect (rows_of size mask.now) (rows_of size image.now) (IsFromTo from to) }
+{
+    let raising = row_in(image, size, rect, from);
+    let limits = row_in(mask, size, rect, to);
+    is_closed_to(raising, limits, row_in(image, size, rect, to), conn)
 }
 
 // Whether each pixel of the rectangle's row `y` is 0.
