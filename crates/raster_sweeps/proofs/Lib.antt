@@ -11,7 +11,7 @@ pub mod Crosses
 pub mod RowGrowth
 pub mod Scanning
 pub mod OpenPairs
-pub mod AllCells
+pub mod OpenCells
 pub mod OpenBounds
 pub mod Ways
 pub mod Growing

@@ -11,6 +11,7 @@ pub mod Flooding
 pub mod Growth
 pub mod Laws
 pub mod OpenBounds
+pub mod OpenCells
 pub mod Regrowth
 pub mod RowPairs
 pub mod Spans

@@ -8,7 +8,8 @@ ghost use Rattle.raster_sweeps.specs.Growth.{AreSomeOpen, CanClose, CanGrow, IsG
 ghost use Rattle.raster_sweeps.specs.OpenBounds.{IsRaisedFrom, OpenPairsBeginIn, RiseWithin};
 ghost use Rattle.raster_sweeps.specs.Regrowth.{IsRegrown, IsRegrownIn};
 
-use crate::open_pairs::{queue_all, queue_open_pairs};
+use crate::open_cells::queue_open_cells;
+use crate::open_pairs::queue_open_pairs;
 use crate::raising::{drain, drain_within, spread};
 use crate::scans::{scan_back, scan_down};
 use crate::size::Size;
@@ -16,6 +17,9 @@ use grid_core::laws::cells_given_back;
 use grid_core::{Bounds, Conn, Grid, Memory, Rect};
 use row_scans::Waiting;
 use std::alloc::Global;
+
+// From more pixels on, whole rows are looked at.
+const MANY: u32 = 256;
 
 /// The memory that growing needs: room for the cells whose neighbours are still to be raised.
 ///
@@ -62,8 +66,9 @@ pub fn grow_within(room: &mut Room, mask: &Grid, image: &mut Grid, rect: Rect, c
 ///
 /// It answers bounds within which these lie and every pixel that rises.
 ///
-/// A queue spreads from the pixels within the bounds, and no others are looked at first. Where it is full, and where
-/// the bounds are those of the whole rectangle, it goes on with the scans. It takes no memory.
+/// A queue spreads from the pixels within the bounds that can raise a neighbour, and no others are looked at first.
+/// Where it is full, and where more than a few such pixels or many pixels lie within the bounds, it goes on with the
+/// scans. It takes no memory.
 pub fn grow_from_bounds(
     room: &mut Room,
     mask: &Grid,
@@ -138,7 +143,8 @@ pub fn grow_in_place(alloc: Global, mask: &Grid, image: &mut Grid, conn: Conn) -
 // Lets the open pairs of a rectangle within the bounds spread until none is left, and answers the bounds within which
 // pixels rose.
 //
-// It answers none where the bounds are those of the whole rectangle, and where the queue is full.
+// It answers none where the bounds are those of the whole rectangle or have many pixels within them, where more than a
+// quarter of the rectangle's width of these can raise a neighbour, and where the queue is full: scans are faster there.
 fn raise_from_bounds(
     mask: &[u16],
     image: &mut [u16],
@@ -160,11 +166,20 @@ fn raise_from_bounds(
     if bounds == Bounds::of(rect) {
         return None;
     }
+    let part = bounds.rect();
+    if is_large(part) {
+        return None;
+    }
     waiting.clear();
-    if !queue_all(size, bounds.rect(), waiting) {
+    if !queue_open_cells(mask, image, size, rect, conn, part, rect.w / 4, waiting) {
         return None;
     }
     drain_within(mask, image, size, rect, conn, waiting, bounds)
+}
+
+// Whether so many pixels lie in a part of a rectangle that the scans are faster than to look at them one by one.
+fn is_large(part: Rect) -> bool {
+    part.w.saturating_mul(part.h) > MANY
 }
 
 /// Raises the image inside a rectangle until no pair of neighbours there is open: by both scans and the queue.

@@ -40,6 +40,7 @@ mod grower;
 mod growth;
 pub mod laws;
 mod neighbourhood;
+mod open_cells;
 mod open_pairs;
 mod raising;
 mod scans;

@@ -2,16 +2,15 @@
 //! it. The first pixels of such pairs are put into the queue.
 
 ghost use Rattle.std.specs.Prelude.{◌+◌};
-ghost use Rattle.grid_core.specs.Raster.{IsImageSize, IsInside};
-ghost use Rattle.grid_core.specs.Rects.{RectFits};
-ghost use Rattle.raster_sweeps.specs.Growth.{CanClose, IsCellIn, rows_of};
+ghost use Rattle.grid_core.specs.Raster.{IsInside};
+ghost use Rattle.raster_sweeps.specs.Growth.{CanClose, rows_of};
 ghost use Rattle.raster_sweeps.specs.RowPairs.{AreJoined, CanGrowAcross, CanGrowRow, IsFromTo, IsOpenCell};
 ghost use Rattle.raster_sweeps.specs.RowPairs.{IsScannedUp, IsUpper};
 ghost use Rattle.row_scans.specs.Rows.{HaveJoined};
 
 use crate::size::{Size, first_cell, row_in};
 use grid_core::{Conn, Rect};
-use row_scans::{Waiting, queue_aslant, queue_cells, queue_to, strip_of};
+use row_scans::{Waiting, queue_aslant, queue_to, strip_of};
 
 /// Puts the first pixel of each open pair of the rectangle into the queue. Each row is checked, 64 columns at once.
 ///
@@ -30,22 +29,6 @@ pub fn queue_open_pairs(
 {
     for y in 0..rect.h {
         if !queue_row(mask, image, size, rect, y, conn, waiting) {
-            return false;
-        }
-    }
-    true
-}
-
-/// Puts the cells of all pixels of the rectangle into the queue.
-///
-/// It answers whether there was room for all of them, and stops where there was not.
-pub fn queue_all(size: Size, rect: Rect, waiting: &mut Waiting) -> bool
-    requires size { IsImageSize size.w size.h }
-    requires fits { RectFits size.w size.h rect }
-    ensures { HaveJoined (IsCellIn rect size.w) result waiting.old waiting.new }
-{
-    for y in 0..rect.h {
-        if !queue_cells(first_cell(size, rect, y), rect.w, strip_of(y), waiting) {
             return false;
         }
     }

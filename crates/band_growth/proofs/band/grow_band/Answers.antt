@@ -3,6 +3,6 @@ use Rattle.band_growth.proofs.band.grow_band.Goals as goal
 
 pub returns : goal.returns
 returns c = record {
-  grown = grown_twice (rw c.all_of.ensures at c.scan_down.ensures) c.close_upwards.ensures.grown;
+  grown = grown_twice (rw c.all_of.ensures at c.scan_down.ensures.grown) c.close_upwards.ensures.grown;
   closed = λ yes. c.close_upwards.ensures.closed;
 }

@@ -1,7 +1,7 @@
 use Rattle.std.proofs.Common.{arith, refl}
 use Rattle.raster_sweeps.specs.Growth.{rows_of}
-use Rattle.raster_sweeps.proofs.{AllCells.some_within, AllCells.within_inside, AllCells.within_wait}
-use Rattle.raster_sweeps.proofs.{OpenBounds.empty_closed, OpenBounds.rise_within_same}
+use Rattle.raster_sweeps.proofs.{OpenCells.some_within, OpenCells.open_inside, OpenCells.open_wait}
+use Rattle.raster_sweeps.proofs.{OpenCells.within_rect, OpenBounds.empty_closed, OpenBounds.rise_within_same}
 use Rattle.raster_sweeps.proofs.Growing.{grown_nowhere}
 use Rattle.raster_sweeps.proofs.growth.raise_from_bounds.Goals as goal
 
@@ -21,34 +21,45 @@ returns-then-is_empty c =
 pub returns-then-eq : goal.returns-then-eq
 returns-then-eq c = record { grown = grown_nowhere c.requires.close; closed = tt; rises = tt; lie = tt }
 
-pub rect-requires-clause-columns : goal.rect-requires-clause-columns
-rect-requires-clause-columns c =
+pub rect-part-requires-clause-columns : goal.rect-part-requires-clause-columns
+rect-part-requires-clause-columns c =
     omega (arith, (some_within c.args.bounds c.is_empty.result c.is_empty.ensures c.if-is_empty.false).0)
 
-pub rect-requires-clause-rows : goal.rect-requires-clause-rows
-rect-requires-clause-rows c =
+pub rect-part-requires-clause-rows : goal.rect-part-requires-clause-rows
+rect-part-requires-clause-rows c =
     omega (arith, (some_within c.args.bounds c.is_empty.result c.is_empty.ensures c.if-is_empty.false).1)
 
-pub queue_all-requires-clause-fits : goal.queue_all-requires-clause-fits
-queue_all-requires-clause-fits c =
+pub returns-then-is_large : goal.returns-then-is_large
+returns-then-is_large c = record { grown = grown_nowhere c.requires.close; closed = tt; rises = tt; lie = tt }
+
+pub queue_open_cells-requires-clause-fits : goal.queue_open_cells-requires-clause-fits
+queue_open_cells-requires-clause-fits c =
     let some = some_within c.args.bounds c.is_empty.result c.is_empty.ensures c.if-is_empty.false in
-    rw c.rect.ensures (record {
+    rw c.rect-part.ensures (record {
       some_width = omega (arith, some.0);
       some_height = omega (arith, some.1);
       columns = omega (arith, some.0, c.requires.lie.1, c.requires.close.fits.columns, c.requires.close.below.width);
       rows = omega (arith, some.1, c.requires.lie.3, c.requires.close.fits.rows, c.requires.close.below.height);
     })
 
-pub returns-then-not-queue_all : goal.returns-then-not-queue_all
-returns-then-not-queue_all c = record { grown = grown_nowhere c.requires.close; closed = tt; rises = tt; lie = tt }
+pub queue_open_cells-requires-clause-within : goal.queue_open_cells-requires-clause-within
+queue_open_cells-requires-clause-within c =
+    rw c.rect-part.ensures (within_rect c.args.rect c.args.bounds c.args.size.w c.requires.lie)
+
+pub returns-then-not-queue_open_cells : goal.returns-then-not-queue_open_cells
+returns-then-not-queue_open_cells c = record {
+  grown = grown_nowhere c.requires.close;
+  closed = tt;
+  rises = tt;
+  lie = tt;
+}
 
 pub drain_within-requires-clause-inside : goal.drain_within-requires-clause-inside
 drain_within-requires-clause-inside c =
-    within_inside c.args.rect c.args.bounds c.args.size.w c.requires.lie (rw c.rect.ensures at c.queue_all.ensures)
-    c.clear.ensures
+    open_inside c.args.rect c.args.bounds c.args.size.w c.requires.lie
+    (rw c.rect-part.ensures at c.queue_open_cells.ensures) c.clear.ensures
 
 pub drain_within-requires-clause-all : goal.drain_within-requires-clause-all
 drain_within-requires-clause-all c =
-    within_wait c.args.rect c.args.bounds c.args.size.w c.requires.lie (rw c.rect.ensures at c.queue_all.ensures)
-    c.args.conn (rows_of c.args.size c.args.mask.now) (rows_of c.args.size c.args.image.now) refl
-    c.if-not-queue_all.false c.requires.bounds
+    open_wait c.args.rect c.args.bounds c.args.size.w c.requires.lie
+    (rw c.rect-part.ensures at c.queue_open_cells.ensures) c.if-not-queue_open_cells.false c.requires.bounds
