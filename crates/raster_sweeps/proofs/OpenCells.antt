@@ -108,14 +108,6 @@ module _ {conn : Conn} {rect : Rect} {mask image : Raster} where
     every = λ all. absurd (false≢true all);
   }
 
-  pub none_joined_stopped : {IsSuch : ℕ → Type 0} {waiting : List ℕ}
-      → HaveOpenJoined conn rect mask image IsSuch false waiting waiting
-  none_joined_stopped = record {
-    kept = λ i there. there;
-    each = λ i there. inl there;
-    every = λ all. absurd (false≢true all);
-  }
-
   -- a cell has joined, or had no room
   pub cell_joined : {cell : ℕ} {old new : List ℕ} (room : Bool)
       → MatchBool room (AreOneMore cell old new) (new ≡ old)

@@ -19,7 +19,7 @@ use row_scans::Waiting;
 use std::alloc::Global;
 
 // From more pixels on, whole rows are looked at.
-const MANY: u32 = 256;
+const MANY: u32 = 512;
 
 /// The memory that growing needs: room for the cells whose neighbours are still to be raised.
 ///

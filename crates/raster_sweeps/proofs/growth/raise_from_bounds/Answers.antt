@@ -1,4 +1,4 @@
-use Rattle.std.proofs.Common.{arith, refl}
+use Rattle.std.proofs.Common.{arith}
 use Rattle.raster_sweeps.specs.Growth.{rows_of}
 use Rattle.raster_sweeps.proofs.{OpenCells.some_within, OpenCells.open_inside, OpenCells.open_wait}
 use Rattle.raster_sweeps.proofs.{OpenCells.within_rect, OpenBounds.empty_closed, OpenBounds.rise_within_same}

@@ -1,5 +1,5 @@
 use Rattle.std.proofs.lemmas.Bool.{false≢true}
-use Rattle.raster_sweeps.proofs.OpenCells.{cell_joined, none_open_joined, none_joined_stopped}
+use Rattle.raster_sweeps.proofs.OpenCells.{cell_joined, none_open_joined}
 use Rattle.raster_sweeps.proofs.open_cells.queue_if_open.Goals as goal
 
 pub returns-then-not-can_raise : goal.returns-then-not-can_raise

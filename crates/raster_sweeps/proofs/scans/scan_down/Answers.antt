@@ -1,4 +1,4 @@
-use Rattle.std.proofs.Common.{◌≡◌, ◌+◌, ◌-◌, ◌<◌, sym, subst, arith}
+use Rattle.std.proofs.Common.{◌≡◌, ◌+◌, ◌-◌, subst, arith}
 use Rattle.raster_sweeps.specs.{Growth.rows_of, RowPairs.IsDark}
 use Rattle.raster_sweeps.proofs.Grown.{fits_below, grown_twice}
 use Rattle.raster_sweeps.proofs.Scanning.{all_scanned_down, dark_scanned_down, first_scanned_down, scanned_down}
