@@ -3,7 +3,7 @@ use Rattle.std.proofs.Common.{◌≡◌, ℕ, ◌+◌, ◌-◌, ◌<◌, ◌≤�
 use Rattle.std.proofs.Common.{subst, sym, inl, inr, arith, Contains}
 use Rattle.std.proofs.lemmas.Bool.{cases_lt}
 use Rattle.std.specs.List.{between}
-use Rattle.row_scans.specs.Rows.{AreRows, RaisesStraight, HaveJoined, IsAmong, IsClosedStraight}
+use Rattle.row_scans.specs.Rows.{AreRows, RaisesStraight, HaveJoined, IsClosedStraight}
 use Rattle.row_scans.specs.Waiting.{AreOneMore}
 use Rattle.row_scans.proofs.RowPairs.{AreParts, between_parts}
 
@@ -54,42 +54,6 @@ joined_stopped joined to = record {
   each = λ i h. elim (joined.each i h) [ inl was ↦ inl was | inr such ↦ inr (to i such) ];
   every = λ all. absurd (let no : false ≡ true = all in cc);
   full = joined.full;
-}
-
--- ---- cell by cell
-
--- the cells before one have joined, and then that one
-pub next_joined : {first cell : ℕ} {old now new : List ℕ} → first ≤ cell
-    → HaveJoined (IsAmong first cell) true old now → AreOneMore cell now new
-    → HaveJoined (IsAmong first (cell + 1)) true old new
-next_joined {cell} from joined one = record {
-  kept = λ i h. (one.each i).1 (inl (joined.kept i h));
-  each = λ i h. elim ((one.each i).0 h) [
-    | inl was ↦ elim (joined.each i was) [
-      | inl before ↦ inl before
-      | inr among ↦ inr (among.0, omega (arith, among.1))
-    ]
-    | inr same ↦ inr (omega (arith, same, from), omega (arith, same))
-  ];
-  every = λ room i among. elim (cases_lt i cell) [
-    | inl less ↦ (one.each i).1 (inl (joined.every refl i (among.0, less)))
-    | inr more ↦ let same : i ≡ cell = omega (arith, more, among.1) in (one.each i).1 (inr same)
-  ];
-  full = inl refl;
-}
-
--- there was no room for the next one
-pub stopped_before : {first cell end : ℕ} {old now : List ℕ} → cell ≤ end → 0 < length now
-    → HaveJoined (IsAmong first cell) true old now
-    → HaveJoined (IsAmong first end) false old now
-stopped_before within some joined = record {
-  kept = joined.kept;
-  each = λ i h. elim (joined.each i h) [
-    | inl before ↦ inl before
-    | inr among ↦ inr (among.0, omega (arith, among.1, within))
-  ];
-  every = λ all. absurd (let no : false ≡ true = all in cc);
-  full = inr some;
 }
 
 -- ---- column by column

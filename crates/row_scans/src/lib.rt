@@ -16,7 +16,7 @@ mod row_raises;
 mod rows;
 mod waiting;
 
-pub use row_queues::{queue_aslant, queue_cells, queue_to};
+pub use row_queues::{queue_aslant, queue_to};
 pub use row_raises::{raise_cells_by, raise_from_left, raise_from_right};
 pub use rows::{greatest, is_closed_along, is_closed_to};
 pub use waiting::{Waiting, strip_of};

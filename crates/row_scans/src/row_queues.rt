@@ -1,9 +1,8 @@
 //! The check of rows for cells that can still raise a neighbour, as far as the mask lets it. These are put into the
 //! queue.
 
-ghost use Rattle.std.specs.Prelude.{◌+◌, ◌<◌, ◌≤◌, length, min};
-ghost use Rattle.grid_core.specs.Raster.{max_pixels};
-ghost use Rattle.row_scans.specs.Rows.{AreAside, AreBeside, AreRowsAt, HaveJoined, IsAmong};
+ghost use Rattle.std.specs.Prelude.{◌<◌, length, min};
+ghost use Rattle.row_scans.specs.Rows.{AreAside, AreBeside, AreRowsAt, HaveJoined};
 ghost use Rattle.row_scans.specs.Rows.{RaisesStraight, RaisesTo};
 
 use crate::rows::is_closed_straight;
@@ -12,19 +11,6 @@ use grid_core::Conn;
 
 // How many columns are checked at once.
 const STRIP: usize = 64;
-
-/// Puts so many cells, from `first` on, into the queue. It answers whether there was room for all of them.
-pub fn queue_cells(first: u32, count: u32, strip: usize, waiting: &mut Waiting) -> bool
-    requires { first + count ≤ max_pixels }
-    ensures { HaveJoined (IsAmong first (first + count)) result waiting.old waiting.new }
-{
-    for cell in first..first + count {
-        if !waiting.push(strip, cell) {
-            return false;
-        }
-    }
-    true
-}
 
 /// Puts the cells of the row `from`, which begin at `first`, that raise a neighbour in the row `to`, which touches it,
 /// into the queue. It answers whether there was room for all of them.
