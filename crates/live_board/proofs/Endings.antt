@@ -70,7 +70,7 @@ value_reached base words g m p v on backed told =
     (reaches_zero (domain base) (value_at (mask_of base)) (value_at m) p on))
 
 -- a word of the present generation that is no less than a number of it has no less a value
-value_above : (g n v least : ℕ) → least < 65536 → g * 65536 + least ≤ n → n < (g + 1) * 65536 → IsValueIn g n v
+pub value_above : (g n v least : ℕ) → least < 65536 → g * 65536 + least ≤ n → n < (g + 1) * 65536 → IsValueIn g n v
     → least ≤ v
 value_above g n v least small low high told =
     let a : ℕ = n / 65536 in

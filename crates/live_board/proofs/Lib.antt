@@ -7,3 +7,6 @@ pub mod Rounds
 pub mod Touching
 pub mod Endings
 pub mod Reached
+pub mod Flooding
+pub mod Flooded
+pub mod Settled

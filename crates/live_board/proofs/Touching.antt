@@ -27,14 +27,14 @@ use Rattle.live_board.specs.{declared.rule.SeatView.SeatView}
 abbrev pub left : Touch → Fact
 left t = t.0
 
-touched_none : (base : Ground) (old new : SeatView) → new ≡ old → HasTouched base [] old new
+pub touched_none : (base : Ground) (old new : SeatView) → new ≡ old → HasTouched base [] old new
 touched_none base old new e = record {
   generation = ap (λ (v : SeatView). v.generation) e;
   facts = ap (λ (v : SeatView). v.facts) e ∙ sym (append-nil old.facts);
   steps = ap (λ (v : SeatView). v.steps) e ∙ sym (append-nil old.steps);
 }
 
-touched_one : (base : Ground) (f : Fact) (old new : SeatView) (adds : Adds base f old new)
+pub touched_one : (base : Ground) (f : Fact) (old new : SeatView) (adds : Adds base f old new)
     → HasTouched base ((f, adds.found) ∷ []) old new
 touched_one base f old new adds =
     record { generation = adds.generation; facts = adds.facts; steps = adds.stepped }
@@ -46,7 +46,7 @@ grew_both {X} f xs ys u v w first then =
     then ∙ ap (λ (l : List X). l ++ map f ys) first ∙ append_assoc u (map f xs) (map f ys)
     ∙ ap (λ (l : List X). u ++ l) (sym (map-append f xs ys))
 
-touched_both : (base : Ground) (xs ys : List Touch) (u v w : SeatView) → HasTouched base xs u v
+pub touched_both : (base : Ground) (xs ys : List Touch) (u v w : SeatView) → HasTouched base xs u v
     → HasTouched base ys v w → HasTouched base (xs ++ ys) u w
 touched_both base xs ys u v w first then = record {
   generation = then.generation ∙ first.generation;
@@ -69,11 +69,11 @@ spread_within base g xs ys p all s = record {
 abbrev pub rise_of : Bool → ℕ
 rise_of rose = cond rose 1 0
 
-rises_one : (t : Touch) (ts : List Touch)
+pub rises_one : (t : Touch) (ts : List Touch)
     → count_by has_risen (t ∷ ts) ≡ rise_of (has_risen t) + count_by has_risen ts
 rises_one t ts = sum_by-cons (λ (x : Touch). rise_of (has_risen x)) t ts
 
-rises_both : (xs ys : List Touch)
+pub rises_both : (xs ys : List Touch)
     → count_by has_risen (xs ++ ys) ≡ count_by has_risen xs + count_by has_risen ys
 rises_both xs ys = sum_by-append (λ (x : Touch). rise_of (has_risen x)) xs ys
 
@@ -81,7 +81,7 @@ rises_both xs ys = sum_by-append (λ (x : Touch). rise_of (has_risen x)) xs ys
 stays : (a b : ℕ) → b ≤ a → rise_of (nat_lt a b) ≡ 0
 stays a b low = ap rise_of (le-ltb a b low)
 
-risen_is : (rose : Bool) (a b : ℕ) → IsTrue rose ↔ (a < b) → one_if rose ≡ rise_of (nat_lt a b)
+pub risen_is : (rose : Bool) (a b : ℕ) → IsTrue rose ↔ (a < b) → one_if rose ≡ rise_of (nat_lt a b)
 risen_is true a b is = sym (ap rise_of (lt-ltb a b (is.0 refl)))
 risen_is false a b is = sym (dite (dec_le b a) (stays a b) (λ more.
     let less : a < b = omega (arith, more) in
@@ -89,22 +89,24 @@ risen_is false a b is = sym (dite (dec_le b a) (stays a b) (λ more.
 
 -- ---- one neighbour after another
 
-record HaveRaised (base : Ground) (from : Fact) (qs : List Pixel) (count : ℕ) (old new : SeatView) : Type 0 where
-  touches : List Touch
-  touched : HasTouched base touches old new
-  all : (q : Pixel) → Contains qs q → (found : ℕ) × Contains touches (raised_fact base from q, found)
-  count_is : count ≡ count_by has_risen touches
+pub record HaveRaised (base : Ground) (from : Fact) (qs : List Pixel) (count : ℕ) (old new : SeatView) : Type 0 where
+  pub touches : List Touch
+  pub touched : HasTouched base touches old new
+  pub each : (t : Touch) → Contains touches t → (q : Pixel) × Contains qs q × (t.0 ≡ raised_fact base from q)
+  pub all : (q : Pixel) → Contains qs q → (found : ℕ) × Contains touches (raised_fact base from q, found)
+  pub count_is : count ≡ count_by has_risen touches
 
-only : (q r : Pixel) → Contains (q ∷ []) r → q ≡ r
+only : {X : Type 0} (q r : X) → Contains (q ∷ []) r → q ≡ r
 only q r known = ⊎_elim
     (λ (none : Contains [] r). absurd (let past : none.0 < 0 = none.1 in omega arith))
     (λ (is : q ≡ r). is) (Contains-push_cases [] q r known)
 
-raises_touch : (base : Ground) (from : Fact) (qs : List Pixel) (count : ℕ) (old new : SeatView)
+pub raises_touch : (base : Ground) (from : Fact) (qs : List Pixel) (count : ℕ) (old new : SeatView)
     → Raises base from qs count old new → HaveRaised base from qs count old new
 raises_touch base from [] count old new done = record {
   touches = [];
   touched = touched_none base old new done.1;
+  each = λ t there. absurd (let past : there.0 < 0 = there.1 in omega arith);
   all = λ q known. absurd (let past : known.0 < 0 = known.1 in omega arith);
   count_is = done.0;
 }
@@ -120,6 +122,15 @@ raises_touch base from (q ∷ qs) count old new done =
       touches = ts;
       touched = touched_both base (t ∷ []) rest.touches old after new (touched_one base f old after raised.adds)
           rest.touched;
+      each = λ s there. ⊎_elim
+          (λ (here : Contains (t ∷ []) s). (
+            q,
+            Contains-append_left (q ∷ []) qs q (Contains-push [] q),
+            ap (λ (x : Touch). x.0) (sym (only t s here)),
+          ))
+          (λ (later : Contains rest.touches s).
+          let is = rest.each s later in (is.0, Contains-append_right (q ∷ []) qs is.0 is.1, is.2))
+          (Contains-append_cases (t ∷ []) rest.touches s there);
       all = λ r known. ⊎_elim
           (λ (here : Contains (q ∷ []) r).
           subst (λ (z : Pixel). (found : ℕ) × Contains ts (raised_fact base from z, found)) (only q r here)
@@ -143,7 +154,7 @@ record HasVisited (base : Ground) (p : Pixel) (count : ℕ) (old new : SeatView)
   count_is : count ≡ count_by has_risen touches
 
 -- the step of a read does not rise
-read_rises : (loaded : Fact) (found : ℕ) (ts : List Touch) → found ≡ number loaded
+pub read_rises : (loaded : Fact) (found : ℕ) (ts : List Touch) → found ≡ number loaded
     → count_by has_risen ((loaded, found) ∷ ts) ≡ count_by has_risen ts
 read_rises loaded found ts is =
     let none : rise_of (nat_lt found (number loaded)) ≡ 0 = stays found (number loaded) (le_of_eq (sym is)) in
@@ -215,7 +226,7 @@ record HasGone (base : Ground) (k count : ℕ) (old new : SeatView) : Type 0 whe
   count_is : count ≡ count_by has_risen touches
 
 -- a pixel comes after as many others as its place says
-comes_after : (base : Ground) (p : Pixel) (k : ℕ) → IsOn base p → index_of (mask_of base).width p ≡ k
+pub comes_after : (base : Ground) (p : Pixel) (k : ℕ) → IsOn base p → index_of (mask_of base).width p ≡ k
     → pixel_after base k ≡ p
 comes_after base p k on e =
     let w : ℕ = (mask_of base).width in

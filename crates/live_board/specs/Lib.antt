@@ -14,4 +14,6 @@ pub mod Rounds
 pub mod Opening
 pub mod Closing
 pub mod Reading
+pub mod Floods
+pub mod Flooding
 pub mod Laws

@@ -1,5 +1,5 @@
 -- A round: each pixel is read once, in raster order, and where it has a value, each neighbour is raised once.
-use Rattle.std.specs.Prelude.{◌%◌, ◌+◌, ◌++◌, ◌/◌, Bool, Contains, List, [], count_by, false, map, nat_lt, true, ℕ}
+use Rattle.std.specs.Prelude.{◌%◌, ◌+◌, ◌++◌, ◌-◌, ◌/◌, Bool, Contains, List, [], count_by, false, map, nat_lt, true, ℕ}
 use Rattle.std.specs.Prelude.{◌↔◌, ◌∷◌, ◌≡◌}
 use Prim.Native.Nat.{suc, zero}
 use Rattle.grid_core.specs.{Neighbours.AreNeighbours, Neighbours.IsInRasterOrder, declared.pixel.Pixel.Pixel}
@@ -56,6 +56,36 @@ pub record IsRound (base : Ground) (count : ℕ) (old new : SeatView) : Type 0 w
   pub started : SeatView
   pub start : HasStarted old started
   pub goes : Goes base (size_of base) count started new
+
+-- the number that comes after `n` others, of those from `first` to before `end`, upwards or back
+abbrev pub nth : ℕ → ℕ → Bool → ℕ → ℕ
+nth first end false n = first + n
+nth first end true n = end - 1 - n
+
+-- the pixels that `at` gives, so many of them, are visited in this order
+abbrev pub GoesOver : Ground → (ℕ → Pixel) → ℕ → ℕ → SeatView → SeatView → Type 0
+GoesOver base at zero count old new = (count ≡ 0) × (new ≡ old)
+GoesOver base at (suc k) count old new =
+    (middle : SeatView) × (before here : ℕ) × GoesOver base at k before old middle
+    × Visits base (at k) here middle new × (count ≡ before + here)
+
+-- the pixels of a row, from the left or back
+abbrev pub in_row : Ground → ℕ → Bool → ℕ → Pixel
+in_row base y back k = record { x = nth 0 (mask_of base).width back k; y = y }
+
+-- the rows that `row` gives, so many of them, are gone over in this order, each from the left or back
+abbrev pub GoesThrough : Ground → (ℕ → ℕ) → Bool → ℕ → ℕ → SeatView → SeatView → Type 0
+GoesThrough base row back zero count old new = (count ≡ 0) × (new ≡ old)
+GoesThrough base row back (suc k) count old new =
+    (middle : SeatView) × (before here : ℕ) × GoesThrough base row back k before old middle
+    × GoesOver base (in_row base (row k) back) (mask_of base).width here middle new × (count ≡ before + here)
+
+-- a round over the rows from `first` to before `end`, forth or back: the generation is learnt, and then their pixels
+-- are visited
+pub record IsRoundOver (base : Ground) (first end : ℕ) (back : Bool) (count : ℕ) (old new : SeatView) : Type 0 where
+  pub started : SeatView
+  pub start : HasStarted old started
+  pub goes : GoesThrough base (nth first end back) back (end - first) count started new
 
 -- a step on the word of a pixel, by the fact that it left and the number that it found there
 abbrev pub Touch : Type 0

@@ -7,7 +7,7 @@ ghost use Rattle.live_board.specs.Words.{max_board, size_of};
 
 use crate::rule::{Ground, Law, SeatView};
 use atomic_table::Table;
-use grid_core::{Conn, Grid, Neighbourhood, Pixel, neighbours};
+use grid_core::{Conn, Grid, Pixel};
 use std::alloc::Global;
 
 /// The greatest number of pixels of a board.
@@ -27,11 +27,11 @@ pub struct Board {
 impl Board {
     ghost use Rattle.std.specs.Coded.{Coded-set};
     ghost use Rattle.std.specs.Prelude.{◌+◌, ◌<◌, IsTrue, ◌↔◌, ◌≡◌, ◌≤◌};
-    ghost use Rattle.grid_core.specs.Raster.{value_at};
-    ghost use Rattle.live_board.specs.Rounds.{AreAround, pixel_after};
+    ghost use Rattle.grid_core.specs.{Raster.value_at, Rows.has_diagonals};
     ghost use Rattle.live_board.specs.Seats.{ground_of, table_of};
     ghost use Rattle.live_board.specs.Stored.{ground_code};
-    ghost use Rattle.live_board.specs.Words.{IsOn, mask_of, max_board, place_of, size_of};
+    ghost use Rattle.live_board.specs.Words.{IsOn, mask_of, place_of};
+    ghost use Rattle.pgm_codec.specs.Graymap.{IsGraymap};
 
     /// Whether the board stands on this mask, with this connectivity. It takes no memory.
     pub fn is_of(&self, mask: &Grid, conn: Conn) -> bool
@@ -57,33 +57,29 @@ impl Board {
         self.base.mask.grid().get(pixel)
     }
 
-    // The neighbours of a pixel.
-    pub(crate) fn around(&self, pixel: Pixel) -> Neighbourhood
-        requires { IsOn (ground_of self.now) pixel }
-        ensures { AreAround (ground_of self.now) pixel result }
+    // The number of columns.
+    pub(crate) fn width(&self) -> u32
+        ensures value { result ≡ (mask_of (ground_of self.now)).width }
+        ensures sized { IsGraymap (ground_of self.now).mask }
     {
-        let (width, height) = (self.base.mask.width(), self.base.mask.height());
-        neighbours(width, height, self.base.conn, pixel)
+        self.base.mask.width()
     }
 
-    // How many pixels there are.
-    pub(crate) fn len(&self) -> usize
-        ensures value { result ≡ size_of (ground_of self.now) }
-        ensures small { result ≤ max_board }
+    // The number of rows.
+    pub(crate) fn height(&self) -> u32
+        ensures value { result ≡ (mask_of (ground_of self.now)).height }
+        ensures sized { IsGraymap (ground_of self.now).mask }
     {
-        self.base.mask.samples().len()
+        self.base.mask.height()
     }
 
-    // The pixel that comes after so many others, row by row.
-    pub(crate) fn pixel(&self, cell: usize) -> Pixel
-        requires { cell < size_of (ground_of self.now) }
-        ensures value { result ≡ pixel_after (ground_of self.now) cell }
-        ensures on { IsOn (ground_of self.now) result }
+    // Whether pixels that share only a corner are neighbours.
+    pub(crate) fn has_diagonals(&self) -> bool
+        ensures { result ≡ has_diagonals (ground_of self.now).conn }
     {
-        let width = self.base.mask.width() as usize;
-        Pixel {
-            x: (cell % width) as u32,
-            y: (cell / width) as u32,
+        match self.base.conn {
+            Conn::Four => false,
+            Conn::Eight => true,
         }
     }
 }

@@ -88,7 +88,7 @@ fn read_off(closed: &Closed<u8, Global>, base: &Ground, generation: u64, image: 
 }
 
 // The value of a word, or 0 where it is of another generation.
-fn value_in(word: u64, generation: u64) -> u16
+pub(crate) fn value_in(word: u64, generation: u64) -> u16
     ensures { IsValueIn generation word result }
 {
     if word / LEVELS == generation {

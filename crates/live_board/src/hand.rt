@@ -23,11 +23,9 @@ pub struct HandSeat {
 
 impl HandSeat {
     ghost use Rattle.std.specs.Prelude.{[], ◌≡◌, ◌≤◌};
-    ghost use Rattle.live_board.specs.Rounds.{IsRound, Spreads, Visits};
     ghost use Rattle.live_board.specs.Seats.{HasRaised, HasRead, HasStarted, IsBeside, IsFactOf, IsHandOf, ground_of};
     ghost use Rattle.live_board.specs.Seats.{hand_view};
     ghost use Rattle.live_board.specs.Words.{IsOn, max_generation};
-    ghost use Rattle.live_board.specs.declared.fact.Seen.TheVariants.{Value};
 
     /// Learns the generation.
     pub fn start(&mut self, board: &Board)
@@ -62,54 +60,5 @@ impl HandSeat {
         let value = from.value.min(board.mask_at(pixel));
         let asked = from.generation * LEVELS + u64::from(value);
         lift::<Brand>(board, &mut self.seat, pixel, asked) < asked
-    }
-
-    /// A round: learns the generation, reads each pixel, row by row, and raises the neighbours of each that has a value
-    /// of that generation. It answers how many of these raises found less than they left.
-    pub fn round(&mut self, board: &Board) -> u64
-        requires hand { IsHandOf board.now self.old }
-        ensures hand { IsHandOf board.now self.new }
-        ensures round { IsRound (ground_of board.now) result (hand_view self.old) (hand_view self.new) }
-    {
-        self.start(board);
-        let mut rose = 0;
-        for cell in 0..board.len() {
-            rose += self.visit(board, board.pixel(cell));
-        }
-        rose
-    }
-
-    // Reads a pixel, and raises its neighbours where it has a value. It answers how many rose.
-    fn visit(&mut self, board: &Board, pixel: Pixel) -> u64
-        requires hand { IsHandOf board.now self.old }
-        requires pixel { IsOn (ground_of board.now) pixel }
-        ensures hand { IsHandOf board.now self.new }
-        ensures visits { Visits (ground_of board.now) pixel result (hand_view self.old) (hand_view self.new) }
-        ensures few { result ≤ 8 }
-    {
-        match self.read(board, pixel) {
-            Seen::Value(from) => self.spread(board, &from),
-            Seen::Older | Seen::Newer => 0,
-        }
-    }
-
-    // Raises each neighbour of a fact's pixel. It answers how many rose.
-    fn spread(&mut self, board: &Board, from: &Fact) -> u64
-        requires hand { IsHandOf board.now self.old }
-        requires fact { IsFactOf (hand_view self.old) from.now }
-        requires pixel { IsOn (ground_of board.now) from.now.pixel }
-        ensures hand { IsHandOf board.now self.new }
-        ensures spreads { Spreads (ground_of board.now) (Value from.now) result
-            (hand_view self.old) (hand_view self.new) }
-        ensures few { result ≤ 8 }
-    {
-        let around = board.around(from.pixel);
-        let mut rose = 0;
-        for beside in around.as_slice() {
-            if self.raise(board, from, *beside) {
-                rose += 1;
-            }
-        }
-        rose
     }
 }

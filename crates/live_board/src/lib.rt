@@ -24,22 +24,27 @@
 //! Read on in `specs/Rule.antt`, which has the rule, and in `specs/Seats.antt`, which says what each seat's call does.
 
 mod board;
+mod cells;
 mod closing;
+mod draft;
 mod error;
 mod fact;
+mod flood;
 mod hand;
 mod keeper;
 mod laws;
 mod opening;
 mod peek;
+mod round;
 mod rule;
 mod steps;
 
 pub use board::{Board, MAX_BOARD};
+pub use draft::Draft;
 pub use error::{BoardError, Spent};
 pub use fact::{Fact, Peek, Seen};
 pub use hand::HandSeat;
 pub use keeper::KeeperSeat;
-pub use laws::board_laws;
+pub use laws::{board_laws, flooded_is_grown};
 pub use opening::Opened;
 pub use peek::PeekSeat;

@@ -1,31 +1,56 @@
-use Rattle.std.proofs.Common.{◌+◌, Bool, List, add-zero, ap, subst, sym, take, ℕ, ◌∙◌, ◌≡◌, ◌≤◌}
-use Rattle.grid_core.specs.declared.pixel.Pixel.{Pixel}
-use Rattle.live_board.proofs.Rounds.{beside_at, spread_more}
-use Rattle.live_board.proofs.hand.HandSeat.spread.Goals.{then-raise, else-raise}
-use Rattle.live_board.specs.{Rounds.Raises, Rounds.one_if, Seats.ground_of, Seats.hand_view}
+use Rattle.std.proofs.Common.{Bool, ℕ}
+use Rattle.grid_core.specs.{Rows.row_around, declared.pixel.Pixel.Pixel}
+use Rattle.std.proofs.Common.{true, false}
+use Rattle.live_board.proofs.Rounds.{in_first, in_second, in_third, raises_three, row_above, row_below}
+use Rattle.live_board.proofs.Rounds.{three_are_around, three_rows}
+use Rattle.live_board.specs.{Seats.ground_of, Seats.hand_view, Words.mask_of}
 use Rattle.live_board.proofs.hand.HandSeat.spread.Goals as goal
 
-pub raise-requires-clause-pixel : goal.raise-requires-clause-pixel
-raise-requires-clause-pixel c = beside_at (ground_of c.args.board.now) c.args.from.now.pixel c.around-around.result
-    c.as_slice-beside-items.result.now c.loop-beside.beside-index (record { x = 0; y = 0 }) c.around-around.ensures
-    c.as_slice-beside-items.ensures.pixels c.loop-beside-test.true
+pub raise_row-above-requires-clause-beside : goal.raise_row-above-requires-clause-beside
+raise_row-above-requires-clause-beside c =
+    let base = ground_of c.args.board.now in
+    let p : Pixel = c.args.from.pixel in
+    let w : ℕ = (mask_of base).width in
+    let d : Bool = c.has_diagonals-aslant.result in
+    let h : ℕ = c.height.result in
+    rw c.saturating_sub.ensures
+    (in_first base p (row_above w p d) (row_around w p.x p.y true false) (row_below w h p d)
+    (three_are_around base p d h c.requires.pixel c.has_diagonals-aslant.ensures c.height.ensures.value))
 
-pub loop-beside-preserved : goal.loop-beside-preserved
-loop-beside-preserved c =
-    let near : List Pixel = c.as_slice-beside-items.result.now in
-    let i : ℕ = c.loop-beside.beside-index in
-    let count : ℕ = c.loop-beside.rose in
-    let kept = c.loop-beside.invariant in
-    let more = spread_more (ground_of c.args.board.now) c.args.from.now near i count c.raise.result
-    (record { x = 0; y = 0 }) (hand_view c.args.self.now) (hand_view c.loop-beside.self) (hand_view c.raise.new.self)
-    c.loop-beside-test.true kept.2 kept.1 kept.3 c.raise.ensures.raised in
-    let is : c.if-raise.rose ≡ count + one_if c.raise.result = elim c.if-raise.branch [
-      | then-raise w ↦ w.rose-is ∙ ap (λ (b : Bool). count + one_if b) (sym w.if-raise.true)
-      | else-raise w ↦ w.rose-is ∙ sym (add-zero count) ∙ ap (λ (b : Bool). count + one_if b) (sym w.if-raise.false)
-    ] in (
-      c.raise.ensures.hand,
-      more.0,
-      subst (λ (k : ℕ). k ≤ i + 1) (sym is) more.1,
-      subst (λ (k : ℕ). Raises (ground_of c.args.board.now) c.args.from.now (take (i + 1) near) k
-          (hand_view c.args.self.now) (hand_view c.raise.new.self)) (sym is) more.2,
+pub raise_row-own-requires-clause-beside : goal.raise_row-own-requires-clause-beside
+raise_row-own-requires-clause-beside c =
+    let base = ground_of c.args.board.now in
+    let p : Pixel = c.args.from.pixel in
+    let w : ℕ = (mask_of base).width in
+    let d : Bool = c.has_diagonals-aslant.result in
+    let h : ℕ = c.height.result in
+    in_second base p (row_above w p d) (row_around w p.x p.y true false) (row_below w h p d)
+    (three_are_around base p d h c.requires.pixel c.has_diagonals-aslant.ensures c.height.ensures.value)
+
+pub raise_row-below-requires-clause-beside : goal.raise_row-below-requires-clause-beside
+raise_row-below-requires-clause-beside c =
+    let base = ground_of c.args.board.now in
+    let p : Pixel = c.args.from.pixel in
+    let w : ℕ = (mask_of base).width in
+    let d : Bool = c.has_diagonals-aslant.result in
+    let h : ℕ = c.height.result in
+    in_third base p (row_above w p d) (row_around w p.x p.y true false) (row_below w h p d)
+    (three_are_around base p d h c.requires.pixel c.has_diagonals-aslant.ensures c.height.ensures.value)
+
+pub returns-clause-spreads : goal.returns-clause-spreads
+returns-clause-spreads c =
+    let base = ground_of c.args.board.now in
+    let f = c.args.from in
+    let p : Pixel = f.pixel in
+    let w : ℕ = (mask_of base).width in
+    let d : Bool = c.has_diagonals-aslant.result in
+    let h : ℕ = c.height.result in (
+      three_rows w h p d,
+      three_are_around base p d h c.requires.pixel c.has_diagonals-aslant.ensures c.height.ensures.value,
+      raises_three base f (row_above w p d) (row_around w p.x p.y true false) (row_below w h p d)
+          c.raise_row-above.result c.raise_row-own.result c.raise_row-below.result (hand_view c.args.self.now)
+          (hand_view c.raise_row-above.new.self) (hand_view c.raise_row-own.new.self)
+          (hand_view c.raise_row-below.new.self) (rw c.saturating_sub.ensures at c.raise_row-above.ensures.raises)
+          c.raise_row-own.ensures.raises
+          c.raise_row-below.ensures.raises,
     )
