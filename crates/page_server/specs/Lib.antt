@@ -9,6 +9,7 @@ pub use Rattle.page_board.specs.Opening as BoardOpening
 pub use Rattle.page_board.specs.Taking
 pub use Rattle.page_service.specs.Showing
 pub use Rattle.page_service.specs.Answering
+pub use Rattle.page_service.specs.MaskName
 pub use Rattle.page_service.specs.Painting
 pub use Rattle.page_service.specs.Kept
 pub use Rattle.page_service.specs.Keeping

@@ -28,6 +28,7 @@ pub record IsPageAt (site : Site) (board : PageBoard) (side : ℕ) (page : Page)
   pub shows : page.painting.board ≡ board
   pub port : page.painting.port ≡ site.hosts
   pub key : page.painting.key ≡ site.key
+  pub name : page.painting.name ≡ site.name
   pub html : page.painting.page ≡ PAGE.now
   pub policy : page.painting.policy ≡ POLICY.now
   pub jobs : IsSliceOf side page.jobs

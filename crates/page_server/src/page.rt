@@ -13,7 +13,7 @@ use grid_core::Memory;
 use http::Request;
 use http_server::{Response, Service};
 use page_board::PageBoard;
-use page_service::{Hosts, Kept, Key, Painting};
+use page_service::{Hosts, Kept, Key, MaskName, Painting};
 use run_faults::RunError;
 use std::alloc::{AllocError, Global};
 
@@ -45,11 +45,19 @@ impl Page {
     ghost use Rattle.page_server.specs.declared.html.TheConstants.{PAGE, POLICY};
 
     /// The page that is embedded, with its policy, over a board.
-    pub(crate) fn new(alloc: Global, board: PageBoard, hosts: Hosts, key: Key, jobs: u64) -> Page
+    pub(crate) fn new(
+        alloc: Global,
+        board: PageBoard,
+        hosts: Hosts,
+        key: Key,
+        name: MaskName,
+        jobs: u64,
+    ) -> Page
         ensures painting { result.painting ≡ record {
           board = board;
           port = hosts;
           key = key;
+          name = name;
           page = PAGE.now;
           policy = POLICY.now;
           unkept = None;
@@ -58,7 +66,15 @@ impl Page {
     {
         Page {
             alloc,
-            painting: Painting::new(alloc, board, hosts, key, embedded_page(), embedded_policy()),
+            painting: Painting::new(
+                alloc,
+                board,
+                hosts,
+                key,
+                name,
+                embedded_page(),
+                embedded_policy(),
+            ),
             jobs,
         }
     }

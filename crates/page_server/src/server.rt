@@ -13,6 +13,7 @@ ghost use Rattle.page_server.specs.Peers.{most_of, peers_of};
 ghost use Rattle.page_server.specs.Caller.{front_of};
 ghost use Rattle.page_server.specs.Serving.{IsKeptIn, IsServed, IsNotServed, address_line};
 ghost use Rattle.page_service.specs.Showing.{ShowsKey};
+ghost use Rattle.page_service.specs.MaskName.{naming_at};
 ghost use Rattle.page_server.specs.Turning.{IsNewServer, AreRounds, LetsIn, TakesTurn, TakesAllTurns, WasServed, scene};
 ghost use Rattle.page_server.specs.declared.site.Site.{Site as SiteSeen};
 
@@ -83,6 +84,7 @@ pub fn paint<R: Net + Files + Clock + RandomSource, G: Grower, T: StateStore + D
     ensures served { OnOk result ((site : SiteSeen) × (board : BoardSeen) × (kept : List ℕ) × (stored : T)
         × AreSame (T.seen store).held (T.seen stored).held
         × Appends (K.seen sink.old).written (K.seen sink.new).written (address_line site.hosts site.key)
+        × (site.name ≡ naming_at call.mask)
         × IsServed call.conn call.side kept board × IsKeptIn (T.seen store).held call.file kept board
         × WasServed T.seen site board kept call.side stored call.file) }
     ensures refused { IfErr result (IsNotServed call.conn (T.seen store).held call.file) }
@@ -186,9 +188,14 @@ impl<T: StateStore + Drop> Server<T> {
     {
         match places(alloc, &site.key) {
             Ok((hall, peers)) => {
-                let Site { door, hosts, key } = site;
+                let Site {
+                    door,
+                    hosts,
+                    key,
+                    name,
+                } = site;
                 let KeptBoard { board, kept } = opened;
-                let page = Page::new(alloc, board, hosts, key, jobs_of(side));
+                let page = Page::new(alloc, board, hosts, key, name, jobs_of(side));
                 Ok(Server {
                     alloc,
                     door,

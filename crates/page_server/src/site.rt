@@ -1,10 +1,11 @@
-//! Where a page is served.
+//! Where a page is served, and how its mask is called.
 
 ghost use Rattle.std.specs.Prelude.{◌≡◌, ◌⊎◌, IfOk, IfErr, OnOk, string_bytes};
 ghost use Rattle.std.specs.Io.KnownBytes.{Appends};
 ghost use Rattle.run_faults.specs.RunError.{IsTransferFault};
 ghost use Rattle.run_faults.specs.declared.run_error.RunError.TheVariants as errors;
 ghost use Rattle.page_server.specs.Serving.{address_line};
+ghost use Rattle.page_service.specs.MaskName.{naming_at};
 
 use crate::call::PaintCall;
 use crate::chance::key_bits;
@@ -13,7 +14,7 @@ use crate::forward::write_forward;
 use crate::ports::home;
 use byte_devices::{Sink, put_all};
 use grid_core::Memory;
-use page_service::{Hosts, Key, address};
+use page_service::{Hosts, Key, MaskName, address};
 use pgm_codec::PgmError;
 use run_faults::RunError;
 use std::alloc::Global;
@@ -21,12 +22,13 @@ use std::net::Net;
 use std::random::RandomSource;
 use std::rt::Files;
 
-/// The door of a page, the names under which it is asked, and its key.
+/// The door of a page, the names under which it is asked, its key, and the name of the mask's file.
 #[derive(Drop)]
 pub(crate) struct Site {
     pub(crate) door: Door,
     pub(crate) hosts: Hosts,
     pub(crate) key: Key,
+    pub(crate) name: MaskName,
 }
 
 impl Site {
@@ -42,6 +44,7 @@ impl Site {
     ) -> Result<Site, RunError>
         ensures told { IfOk result (λ site. Appends (K.seen sink.old).written (K.seen sink.new).written
             (address_line site.hosts site.key)) }
+        ensures named { IfOk result (λ site. site.name ≡ naming_at call.now.mask) }
         ensures refused { IfErr result (λ e. (e ≡ errors.Link) ⊎ (e ≡ errors.Memory) ⊎ IsTransferFault e) }
     {
         let site = Site::open(rt, alloc, call)?;
@@ -82,18 +85,28 @@ impl Site {
         alloc: Global,
         call: &PaintCall,
     ) -> Result<Site, RunError>
-        ensures { IfErr result (λ e. (e ≡ errors.Link) ⊎ (e ≡ errors.Memory)) }
+        ensures named { IfOk result (λ site. site.name ≡ naming_at call.now.mask) }
+        ensures refused { IfErr result (λ e. (e ≡ errors.Link) ⊎ (e ≡ errors.Memory)) }
     {
         let Ok(bits) = key_bits(rt) else {
             return Err(RunError::Link);
+        };
+        let Ok(name) = MaskName::new(alloc, call.mask.as_str()) else {
+            return Err(RunError::Memory);
         };
         let home = home(rt, alloc, &call.file);
         let Ok(door) = Door::bind(rt, alloc, call.port, home) else {
             return Err(RunError::Link);
         };
         match names_of(alloc, &door, bits) {
-            Ok((hosts, key)) => Ok(Site { door, hosts, key }),
+            Ok((hosts, key)) => Ok(Site {
+                door,
+                hosts,
+                key,
+                name,
+            }),
             Err(why) => {
+                drop(name);
                 drop(door);
                 Err(why)
             }

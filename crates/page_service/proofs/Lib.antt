@@ -6,5 +6,6 @@ pub mod Senders
 pub mod Showings
 pub mod Refused
 pub mod Leaving
+pub mod MaskNames
 pub mod Keepers
 pub mod Tracking

@@ -1,10 +1,11 @@
 -- What each request is answered, and what it leaves behind.
-use Rattle.std.specs.Prelude.{◌≡◌, ℕ, List, Some, None, ◌⊎◌, codes}
+use Rattle.std.specs.Prelude.{◌≡◌, ℕ, List, ◌++◌, Some, None, ◌⊎◌, codes}
 use Rattle.http.specs.{declared.request.Request.Request, Request.body_of}
 use Rattle.http_server.specs.{declared.response.Response.Response, Response.IsResponse}
 use Rattle.page_service.specs.{Sender.MayAsk, Table.AsksFor, Refusing.IsRefused, declared.answer_fields.Media.Media}
 use Rattle.page_service.specs.{declared.refusal.RequestRefusal.RequestRefusal, declared.table.Asked.Asked}
 use Rattle.page_service.specs.AnswerFields.{answer_fields, refusal_fields, status_of, words_of}
+use Rattle.page_service.specs.MaskName.{name_fields}
 use Rattle.page_service.specs.declared.answer_fields.Media.TheVariants.{Html, Text, Graymap, Binary}
 use Rattle.page_service.specs.declared.table.Asked.TheVariants.{Page, Mask, Image, State, Strokes, Changes, Edits, Join}
 use Rattle.page_service.specs.Painting.{Painting, IsImageFile, state_text}
@@ -23,6 +24,11 @@ Says p status media bytes response = IsResponse status (answer_fields media p.po
 -- 200 with this body, and nothing changed
 abbrev pub Shows : Media → List ℕ → Painting → Response → Painting → Type 0
 Shows media bytes old response new = (new ≡ old) × Says old 200 media bytes response
+
+-- 200 with the file of the mask, and the field that tells its name, where it is told
+abbrev pub SaysMask : Painting → Response → Type 0
+SaysMask p response =
+    IsResponse 200 (answer_fields Graymap p.policy ++ name_fields p.name) (raw_text (mask_of p.board)) response
 
 -- the file of the image
 abbrev pub ShowsImage : Painting → Response → Painting → Type 0
@@ -83,7 +89,7 @@ WhereKept answered old response new = IsHeldOff old response new ⊎ ((old.unkep
 -- the answer to what is asked
 abbrev pub AnswersAsked : Asked → Painting → List ℕ → Response → Painting → Type 0
 AnswersAsked Page old body response new = Shows Html old.page old response new
-AnswersAsked Mask old body response new = Shows Graymap (raw_text (mask_of old.board)) old response new
+AnswersAsked Mask old body response new = (new ≡ old) × SaysMask old response
 AnswersAsked Image old body response new = ShowsImage old response new
 AnswersAsked State old body response new = Shows Binary (state_text old.board) old response new
 AnswersAsked Strokes old body response new = Shows Text (live_text old.board.core.state) old response new

@@ -9,6 +9,7 @@ pub mod Table
 pub mod Refusing
 pub mod Showing
 pub mod AnswerFields
+pub mod MaskName
 pub mod Painting
 pub mod Stored
 pub mod Answering

@@ -1,5 +1,6 @@
--- What stands behind a page: a board, the port and the key by which it is asked, the page, its content security policy,
--- and why what it has is not kept, where it is not.
+-- What stands behind a page: a board, the port and the key by which it is asked, the field that tells how the mask's
+-- file is called, where it is told, the page, its content security policy, and why what it has is not kept, where it is
+-- not.
 use Rattle.std.specs.Prelude.{◌≡◌, ℕ, List, Option, refl}
 use Rattle.std.specs.Coded.{Coded, code_by, coded×, coded_ℕ, coded_list, coded_option}
 use Rattle.stroke_core.specs.Seed.{Seed}
@@ -13,6 +14,7 @@ pub record Painting : Type 0 where
   pub board : PageBoard
   pub port : ℕ
   pub key : List ℕ
+  pub name : Option (List ℕ)
   pub page : List ℕ
   pub policy : List ℕ
   pub unkept : Option RunError
@@ -31,15 +33,17 @@ state_text b = kept_text b.core.conn (mask_of b) b.core.state
 -- a painting is stored as the parts of its record
 abbrev pub painting_code : Coded Seed → Coded RunError → Coded Painting
 painting_code seed_code fault_code =
-    code_by (PageBoard × (ℕ × (List ℕ × (List ℕ × (List ℕ × Option RunError)))))
+    code_by (PageBoard × (ℕ × (List ℕ × (Option (List ℕ) × (List ℕ × (List ℕ × Option RunError))))))
     (coded× (board_code seed_code) (coded× coded_ℕ (coded× (coded_list coded_ℕ)
-    (coded× (coded_list coded_ℕ) (coded× (coded_list coded_ℕ) (coded_option fault_code))))))
-    (λ p. (p.board, (p.port, (p.key, (p.page, (p.policy, p.unkept))))))
+    (coded× (coded_option (coded_list coded_ℕ)) (coded× (coded_list coded_ℕ) (coded× (coded_list coded_ℕ)
+    (coded_option fault_code)))))))
+    (λ p. (p.board, (p.port, (p.key, (p.name, (p.page, (p.policy, p.unkept)))))))
     (λ q. record {
       board = q.0;
       port = q.1.0;
       key = q.1.1.0;
-      page = q.1.1.1.0;
-      policy = q.1.1.1.1.0;
-      unkept = q.1.1.1.1.1;
+      name = q.1.1.1.0;
+      page = q.1.1.1.1.0;
+      policy = q.1.1.1.1.1.0;
+      unkept = q.1.1.1.1.1.1;
     }) (λ _. refl)

@@ -11,6 +11,7 @@ painting_of parts = record {
   board = parts.board;
   port = parts.hosts;
   key = parts.key;
+  name = parts.name;
   page = parts.page.now;
   policy = parts.policy.now;
   unkept = parts.unkept;

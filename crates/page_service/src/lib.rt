@@ -2,7 +2,7 @@
 //! The service behind a page to paint on: who may ask, what is asked, and what each request is answered, over a board.
 //!
 //! ```text
-//! let mut painting = Painting::new(alloc, board, hosts, key, page, policy);
+//! let mut painting = Painting::new(alloc, board, hosts, key, name, page, policy);
 //! connection.advance(&mut painting);       // each whole request is answered
 //! while !painting.grow(64)? {}             // between requests: no work is left
 //! ```
@@ -22,6 +22,8 @@
 //! what is posted is answered 503 with the reason and nothing is taken ([`nothing_is_taken_unkept`]); all else is
 //! answered as ever. What another program has put into the state file is taken by [`Painting::take_found`].
 //!
+//! The answer to `mask` tells how the mask's file is called, by the field that a [`MaskName`] makes once.
+//!
 //! The files of the mask and of the image are made once for a moment and shared among those who ask for them. Large
 //! answers that nobody has read yet have a bound, `unread` says which: past it a large answer finds no memory, and
 //! small ones are given as ever.
@@ -30,9 +32,9 @@
 //!
 //! Read on in `specs/Sender.antt` for who may ask, in `specs/Showing.antt` for what shows the key, in
 //! `specs/Table.antt` for what is asked, in `specs/Refusing.antt` for the order of the refusals, in
-//! `specs/AnswerFields.antt` for what an answer carries, and in `specs/Answering.antt`: `Answers` is the contract of
-//! each call. [`answers_leave_later`] says that no answer leads back, so that what a page is told leaves nothing out
-//! (`page_board::laws::changes_tell_all`).
+//! `specs/AnswerFields.antt` for what an answer carries, in `specs/MaskName.antt` for the field of the mask's name, and
+//! in `specs/Answering.antt`: `Answers` is the contract of each call. [`answers_leave_later`] says that no answer leads
+//! back, so that what a page is told leaves nothing out (`page_board::laws::changes_tell_all`).
 
 mod answer_fields;
 mod fault;
@@ -43,6 +45,7 @@ mod kept;
 mod key;
 mod laws;
 mod limits;
+mod mask_name;
 mod painting;
 mod query;
 mod reading;
@@ -59,6 +62,7 @@ pub use kept::Kept;
 pub use key::Key;
 pub use laws::{answers_leave_later, nothing_is_taken_unkept, one_answer};
 pub use limits::{MAX_BODY_LEN, MAX_HEAD_LEN, MAX_WAITING, config};
+pub use mask_name::MaskName;
 pub use painting::Painting;
 pub use reading::read_request;
 pub use refusal::RequestRefusal;

@@ -11,6 +11,7 @@ ghost use Rattle.page_service.specs.Answering.{Says};
 use crate::answer_fields::{Media, put_answer};
 use crate::hosts::Hosts;
 use crate::key::Key;
+use crate::mask_name::MaskName;
 use crate::unread::Unread;
 use bytes::Bytes;
 use grid_core::Memory;
@@ -33,6 +34,7 @@ pub struct Painting {
     board: PageBoard,
     hosts: Hosts,
     key: Key,
+    name: MaskName,
     page: &'static [u8],
     policy: &'static str,
     // Why what the board has is not kept, where it is not.
@@ -61,13 +63,14 @@ impl Model for Painting {
 }
 
 impl Painting {
-    /// The service of a board, asked at these hosts under this key; `page` is the page, compressed as a gzip file (RFC
-    /// 1952), `policy` its content security policy. What the board has counts as kept.
+    /// The service of a board, asked at these hosts under this key; `name` is that of the mask's file, `page` the page,
+    /// compressed as a gzip file (RFC 1952), `policy` its content security policy. What the board has counts as kept.
     pub fn new(
         alloc: Global,
         board: PageBoard,
         hosts: Hosts,
         key: Key,
+        name: MaskName,
         page: &'static [u8],
         policy: &'static str,
     ) -> Painting
@@ -76,6 +79,7 @@ impl Painting {
           board = board;
           port = hosts;
           key = key;
+          name = name;
           page = page.now;
           policy = policy.now;
           unkept = None;
@@ -86,6 +90,7 @@ impl Painting {
             board,
             hosts,
             key,
+            name,
             page,
             policy,
             unkept: None,

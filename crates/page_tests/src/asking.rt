@@ -11,7 +11,9 @@ use std::test::Fail;
 const MASK: &[u8] = b"HTTP/1.1 200 OK\r\ncontent-type: image/x-portable-graymap\r\n\
     cache-control: no-store\r\nx-content-type-options: nosniff\r\nx-frame-options: DENY\r\n\
     cross-origin-resource-policy: same-origin\r\nreferrer-policy: no-referrer\r\n\
-    content-security-policy: default-src 'self'\r\ncontent-length: 13\r\n\r\n\
+    content-security-policy: default-src 'self'\r\n\
+    content-disposition: inline; filename*=UTF-8''1+1%20%22cells%22%2050%25_%C3%A9%27~.pgm\r\n\
+    content-length: 13\r\n\r\n\
     P5\n4 1\n9\n\x03\t\t\x03";
 
 /// Lines, fields, and the status: hosts and origins, ours and others; paths, a method and a query that there are not.

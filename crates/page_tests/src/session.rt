@@ -9,7 +9,7 @@ use grid_core::{Conn, Memory};
 use http_server::Connection;
 use page_server::opening::{KeptBoard, open_board};
 use page_server::{PeerList, round};
-use page_service::{Hosts, Key, Painting, StateKeeper, config};
+use page_service::{Hosts, Key, MaskName, Painting, StateKeeper, config};
 use raster_sweeps::OneThread;
 use run_faults::RunError;
 use std::alloc::Global;
@@ -20,6 +20,9 @@ use view_session::store::StatePath;
 
 /// The key of all sessions, as bits.
 const BITS: u128 = 0x0123_4567_89ab_cdef_0011_2233_4455_6677;
+
+/// The path of the mask of all sessions.
+const MASK: &str = "../plates/1+1 \"cells\" 50%_é'~.pgm";
 
 /// What one says that looks on.
 const LOOK: &[u8] =
@@ -54,13 +57,15 @@ pub struct Session {
     unseen: u32,
 }
 
-// What is made before a board is opened: the name of its file, twice, who may ask, and the store.
+// What is made before a board is opened: the name of its file, twice, who may ask, how the mask is called, and the
+// store.
 #[derive(Drop)]
 struct Setting {
     path: StatePath,
     name: StatePath,
     hosts: Hosts,
     key: Key,
+    mask: MaskName,
     store: MemoryStore,
 }
 
@@ -69,12 +74,14 @@ fn setting_of(alloc: Global, scene: &Scene) -> Result<Setting, Memory> {
     let name = StatePath::new(alloc, "strokes")?;
     let hosts = Hosts::new(alloc, 8080)?;
     let key = Key::new(alloc, BITS)?;
+    let mask = MaskName::new(alloc, MASK)?;
     let store = MemoryStore::new(alloc).with_file(&path, scene.kept)?;
     Ok(Setting {
         path,
         name,
         hosts,
         key,
+        mask,
         store: store.failing_at(scene.failing_call),
     })
 }
@@ -125,10 +132,12 @@ impl Session {
             name,
             hosts,
             key,
+            mask,
             store,
         } = setting;
         let KeptBoard { board, kept } = opened;
-        let painting = Painting::new(alloc, board, hosts, key, b"page", "default-src 'self'");
+        let policy = "default-src 'self'";
+        let painting = Painting::new(alloc, board, hosts, key, mask, b"page", policy);
         let served = Served { alloc, painting };
         Session {
             keeper: StateKeeper::new(alloc, served, kept, store, path),

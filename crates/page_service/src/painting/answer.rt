@@ -5,7 +5,7 @@ ghost use Rattle.http_server.specs.Response.{IsBlank};
 ghost use Rattle.edit_lang.specs.Writing.{live_text};
 ghost use Rattle.page_service.specs.declared.answer_fields.Media.TheVariants as media;
 ghost use Rattle.page_service.specs.Painting.{state_text};
-ghost use Rattle.page_service.specs.Answering.{Says, AnswersAsked};
+ghost use Rattle.page_service.specs.Answering.{Says, SaysMask, AnswersAsked};
 
 use super::Painting;
 use crate::answer_fields::Media;
@@ -35,10 +35,7 @@ impl Painting {
                 let page = Bytes::from_static(self.page);
                 self.put(response, StatusCode::OK, Media::Html, page)
             }
-            (Asked::Mask, _) => {
-                let file = self.mask_file()?;
-                self.put(response, StatusCode::OK, Media::Graymap, file)
-            }
+            (Asked::Mask, _) => self.put_mask(response),
             (Asked::Image, _) => {
                 let file = self.image_file()?;
                 self.put(response, StatusCode::OK, Media::Graymap, file)
@@ -52,6 +49,17 @@ impl Painting {
             (Asked::Edits(moment), _) => self.edit(moment, body, response),
             (Asked::Join, _) => self.join(body, response),
         }
+    }
+
+    // Fills a blank response with the file of the mask, and tells its name.
+    fn put_mask(&mut self, response: &mut Response) -> Result<(), AllocError>
+        requires { IsBlank response.old }
+        ensures told { OnOk result (SaysMask self.old response.new) }
+        ensures same { self.new ≡ self.old }
+    {
+        let file = self.mask_file()?;
+        self.put(response, StatusCode::OK, Media::Graymap, file)?;
+        self.name.add_to(response)
     }
 
     // Fills a blank response with the state file.

@@ -23,6 +23,7 @@ returns-in-Ok-clause-served g c =
       _,
       c.opened_for.ensures.files,
       c.in-Ok.ensures.told,
+      c.in-Ok.ensures.named,
       c.in_ok-opened.ensures.opened,
       c.in_ok-opened.ensures.kept,
       was,

@@ -14,6 +14,7 @@ returns-in-Ok g c =
         shows = shows;
         port = ap (λ (p : Painting). p.port) is;
         key = ap (λ (p : Painting). p.key) is;
+        name = ap (λ (p : Painting). p.name) is;
         html = ap (λ (p : Painting). p.page) is;
         policy = ap (λ (p : Painting). p.policy) is;
         jobs = subst (IsSliceOf c.args.side) (sym c.new-page.ensures.jobs) c.jobs_of.ensures;
