@@ -6,11 +6,11 @@ use Rattle.std.specs.{Char.is_ascii_alphanumeric, Path.path_file_name}
 use Rattle.http1.specs.Fields.{Header}
 use Rattle.percent_encoding.specs.Percent.{percent_encode_byte}
 
--- attr-char: a byte that stands for itself
+-- attr-char: a byte that stands for itself, a letter, a digit or one of these marks
 abbrev pub is_attr_char : ℕ → Bool
 is_attr_char b = is_ascii_alphanumeric b || list_any (λ c. c == b) (codes "!#$&+-.^_`|~")
 
--- value-chars: each other byte is `%` and two hexadecimal digits in upper case
+-- value-chars: a name as it is told; each other byte is `%` and two hexadecimal digits in upper case
 abbrev pub value_chars : List ℕ → List ℕ
 value_chars name = flat_map (λ b. if is_attr_char b then b ∷ [] else percent_encode_byte b) name
 
@@ -18,12 +18,12 @@ value_chars name = flat_map (λ b. if is_attr_char b then b ∷ [] else percent_
 abbrev pub naming : List ℕ → List ℕ
 naming name = codes "inline; filename*=UTF-8''" ++ value_chars name
 
--- it is told unless it has more bytes than names of files have
+-- the same of what may be a name: none where there is none, and none where it has more than 255 bytes
 abbrev pub naming_file : Option (List ℕ) → Option (List ℕ)
 naming_file None = None
 naming_file (Some name) = if nat_le (length name) 255 then Some (naming name) else None
 
--- the value of the field for the file at a path, where its name is told
+-- the same of the file at a path, by what std calls its name: the last part of the path
 abbrev pub naming_at : List ℕ → Option (List ℕ)
 naming_at path = naming_file (path_file_name path)
 
