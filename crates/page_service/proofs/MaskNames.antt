@@ -30,10 +30,12 @@ written (b ∷ bs) small =
     ⊎_elim
     (λ escaped. percent_encode_escaped ESCAPED b bs escaped ∙ ap (λ x. percent_encode_byte b ++ x) rest ∙
     ap (λ x. x ++ value_chars bs)
-    (sym (cond-false (is_attr_char b) (b ∷ []) (percent_encode_byte b) (not-true (is_attr_char b) (sym other ∙ escaped)))))
+    (sym (cond-false (is_attr_char b) (b ∷ []) (percent_encode_byte b)
+    (not-true (is_attr_char b) (sym other ∙ escaped)))))
     (λ kept. percent_encode_kept ESCAPED b bs kept ∙ ap (λ x. b ∷ x) rest ∙
     ap (λ x. x ++ value_chars bs)
-    (sym (cond-true (is_attr_char b) (b ∷ []) (percent_encode_byte b) (not-false (is_attr_char b) (sym other ∙ kept)))))
+    (sym (cond-true (is_attr_char b) (b ∷ []) (percent_encode_byte b)
+    (not-false (is_attr_char b) (sym other ∙ kept)))))
     (cases_Bool (should_percent_encode ESCAPED b))
 
 -- what is kept may stand in a field
