@@ -1,6 +1,6 @@
 //! How a page is told the name of its mask's file.
 
-ghost use Rattle.std.specs.Prelude.{◌≡◌, ◌++◌, ◌≤◌, length, string_bytes, IfOk, OnOk};
+ghost use Rattle.std.specs.Prelude.{◌≡◌, ◌++◌, string_bytes, IfOk, OnOk};
 ghost use Rattle.http_server.specs.Response.{fields_of};
 ghost use Rattle.page_service.specs.MaskName.{naming, naming_at, name_fields};
 
