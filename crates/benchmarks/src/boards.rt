@@ -134,7 +134,12 @@ fn workers_of(alloc: Global, board: &Board, hands: &mut Vec<HandSeat>) -> (Vec<W
     (workers, are_all)
 }
 
-fn adds_worker(alloc: Global, board: &Board, hands: &mut Vec<HandSeat>, workers: &mut Vec<Worker>) -> bool
+fn adds_worker(
+    alloc: Global,
+    board: &Board,
+    hands: &mut Vec<HandSeat>,
+    workers: &mut Vec<Worker>,
+) -> bool
     requires hands { All (IsHandOf board.now) hands.old.items }
     requires workers { All (λ w. IsHandOf board.now w.0 × IsDraftOf board.now w.1) workers.old.items }
     ensures hands { All (IsHandOf board.now) hands.new.items }
@@ -340,7 +345,15 @@ fn flood_once(
             requires marker { IsBelow marker.now (mask_of (ground_of board.now)) }
             requires worker { IsHandOf board.now worker.old.0 × IsDraftOf board.now worker.old.1 }
             ensures { IsHandOf board.entry.now worker.new.0 × IsDraftOf board.entry.now worker.new.1 }
-        { flood_rows(board, marker, rows_of(marker.height(), number, threads), worker, rose) },
+        {
+            flood_rows(
+                board,
+                marker,
+                rows_of(marker.height(), number, threads),
+                worker,
+                rose,
+            )
+        },
     );
 }
 

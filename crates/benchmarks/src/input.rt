@@ -31,13 +31,11 @@ pub fn read(rt: &impl System, source: &mut impl Source) -> Result<Input, Fault> 
     let bytes = read_all(alloc, source).or(Err(Fault("a device failed, or there is no memory")))?;
     let (text, file) = split(&bytes).ok_or(Fault("there is no line `image`"))?;
     match (edit_lang::parse(alloc, text), pgm_codec::read(alloc, file)) {
-        (Ok(edits), Ok(mask)) => Ok(
-            Input {
-                edits,
-                mask,
-                conn: Conn::Four,
-            },
-        ),
+        (Ok(edits), Ok(mask)) => Ok(Input {
+            edits,
+            mask,
+            conn: Conn::Four,
+        }),
         (Err(why), _) => Err(Fault(why.code())),
         (Ok(_), Err(why)) => Err(Fault(why.code())),
     }

@@ -61,7 +61,9 @@ fn measure(rt: &impl System, source: &mut impl Source, words: &[String]) -> Outc
         ("flood", Some(hands), Some(4)) => boards::measure(rt, read(rt, source)?, hands, true),
         ("flood", Some(hands), Some(8)) => flood_aslant(rt, read(rt, source)?, hands),
         ("stress", Some(rounds), Some(seed)) => stress::play_all(rt, rounds, seed),
-        _ => Err(Fault("the words are none of: edit, settle, watch, board, flood, stress and numbers")),
+        _ => Err(Fault(
+            "the words are none of: edit, settle, watch, board, flood, stress and numbers",
+        )),
     }
 }
 

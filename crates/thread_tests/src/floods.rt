@@ -70,7 +70,11 @@ fn marker_on(alloc: Global, mask: &Grid, stride: usize) -> Option<Grid>
 {
     let mut marker = mask.copy(alloc).ok()?;
     for (place, cell) in marker.cells_mut().iter_mut().enumerate() {
-        let most = if place % stride.max(1) == 0 { place % 61 + 1 } else { 0 };
+        let most = if place % stride.max(1) == 0 {
+            place % 61 + 1
+        } else {
+            0
+        };
         *cell = (*cell).min(most as u16);
     }
     if marker.is_below(mask) {
@@ -91,7 +95,12 @@ fn share_of(alloc: Global, board: &Board, hand: HandSeat, rows: (u32, u32)) -> O
 {
     let (first, end) = rows;
     match board.draft(alloc) {
-        Ok(draft) => Some(Share { hand, draft, first, end }),
+        Ok(draft) => Some(Share {
+            hand,
+            draft,
+            first,
+            end,
+        }),
         Err(_) => {
             drop(hand);
             None
@@ -138,7 +147,12 @@ fn rows_of(height: u32, number: u32, count: u32) -> (u32, u32) {
 }
 
 // Gives each hand a draft and its rows, and says whether there was memory for all.
-fn shares_of(alloc: Global, board: &Board, mask: &Grid, hands: &mut Vec<HandSeat>) -> (Vec<Share>, bool)
+fn shares_of(
+    alloc: Global,
+    board: &Board,
+    mask: &Grid,
+    hands: &mut Vec<HandSeat>,
+) -> (Vec<Share>, bool)
     requires mask { mask_of (ground_of board.now) ≡ mask.now }
     requires hands { All (IsHandOf board.now) hands.old.items }
     ensures { All (IsShareOf board.now) result.0.items }
@@ -168,7 +182,14 @@ fn seated(alloc: Global, mask: &Image, conn: Conn, count: usize) -> Option<(Boar
     drop(hands);
     drop(peeks);
     match peek {
-        Some(peek) if are_all => Some((board, Flooders { keeper, shares, peek })),
+        Some(peek) if are_all => Some((
+            board,
+            Flooders {
+                keeper,
+                shares,
+                peek,
+            },
+        )),
         peek => {
             drop(peek);
             drop(shares);
@@ -236,8 +257,12 @@ fn looks_along(board: &Board, peek: &mut PeekSeat, grown: &Grid, y: u32, found: 
         let pixel = Pixel { x, y };
         let most = grown.get(pixel);
         if let Peek::Live(value) = peek.peek(board, pixel) {
-            found.above.fetch_add(u64::from(value > most), Ordering::SeqCst);
-            found.same.fetch_add(u64::from(value == most), Ordering::SeqCst);
+            found
+                .above
+                .fetch_add(u64::from(value > most), Ordering::SeqCst);
+            found
+                .same
+                .fetch_add(u64::from(value == most), Ordering::SeqCst);
         }
     }
 }
@@ -297,7 +322,12 @@ fn flood_all<R: Threads + Sync>(rt: &R, board: &Board, shares: &mut [Share], ros
 }
 
 // The same again and again until no pixel rises, and says whether it came to that.
-fn flood_until_grown<R: Threads + Sync>(rt: &R, board: &Board, shares: &mut [Share], found: &Found) -> bool
+fn flood_until_grown<R: Threads + Sync>(
+    rt: &R,
+    board: &Board,
+    shares: &mut [Share],
+    found: &Found,
+) -> bool
     requires { All (IsShareOf board.now) shares.old }
     ensures { All (IsShareOf board.now) shares.new }
 {
@@ -315,7 +345,13 @@ fn flood_until_grown<R: Threads + Sync>(rt: &R, board: &Board, shares: &mut [Sha
 }
 
 // Floods with the peek beside it, and says whether the board is this image in the end, and was nowhere above it before.
-fn grows_to<R: Threads + Sync>(rt: &R, board: &Board, flooders: &mut Flooders, mask: &Grid, grown: &Grid) -> bool
+fn grows_to<R: Threads + Sync>(
+    rt: &R,
+    board: &Board,
+    flooders: &mut Flooders,
+    mask: &Grid,
+    grown: &Grid,
+) -> bool
     requires flooders { AreFlooding board.now mask.now flooders.old }
     requires grown { IsBelow grown.now mask.now }
     ensures { AreFlooding board.now mask.now flooders.new }
@@ -386,7 +422,13 @@ fn plays<R: Threads + Sync>(
     is_right
 }
 
-fn grows<R: Threads + Sync>(rt: &R, alloc: Global, ground: Ground, conn: Conn, hands: usize) -> bool {
+fn grows<R: Threads + Sync>(
+    rt: &R,
+    alloc: Global,
+    ground: Ground,
+    conn: Conn,
+    hands: usize,
+) -> bool {
     let Some(mask) = ground.image(alloc) else {
         return false;
     };
