@@ -110,20 +110,11 @@ async function fileOf(parts, type) {
     if (performance.now() - begun < SLICE_TIME) continue;
     pieces.push(new Blob(loose.splice(0)));
     sayProgress(`${exporting.name} is being made.`, share);
-    await breathe();
+    await new Promise(behindEvent);
     stopHere();
     begun = performance.now();
   }
   return new Blob([...pieces, ...loose], { type });
-}
-
-/** Goes on behind whatever else waits for the page, without the pause that a timer makes. */
-function breathe() {
-  return new Promise(resolve => {
-    const { port1, port2 } = new MessageChannel();
-    port1.onmessage = () => { port1.close(); resolve(); };
-    port2.postMessage(null);
-  });
 }
 
 function stopHere() {

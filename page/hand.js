@@ -143,6 +143,10 @@ function dropHand() {
   hand.stretch = null;
   hand.aim = null;
   hand.isAtCorner = false;
+  behindEvent(showHand);
+}
+
+function showHand() {
   showCursor();
   redrawOverlay();
 }

@@ -51,6 +51,9 @@ function numbersFor(objects, length) {
   return objects.length < 65535 ? new Uint16Array(length) : new Uint32Array(length);
 }
 
+/** The number of pixels that are still to be given to an object: the greatest, which none has. */
+const openNumber = numbers => numbers.BYTES_PER_ELEMENT === 2 ? 65535 : 2 ** 32 - 1;
+
 /** What each object shows at its brightest: a stroke's level or the mask under it, whichever is less. */
 function brightestOf(mask, { count, starts, ends, owners, levels }, objects) {
   const brightest = new Int32Array(objects.length + 1);
@@ -69,70 +72,75 @@ function brightestOf(mask, { count, starts, ends, owners, levels }, objects) {
  * pixels, along ways where the result never rises. Pixels are taken from the greatest value down; of equal ones who was
  * reached first is taken first, and the lit pixels of strokes before all of them, from the first object on. So for no
  * pixel counts what is below it: a flood goes down as far as somebody asks, and on from there when somebody asks again.
+ * It floods the whole picture, or some runs alone.
  */
-function newFlood(scene, { objects, spans }, conn) {
-  const { result } = scene, { starts, ends } = placesByValue(result);
-  const flood = { owners: numbersFor(objects, result.length), queue: new Int32Array(result.length), starts, ends, conn,
-    next: starts.length - 1 };
+function newFlood(scene, { objects, spans }, conn, runs = null) {
+  const { result } = scene, owners = numbersFor(objects, result.length), open = runs ? openNumber(owners) : 0;
+  if (runs) fillRuns(owners, open, runs);
+  const { starts, ends } = placesByValue(result, runs ?? { count: 1, starts: [0], ends: [result.length] });
+  const flood = { owners, open, queue: new Int32Array(starts[0]), starts, ends, conn, next: starts.length - 1 };
   putLit(scene, spans, flood);
   return flood;
 }
 
 /** Lets a flood go down to a value, so that all pixels of at least that value have their owners. */
 function floodDownTo(flood, { width, result }, value) {
-  const { owners, queue, starts, ends } = flood, reach = flood.conn === 8 ? reachEight : reachFour;
+  const { owners, open, queue, starts, ends } = flood, reach = flood.conn === 8 ? reachEight : reachFour;
   for (; flood.next >= value; flood.next--) {
     for (let taken = starts[flood.next]; taken < ends[flood.next]; taken++) {
-      reach(queue[taken], flood.next, width, result, owners, queue, ends);
+      reach(queue[taken], flood.next, width, result, owners, open, queue, ends);
     }
   }
 }
 
-/** Where in a queue of all pixels, from the brightest on, those of each value begin. The ends move on with them. */
-function placesByValue(result) {
+/** Where in a queue of the pixels of runs, from the brightest on, those of each value begin. The ends move on. */
+function placesByValue(result, runs) {
   const counts = new Int32Array(65536);
-  for (let place = 0; place < result.length; place++) counts[result[place]]++;
+  for (let run = 0; run < runs.count; run++) {
+    for (let place = runs.starts[run], end = runs.ends[run]; place < end; place++) counts[result[place]]++;
+  }
   const starts = new Int32Array(65536);
   for (let value = 65534; value >= 0; value--) starts[value] = starts[value + 1] + counts[value + 1];
   return { starts, ends: starts.slice() };
 }
 
 /** Puts the lit pixels of the strokes into the queue. A pixel of several objects is that of the first one. */
-function putLit({ mask, result }, { count, starts, ends: lasts, owners: objects, levels }, { owners, queue, ends }) {
+function putLit({ mask, result }, { count, starts, ends: lasts, owners: objects, levels }, flood) {
+  const { owners, open, queue, ends } = flood;
   for (let k = 0; k < count; k++) {
     for (let place = starts[k]; place < lasts[k]; place++) {
       const value = result[place];
-      if (owners[place] !== 0 || value === 0 || value !== Math.min(levels[k], mask[place])) continue;
+      if (owners[place] !== open || value === 0 || value !== Math.min(levels[k], mask[place])) continue;
       owners[place] = objects[k];
       queue[ends[value]++] = place;
     }
   }
 }
 
-function reachFour(place, value, width, result, owners, queue, ends) {
+function reachFour(place, value, width, result, owners, open, queue, ends) {
   const owner = owners[place], above = place - width, below = place + width;
-  if (above >= 0 && owners[above] === 0) take(above, owner, value, result, owners, queue, ends);
-  if (place > 0 && owners[place - 1] === 0 && place % width !== 0) {
+  if (above >= 0 && owners[above] === open) take(above, owner, value, result, owners, queue, ends);
+  if (place > 0 && owners[place - 1] === open && place % width !== 0) {
     take(place - 1, owner, value, result, owners, queue, ends);
   }
-  if (place + 1 < owners.length && owners[place + 1] === 0 && (place + 1) % width !== 0) {
+  if (place + 1 < owners.length && owners[place + 1] === open && (place + 1) % width !== 0) {
     take(place + 1, owner, value, result, owners, queue, ends);
   }
-  if (below < owners.length && owners[below] === 0) take(below, owner, value, result, owners, queue, ends);
+  if (below < owners.length && owners[below] === open) take(below, owner, value, result, owners, queue, ends);
 }
 
-function reachEight(place, value, width, result, owners, queue, ends) {
+function reachEight(place, value, width, result, owners, open, queue, ends) {
   const owner = owners[place], x = place % width;
   const first = x > 0 ? -1 : 0, last = x + 1 < width ? 1 : 0;
   for (let row = place - width; row <= place + width; row += width) {
     if (row < 0 || row >= owners.length) continue;
     for (let other = row + first; other <= row + last; other++) {
-      if (owners[other] === 0) take(other, owner, value, result, owners, queue, ends);
+      if (owners[other] === open) take(other, owner, value, result, owners, queue, ends);
     }
   }
 }
 
-/** Gives a pixel that nobody has to an owner, unless the way to it rises. */
+/** Gives an open pixel to an owner, unless the way to it rises. */
 function take(place, owner, most, result, owners, queue, ends) {
   const value = result[place];
   if (value === 0 || value > most) return;
@@ -147,13 +155,22 @@ function thresholdsOf(brightest, share) {
   return Int32Array.from(brightest, (value, object) => object === 0 ? 65536 : Math.ceil(Math.max(share * value, 1)));
 }
 
-/** The greatest value of each 64 pixels in turn. Where nothing is kept of them they are passed over at once. */
+/** The greatest value of each 32 pixels in turn. Where nothing is kept of them they are passed over at once. */
 function ceilingsOf(result) {
-  const ceilings = new Uint16Array(Math.ceil(result.length / 64));
-  for (let place = 0; place < result.length; place++) {
-    if (result[place] > ceilings[place >> 6]) ceilings[place >> 6] = result[place];
-  }
+  const ceilings = new Uint16Array(Math.ceil(result.length / 32));
+  findCeilings(result, ceilings, 0, result.length);
   return ceilings;
+}
+
+/** Finds the ceilings of the pixels from a place up to an end anew. */
+function findCeilings(result, ceilings, from, to) {
+  for (let k = from >> 5; k << 5 < to; k++) {
+    let greatest = 0;
+    for (let place = k << 5, end = Math.min(place + 32, result.length); place < end; place++) {
+      if (result[place] > greatest) greatest = result[place];
+    }
+    ceilings[k] = greatest;
+  }
 }
 
 /** The runs of the pixels of at least a level. */
@@ -162,26 +179,10 @@ function runsByLevel({ width, result, ceilings }, level) {
   for (let row = 0; row < result.length; row += width) {
     const end = row + width;
     for (let place = row; place < end; place++) {
-      if ((place & 63) === 0 && ceilings[place >> 6] < level) place += 63;
+      if ((place & 31) === 0 && ceilings[place >> 5] < level) place += 31;
       if (place >= end || result[place] < level) continue;
       const first = place;
       while (place < end && result[place] >= level) place++;
-      addKept(runs, first, place);
-    }
-  }
-  return runs;
-}
-
-/** The runs of the pixels of at least what is kept of their owners, which is nowhere below the floor. */
-function runsByOwner({ width, result, ceilings }, owners, thresholds, floor) {
-  const runs = newRuns();
-  for (let row = 0; row < result.length; row += width) {
-    const end = row + width;
-    for (let place = row; place < end; place++) {
-      if ((place & 63) === 0 && ceilings[place >> 6] < floor) place += 63;
-      if (place >= end || result[place] < floor || result[place] < thresholds[owners[place]]) continue;
-      const first = place;
-      while (place < end && result[place] >= thresholds[owners[place]]) place++;
       addKept(runs, first, place);
     }
   }
@@ -235,8 +236,11 @@ function join(parts, run, other) {
   else parts[one] = two;
 }
 
-/** For the first run of each part the least and the greatest object that has a pixel in it; 0 where none has. */
-function endsOfParts(runs, parts, spans, inOrder) {
+/**
+ * For the first run of each part the least and the greatest object that has a pixel in it, of those pixels of a span up
+ * to an end that count; 0 where none has.
+ */
+function endsOfParts(runs, parts, { spans, inOrder }, counts = () => true) {
   const least = new Int32Array(runs.count), greatest = new Int32Array(runs.count);
   let run = 0;
   for (const k of inOrder) {
@@ -244,11 +248,111 @@ function endsOfParts(runs, parts, spans, inOrder) {
     while (run < runs.count && runs.ends[run] <= start) run++;
     for (let met = run; met < runs.count && runs.starts[met] < end; met++) {
       const part = parts[met];
+      if (!counts(k, Math.max(start, runs.starts[met]), Math.min(end, runs.ends[met]))) continue;
       if (least[part] === 0 || owner < least[part]) least[part] = owner;
       if (owner > greatest[part]) greatest[part] = owner;
     }
   }
   return { least, greatest };
+}
+
+// ---- Regions: the runs of the pixels of at least a value, each with the object that lights it ----
+
+const SEVERAL = -1;
+
+/**
+ * No way on which the result never rises leads from one part of the pixels of at least a value to another. So where all
+ * lit pixels in a part are those of one object it lights the whole part, and only the others have to be flooded.
+ */
+function newRegions(scene, conn, floor) {
+  const runs = runsByLevel(scene, floor), parts = connectedParts(runs, scene.width, conn);
+  const owners = ownersOfRuns(scene, runs, parts), shared = sharedRuns(runs, owners);
+  const flood = shared.pixels > 0 ? floodOf(scene, shared, conn, floor) : null;
+  return { conn, floor, runs, owners, flood, ...rangesOf(scene.result, runs) };
+}
+
+/** The one object that lights each run, 0 for nobody, or that there are several. */
+function ownersOfRuns({ mask, result, seeds }, runs, parts) {
+  const { levels } = seeds.spans, owners = new Int32Array(runs.count);
+  const isLit = (k, place, end) => {
+    while (place < end && result[place] !== Math.min(levels[k], mask[place])) place++;
+    return place < end;
+  };
+  const { least, greatest } = endsOfParts(runs, parts, seeds, isLit);
+  for (let run = 0; run < runs.count; run++) {
+    const part = parts[run];
+    owners[run] = least[part] === greatest[part] ? least[part] : SEVERAL;
+  }
+  return owners;
+}
+
+/** The runs that several objects light, and how many pixels these are. */
+function sharedRuns({ count, starts, ends }, owners) {
+  const shared = newRuns();
+  let pixels = 0;
+  for (let run = 0; run < count; run++) {
+    if (owners[run] !== SEVERAL) continue;
+    addKept(shared, starts[run], ends[run]);
+    pixels += ends[run] - starts[run];
+  }
+  return Object.assign(shared, { pixels });
+}
+
+/** A flood that went down to the floor, in the runs that several objects light; where these are much, in all. */
+function floodOf(scene, shared, conn, floor) {
+  const isWhole = shared.pixels > scene.mostShared;
+  if (isWhole && scene.flood?.conn !== conn) scene.flood = newFlood(scene, scene.seeds, conn);
+  const flood = isWhole ? scene.flood : newFlood(scene, scene.seeds, conn, shared);
+  floodDownTo(flood, scene, floor);
+  return flood;
+}
+
+/** The least and the greatest value in each run. */
+function rangesOf(result, { count, starts, ends }) {
+  const leasts = new result.constructor(count), greatests = new result.constructor(count);
+  for (let run = 0; run < count; run++) {
+    let least = result[starts[run]], greatest = least;
+    for (let place = starts[run] + 1, end = ends[run]; place < end; place++) {
+      const value = result[place];
+      if (value < least) least = value;
+      else if (value > greatest) greatest = value;
+    }
+    leasts[run] = least;
+    greatests[run] = greatest;
+  }
+  return { leasts, greatests };
+}
+
+/** The runs of the pixels of at least what is kept of their owners, which is nowhere below the floor. */
+function runsByOwner({ result }, { runs, owners, flood, leasts, greatests }, thresholds) {
+  const kept = newRuns();
+  for (let run = 0; run < runs.count; run++) {
+    const owner = owners[run], start = runs.starts[run], end = runs.ends[run], threshold = thresholds[owner];
+    if (owner === SEVERAL) keepByPixels(kept, result, flood, thresholds, start, end);
+    else if (leasts[run] >= threshold) addKept(kept, start, end);
+    else if (greatests[run] >= threshold) keepFrom(kept, result, threshold, start, end);
+  }
+  return kept;
+}
+
+function keepFrom(kept, result, threshold, start, end) {
+  for (let place = start; place < end; place++) {
+    if (result[place] < threshold) continue;
+    const first = place;
+    while (place < end && result[place] >= threshold) place++;
+    addKept(kept, first, place);
+  }
+}
+
+/** Keeps by the owner of each pixel. One that is still open is nobody's. */
+function keepByPixels(kept, result, { owners, open }, thresholds, start, end) {
+  const isKept = place => owners[place] !== open && result[place] >= thresholds[owners[place]];
+  for (let place = start; place < end; place++) {
+    if (!isKept(place)) continue;
+    const first = place;
+    while (place < end && isKept(place)) place++;
+    addKept(kept, first, place);
+  }
 }
 
 // ---- Labels ----
@@ -258,10 +362,10 @@ function endsOfParts(runs, parts, spans, inOrder) {
  * pixel in it; where it is cut, each pixel to the nearest in it, and of equally near ones to the first. Areas has the
  * pixels of each object, and lonely how many parts no object has a pixel in.
  */
-function labelsOf({ width, result }, { objects, spans, inOrder }, runs, { conn, isCut }) {
-  const numbers = numbersFor(objects, result.length), areas = new Uint32Array(objects.length + 1);
-  const parts = connectedParts(runs, width, conn), { least, greatest } = endsOfParts(runs, parts, spans, inOrder);
-  const open = numbers.BYTES_PER_ELEMENT === 2 ? 65535 : 2 ** 32 - 1;
+function labelsOf(scene, { objects, spans, inOrder }, runs, { conn, isCut }) {
+  const { width } = scene, numbers = blankNumbers(scene, objects), areas = new Uint32Array(objects.length + 1);
+  const parts = connectedParts(runs, width, conn), open = openNumber(numbers);
+  const { least, greatest } = endsOfParts(runs, parts, { spans, inOrder });
   let opened = 0, lonely = 0;
   for (let run = 0; run < runs.count; run++) {
     const part = parts[run], owner = least[part], start = runs.starts[run], end = runs.ends[run];
@@ -273,7 +377,20 @@ function labelsOf({ width, result }, { objects, spans, inOrder }, runs, { conn, 
   }
   areas[0] = 0;
   if (opened > 0) shareOut(width, spans, conn, numbers, areas, open, new Int32Array(opened));
-  return { numbers, areas, lonely };
+  return { numbers, areas, lonely, runs };
+}
+
+/** Numbers of 0: those of a labelling that nobody needs any more, in which only its runs have others, or new ones. */
+function blankNumbers(scene, objects) {
+  const { spare, result } = scene, bytes = objects.length < 65535 ? 2 : 4;
+  scene.spare = null;
+  if (spare?.numbers.byteLength !== result.length * bytes) return numbersFor(objects, result.length);
+  fillRuns(spare.numbers, 0, spare.runs);
+  return spare.numbers;
+}
+
+function fillRuns(numbers, number, { count, starts, ends }) {
+  for (let run = 0; run < count; run++) fillRun(numbers, number, starts[run], ends[run]);
 }
 
 /** Short runs are filled by hand: they are most, and a call costs more. */
@@ -335,14 +452,19 @@ function stepEight(place, width, numbers, open, queue, end) {
 
 // ---- All of it ----
 
-/** What is worked with. Seeds are made of strokes, ceilings of the result, and the flood where it is needed. */
+/**
+ * What is worked with. Seeds are made of strokes, ceilings of the result, regions and flood where they are needed. The
+ * spare is a labelling whose numbers may be used again. Where more pixels are shared than some, all are flooded.
+ */
 function newScene(width, height, mask, result) {
-  return { width, height, mask, result, ceilings: null, seeds: null, flood: null };
+  return { width, height, mask, result, ceilings: null, seeds: null, regions: null, flood: null, spare: null,
+    mostShared: 1 << 21 };
 }
 
 /**
  * The labelling of a scene with its seeds by a choice: { kind: "level", level } or { kind: "share", share }, with conn,
- * 4 or 8, and isCut. Result and strokes change by `changeScene` alone, which forgets what was made of them.
+ * 4 or 8, and isCut. Its runs are those of all pixels that are kept. The result changes by `putSamples` and strokes by
+ * `changeScene`, which is called behind either, and forgets what was made of them.
  */
 function labelling(scene, choice) {
   const { width, height, seeds } = scene;
@@ -356,13 +478,21 @@ function runsByShare(scene, { share, conn }) {
   seeds.brightest ??= brightestOf(mask, seeds.spans, seeds.objects);
   const thresholds = thresholdsOf(seeds.brightest, share);
   const floor = thresholds.reduce((one, other) => Math.min(one, other));
-  if (scene.flood?.conn !== conn) scene.flood = newFlood(scene, seeds, conn);
-  floodDownTo(scene.flood, scene, floor);
-  return runsByOwner(scene, scene.flood.owners, thresholds, floor);
+  const isThere = scene.regions?.conn === conn && scene.regions.floor <= floor;
+  if (!isThere) scene.regions = newRegions(scene, conn, floor);
+  return runsByOwner(scene, scene.regions, thresholds);
+}
+
+/** Puts samples into a box of the result. */
+function putSamples({ width, result, ceilings }, { left, top, right, bottom, samples }) {
+  for (let y = top, place = 0; y < bottom; y++, place += right - left) {
+    result.set(samples.subarray(place, place + right - left), y * width + left);
+    if (ceilings) findCeilings(result, ceilings, y * width + left, y * width + right);
+  }
 }
 
 /** Says that result or strokes of a scene are others. */
 function changeScene(scene, strokes) {
-  scene.ceilings = scene.flood = null;
+  scene.regions = scene.flood = null;
   if (strokes) scene.seeds = seedsOf(strokes, scene);
 }

@@ -18,6 +18,11 @@ function addEdit(edit) {
   edit.withdrawn = lines.filter(line => line.startsWith("withdraw ")).map(line => line.split(" ")[1]);
   outbox.push(edit);
   wake();
+  behindEvent(followOutbox);
+}
+
+/** Shows that an edit waits. */
+function followOutbox() {
   hover();
   sayBoard();
 }
