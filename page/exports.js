@@ -110,11 +110,16 @@ async function fileOf(parts, type) {
     if (performance.now() - begun < SLICE_TIME) continue;
     pieces.push(new Blob(loose.splice(0)));
     sayProgress(`${exporting.name} is being made.`, share);
-    await new Promise(behindEvent);
+    await breathe();
     stopHere();
     begun = performance.now();
   }
   return new Blob([...pieces, ...loose], { type });
+}
+
+/** Lets the page do whatever else waits for it. */
+function breathe() {
+  return new Promise(behindEvent);
 }
 
 function stopHere() {
