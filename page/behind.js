@@ -1,8 +1,13 @@
 // ---- Behind an event: what the page does once the event at hand is over ----
 
-// Where a pointer goes up, or a key goes down, and the page asks for a frame while it handles that, Chromium keeps all
-// answers of the network back until that frame is drawn. So the page asks behind the event, and what a stroke grew into
-// comes with the same frame as the stroke.
+// Where a pointer goes up, or a key down, and the page asks for a frame while it handles that, Chromium keeps all answers
+// of the network back until that frame is drawn. So behind an edit nothing is drawn for a while: what was in hand stays
+// on the screen as it is, and mostly the answer comes meanwhile.
+
+const STILL = 20;  // milliseconds behind an edit in which nothing is drawn but its answer
+
+/** Does something once the page is still no more. */
+const behindEdit = action => setTimeout(action, STILL);
 
 /** Does something behind whatever else waits for the page, without the pause that a timer makes. */
 function behindEvent(action) {

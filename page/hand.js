@@ -112,14 +112,17 @@ function pointerUp(event) {
   liftFinger(event.pointerId);
   if (hand.pointer !== event.pointerId) return;
   const { gesture, aim, hovered, isAtCorner } = hand, begun = performance.now();
-  releaseHand();
-  if (gesture) finishGesture(gesture, begun);
-  else if (isAtCorner) clickCorner();
+  hand.pointer = null;
+  emptyHand();
+  if (gesture) return finishGesture(gesture, begun);
+  if (isAtCorner) clickCorner();
   else if (aim && aim === hovered) takeBack(event.shiftKey ? strokesOfGesture(aim.gesture) : [aim]);
+  showHand();
 }
 
 function finishGesture(gesture, begun) {
   shadow.isResting = true;
+  redrawBehindEdit();
   if (gesture.tool === "eraser") erase(gesture.rows, begun);
   else if (gesture.tool === "line") finishLine(gesture, begun);
   else paint(gesture, begun);
@@ -138,12 +141,16 @@ function releaseHand() {
 
 /** Ends what the pointer was about, without a stroke. */
 function dropHand() {
+  emptyHand();
+  showHand();
+}
+
+function emptyHand() {
   hand.gesture = null;
   hand.pan = null;
   hand.stretch = null;
   hand.aim = null;
   hand.isAtCorner = false;
-  behindEvent(showHand);
 }
 
 function showHand() {

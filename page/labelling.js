@@ -263,12 +263,23 @@ const SEVERAL = -1;
 /**
  * No way on which the result never rises leads from one part of the pixels of at least a value to another. So where all
  * lit pixels in a part are those of one object it lights the whole part, and only the others have to be flooded.
+ * Regions go down further than asked, so that they serve lower shares, too, unless that is much, or shared by many.
  */
 function newRegions(scene, conn, floor) {
+  const lower = floor >> 1;
+  if (lower > scene.tooLow) {
+    const regions = regionsFrom(scene, conn, lower);
+    const { pixels, all } = regions.shared;
+    if (pixels <= scene.mostShared / 8 && all <= scene.result.length / 2) return floodShared(scene, regions);
+    scene.tooLow = lower;
+  }
+  return floodShared(scene, regionsFrom(scene, conn, floor));
+}
+
+function regionsFrom(scene, conn, floor) {
   const runs = runsByLevel(scene, floor), parts = connectedParts(runs, scene.width, conn);
-  const owners = ownersOfRuns(scene, runs, parts), shared = sharedRuns(runs, owners);
-  const flood = shared.pixels > 0 ? floodOf(scene, shared, conn, floor) : null;
-  return { conn, floor, runs, owners, flood, ...rangesOf(scene.result, runs) };
+  const owners = ownersOfRuns(scene, runs, parts);
+  return { conn, floor, runs, owners, shared: sharedRuns(runs, owners), flood: null, leasts: null, greatests: null };
 }
 
 /** The one object that lights each run, 0 for nobody, or that there are several. */
@@ -286,25 +297,26 @@ function ownersOfRuns({ mask, result, seeds }, runs, parts) {
   return owners;
 }
 
-/** The runs that several objects light, and how many pixels these are. */
+/** The runs that several objects light, how many pixels these are, and how many all are. */
 function sharedRuns({ count, starts, ends }, owners) {
   const shared = newRuns();
-  let pixels = 0;
+  let pixels = 0, all = 0;
   for (let run = 0; run < count; run++) {
+    all += ends[run] - starts[run];
     if (owners[run] !== SEVERAL) continue;
     addKept(shared, starts[run], ends[run]);
     pixels += ends[run] - starts[run];
   }
-  return Object.assign(shared, { pixels });
+  return Object.assign(shared, { pixels, all });
 }
 
-/** A flood that went down to the floor, in the runs that several objects light; where these are much, in all. */
-function floodOf(scene, shared, conn, floor) {
-  const isWhole = shared.pixels > scene.mostShared;
+/** Floods down to the floor what several objects light; where that is much, the whole picture. */
+function floodShared(scene, regions) {
+  const { conn, floor, shared } = regions, isWhole = shared.pixels > scene.mostShared;
   if (isWhole && scene.flood?.conn !== conn) scene.flood = newFlood(scene, scene.seeds, conn);
-  const flood = isWhole ? scene.flood : newFlood(scene, scene.seeds, conn, shared);
-  floodDownTo(flood, scene, floor);
-  return flood;
+  if (shared.pixels > 0) regions.flood = isWhole ? scene.flood : newFlood(scene, scene.seeds, conn, shared);
+  if (shared.pixels > 0) floodDownTo(regions.flood, scene, floor);
+  return Object.assign(regions, rangesOf(scene.result, regions.runs));
 }
 
 /** The least and the greatest value in each run. */
@@ -362,31 +374,51 @@ function keepByPixels(kept, result, { owners, open }, thresholds, start, end) {
  * pixel in it; where it is cut, each pixel to the nearest in it, and of equally near ones to the first. Areas has the
  * pixels of each object, and lonely how many parts no object has a pixel in.
  */
-function labelsOf(scene, { objects, spans, inOrder }, runs, { conn, isCut }) {
-  const { width } = scene, numbers = blankNumbers(scene, objects), areas = new Uint32Array(objects.length + 1);
-  const parts = connectedParts(runs, width, conn), open = openNumber(numbers);
-  const { least, greatest } = endsOfParts(runs, parts, { spans, inOrder });
-  let opened = 0, lonely = 0;
-  for (let run = 0; run < runs.count; run++) {
-    const part = parts[run], owner = least[part], start = runs.starts[run], end = runs.ends[run];
-    const isOpen = isCut && owner < greatest[part];
-    if (isOpen) opened += end - start;
-    else areas[owner] += end - start;
-    if (owner > 0) fillRun(numbers, isOpen ? open : owner, start, end);
-    else if (part === run) lonely++;
-  }
-  areas[0] = 0;
-  if (opened > 0) shareOut(width, spans, conn, numbers, areas, open, new Int32Array(opened));
+function labelsOf(scene, seeds, runs, { conn, isCut }) {
+  const { numbers, before } = oldNumbers(scene, seeds.objects), open = openNumber(numbers);
+  const counts = fillsOf(runs, scene.width, seeds, conn, isCut ? open : 0), { areas, opened, lonely } = counts;
+  changeRuns(numbers, before, runs, open);
+  if (opened > 0) shareOut(scene.width, seeds.spans, conn, numbers, areas, open, new Int32Array(opened));
   return { numbers, areas, lonely, runs };
 }
 
-/** Numbers of 0: those of a labelling that nobody needs any more, in which only its runs have others, or new ones. */
-function blankNumbers(scene, objects) {
+/** Finds what each run is filled with: its object, 0 where it has none, or open where several are to share it. */
+function fillsOf(runs, width, seeds, conn, open) {
+  const parts = connectedParts(runs, width, conn), { least, greatest } = endsOfParts(runs, parts, seeds);
+  const counts = { areas: new Uint32Array(seeds.objects.length + 1), opened: 0, lonely: 0 };
+  runs.fills = new Uint32Array(runs.count);
+  for (let run = 0; run < runs.count; run++) {
+    const part = parts[run], owner = least[part], length = runs.ends[run] - runs.starts[run];
+    const isOpen = open > 0 && owner < greatest[part];
+    runs.fills[run] = isOpen ? open : owner;
+    if (isOpen) counts.opened += length;
+    else if (owner > 0) counts.areas[owner] += length;
+    else if (part === run) counts.lonely++;
+  }
+  return counts;
+}
+
+/** The numbers of a labelling that nobody needs any more, with the runs that are filled in them; or new ones. */
+function oldNumbers(scene, objects) {
   const { spare, result } = scene, bytes = objects.length < 65535 ? 2 : 4;
   scene.spare = null;
-  if (spare?.numbers.byteLength !== result.length * bytes) return numbersFor(objects, result.length);
-  fillRuns(spare.numbers, 0, spare.runs);
-  return spare.numbers;
+  if (spare?.numbers.byteLength === result.length * bytes) return { numbers: spare.numbers, before: spare.runs };
+  return { numbers: numbersFor(objects, result.length), before: { count: 0, starts: [], ends: [], fills: [] } };
+}
+
+/** Fills the runs in numbers in which others are filled. Only what differs is written: mostly that is little. */
+function changeRuns(numbers, before, runs, open) {
+  const most = numbers.length;
+  for (let old = 0, run = 0, place = 0; old < before.count || run < runs.count;) {
+    const oldStart = old < before.count ? Math.max(before.starts[old], place) : most;
+    const start = run < runs.count ? Math.max(runs.starts[run], place) : most, from = Math.min(oldStart, start);
+    const oldEnd = oldStart === from ? before.ends[old] : oldStart, end = start === from ? runs.ends[run] : start;
+    const was = oldStart === from ? before.fills[old] : 0, fill = start === from ? runs.fills[run] : 0;
+    place = Math.min(oldEnd, end);
+    if (was !== fill || was === open) fillRun(numbers, fill, from, place);
+    if (old < before.count && before.ends[old] <= place) old++;
+    if (run < runs.count && runs.ends[run] <= place) run++;
+  }
 }
 
 function fillRuns(numbers, number, { count, starts, ends }) {
@@ -454,11 +486,12 @@ function stepEight(place, width, numbers, open, queue, end) {
 
 /**
  * What is worked with. Seeds are made of strokes, ceilings of the result, regions and flood where they are needed. The
- * spare is a labelling whose numbers may be used again. Where more pixels are shared than some, all are flooded.
+ * spare is a labelling whose numbers may be used again. Where more pixels are shared than some, all are flooded, and a
+ * floor of regions is too low.
  */
 function newScene(width, height, mask, result) {
   return { width, height, mask, result, ceilings: null, seeds: null, regions: null, flood: null, spare: null,
-    mostShared: 1 << 21 };
+    mostShared: 1 << 21, tooLow: 0 };
 }
 
 /**

@@ -118,7 +118,7 @@ function answerOfWorker(choice) {
     reject(new Error(event.message || "the browser lets no worker begin"));
   };
   const news = newsForWorker(), spare = takeSpare();
-  const arrays = spare ? [spare.numbers, spare.runs.starts, spare.runs.ends] : [];
+  const arrays = spare ? [spare.numbers, spare.runs.starts, spare.runs.ends, spare.runs.fills] : [];
   for (const { samples } of news.boxes) arrays.push(samples);
   labels.worker.postMessage({ news, choice, spare }, arrays.map(({ buffer }) => buffer));
   return promise;

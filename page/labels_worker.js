@@ -3,9 +3,9 @@
 // All that it runs. Its text is made of theirs, so that it needs no file of its own.
 const LABELLING_PARTS = [objectsOf, seedsOf, addSpan, placesInOrder, numbersFor, brightestOf, newFlood, floodDownTo,
   placesByValue, putLit, reachFour, reachEight, take, thresholdsOf, ceilingsOf, findCeilings, runsByLevel, newRuns,
-  addKept, connectedParts, firstOf, join, endsOfParts, newRegions, ownersOfRuns, sharedRuns, floodOf, rangesOf,
-  runsByOwner, keepFrom, keepByPixels, labelsOf, blankNumbers, fillRuns, fillRun, shareOut, stepFour, stepEight,
-  newScene, labelling, runsByShare, putSamples, changeScene, takeOpening, takeNews, listenAsWorker];
+  addKept, connectedParts, firstOf, join, endsOfParts, newRegions, regionsFrom, ownersOfRuns, sharedRuns, floodShared,
+  rangesOf, runsByOwner, keepFrom, keepByPixels, labelsOf, fillsOf, oldNumbers, changeRuns, fillRuns, fillRun, shareOut,
+  stepFour, stepEight, newScene, labelling, runsByShare, putSamples, changeScene, takeOpening, takeNews, listenAsWorker];
 const LABELLING_VALUES = `const SEVERAL = ${SEVERAL}, openNumber = ${openNumber};`;
 
 function workerText() {
@@ -30,7 +30,7 @@ function listenAsWorker() {
       held.scene.spare = data.spare;
       const { objects, ...labels } = labelling(held.scene, data.choice), { numbers, runs } = labels;
       if (objects !== held.told) labels.objects = held.told = objects;  // (which take their time where they are many)
-      postMessage({ labels }, [numbers, runs.starts, runs.ends].map(({ buffer }) => buffer));
+      postMessage({ labels }, [numbers, runs.starts, runs.ends, runs.fills].map(({ buffer }) => buffer));
     } catch (fault) {
       postMessage({ fault: String(fault) });
     }

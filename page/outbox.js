@@ -18,11 +18,10 @@ function addEdit(edit) {
   edit.withdrawn = lines.filter(line => line.startsWith("withdraw ")).map(line => line.split(" ")[1]);
   outbox.push(edit);
   wake();
-  behindEvent(followOutbox);
+  behindEdit(() => { if (outbox.includes(edit)) showWaiting(); });
 }
 
-/** Shows that an edit waits. */
-function followOutbox() {
+function showWaiting() {
   hover();
   sayBoard();
 }
