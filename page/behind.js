@@ -1,8 +1,8 @@
 // ---- Behind an event: what the page does once the event at hand is over ----
 
-// Where a pointer goes up, or a key down, and the page asks for a frame while it handles that, Chromium keeps all answers
-// of the network back until that frame is drawn. So behind an edit nothing is drawn for a while: what was in hand stays
-// on the screen as it is, and mostly the answer comes meanwhile.
+// Where a pointer goes up, or a key down, and the page asks for a frame while it handles that, Chromium keeps all
+// answers of the network back until that frame is drawn. So behind an edit nothing is drawn for a while: what was in
+// hand stays on the screen as it is, and mostly the answer comes meanwhile.
 
 const STILL = 20;  // milliseconds behind an edit in which nothing is drawn but its answer
 

@@ -162,7 +162,7 @@ function sayProgress(text, share) {
 
 const nameOfName = () => `picture name ${board.fingerprint}`;
 
-/** The name of the picture, which the program does not tell: what was typed, or one by the fingerprint of the mask. */
+/** The name of the picture: what was typed, or that of the mask's file, or one by the fingerprint of the mask. */
 const pictureName = () => element("pictureName").value.trim() || element("pictureName").placeholder;
 
 /** A name without its ending, and without signs that names of files have not everywhere. */
@@ -173,7 +173,7 @@ function stemOf(name) {
 
 /** Takes up the name that was typed before for this mask. */
 function openExports() {
-  element("pictureName").placeholder = `mask-${board.fingerprint.slice(0, 8)}.pgm`;
+  element("pictureName").placeholder = board.name || `mask-${board.fingerprint.slice(0, 8)}.pgm`;
   element("pictureName").value = local.get(nameOfName()) ?? "";
 }
 

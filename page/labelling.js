@@ -269,8 +269,8 @@ function newRegions(scene, conn, floor) {
   const lower = floor >> 1;
   if (lower > scene.tooLow) {
     const regions = regionsFrom(scene, conn, lower);
-    const { pixels, all } = regions.shared;
-    if (pixels <= scene.mostShared / 8 && all <= scene.result.length / 2) return floodShared(scene, regions);
+    const isMuch = regions.shared.pixels > scene.mostShared / 8 || pixelsIn(regions.runs) > scene.result.length / 2;
+    if (!isMuch) return floodShared(scene, regions);
     scene.tooLow = lower;
   }
   return floodShared(scene, regionsFrom(scene, conn, floor));
@@ -297,17 +297,11 @@ function ownersOfRuns({ mask, result, seeds }, runs, parts) {
   return owners;
 }
 
-/** The runs that several objects light, how many pixels these are, and how many all are. */
+/** The runs that several objects light, and how many pixels these are. */
 function sharedRuns({ count, starts, ends }, owners) {
   const shared = newRuns();
-  let pixels = 0, all = 0;
-  for (let run = 0; run < count; run++) {
-    all += ends[run] - starts[run];
-    if (owners[run] !== SEVERAL) continue;
-    addKept(shared, starts[run], ends[run]);
-    pixels += ends[run] - starts[run];
-  }
-  return Object.assign(shared, { pixels, all });
+  for (let run = 0; run < count; run++) if (owners[run] === SEVERAL) addKept(shared, starts[run], ends[run]);
+  return Object.assign(shared, { pixels: pixelsIn(shared) });
 }
 
 /** Floods down to the floor what several objects light; where that is much, the whole picture. */
@@ -333,6 +327,30 @@ function rangesOf(result, { count, starts, ends }) {
     greatests[run] = greatest;
   }
   return { leasts, greatests };
+}
+
+/** The runs of the pixels of at least a half of a level, or of the level where these are much, with their values. */
+function newLevels(scene, level) {
+  const lower = Math.max(level >> 1, 1), runs = runsByLevel(scene, lower);
+  const isMuch = pixelsIn(runs) > scene.result.length / 2;
+  const levels = isMuch ? { floor: level, runs: runsByLevel(scene, level) } : { floor: lower, runs };
+  return Object.assign(levels, rangesOf(scene.result, levels.runs));
+}
+
+function pixelsIn({ count, starts, ends }) {
+  let pixels = 0;
+  for (let run = 0; run < count; run++) pixels += ends[run] - starts[run];
+  return pixels;
+}
+
+/** The runs of the pixels of at least a level, which is nowhere below the floor. */
+function runsFrom({ result }, { runs, leasts, greatests }, level) {
+  const kept = newRuns();
+  for (let run = 0; run < runs.count; run++) {
+    if (leasts[run] >= level) addKept(kept, runs.starts[run], runs.ends[run]);
+    else if (greatests[run] >= level) keepFrom(kept, result, level, runs.starts[run], runs.ends[run]);
+  }
+  return kept;
 }
 
 /** The runs of the pixels of at least what is kept of their owners, which is nowhere below the floor. */
@@ -485,13 +503,13 @@ function stepEight(place, width, numbers, open, queue, end) {
 // ---- All of it ----
 
 /**
- * What is worked with. Seeds are made of strokes, ceilings of the result, regions and flood where they are needed. The
+ * What is worked with. Seeds are made of strokes, ceilings of the result; levels, regions and flood where needed. The
  * spare is a labelling whose numbers may be used again. Where more pixels are shared than some, all are flooded, and a
  * floor of regions is too low.
  */
 function newScene(width, height, mask, result) {
-  return { width, height, mask, result, ceilings: null, seeds: null, regions: null, flood: null, spare: null,
-    mostShared: 1 << 21, tooLow: 0 };
+  return { width, height, mask, result, ceilings: null, levels: null, seeds: null, regions: null, flood: null,
+    spare: null, mostShared: 1 << 21, tooLow: 0 };
 }
 
 /**
@@ -502,8 +520,13 @@ function newScene(width, height, mask, result) {
 function labelling(scene, choice) {
   const { width, height, seeds } = scene;
   scene.ceilings ??= ceilingsOf(scene.result);
-  const runs = choice.kind === "level" ? runsByLevel(scene, choice.level) : runsByShare(scene, choice);
+  const runs = choice.kind === "level" ? runsAbove(scene, choice.level) : runsByShare(scene, choice);
   return { width, height, objects: seeds.objects, ...labelsOf(scene, seeds, runs, choice) };
+}
+
+function runsAbove(scene, level) {
+  if (!(scene.levels?.floor <= level)) scene.levels = newLevels(scene, level);
+  return runsFrom(scene, scene.levels, level);
 }
 
 function runsByShare(scene, { share, conn }) {
@@ -526,6 +549,6 @@ function putSamples({ width, result, ceilings }, { left, top, right, bottom, sam
 
 /** Says that result or strokes of a scene are others. */
 function changeScene(scene, strokes) {
-  scene.regions = scene.flood = null;
+  scene.levels = scene.regions = scene.flood = null;
   if (strokes) scene.seeds = seedsOf(strokes, scene);
 }

@@ -4,8 +4,9 @@
 const LABELLING_PARTS = [objectsOf, seedsOf, addSpan, placesInOrder, numbersFor, brightestOf, newFlood, floodDownTo,
   placesByValue, putLit, reachFour, reachEight, take, thresholdsOf, ceilingsOf, findCeilings, runsByLevel, newRuns,
   addKept, connectedParts, firstOf, join, endsOfParts, newRegions, regionsFrom, ownersOfRuns, sharedRuns, floodShared,
-  rangesOf, runsByOwner, keepFrom, keepByPixels, labelsOf, fillsOf, oldNumbers, changeRuns, fillRuns, fillRun, shareOut,
-  stepFour, stepEight, newScene, labelling, runsByShare, putSamples, changeScene, takeOpening, takeNews, listenAsWorker];
+  rangesOf, newLevels, pixelsIn, runsFrom, runsByOwner, keepFrom, keepByPixels, labelsOf, fillsOf, oldNumbers,
+  changeRuns, fillRuns, fillRun, shareOut, stepFour, stepEight, newScene, labelling, runsAbove, runsByShare, putSamples,
+  changeScene, takeOpening, takeNews, listenAsWorker];
 const LABELLING_VALUES = `const SEVERAL = ${SEVERAL}, openNumber = ${openNumber};`;
 
 function workerText() {
