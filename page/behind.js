@@ -4,7 +4,7 @@
 // answers of the network back until that frame is drawn. So behind an edit nothing is drawn for a while: what was in
 // hand stays on the screen as it is, and mostly the answer comes meanwhile.
 
-const STILL = 20;  // milliseconds behind an edit in which nothing is drawn but its answer
+const STILL = 50;  // milliseconds behind an edit in which nothing is drawn but its answer
 
 /** Does something once the page is still no more. */
 const behindEdit = action => setTimeout(action, STILL);

@@ -115,8 +115,11 @@ function pointerUp(event) {
   hand.pointer = null;
   emptyHand();
   if (gesture) return finishGesture(gesture, begun);
+  if (aim && aim === hovered) {
+    takeBack(event.shiftKey ? strokesOfGesture(aim.gesture) : [aim]);
+    return behindEdit(showHand);
+  }
   if (isAtCorner) clickCorner();
-  else if (aim && aim === hovered) takeBack(event.shiftKey ? strokesOfGesture(aim.gesture) : [aim]);
   showHand();
 }
 
