@@ -222,7 +222,7 @@ def refusals(sitting):
     sitting.program.stop()
     page.click("exportState")
     told(page, "does not answer")
-    page.tab.wait("silence.failures > 0")
+    page.tab.wait("silence.failures > 0 && exporting.name === ''")
     lines = sitting.download(page, "exportStrokes", f"{page.stem()}-strokes.txt").decode().splitlines()
     check(lines[1:] == page.strokes(), "while the program is away the strokes can be saved")
 
