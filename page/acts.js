@@ -20,7 +20,7 @@ function paint(gesture, begun) {
   const runs = runsOf(gesture.rows);
   if (runs.length === 0 || !letsPaint()) return false;
   const level = String(limited(brush.level ?? highestUnder(runs), 1, MOST_LEVEL));
-  element("level").value = level;
+  behindEdit(() => { element("level").value = level; });
   const strokes = shapesOf(gesture, runs).map(shape => ({ ...shape, level, inClass: brush.inClass }));
   return perform([sideToCome(strokes)], begun);
 }

@@ -1,6 +1,6 @@
 // ---- Drawing: once a frame, what was asked for ----
 
-const asked = { picture: false, frame: false };
+const asked = { picture: false, frame: false, frames: 0 };
 
 function redraw() {
   asked.picture = true;
@@ -13,8 +13,15 @@ function redrawOverlay() {
   requestAnimationFrame(drawFrame);
 }
 
+/** Asks for a frame in a while, unless one is drawn before. */
+function redrawBehindEdit() {
+  const { frames } = asked;
+  behindEdit(() => { if (asked.frames === frames) redrawOverlay(); });
+}
+
 function drawFrame() {
   asked.frame = false;
+  asked.frames++;
   if (devicePixelRatio !== sight.ratio) resize();
   if (asked.picture) drawPicture();
   asked.picture = false;

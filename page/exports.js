@@ -117,13 +117,9 @@ async function fileOf(parts, type) {
   return new Blob([...pieces, ...loose], { type });
 }
 
-/** Goes on behind whatever else waits for the page, without the pause that a timer makes. */
+/** Lets the page do whatever else waits for it. */
 function breathe() {
-  return new Promise(resolve => {
-    const { port1, port2 } = new MessageChannel();
-    port1.onmessage = () => { port1.close(); resolve(); };
-    port2.postMessage(null);
-  });
+  return new Promise(behindEvent);
 }
 
 function stopHere() {
@@ -166,7 +162,7 @@ function sayProgress(text, share) {
 
 const nameOfName = () => `picture name ${board.fingerprint}`;
 
-/** The name of the picture, which the program does not tell: what was typed, or one by the fingerprint of the mask. */
+/** The name of the picture: what was typed, or that of the mask's file, or one by the fingerprint of the mask. */
 const pictureName = () => element("pictureName").value.trim() || element("pictureName").placeholder;
 
 /** A name without its ending, and without signs that names of files have not everywhere. */
@@ -177,7 +173,7 @@ function stemOf(name) {
 
 /** Takes up the name that was typed before for this mask. */
 function openExports() {
-  element("pictureName").placeholder = `mask-${board.fingerprint.slice(0, 8)}.pgm`;
+  element("pictureName").placeholder = board.name || `mask-${board.fingerprint.slice(0, 8)}.pgm`;
   element("pictureName").value = local.get(nameOfName()) ?? "";
 }
 

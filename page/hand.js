@@ -112,14 +112,20 @@ function pointerUp(event) {
   liftFinger(event.pointerId);
   if (hand.pointer !== event.pointerId) return;
   const { gesture, aim, hovered, isAtCorner } = hand, begun = performance.now();
-  releaseHand();
-  if (gesture) finishGesture(gesture, begun);
-  else if (isAtCorner) clickCorner();
-  else if (aim && aim === hovered) takeBack(event.shiftKey ? strokesOfGesture(aim.gesture) : [aim]);
+  hand.pointer = null;
+  emptyHand();
+  if (gesture) return finishGesture(gesture, begun);
+  if (aim && aim === hovered) {
+    takeBack(event.shiftKey ? strokesOfGesture(aim.gesture) : [aim]);
+    return behindEdit(showHand);
+  }
+  if (isAtCorner) clickCorner();
+  showHand();
 }
 
 function finishGesture(gesture, begun) {
   shadow.isResting = true;
+  redrawBehindEdit();
   if (gesture.tool === "eraser") erase(gesture.rows, begun);
   else if (gesture.tool === "line") finishLine(gesture, begun);
   else paint(gesture, begun);
@@ -138,11 +144,19 @@ function releaseHand() {
 
 /** Ends what the pointer was about, without a stroke. */
 function dropHand() {
+  emptyHand();
+  showHand();
+}
+
+function emptyHand() {
   hand.gesture = null;
   hand.pan = null;
   hand.stretch = null;
   hand.aim = null;
   hand.isAtCorner = false;
+}
+
+function showHand() {
   showCursor();
   redrawOverlay();
 }

@@ -9,6 +9,7 @@ const labels = {
   worker: null, asked: 0,   // and when it was asked, 0 while it is not at work
   isWanted: false,          // something changed since it was asked
   shown: null, stamp: 0,    // the last labelling, and how many there were
+  spare: null,              // the one before, whose numbers the worker takes for the next one
   classes: new Set(),       // of its objects
   boxes: new Map(), tags: new Set(), isAnew: true,  // news that the worker does not have
   newsFrom: 0, timer: 0,    // since when there are, and what waits for their end
@@ -77,6 +78,8 @@ async function askWorker() {
   const waiting = board.isQuiet ? labels.waiting.splice(0) : [];
   try {
     const made = await answerOfWorker({ ...labels.choice, conn: labels.conn || 4 });
+    labels.spare = labels.shown?.isGivenAway ? null : labels.shown;
+    made.isGivenAway = waiting.length > 0;
     showLabelling(made);
     for (const { resolve } of waiting) resolve(made);
   } catch (fault) {
@@ -114,9 +117,18 @@ function answerOfWorker(choice) {
     event.preventDefault();
     reject(new Error(event.message || "the browser lets no worker begin"));
   };
-  const news = newsForWorker();
-  labels.worker.postMessage({ news, choice }, news.boxes.map(box => box.samples.buffer));
+  const news = newsForWorker(), spare = takeSpare();
+  const arrays = spare ? [spare.numbers, spare.runs.starts, spare.runs.ends, spare.runs.fills] : [];
+  for (const { samples } of news.boxes) arrays.push(samples);
+  labels.worker.postMessage({ news, choice, spare }, arrays.map(({ buffer }) => buffer));
   return promise;
+}
+
+/** The numbers and runs of a labelling that is shown no more, and that nobody was given. */
+function takeSpare() {
+  const { spare } = labels;
+  labels.spare = null;
+  return spare && { numbers: spare.numbers, runs: spare.runs };
 }
 
 function openWorker() {

@@ -3,7 +3,8 @@
 const REGION_ALPHA = 150, BORDER = packed([0, 0, 0], 225);
 const OWN_LIGHTNESSES = [.62, .47, .75], OWN_STEP = 137.508;  // degrees of hue from number to number
 const layer = document.createElement("canvas"), layerContext = layer.getContext("2d");
-let layerOf = "";  // what the layer was drawn for
+let layerImage = null;  // its pixels
+let layerOf = "";       // what the layer was drawn for
 
 /** Draws the regions over the picture, from a layer that is drawn anew where something of it changed. */
 function drawLabels() {
@@ -39,7 +40,8 @@ function ownColour(number) {
 
 function drawLayer(width, height, colours) {
   if (layer.width !== width || layer.height !== height) Object.assign(layer, { width, height });
-  const image = layerContext.createImageData(width, height), pixels = new Uint32Array(image.data.buffer);
+  if (layerImage?.width !== width || layerImage.height !== height) layerImage = new ImageData(width, height);
+  const image = layerImage, pixels = new Uint32Array(image.data.buffer);
   const columns = placesOnScreen(width, sight.left, board.width);
   const rows = placesOnScreen(height, sight.top, board.height);
   let above = new Uint32Array(width), here = new Uint32Array(width);
@@ -54,10 +56,12 @@ function drawLayer(width, height, colours) {
 
 /** For each place on the screen, across or down, the picture's, or -1 beside the picture. */
 function placesOnScreen(count, start, end) {
-  return Int32Array.from({ length: count }, (_, place) => {
-    const found = Math.floor((place + .5 - Math.round(start)) / sight.zoom);
-    return found >= 0 && found < end ? found : -1;
-  });
+  const places = new Int32Array(count), { zoom } = sight, first = Math.round(start);
+  for (let place = 0; place < count; place++) {
+    const found = Math.floor((place + .5 - first) / zoom);
+    places[place] = found >= 0 && found < end ? found : -1;
+  }
+  return places;
 }
 
 /** The labels of a line of the screen. */

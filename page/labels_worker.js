@@ -2,11 +2,16 @@
 
 // All that it runs. Its text is made of theirs, so that it needs no file of its own.
 const LABELLING_PARTS = [objectsOf, seedsOf, addSpan, placesInOrder, numbersFor, brightestOf, newFlood, floodDownTo,
-  placesByValue, putLit, reachFour, reachEight, take, thresholdsOf, ceilingsOf, runsByLevel, runsByOwner, newRuns,
-  addKept, connectedParts, firstOf, join, endsOfParts, labelsOf, fillRun, shareOut, stepFour, stepEight, newScene,
-  labelling, runsByShare, changeScene, takeOpening, takeNews, listenAsWorker];
+  placesByValue, putLit, reachFour, reachEight, take, thresholdsOf, ceilingsOf, findCeilings, runsByLevel, newRuns,
+  addKept, connectedParts, firstOf, join, endsOfParts, newRegions, regionsFrom, ownersOfRuns, sharedRuns, floodShared,
+  rangesOf, newLevels, pixelsIn, runsFrom, runsByOwner, keepFrom, keepByPixels, labelsOf, fillsOf, oldNumbers,
+  changeRuns, fillRuns, fillRun, shareOut, stepFour, stepEight, newScene, labelling, runsAbove, runsByShare, putSamples,
+  changeScene, takeOpening, takeNews, listenAsWorker];
+const LABELLING_VALUES = `const SEVERAL = ${SEVERAL}, openNumber = ${openNumber};`;
 
-const workerText = () => ['"use strict";', ...LABELLING_PARTS.map(String), "listenAsWorker();"].join("\n\n");
+function workerText() {
+  return ['"use strict";', LABELLING_VALUES, ...LABELLING_PARTS.map(String), "listenAsWorker();"].join("\n\n");
+}
 
 function newLabelsWorker() {
   const address = URL.createObjectURL(new Blob([workerText()], { type: "text/javascript" }));
@@ -23,9 +28,10 @@ function listenAsWorker() {
       if (data.opening) takeOpening(held, data.opening);
       if (data.news) takeNews(held, data.news);
       if (!data.choice) return;
-      const { objects, ...labels } = labelling(held.scene, data.choice);
+      held.scene.spare = data.spare;
+      const { objects, ...labels } = labelling(held.scene, data.choice), { numbers, runs } = labels;
       if (objects !== held.told) labels.objects = held.told = objects;  // (which take their time where they are many)
-      postMessage({ labels }, [labels.numbers.buffer]);
+      postMessage({ labels }, [numbers, runs.starts, runs.ends, runs.fills].map(({ buffer }) => buffer));
     } catch (fault) {
       postMessage({ fault: String(fault) });
     }
@@ -40,11 +46,7 @@ function takeOpening(held, { width, height, mask }) {
 /** Takes boxes of the result with their samples, and strokes that came or went. */
 function takeNews({ scene, strokes }, { boxes, came, gone, isAnew }) {
   if (isAnew) strokes.clear();
-  for (const { left, top, right, bottom, samples } of boxes) {
-    for (let y = top, place = 0; y < bottom; y++, place += right - left) {
-      scene.result.set(samples.subarray(place, place + right - left), y * scene.width + left);
-    }
-  }
+  for (const box of boxes) putSamples(scene, box);
   for (const tag of gone) strokes.delete(tag);
   for (const stroke of came) strokes.set(stroke.tag, stroke);
   const areOthers = isAnew || came.length + gone.length > 0;

@@ -18,6 +18,11 @@ function addEdit(edit) {
   edit.withdrawn = lines.filter(line => line.startsWith("withdraw ")).map(line => line.split(" ")[1]);
   outbox.push(edit);
   wake();
+  if (nextEdit() === undefined) showWaiting();  // (no answer comes soon)
+  else behindEdit(() => { if (outbox.includes(edit)) showWaiting(); });
+}
+
+function showWaiting() {
   hover();
   sayBoard();
 }

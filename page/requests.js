@@ -11,7 +11,7 @@ class Unanswered extends Error {
   }
 }
 
-/** The status and the bytes of an answer. With each piece of it the time begins anew, and `told` has its size. */
+/** The status, headers and bytes of an answer. With each piece of it the time begins anew, and `told` has its size. */
 async function request(path, options = {}, told = () => {}) {
   const controller = new AbortController(), sent = options.body?.length ?? 0;
   const giveUpIn = milliseconds => setTimeout(() => controller.abort(), milliseconds);
@@ -19,7 +19,8 @@ async function request(path, options = {}, told = () => {}) {
   try {
     const response = await fetch(path, { cache: "no-store", signal: controller.signal, ...options });
     const total = Number(response.headers.get("Content-Length"));
-    return { status: response.status, bytes: await readPieces(response, read => {
+    const { status, headers } = response;
+    return { status, headers, bytes: await readPieces(response, read => {
       clearTimeout(limit);
       limit = giveUpIn(PATIENCE);
       told(read, total);
@@ -58,4 +59,4 @@ function bytesOf({ status, bytes }) {
   return bytes;
 }
 
-const fetchBytes = async (path, told) => bytesOf(await request(path, {}, told));
+const fetchBytes = async path => bytesOf(await request(path));

@@ -36,14 +36,15 @@ function whyNotOpen(fault) {
 }
 
 async function open() {
-  const [file, news] = await Promise.all([loadPart("mask"), loadPart("changes?run=0&since=0")]);
-  openBoard(readImage(file), await fingerprintOf(file));
+  const [mask, news] = await Promise.all([loadPart("mask"), loadPart("changes?run=0&since=0")]);
+  const name = nameInHeader(mask.headers.get("Content-Disposition"));
+  openBoard(readImage(mask.bytes), await fingerprintOf(mask.bytes), name);
   board.isOpen = true;
   resize();
   fit();
   setLevel(null);
   recallActs();
-  takeAnswer(readAnswer(news));
+  takeAnswer(readAnswer(news.bytes));
   recallEdits();
   takeAlong();
   sayBoard();
@@ -57,12 +58,14 @@ async function open() {
 const loads = new Map();  // of each part that is needed to begin, how many bytes came, and of how many
 
 /** Fetches a part of what is needed to begin, and says how much is there. */
-function loadPart(path) {
-  return fetchBytes(path, (read, total) => {
+async function loadPart(path) {
+  const answer = await request(path, {}, (read, total) => {
     loads.set(path, [read, total]);
     const [come, all] = [0, 1].map(k => [...loads.values()].reduce((sum, sizes) => sum + sizes[k], 0) / 1e6);
     sayIn("message", `Loading: ${come.toFixed(1)} of ${all.toFixed(1)} MB`);
   });
+  bytesOf(answer);
+  return answer;
 }
 
 /** The start of the SHA-256 of a file, in hexadecimal. */

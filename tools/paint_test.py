@@ -190,8 +190,9 @@ def join_long_text(sitting):
 def save_copy(sitting):
     """The state file as a download."""
     page = sitting.first
-    name = page.tab.run("element('save').download")
-    check(name == f"mask-{page.tab.run('board.fingerprint')[:8]}.spd", "a copy is called by the mask's fingerprint")
+    name, told = page.tab.run("element('save').download"), sitting.program.told_name()
+    expected = told.removesuffix(".pgm") if told else f"mask-{page.tab.run('board.fingerprint')[:8]}"
+    check(name == f"{expected}.spd", "a copy is called as the mask's file, or else by the mask's fingerprint")
     saved = sitting.download(page, "save", name)
     check(saved == sitting.program.get("state") == sitting.program.state.read_bytes(),
           "the download is the state file")

@@ -44,11 +44,6 @@ def begin(sitting, mask, state, strokes=STROKES):
     return page
 
 
-def stem(page):
-    """What the names of files begin with, where no name was typed."""
-    return "mask-" + page.tab.run("board.fingerprint")[:8]
-
-
 def told(page, words):
     """Waits until the foot of the page says something, as a fault."""
     page.tab.wait(f"element('message').textContent.includes({json.dumps(words)})")
@@ -61,14 +56,14 @@ def result_and_strokes(sitting):
         page, program = begin(sitting, mask, f"result-{mask}.spd"), sitting.program
         sitting.look(f"exports-{mask}")
         image = readers.read_image(program.get("image"))
-        pgm = sitting.download(page, "exportResultPgm", f"{stem(page)}-result.pgm")
+        pgm = sitting.download(page, "exportResultPgm", f"{page.stem()}-result.pgm")
         check(pgm == program.get("image"), f"{mask}: the PGM is the program's")
-        png = sitting.download(page, "exportResultPng", f"{stem(page)}-result.png")
+        png = sitting.download(page, "exportResultPng", f"{page.stem()}-result.png")
         bits = 8 if image.maxval < 256 else 16
         check(read_png(png) == (image.width, image.height, bits, image.samples), f"{mask}: so are the PNG's samples")
-        state = sitting.download(page, "exportState", f"{stem(page)}.spd")
+        state = sitting.download(page, "exportState", f"{page.stem()}.spd")
         check(state == program.get("state"), f"{mask}: the state file is the program's")
-        lines = sitting.download(page, "exportStrokes", f"{stem(page)}-strokes.txt").decode()
+        lines = sitting.download(page, "exportStrokes", f"{page.stem()}-strokes.txt").decode()
         first, rest = lines.split("\n", 1)
         check(first == f"; edits for the mask {page.tab.run('board.fingerprint')}", f"{mask}: lines tell their mask")
         check(rest.encode() == program.get("strokes"), f"{mask}: and are the program's")
@@ -100,12 +95,12 @@ def labels(sitting):
         for button, ending, bits, read in (("exportLabelsPng", "-labels.png", 16, read_png),
                                            ("exportLabelsTiff", "-labels.tif", 16, read_tiff),
                                            ("exportLabelsTiff32", "-labels-32.tif", 32, read_tiff)):
-            found = read(sitting.download(page, button, stem(page) + ending))
+            found = read(sitting.download(page, button, page.stem() + ending))
             check(found == (*size, bits, shown["numbers"]), f"{mask}: {ending} has the labels that are shown")
-        table = sitting.download(page, "exportTable", f"{stem(page)}-labels.csv").decode()
+        table = sitting.download(page, "exportTable", f"{page.stem()}-labels.csv").decode()
         check_table(list(csv.DictReader(io.StringIO(table, newline=""), strict=True)), shown, image, mask)
-        coco = sitting.download(page, "exportCoco", f"{stem(page)}-coco.json")
-        check_coco(json.loads(coco), shown, image, f"{stem(page)}.pgm", mask)
+        coco = sitting.download(page, "exportCoco", f"{page.stem()}-coco.json")
+        check_coco(json.loads(coco), shown, image, f"{page.stem()}.pgm", mask)
 
 
 def pixels_by_label(shown, width):
@@ -202,7 +197,7 @@ def while_a_file_is_made(sitting):
     page.reload()
     page.settle(2)
     page.tab.key("e")
-    width, height, bits, samples = read_png(sitting.download(page, "exportResultPng", f"{stem(page)}-result.png"))
+    width, height, bits, samples = read_png(sitting.download(page, "exportResultPng", f"{page.stem()}-result.png"))
     image = readers.read_image(sitting.program.get("image"))
     check((width, height, bits, samples) == (1000, 1000, 16, image.samples), "made anew it has both strokes")
 
@@ -219,7 +214,7 @@ def refusals(sitting):
         page.tab.run("say(''), 0")
         page.click(button)
         told(page, "go up to 70000")
-    *_, bits, samples = read_tiff(sitting.download(page, "exportLabelsTiff32", f"{stem(page)}-labels-32.tif"))
+    *_, bits, samples = read_tiff(sitting.download(page, "exportLabelsTiff32", f"{page.stem()}-labels-32.tif"))
     check(bits == 32 and set(samples) == {70000}, "a TIFF of 32 bits has labels above 65535")
     page.tab.run(NO_MEMORY)
     page.click("exportTable")
@@ -227,8 +222,8 @@ def refusals(sitting):
     sitting.program.stop()
     page.click("exportState")
     told(page, "does not answer")
-    page.tab.wait("silence.failures > 0")
-    lines = sitting.download(page, "exportStrokes", f"{stem(page)}-strokes.txt").decode().splitlines()
+    page.tab.wait("silence.failures > 0 && exporting.name === ''")
+    lines = sitting.download(page, "exportStrokes", f"{page.stem()}-strokes.txt").decode().splitlines()
     check(lines[1:] == page.strokes(), "while the program is away the strokes can be saved")
 
 

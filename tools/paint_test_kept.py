@@ -70,7 +70,8 @@ def full_storage(sitting):
     with sitting.program.paused():
         page.drag((240, 70))
         page.tab.wait("element('storage').textContent.includes('nothing outlives a reload')")
-        check(page.tab.text("kept") == "1 not kept yet", "where storage is full the page says what is lost")
+        page.tab.wait("element('kept').textContent === '1 not kept yet'")
+        check(True, "where storage is full the page says what is lost")
     page.settle(count + 1)
     check(page.tab.text("storage") == "", "and no more once all is kept")
     page.tab.run(EMPTY_STORAGE)

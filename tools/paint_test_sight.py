@@ -157,19 +157,22 @@ def pen(sitting):
 
 
 def name_of_the_picture(sitting):
-    """A name that is typed stands in the title and the footer, and what is saved is called by it."""
-    page, plain = sitting.first, sitting.first.tab.run("document.title")
+    """The name of the mask's file, or one that is typed, stands in the title and the footer, and what is saved is
+    called by it."""
+    page, told, size = sitting.first, sitting.program.told_name(), "Seedpaint 320 × 256"
+    shown = [f"{told} · {size}" if told else size, told]
+    check([page.tab.run("document.title"), page.tab.text("name")] == shown, f"what the program tells: '{told}'")
     page.click("exportsShown")
     page.click("pictureName")
     page.tab.type("wells: 7.tif")
     page.click("exportsShown")
-    check(page.tab.run("document.title") == f"wells: 7.tif · {plain}", "a name that is typed stands in the title")
+    check(page.tab.run("document.title") == f"wells: 7.tif · {size}", "a name that is typed stands in the title")
     check(page.tab.text("name") == "wells: 7.tif", "and in the footer")
     check(sitting.download(page, "save", "wells_ 7.spd") == sitting.program.get("state"), "a copy is called by it")
     page.reload()
     check(page.tab.text("name") == "wells: 7.tif", "a reload keeps it")
     page.tab.run("element('pictureName').value = '', keepPictureName()")
-    check(page.tab.run("document.title") == plain and page.tab.text("name") == "", "and it can be taken away")
+    check([page.tab.run("document.title"), page.tab.text("name")] == shown, "and it can be taken away")
 
 
 def deep_mask(sitting):

@@ -38,6 +38,7 @@ import subprocess
 import sys
 import tempfile
 import time
+import urllib.parse
 import urllib.request
 
 from browser import SHIFT, Browser, Fault, be_patient, wait_for
@@ -104,6 +105,12 @@ class Program:
         finally:
             self.process.send_signal(signal.SIGCONT)
 
+    def told_name(self):
+        """The name of the mask's file, where it tells one."""
+        with urllib.request.urlopen(self.address + "mask") as answer:
+            disposition = answer.headers.get("Content-Disposition", "")
+        return urllib.parse.unquote(disposition.partition("filename*=UTF-8''")[2])
+
     def get(self, path):
         """What it answers to GET."""
         with urllib.request.urlopen(self.address + path) as answer:
@@ -152,6 +159,10 @@ class Page:
         """The live strokes that the page knows, as lines."""
         return self.tab.run("[...board.strokes.values()].map(({ kind, tag, level, shape }) =>"
                             " `${kind} ${tag} ${level} ${shape}`)")
+
+    def stem(self):
+        """What the names of its files begin with, where none was typed."""
+        return self.tab.run("board.name.replace(/\\.pgm$/, '') || `mask-${board.fingerprint.slice(0, 8)}`")
 
     def author(self):
         """What the tags of its own strokes begin with, as its cookie says."""

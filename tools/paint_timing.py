@@ -106,8 +106,10 @@ def place_discs(client, cells):
 # ---- Figures ----
 
 def spread(milliseconds):
-    """Median, 95 % and the most, of a list."""
+    """Median, 95 % and the most, of a list; or that it has none."""
     ranked = sorted(milliseconds)
+    if not ranked:
+        return "none seen | |"
     at = [statistics.median(ranked), ranked[min(len(ranked) - 1, int(0.95 * len(ranked)))], ranked[-1]]
     return " | ".join(f"{value:.1f}" for value in at)
 

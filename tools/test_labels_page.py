@@ -102,9 +102,10 @@ def by_tool(mask, result, seeds, choice):
 
 def choices_for(chance, result, conn):
     """Choices of each kind, joined and cut."""
-    level = chance.randint(1, max(int(result.max()), 1))
-    share = chance.choice((0.01, 0.1, 0.3, 1 / 3, 0.5, 0.75, 0.9, 1, chance.random() or 1))
-    kinds = ({"kind": "level", "level": level}, {"kind": "share", "share": share})
+    levels = [chance.randint(1, max(int(result.max()), 1)) for _ in range(2)]
+    shares = [chance.choice((0.01, 0.1, 0.3, 1 / 3, 0.5, 0.75, 0.9, 1, chance.random() or 1)) for _ in range(2)]
+    kinds = (*({"kind": "level", "level": level} for level in levels),
+             *({"kind": "share", "share": share} for share in shares))
     return [{**kind, "conn": conn, "isCut": is_cut} for kind, is_cut in itertools.product(kinds, (False, True))]
 
 

@@ -8,7 +8,7 @@ const { readFileSync } = require("node:fs");
 const { join } = require("node:path");
 const { test } = require("node:test");
 
-const SCRIPTS = ["png.js", "tiff.js", "tables.js", "coco.js", "copies.js", "exports.js"];
+const SCRIPTS = ["behind.js", "png.js", "tiff.js", "tables.js", "coco.js", "copies.js", "exports.js"];
 const PAGE = `
   const elements = new Map(), said = [], files = [];
   const element = id => {

@@ -17,13 +17,15 @@ function samplesOf(text, maxval) {
   return maxval < 256 ? Uint8Array.from(samples) : samples;
 }
 
-function answerTo({ width, height, maxval, mask, result, strokes, choices }) {
+function answerTo({ width, height, maxval, mask, result, strokes, choices }, number) {
   const scene = newScene(width, height, samplesOf(mask, maxval), samplesOf(result, maxval));
   changeScene(scene, strokes.map(({ tag, level, runs }) => {
     return { tag, level, runs: Int32Array.from(runs), gesture: gestureOf(tag), inClass: classOf(tag) };
   }));
+  scene.mostShared = number % 2 === 0 ? 0 : scene.mostShared;  // (so that floods of all the picture are seen, too)
   return choices.map(choice => {
     const labels = labelling(scene, choice);
+    scene.spare = { numbers: labels.numbers.slice(), runs: labels.runs };
     return { numbers: [...labels.numbers], areas: [...labels.areas], lonely: labels.lonely,
       table: [...tableParts(labels, scene.mask, number => `Name of ${number}`)].map(({ part }) => part).join("") };
   });

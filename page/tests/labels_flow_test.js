@@ -97,6 +97,20 @@ test("a choice meanwhile is followed, and the last one counts", async () => {
   assert.ok(page.told.length <= 3, "and those between them are passed over");
 });
 
+test("numbers of a labelling that was shown are used again, and never those that somebody was given", async () => {
+  const page = newPage(), given = [];
+  light(page, "a", 1, 0, 3);
+  for (const [level, isGiven] of [[5, true], [10, false], [9, false], [10, true], [4, false], [10, false], [9, true]]) {
+    page.labels.choice.level = level;
+    if (isGiven) given.push([await page.currentLabelling(), level]);
+    else page.askLabels();
+    await until(() => page.labels.asked === 0 && !page.labels.isWanted);
+    assert.equal(places(page.labels.shown).length, level < 10 ? 4 : 0, `level ${level}`);
+  }
+  for (const [made, level] of given) assert.equal(places(made).length, level < 10 ? 4 : 0);
+  assert.ok(page.told.filter(({ spare }) => spare).length >= 2);
+});
+
 test("a labelling is waited for until the result is grown, and has the strokes of then", async () => {
   const page = newPage();
   page.board.isQuiet = false;

@@ -7,8 +7,8 @@ const assert = require("node:assert/strict");
 const { test } = require("node:test");
 const { load } = require("./load.js");
 
-const { changeScene, labelling, newScene, workerText } = load(["labelling.js", "labels_worker.js"],
-  ["changeScene", "labelling", "newScene", "workerText"]);
+const { changeScene, labelling, newScene, putSamples, workerText } = load(["labelling.js", "labels_worker.js"],
+  ["changeScene", "labelling", "newScene", "putSamples", "workerText"]);
 
 const BY_LEVEL = { kind: "level", level: 5, conn: 4, isCut: false };
 
@@ -81,6 +81,71 @@ test("a worker has all that it needs: it follows the news, and answers each choi
     { news: { boxes: [], came: [], gone: ["a1"] }, choice: choices[1] });
   const found = answers.map(({ labels, fault }) => fault ?? [...labels.numbers].join(" "));
   assert.deepEqual(found, [...choices.map(() => "1 1 0 0"), "1 1 0 2", "0 0 0 1"]);
+});
+
+/** Numbers below a bound, the same at each run. */
+function numbersFrom(seed) {
+  let state = seed;
+  return bound => {
+    state = (Math.imul(state, 1664525) + 1013904223) >>> 0;
+    return Math.floor(state / 2 ** 32 * bound);
+  };
+}
+
+/** What strokes grow into, step by step from neighbour to neighbour. */
+function grown({ width, height, mask }, strokes, conn) {
+  const result = mask.slice().fill(0), places = [...result.keys()];
+  for (const { level, runs: [y, first, last] } of strokes) {
+    for (let x = first; x <= last; x++) {
+      result[y * width + x] = Math.max(result[y * width + x], Math.min(level, mask[y * width + x]));
+    }
+  }
+  const areNear = (one, other) => {
+    const across = Math.abs(one % width - other % width);
+    const down = Math.abs(Math.floor(one / width) - Math.floor(other / width));
+    return across + down === 1 || conn === 8 && across === 1 && down === 1;
+  };
+  for (let isDone = false; !isDone;) {
+    isDone = true;
+    for (const place of places) {
+      const near = places.filter(other => areNear(place, other)), light = Math.max(0, ...near.map(k => result[k]));
+      if (Math.min(light, mask[place]) <= result[place]) continue;
+      result[place] = Math.min(light, mask[place]);
+      isDone = false;
+    }
+  }
+  return result;
+}
+
+/** Gives a scene some strokes, and what they grow into, as one box. */
+function strokeAtRandom(scene, below, conn) {
+  const { width, height } = scene, strokes = Array.from({ length: 1 + below(5) }, (_, k) => {
+    const first = below(width), y = below(height);
+    return strokeOf(`${k}${below(2)}`, 1 + below(200), y, first, Math.min(first + below(9), width - 1));
+  });
+  putSamples(scene, { left: 0, top: 0, right: width, bottom: height, samples: grown(scene, strokes, conn) });
+  changeScene(scene, strokes);
+}
+
+test("what is kept of a labelling changes none that follows", () => {
+  const below = numbersFrom(11);
+  for (let round = 0; round < 60; round++) {
+    const width = 1 + below(40), height = 1 + below(9), conn = below(2) === 0 ? 4 : 8, isFlat = below(2) === 0;
+    const mask = Uint8Array.from({ length: width * height }, () => isFlat ? 60 * below(4) : below(200));
+    const scene = newScene(width, height, mask, mask.slice().fill(0));
+    scene.mostShared = below(2) === 0 ? 0 : scene.mostShared;
+    for (let step = 0; step < 12; step++) {
+      if (step % 4 === 0) strokeAtRandom(scene, below, conn);
+      const kind = below(2) === 0 ? "share" : "level", isCut = below(2) === 0;
+      const choice = { kind, share: (1 + below(100)) / 100, level: 1 + below(160), conn, isCut };
+      const anew = newScene(width, height, mask, scene.result.slice());
+      anew.seeds = scene.seeds;
+      const { numbers, areas, lonely, runs } = labelling(scene, choice);
+      const { numbers: expected, areas: areasAnew, lonely: lonelyAnew } = labelling(anew, choice);
+      assert.deepEqual([[...numbers], [...areas], lonely], [[...expected], [...areasAnew], lonelyAnew]);
+      scene.spare = { numbers, runs };
+    }
+  }
 });
 
 test("what a worker cannot do it says", () => {

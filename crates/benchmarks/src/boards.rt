@@ -1,7 +1,8 @@
-//! How fast hands in threads raise a board, and what a peek takes beside them.
+//! How fast hands in threads raise a board, by rounds or by floods, and what a peek takes beside them.
 
-ghost use Rattle.std.specs.Prelude.{All};
+ghost use Rattle.std.specs.Prelude.{All, IfSome};
 ghost use Rattle.grid_core.specs.Raster.{IsBelow};
+ghost use Rattle.live_board.specs.Floods.{IsDraftOf};
 ghost use Rattle.live_board.specs.Opening.{IsNewHand, IsNewPeek};
 ghost use Rattle.live_board.specs.Seats.{IsHandOf, IsKeeperOf, IsPeekOf, ground_of};
 ghost use Rattle.live_board.specs.Words.{mask_of};
@@ -9,18 +10,28 @@ ghost use Rattle.live_board.specs.Words.{mask_of};
 use crate::SIDE;
 use crate::input::Input;
 use crate::outcome::{Fault, MEMORY, Outcome, check, sum_of};
-use crate::studios::open;
+use crate::studios::{open, turn};
 use crate::system::{Laps, System, thread_time};
-use grid_core::{Conn, Grid, Pixel};
-use live_board::{Board, HandSeat, KeeperSeat, Opened, PeekSeat};
+use core_dispatch::Pen;
+use grid_core::{Grid, Pixel};
+use live_board::{Board, Draft, HandSeat, KeeperSeat, Opened, PeekSeat};
+use reset_core::Core;
+use std::alloc::Global;
 use std::sync::atomic::{AtomicU64, Ordering};
 use std::thread::{for_each_mut, join_mut};
+use stroke_lattice::Delta;
+use studio::Keeper;
 
-/// Lets so many hands raise a board that has the marker of all edits. It prints the time to bring the marker; the time
-/// to raise it, how many rounds and peeks there were, and what the peeks took beside the hands and alone; and the sum.
-pub fn measure(rt: &impl System, input: Input, hands: u32) -> Outcome {
-    match Board::open(rt.alloc(), &input.mask, Conn::Four, hands as usize, 1) {
-        Ok(mut opened) => match raise(rt, input, &mut opened) {
+// A hand, and what it floods with.
+type Worker = (HandSeat, Draft);
+
+/// Lets so many hands raise a board that has the marker of all edits, by floods or by rounds. It prints the times to
+/// bring the marker of all edits but the last, and then that of all; the time to raise the board, how many rounds or
+/// floods there were, and how many peeks, what these took beside the hands and alone, and the time of a round after
+/// that; and the sum.
+pub fn measure(rt: &impl System, input: Input, hands: u32, by_floods: bool) -> Outcome {
+    match Board::open(rt.alloc(), &input.mask, input.conn, hands as usize, 1) {
+        Ok(mut opened) => match raise(rt, input, &mut opened, by_floods) {
             Ok(()) => close(rt, opened.board, opened.keeper),
             Err(fault) => fault.dropping(opened),
         },
@@ -41,26 +52,133 @@ fn close(rt: &impl System, board: Board, seat: KeeperSeat) -> Outcome
     Ok(())
 }
 
-// Brings the marker of all edits to the board, and prints the time of it.
+// ---- the marker
+
+// Brings the marker of all edits but the last to the board, and then that of all.
 fn mirror(rt: &impl System, input: Input, board: &Board, seat: &mut KeeperSeat) -> Outcome
     requires { IsKeeperOf board.now seat.old }
     ensures { IsKeeperOf board.now seat.new }
 {
-    let (core, _) = input.open(rt.alloc(), SIDE, None)?;
-    let (mut keeper, _, _, _) = open(rt, core, 1, 1)?;
+    let (core, last) = input.open(rt.alloc(), SIDE, Some(1))?;
+    let told = mirror_both(rt, core, &last, board, seat);
+    drop(last);
+    told
+}
+
+// The same of a core without these edits, and with them. It prints the times.
+fn mirror_both(
+    rt: &impl System,
+    core: Core,
+    last: &[Delta],
+    board: &Board,
+    seat: &mut KeeperSeat,
+) -> Outcome
+    requires { IsKeeperOf board.now seat.old }
+    ensures { IsKeeperOf board.now seat.new }
+{
+    let (mut keeper, mut pens, _, _) = open(rt, core, 1, 1)?;
+    let before = time_of_mirror(rt, &mut keeper, board, seat);
+    let mut is_in = true;
+    for edit in last {
+        is_in = submits(rt.alloc(), &mut pens, edit) & is_in;
+    }
+    let turned = turn(&mut keeper);
+    let after = time_of_mirror(rt, &mut keeper, board, seat);
+    drop(pens);
+    drop(keeper.end(rt));
+    check(is_in && turned.is_ok(), "an edit is not taken")?;
+    println!(rt; "{} {}", before?, after?)?;
+    Ok(())
+}
+
+fn submits(alloc: Global, pens: &mut Vec<Pen>, edit: &Delta) -> bool {
+    match (pens.first_mut(), edit.copy(alloc)) {
+        (Some(pen), Ok(edit)) => pen.submit(edit).is_ok(),
+        (_, edit) => {
+            drop(edit);
+            false
+        }
+    }
+}
+
+// What it takes to bring the core's marker to the board.
+fn time_of_mirror(
+    rt: &impl System,
+    keeper: &mut Keeper,
+    board: &Board,
+    seat: &mut KeeperSeat,
+) -> Result<u128, Fault>
+    requires { IsKeeperOf board.now seat.old }
+    ensures { IsKeeperOf board.now seat.new }
+{
     let mut laps = Laps::begin(rt);
     let mirrored = keeper.mirror(board, seat);
     let time = laps.lap(rt);
-    let is_of_mask = board.is_of(keeper.core().mask(), Conn::Four);
-    drop(keeper.end(rt));
-    println!(rt; "{time}")?;
-    mirrored.map_err(|why| Fault(why.code()))?;
-    check(is_of_mask, "not the board's mask")
+    match mirrored {
+        Ok(_) => Ok(time),
+        Err(why) => Err(Fault(why.code())),
+    }
 }
 
-// Brings the marker of all edits to the board, and has the hands raise it in threads with a peek beside them, which
-// then looks as often alone.
-fn raise(rt: &impl System, input: Input, opened: &mut Opened) -> Outcome
+// ---- the hands
+
+// Gives each hand a draft, and says whether there was memory for all.
+fn workers_of(alloc: Global, board: &Board, hands: &mut Vec<HandSeat>) -> (Vec<Worker>, bool)
+    requires { All (IsHandOf board.now) hands.old.items }
+    ensures { All (λ w. IsHandOf board.now w.0 × IsDraftOf board.now w.1) result.0.items }
+{
+    let (mut workers, mut are_all) = (Vec::new(alloc), true);
+    for _ in 0..hands.len() {
+        are_all = adds_worker(alloc, board, hands, &mut workers) & are_all;
+    }
+    (workers, are_all)
+}
+
+fn adds_worker(
+    alloc: Global,
+    board: &Board,
+    hands: &mut Vec<HandSeat>,
+    workers: &mut Vec<Worker>,
+) -> bool
+    requires hands { All (IsHandOf board.now) hands.old.items }
+    requires workers { All (λ w. IsHandOf board.now w.0 × IsDraftOf board.now w.1) workers.old.items }
+    ensures hands { All (IsHandOf board.now) hands.new.items }
+    ensures workers { All (λ w. IsHandOf board.now w.0 × IsDraftOf board.now w.1) workers.new.items }
+{
+    match next_hand(board, hands) {
+        Some(hand) => match worker_of(alloc, board, hand) {
+            Some(worker) => workers.push(worker).is_ok(),
+            None => false,
+        },
+        None => false,
+    }
+}
+
+fn next_hand(board: &Board, hands: &mut Vec<HandSeat>) -> Option<HandSeat>
+    requires { All (IsHandOf board.now) hands.old.items }
+    ensures left { All (IsHandOf board.now) hands.new.items }
+    ensures hand { IfSome result (IsHandOf board.now) }
+{
+    // The clauses alone speak of the board.
+    let _ = board;
+    hands.pop()
+}
+
+fn worker_of(alloc: Global, board: &Board, hand: HandSeat) -> Option<Worker>
+    requires { IsHandOf board.now hand }
+    ensures { IfSome result (λ w. IsHandOf board.now w.0 × IsDraftOf board.now w.1) }
+{
+    match board.draft(alloc) {
+        Ok(draft) => Some((hand, draft)),
+        Err(_) => {
+            drop(hand);
+            None
+        }
+    }
+}
+
+// Brings the marker of all edits to the board, and has the hands raise it.
+fn raise(rt: &impl System, input: Input, opened: &mut Opened, by_floods: bool) -> Outcome
     requires seat { IsKeeperOf opened.old.board opened.old.keeper }
     requires hands { All (IsNewHand opened.old.board) opened.old.hands.items }
     requires peeks { All (IsNewPeek opened.old.board) opened.old.peeks.items }
@@ -70,7 +188,31 @@ fn raise(rt: &impl System, input: Input, opened: &mut Opened) -> Outcome
     let Some(peek) = opened.peeks.first_mut() else {
         return Ok(());
     };
-    let (board, marker, hands) = (&opened.board, opened.keeper.marker(), &mut opened.hands);
+    let (board, marker) = (&opened.board, opened.keeper.marker());
+    let (mut workers, are_all) = workers_of(rt.alloc(), board, &mut opened.hands);
+    let told = if are_all {
+        raise_watched(rt, board, marker, peek, &mut workers, by_floods)
+    } else {
+        Err(MEMORY)
+    };
+    drop(workers);
+    told
+}
+
+// Has the hands raise the board in threads with a peek beside them, which then looks as often alone, and then one hand
+// go round once more.
+fn raise_watched(
+    rt: &impl System,
+    board: &Board,
+    marker: &Grid,
+    peek: &mut PeekSeat,
+    workers: &mut Vec<Worker>,
+    by_floods: bool,
+) -> Outcome
+    requires marker { IsBelow marker.now (mask_of (ground_of board.now)) }
+    requires peek { IsPeekOf board.now peek.old }
+    requires workers { All (λ w. IsHandOf board.now w.0 × IsDraftOf board.now w.1) workers.old.items }
+{
     let (rounds, most) = (AtomicU64::new(0), AtomicU64::new(u64::MAX));
     let ((peeks, beside), time) = join_mut(
         rt,
@@ -79,52 +221,164 @@ fn raise(rt: &impl System, input: Input, opened: &mut Opened) -> Outcome
             requires peek { IsPeekOf board.now peek.now }
             ensures { IsPeekOf board.entry.now peek.exit.now }
         { peek_on(rt, board, marker, &most, peek) },
-        &mut ||
-            requires { All (IsNewHand board.now) hands.now.items }
-        { go_all(rt, board, hands, &rounds, &most) },
+        &mut || -> u128
+            requires marker { IsBelow marker.now (mask_of (ground_of board.now)) }
+            requires workers { All (λ w. IsHandOf board.now w.0 × IsDraftOf board.now w.1) workers.now.items }
+            ensures { All (λ w. IsHandOf board.entry.now w.0 × IsDraftOf board.entry.now w.1)
+                workers.exit.now.items }
+        { go_all(rt, board, marker, workers, by_floods, &rounds, &most) },
     );
     let (_, alone) = peek_on(rt, board, marker, &AtomicU64::new(peeks), peek);
+    let round = time_of_round(rt, board, workers);
     let rounds = rounds.load(Ordering::SeqCst);
-    println!(rt; "{time} {rounds} {peeks} {beside} {alone}")?;
+    println!(rt; "{time} {rounds} {peeks} {beside} {alone} {round}")?;
     Ok(())
 }
 
-// Has each hand go round in a thread of its own until it finds nothing to raise, and says what that took. No more peeks
-// are asked for then.
+// What a round of the first hand takes.
+fn time_of_round(rt: &impl System, board: &Board, workers: &mut Vec<Worker>) -> u128
+    requires { All (λ w. IsHandOf board.now w.0 × IsDraftOf board.now w.1) workers.old.items }
+{
+    let mut laps = Laps::begin(rt);
+    if let Some(worker) = workers.first_mut() {
+        worker.0.round(board);
+    }
+    laps.lap(rt)
+}
+
+// Has each hand work in a thread of its own until nothing rises, and says what that took. No more peeks are asked for
+// then.
 fn go_all(
     rt: &impl System,
     board: &Board,
-    hands: &mut Vec<HandSeat>,
+    marker: &Grid,
+    workers: &mut Vec<Worker>,
+    by_floods: bool,
     rounds: &AtomicU64,
     most: &AtomicU64,
 ) -> u128
-    requires { All (IsNewHand board.now) hands.old.items }
+    requires marker { IsBelow marker.now (mask_of (ground_of board.now)) }
+    requires workers { All (λ w. IsHandOf board.now w.0 × IsDraftOf board.now w.1) workers.old.items }
+    ensures { All (λ w. IsHandOf board.now w.0 × IsDraftOf board.now w.1) workers.new.items }
 {
     let mut laps = Laps::begin(rt);
-    let threads = hands.len().max(1);
-    for_each_mut(
-        rt,
-        hands,
-        threads,
-        &|_, hand: &mut HandSeat|
-            requires { IsNewHand board.now hand.old }
-        { go_round(board, hand, rounds) },
-    );
+    if by_floods {
+        flood_all(rt, board, marker, workers, rounds);
+    } else {
+        round_all(rt, board, workers, rounds);
+    }
     most.store(0, Ordering::SeqCst);
     laps.lap(rt)
 }
 
+// Has each hand go round until it finds nothing to raise.
+fn round_all(rt: &impl System, board: &Board, workers: &mut Vec<Worker>, rounds: &AtomicU64)
+    requires { All (λ w. IsHandOf board.now w.0 × IsDraftOf board.now w.1) workers.old.items }
+    ensures { All (λ w. IsHandOf board.now w.0 × IsDraftOf board.now w.1) workers.new.items }
+{
+    let threads = workers.len().max(1);
+    for_each_mut(
+        rt,
+        workers,
+        threads,
+        &|_, worker: &mut Worker|
+            requires { IsHandOf board.now worker.old.0 × IsDraftOf board.now worker.old.1 }
+            ensures { IsHandOf board.entry.now worker.new.0 × IsDraftOf board.entry.now worker.new.1 }
+        { go_round(board, worker, rounds) },
+    );
+}
+
 // Goes round until nothing rises.
-fn go_round(board: &Board, hand: &mut HandSeat, rounds: &AtomicU64)
-    requires { IsHandOf board.now hand.old }
+fn go_round(board: &Board, worker: &mut Worker, rounds: &AtomicU64)
+    requires { IsHandOf board.now worker.old.0 × IsDraftOf board.now worker.old.1 }
+    ensures { IsHandOf board.now worker.new.0 × IsDraftOf board.now worker.new.1 }
 {
     for _ in 0..u64::MAX {
         rounds.fetch_add(1, Ordering::SeqCst);
-        if hand.round(board) == 0 {
+        if worker.0.round(board) == 0 {
             break;
         }
     }
 }
+
+// Has the hands flood the board, each some rows of it, until none finds a pixel to raise. One hand is done at once.
+fn flood_all(
+    rt: &impl System,
+    board: &Board,
+    marker: &Grid,
+    workers: &mut Vec<Worker>,
+    rounds: &AtomicU64,
+)
+    requires marker { IsBelow marker.now (mask_of (ground_of board.now)) }
+    requires workers { All (λ w. IsHandOf board.now w.0 × IsDraftOf board.now w.1) workers.old.items }
+    ensures { All (λ w. IsHandOf board.now w.0 × IsDraftOf board.now w.1) workers.new.items }
+{
+    let are_many = workers.len() > 1;
+    for _ in 0..u64::MAX {
+        let rose = AtomicU64::new(0);
+        rounds.fetch_add(1, Ordering::SeqCst);
+        flood_once(rt, board, marker, workers, &rose);
+        if !are_many || rose.load(Ordering::SeqCst) == 0 {
+            break;
+        }
+    }
+}
+
+// Has each hand flood its rows in a thread of its own. The last number is how many pixels rose.
+fn flood_once(
+    rt: &impl System,
+    board: &Board,
+    marker: &Grid,
+    workers: &mut Vec<Worker>,
+    rose: &AtomicU64,
+)
+    requires marker { IsBelow marker.now (mask_of (ground_of board.now)) }
+    requires workers { All (λ w. IsHandOf board.now w.0 × IsDraftOf board.now w.1) workers.old.items }
+    ensures { All (λ w. IsHandOf board.now w.0 × IsDraftOf board.now w.1) workers.new.items }
+{
+    let threads = workers.len().max(1);
+    for_each_mut(
+        rt,
+        workers,
+        threads,
+        &|number, worker: &mut Worker|
+            requires marker { IsBelow marker.now (mask_of (ground_of board.now)) }
+            requires worker { IsHandOf board.now worker.old.0 × IsDraftOf board.now worker.old.1 }
+            ensures { IsHandOf board.entry.now worker.new.0 × IsDraftOf board.entry.now worker.new.1 }
+        {
+            flood_rows(
+                board,
+                marker,
+                rows_of(marker.height(), number, threads),
+                worker,
+                rose,
+            )
+        },
+    );
+}
+
+// The rows of the hand of this number, of so many hands.
+fn rows_of(height: u32, number: usize, count: usize) -> (u32, u32) {
+    let each = (height as usize).div_ceil(count.max(1));
+    let first = number.saturating_mul(each).min(height as usize);
+    let end = first.saturating_add(each).min(height as usize);
+    (first as u32, end as u32)
+}
+
+// Floods these rows, where there are any.
+fn flood_rows(board: &Board, marker: &Grid, rows: (u32, u32), worker: &mut Worker, rose: &AtomicU64)
+    requires marker { IsBelow marker.now (mask_of (ground_of board.now)) }
+    requires worker { IsHandOf board.now worker.old.0 × IsDraftOf board.now worker.old.1 }
+    ensures { IsHandOf board.now worker.new.0 × IsDraftOf board.now worker.new.1 }
+{
+    let (first, end) = rows;
+    if first < end && end <= marker.height() {
+        let count = worker.0.flood(board, first, end, &mut worker.1);
+        rose.fetch_add(count, Ordering::SeqCst);
+    }
+}
+
+// ---- the peek
 
 // Peeks all over the board until there were so many peeks, which is looked at before each 4096 of them. It gives how
 // many there were, and their processor time.

@@ -16,6 +16,8 @@ pub struct Input {
     pub edits: Vec<Delta>,
     /// The mask.
     pub mask: Image,
+    /// Which pixels are neighbours: the four, where nothing else is asked for.
+    pub conn: Conn,
 }
 
 /// A core, and edits that are to be merged into it.
@@ -29,7 +31,11 @@ pub fn read(rt: &impl System, source: &mut impl Source) -> Result<Input, Fault> 
     let bytes = read_all(alloc, source).or(Err(Fault("a device failed, or there is no memory")))?;
     let (text, file) = split(&bytes).ok_or(Fault("there is no line `image`"))?;
     match (edit_lang::parse(alloc, text), pgm_codec::read(alloc, file)) {
-        (Ok(edits), Ok(mask)) => Ok(Input { edits, mask }),
+        (Ok(edits), Ok(mask)) => Ok(Input {
+            edits,
+            mask,
+            conn: Conn::Four,
+        }),
         (Err(why), _) => Err(Fault(why.code())),
         (Ok(_), Err(why)) => Err(Fault(why.code())),
     }
@@ -41,10 +47,14 @@ impl Input {
     ///
     /// Errors: a bad side; those of merging; out of memory.
     pub fn open(self, alloc: Global, side: u32, count: Option<u32>) -> Result<Ready, Fault> {
-        let Input { mut edits, mask } = self;
+        let Input {
+            mut edits,
+            mask,
+            conn,
+        } = self;
         let first = edits.len().saturating_sub(count.unwrap_or(0) as usize);
         let last = edits.split_off(first).or(Err(MEMORY))?;
-        match Core::over(alloc, mask.into_grid(), Conn::Four, side, 0) {
+        match Core::over(alloc, mask.into_grid(), conn, side, 0) {
             Ok(mut core) => match merge_all(alloc, &mut core, &edits, count.is_some()) {
                 Ok(()) => Ok((core, last)),
                 Err(fault) => fault.dropping((core, last)),

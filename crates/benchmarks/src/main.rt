@@ -13,9 +13,12 @@
 //!   sum.
 //! - `watch COUNT` begins as `edit` does. Each of the last edits is submitted while two hands run in threads. A line
 //!   for each: the time until a glimpse has it; that of the show before it; and that of one more, after nothing.
-//! - `board HANDS` brings the marker of all edits to a board: the time of it. Then it lets so many hands go round in
-//!   threads until nothing rises, with a peek beside them: the time of it, how many rounds there were, how many peeks,
-//!   and the processor times of these and of as many peeks after that; then the sum.
+//! - `board HANDS` brings the marker of all edits but the last to a board, and then that of all: the times of it. Then
+//!   it lets so many hands go round in threads until nothing rises, with a peek beside them: the time of it, how many
+//!   rounds there were, how many peeks, the processor times of these and of as many peeks after that, and the time of
+//!   one more round; then the sum.
+//! - `flood HANDS CONNECTIVITY` does the same by floods, each hand of rows of its own, with 4 or 8 neighbours. In the
+//!   place of the rounds is how often all rows were flooded.
 //! - `stress ROUNDS SEED` reads nothing. It plays rounds of pens, hands, eyes and a keeper in threads (`stress`).
 
 mod boards;
@@ -28,7 +31,8 @@ mod stress;
 mod studios;
 mod system;
 
-use input::read;
+use grid_core::Conn;
+use input::{Input, read};
 use outcome::{Fault, MEMORY, Outcome};
 use pgm_codec::{Source, StdSource};
 use std::env;
@@ -53,10 +57,21 @@ fn measure(rt: &impl System, source: &mut impl Source, words: &[String]) -> Outc
         }
         ("settle", None, Some(side)) => parts::measure(rt, read(rt, source)?, side),
         ("watch", Some(count), None) => studios::run(rt, read(rt, source)?, 2, SIDE, Some(count)),
-        ("board", Some(hands), None) => boards::measure(rt, read(rt, source)?, hands),
+        ("board", Some(hands), None) => boards::measure(rt, read(rt, source)?, hands, false),
+        ("flood", Some(hands), Some(4)) => boards::measure(rt, read(rt, source)?, hands, true),
+        ("flood", Some(hands), Some(8)) => flood_aslant(rt, read(rt, source)?, hands),
         ("stress", Some(rounds), Some(seed)) => stress::play_all(rt, rounds, seed),
-        _ => Err(Fault("the words are none of: edit, settle, watch, board, stress and numbers")),
+        _ => Err(Fault(
+            "the words are none of: edit, settle, watch, board, flood, stress and numbers",
+        )),
     }
+}
+
+// Floods a board of which pixels that share only a corner are neighbours.
+fn flood_aslant(rt: &impl System, input: Input, hands: u32) -> Outcome {
+    let mut input = input;
+    input.conn = Conn::Eight;
+    boards::measure(rt, input, hands, true)
 }
 
 // The number at this place.

@@ -10,3 +10,4 @@ pub mod Reached
 pub mod Flooding
 pub mod Flooded
 pub mod Settled
+pub mod Planted

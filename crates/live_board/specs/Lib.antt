@@ -13,6 +13,7 @@ pub mod Seats
 pub mod Rounds
 pub mod Opening
 pub mod Closing
+pub mod Planting
 pub mod Reading
 pub mod Floods
 pub mod Flooding

@@ -1,5 +1,5 @@
 -- The ground of a board, its words as facts, and what a seat knows.
-use Rattle.std.specs.Prelude.{◌%◌, ◌*◌, ◌+◌, ◌++◌, ◌/◌, [], replicate, ℕ, ◌∷◌}
+use Rattle.std.specs.Prelude.{◌%◌, ◌*◌, ◌+◌, ◌++◌, ◌/◌, Contains, [], replicate, ℕ, ◌∷◌}
 use Rattle.grid_core.specs.{Path.Domain, Path.Reaches, Path.domain_of, declared.pixel.Pixel.Pixel}
 use Rattle.grid_core.specs.Raster.{IsInside, Raster, index_of, value_at}
 use Rattle.live_board.specs.{declared.fact.Fact.Fact, declared.rule.Ground.Ground, declared.rule.SeatView.SeatView}
@@ -75,6 +75,12 @@ taught v found = record (after_step v 0 found) { generation = found / 65536 }
 -- the keeper's view after a step on word 0 that brought a generation and a marker
 abbrev pub begun : SeatView → ℕ → ℕ → Raster → SeatView
 begun v found generation marker = record (after_step v 0 found) { generation = generation; marker = marker }
+
+-- the view knows of each pixel of its marker that it has the marker's value
+abbrev pub KnowsMarker : SeatView → Type 0
+KnowsMarker v =
+    (p : Pixel) → IsInside v.marker.width v.marker.height p
+    → Contains v.facts (fact p v.generation (value_at v.marker p))
 
 -- what stands for a marker and for a pixel where none is picked
 abbrev pub no_marker : Raster

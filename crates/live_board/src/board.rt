@@ -30,7 +30,7 @@ impl Board {
     ghost use Rattle.grid_core.specs.{Raster.value_at, Rows.has_diagonals};
     ghost use Rattle.live_board.specs.Seats.{ground_of, table_of};
     ghost use Rattle.live_board.specs.Stored.{ground_code};
-    ghost use Rattle.live_board.specs.Words.{IsOn, mask_of, place_of};
+    ghost use Rattle.live_board.specs.Words.{IsOn, mask_of, place_of, size_of};
     ghost use Rattle.pgm_codec.specs.Graymap.{IsGraymap};
 
     /// Whether the board stands on this mask, with this connectivity. It takes no memory.
@@ -71,6 +71,13 @@ impl Board {
         ensures sized { IsGraymap (ground_of self.now).mask }
     {
         self.base.mask.height()
+    }
+
+    // The number of pixels.
+    pub(crate) fn size(&self) -> usize
+        ensures { result ≡ size_of (ground_of self.now) }
+    {
+        self.base.mask.samples().len()
     }
 
     // Whether pixels that share only a corner are neighbours.

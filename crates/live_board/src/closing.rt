@@ -53,6 +53,7 @@ fn finish(board: Board, keeper: KeeperSeat, image: Grid) -> (Image, bool)
         seat,
         generation,
         marker: _,
+        is_planted: _,
     } = keeper;
     let closed = table.close_with(seat);
     let mut image = image;

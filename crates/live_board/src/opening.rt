@@ -156,6 +156,7 @@ fn lay(alloc: Global, base: Ground) -> Result<(Board, KeeperSeat), Memory>
         seat,
         generation,
         marker,
+        is_planted: false,
     };
     Ok((Board { table, base }, keeper))
 }

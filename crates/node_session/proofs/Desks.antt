@@ -1,14 +1,14 @@
 -- A desk at work.
-use Rattle.std.proofs.Common.{arith, ◌≡◌, ◌+◌, ℕ, refl, sym, ap, ◌∙◌, subst}
+use Rattle.std.proofs.Common.{arith, ◌≡◌, ◌+◌, ℕ, suc, true, refl, sym, ap, ◌∙◌, subst}
 use Rattle.byte_devices.specs.Device.{HasRisenBy}
 use Rattle.core_dispatch.specs.{Books.BooksView, Growing.GrowsOn}
 use Rattle.core_dispatch.proofs.{Growing.grows_itself, Growing.grows_through, Taking.same_pens}
-use Rattle.studio.specs.Keeping.{core_of, books_of, studio_of}
+use Rattle.studio.specs.{declared.keeper.Keeper.Keeper, Keeping.core_of, Keeping.books_of, Keeping.studio_of}
 use Rattle.studio.proofs.Company.{company_stays, company_through}
 use Rattle.link_nodes.specs.{Links.LinkSeen, Nodes.pen_of, Nodes.IsSameNode}
 use Rattle.link_nodes.proofs.SameNodes.{same_node, same_node_through}
 use Rattle.node_session.specs.declared.desk.Desk.{Desk}
-use Rattle.node_session.specs.Working.{IsOneStudio, HasItsPen, Stays, StaysSilent, WorksOn}
+use Rattle.node_session.specs.Working.{IsOneStudio, HasItsPen, Stays, StaysSilent, WorksOn, IsTurnOf, AreBusyTurns}
 use Rattle.node_session.proofs.Meanwhile.{hears_nothing, hears_through, hears_from}
 
 stays_itself : (d : Desk) → Stays d d
@@ -60,6 +60,16 @@ works_through m n a b c x y z first second = record {
 
 pub silent_through : (a b c : Desk) → StaysSilent a b → StaysSilent b c → StaysSilent a c
 silent_through a b c first second = (stays_through a b c first.0 second.0, second.1 ∙ first.1)
+
+pub silent_itself : (d : Desk) → StaysSilent d d
+silent_itself d = (stays_itself d, refl)
+
+-- one busy turn more
+pub one_more_turn : (n : ℕ) (a b c : Keeper) → AreBusyTurns n a b → IsTurnOf b true c → AreBusyTurns (n + 1) a c
+one_more_turn n a b c turns turn =
+    let all : AreBusyTurns (suc n) a c = (b, turns, turn) in
+    let more : suc n ≡ n + 1 = omega arith in
+    subst (λ (k : ℕ). AreBusyTurns k a c) more all
 
 -- work behind what was silent
 pub works_behind : (n : ℕ) (a b c : Desk) (x y : LinkSeen) → StaysSilent a b → WorksOn n b c x y → WorksOn n a c x y

@@ -1,12 +1,14 @@
 -- A keeper and a node of one studio that work together. Only private functions have this in their contracts.
-use Rattle.std.specs.Prelude.{◌≡◌, ◌++◌, ℕ, List, [], All}
+use Rattle.std.specs.Prelude.{◌≡◌, ◌<◌, ◌⊎◌, ◌↔◌, ◌++◌, ℕ, zero, suc, Bool, true, false, IsTrue, List, [], All}
 use Rattle.byte_devices.specs.Device.{HasRisenBy}
 use Rattle.grid_core.specs.{declared.conn.Conn.Conn, Raster.Raster}
 use Rattle.stroke_lattice.specs.State.{State}
 use Rattle.core_rules.specs.Work.{Core}
 use Rattle.core_dispatch.specs.{declared.pen.PenEnd.PenEnd, Pens.IsOf, Pens.all_submitted, Growing.GrowsOn}
+use Rattle.core_dispatch.specs.{declared.turned.Turned.Turned, Turns.TakesTurn}
 use Rattle.studio.specs.{declared.keeper.Keeper.Keeper, declared.closed.Closed.Closed, Keeping.core_of}
-use Rattle.studio.specs.{Keeping.books_of, Keeping.studio_of, Company.KeepsCompany, Closing.IsClosed}
+use Rattle.studio.specs.Keeping.{dispatcher_of, books_of, studio_of}
+use Rattle.studio.specs.{Company.KeepsCompany, Closing.IsClosed}
 use Rattle.link_nodes.specs.{declared.node.Node.Node, Links.LinkSeen}
 use Rattle.link_nodes.specs.Nodes.{pen_of, conn_of, print_of, submitted_by, node_studio, IsSameNode}
 use Rattle.node_session.specs.{declared.desk.Desk.Desk, Given.HasGiven, Given.SomeSpells, Given.ComesFrom}
@@ -52,6 +54,23 @@ pub record WorksOn (ticks : ℕ) (old new : Desk) (link link' : LinkSeen) : Type
   pub stays : Stays old new
   pub hears : Hears old.node new.node link link'
   pub polls : HasRisenBy ticks link.polls link'.polls
+
+-- the keeper took a turn, and this says whether an edit or a report was taken in it
+pub record IsTurnOf (old : Keeper) (busy : Bool) (new : Keeper) : Type 0 where
+  pub turned : Turned
+  pub takes : TakesTurn (dispatcher_of old) turned (dispatcher_of new)
+  pub says : IsTrue busy ↔ ((0 < turned.edits) ⊎ (0 < turned.results))
+
+-- so many turns, one after another, in each of which an edit or a report was taken
+abbrev pub AreBusyTurns : ℕ → Keeper → Keeper → Type 0
+AreBusyTurns zero old new = new ≡ old
+AreBusyTurns (suc n) old new = (k : Keeper) × AreBusyTurns n old k × IsTurnOf k true new
+
+-- as many such turns as there may be, or fewer and behind them one in which neither was taken
+abbrev pub HasCaughtUp : ℕ → Keeper → Keeper → Type 0
+HasCaughtUp most old new =
+    AreBusyTurns most old new
+    ⊎ ((n : ℕ) × (k : Keeper) × (n < most) × AreBusyTurns n old k × IsTurnOf k false new)
 
 -- the keeper's studio was closed with these ends, and this is its core
 abbrev pub IsClosedTo : Keeper → List PenEnd → Core → Type 0

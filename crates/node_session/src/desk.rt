@@ -1,13 +1,19 @@
 //! A keeper and a node at work.
 
-ghost use Rattle.node_session.specs.Working.{IsOneStudio, StaysSilent, WorksOn};
+ghost use Rattle.std.specs.Prelude.{◌≡◌, ◌<◌, ◌⊎◌, ◌↔◌, IsTrue};
+ghost use Rattle.studio.specs.Keeping.{books_of};
+ghost use Rattle.node_session.specs.Working.{IsOneStudio, IsTurnOf, HasCaughtUp, StaysSilent, WorksOn};
 
 use crate::pace::rest;
+use core_dispatch::Turned;
 use link_nodes::{Link, Node};
 use std::alloc::Global;
 use std::sync::Wait;
 use std::time::Clock;
 use studio::Keeper;
+
+/// How many turns a tick takes at most: as many as reports of one hand wait at most.
+const TURNS: u32 = 64;
 
 /// The keeper of a studio, and a node of it.
 pub(crate) struct Desk {
@@ -33,28 +39,45 @@ impl Desk {
         }
     }
 
-    // One tick: the keeper takes a turn and shows the core, the node learns of it, hears and sends. Memory that is
+    // One tick: the keeper takes what waits and shows the core, the node learns of it, hears and sends. Memory that is
     // wanting, and a link that fails, cost what they were wanted for.
     fn tick<R: Wait, L: Link>(&mut self, rt: &R, alloc: Global, link: &mut L)
         requires { IsOneStudio self.old }
-        ensures { WorksOn 1 self.old self.new (L.seen link.old) (L.seen link.new) }
+        ensures works { WorksOn 1 self.old self.new (L.seen link.old) (L.seen link.new) }
+        ensures caught_up { (k : _) × HasCaughtUp 64 self.old.keeper k × (books_of self.new.keeper ≡ books_of k) }
     {
-        self.turn();
+        self.turns();
         self.show(rt);
         self.exchange(alloc, link);
     }
 
-    // The keeper takes a turn.
-    fn turn(&mut self)
-        ensures { StaysSilent self.old self.new }
+    // The keeper takes turns until it took neither an edit nor a report in one, and no more than `TURNS`. So what waits
+    // is merged and joined before the core is shown, and its image is copied once for all of it.
+    fn turns(&mut self)
+        ensures silent { StaysSilent self.old self.new }
+        ensures caught_up { HasCaughtUp 64 self.old.keeper self.new.keeper }
     {
-        let _turned = self.keeper.turn();
+        for _turn in 0..TURNS {
+            if !self.turn() {
+                return;
+            }
+        }
+    }
+
+    // The keeper takes a turn. It says whether an edit or a report was taken in it.
+    fn turn(&mut self) -> bool
+        ensures silent { StaysSilent self.old self.new }
+        ensures turn { IsTurnOf self.old.keeper result self.new.keeper }
+    {
+        let turned = self.keeper.turn();
+        is_busy(&turned)
     }
 
     // The keeper shows the core, where there is memory, and the node learns of it.
     fn show<R: Wait>(&mut self, rt: &R)
         requires { IsOneStudio self.old }
-        ensures { StaysSilent self.old self.new }
+        ensures silent { StaysSilent self.old self.new }
+        ensures books { books_of self.new.keeper ≡ books_of self.old.keeper }
     {
         if let Ok(told) = self.keeper.show(rt) {
             self.node.learn(told);
@@ -63,8 +86,16 @@ impl Desk {
 
     // The node hears and sends.
     fn exchange<L: Link>(&mut self, alloc: Global, link: &mut L)
-        ensures { WorksOn 1 self.old self.new (L.seen link.old) (L.seen link.new) }
+        ensures works { WorksOn 1 self.old self.new (L.seen link.old) (L.seen link.new) }
+        ensures keeper { self.new.keeper ≡ self.old.keeper }
     {
         let _ticked = self.node.tick(alloc, link);
     }
+}
+
+// Whether an edit or a report was taken in the turn.
+fn is_busy(turned: &Turned) -> bool
+    ensures { IsTrue result ↔ ((0 < turned.now.edits) ⊎ (0 < turned.now.results)) }
+{
+    turned.edits > 0 || turned.results > 0
 }

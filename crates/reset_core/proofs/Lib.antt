@@ -5,6 +5,7 @@ pub mod Sweeping
 pub mod SweepingRows
 pub mod Telling
 pub mod TellingHands
+pub mod TellingNear
 pub mod TellingOrder
 pub mod TellingSweeps
 pub mod Masking

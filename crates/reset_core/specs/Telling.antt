@@ -1,6 +1,7 @@
 -- Hints that are handed over as soon as they are told, and how much work a core can still have.
 use Rattle.std.specs.Prelude.{◌≡◌, ℕ, ◌+◌, ◌≤◌, ◌==◌, true, nat_lt, if◌then◌else◌, List, [], ◌∷◌, length, filter, ◌<◌}
 use Rattle.std.specs.Prelude.{slice_index_or, slice_set, Contains}
+use Rattle.grid_core.specs.{declared.bounds.Bounds.Bounds, Bounds.IsInBounds}
 use Rattle.grid_core.specs.Raster.{Raster, IsFilled, headroom, value_at, with_value}
 use Rattle.grid_core.specs.Tiles.{Tiles, IsTiled, tile_of, count_of}
 use Rattle.border_queues.specs.{declared.hint.Hint.Hint, OpenEdges.IsOnTiling}
@@ -80,6 +81,10 @@ pub record HaveWorkAt (tiles : Tiles) (image : Raster) (work : List TileWork) (t
 -- the pixel of each of the hints lies in the image
 abbrev pub AreToInside : Tiles → List Hint → Type 0
 AreToInside tiles hints = (hint : Hint) → Contains hints hint → IsToInside tiles hint
+
+-- the pixel of each of the hints lies within the bounds
+abbrev pub LieWithin : Bounds → List Hint → Type 0
+LieWithin bounds hints = (hint : Hint) → Contains hints hint → IsInBounds bounds hint.to_pixel
 
 -- no hint is for a tile before that of an earlier one
 abbrev pub AreInTileOrder : Tiles → List Hint → Type 0

@@ -1,8 +1,8 @@
 -- How a board follows a core.
-use Rattle.std.specs.Prelude.{◌+◌, ◌<◌, Bool, Contains, IsTrue, ℕ, ◌↔◌, ◌≡◌}
-use Rattle.grid_core.specs.{Raster.IsBelow, Raster.Raster, Raster.index_of, declared.pixel.Pixel.Pixel}
+use Rattle.std.specs.Prelude.{◌+◌, ◌<◌, Bool, IsTrue, ◌↔◌, ◌≡◌}
+use Rattle.grid_core.specs.Raster.{IsBelow, Raster}
 use Rattle.core_rules.specs.Work.{Core}
-use Rattle.live_board.specs.{Closing.AreAllPlanted, Rounds.one_if, Seats.planted_fact, Words.IsOn, Words.mask_of}
+use Rattle.live_board.specs.{Closing.AreAllPlanted, Rounds.one_if, Words.mask_of}
 use Rattle.live_board.specs.{Words.max_generation, declared.rule.Ground.Ground, declared.rule.SeatView.SeatView}
 use Rattle.marker_tiles.specs.Kept.{IsMarkerOf}
 use Rattle.studio.specs.declared.mirrored.Mirrored.{Mirrored}
@@ -17,13 +17,6 @@ pub record IsBrought (marker : Raster) (advanced : Bool) (old new : SeatView) : 
   pub advanced_is : IsTrue advanced ↔ (IsBelow old.marker marker → ⊥)
   pub generation : new.generation ≡ old.generation + one_if advanced
   pub room : IsTrue advanced → old.generation < max_generation
-
--- nothing but facts came to the keeper's view, and it has planted the first pixels in raster order, so many of them
-pub record HasPlanted (on : Ground) (count : ℕ) (old new : SeatView) : Type 0 where
-  pub generation : new.generation ≡ old.generation
-  pub marker : new.marker ≡ old.marker
-  pub planted :
-      (p : Pixel) → IsOn on p → index_of (mask_of on).width p < count → Contains new.facts (planted_fact new p)
 
 -- the seat's marker is that of the core's strokes, and each pixel was planted
 pub record HasMirrored (on : Ground) (core : Core) (mirrored : Mirrored) (old new : SeatView) : Type 0 where

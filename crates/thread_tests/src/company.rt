@@ -1,7 +1,7 @@
 //! Who takes part in a studio, and who looks at a board. They stand outside the tests, since definitions speak of them.
 
 use core_dispatch::Pen;
-use live_board::{HandSeat, KeeperSeat, PeekSeat};
+use live_board::{Draft, HandSeat, KeeperSeat, PeekSeat};
 use steal_pool::Hand;
 use studio::{Eye, Keeper};
 
@@ -28,4 +28,21 @@ pub struct Crew {
     pub one: Option<HandSeat>,
     pub two: Option<HandSeat>,
     pub peek: Option<PeekSeat>,
+}
+
+/// A hand with what it floods with, and the rows that it floods.
+#[derive(Drop)]
+pub struct Share {
+    pub hand: HandSeat,
+    pub draft: Draft,
+    pub first: u32,
+    pub end: u32,
+}
+
+/// Who floods a board, and who looks at it meanwhile.
+#[derive(Drop)]
+pub struct Flooders {
+    pub keeper: KeeperSeat,
+    pub shares: Vec<Share>,
+    pub peek: PeekSeat,
 }

@@ -12,6 +12,8 @@ pub mod company;
 #[cfg(test)]
 mod crowd;
 #[cfg(test)]
+mod floods;
+#[cfg(test)]
 mod frames;
 #[cfg(test)]
 mod gates;

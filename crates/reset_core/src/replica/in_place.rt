@@ -15,6 +15,7 @@ ghost use Rattle.core_rules.specs.Events.{Take};
 ghost use Rattle.core_rules.specs.Runs.{IsNext};
 ghost use Rattle.reset_core.specs.Settling.{IsOneWorkedOff};
 ghost use Rattle.reset_core.specs.Telling.{both, hints_in, AreOfTiles, AreToInside, AreTold, HaveWorkAt, IsHandOver};
+ghost use Rattle.reset_core.specs.Telling.{LieWithin};
 ghost use Rattle.reset_core.specs.Bounding.{FollowChange};
 ghost use Rattle.tile_work.specs.WorkTable.{IsToInside};
 
@@ -134,7 +135,22 @@ fn hand_over(
     }
 }
 
-// Hands over the hints for the pixels of a tile, in their order.
+// Bounds within which lie the pixels of the hints.
+fn bounds_around(tiling: &Tiling, hints: &[Hint]) -> Bounds
+    requires { AreToInside tiling.now hints.now }
+    ensures { LieWithin result hints.now }
+{
+    // The side tells the prover that the tiling is one.
+    let _ = tiling.side();
+    let mut near = Bounds::none();
+    for hint in hints {
+        near = near.including(hint.to_pixel);
+    }
+    near
+}
+
+// Hands over the hints for the pixels of a tile, in their order. All of them lie within `near`; where these bounds do
+// not meet the tile, the hints are not looked at.
 fn hand_over_in(
     image: &mut Grid,
     work: &mut WorkTable,
@@ -142,15 +158,20 @@ fn hand_over_in(
     tiling: &Tiling,
     tile: usize,
     hints: &[Hint],
+    near: Bounds,
 )
     requires tile { HaveWorkAt tiling.now image.old work.old tile }
     requires inside { AreToInside tiling.now hints.now }
+    requires near { LieWithin near hints.now }
     requires bounds { length bounds.old ≡ count_of tiling.now }
     ensures handed { IsHandOver tiling.now (hints_in tiling.now hints.now tile) image.old work.old image.new work.new }
     ensures bounds { (conn : _) → FollowChange tiling.now conn image.old image.new bounds.old bounds.new }
 {
     each_pixel_in_one_tile();
     let rect = tiling.rect(tile);
+    if Bounds::of(rect).intersection(near).is_empty() {
+        return;
+    }
     for hint in hints {
         hand_over(image, work, bounds, tiling, tile, rect, *hint);
     }
@@ -173,7 +194,8 @@ fn hand_over_all(
         image.old work.old image.new work.new }
     ensures bounds { (conn : _) → FollowChange tiling.now conn image.old image.new bounds.old bounds.new }
 {
+    let near = bounds_around(tiling, hints);
     for tile in tiles {
-        hand_over_in(image, work, bounds, tiling, *tile, hints);
+        hand_over_in(image, work, bounds, tiling, *tile, hints, near);
     }
 }

@@ -1,16 +1,17 @@
 //! A board that follows the core.
 
-ghost use Rattle.std.specs.Prelude.{IfErr, IfOk, IsErrOf, OnErr, ◌↔◌, ◌≡◌};
+ghost use Rattle.std.specs.Prelude.{IfErr, IfOk, IsErrOf, IsTrue, OnErr, ◌↔◌, ◌≡◌};
 ghost use Rattle.grid_core.specs.Raster.{IsBelow};
+ghost use Rattle.live_board.specs.Closing.{AreAllPlanted};
 ghost use Rattle.live_board.specs.Seats.{IsKeeperOf, ground_of, keeper_view};
-ghost use Rattle.live_board.specs.Words.{mask_of, max_generation, size_of};
+ghost use Rattle.live_board.specs.Words.{mask_of, max_generation};
 ghost use Rattle.studio.specs.Keeping.{core_of};
-ghost use Rattle.studio.specs.Mirroring.{HasMirrored, HasPlanted, IsBoardOf, IsBrought, IsSpent};
+ghost use Rattle.studio.specs.Mirroring.{HasMirrored, IsBoardOf, IsBrought, IsSpent};
 ghost use Rattle.studio.specs.declared.mirrored.MirrorError.TheVariants as errors;
 
 use super::Keeper;
 use crate::mirrored::{MirrorError, Mirrored};
-use grid_core::{Grid, Pixel};
+use grid_core::Grid;
 use live_board::{Board, KeeperSeat, Spent};
 
 impl Keeper {
@@ -36,45 +37,33 @@ impl Keeper {
         }
         let marker = core.marker().marker().copy(self.alloc)?;
         let advanced = bring(board, seat, marker)?;
-        plant_all(board, seat);
+        if advanced {
+            seat.plant_all(board);
+        }
         Ok(Mirrored { advanced })
     }
 }
 
-// Brings a marker, and says whether a generation began for it. Errors: there is no next generation.
+// Brings a marker, and says whether a generation began for it; where none began each pixel is planted. Errors: there is
+// no next generation.
 fn bring(board: &Board, seat: &mut KeeperSeat, marker: Grid) -> Result<bool, MirrorError>
     requires seat { IsKeeperOf board.now seat.old }
     requires below { IsBelow marker (mask_of (ground_of board.now)) }
     ensures seat { IsKeeperOf board.now seat.new }
     ensures brought { IfOk result
         (λ advanced. IsBrought marker advanced (keeper_view seat.old) (keeper_view seat.new)) }
+    ensures planted { IfOk result
+        (λ advanced. (IsTrue advanced → ⊥) → AreAllPlanted (ground_of board.now) (keeper_view seat.new)) }
     ensures refused { OnErr result (seat.new ≡ seat.old) }
     ensures spent { IfErr result (λ e. (e ≡ errors.Spent) × ((keeper_view seat.old).generation ≡ max_generation)
         × (IsBelow (keeper_view seat.old).marker marker → ⊥)) }
 {
     if seat.marker().is_below(&marker) {
-        seat.raise(board, marker);
+        seat.raise_planted(board, marker);
         return Ok(false);
     }
     match seat.advance(board, marker) {
         Ok(()) => Ok(true),
         Err(Spent { marker: _ }) => Err(MirrorError::Spent),
-    }
-}
-
-// Plants each pixel.
-fn plant_all(board: &Board, seat: &mut KeeperSeat)
-    requires seat { IsKeeperOf board.now seat.old }
-    ensures seat { IsKeeperOf board.now seat.new }
-    ensures planted { HasPlanted (ground_of board.now) (size_of (ground_of board.now))
-        (keeper_view seat.old) (keeper_view seat.new) }
-{
-    let width = seat.marker().width() as usize;
-    for cell in 0..seat.marker().cells().len() {
-        let pixel = Pixel {
-            x: (cell % width) as u32,
-            y: (cell / width) as u32,
-        };
-        seat.plant(board, pixel);
     }
 }

@@ -1,5 +1,5 @@
 use Rattle.std.proofs.Common.{List, ap, length, ℕ, ◌∙◌}
-use Rattle.std.proofs.lemmas.Result.{IfOk-from_err}
+use Rattle.std.proofs.lemmas.{Bool.false≢true, Result.IfOk-from_err}
 use Rattle.live_board.proofs.Stepping.{opens_at}
 use Rattle.live_board.proofs.opening.lay.Goals as goal
 
@@ -34,3 +34,6 @@ returns-in_err-table-clause-keeper c = IfOk-from_err _ _ c.from_residual-in_err-
 
 pub returns-in_err-table-clause-knows : goal.returns-in_err-table-clause-knows
 returns-in_err-table-clause-knows c = IfOk-from_err _ _ c.from_residual-in_err-table.ensures.0
+
+pub invariant_of-keeper-clause-known : goal.invariant_of-keeper-clause-known
+invariant_of-keeper-clause-known c = ∣ (λ yes. absurd (false≢true yes)) ∣₁

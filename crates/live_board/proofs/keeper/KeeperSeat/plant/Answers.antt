@@ -1,9 +1,10 @@
 use Rattle.std.proofs.Common.{◌*◌, ◌+◌, ◌<◌, ap, ap₂, subst, sym, ℕ, ◌∙◌, ◌≡◌}
 use Rattle.grid_core.proofs.Cells.{below_at_each_pixel}
 use Rattle.grid_core.specs.{Raster.IsBelow, Raster.IsFilled, Raster.Raster, Raster.value_at, declared.pixel.Pixel.Pixel}
-use Rattle.live_board.proofs.{Allowed.may_plant, Telling.adds_number}
-use Rattle.live_board.specs.Seats.{ground_of, keeper_view, planted_fact}
+use Rattle.live_board.proofs.{Allowed.may_plant, Planted.still_known, Telling.adds_number}
+use Rattle.live_board.specs.Seats.{Adds, ground_of, keeper_view, planted_fact}
 use Rattle.live_board.specs.{Words.mask_of, declared.rule.Ground.Ground, declared.rule.SeatView.SeatView}
+use Rattle.live_board.proofs.keeper.KeeperSeat.plant.Goals.{After-lift}
 use Rattle.live_board.proofs.keeper.KeeperSeat.plant.Goals as goal
 
 pub lift-requires-clause-asked : goal.lift-requires-clause-asked
@@ -26,8 +27,10 @@ lift-requires-clause-asked c =
     (subst (λ (k : ℕ). k < 65536) (sym c.from.ensures ∙ value) small)
     (ap₂ (λ (g k : ℕ). g * 65536 + k) (sym c.args.self.now.same) value)
 
-pub returns-clause-planted : goal.returns-clause-planted
-returns-clause-planted c =
+-- what the step adds
+adds : (c : After-lift) → Adds (ground_of c.args.board.now) (planted_fact (keeper_view c.args.self.now) c.args.pixel)
+    (keeper_view c.args.self.now) c.lift.new.seat.me.0
+adds c =
     let v : SeatView = keeper_view c.args.self.now in
     let p : Pixel = c.args.pixel in
     let value : c.from.result ≡ value_at v.marker p =
@@ -37,3 +40,12 @@ returns-clause-planted c =
     c.lift.result (planted_fact v p) c.lift.ensures.view
     (ap₂ (λ (g k : ℕ). g * 65536 + k) (sym c.args.self.now.same) value)
     (subst (λ (k : ℕ). k < 65536) (sym c.from.ensures ∙ value) small)
+
+pub invariant_of-self-clause-known : goal.invariant_of-self-clause-known
+invariant_of-self-clause-known c =
+    let v : SeatView = keeper_view c.args.self.now in
+    still_known (ground_of c.args.board.now) c.args.self.now.is_planted (planted_fact v c.args.pixel) v
+    c.lift.new.seat.me.0 (adds (goal.at.invariant_of-self-clause-known c).After-lift) c.args.self.now.known
+
+pub returns-clause-planted : goal.returns-clause-planted
+returns-clause-planted c = adds (goal.at.returns-clause-planted c).After-lift

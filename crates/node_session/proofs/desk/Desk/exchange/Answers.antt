@@ -3,8 +3,8 @@ use Rattle.node_session.proofs.Desks.{stays_over}
 use Rattle.node_session.proofs.Meanwhile.{polled, polled_once, heard_before, sends_in_silence}
 use Rattle.node_session.proofs.desk.Desk.exchange.Goals as goal
 
-pub returns : goal.returns
-returns g c =
+pub returns-clause-works : goal.returns-clause-works
+returns-clause-works g c =
     let did = c.tick-ticked.ensures in
     let old = c.args.self.now.node in
     let new = c.tick-ticked.new.self in

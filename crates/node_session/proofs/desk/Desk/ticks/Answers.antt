@@ -11,7 +11,7 @@ pub tick-requires : goal.tick-requires
 tick-requires g c = studio_stays _ _ c.loop-tick.invariant.stays c.requires
 
 pub loop-tick-preserved : goal.loop-tick-preserved
-loop-tick-preserved g c = works_through _ 1 _ _ _ _ _ _ c.loop-tick.invariant c.tick.ensures
+loop-tick-preserved g c = works_through _ 1 _ _ _ _ _ _ c.loop-tick.invariant c.tick.ensures.works
 
 pub returns : goal.returns
 returns g c =

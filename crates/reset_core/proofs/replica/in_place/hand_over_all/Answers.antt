@@ -46,3 +46,6 @@ hand_over_in-requires-clause-bounds c = (c.loop-tile.invariant.bounds Four).wide
 
 pub hand_over_in-requires-clause-inside : goal.hand_over_in-requires-clause-inside
 hand_over_in-requires-clause-inside c = grind (arith, common_steps)
+
+pub hand_over_in-requires-clause-near : goal.hand_over_in-requires-clause-near
+hand_over_in-requires-clause-near c = c.bounds_around-near.ensures

@@ -1,14 +1,34 @@
-use Rattle.std.proofs.Common.{◌∙◌, ◌<◌, get_or, take, arith}
+use Rattle.std.proofs.Common.{◌∙◌, ◌<◌, List, get_or, take, sym, ap, subst, arith}
 use Rattle.std.proofs.lemmas.List.Elements.{Contains-get_or}
 use Rattle.grid_core.specs.{Tiles.count_of, declared.conn.Conn.TheVariants.Four}
+use Rattle.grid_core.specs.{declared.bounds.Bounds.Bounds, Bounds.AreEmpty, Bounds.bounds_of, Bounds.intersection}
 use Rattle.border_queues.specs.declared.hint.Hint.{Hint}
-use Rattle.reset_core.specs.Telling.{hints_in}
+use Rattle.reset_core.specs.Telling.{ImageAndWork, AreHandedOver, hints_in}
 use Rattle.reset_core.proofs.Bounding.{follow_same, follow_twice}
 use Rattle.reset_core.proofs.TellingHands.{handed_next, none_handed, still_of_tiles}
+use Rattle.reset_core.proofs.TellingNear.{none_near}
 use Rattle.reset_core.proofs.replica.in_place.hand_over_in.Goals as goal
 
 abbrev none : Hint
 none = record { from = 0; from_generation = 0; to_pixel = record { x = 0; y = 0 }; value = 0 }
+
+pub returns-then-is_empty-clause-handed : goal.returns-then-is_empty-clause-handed
+returns-then-is_empty-clause-handed c =
+    let a = c.args in
+    let tiles = a.tiling.now in
+    let parts = c.requires.tile.parts in
+    let s : ImageAndWork = record { image = a.image.now; rows = a.work.now } in
+    let meet =
+    c.intersection.ensures
+    ∙ ap (λ (own : Bounds). intersection own a.near) (c.of.ensures ∙ ap bounds_of c.rect-rect.ensures.value) in
+    let empty = subst AreEmpty meet (c.is_empty.ensures.0 c.if-is_empty.true) in
+    let within : a.tile < count_of tiles = omega (arith, parts.count, c.requires.tile.within) in
+    let none = none_near tiles a.hints.now a.near a.tile parts.tiled within c.requires.inside c.requires.near empty in
+    subst (λ (hs : List Hint). AreHandedOver tiles hs s s) (sym none) (none_handed tiles s)
+
+pub returns-then-is_empty-clause-bounds : goal.returns-then-is_empty-clause-bounds
+returns-then-is_empty-clause-bounds c =
+    λ conn. follow_same c.args.tiling.now conn c.args.image.now c.args.bounds.now
 
 pub hand_over-requires-clause-inside : goal.hand_over-requires-clause-inside
 hand_over-requires-clause-inside c =

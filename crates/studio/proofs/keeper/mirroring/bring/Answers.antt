@@ -10,27 +10,27 @@ falls old found marker is_below same is above below =
     let true_is : is_below ≡ true = is.1 (subst (λ (r : Raster). IsBelow r marker) (sym same) below) in
     absurd cc
 
-pub raise-requires-clause-keeper : goal.raise-requires-clause-keeper
-raise-requires-clause-keeper c = c.requires.seat
+pub raise_planted-requires-clause-keeper : goal.raise_planted-requires-clause-keeper
+raise_planted-requires-clause-keeper c = c.requires.seat
 
-pub raise-requires-clause-above : goal.raise-requires-clause-above
-raise-requires-clause-above c = subst (λ (old : Raster). IsBelow old c.args.marker) c.marker.ensures.value
+pub raise_planted-requires-clause-above : goal.raise_planted-requires-clause-above
+raise_planted-requires-clause-above c = subst (λ (old : Raster). IsBelow old c.args.marker) c.marker.ensures.value
     (c.is_below.ensures.0 c.if-is_below.true)
 
-pub raise-requires-clause-below : goal.raise-requires-clause-below
-raise-requires-clause-below c = c.requires.below
+pub raise_planted-requires-clause-below : goal.raise_planted-requires-clause-below
+raise_planted-requires-clause-below c = c.requires.below
 
 pub returns-then-is_below-clause-seat : goal.returns-then-is_below-clause-seat
-returns-then-is_below-clause-seat c = c.raise.ensures.keeper
+returns-then-is_below-clause-seat c = c.raise_planted.ensures.keeper
 
 pub returns-then-is_below-clause-brought : goal.returns-then-is_below-clause-brought
 returns-then-is_below-clause-brought c =
     let rises = subst (λ (old : Raster). IsBelow old c.args.marker) c.marker.ensures.value
     (c.is_below.ensures.0 c.if-is_below.true) in
     record {
-      marker_is = c.raise.ensures.risen.marker_is;
+      marker_is = c.raise_planted.ensures.marker;
       advanced_is = ((λ advanced. absurd cc), λ none. absurd (none rises));
-      generation = omega (arith, c.raise.ensures.risen.generation_is);
+      generation = omega (arith, c.raise_planted.ensures.generation);
       room = λ advanced. absurd cc;
     }
 
@@ -75,4 +75,14 @@ returns-clause-spent c =
         w.in-Err.ensures.spent,
         falls _ _ _ _ c.marker.ensures.value c.is_below.ensures c.if-is_below.false,
       )
+    ]
+
+pub returns-then-is_below-clause-planted : goal.returns-then-is_below-clause-planted
+returns-then-is_below-clause-planted c = λ none. c.raise_planted.ensures.planted
+
+pub returns-clause-planted : goal.returns-clause-planted
+returns-clause-planted c =
+    elim c.match-advance.branch [
+      | in-Ok w ↦ rw w.result-is (λ none. absurd (none refl))
+      | in-Err w ↦ rw w.result-is tt
     ]

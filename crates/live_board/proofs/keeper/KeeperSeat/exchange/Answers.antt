@@ -1,6 +1,6 @@
 use Rattle.live_board.proofs.Telling.{begun_is}
 use Rattle.live_board.specs.{Seats.keeper_view, declared.rule.SeatView.SeatView}
-use Rattle.live_board.proofs.keeper.KeeperSeat.raise.Goals as goal
+use Rattle.live_board.proofs.keeper.KeeperSeat.exchange.Goals as goal
 
 pub returns-clause-risen : goal.returns-clause-risen
 returns-clause-risen c =

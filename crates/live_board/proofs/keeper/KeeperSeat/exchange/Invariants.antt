@@ -1,4 +1,4 @@
-use Rattle.live_board.proofs.keeper.KeeperSeat.raise.Given as goal
+use Rattle.live_board.proofs.keeper.KeeperSeat.exchange.Given as goal
 
 abbrev pub ghosts-rise : goal.ghosts-rise
 ghosts-rise a = record { marker = a.marker.now }
