@@ -37,9 +37,11 @@ impl Keeper {
         }
         let marker = core.marker().marker().copy(self.alloc)?;
         let advanced = bring(board, seat, marker)?;
-        if advanced {
-            seat.plant_all(board);
+        let is_planted = !advanced;
+        if is_planted {
+            return Ok(Mirrored { advanced });
         }
+        seat.plant_all(board);
         Ok(Mirrored { advanced })
     }
 }

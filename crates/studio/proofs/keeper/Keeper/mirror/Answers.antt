@@ -15,8 +15,8 @@ returns-in_err-advanced-clause-spent c = λ _. record {
   falls = c.in_err-advanced.ensures.spent.2;
 }
 
-pub returns-then-advanced-clause-mirrored : goal.returns-then-advanced-clause-mirrored
-returns-then-advanced-clause-mirrored c = is_mirrored (ground_of c.args.board.now) (core_of c.args.self.now)
+pub returns-clause-mirrored : goal.returns-clause-mirrored
+returns-clause-mirrored c = is_mirrored (ground_of c.args.board.now) (core_of c.args.self.now)
     c.in_ok-marker.marker c.in_ok-advanced.advanced (keeper_view c.args.seat.now) (keeper_view c.bring.new.seat)
     (keeper_view c.plant_all.new.self) c.in_ok-advanced.ensures.brought c.plant_all.ensures.generation
     c.plant_all.ensures.marker c.plant_all.ensures.planted
@@ -24,11 +24,11 @@ returns-then-advanced-clause-mirrored c = is_mirrored (ground_of c.args.board.no
     c.in_ok-marker.marker c.core-core.ensures.value c.marker.ensures.marks c.marker-2.ensures.value
     c.in_ok-marker.ensures)
 
-pub returns-else-advanced-clause-mirrored : goal.returns-else-advanced-clause-mirrored
-returns-else-advanced-clause-mirrored c = is_mirrored (ground_of c.args.board.now) (core_of c.args.self.now)
+pub returns-then-is_planted-clause-mirrored : goal.returns-then-is_planted-clause-mirrored
+returns-then-is_planted-clause-mirrored c = is_mirrored (ground_of c.args.board.now) (core_of c.args.self.now)
     c.in_ok-marker.marker c.in_ok-advanced.advanced (keeper_view c.args.seat.now) (keeper_view c.bring.new.seat)
     (keeper_view c.bring.new.seat) c.in_ok-advanced.ensures.brought refl refl
-    (c.in_ok-advanced.ensures.planted (λ yes. false≢true (sym c.if-advanced.false ∙ yes)))
+    (c.in_ok-advanced.ensures.planted (λ yes. false≢true (sym c.if-is_planted.true ∙ yes)))
     (copy_is c.core-core.result.now (core_of c.args.self.now) c.marker.result.now.marker c.marker-2.result.now
     c.in_ok-marker.marker c.core-core.ensures.value c.marker.ensures.marks c.marker-2.ensures.value
     c.in_ok-marker.ensures)
