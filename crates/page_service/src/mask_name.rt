@@ -39,9 +39,7 @@ pub struct MaskName {
 }
 
 impl Model for MaskName {
-    ghost use Rattle.std.specs.Prelude.{ℕ, List};
-    ghost use Rattle.core.specs.declared.option.Option.{Option};
-    ghost use Rattle.core.specs.Option.{option_map};
+    ghost use Rattle.std.specs.Prelude.{ℕ, List, Option, option_map};
 
     ghost Value = { Option (List ℕ) };
 
