@@ -140,6 +140,7 @@ impl KeeperSeat {
         let asked = self.generation * LEVELS + u64::from(value);
         lift::<Brand>(board, &mut self.seat, pixel, asked);
     }
+
     /// Gives each pixel the marker's value, as [`KeeperSeat::plant`] does, where that is not known to be done.
     pub fn plant_all(&mut self, board: &Board)
         requires keeper { IsKeeperOf board.now self.old }
