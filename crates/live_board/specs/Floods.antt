@@ -12,11 +12,15 @@ use Rattle.live_board.specs.Seats.{HasStarted, IsBeside, IsOf, ground_of}
 use Rattle.live_board.specs.Words.{IsOn, mask_of, number, place_of}
 use Rattle.live_board.specs.{declared.board.Board.Board, declared.draft.Draft.Draft, declared.fact.Fact.Fact}
 use Rattle.live_board.specs.{declared.flood.Reach.Reach, declared.rule.Ground.Ground}
-use Rattle.live_board.specs.declared.rule.SeatView.{SeatView}
+use Rattle.live_board.specs.{declared.rule.SeatView.SeatView, declared.strips.Strips.Strips}
 
 -- the draft has the size of the board's mask, and is nowhere above it
 abbrev pub IsDraftOf : Board → Draft → Type 0
 IsDraftOf board draft = IsBelow draft.image (mask_of (ground_of board))
+
+-- the strips are those of the board's rows
+abbrev pub IsStripsOf : Board → Strips → Type 0
+IsStripsOf board strips = strips.height ≡ (mask_of (ground_of board)).height
 
 -- the pixel lies in the rows from `first` to before `end`
 abbrev pub IsInRows : ℕ → ℕ → Pixel → Type 0

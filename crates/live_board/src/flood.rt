@@ -9,10 +9,14 @@ use crate::closing::value_in;
 use crate::draft::Draft;
 use crate::fact::{Fact, LEVELS};
 use crate::hand::HandSeat;
+use crate::strips::Strips;
 use grid_core::laws::cells_given_back;
 use grid_core::{Grid, Pixel, Rect};
 use raster_sweeps::grow_within;
 use std::marker::Brand;
+
+// How often a hand looks for a strip before it is done.
+const VAIN: u64 = 4096;
 
 /// What a flood came to.
 #[derive(Clone, Copy, Debug, PartialEq, Eq)]
@@ -30,7 +34,7 @@ impl HandSeat {
     ghost use Rattle.grid_core.specs.Raster.{IsBelow, IsFilled};
     ghost use Rattle.live_board.specs.Flooding.{AreFounded, AreLow, HasGivenOut, HasLevel, HasLifted, HasPassedOn};
     ghost use Rattle.live_board.specs.Flooding.{HasTakenIn, IsFounded, IsRowKnown};
-    ghost use Rattle.live_board.specs.Floods.{HasFlooded, HasFollowed, IsDraftOf};
+    ghost use Rattle.live_board.specs.Floods.{HasFlooded, HasFollowed, IsDraftOf, IsStripsOf};
     ghost use Rattle.live_board.specs.Rounds.{pixel_after};
     ghost use Rattle.live_board.specs.Seats.{IsHandOf, ground_of, hand_view};
     ghost use Rattle.live_board.specs.Words.{mask_of, max_board, size_of};
@@ -93,6 +97,45 @@ impl HandSeat {
         let above = self.pass_on(board, first, &draft.image);
         let below = self.pass_on(board, end - 1, &draft.image);
         told(first, end, board.height(), (rose, above, below))
+    }
+
+    /// Floods strips, at most so many at once, and marks those in which its floods name rows. It begins with those from
+    /// `near` on, and is done where it has looked for one in vain again and again. It answers how often it flooded.
+    ///
+    /// Several hands that do so in threads, over the same strips, flood the board together. Who is the last to mark a
+    /// strip floods it, if nobody else does.
+    pub fn flood_strips(
+        &mut self,
+        board: &Board,
+        strips: &Strips,
+        near: usize,
+        most: usize,
+        draft: &mut Draft,
+    ) -> u64
+        requires hand { IsHandOf board.now self.old }
+        requires draft { IsDraftOf board.now draft.old }
+        requires strips { IsStripsOf board.now strips.now }
+        ensures hand { IsHandOf board.now self.new }
+        ensures draft { IsDraftOf board.now draft.new }
+    {
+        let (mut floods, mut vain) = (0, 0);
+        for turn in 0..u64::MAX {
+            match strips.take(near, most) {
+                Some((first, end)) => {
+                    let reach = self.flood_on(board, first, end, draft);
+                    strips.mark(reach.first, first);
+                    strips.mark(end, reach.end);
+                    vain = turn;
+                    floods += 1;
+                }
+                None => {
+                    if turn - vain >= VAIN {
+                        break;
+                    }
+                }
+            }
+        }
+        floods
     }
 
     // Reads the cells from `from` to before `to` into the image.

@@ -38,6 +38,7 @@ mod peek;
 mod round;
 mod rule;
 mod steps;
+mod strips;
 
 pub use board::{Board, MAX_BOARD};
 pub use draft::Draft;
@@ -49,3 +50,4 @@ pub use keeper::KeeperSeat;
 pub use laws::{board_laws, flooded_is_grown, spread_is_grown};
 pub use opening::Opened;
 pub use peek::PeekSeat;
+pub use strips::Strips;
