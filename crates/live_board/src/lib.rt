@@ -30,6 +30,7 @@ mod draft;
 mod error;
 mod fact;
 mod flood;
+mod follow;
 mod hand;
 mod keeper;
 mod laws;
@@ -39,6 +40,7 @@ mod round;
 mod rule;
 mod steps;
 mod strips;
+mod trail;
 
 pub use board::{Board, MAX_BOARD};
 pub use draft::Draft;

@@ -1,0 +1,68 @@
+//! What a hand has raised and has still to spread.
+
+ghost use Rattle.std.specs.Prelude.{◌<◌, ◌⊎◌, Contains, IfOk, [], ◌≡◌, ◌≤◌};
+ghost use Rattle.live_board.specs.Following.{IsLeft, IsNamed, KeepsLeft};
+ghost use Rattle.live_board.specs.Words.{max_board};
+
+use crate::fact::Fact;
+use grid_core::Memory;
+use std::alloc::Global;
+
+/// How many facts wait at most.
+const ROOM: usize = 4096;
+
+/// Facts that wait to be spread, the last of them first, and the rows of those for which there was no room: from `first`
+/// to before `end`, none where these are the same.
+#[derive(Drop)]
+pub(crate) struct Trail {
+    pub(crate) waiting: Vec<Fact>,
+    pub(crate) first: u32,
+    pub(crate) end: u32,
+}
+
+impl Trail {
+    /// An empty one.
+    ///
+    /// Errors: out of memory.
+    pub(crate) fn new(alloc: Global) -> Result<Trail, Memory> {
+        match Vec::with_capacity(alloc, ROOM) {
+            Ok(waiting) => Ok(Trail {
+                waiting,
+                first: 0,
+                end: 0,
+            }),
+            Err(_) => Err(Memory),
+        }
+    }
+
+    /// Lets a fact wait, or names its row where there is no room for it.
+    pub(crate) fn note(&mut self, fact: Fact)
+        requires { fact.pixel.y < max_board }
+        ensures kept { KeepsLeft self.old self.new }
+        ensures left { IsLeft self.new fact }
+        ensures only { (f : _) → Contains self.new.waiting.items f
+            → Contains self.old.waiting.items f ⊎ (fact ≡ f) }
+        ensures within { (h : _) → fact.pixel.y < h → self.old.end ≤ h → self.new.end ≤ h }
+    {
+        if self.waiting.len() >= ROOM || self.waiting.push(fact).is_err() {
+            self.name(fact.pixel.y);
+        }
+    }
+
+    /// Names a row.
+    pub(crate) fn name(&mut self, y: u32)
+        requires { y < max_board }
+        ensures waiting { self.new.waiting ≡ self.old.waiting }
+        ensures named { IsNamed self.new y }
+        ensures kept { (z : _) → IsNamed self.old z → IsNamed self.new z }
+        ensures within { (h : _) → y < h → self.old.end ≤ h → self.new.end ≤ h }
+    {
+        if self.first < self.end {
+            self.first = self.first.min(y);
+            self.end = self.end.max(y + 1);
+        } else {
+            self.first = y;
+            self.end = y + 1;
+        }
+    }
+}
