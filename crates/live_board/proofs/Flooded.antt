@@ -208,7 +208,7 @@ row_still_known base y image v w later known x low =
 -- ---- a flood
 
 -- where no step of some rose, none of them did
-none_risen : (ts : List Touch) (t : Touch) → count_by has_risen ts ≡ 0 → Contains ts t → IsTrue (has_risen t) → ⊥
+pub none_risen : (ts : List Touch) (t : Touch) → count_by has_risen ts ≡ 0 → Contains ts t → IsTrue (has_risen t) → ⊥
 none_risen ts t none there rose =
     let most : rise_of (has_risen (slice_index_or ts there.0 t)) ≤ count_by has_risen ts =
     get_or-le-sum_by (λ (x : Touch). rise_of (has_risen x)) ts there.0 t there.1 in

@@ -70,6 +70,24 @@ pub record HasFollowed (base : Ground) (first end : ℕ) (answer : Reach) (old n
       (t : Touch) → Contains flooded.touches t → IsTrue (has_risen t)
       → (IsInRows answer.first answer.end t.0.pixel → ⊥) → HasSpread base new t.0
 
+-- the generation was learnt, and each of the pixels was read. Where a pixel had a value of that generation, it has
+-- spread, and so has all that these steps raised, but for what lies in the answer's rows. The count is that of the steps
+-- that found less than they left
+pub record HasGrownFrom (base : Ground) (pixels : List Pixel) (answer : Reach) (old new : SeatView) : Type 0 where
+  pub started : SeatView
+  pub start : HasStarted old started
+  pub touches : List Touch
+  pub touched : HasTouched base touches started new
+  pub read :
+      (p : Pixel) → Contains pixels p
+      → (loaded : Fact) × IsOf p loaded × Contains touches (loaded, number loaded)
+      × (loaded.generation ≡ new.generation → (IsInRows answer.first answer.end p → ⊥) → HasSpread base new loaded)
+  pub spread :
+      (t : Touch) → Contains touches t → IsTrue (has_risen t)
+      → (IsInRows answer.first answer.end t.0.pixel → ⊥) → HasSpread base new t.0
+  pub within : answer.end ≤ (mask_of base).height
+  pub count_is : answer.rose ≡ count_by has_risen touches
+
 -- a hand that is now in the keeper's generation has flooded the pixel's row, and its word is no more than the hand read
 -- or left there then: nobody has raised the pixel since
 pub record IsFloodedAt (base : Ground) (s : State ℕ SeatView) (keeper : SeatView) (p : Pixel) : Type 0 where

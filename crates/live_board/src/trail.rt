@@ -1,6 +1,6 @@
 //! What a hand has raised and has still to spread.
 
-ghost use Rattle.std.specs.Prelude.{◌<◌, ◌⊎◌, Contains, IfOk, [], ◌≡◌, ◌≤◌};
+ghost use Rattle.std.specs.Prelude.{◌<◌, ◌⊎◌, Contains, IfSome, MatchOption, [], ◌≡◌, ◌≤◌};
 ghost use Rattle.live_board.specs.Following.{IsLeft, IsNamed, KeepsLeft};
 ghost use Rattle.live_board.specs.Words.{max_board};
 
@@ -63,6 +63,42 @@ impl Trail {
         } else {
             self.first = y;
             self.end = y + 1;
+        }
+    }
+
+    /// Lets nothing wait, and names no row.
+    pub(crate) fn clear(&mut self)
+        ensures waiting { self.new.waiting.items ≡ [] }
+        ensures end { self.new.end ≡ 0 }
+    {
+        self.waiting.clear();
+        self.first = 0;
+        self.end = 0;
+    }
+
+    /// Takes out the fact that waits last.
+    pub(crate) fn next(&mut self) -> Option<Fact>
+        ensures left { (f : _) → IsLeft self.old f → IsLeft self.new f ⊎ MatchOption result ⊥ (λ g. g ≡ f) }
+        ensures taken { IfSome result (Contains self.old.waiting.items) }
+        ensures only { (f : _) → Contains self.new.waiting.items f → Contains self.old.waiting.items f }
+        ensures end { self.new.end ≡ self.old.end }
+    {
+        self.waiting.pop()
+    }
+
+    /// Names the row of each fact that waits, so that none does.
+    pub(crate) fn name_all(&mut self, height: u32)
+        requires on { (f : _) → Contains self.old.waiting.items f → f.pixel.y < height }
+        requires end { self.old.end ≤ height }
+        requires height { height ≤ max_board }
+        ensures named { (f : _) → IsLeft self.old f → IsNamed self.new f.pixel.y }
+        ensures end { self.new.end ≤ height }
+    {
+        // For its clause alone: no row lies behind the last one.
+        let _ = height;
+        for place in 0..self.waiting.len() {
+            let row = self.waiting[place].pixel.y;
+            self.name(row);
         }
     }
 }
