@@ -18,6 +18,9 @@ use std::marker::Brand;
 // How often a hand looks for a strip before it is done.
 const VAIN: u64 = 4096;
 
+// How many pixels a hand follows at once beyond the rows that it flooded.
+const FEW: u64 = 128;
+
 /// What a flood came to.
 #[derive(Clone, Copy, Debug, PartialEq, Eq)]
 pub struct Reach {
@@ -72,6 +75,25 @@ impl HandSeat {
         ensures followed { HasFollowed (ground_of board.now) first end result
             (hand_view self.old) (hand_view self.new) }
     {
+        self.flood_edges(board, first, end, draft).0
+    }
+
+    // The same, and how many pixels rose by the first and the last row.
+    fn flood_edges(
+        &mut self,
+        board: &Board,
+        first: u32,
+        end: u32,
+        draft: &mut Draft,
+    ) -> (Reach, u64)
+        requires hand { IsHandOf board.now self.old }
+        requires draft { IsDraftOf board.now draft.old }
+        requires rows { (first < end) × (end ≤ (mask_of (ground_of board.now)).height) }
+        ensures hand { IsHandOf board.now self.new }
+        ensures draft { IsDraftOf board.now draft.new }
+        ensures followed { HasFollowed (ground_of board.now) first end result.0
+            (hand_view self.old) (hand_view self.new) }
+    {
         self.start(board);
         let width = board.width();
         let (from, to) = (
@@ -96,7 +118,8 @@ impl HandSeat {
         let rose = self.give_out(board, from, to, draft.image.cells());
         let above = self.pass_on(board, first, &draft.image);
         let below = self.pass_on(board, end - 1, &draft.image);
-        told(first, end, board.height(), (rose, above, below))
+        let reach = told(first, end, board.height(), (rose, above, below));
+        (reach, above + below)
     }
 
     /// Floods strips, at most so many at once, and marks those in which its floods name rows. It begins with those from
@@ -122,9 +145,7 @@ impl HandSeat {
         for turn in 0..u64::MAX {
             match strips.take(near, most) {
                 Some((first, end)) => {
-                    let reach = self.flood_on(board, first, end, draft);
-                    strips.mark(reach.first, first);
-                    strips.mark(end, reach.end);
+                    self.flood_rows(board, strips, (first, end), draft);
                     vain = turn;
                     floods += 1;
                 }
@@ -136,6 +157,29 @@ impl HandSeat {
             }
         }
         floods
+    }
+
+    // Floods rows. Where few pixels rose beside them it follows these, and it marks the strips of what it leaves.
+    fn flood_rows(&mut self, board: &Board, strips: &Strips, rows: (u32, u32), draft: &mut Draft)
+        requires hand { IsHandOf board.now self.old }
+        requires draft { IsDraftOf board.now draft.old }
+        requires rows { (rows.0 < rows.1) × (rows.1 ≤ (mask_of (ground_of board.now)).height) }
+        ensures hand { IsHandOf board.now self.new }
+        ensures draft { IsDraftOf board.now draft.new }
+    {
+        let (first, end) = rows;
+        let (reach, rose) = self.flood_edges(board, first, end, draft);
+        if rose > FEW {
+            strips.mark(reach.first, first);
+            strips.mark(end, reach.end);
+            return;
+        }
+        for row in reach.first..first {
+            self.follow_row(board, strips, row, draft);
+        }
+        for row in end..reach.end {
+            self.follow_row(board, strips, row, draft);
+        }
     }
 
     // Reads the cells from `from` to before `to` into the image.

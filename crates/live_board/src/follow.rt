@@ -5,6 +5,7 @@ use crate::draft::Draft;
 use crate::fact::{Fact, Seen};
 use crate::flood::Reach;
 use crate::hand::HandSeat;
+use crate::strips::Strips;
 use crate::trail::Trail;
 use grid_core::Pixel;
 
@@ -12,7 +13,7 @@ use grid_core::Pixel;
 const MOST: u64 = 20_000;
 
 impl HandSeat {
-    ghost use Rattle.std.specs.Prelude.{◌*◌, All, Contains, ◌≤◌};
+    ghost use Rattle.std.specs.Prelude.{◌*◌, ◌<◌, All, Contains, ◌≤◌};
     ghost use Rattle.grid_core.specs.Rows.{pixel_if, row_around};
     ghost use Rattle.live_board.specs.Following.{GrowsOn, HasTrailed, IsGrowing, IsReadIn, IsTrailOf, Trails};
     ghost use Rattle.live_board.specs.Floods.{HasGrownFrom, IsDraftOf};
@@ -201,6 +202,34 @@ impl HandSeat {
             Seen::Value(fact) => trail.note(fact),
             Seen::Older => {}
             Seen::Newer => {}
+        }
+    }
+
+    // Grows from the pixels of a row, and marks the strips of what has not spread.
+    pub(crate) fn follow_row(&mut self, board: &Board, strips: &Strips, y: u32, draft: &mut Draft)
+        requires hand { IsHandOf board.now self.old }
+        requires draft { IsDraftOf board.now draft.old }
+        requires row { y < (mask_of (ground_of board.now)).height }
+        ensures hand { IsHandOf board.now self.new }
+        ensures draft { IsDraftOf board.now draft.new }
+    {
+        draft.trail.clear();
+        self.read_row(board, y, &mut draft.trail);
+        self.serve(board, &mut draft.trail);
+        draft.trail.name_all(board.height());
+        strips.mark(draft.trail.first, draft.trail.end);
+    }
+
+    // Reads the pixels of a row, and lets what they have wait.
+    fn read_row(&mut self, board: &Board, y: u32, trail: &mut Trail)
+        requires hand { IsHandOf board.now self.old }
+        requires row { y < (mask_of (ground_of board.now)).height }
+        requires trail { IsTrailOf (ground_of board.now) (hand_view self.old) trail.old }
+        ensures hand { IsHandOf board.now self.new }
+        ensures trail { IsTrailOf (ground_of board.now) (hand_view self.new) trail.new }
+    {
+        for x in 0..board.width() {
+            self.read_in(board, Pixel { x, y }, trail);
         }
     }
 }
