@@ -2,7 +2,7 @@
 
 ghost use Rattle.std.specs.Prelude.{All, IfSome};
 ghost use Rattle.grid_core.specs.Raster.{IsBelow};
-ghost use Rattle.live_board.specs.Floods.{IsDraftOf};
+ghost use Rattle.live_board.specs.Floods.{IsDraftOf, IsStripsOf};
 ghost use Rattle.live_board.specs.Opening.{IsNewHand, IsNewPeek};
 ghost use Rattle.live_board.specs.Seats.{IsHandOf, IsKeeperOf, IsPeekOf, ground_of};
 ghost use Rattle.live_board.specs.Words.{mask_of};
@@ -14,13 +14,16 @@ use crate::studios::{open, turn};
 use crate::system::{Laps, System, thread_time};
 use core_dispatch::Pen;
 use grid_core::{Grid, Pixel};
-use live_board::{Board, Draft, HandSeat, KeeperSeat, Opened, PeekSeat};
+use live_board::{Board, Draft, HandSeat, KeeperSeat, Opened, PeekSeat, Strips};
 use reset_core::Core;
 use std::alloc::Global;
 use std::sync::atomic::{AtomicU64, Ordering};
 use std::thread::{for_each_mut, join_mut};
 use stroke_lattice::Delta;
 use studio::Keeper;
+
+// How many rows a strip has that hands flood.
+const STRIP: u32 = 64;
 
 // A hand, and what it floods with.
 type Worker = (HandSeat, Draft);
@@ -301,7 +304,7 @@ fn go_round(board: &Board, worker: &mut Worker, rounds: &AtomicU64)
     }
 }
 
-// Has the hands flood the board, each some rows of it, until none finds a pixel to raise. One hand is done at once.
+// Has the hands flood the board, strip by strip, until none is left. One hand floods all rows at once.
 fn flood_all(
     rt: &impl System,
     board: &Board,
@@ -313,68 +316,60 @@ fn flood_all(
     requires workers { All (λ w. IsHandOf board.now w.0 × IsDraftOf board.now w.1) workers.old.items }
     ensures { All (λ w. IsHandOf board.now w.0 × IsDraftOf board.now w.1) workers.new.items }
 {
-    let are_many = workers.len() > 1;
-    for _ in 0..u64::MAX {
-        let rose = AtomicU64::new(0);
+    let threads = workers.len().max(1);
+    // Without memory for the strips the board stays as it is, which is told when it is closed.
+    let Ok(strips) = board.strips(rt.alloc(), STRIP) else {
+        return;
+    };
+    if threads > 1 {
+        flood_strips(rt, board, &strips, workers, rounds);
+    } else if let Some(worker) = workers.first_mut() {
+        flood_rows(board, marker, worker);
         rounds.fetch_add(1, Ordering::SeqCst);
-        flood_once(rt, board, marker, workers, &rose);
-        if !are_many || rose.load(Ordering::SeqCst) == 0 {
-            break;
-        }
     }
+    drop(strips);
 }
 
-// Has each hand flood its rows in a thread of its own. The last number is how many pixels rose.
-fn flood_once(
+// Has each hand flood strips in a thread of its own. The last number is how many floods there were.
+fn flood_strips(
     rt: &impl System,
     board: &Board,
-    marker: &Grid,
+    strips: &Strips,
     workers: &mut Vec<Worker>,
-    rose: &AtomicU64,
+    floods: &AtomicU64,
 )
-    requires marker { IsBelow marker.now (mask_of (ground_of board.now)) }
+    requires strips { IsStripsOf board.now strips.now }
     requires workers { All (λ w. IsHandOf board.now w.0 × IsDraftOf board.now w.1) workers.old.items }
     ensures { All (λ w. IsHandOf board.now w.0 × IsDraftOf board.now w.1) workers.new.items }
 {
     let threads = workers.len().max(1);
+    let each = strips.count().div_ceil(threads);
     for_each_mut(
         rt,
         workers,
         threads,
         &|number, worker: &mut Worker|
-            requires marker { IsBelow marker.now (mask_of (ground_of board.now)) }
+            requires strips { IsStripsOf board.now strips.now }
             requires worker { IsHandOf board.now worker.old.0 × IsDraftOf board.now worker.old.1 }
             ensures { IsHandOf board.entry.now worker.new.0 × IsDraftOf board.entry.now worker.new.1 }
         {
-            flood_rows(
-                board,
-                marker,
-                rows_of(marker.height(), number, threads),
-                worker,
-                rose,
-            )
+            let near = number.saturating_mul(each);
+            let count = worker
+                .0
+                .flood_strips(board, strips, near, each, &mut worker.1);
+            floods.fetch_add(count, Ordering::SeqCst);
         },
     );
 }
 
-// The rows of the hand of this number, of so many hands.
-fn rows_of(height: u32, number: usize, count: usize) -> (u32, u32) {
-    let each = (height as usize).div_ceil(count.max(1));
-    let first = number.saturating_mul(each).min(height as usize);
-    let end = first.saturating_add(each).min(height as usize);
-    (first as u32, end as u32)
-}
-
-// Floods these rows, where there are any.
-fn flood_rows(board: &Board, marker: &Grid, rows: (u32, u32), worker: &mut Worker, rose: &AtomicU64)
+// Floods all rows, where there are any.
+fn flood_rows(board: &Board, marker: &Grid, worker: &mut Worker)
     requires marker { IsBelow marker.now (mask_of (ground_of board.now)) }
     requires worker { IsHandOf board.now worker.old.0 × IsDraftOf board.now worker.old.1 }
     ensures { IsHandOf board.now worker.new.0 × IsDraftOf board.now worker.new.1 }
 {
-    let (first, end) = rows;
-    if first < end && end <= marker.height() {
-        let count = worker.0.flood(board, first, end, &mut worker.1);
-        rose.fetch_add(count, Ordering::SeqCst);
+    if marker.height() > 0 {
+        worker.0.flood(board, 0, marker.height(), &mut worker.1);
     }
 }
 

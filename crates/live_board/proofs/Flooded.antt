@@ -1,8 +1,9 @@
 -- Floods: rows that were read, grown and raised were flooded.
 use Rattle.std.proofs.Common.{◌*◌, ◌+◌, ◌++◌, ◌-◌, ◌<◌, Contains, List, [], ap, arith, count_by, le_refl, min, refl}
-use Rattle.std.proofs.Common.{slice_index, subst, subst₂, sym, ℕ, ◌∙◌, ◌∷◌, ◌≡◌, ◌≤◌, ◌⊎◌}
+use Rattle.std.proofs.Common.{IsTrue, slice_index, slice_index_or, subst, subst₂, sym, ℕ, ◌∙◌, ◌∷◌, ◌≡◌, ◌≤◌, ◌⊎◌}
 use Rattle.std.proofs.Math.Nat.{le-div_iff_mul-le, mul-le-mul_left, mul_comm}
 use Rattle.std.proofs.lemmas.Bool.{cases_lt}
+use Rattle.std.proofs.lemmas.List.Sums.{get_or-le-sum_by}
 use Rattle.std.proofs.lemmas.Nat.{div_below, mul-add-lt}
 use Rattle.std.proofs.lemmas.List.Elements.{Contains-append_cases, Contains-append_left}
 use Rattle.std.specs.List.{AllByRecursion}
@@ -16,14 +17,15 @@ use Rattle.grid_core.specs.declared.conn.Conn.TheVariants.{Eight, Four}
 use Rattle.grid_core.specs.{declared.pixel.Pixel.Pixel, declared.rect.Rect.Rect}
 use mathlib.Core.Logic.{⊎_elim}
 use Rattle.live_board.proofs.Flooding.{IsLater, cell_is, cell_on, knows_later, later_by, touch_known}
-use Rattle.live_board.proofs.Touching.{comes_after, rises_both, touched_both}
-use Rattle.live_board.specs.Flooding.{AreFounded, HasGivenOut, HasPassedOn, HasTakenIn, IsFounded, IsRowKnown}
-use Rattle.live_board.specs.Flooding.{drawn_fact}
-use Rattle.live_board.specs.Floods.{HasFlooded, HasSpread, IsInRows, Knows, passed}
+use Rattle.live_board.proofs.Touching.{comes_after, rise_of, rises_both, touched_both}
+use Rattle.live_board.specs.Flooding.{AreFounded, HasGivenOut, HasPassedOn, HasTakenIn, IsAround, IsFounded, IsReachOf}
+use Rattle.live_board.specs.Flooding.{IsRowKnown, drawn_fact}
+use Rattle.live_board.specs.Floods.{HasFlooded, HasFollowed, HasSpread, IsInRows, Knows, passed}
 use Rattle.live_board.specs.Rounds.{HasTouched, Touch, has_risen, pixel_after}
 use Rattle.live_board.specs.Seats.{HasStarted, IsBeside, IsOf, raised_fact}
 use Rattle.live_board.specs.Words.{IsOn, Supports, domain, fact, mask_of, number}
-use Rattle.live_board.specs.{declared.fact.Fact.Fact, declared.rule.Ground.Ground, declared.rule.SeatView.SeatView}
+use Rattle.live_board.specs.{declared.fact.Fact.Fact, declared.flood.Reach.Reach, declared.rule.Ground.Ground}
+use Rattle.live_board.specs.declared.rule.SeatView.{SeatView}
 use Rattle.raster_sweeps.specs.Regrowth.{IsRegrownIn}
 
 -- ---- cells of rows
@@ -205,11 +207,21 @@ row_still_known base y image v w later known x low =
 
 -- ---- a flood
 
+-- where no step of some rose, none of them did
+pub none_risen : (ts : List Touch) (t : Touch) → count_by has_risen ts ≡ 0 → Contains ts t → IsTrue (has_risen t) → ⊥
+none_risen ts t none there rose =
+    let most : rise_of (has_risen (slice_index_or ts there.0 t)) ≤ count_by has_risen ts =
+    get_or-le-sum_by (λ (x : Touch). rise_of (has_risen x)) ts there.0 t there.1 in
+    let one : rise_of (has_risen (slice_index_or ts there.0 t)) ≡ 1 =
+    ap (λ (x : Touch). rise_of (has_risen x)) there.2 ∙ ap rise_of rose in
+    omega arith
+
 -- all that a flood did to its rows
 pub record IsDone (base : Ground) (first end rose above below : ℕ) (before after : Raster)
     (old started read raised higher new : SeatView) : Type 0 where
   pub start : HasStarted old started
   pub filled : IsFilled (mask_of base)
+  pub some_width : 0 < (mask_of base).width
   pub some : first < end
   pub high : end ≤ (mask_of base).height
   pub low : (p : Pixel) → IsOn base p → value_at before p ≤ value_at (mask_of base) p
@@ -384,8 +396,8 @@ module _ (base : Ground) (first end rose above below : ℕ) (before after : Rast
         enough = (let enough = knows.enough in omega (arith, less, enough));
       }
 
-  pub flooded_is : HasFlooded base first end (rose + above + below) old new
-  flooded_is = record {
+  abbrev flooded_is : (count : ℕ) → count ≡ rose + above + below → HasFlooded base first end count old new
+  flooded_is count is = record {
     started = started;
     start = d.start;
     touches = all;
@@ -413,5 +425,57 @@ module _ (base : Ground) (first end rose above below : ℕ) (before after : Rast
         let x : rose ≡ count_by has_risen d.given.touches = d.given.count_is in
         let y : above ≡ count_by has_risen d.up.touches = d.up.count_is in
         let z : below ≡ count_by has_risen d.down.touches = d.down.count_is in
-        omega arith;
+        is ∙ omega arith;
   }
+
+  -- what the flood came to, where its rows are these
+  module _ (answer : Reach) (rose_is : answer.rose ≡ rose + above + below)
+      (reach : IsReachOf first end (mask_of base).height above below answer) where
+    -- what rose lies in the answer's rows
+    abbrev IsNear : Touch → Type 0
+    IsNear t = IsTrue (has_risen t) → IsInRows answer.first answer.end t.0.pixel
+
+    near_rows_of : (t : Touch) (cell : ℕ) → w * first ≤ cell → cell < w * end → t.0.pixel ≡ pixel_after base cell
+        → IsNear t
+    near_rows_of t cell after_first before_end is rise =
+        let rows : IsInRows first end t.0.pixel =
+        subst (IsInRows first end) (sym is) (cell_rows base first end cell d.some_width after_first before_end) in
+        (omega (arith, rows.0, reach.low), omega (arith, rows.1, reach.high))
+
+    near_passed : (y n : ℕ) (v u : SeatView) (passing : HasPassedOn base y w after n v u)
+        → (n ≡ 0) ⊎ IsAround y (mask_of base).height answer → (t : Touch) → Contains passing.touches t → IsNear t
+    near_passed y n v u passing around t there rise =
+        ⊎_elim
+        (λ (none : n ≡ 0). absurd (none_risen passing.touches t (sym passing.count_is ∙ none) there rise))
+        (λ (wide : IsAround y (mask_of base).height answer).
+        let l = passing.each t there in
+        let same_row : t.0.pixel.y ≡ l.to.y = ap (λ (f : Fact). f.pixel.y) l.is in
+        let near_to = near_rows l.by l.to l.beside.beside in
+        let row : l.by.y ≡ y = l.row in
+        let on = l.beside.on in
+        (omega (arith, near_to.0, wide.0), omega (arith, near_to.1, wide.1, on.1)))
+        around
+
+    near_all : (t : Touch) → Contains all t → IsNear t
+    near_all t there = ⊎_elim
+        (λ (here : Contains upper t). ⊎_elim
+        (λ (in_inner : Contains inner t). ⊎_elim
+        (λ (read_it : Contains d.taken.touches t).
+        let l = d.taken.each t read_it in near_rows_of t l.cell l.after l.before l.pixel)
+        (λ (gave_it : Contains d.given.touches t).
+        let l = d.given.each t gave_it in
+        near_rows_of t l.cell l.after l.before (ap (λ (f : Fact). f.pixel) l.is))
+        (Contains-append_cases d.taken.touches d.given.touches t in_inner))
+        (near_passed first above raised higher d.up reach.up t) (Contains-append_cases inner d.up.touches t here))
+        (near_passed (end - 1) below higher new d.down reach.down t)
+        (Contains-append_cases upper d.down.touches t there)
+
+    pub followed_is : HasFollowed base first end answer old new
+    followed_is = record {
+      flooded = flooded_is answer.rose rose_is;
+      low = reach.low;
+      high = reach.high;
+      within = reach.within;
+      quiet = λ none. reach.quiet (omega (arith, none, rose_is)) (omega (arith, none, rose_is));
+      followed = λ t there rise beyond. absurd (beyond (near_all t there rise));
+    }

@@ -11,3 +11,4 @@ pub mod Flooding
 pub mod Flooded
 pub mod Settled
 pub mod Planted
+pub mod Following

@@ -4,14 +4,17 @@ use Rattle.std.proofs.Common.{◌∙◌, ◌≡◌, ◌≤◌}
 use Rattle.grid_core.proofs.{Images.closed_is_reconstruction, Reach.reaches_within_mask}
 use Rattle.grid_core.specs.{Neighbours.AreNeighbours, Raster.Raster, Raster.value_at}
 use Rattle.grid_core.specs.declared.pixel.Pixel.{Pixel}
+use Rattle.atomic_table.specs.Table.{State}
 use lib.ListN.{get_elem?}
 use mathlib.Core.Logic.{dite}
 use mathlib.Core.Option.{some}
 use native.Mathlib.Decide.{ℕ_discrete}
-use Rattle.live_board.proofs.{Boards.is_keeper, Endings.value_above, Endings.value_reached, Flooding.touch_known}
+use Rattle.live_board.proofs.{Boards.is_keeper, Endings.value_above, Endings.value_reached}
+use Rattle.live_board.proofs.Flooding.{knows_later, touch_known}
 use Rattle.live_board.proofs.Places.{number_is, small_value}
 use Rattle.live_board.specs.{Closing.AreAllPlanted, Closing.IsReadFrom, Closing.IsValueIn}
-use Rattle.live_board.specs.Floods.{FloodedIsGrown, IsFloodedAt, Knows, passed}
+use Rattle.live_board.specs.Floods.{FloodedIsGrown, IsFloodedAt, IsInRows, IsSpreadAt, Knows, SpreadIsGrown}
+use Rattle.live_board.specs.Floods.{SpreadLasts, passed}
 use Rattle.live_board.specs.{Seats.planted_fact}
 use Rattle.live_board.specs.Words.{IsOn, Supports, domain, mask_of, number, place_of}
 use Rattle.live_board.specs.{declared.fact.Fact.Fact, declared.rule.Ground.Ground, declared.rule.SeatView.SeatView}
@@ -70,13 +73,12 @@ module _ (base : Ground) (keeper : SeatView) (image : Raster) (read : IsReadFrom
       (subst (λ (g : ℕ). g * 65536 + f.value ≤ word f.pixel) (same ∙ mine.0) held.kept)
       (read.rule.pixels f.pixel held.on).not_later (told f.pixel held.on)
 
-  closed : ((p : Pixel) → IsOn base p → IsFloodedAt base read.last keeper p) → (p q : Pixel) → IsOn base p
+  closed : ((p : Pixel) → IsOn base p → IsSpreadAt base read.last keeper p) → (p q : Pixel) → IsOn base p
       → IsOn base q → AreNeighbours base.conn p q → min (j p) (mask q) ≤ j q
-  closed flooded p q on_p on_q beside =
-      let at = flooded p on_p in
-      let f : Fact = at.last.0 in
-      let known = touch_known base at.flooded.touches at.flooded.started at.new at.last at.flooded.touched at.is_last in
-      let held = (read.rule.seats at.id at.new at.seat_is).facts f known in
+  closed spread p q on_p on_q beside =
+      let at = spread p on_p in
+      let f : Fact = at.last in
+      let held = (read.rule.seats at.id at.hand at.seat_is).facts f at.is_known in
       let kept : number f ≤ word p = subst (λ (z : Pixel). number f ≤ word z) at.pixel held.kept in
       let most : word p ≤ number f = at.no_more in
       let is : word p ≡ number f = omega arith in
@@ -88,16 +90,12 @@ module _ (base : Ground) (keeper : SeatView) (image : Raster) (read : IsReadFrom
       let limit : j p ≤ mask p =
       reaches_within_mask (domain base) mask (value_at keeper.marker) p (j p) (reached p on_p) in
       let at_f : mask f.pixel ≡ mask p = ap mask at.pixel in
-      let knows : Knows at.new q (passed base f q) =
-      at.flooded.spread at.last at.is_last (
-        omega (arith, ap (λ (z : Pixel). z.y) at.pixel, at.rows.0),
-        omega (arith, ap (λ (z : Pixel). z.y) at.pixel, at.rows.1),
-      )
-      (same ∙ sym at.present) q
+      let knows : Knows at.hand q (passed base f q) =
+      at.spread (same ∙ sym at.present) q
       (record { on = on_q; beside = subst (λ (z : Pixel). AreNeighbours base.conn z q) (sym at.pixel) beside }) in
       let enough : min (min f.value (mask f.pixel)) (mask q) ≤ knows.known.value = knows.enough in
       let has : knows.known.value ≤ j knows.known.pixel =
-      no_less at.id at.new knows.known at.seat_is knows.is_known (knows.generation ∙ at.present) in
+      no_less at.id at.hand knows.known at.seat_is knows.is_known (knows.generation ∙ at.present) in
       let at_q : j knows.known.pixel ≡ j q = ap j knows.pixel in
       omega arith)
       (λ (differs : f.generation ≡ keeper.generation → ⊥).
@@ -108,8 +106,34 @@ module _ (base : Ground) (keeper : SeatView) (image : Raster) (read : IsReadFrom
   above : AreAllPlanted base keeper → (p : Pixel) → IsOn base p → value_at keeper.marker p ≤ j p
   above planted p on = no_less 0 keeper (planted_fact keeper p) read.keeper_is (planted p on) refl
 
-pub flooded_is_grown : FloodedIsGrown
-flooded_is_grown base keeper image read below planted flooded =
+pub spread_is_grown : SpreadIsGrown
+spread_is_grown base keeper image read below planted spread =
     closed_is_reconstruction (domain base) (value_at (mask_of base)) (value_at keeper.marker) (value_at image.raster)
     (λ p on. (above base keeper image.raster read planted p on, reached base keeper image.raster read p on))
-    (closed base keeper image.raster read flooded)
+    (closed base keeper image.raster read spread)
+
+-- what was flooded has spread
+flooded_is_spread : (base : Ground) (s : State ℕ SeatView) (keeper : SeatView) (p : Pixel)
+    → IsFloodedAt base s keeper p → IsSpreadAt base s keeper p
+flooded_is_spread base s keeper p at = record {
+  id = at.id;
+  hand = at.new;
+  seat_is = at.seat_is;
+  present = at.present;
+  last = at.last.0;
+  is_known = touch_known base at.flooded.touches at.flooded.started at.new at.last at.flooded.touched at.is_last;
+  pixel = at.pixel;
+  spread = λ same. at.flooded.spread at.last at.is_last
+      (subst (IsInRows at.first at.end) (sym at.pixel) at.rows) same;
+  no_more = at.no_more;
+}
+
+pub flooded_is_grown : FloodedIsGrown
+flooded_is_grown base keeper image read below planted flooded =
+    spread_is_grown base keeper image read below planted
+    (λ p on. flooded_is_spread base read.last keeper p (flooded p on))
+
+-- what has spread stays so
+pub spread_lasts : SpreadLasts
+spread_lasts base old new f much spread q beside =
+    knows_later old new q (passed base f q) (record { facts = much.1; generation = much.0 }) (spread q beside)

@@ -96,7 +96,7 @@ pub record HaveRaised (base : Ground) (from : Fact) (qs : List Pixel) (count : �
   pub all : (q : Pixel) → Contains qs q → (found : ℕ) × Contains touches (raised_fact base from q, found)
   pub count_is : count ≡ count_by has_risen touches
 
-only : {X : Type 0} (q r : X) → Contains (q ∷ []) r → q ≡ r
+pub only : {X : Type 0} (q r : X) → Contains (q ∷ []) r → q ≡ r
 only q r known = ⊎_elim
     (λ (none : Contains [] r). absurd (let past : none.0 < 0 = none.1 in omega arith))
     (λ (is : q ≡ r). is) (Contains-push_cases [] q r known)

@@ -1,13 +1,14 @@
 -- The steps of a flood, cell by cell: the cell of a pixel is its place in raster order. Only private functions have
 -- these words in their contracts.
-use Rattle.std.specs.Prelude.{◌<◌, ◌⊎◌, Bool, Contains, IsTrue, List, count_by, length, min, slice_index, ℕ, ◌↔◌}
+use Rattle.std.specs.Prelude.{◌+◌, ◌-◌, ◌<◌, ◌⊎◌, Bool, Contains, IsTrue, List, count_by, length, min, slice_index, ℕ, ◌↔◌}
 use Rattle.std.specs.Prelude.{◌≡◌, ◌≤◌}
 use Rattle.grid_core.specs.{Raster.Raster, Raster.value_at, declared.pixel.Pixel.Pixel}
 use Rattle.live_board.specs.Floods.{Knows}
 use Rattle.live_board.specs.Rounds.{HasTouched, Touch, has_risen, pixel_after}
 use Rattle.live_board.specs.Seats.{Adds, IsBeside, IsOf, raised_fact}
 use Rattle.live_board.specs.Words.{Supports, fact, mask_of, number}
-use Rattle.live_board.specs.{declared.fact.Fact.Fact, declared.rule.Ground.Ground, declared.rule.SeatView.SeatView}
+use Rattle.live_board.specs.{declared.fact.Fact.Fact, declared.flood.Reach.Reach, declared.rule.Ground.Ground}
+use Rattle.live_board.specs.declared.rule.SeatView.{SeatView}
 
 -- the cells are as many as the mask's, and none is above it
 abbrev pub AreLow : Ground → List ℕ → Type 0
@@ -109,3 +110,16 @@ abbrev pub IsRowKnown : Ground → ℕ → Raster → SeatView → Type 0
 IsRowKnown base y image v =
     (x : ℕ) → x < (mask_of base).width
     → Contains v.facts (drawn_fact v.generation image (record { x = x; y = y }))
+
+-- the answer's rows are those around the row, as far as there are any
+abbrev pub IsAround : ℕ → ℕ → Reach → Type 0
+IsAround y height answer = (answer.first ≤ y - 1) × (min (y + 2) height ≤ answer.end)
+
+-- the answer's rows are those from `first` to before `end`, and those around the first and the last where they raised
+pub record IsReachOf (first end height above below : ℕ) (answer : Reach) : Type 0 where
+  pub low : answer.first ≤ first
+  pub high : end ≤ answer.end
+  pub within : answer.end ≤ height
+  pub quiet : above ≡ 0 → below ≡ 0 → (answer.first ≡ first) × (answer.end ≡ end)
+  pub up : (above ≡ 0) ⊎ IsAround first height answer
+  pub down : (below ≡ 0) ⊎ IsAround (end - 1) height answer

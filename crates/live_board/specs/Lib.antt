@@ -17,4 +17,5 @@ pub mod Planting
 pub mod Reading
 pub mod Floods
 pub mod Flooding
+pub mod Following
 pub mod Laws

@@ -4,16 +4,18 @@ ghost use Rattle.std.specs.Prelude.{IfOk};
 ghost use Rattle.live_board.specs.Floods.{IsDraftOf};
 
 use crate::board::Board;
+use crate::trail::Trail;
 use grid_core::{Grid, Memory};
 use raster_sweeps::Room;
 use std::alloc::Global;
 
-/// The memory of a hand's floods: an image of the board's size, and room for growing in it. Any draft of a board serves
+/// The memory of a hand's floods: an image of the board's size, and room for growing in it and beyond. Any draft of a board serves
 /// any of its hands, for one flood after another.
 #[derive(Drop)]
 pub struct Draft {
     pub(crate) image: Grid,
     pub(crate) room: Room,
+    pub(crate) trail: Trail,
 }
 
 impl Board {
@@ -25,6 +27,7 @@ impl Board {
     {
         let image = self.base.mask.grid().copy(alloc)?;
         let room = Room::new(alloc, image.width() * image.height())?;
-        Ok(Draft { image, room })
+        let trail = Trail::new(alloc)?;
+        Ok(Draft { image, room, trail })
     }
 }

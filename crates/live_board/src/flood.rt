@@ -1,22 +1,43 @@
 //! Floods of a hand.
 
+ghost use Rattle.std.specs.Prelude.{◌+◌, ◌<◌, ◌≡◌, ◌≤◌};
+ghost use Rattle.live_board.specs.{Flooding.IsReachOf, Words.max_board};
+
 use crate::board::Board;
 use crate::cells::{lift_cell, load_cell};
 use crate::closing::value_in;
 use crate::draft::Draft;
 use crate::fact::{Fact, LEVELS};
 use crate::hand::HandSeat;
+use crate::strips::Strips;
 use grid_core::laws::cells_given_back;
 use grid_core::{Grid, Pixel, Rect};
 use raster_sweeps::grow_within;
 use std::marker::Brand;
+
+// How often a hand looks for a strip before it is done.
+const VAIN: u64 = 4096;
+
+// How many pixels a hand follows at once beyond the rows that it flooded.
+const FEW: u64 = 128;
+
+/// What a flood came to.
+#[derive(Clone, Copy, Debug, PartialEq, Eq)]
+pub struct Reach {
+    /// How many raises found less than they left.
+    pub rose: u64,
+    /// The first of the rows beyond which all that was raised has spread.
+    pub first: u32,
+    /// The row after the last of them.
+    pub end: u32,
+}
 
 impl HandSeat {
     ghost use Rattle.std.specs.Prelude.{◌<◌, length, ◌≡◌, ◌≤◌};
     ghost use Rattle.grid_core.specs.Raster.{IsBelow, IsFilled};
     ghost use Rattle.live_board.specs.Flooding.{AreFounded, AreLow, HasGivenOut, HasLevel, HasLifted, HasPassedOn};
     ghost use Rattle.live_board.specs.Flooding.{HasTakenIn, IsFounded, IsRowKnown};
-    ghost use Rattle.live_board.specs.Floods.{HasFlooded, IsDraftOf};
+    ghost use Rattle.live_board.specs.Floods.{HasFlooded, HasFollowed, IsDraftOf, IsStripsOf};
     ghost use Rattle.live_board.specs.Rounds.{pixel_after};
     ghost use Rattle.live_board.specs.Seats.{IsHandOf, ground_of, hand_view};
     ghost use Rattle.live_board.specs.Words.{mask_of, max_board, size_of};
@@ -35,6 +56,42 @@ impl HandSeat {
         ensures hand { IsHandOf board.now self.new }
         ensures draft { IsDraftOf board.now draft.new }
         ensures flooded { HasFlooded (ground_of board.now) first end result
+            (hand_view self.old) (hand_view self.new) }
+    {
+        self.flood_on(board, first, end, draft).rose
+    }
+
+    /// The same, and it answers beyond which rows nothing is left to do: a pixel that it raised there has spread, too.
+    /// These are the rows themselves, and more only where a pixel rose beyond them.
+    ///
+    /// So who floods those of its rows that were not flooded here, and goes on so until none is named, leaves nothing
+    /// that this hand raised to be spread by others.
+    pub fn flood_on(&mut self, board: &Board, first: u32, end: u32, draft: &mut Draft) -> Reach
+        requires hand { IsHandOf board.now self.old }
+        requires draft { IsDraftOf board.now draft.old }
+        requires rows { (first < end) × (end ≤ (mask_of (ground_of board.now)).height) }
+        ensures hand { IsHandOf board.now self.new }
+        ensures draft { IsDraftOf board.now draft.new }
+        ensures followed { HasFollowed (ground_of board.now) first end result
+            (hand_view self.old) (hand_view self.new) }
+    {
+        self.flood_edges(board, first, end, draft).0
+    }
+
+    // The same, and how many pixels rose by the first and the last row.
+    fn flood_edges(
+        &mut self,
+        board: &Board,
+        first: u32,
+        end: u32,
+        draft: &mut Draft,
+    ) -> (Reach, u64)
+        requires hand { IsHandOf board.now self.old }
+        requires draft { IsDraftOf board.now draft.old }
+        requires rows { (first < end) × (end ≤ (mask_of (ground_of board.now)).height) }
+        ensures hand { IsHandOf board.now self.new }
+        ensures draft { IsDraftOf board.now draft.new }
+        ensures followed { HasFollowed (ground_of board.now) first end result.0
             (hand_view self.old) (hand_view self.new) }
     {
         self.start(board);
@@ -61,7 +118,68 @@ impl HandSeat {
         let rose = self.give_out(board, from, to, draft.image.cells());
         let above = self.pass_on(board, first, &draft.image);
         let below = self.pass_on(board, end - 1, &draft.image);
-        rose + above + below
+        let reach = told(first, end, board.height(), (rose, above, below));
+        (reach, above + below)
+    }
+
+    /// Floods strips, at most so many at once, and marks those in which its floods name rows. It begins with those from
+    /// `near` on, and is done where it has looked for one in vain again and again. It answers how often it flooded.
+    ///
+    /// Several hands that do so in threads, over the same strips, flood the board together. Who is the last to mark a
+    /// strip floods it, if nobody else does.
+    pub fn flood_strips(
+        &mut self,
+        board: &Board,
+        strips: &Strips,
+        near: usize,
+        most: usize,
+        draft: &mut Draft,
+    ) -> u64
+        requires hand { IsHandOf board.now self.old }
+        requires draft { IsDraftOf board.now draft.old }
+        requires strips { IsStripsOf board.now strips.now }
+        ensures hand { IsHandOf board.now self.new }
+        ensures draft { IsDraftOf board.now draft.new }
+    {
+        let (mut floods, mut vain) = (0, 0);
+        for turn in 0..u64::MAX {
+            match strips.take(near, most) {
+                Some((first, end)) => {
+                    self.flood_rows(board, strips, (first, end), draft);
+                    vain = turn;
+                    floods += 1;
+                }
+                None => {
+                    if turn - vain >= VAIN {
+                        break;
+                    }
+                }
+            }
+        }
+        floods
+    }
+
+    // Floods rows. Where few pixels rose beside them it follows these, and it marks the strips of what it leaves.
+    fn flood_rows(&mut self, board: &Board, strips: &Strips, rows: (u32, u32), draft: &mut Draft)
+        requires hand { IsHandOf board.now self.old }
+        requires draft { IsDraftOf board.now draft.old }
+        requires rows { (rows.0 < rows.1) × (rows.1 ≤ (mask_of (ground_of board.now)).height) }
+        ensures hand { IsHandOf board.now self.new }
+        ensures draft { IsDraftOf board.now draft.new }
+    {
+        let (first, end) = rows;
+        let (reach, rose) = self.flood_edges(board, first, end, draft);
+        if rose > FEW {
+            strips.mark(reach.first, first);
+            strips.mark(end, reach.end);
+            return;
+        }
+        for row in reach.first..first {
+            self.follow_row(board, strips, row, draft);
+        }
+        for row in end..reach.end {
+            self.follow_row(board, strips, row, draft);
+        }
     }
 
     // Reads the cells from `from` to before `to` into the image.
@@ -171,5 +289,31 @@ impl HandSeat {
             rose += self.spread(board, from);
         }
         rose
+    }
+}
+
+// What a flood of the rows from `first` to before `end` came to, by how many raises rose in them, by its first row, and
+// by its last.
+fn told(first: u32, end: u32, height: u32, rose: (u64, u64, u64)) -> Reach
+    requires rows { (first < end) × (end ≤ height) }
+    requires few { (rose.0 ≤ max_board) × (rose.1 ≤ 147456) × (rose.2 ≤ 147456) }
+    ensures rose { result.rose ≡ rose.0 + rose.1 + rose.2 }
+    ensures reach { IsReachOf first end height rose.1 rose.2 result }
+{
+    let is_one = end - first == 1;
+    let is_above = rose.1 > 0 || is_one && rose.2 > 0;
+    let is_below = rose.2 > 0 || is_one && rose.1 > 0;
+    Reach {
+        rose: rose.0 + rose.1 + rose.2,
+        first: if is_above {
+            first.saturating_sub(1)
+        } else {
+            first
+        },
+        end: if is_below && end < height {
+            end + 1
+        } else {
+            end
+        },
     }
 }

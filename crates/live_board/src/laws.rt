@@ -1,6 +1,6 @@
 //! What the rule of a board says, as contracts of functions that do nothing.
 
-ghost use Rattle.live_board.specs.{Floods.FloodedIsGrown, Laws.BoardLaws};
+ghost use Rattle.live_board.specs.{Floods.FloodedIsGrown, Floods.SpreadIsGrown, Floods.SpreadLasts, Laws.BoardLaws};
 
 /// While a board keeps its rule: the word of a pixel is no less than what a seat knows of it or found there. What a
 /// seat knows of the keeper's generation, the pixel reaches from the keeper's marker. So does a live value that a peek
@@ -14,4 +14,12 @@ pub fn board_laws()
 /// raised it since, is the reconstruction of the mask from the keeper's marker.
 pub fn flooded_is_grown()
     ensures { FloodedIsGrown }
+{}
+
+/// An image of a board whose keeper has planted each pixel, where of each a hand knows a fact that has spread, and
+/// nobody has raised it above that, is the reconstruction of the mask from the keeper's marker. What has spread has
+/// spread as long as the hand stays in its generation: so it may have flooded other rows since.
+pub fn spread_is_grown()
+    ensures grown { SpreadIsGrown }
+    ensures lasts { SpreadLasts }
 {}

@@ -2,6 +2,7 @@
 
 ghost use Rattle.std.specs.Prelude.{◌<◌, All, IfSome, ◌≡◌, ◌≤◌};
 ghost use Rattle.grid_core.specs.Raster.{IsBelow};
+ghost use Rattle.live_board.specs.Floods.{IsStripsOf};
 ghost use Rattle.live_board.specs.Seats.{IsHandOf, IsKeeperOf, IsPeekOf, ground_of};
 ghost use Rattle.live_board.specs.Words.{mask_of};
 ghost use Rattle.thread_tests.specs.Company.{AreFlooding, IsShareOf};
@@ -10,7 +11,7 @@ use crate::company::{Flooders, Share};
 use crate::outcome::{NO_MEMORY, right_if, told};
 use crate::peeks::{next_hand, next_peek};
 use grid_core::{Conn, Grid, Pixel};
-use live_board::{Board, HandSeat, KeeperSeat, Opened, Peek, PeekSeat};
+use live_board::{Board, HandSeat, KeeperSeat, Opened, Peek, PeekSeat, Strips};
 use pgm_codec::Image;
 use raster_sweeps::slow;
 use std::alloc::Global;
@@ -344,9 +345,79 @@ fn flood_until_grown<R: Threads + Sync>(
     is_grown
 }
 
+// Has each hand flood strips of three rows, all of them at once in threads, and says whether nothing is left to raise.
+// Where there is no memory for the strips it says that nothing is known.
+fn flood_strips<R: Threads + Sync>(
+    rt: &R,
+    alloc: Global,
+    board: &Board,
+    shares: &mut [Share],
+    found: &Found,
+) -> bool
+    requires { All (IsShareOf board.now) shares.old }
+    ensures { All (IsShareOf board.now) shares.new }
+{
+    let mut is_grown = false;
+    if let Ok(strips) = board.strips(alloc, 3) {
+        for_each_mut(
+            rt,
+            shares,
+            4,
+            &|_, share: &mut Share|
+                requires strips { IsStripsOf board.now strips.now }
+                requires share { IsShareOf board.now share.old }
+                ensures { IsShareOf board.entry.now share.new }
+            { take_strips(board, &strips, share) },
+        );
+        is_grown = strips.take(0, 1).is_none();
+        drop(strips);
+    }
+    found.done.store(true, Ordering::SeqCst);
+    is_grown
+}
+
+// Floods strips, from that of the share's first row on.
+fn take_strips(board: &Board, strips: &Strips, share: &mut Share)
+    requires strips { IsStripsOf board.now strips.now }
+    requires share { IsShareOf board.now share.old }
+    ensures { IsShareOf board.now share.new }
+{
+    let near = (share.first / 3) as usize;
+    share
+        .hand
+        .flood_strips(board, strips, near, 2, &mut share.draft);
+}
+
+// How the hands flood: their own rows again and again, or strips.
+#[derive(Clone, Copy)]
+enum Way {
+    Rows,
+    Strips,
+}
+
+// Floods this way.
+fn flood_by<R: Threads + Sync>(
+    rt: &R,
+    alloc: Global,
+    board: &Board,
+    shares: &mut [Share],
+    found: &Found,
+    way: Way,
+) -> bool
+    requires { All (IsShareOf board.now) shares.old }
+    ensures { All (IsShareOf board.now) shares.new }
+{
+    match way {
+        Way::Rows => flood_until_grown(rt, board, shares, found),
+        Way::Strips => flood_strips(rt, alloc, board, shares, found),
+    }
+}
+
 // Floods with the peek beside it, and says whether the board is this image in the end, and was nowhere above it before.
 fn grows_to<R: Threads + Sync>(
     rt: &R,
+    alloc: Global,
+    way: Way,
     board: &Board,
     flooders: &mut Flooders,
     mask: &Grid,
@@ -370,7 +441,7 @@ fn grows_to<R: Threads + Sync>(
         &mut || -> bool
             requires { All (IsShareOf board.now) shares.now }
             ensures { All (IsShareOf board.entry.now) shares.exit.now }
-        { flood_until_grown(rt, board, shares, &found) },
+        { flood_by(rt, alloc, board, shares, &found, way) },
     );
     let same = found.same.load(Ordering::SeqCst);
     is_grown & (same == grown.cells().len() as u64) & (found.above.load(Ordering::SeqCst) == 0)
@@ -380,6 +451,7 @@ fn grows_to<R: Threads + Sync>(
 fn steps<R: Threads + Sync>(
     rt: &R,
     alloc: Global,
+    way: Way,
     board: &Board,
     flooders: &mut Flooders,
     mask: &Grid,
@@ -395,7 +467,8 @@ fn steps<R: Threads + Sync>(
     match slow(alloc, mask, &marker, conn) {
         Ok(grown) => {
             let is_brought = brings(board, &mut flooders.keeper, mask, marker);
-            grown.is_below(mask) && grows_to(rt, board, flooders, mask, &grown) & is_brought
+            grown.is_below(mask)
+                && grows_to(rt, alloc, way, board, flooders, mask, &grown) & is_brought
         }
         Err(_) => {
             drop(marker);
@@ -408,6 +481,7 @@ fn steps<R: Threads + Sync>(
 fn plays<R: Threads + Sync>(
     rt: &R,
     alloc: Global,
+    way: Way,
     board: &Board,
     flooders: &mut Flooders,
     mask: &Grid,
@@ -417,7 +491,7 @@ fn plays<R: Threads + Sync>(
 {
     let mut is_right = true;
     for stride in STRIDES {
-        is_right = steps(rt, alloc, board, flooders, mask, conn, *stride) & is_right;
+        is_right = steps(rt, alloc, way, board, flooders, mask, conn, *stride) & is_right;
     }
     is_right
 }
@@ -425,6 +499,7 @@ fn plays<R: Threads + Sync>(
 fn grows<R: Threads + Sync>(
     rt: &R,
     alloc: Global,
+    way: Way,
     ground: Ground,
     conn: Conn,
     hands: usize,
@@ -433,18 +508,40 @@ fn grows<R: Threads + Sync>(
         return false;
     };
     match seated(alloc, &mask, conn, hands) {
-        Some((board, mut flooders)) => plays(rt, alloc, &board, &mut flooders, mask.grid(), conn),
+        Some((board, mut flooders)) => plays(
+            rt,
+            alloc,
+            way,
+            &board,
+            &mut flooders,
+            mask.grid(),
+            conn,
+        ),
         None => false,
     }
 }
 
-#[test]
-fn floods_end_on_what_grows(rt: HostRuntime) -> Result<(), Fail> {
+// Whether it does on both grounds, with one hand and with four.
+fn ends_right<R: Threads + Sync>(rt: &R, alloc: Global, way: Way) -> bool {
+    let mut is_right = true;
     for ground in [Ground::Noise, Ground::Corridor] {
         for conn in [Conn::Four, Conn::Eight] {
-            assert!(rt; grows(&rt, rt.alloc(), ground, conn, 1));
-            assert!(rt; grows(&rt, rt.alloc(), ground, conn, 4));
+            for hands in [1, 4] {
+                is_right = grows(rt, alloc, way, ground, conn, hands) & is_right;
+            }
         }
     }
+    is_right
+}
+
+#[test]
+fn floods_end_on_what_grows(rt: HostRuntime) -> Result<(), Fail> {
+    assert!(rt; ends_right(&rt, rt.alloc(), Way::Rows));
+    Ok(())
+}
+
+#[test]
+fn floods_of_strips_end_on_what_grows(rt: HostRuntime) -> Result<(), Fail> {
+    assert!(rt; ends_right(&rt, rt.alloc(), Way::Strips));
     Ok(())
 }

@@ -1,12 +1,12 @@
 use Rattle.std.proofs.Common.{◌*◌, ◌-◌, ◌<◌, List, arith, le_refl, subst, subst₂, sym, ℕ, ◌≡◌}
 use Rattle.grid_core.proofs.Cells.{below_at_each_pixel}
 use Rattle.grid_core.specs.Raster.{Raster}
-use Rattle.live_board.proofs.Flooded.{cells_founded, flooded_is, row_known, row_still_known, rows_rect}
+use Rattle.live_board.proofs.Flooded.{cells_founded, followed_is, row_known, row_still_known, rows_rect}
 use Rattle.live_board.proofs.Flooding.{later_by}
-use Rattle.live_board.specs.Flooding.{AreFounded, HasGivenOut, HasTakenIn}
+use Rattle.live_board.specs.Flooding.{AreFounded, HasGivenOut, HasTakenIn, IsReachOf}
 use Rattle.live_board.specs.{Seats.ground_of, Seats.hand_view, Words.mask_of}
 use Rattle.raster_sweeps.specs.Regrowth.{IsRegrownIn}
-use Rattle.live_board.proofs.hand.HandSeat.flood.Goals as goal
+use Rattle.live_board.proofs.hand.HandSeat.flood_edges.Goals as goal
 
 pub give_out-rose-requires-clause-founded : goal.give_out-rose-requires-clause-founded
 give_out-rose-requires-clause-founded c =
@@ -62,8 +62,8 @@ pass_on-below-requires-clause-known c =
     (subst₂ (λ (z : ℕ) (l : List ℕ). HasGivenOut base (z * first) (z * end) l c.give_out-rose.result read raised)
     c.width-width.ensures.value c.cells.ensures.values c.give_out-rose.ensures.given))
 
-pub returns-clause-flooded : goal.returns-clause-flooded
-returns-clause-flooded c =
+pub returns-clause-followed : goal.returns-clause-followed
+returns-clause-followed c =
     let base = ground_of c.args.board.now in
     let w : ℕ = (mask_of base).width in
     let first : ℕ = c.args.first in
@@ -81,10 +81,11 @@ returns-clause-flooded c =
     subst₂ (λ (r : Raster) (z : ℕ).
     IsRegrownIn base.conn (record { x = 0; y = first; w = z; h = end - first }) r before after)
     c.grid-mask.ensures.value is_wide c.grow_within.ensures in
-    flooded_is base first end c.give_out-rose.result c.pass_on-above.result c.pass_on-below.result before after
+    followed_is base first end c.give_out-rose.result c.pass_on-above.result c.pass_on-below.result before after
     (hand_view c.args.self.now) started read raised higher new (record {
       start = c.start.ensures.started;
       filled = c.width-width.ensures.sized.sized.filled;
+      some_width = c.width-width.ensures.sized.sized.size.some_width;
       some = c.requires.rows.0;
       high = c.requires.rows.1;
       low = λ p on. below_at_each_pixel before (mask_of base) c.draw.ensures.filled below p
@@ -99,4 +100,6 @@ returns-clause-flooded c =
           c.give_out-rose.ensures.given;
       up = c.pass_on-above.ensures.passed;
       down = c.pass_on-below.ensures.passed;
-    })
+    }) c.told-reach.result c.told-reach.ensures.rose
+    (subst (λ (z : ℕ). IsReachOf first end z c.pass_on-above.result c.pass_on-below.result c.told-reach.result)
+    c.height.ensures.value c.told-reach.ensures.reach)
