@@ -9,8 +9,8 @@ use grid_core::{Grid, Memory};
 use raster_sweeps::Room;
 use std::alloc::Global;
 
-/// The memory of a hand's floods: an image of the board's size, and room for growing in it and beyond. Any draft of a board serves
-/// any of its hands, for one flood after another.
+/// The memory of a hand's floods: an image of the board's size, and room for growing in it and beyond. Any draft of a
+/// board serves any of its hands, for one flood after another.
 #[derive(Drop)]
 pub struct Draft {
     pub(crate) image: Grid,
