@@ -92,7 +92,7 @@ PRIVATE = {
     "raster_sweeps": {"Corridors": (), "Flood": (), "Flooding": (), "Spans": ()},
     "band_growth": {"Steps": ()},
     "border_queues": {"Borders": ()},
-    "live_board": {"Flooding": (), "Reading": (), "Steps": ()},
+    "live_board": {"Flooding": (), "Following": (), "Planting": (), "Reading": (), "Steps": ()},
     "derived_views": {"Rasters": ()},
     "core_rules": {"Stored": ()},
     "core_dispatch": {"Resting": ()},
