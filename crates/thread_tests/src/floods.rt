@@ -388,11 +388,66 @@ fn take_strips(board: &Board, strips: &Strips, share: &mut Share)
         .flood_strips(board, strips, near, 2, &mut share.draft);
 }
 
-// How the hands flood: their own rows again and again, or strips.
+// Has each hand grow from each pixel of its rows, all of them at once in threads, and says whether all has spread.
+fn grow_all<R: Threads + Sync>(
+    rt: &R,
+    board: &Board,
+    mask: &Grid,
+    shares: &mut [Share],
+    found: &Found,
+) -> bool
+    requires mask { mask_of (ground_of board.now) ≡ mask.now }
+    requires shares { All (IsShareOf board.now) shares.old }
+    ensures { All (IsShareOf board.now) shares.new }
+{
+    let left = AtomicU64::new(0);
+    for_each_mut(
+        rt,
+        shares,
+        4,
+        &|_, share: &mut Share|
+            requires mask { mask_of (ground_of board.now) ≡ mask.now }
+            requires share { IsShareOf board.now share.old }
+            ensures { IsShareOf board.entry.now share.new }
+        { grow_share(board, mask, share, &left) },
+    );
+    found.done.store(true, Ordering::SeqCst);
+    left.load(Ordering::SeqCst) == 0
+}
+
+fn grow_share(board: &Board, mask: &Grid, share: &mut Share, left: &AtomicU64)
+    requires mask { mask_of (ground_of board.now) ≡ mask.now }
+    requires share { IsShareOf board.now share.old }
+    ensures { IsShareOf board.now share.new }
+{
+    let (first, end) = (share.first, share.end);
+    for y in first..end {
+        grow_along(board, mask, y, share, left);
+    }
+}
+
+// Grows from each pixel of a row. The last number is how many rows were left.
+fn grow_along(board: &Board, mask: &Grid, y: u32, share: &mut Share, left: &AtomicU64)
+    requires mask { mask_of (ground_of board.now) ≡ mask.now }
+    requires row { y < mask.now.height }
+    requires share { IsShareOf board.now share.old }
+    ensures { IsShareOf board.now share.new }
+{
+    for x in 0..mask.width() {
+        let reach = share
+            .hand
+            .grow_from(board, &[Pixel { x, y }], &mut share.draft);
+        let rows = reach.end.saturating_sub(reach.first);
+        left.fetch_add(u64::from(rows), Ordering::SeqCst);
+    }
+}
+
+// How the hands flood: their own rows again and again, strips, or from each pixel.
 #[derive(Clone, Copy)]
 enum Way {
     Rows,
     Strips,
+    Pixels,
 }
 
 // Floods this way.
@@ -400,16 +455,19 @@ fn flood_by<R: Threads + Sync>(
     rt: &R,
     alloc: Global,
     board: &Board,
+    mask: &Grid,
     shares: &mut [Share],
     found: &Found,
     way: Way,
 ) -> bool
-    requires { All (IsShareOf board.now) shares.old }
+    requires mask { mask_of (ground_of board.now) ≡ mask.now }
+    requires shares { All (IsShareOf board.now) shares.old }
     ensures { All (IsShareOf board.now) shares.new }
 {
     match way {
         Way::Rows => flood_until_grown(rt, board, shares, found),
         Way::Strips => flood_strips(rt, alloc, board, shares, found),
+        Way::Pixels => grow_all(rt, board, mask, shares, found),
     }
 }
 
@@ -427,8 +485,6 @@ fn grows_to<R: Threads + Sync>(
     requires grown { IsBelow grown.now mask.now }
     ensures { AreFlooding board.now mask.now flooders.new }
 {
-    // The clauses alone speak of the mask.
-    let _ = mask;
     let found = Found::default();
     let (shares, peek) = (flooders.shares.as_mut_slice(), &mut flooders.peek);
     let (_, is_grown) = join_mut(
@@ -439,9 +495,10 @@ fn grows_to<R: Threads + Sync>(
             ensures { IsPeekOf board.entry.now peek.exit.now }
         { watches(board, peek, grown, &found) },
         &mut || -> bool
-            requires { All (IsShareOf board.now) shares.now }
+            requires mask { mask_of (ground_of board.now) ≡ mask.now }
+            requires shares { All (IsShareOf board.now) shares.now }
             ensures { All (IsShareOf board.entry.now) shares.exit.now }
-        { flood_by(rt, alloc, board, shares, &found, way) },
+        { flood_by(rt, alloc, board, mask, shares, &found, way) },
     );
     let same = found.same.load(Ordering::SeqCst);
     is_grown & (same == grown.cells().len() as u64) & (found.above.load(Ordering::SeqCst) == 0)
@@ -543,5 +600,11 @@ fn floods_end_on_what_grows(rt: HostRuntime) -> Result<(), Fail> {
 #[test]
 fn floods_of_strips_end_on_what_grows(rt: HostRuntime) -> Result<(), Fail> {
     assert!(rt; ends_right(&rt, rt.alloc(), Way::Strips));
+    Ok(())
+}
+
+#[test]
+fn pixels_grow_into_what_grows(rt: HostRuntime) -> Result<(), Fail> {
+    assert!(rt; ends_right(&rt, rt.alloc(), Way::Pixels));
     Ok(())
 }
