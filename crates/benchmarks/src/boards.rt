@@ -225,11 +225,10 @@ fn raise_watched(
             ensures { IsPeekOf board.entry.now peek.exit.now }
         { peek_on(rt, board, marker, &most, peek) },
         &mut || -> u128
-            requires marker { IsBelow marker.now (mask_of (ground_of board.now)) }
-            requires workers { All (λ w. IsHandOf board.now w.0 × IsDraftOf board.now w.1) workers.now.items }
+            requires { All (λ w. IsHandOf board.now w.0 × IsDraftOf board.now w.1) workers.now.items }
             ensures { All (λ w. IsHandOf board.entry.now w.0 × IsDraftOf board.entry.now w.1)
                 workers.exit.now.items }
-        { go_all(rt, board, marker, workers, by_floods, &rounds, &most) },
+        { go_all(rt, board, workers, by_floods, &rounds, &most) },
     );
     let (_, alone) = peek_on(rt, board, marker, &AtomicU64::new(peeks), peek);
     let round = time_of_round(rt, board, workers);
@@ -254,19 +253,17 @@ fn time_of_round(rt: &impl System, board: &Board, workers: &mut Vec<Worker>) -> 
 fn go_all(
     rt: &impl System,
     board: &Board,
-    marker: &Grid,
     workers: &mut Vec<Worker>,
     by_floods: bool,
     rounds: &AtomicU64,
     most: &AtomicU64,
 ) -> u128
-    requires marker { IsBelow marker.now (mask_of (ground_of board.now)) }
-    requires workers { All (λ w. IsHandOf board.now w.0 × IsDraftOf board.now w.1) workers.old.items }
+    requires { All (λ w. IsHandOf board.now w.0 × IsDraftOf board.now w.1) workers.old.items }
     ensures { All (λ w. IsHandOf board.now w.0 × IsDraftOf board.now w.1) workers.new.items }
 {
     let mut laps = Laps::begin(rt);
     if by_floods {
-        flood_all(rt, board, marker, workers, rounds);
+        flood_all(rt, board, workers, rounds);
     } else {
         round_all(rt, board, workers, rounds);
     }
@@ -304,30 +301,16 @@ fn go_round(board: &Board, worker: &mut Worker, rounds: &AtomicU64)
     }
 }
 
-// Has the hands flood the board, strip by strip, until none is left. One hand floods all rows at once.
-fn flood_all(
-    rt: &impl System,
-    board: &Board,
-    marker: &Grid,
-    workers: &mut Vec<Worker>,
-    rounds: &AtomicU64,
-)
-    requires marker { IsBelow marker.now (mask_of (ground_of board.now)) }
-    requires workers { All (λ w. IsHandOf board.now w.0 × IsDraftOf board.now w.1) workers.old.items }
+// Has the hands flood the board, strip by strip, until none is left. One hand takes all of them at once.
+fn flood_all(rt: &impl System, board: &Board, workers: &mut Vec<Worker>, floods: &AtomicU64)
+    requires { All (λ w. IsHandOf board.now w.0 × IsDraftOf board.now w.1) workers.old.items }
     ensures { All (λ w. IsHandOf board.now w.0 × IsDraftOf board.now w.1) workers.new.items }
 {
-    let threads = workers.len().max(1);
     // Without memory for the strips the board stays as it is, which is told when it is closed.
-    let Ok(strips) = board.strips(rt.alloc(), STRIP) else {
-        return;
-    };
-    if threads > 1 {
-        flood_strips(rt, board, &strips, workers, rounds);
-    } else if let Some(worker) = workers.first_mut() {
-        flood_rows(board, marker, worker);
-        rounds.fetch_add(1, Ordering::SeqCst);
+    if let Ok(strips) = board.strips(rt.alloc(), STRIP) {
+        flood_strips(rt, board, &strips, workers, floods);
+        drop(strips);
     }
-    drop(strips);
 }
 
 // Has each hand flood strips in a thread of its own. The last number is how many floods there were.
@@ -360,17 +343,6 @@ fn flood_strips(
             floods.fetch_add(count, Ordering::SeqCst);
         },
     );
-}
-
-// Floods all rows, where there are any.
-fn flood_rows(board: &Board, marker: &Grid, worker: &mut Worker)
-    requires marker { IsBelow marker.now (mask_of (ground_of board.now)) }
-    requires worker { IsHandOf board.now worker.old.0 × IsDraftOf board.now worker.old.1 }
-    ensures { IsHandOf board.now worker.new.0 × IsDraftOf board.now worker.new.1 }
-{
-    if marker.height() > 0 {
-        worker.0.flood(board, 0, marker.height(), &mut worker.1);
-    }
 }
 
 // ---- the peek
