@@ -359,21 +359,30 @@ fn flood_strips<R: Threads + Sync>(
 {
     let mut is_grown = false;
     if let Ok(strips) = board.strips(alloc, 3) {
-        for_each_mut(
-            rt,
-            shares,
-            4,
-            &|_, share: &mut Share|
-                requires strips { IsStripsOf board.now strips.now }
-                requires share { IsShareOf board.now share.old }
-                ensures { IsShareOf board.entry.now share.new }
-            { take_strips(board, &strips, share) },
-        );
+        take_all(rt, board, &strips, shares);
         is_grown = strips.take(0, 1).is_none();
         drop(strips);
     }
     found.done.store(true, Ordering::SeqCst);
     is_grown
+}
+
+// Has each hand flood strips until it finds none.
+fn take_all<R: Threads + Sync>(rt: &R, board: &Board, strips: &Strips, shares: &mut [Share])
+    requires strips { IsStripsOf board.now strips.now }
+    requires shares { All (IsShareOf board.now) shares.old }
+    ensures { All (IsShareOf board.now) shares.new }
+{
+    for_each_mut(
+        rt,
+        shares,
+        4,
+        &|_, share: &mut Share|
+            requires strips { IsStripsOf board.now strips.now }
+            requires share { IsShareOf board.now share.old }
+            ensures { IsShareOf board.entry.now share.new }
+        { take_strips(board, strips, share) },
+    );
 }
 
 // Floods strips, from that of the share's first row on.
