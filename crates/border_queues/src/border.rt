@@ -13,18 +13,19 @@ ghost use Rattle.border_queues.specs.Borders.{CanTell, IsBorder};
 
 use crate::hint::Hint;
 use crate::inbox::Inbox;
+use crate::view::View;
 use grid_core::laws::neighbours_by_rows;
-use grid_core::{Bounds, Conn, Grid, Pixel, Rect, Tiling};
+use grid_core::{Bounds, Conn, Pixel, Rect, Tiling};
 
 /// A tile, and the images in which its open edges are looked for.
 #[derive(Clone, Copy)]
 pub struct Border<'a> {
     pub tiling: Tiling,
     pub conn: Conn,
-    pub mask: &'a Grid,
-    pub image: &'a Grid,
+    pub mask: &'a View<'a>,
+    pub image: &'a View<'a>,
     // Has the tile's own values.
-    pub inside: &'a Grid,
+    pub inside: &'a View<'a>,
     // Where the tile's upper left pixel stands in `inside`.
     pub corner: Pixel,
     pub tile: usize,

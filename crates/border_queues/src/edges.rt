@@ -13,6 +13,7 @@ use crate::border::Border;
 use crate::error::QueueError;
 use crate::inbox::Inbox;
 use crate::laws::{edges_begin_in_tile, same_image_same_edges};
+use crate::view::View;
 use grid_core::laws::each_pixel_in_one_tile;
 use grid_core::{Bounds, Conn, Grid, Pixel, Tiling};
 
@@ -50,11 +51,12 @@ pub fn open_edges(
     let _ = tiling.side();
     out.reserve(room_for_edges(tiling))?;
     let bounds = Bounds::of(tiling.rect(tile));
+    let (inside, image, mask) = (View::of(inside), View::of(image), View::of(mask));
     let border = border_of(
-        inside,
+        &inside,
         Pixel { x: 0, y: 0 },
-        image,
-        mask,
+        &image,
+        &mask,
         tiling,
         tile,
         generation,
@@ -72,6 +74,30 @@ pub fn open_edges(
 pub fn open_edges_in(
     image: &Grid,
     mask: &Grid,
+    tiling: &Tiling,
+    tile: usize,
+    generation: u64,
+    conn: Conn,
+    bounds: Bounds,
+    out: &mut Inbox,
+) -> Result<(), QueueError>
+    requires parts { HaveTile tiling.now image.now mask.now tile }
+    requires lie { LieIn bounds (rect_of tiling.now tile) }
+    requires bounds { EdgesBeginIn (sender_by tiling.now conn (value_at mask.now) (value_at image.now) tile generation)
+        bounds }
+    ensures { AddsOrFails out.old out.new (open_edges (sender_by tiling.now conn (value_at mask.now)
+        (value_at image.now) tile generation)) (room_for_edges tiling.now) result }
+{
+    let (image, mask) = (View::of(image), View::of(mask));
+    open_edges_in_rows(&image, &mask, tiling, tile, generation, conn, bounds, out)
+}
+
+/// As [`open_edges_in`], on whole rows of cells.
+///
+/// Errors: Q1, where `out` keeps its hints. With a room of [`room_for_edges`] it takes no memory.
+pub fn open_edges_in_rows(
+    image: &View<'_>,
+    mask: &View<'_>,
     tiling: &Tiling,
     tile: usize,
     generation: u64,
@@ -105,10 +131,10 @@ pub fn open_edges_in(
 
 // The border of a tile whose upper left pixel stands at `corner` in `inside`.
 fn border_of<'a>(
-    inside: &'a Grid,
+    inside: &'a View<'a>,
     corner: Pixel,
-    image: &'a Grid,
-    mask: &'a Grid,
+    image: &'a View<'a>,
+    mask: &'a View<'a>,
     tiling: &Tiling,
     tile: usize,
     generation: u64,

@@ -27,8 +27,10 @@ mod error;
 mod hint;
 mod inbox;
 pub mod laws;
+mod view;
 
-pub use edges::{open_edges, open_edges_in, room_for_edges};
+pub use edges::{open_edges, open_edges_in, open_edges_in_rows, room_for_edges};
 pub use error::QueueError;
 pub use hint::Hint;
 pub use inbox::Inbox;
+pub use view::View;

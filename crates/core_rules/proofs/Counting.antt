@@ -203,7 +203,7 @@ abandons_first : (entry : Entry) (log : List Entry)
 abandons_first (Abandon ticket, OfAbandon true) log = omega arith
 abandons_first entry log = omega arith
 
-merges_append : (first second : List Entry) → merges_of (first ++ second) ≡ merges_of first + merges_of second
+pub merges_append : (first second : List Entry) → merges_of (first ++ second) ≡ merges_of first + merges_of second
 merges_append [] second = omega arith
 merges_append ((Merge delta, answer) ∷ log) second = omega (arith, merges_append log second)
 merges_append (entry ∷ log) second = merges_append log second
@@ -335,7 +335,7 @@ no_merges_abandoned [] log = refl
 no_merges_abandoned (ticket ∷ tickets) log = no_merges_abandoned tickets log
 
 -- working off merges nothing
-worked_merges : (before after : Core) (log : List Entry) → IsWorkedOff before log after → merges_of log ≡ 0
+pub worked_merges : (before after : Core) (log : List Entry) → IsWorkedOff before log after → merges_of log ≡ 0
 worked_merges before after [] works = refl
 worked_merges before after ((GiveBack swept, answer) ∷ log) (is_next, (next, happens, rest)) =
     worked_merges next after log rest

@@ -9,8 +9,8 @@ use Rattle.grid_core.proofs.{Cells.each_pixel_below, Reach.reaches_here, Tilings
 use Rattle.border_queues.specs.{OpenEdges.open_edges, TileWork.TileWork, TileWork.received}
 use Rattle.tile_generations.specs.Jobs.{Job, Swept, IsSwept}
 use Rattle.core_rules.specs.{declared.answers.Back.TheVariants.Joined, Image.IsJoinedWith, InPlace.IsSweptInPlace}
-use Rattle.core_rules.specs.{Runs.Entry, Runs.IsJobOut, Runs.IsNext, Runs.IsWorkedOff, Events.Take, Events.GiveBack}
-use Rattle.core_rules.specs.{Events.OfTake, Events.OfGiveBack, Invariant.IsSound}
+use Rattle.core_rules.specs.{Runs.Entry, Runs.IsJobOut, Runs.IsNext, Runs.IsRun, Runs.IsWorkedOff, Events.Take}
+use Rattle.core_rules.specs.{Events.GiveBack, Events.OfTake, Events.OfGiveBack, Invariant.IsSound}
 use Rattle.core_rules.specs.Work.{Core, domain, tiling, mask_at, image_at, IsTile, work_at}
 use Rattle.core_rules.specs.Sweeps.{tile_rect, IsReady, IsNextJob, taken, IsOut, IsKnown, IsUnchanged, sender_of}
 use Rattle.core_rules.specs.Sweeps.{hints_of, hints_for, IsJoined, IsGivenBack}
@@ -201,6 +201,10 @@ module _ (before after : Core) (t : ℕ) (sound : IsSound before) (ready : IsRea
     mask = piece_is_part rect before.mask;
   }
 
+  given_back : IsSwept (swept_as before t after.image)
+      × IsGivenBack middle (swept_as before t after.image) Joined after
+  given_back = (is_swept, (known, is_out, unchanged, joined))
+
 -- the tile that is the next to be taken can be taken
 pub next_is_ready : (core : Core) (t : ℕ) → IsNext core (Take t) → IsReady core t
 next_is_ready core t (none_out, no_hints, ((is_tile, dirty), least)) =
@@ -210,13 +214,7 @@ pub in_place_is_worked_off : (before after : Core) (t : ℕ) → IsSound before 
     → IsSweptInPlace before t after → (swept : Swept)
     × IsWorkedOff before ((Take t, OfTake (Some swept.job)) ∷ (GiveBack swept, OfGiveBack Joined) ∷ []) after
 in_place_is_worked_off before after t sound next in_place =
-    let ready = next_is_ready before t next in
-    let given : IsGivenBack (taken before t) (swept_as before t after.image) Joined after = (
-      known before after t sound ready in_place,
-      is_out before after t sound ready in_place,
-      unchanged before after t sound ready in_place,
-      joined before after t sound ready in_place,
-    ) in (
+    let ready = next_is_ready before t next in (
       swept_as before t after.image,
       (
         next,
@@ -225,11 +223,24 @@ in_place_is_worked_off before after t sound next in_place =
           (ready, is_next before after t sound ready in_place, refl),
           (
             job_out before after t sound ready in_place,
-            (after, (is_swept before after t sound ready in_place, given), refl),
+            (after, given_back before after t sound ready in_place, refl),
           ),
         ),
       ),
     )
+
+-- any tile that can be taken may be swept in place: that is to take it, to sweep the job and to give that back
+pub in_place_is_run : (before after : Core) (t : ℕ) → IsSound before → IsReady before t → IsSweptInPlace before t after
+    → (swept : Swept) × IsRun before ((Take t, OfTake (Some swept.job)) ∷ (GiveBack swept, OfGiveBack Joined) ∷ [])
+    after
+in_place_is_run before after t sound ready in_place = (
+  swept_as before t after.image,
+  (
+    taken before t,
+    (ready, is_next before after t sound ready in_place, refl),
+    (after, given_back before after t sound ready in_place, refl),
+  ),
+)
 
 pub work_goes_on : (a b c : Core) (first second : List Entry) → IsWorkedOff a first b → IsWorkedOff b second c
     → IsWorkedOff a (first ++ second) c

@@ -88,11 +88,32 @@ pub fn grow_from_bounds(
     let size = Size::of(image);
     let limits = mask.cells();
     let cells = image.cells_mut();
-    let risen = raise_from_bounds(limits, cells, size, rect, conn, &mut room.waiting, bounds);
+    grow_rows_from_bounds(room, limits, cells, size, rect, conn, bounds)
+}
+
+/// As [`grow_from_bounds`], on whole rows of cells.
+pub fn grow_rows_from_bounds(
+    room: &mut Room,
+    mask: &[u16],
+    image: &mut [u16],
+    size: Size,
+    rect: Rect,
+    conn: Conn,
+    bounds: Bounds,
+) -> Bounds
+    requires close { CanClose rect (rows_of size mask.now) (rows_of size image.old) }
+    requires bounds { OpenPairsBeginIn conn rect (rows_of size mask.now) (rows_of size image.old) bounds }
+    requires lie { LieIn bounds rect }
+    ensures regrown { IsRegrownIn conn rect (rows_of size mask.now) (rows_of size image.old)
+        (rows_of size image.new) }
+    ensures rises { RiseWithin rect (rows_of size image.old) (rows_of size image.new) bounds result }
+    ensures lie { LieIn result rect }
+{
+    let risen = raise_from_bounds(mask, image, size, rect, conn, &mut room.waiting, bounds);
     if let Some(risen) = risen {
         return risen;
     }
-    close(limits, cells, size, rect, conn, &mut room.waiting);
+    close(mask, image, size, rect, conn, &mut room.waiting);
     Bounds::of(rect)
 }
 

@@ -1,5 +1,5 @@
 use Rattle.std.proofs.Common.{◌≡◌, ℕ, ◌++◌, ap, ◌∙◌, arith, rules, List, length, zero-add, flat_map}
-use Rattle.grid_core.specs.{declared.pixel.Pixel.Pixel, Bounds.bounds_of, Raster.value_at, Tiles.rect_of}
+use Rattle.grid_core.specs.{declared.pixel.Pixel.Pixel, Bounds.bounds_of, Raster.Raster, Raster.value_at, Tiles.rect_of}
 use Rattle.border_queues.specs.{declared.hint.Hint.Hint, Borders.moved, Borders.sender_of}
 use Rattle.border_queues.specs.OpenEdges.{Sender, hints_from, pixels_of, with_tile}
 use Rattle.border_queues.proofs.edges.open_edges.Goals as goal
@@ -24,15 +24,20 @@ returns c =
     let corner : Pixel = record { x = 0; y = 0 } in
     let unmoved : (λ (p : Pixel). inside (moved corner p)) ≡ inside = λ i p.
     inside (record { x = zero-add p.x i; y = zero-add p.y i }) in
-    let to_sender : (Pixel → ℕ) → Sender = λ f. record {
+    let of_images : Raster → Raster → (Pixel → ℕ) → Sender = λ mask image f. record {
       tiles = t;
       conn = c.args.conn;
-      mask = value_at c.args.mask.now;
-      image = with_tile t tile f (value_at c.args.image.now);
+      mask = value_at mask;
+      image = with_tile t tile f (value_at image);
       tile = tile;
       generation = c.args.generation;
     } in
-    let sender : sender_of border ≡ to_sender inside = c.border_of-border.ensures.sender ∙ ap to_sender unmoved in
+    let views : of_images c.of-mask.result c.of-image.result (λ p. value_at c.of-inside.result (moved corner p))
+    ≡ of_images c.args.mask.now c.args.image.now (λ p. inside (moved corner p)) =
+    λ i. of_images (c.of-mask.ensures i) (c.of-image.ensures i) (λ p. value_at (c.of-inside.ensures i) (moved corner
+    p)) in
+    let sender : sender_of border ≡ of_images c.args.mask.now c.args.image.now inside =
+    c.border_of-border.ensures.sender ∙ views ∙ ap (of_images c.args.mask.now c.args.image.now) unmoved in
     let same_rect = c.border_of-border.ensures.border.rect ∙ ap (λ (s : Sender). rect_of s.tiles s.tile)
     c.border_of-border.ensures.sender in
     record {
