@@ -1,10 +1,14 @@
 -- The lemmas of this crate, file by file.
+pub mod Parts
+pub mod CuttingBounds
+pub mod CuttingWork
 pub mod OpenBoundsWidened
 pub mod TileSetWords
 pub mod TileSets
 pub mod Leasts
 pub mod TileSetPairs
 pub mod TileSetUnions
+pub mod TileSetShifts
 pub mod WorkTables
 pub mod WorkTableHints
 pub mod HittingCores

@@ -9,6 +9,7 @@ pub mod Least
 pub mod OpenBounds
 pub mod TileSet
 pub mod WorkTable
+pub mod Cutting
 pub mod Linking
 pub mod Marks
 pub mod Renewing

@@ -1,6 +1,6 @@
 //! Sets of tiles, as words of bits.
 
-ghost use Rattle.std.specs.Prelude.{◌≡◌, ℕ, ◌+◌, ◌*◌, ◌/◌, ◌^◌, ◌<◌, length, replicate, true, false, IfOk, IfSome};
+ghost use Rattle.std.specs.Prelude.{◌≡◌, ℕ, ◌+◌, ◌*◌, ◌/◌, ◌^◌, ◌<◌, ◌≤◌, length, replicate, true, false, IfOk, IfSome};
 ghost use Rattle.std.specs.Prelude.{MatchOption, slice_index_or, slice_set};
 ghost use Rattle.std.specs.Int.{bit_at};
 ghost use Rattle.tile_work.specs.Least.{IsLeastFrom};
@@ -80,6 +80,21 @@ impl TileSet {
     {
         unite(&mut self.words, &other.words);
         unite(&mut self.summary, &other.summary);
+    }
+
+    /// Puts each tile of the other set into this one, `first` further on. It costs about the tiles that are in the
+    /// other set, and takes no memory.
+    pub fn insert_from(&mut self, first: usize, other: &TileSet)
+        requires { first + length other.now ≤ length self.old }
+        ensures { HasGained self.old (λ t. (u : ℕ) × (t ≡ first + u) × Has other.now u) self.new }
+    {
+        // For its clause alone: there are no more tiles than a `usize` counts.
+        let _ = self.len();
+        let mut next = 0;
+        while let Some(tile) = other.first_from(next) {
+            self.insert(first + tile);
+            next = tile + 1;
+        }
     }
 
     /// Takes the tile out of the set.

@@ -3,6 +3,7 @@
 ghost use Rattle.std.specs.Prelude.{◌≡◌, ◌+◌, ◌<◌, ◌≤◌, ◌↔◌, [], ◌∷◌, ◌++◌, length, remove, replicate, slice_get};
 ghost use Rattle.std.specs.Prelude.{IfOk, IsTrue};
 ghost use Rattle.border_queues.specs.TileWork.{fresh};
+ghost use Rattle.tile_work.specs.Cutting.{AreOnlyMarked};
 ghost use Rattle.tile_work.specs.WorkTable.{works_of};
 
 use border_queues::{Hint, Inbox};
@@ -65,4 +66,23 @@ pub(crate) fn rows_from(alloc: Global, count: usize, first: u64) -> Result<Vec<T
         })?;
     }
     Ok(rows)
+}
+
+/// Rows of the same generations and marks, where no job is out and no hint waits.
+///
+/// Errors: out of memory.
+pub(crate) fn marked_rows(alloc: Global, rows: &[TileRow]) -> Result<Vec<TileRow>, Memory>
+    requires { AreOnlyMarked (works_of rows.now) 0 (length rows.now) }
+    ensures { IfOk result (λ copies. works_of copies.items ≡ works_of rows.now) }
+{
+    let mut copies = Vec::with_capacity(alloc, rows.len())?;
+    for row in rows {
+        copies.push(TileRow {
+            generation: row.generation,
+            dirty: row.dirty,
+            out: None,
+            inbox: Inbox::new(alloc),
+        })?;
+    }
+    Ok(copies)
 }
