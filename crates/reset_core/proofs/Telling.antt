@@ -13,6 +13,7 @@ use Rattle.core_rules.specs.Work.{Core, tiling, image_at, IsTile, work_at}
 use Rattle.core_rules.specs.Hints.{hint_at, IsPresent, without_hint, raised, IsHanded}
 use Rattle.core_rules.specs.Runs.{Entry, tiles_taken, NoneOut, IsNext, IsWorkedOff}
 use Rattle.reset_core.specs.Telling.{ImageAndWork, image_and_work, risen_by, all_handed, hints_in, AreInTileOrder}
+pub use Rattle.reset_core.specs.Telling.{with_image_and_work}
 use Rattle.core_rules.proofs.Cores.{work_there, work_elsewhere, field_kept}
 use Rattle.reset_core.proofs.TellingHands.{hint_rises, hint_stays}
 
@@ -129,10 +130,6 @@ without_first core hint rest u here is_tile empty =
           (first_for_another (tiling core) hint rest t (λ same. other (sym same ∙ here)))
           ∙ sym (telling_work core rest t within_core)
     ]))
-
--- the core with another image and other work
-abbrev pub with_image_and_work : Core → ImageAndWork → Core
-with_image_and_work core s = record core { image = s.image; tiles = s.rows }
 
 -- the core once the hint has raised its pixel
 abbrev pub risen_core : Core → Hint → Core

@@ -1,12 +1,12 @@
 -- Hints that are handed over, one after another.
-use Rattle.std.proofs.Common.{◌≡◌, ℕ, ◌+◌, ◌*◌, ◌<◌, ◌≤◌, true, cond, List, [], ◌∷◌, ◌++◌, length, get_or, take, refl}
+use Rattle.std.proofs.Common.{◌≡◌, ℕ, ◌+◌, ◌<◌, ◌≤◌, true, cond, List, [], ◌∷◌, ◌++◌, length, get_or, take, refl}
 use Rattle.std.proofs.Common.{sym, ap, ◌∙◌, subst, arith, inl, inr, ◌==◌, if◌then◌else◌, slice_index_or, slice_set}
 use Rattle.std.proofs.Common.{Contains, flat_map}
 use Rattle.std.proofs.{lemmas.Nat.mul-add-lt, lemmas.Grind.flat_map-append, lemmas.List.Sums.sum_by-set}
 use Rattle.std.proofs.lemmas.Bool.{cases_lt, lt-ltb, le-ltb, eq-eqb}
 use Rattle.std.proofs.lemmas.List.{get_or-set_other, length-set, append-nil, take_more}
 use Rattle.std.proofs.lemmas.List.Elements.{Contains-append_left, Contains-append_right, filter-append}
-use Rattle.grid_core.specs.Raster.{Raster, IsInside, IsFilled, index_of, max_level, value_at, with_value}
+use Rattle.grid_core.specs.Raster.{IsInside, IsFilled, index_of, max_level, value_at, with_value}
 use Rattle.grid_core.specs.Tiles.{Tiles, tile_of}
 use Rattle.border_queues.specs.{declared.hint.Hint.Hint, OpenEdges.IsOnTiling}
 use Rattle.border_queues.specs.TileWork.{TileWork, idle, dirty_count}
@@ -106,16 +106,12 @@ handed_more tiles xs ys a b c first second = record {
 }
 
 -- the image is still cut into the tiles
-pub still_of_tiles : (tiles : Tiles) (hints : List Hint) (image : Raster) (work : List TileWork) (new : Raster)
-    (after : List TileWork) → IsHandOver tiles hints image work new after → AreOfTiles tiles image work
+pub still_of_tiles : (tiles : Tiles) (hints : List Hint) (cells : List ℕ) (work : List TileWork) (new : List ℕ)
+    (after : List TileWork) → IsHandOver tiles hints cells work new after → AreOfTiles tiles cells work
     → AreOfTiles tiles new after
-still_of_tiles tiles hints image work new after over parts = record {
+still_of_tiles tiles hints cells work new after over parts = record {
   tiled = parts.tiled;
-  on_tiling = record {
-    width = over.width ∙ parts.on_tiling.width;
-    height = over.height ∙ parts.on_tiling.height;
-  };
-  filled = over.cells ∙ parts.filled ∙ (λ i. sym over.width i * sym over.height i);
+  filled = over.cells ∙ parts.filled;
   count = parts.count ∙ sym over.count;
 }
 

@@ -1,55 +1,45 @@
 -- A tile that is swept in place, with its hints handed over at once: the events that have the same effect.
-use Rattle.std.proofs.Common.{◌≡◌, ℕ, ◌+◌, ◌*◌, ◌%◌, ◌^◌, ◌<◌, ◌≤◌, false, List, [], ◌∷◌, ◌++◌, length, set, refl, sym}
+use Rattle.std.proofs.Common.{◌≡◌, ℕ, ◌+◌, ◌*◌, ◌%◌, ◌^◌, ◌<◌, ◌≤◌, List, [], ◌∷◌, ◌++◌, length, set, refl, sym}
 use Rattle.std.proofs.Common.{ap, ◌∙◌, subst, arith, inl, inr, ◌≢◌, Some, Contains, if◌then◌else◌}
 use Rattle.std.proofs.{lemmas.Bool.cases_eq, lemmas.List.Sums.sum_by-set}
 use Rattle.std.proofs.lemmas.List.{length-set, append-nil}
-use Rattle.grid_core.specs.{declared.pixel.Pixel.Pixel, Path.Inside, Reconstruction.IsReconstruction, Rects.IsInRect}
-use Rattle.grid_core.specs.{Rects.domain_in, Rects.part, Tiles.tile_of, Tiles.count_of}
+use Rattle.grid_core.specs.{declared.pixel.Pixel.Pixel, Path.Inside}
+use Rattle.grid_core.specs.{Tiles.tile_of, Tiles.count_of}
 use Rattle.grid_core.specs.Raster.{Raster, IsInside, IsBelow, value_at, headroom}
 use Rattle.grid_core.proofs.{Cells.each_pixel_below, Headroom.headroom_falls}
 use Rattle.grid_core.proofs.Tilings.{each_pixel_in_one_tile, tile_pixels, neighbours_lie_in_touching_tiles}
 use Rattle.border_queues.specs.{declared.hint.Hint.Hint, Laws.EdgesAreOpen}
-use Rattle.border_queues.specs.TileWork.{TileWork, idle, received, dirty_count}
-use Rattle.core_rules.specs.{declared.answers.Back.TheVariants.Joined, Image.IsOfSize, InPlace.IsSweptInPlace}
-use Rattle.core_rules.specs.{Runs.Entry, Runs.IsNext, Runs.IsWorkedOff, Invariant.IsSound}
-use Rattle.core_rules.specs.Work.{Core, domain, tiling, mask_at, image_at, IsTile, work_at}
-use Rattle.core_rules.specs.Sweeps.{tile_rect, sender_of, hints_of, hints_for}
+use Rattle.border_queues.specs.TileWork.{TileWork, idle, received, dirty_count, IsLeast}
+use Rattle.core_rules.specs.{declared.answers.Back.TheVariants.Joined, InPlace.IsSweptInPlace}
+use Rattle.core_rules.specs.{Runs.Entry, Runs.IsDirty, Runs.IsNext, Runs.IsRun, Runs.IsWorkedOff, Runs.abandons_of}
+use Rattle.core_rules.specs.{Runs.tiles_taken, Counting.merges_of, Invariant.IsSound, Sweeps.IsReady}
+use Rattle.core_rules.specs.Work.{Core, domain, tiling, image_at, IsTile, work_at}
+use Rattle.core_rules.specs.Sweeps.{sender_of, hints_of, hints_for}
 use Rattle.core_rules.specs.Events.{Take, GiveBack, OfTake, OfGiveBack}
 use Rattle.reset_core.specs.{declared.replica.Core.TheInside.Inside as Parts, Settling.IsOneWorkedOff}
+use Rattle.reset_core.specs.Settling.{HasOnlySweeps}
 use Rattle.reset_core.specs.Telling.{ImageAndWork, image_and_work, burden, burden_of, AreByTile, AreTold}
+pub use Rattle.reset_core.specs.Telling.{IsGrownAt, clean, grown_core}
 use Rattle.core_rules.proofs.Cores.{work_there, work_elsewhere, field_kept}
-use Rattle.core_rules.proofs.Running.{run_keeps_sound, worked_is_run}
-use Rattle.core_rules.proofs.InPlaceSweeps.{in_place_is_worked_off, next_is_ready, risen, work_goes_on}
+use Rattle.core_rules.proofs.{Counting.worked_merges, Running.run_append, Running.run_keeps_sound}
+use Rattle.core_rules.proofs.{Running.worked_is_run, InPlaceSweeps.in_place_is_run, InPlaceSweeps.risen}
+use Rattle.core_rules.proofs.InPlaceSweeps.{in_place_is_worked_off, work_goes_on}
+use Rattle.reset_core.proofs.Settling.{none_abandoned}
 use Rattle.reset_core.proofs.Telling.{telling, telling_count, telling_work, telling_same, none_for, with_image_and_work}
 use Rattle.reset_core.proofs.Telling.{AreToldAt, HandsOver, hands_over}
 use Rattle.reset_core.proofs.TellingOrder.{IsToldBy, told_by}
-
--- the image has grown in the tile: there it is the reconstruction, and elsewhere it is as it was
-pub record IsGrownAt (before : Core) (t : ℕ) (image : Raster) : Type 0 where
-  pub size : IsOfSize before.image image
-  pub grown : IsReconstruction (domain_in (tile_rect before t) before.conn) (part (tile_rect before t) (mask_at before))
-      (part (tile_rect before t) (image_at before)) (part (tile_rect before t) (value_at image))
-  pub beyond : (p : Pixel) → IsInside before.image.width before.image.height p
-      → (IsInRect (tile_rect before t) p → ⊥) → value_at image p ≡ image_at before p
-
--- the tile without its dirty mark
-abbrev pub clean : Core → ℕ → TileWork
-clean core t = record (work_at core t) { dirty = false }
-
--- the core with this image and this tile clean, before it tells hints
-abbrev pub grown_core : Core → ℕ → Raster → Core
-grown_core before t image = record before {
-  image = image;
-  tiles = set before.tiles t (clean before t);
-  serial = (before.serial + 1) % 2 ^ 64;
-}
 
 empty_inbox : (hints : List Hint) → (hints ≢ [] → ⊥) → hints ≡ []
 empty_inbox [] full = refl
 empty_inbox (hint ∷ hints) full = absurd (full (λ same. absurd cc))
 
-module _ (edges_open : EdgesAreOpen) (before : Core) (t : ℕ) (sound : IsSound before)
-    (next : IsNext before (Take t)) (image : Raster) (grown : IsGrownAt before t image) where
+-- a dirty tile can be taken where no job is out
+dirty_is_ready : (core : Core) (t : ℕ) → HasOnlySweeps core → IsDirty core t → IsReady core t
+dirty_is_ready core t left dirty =
+    record { is_tile = dirty.0; dirty = dirty.1; none_out = left.none_out t dirty.0 }
+
+module _ (edges_open : EdgesAreOpen) (before : Core) (t : ℕ) (sound : IsSound before) (left : HasOnlySweeps before)
+    (dirty : IsDirty before t) (image : Raster) (grown : IsGrownAt before t image) where
   -- the core once the tile is swept, and the hints that it tells
   abbrev middle : Core
   middle = grown_core before t image
@@ -58,7 +48,7 @@ module _ (edges_open : EdgesAreOpen) (before : Core) (t : ℕ) (sound : IsSound 
   hints = hints_of before middle t
 
   is_tile : IsTile before t
-  is_tile = next.2.0.0
+  is_tile = dirty.0
 
   within : t < count_of (tiling before)
   within = omega (arith, is_tile, sound.shape.tiles)
@@ -105,9 +95,10 @@ module _ (edges_open : EdgesAreOpen) (before : Core) (t : ℕ) (sound : IsSound 
         let was : (u : ℕ) → IsTile middle u → IsTile before u = λ u tile. subst (λ n. u < n) count tile in
         record {
           none_out = λ u tile.
-              field_kept before t (clean before t) (λ (w : TileWork). w.out) is_tile refl u ∙ next.0 u (was u tile);
+              field_kept before t (clean before t) (λ (w : TileWork). w.out) is_tile refl u ∙ left.none_out u (was u
+              tile);
           none_wait = λ u tile. field_kept before t (clean before t) (λ (w : TileWork). w.inbox) is_tile refl u
-              ∙ empty_inbox (work_at before u).inbox (λ some. next.1 u (was u tile, some));
+              ∙ empty_inbox (work_at before u).inbox (λ some. left.no_hints u (was u tile, some));
           to_tile = λ hint there.
               let told = (told_hint hint (sorted.those hint there)).is_tile in
               omega (arith, told, sound.shape.tiles, count);
@@ -139,7 +130,7 @@ module _ (edges_open : EdgesAreOpen) (before : Core) (t : ℕ) (sound : IsSound 
       elim (cases_eq (tile_of (tiling before) p) t) [
         | inl here ↦
             let (q, inside_q, is) = (tile_pixels (tiling before) t p sound.shape.tiled within).0 (in_domain, here) in
-            let ready = next_is_ready before t next in
+            let ready = dirty_is_ready before t left dirty in
             subst (λ (r : Pixel). image_at before r ≤ value_at image r) is
             (risen before (telling middle hints) t sound ready in_place q inside_q)
         | inr other ↦
@@ -163,50 +154,94 @@ module _ (edges_open : EdgesAreOpen) (before : Core) (t : ℕ) (sound : IsSound 
   fewer_dirty : dirty_count (set before.tiles t (clean before t)) + 1 ≡ dirty_count before.tiles
   fewer_dirty =
       let count_one : TileWork → ℕ = λ work. if work.dirty then 1 else 0 in
-      let dirty : count_one (work_at before t) ≡ 1 = ap (λ b. if b then 1 else 0) next.2.0.1 in
+      let one : count_one (work_at before t) ≡ 1 = ap (λ b. if b then 1 else 0) dirty.1 in
       let change : dirty_count (set before.tiles t (clean before t)) + count_one (work_at before t)
       ≡ dirty_count before.tiles + 0 = sum_by-set count_one before.tiles t (clean before t) idle is_tile in
-      omega (arith, dirty, change)
+      omega (arith, one, change)
 
   less_burden : burden_of (image_and_work middle) < burden before
   less_burden = omega (arith, less_headroom, fewer_dirty)
 
--- one tile is worked off, and the core is sound
-pub one_step : EdgesAreOpen → (before : Core) (t : ℕ) → IsSound before → IsNext before (Take t) → (image : Raster)
-    → IsGrownAt before t image → (s : ImageAndWork)
-    → AreTold (tiling before) (hints_of before (grown_core before t image) t)
-    (image_and_work (grown_core before t image)) s
-    → IsOneWorkedOff before t (with_image_and_work (grown_core before t image) s)
-    × IsSound (with_image_and_work (grown_core before t image) s)
-one_step edges_open before t sound next image grown s told =
-    let middle = grown_core before t image in
-    let hints = hints_of before middle t in
-    let final = with_image_and_work middle s in
-    let off : HandsOver (telling middle told.by_tile) final =
-    rw told.over.result at (hands_over middle told.by_tile
-    (told_at edges_open before t sound next image grown told.by_tile told.sorted)) in
-    let (swept, sweeps) =
-    in_place_is_worked_off before (telling middle hints) t sound next
-    (in_place edges_open before t sound next image grown) in
-    let sweep : List Entry = (Take t, OfTake (Some swept.job)) ∷ (GiveBack swept, OfGiveBack Joined) ∷ [] in
-    let hands : IsWorkedOff (telling middle hints) off.log final =
-    rw (same_told edges_open before t sound next image grown told.by_tile told.sorted) off.works in
-    let works : IsWorkedOff before (sweep ++ off.log) final =
-    work_goes_on before (telling middle hints) final sweep off.log sweeps hands in
-    let less : burden_of (image_and_work middle) < burden before =
-    less_burden edges_open before t sound next image grown in (
-      record {
-        log = sweep ++ off.log;
-        works = works;
-        one_taken = ap (λ (ts : List ℕ). t ∷ ts) off.none_taken;
-        count = told.over.count ∙ length-set before.tiles t (clean before t);
-        none_out = off.none_out;
-        no_hints = λ u waits. waits.1 (off.none_wait u waits.0);
-        less = omega (arith, less, told.over.burden);
-      },
-      run_keeps_sound edges_open before final (sweep ++ off.log) sound
-          (worked_is_run before final (sweep ++ off.log) works),
-    )
+-- the tile is swept: it is taken and given back, its hints are handed over, and less work can be left
+pub record IsOneSwept (before : Core) (t : ℕ) (after : Core) : Type 0 where
+  pub log : List Entry
+  pub runs : IsRun before log after
+  pub one_taken : tiles_taken log ≡ t ∷ []
+  pub none_abandoned : abandons_of log ≡ 0
+  pub none_merged : merges_of log ≡ 0
+  pub count : length after.tiles ≡ length before.tiles
+  pub left : HasOnlySweeps after
+  pub less : burden after < burden before
+
+module _ (edges_open : EdgesAreOpen) (before : Core) (t : ℕ) (sound : IsSound before) (left : HasOnlySweeps before)
+    (dirty : IsDirty before t) (image : Raster) (grown : IsGrownAt before t image) (s : ImageAndWork)
+    (told : AreTold (tiling before) (hints_of before (grown_core before t image) t)
+    (image_and_work (grown_core before t image)) s) where
+  -- the core afterwards, and the one whose hints wait
+  abbrev final : Core
+  final = with_image_and_work (grown_core before t image) s
+
+  abbrev waiting : Core
+  waiting = telling (grown_core before t image) (hints_of before (grown_core before t image) t)
+
+  off : HandsOver (telling (grown_core before t image) told.by_tile) final
+  off =
+      rw told.over.result at (hands_over (grown_core before t image) told.by_tile
+      (told_at edges_open before t sound left dirty image grown told.by_tile told.sorted))
+
+  hands : IsWorkedOff waiting off.log final
+  hands = rw (same_told edges_open before t sound left dirty image grown told.by_tile told.sorted) off.works
+
+  swept_where : IsSweptInPlace before t waiting
+  swept_where = in_place edges_open before t sound left dirty image grown
+
+  less : burden final < burden before
+  less =
+      let grown_less : burden_of (image_and_work (grown_core before t image)) < burden before =
+      less_burden edges_open before t sound left dirty image grown in
+      omega (arith, grown_less, told.over.burden)
+
+  count_still : length final.tiles ≡ length before.tiles
+  count_still = told.over.count ∙ length-set before.tiles t (clean before t)
+
+  -- any dirty tile may be swept
+  pub one_swept : IsOneSwept before t final × IsSound final
+  one_swept =
+      let ready = dirty_is_ready before t left dirty in
+      let (swept, sweeps) = in_place_is_run before waiting t sound ready swept_where in
+      let sweep : List Entry = (Take t, OfTake (Some swept.job)) ∷ (GiveBack swept, OfGiveBack Joined) ∷ [] in
+      let runs : IsRun before (sweep ++ off.log) final =
+      run_append before waiting final sweep off.log sweeps (worked_is_run waiting final off.log hands) in (
+        record {
+          log = sweep ++ off.log;
+          runs = runs;
+          one_taken = ap (λ (ts : List ℕ). t ∷ ts) off.none_taken;
+          none_abandoned = none_abandoned waiting final off.log hands;
+          none_merged = worked_merges waiting final off.log hands;
+          count = count_still;
+          left = record { none_out = off.none_out; no_hints = λ u waits. waits.1 (off.none_wait u waits.0) };
+          less = less;
+        },
+        run_keeps_sound edges_open before final (sweep ++ off.log) sound runs,
+      )
+
+  -- where it is the first one, it is the next
+  pub one_step : IsLeast (IsDirty before) t → IsOneWorkedOff before t final × IsSound final
+  one_step least =
+      let next : IsNext before (Take t) = (left.none_out, left.no_hints, least) in
+      let (swept, sweeps) = in_place_is_worked_off before waiting t sound next swept_where in
+      let sweep : List Entry = (Take t, OfTake (Some swept.job)) ∷ (GiveBack swept, OfGiveBack Joined) ∷ [] in (
+        record {
+          log = sweep ++ off.log;
+          works = work_goes_on before waiting final sweep off.log sweeps hands;
+          one_taken = ap (λ (ts : List ℕ). t ∷ ts) off.none_taken;
+          count = count_still;
+          none_out = off.none_out;
+          no_hints = λ u waits. waits.1 (off.none_wait u waits.0);
+          less = less;
+        },
+        one_swept.1,
+      )
 
 -- ---- cores as they are stored
 

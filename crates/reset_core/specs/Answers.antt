@@ -6,8 +6,9 @@ use Rattle.tile_generations.specs.Jobs.{Job}
 use Rattle.core_rules.specs.{declared.error.CoreError.CoreError, declared.step.Step.Step, Work.Core, Work.IsQuiet}
 use Rattle.core_rules.specs.{Opening.opened, Invariant.HasLawfulImage, Invariant.HasReconstruction, Merge.IsRefused}
 use Rattle.core_rules.specs.{Merge.IsAcceptable, Counting.IsWithinWork, Counting.Owes, Counting.tiles_out}
+use Rattle.core_rules.specs.{Counting.merges_of, Runs.IsRun}
 use Rattle.core_rules.specs.Sweeps.{IsKnown, IsOut, IsUnchanged, HasOnlyRisen}
-use Rattle.core_rules.specs.Runs.{Entry, IsSettling, IsSettled, IsCutShort, IsTakenIn, jobs_of, abandons_of}
+use Rattle.core_rules.specs.Runs.{Entry, IsDirty, IsSettling, IsSettled, IsCutShort, IsTakenIn, jobs_of, abandons_of}
 use Rattle.core_rules.specs.Schedule.{Progress, Ran, AreSteps, started, ran_of}
 use Rattle.tile_work.specs.TileSet.{HasGained}
 use Rattle.reset_core.specs.{declared.replica.settling.Count.Count, declared.replica.settling.Slice.Slice}
@@ -75,3 +76,33 @@ IsSliceCutShort before old after new =
 abbrev pub HaveRun : Core → List Step → Ran → Core → Type 0
 HaveRun before steps ran after =
     (end : Progress) × AreSteps steps (started before) end × (ran ≡ ran_of end) × (after ≡ end.core)
+
+-- events without a merge lead from the one core to the other: so many take a job and so many abandon one, and the set
+-- has gained the tiles that were taken
+pub record IsRunWith (before : Core) (old : List Bool) (jobs abandons : ℕ) (after : Core) (new : List Bool)
+    : Type 0 where
+  pub log : List Entry
+  pub run : IsRun before log after
+  pub none_merged : merges_of log ≡ 0
+  pub jobs_are : jobs ≡ jobs_of log
+  pub abandons_are : abandons ≡ abandons_of log
+  pub swept : HasGained old (IsTakenIn log) new
+
+-- a slice of settling in whatever order: the set has gained the tiles that were swept, which were no more than the
+-- limit, and fewer only where no work is left; no more were swept than there was work, and each job that was out was
+-- abandoned
+pub record IsSliceInBands (before : Core) (old : List Bool) (limit : ℕ) (slice : Slice) (after : Core) (new : List Bool)
+    : Type 0 where
+  pub run : IsRunWith before old slice.count.jobs slice.count.abandons after new
+  pub at_most : slice.count.jobs ≤ limit
+  pub to_the_end : slice.count.jobs < limit → IsQuiet after
+  pub quiet : IsTrue slice.is_quiet ↔ IsQuiet after
+  pub bound : IsWithinWork before after slice.count.jobs slice.count.abandons
+  pub each_out : slice.count.abandons ≡ tiles_out before
+
+-- such a slice that ended for want of memory, where a tile has still to be swept
+pub record IsRunCutShort (before : Core) (old : List Bool) (after : Core) (new : List Bool) : Type 0 where
+  pub jobs : ℕ
+  pub abandons : ℕ
+  pub run : IsRunWith before old jobs abandons after new
+  pub some_dirty : (t : ℕ) × IsDirty after t

@@ -30,7 +30,11 @@ pub mod Replica
 pub mod Answers
 pub mod Bounding
 pub mod Telling
+pub mod InPlace
 pub mod Settling
+pub mod Bands
+pub mod BandParts
+pub mod PuttingBack
 pub mod Parts
 pub mod Sweeping
 pub mod MergeSteps

@@ -1,12 +1,14 @@
 -- Hints that are handed over as soon as they are told, and how much work a core can still have.
-use Rattle.std.specs.Prelude.{◌≡◌, ℕ, ◌+◌, ◌≤◌, ◌==◌, true, nat_lt, if◌then◌else◌, List, [], ◌∷◌, length, filter, ◌<◌}
+use Rattle.std.specs.Prelude.{◌≡◌, ℕ, ◌+◌, ◌%◌, ◌^◌, ◌≤◌, ◌==◌, true, false, nat_lt, if◌then◌else◌, List, [], ◌∷◌}
+use Rattle.std.specs.Prelude.{length, filter, ◌<◌}
 use Rattle.std.specs.Prelude.{slice_index_or, slice_set, Contains}
-use Rattle.grid_core.specs.{declared.bounds.Bounds.Bounds, Bounds.IsInBounds}
-use Rattle.grid_core.specs.Raster.{Raster, IsFilled, headroom, value_at, with_value}
+use Rattle.grid_core.specs.{declared.bounds.Bounds.Bounds, declared.pixel.Pixel.Pixel, Bounds.IsInBounds}
+use Rattle.grid_core.specs.{Reconstruction.IsReconstruction, Rects.IsInRect, Rects.domain_in, Rects.part}
+use Rattle.grid_core.specs.Raster.{Raster, IsFilled, IsInside, headroom, value_at, with_value}
 use Rattle.grid_core.specs.Tiles.{Tiles, IsTiled, tile_of, count_of}
-use Rattle.border_queues.specs.{declared.hint.Hint.Hint, OpenEdges.IsOnTiling}
+use Rattle.border_queues.specs.declared.hint.Hint.{Hint}
 use Rattle.border_queues.specs.TileWork.{TileWork, idle, dirty_count}
-use Rattle.core_rules.specs.Work.{Core}
+use Rattle.core_rules.specs.{Image.IsOfSize, Sweeps.tile_rect, Work.Core, Work.mask_at, Work.image_at, Work.work_at}
 use Rattle.tile_work.specs.WorkTable.{IsToInside}
 
 -- ---- how much work a core can still have
@@ -23,11 +25,23 @@ burden_of s = headroom s.image.cells + dirty_count s.rows
 abbrev pub both : Raster → List TileWork → ImageAndWork
 both image rows = record { image = image; rows = rows }
 
+-- whole rows of cells as the image that is cut into these tiles
+abbrev pub image_on : Tiles → List ℕ → Raster
+image_on tiles cells = record { width = tiles.width; height = tiles.height; cells = cells }
+
+-- so, with the work at the tiles
+abbrev pub both_on : Tiles → List ℕ → List TileWork → ImageAndWork
+both_on tiles cells work = both (image_on tiles cells) work
+
 abbrev pub image_and_work : Core → ImageAndWork
 image_and_work core = record { image = core.image; rows = core.tiles }
 
 abbrev pub burden : Core → ℕ
 burden core = burden_of (image_and_work core)
+
+-- the core with another image and other work
+abbrev pub with_image_and_work : Core → ImageAndWork → Core
+with_image_and_work core s = record core { image = s.image; tiles = s.rows }
 
 -- ---- hints that are handed over
 
@@ -62,20 +76,19 @@ pub record AreHandedOver (tiles : Tiles) (hints : List Hint) (before after : Ima
   pub count : length after.rows ≡ length before.rows
   pub burden : burden_of after ≤ burden_of before
 
--- so they have, where image and work are stored apart
-abbrev pub IsHandOver : Tiles → List Hint → Raster → List TileWork → Raster → List TileWork → Type 0
-IsHandOver tiles hints old work new after = AreHandedOver tiles hints (both old work) (both new after)
+-- so they have, where the image is whole rows of cells
+abbrev pub IsHandOver : Tiles → List Hint → List ℕ → List TileWork → List ℕ → List TileWork → Type 0
+IsHandOver tiles hints old work new after = AreHandedOver tiles hints (both_on tiles old work) (both_on tiles new after)
 
--- the image is cut into these tiles, and there is work at each of them
-pub record AreOfTiles (tiles : Tiles) (image : Raster) (work : List TileWork) : Type 0 where
+-- the cells have room for an image that is cut into these tiles, and there is work at each of them
+pub record AreOfTiles (tiles : Tiles) (cells : List ℕ) (work : List TileWork) : Type 0 where
   pub tiled : IsTiled tiles
-  pub on_tiling : IsOnTiling tiles image
-  pub filled : IsFilled image
+  pub filled : IsFilled (image_on tiles cells)
   pub count : count_of tiles ≡ length work
 
 -- so it is, and this is one of the tiles
-pub record HaveWorkAt (tiles : Tiles) (image : Raster) (work : List TileWork) (t : ℕ) : Type 0 where
-  pub parts : AreOfTiles tiles image work
+pub record HaveWorkAt (tiles : Tiles) (cells : List ℕ) (work : List TileWork) (t : ℕ) : Type 0 where
+  pub parts : AreOfTiles tiles cells work
   pub within : t < length work
 
 -- the pixel of each of the hints lies in the image
@@ -104,3 +117,25 @@ pub record AreTold (tiles : Tiles) (hints : List Hint) (before after : ImageAndW
   pub by_tile : List Hint
   pub sorted : AreByTile tiles hints by_tile
   pub over : AreHandedOver tiles by_tile before after
+
+-- ---- a tile that is swept
+
+-- the image has grown in the tile: there it is the reconstruction, and elsewhere it is as it was
+pub record IsGrownAt (before : Core) (t : ℕ) (image : Raster) : Type 0 where
+  pub size : IsOfSize before.image image
+  pub grown : IsReconstruction (domain_in (tile_rect before t) before.conn) (part (tile_rect before t) (mask_at before))
+      (part (tile_rect before t) (image_at before)) (part (tile_rect before t) (value_at image))
+  pub beyond : (p : Pixel) → IsInside before.image.width before.image.height p
+      → (IsInRect (tile_rect before t) p → ⊥) → value_at image p ≡ image_at before p
+
+-- the tile without its dirty mark
+abbrev pub clean : Core → ℕ → TileWork
+clean core t = record (work_at core t) { dirty = false }
+
+-- the core with this image and this tile clean, before it tells hints
+abbrev pub grown_core : Core → ℕ → Raster → Core
+grown_core before t image = record before {
+  image = image;
+  tiles = slice_set before.tiles t (clean before t);
+  serial = (before.serial + 1) % 2 ^ 64;
+}

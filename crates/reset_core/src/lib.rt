@@ -9,10 +9,11 @@
 //! core.image();                            // the reconstruction of the mask from the marker of the stroke
 //! ```
 //!
-//! [`Core::settle`] works by itself until nothing is left to do. A keeper that gives work to others takes a job
-//! ([`Core::take`]), has it swept, gives the result back ([`Core::give_back`]), late, twice or never, and hands over
-//! the hints that wait ([`Core::hand`]). A withdrawal resets the tiles that the stroke's growth can have reached, and
-//! raises their generations, so that results and hints from before are known.
+//! [`Core::settle`] works by itself until nothing is left to do, and [`Core::settle_in_bands`] shares the work among
+//! threads. A keeper that gives work to others takes a job ([`Core::take`]), has it swept, gives the result back
+//! ([`Core::give_back`]), late, twice or never, and hands over the hints that wait ([`Core::hand`]). A withdrawal
+//! resets the tiles that the stroke's growth can have reached, and raises their generations, so that results and hints
+//! from before are known.
 //!
 //! A core can begin with strokes ([`Core::over_state`]): its image is grown at once, and no work is left at it. It
 //! shows what one shows that was opened, merged the strokes and settled ([`begun_is_as_settled`]). The memory for that

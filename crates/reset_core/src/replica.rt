@@ -28,12 +28,15 @@ use stroke_lattice::{State, StateError};
 use tile_generations::{Ticket, TileMasks};
 use tile_work::{OpenBounds, TileSet, WorkTable};
 
+mod bands;
+mod cutting;
 mod handing;
 mod in_place;
 mod judging;
 mod merging;
 mod scheduling;
 mod settling;
+mod settling_in_bands;
 mod starting;
 mod sweeping;
 

@@ -1,30 +1,30 @@
 //! The one step of settling: a dirty tile is swept in place, and its hints are handed over at once.
 
-ghost use Rattle.std.specs.Prelude.{◌≡◌, ◌<◌, ◌≤◌, ◌↔◌, [], ◌∷◌, Contains, length};
-ghost use Rattle.std.specs.Prelude.{slice_index_or};
+ghost use Rattle.std.specs.Prelude.{◌≡◌, ◌*◌, ◌<◌, ◌≤◌, ◌↔◌, [], ◌∷◌, Contains, length};
 ghost use Rattle.std.specs.List.{flat_map};
-ghost use Rattle.grid_core.specs.Raster.{value_at};
+ghost use Rattle.grid_core.specs.Raster.{IsBelow, IsFilled, IsInside, index_of};
 ghost use Rattle.grid_core.specs.Rects.{IsInRect};
 ghost use Rattle.grid_core.specs.Bounds.{LieIn};
 ghost use Rattle.grid_core.specs.Tiles.{count_of, rect_of, tile_of};
-ghost use Rattle.border_queues.specs.OpenEdges.{EdgesBeginIn, IsOnTiling, sender_by, room_for_edges, open_edges};
+ghost use Rattle.border_queues.specs.OpenEdges.{EdgesBeginIn, room_for_edges, open_edges};
 ghost use Rattle.border_queues.specs.Waiting.{places};
 ghost use Rattle.core_rules.specs.Work.{tiling};
-ghost use Rattle.border_queues.specs.TileWork.{idle};
 ghost use Rattle.core_rules.specs.Events.{Take};
 ghost use Rattle.core_rules.specs.Runs.{IsNext};
 ghost use Rattle.reset_core.specs.Settling.{IsOneWorkedOff};
-ghost use Rattle.reset_core.specs.Telling.{both, hints_in, AreOfTiles, AreToInside, AreTold, HaveWorkAt, IsHandOver};
-ghost use Rattle.reset_core.specs.Telling.{LieWithin};
-ghost use Rattle.reset_core.specs.Bounding.{FollowChange};
+ghost use Rattle.reset_core.specs.Telling.{both_on, hints_in, image_on, AreOfTiles, AreToInside, AreTold, HaveWorkAt};
+ghost use Rattle.reset_core.specs.Telling.{IsHandOver, LieWithin};
+ghost use Rattle.reset_core.specs.Bounding.{AreBounded};
+ghost use Rattle.reset_core.specs.InPlace.{BoundsFollow, IsSweptHere, core_on, sender_on};
 ghost use Rattle.tile_work.specs.WorkTable.{IsToInside};
 
 use crate::replica::Core;
 use border_queues::laws::edges_are_open;
-use border_queues::{Hint, Inbox, open_edges_in};
+use border_queues::{Hint, Inbox, View, open_edges_in_rows};
 use grid_core::laws::{each_pixel_in_one_tile, neighbours_lie_in_touching_tiles};
-use grid_core::{Bounds, Conn, Grid, Rect, Tiling};
-use raster_sweeps::{Room, grow_from_bounds};
+use grid_core::{Bounds, Conn, Pixel, Rect, Tiling};
+use raster_sweeps::Room;
+use raster_sweeps::steps::{Size, grow_rows_from_bounds};
 use tile_work::{OpenBounds, WorkTable};
 
 impl Core {
@@ -39,38 +39,70 @@ impl Core {
     {
         edges_are_open();
         let tiling = self.markers.tiling();
-        let mask = self.markers.mask();
+        let image = self.image.cells_mut();
+        let mask = self.markers.mask().cells();
         self.serial = self.serial.wrapping_add(1);
-        self.work.mark_clean(tile);
-        let area = grow_from_bounds(
-            room,
+        sweep_one(
             mask,
-            &mut self.image,
-            tiling.rect(tile),
-            self.conn,
-            self.bounds.get(tile),
-        );
-        self.bounds.set(tile, Bounds::none());
-        tell(
-            &mut self.image,
+            image,
             &mut self.work,
             &mut self.bounds,
-            mask,
             &tiling,
             tile,
             self.conn,
-            area,
+            room,
             told,
         );
     }
 }
 
-// Tells the hints of the tile's open edges, which begin within the bounds `area`, and hands them over, tile by tile.
-fn tell(
-    image: &mut Grid,
+/// Sweeps a tile in place, in whole rows of cells, and hands over the hints that this makes. It takes no memory.
+///
+/// `told` needs room for the hints of one tile; what it holds is dropped.
+pub(crate) fn sweep_one(
+    mask: &[u16],
+    image: &mut [u16],
     work: &mut WorkTable,
     bounds: &mut OpenBounds,
-    mask: &Grid,
+    tiling: &Tiling,
+    tile: usize,
+    conn: Conn,
+    room: &mut Room,
+    told: &mut Inbox,
+)
+    requires tile { HaveWorkAt tiling.now image.old work.old tile }
+    requires mask { IsFilled (image_on tiling.now mask.now) }
+    requires below { IsBelow (image_on tiling.now image.old) (image_on tiling.now mask.now) }
+    requires bounded { AreBounded (core_on tiling.now conn mask.now image.old work.old) bounds.old }
+    requires enough { room_for_edges tiling.now ≤ places told.old }
+    ensures swept { IsSweptHere (core_on tiling.now conn mask.now image.old work.old) bounds.old tile
+        (both_on tiling.now image.new work.new) bounds.new }
+    ensures enough { places told.old ≤ places told.new }
+{
+    let size = Size {
+        w: tiling.width(),
+        h: tiling.height(),
+    };
+    work.mark_clean(tile);
+    let area = grow_rows_from_bounds(
+        room,
+        mask,
+        image,
+        size,
+        tiling.rect(tile),
+        conn,
+        bounds.get(tile),
+    );
+    bounds.set(tile, Bounds::none());
+    tell(image, work, bounds, mask, tiling, tile, conn, area, told);
+}
+
+// Tells the hints of the tile's open edges, which begin within the bounds `area`, and hands them over, tile by tile.
+fn tell(
+    image: &mut [u16],
+    work: &mut WorkTable,
+    bounds: &mut OpenBounds,
+    mask: &[u16],
     tiling: &Tiling,
     tile: usize,
     conn: Conn,
@@ -78,15 +110,14 @@ fn tell(
     told: &mut Inbox,
 )
     requires tile { HaveWorkAt tiling.now image.old work.old tile }
-    requires mask { IsOnTiling tiling.now mask.now }
-    requires area { EdgesBeginIn (sender_by tiling.now conn (value_at mask.now) (value_at image.old) tile
-        (slice_index_or work.old tile idle).generation) area }
+    requires mask { IsFilled (image_on tiling.now mask.now) }
+    requires area { EdgesBeginIn (sender_on tiling.now conn mask.now image.old tile work.old) area }
     requires lie { LieIn area (rect_of tiling.now tile) }
     requires bounds { length bounds.old ≡ count_of tiling.now }
     requires enough { room_for_edges tiling.now ≤ places told.old }
-    ensures hints { AreTold tiling.now (open_edges (sender_by tiling.now conn (value_at mask.now) (value_at image.old)
-        tile (slice_index_or work.old tile idle).generation)) (both image.old work.old) (both image.new work.new) }
-    ensures bounds { (conn : _) → FollowChange tiling.now conn image.old image.new bounds.old bounds.new }
+    ensures hints { AreTold tiling.now (open_edges (sender_on tiling.now conn mask.now image.old tile work.old))
+        (both_on tiling.now image.old work.old) (both_on tiling.now image.new work.new) }
+    ensures bounds { BoundsFollow tiling.now image.old image.new bounds.old bounds.new }
     ensures enough { places told.old ≤ places told.new }
 {
     edges_are_open();
@@ -94,8 +125,10 @@ fn tell(
     each_pixel_in_one_tile();
     told.clear();
     let generation = work.generation(tile);
+    let (w, h) = (tiling.width(), tiling.height());
+    let (before, limits) = (View::over(w, h, image), View::over(w, h, mask));
     // There is room for all of them, so it does not fail.
-    let _ = open_edges_in(image, mask, tiling, tile, generation, conn, area, told);
+    let _ = open_edges_in_rows(&before, &limits, tiling, tile, generation, conn, area, told);
     if told.is_empty() {
         return;
     }
@@ -112,7 +145,7 @@ fn tell(
 
 // Hands over a hint, if its pixel lies in the tile, whose rectangle is `rect`.
 fn hand_over(
-    image: &mut Grid,
+    image: &mut [u16],
     work: &mut WorkTable,
     bounds: &mut OpenBounds,
     tiling: &Tiling,
@@ -126,13 +159,26 @@ fn hand_over(
     requires bounds { length bounds.old ≡ count_of tiling.now }
     ensures handed { IsHandOver tiling.now (hints_in tiling.now (hint ∷ []) tile)
         image.old work.old image.new work.new }
-    ensures bounds { (conn : _) → FollowChange tiling.now conn image.old image.new bounds.old bounds.new }
+    ensures bounds { BoundsFollow tiling.now image.old image.new bounds.old bounds.new }
 {
-    if rect.contains(hint.to_pixel) && image.get(hint.to_pixel) < hint.value {
-        image.set(hint.to_pixel, hint.value);
+    if !rect.contains(hint.to_pixel) {
+        return;
+    }
+    let cell = cell_of(tiling, hint.to_pixel);
+    if image[cell] < hint.value {
+        image[cell] = hint.value;
         work.mark_dirty(tile);
         bounds.widen(tile, Bounds::none().including(hint.to_pixel));
     }
+}
+
+// Where the value of a pixel stands among the cells.
+fn cell_of(tiling: &Tiling, p: Pixel) -> usize
+    requires { IsInside tiling.now.width tiling.now.height p }
+    ensures value { result ≡ index_of tiling.now.width p }
+    ensures within { result < tiling.now.width * tiling.now.height }
+{
+    p.y as usize * tiling.width() as usize + p.x as usize
 }
 
 // Bounds within which lie the pixels of the hints.
@@ -152,7 +198,7 @@ fn bounds_around(tiling: &Tiling, hints: &[Hint]) -> Bounds
 // Hands over the hints for the pixels of a tile, in their order. All of them lie within `near`; where these bounds do
 // not meet the tile, the hints are not looked at.
 fn hand_over_in(
-    image: &mut Grid,
+    image: &mut [u16],
     work: &mut WorkTable,
     bounds: &mut OpenBounds,
     tiling: &Tiling,
@@ -165,7 +211,7 @@ fn hand_over_in(
     requires near { LieWithin near hints.now }
     requires bounds { length bounds.old ≡ count_of tiling.now }
     ensures handed { IsHandOver tiling.now (hints_in tiling.now hints.now tile) image.old work.old image.new work.new }
-    ensures bounds { (conn : _) → FollowChange tiling.now conn image.old image.new bounds.old bounds.new }
+    ensures bounds { BoundsFollow tiling.now image.old image.new bounds.old bounds.new }
 {
     each_pixel_in_one_tile();
     let rect = tiling.rect(tile);
@@ -179,7 +225,7 @@ fn hand_over_in(
 
 // Hands over the hints for the pixels of these tiles, tile by tile.
 fn hand_over_all(
-    image: &mut Grid,
+    image: &mut [u16],
     work: &mut WorkTable,
     bounds: &mut OpenBounds,
     tiling: &Tiling,
@@ -192,7 +238,7 @@ fn hand_over_all(
     requires bounds { length bounds.old ≡ count_of tiling.now }
     ensures handed { IsHandOver tiling.now (flat_map (hints_in tiling.now hints.now) tiles.now)
         image.old work.old image.new work.new }
-    ensures bounds { (conn : _) → FollowChange tiling.now conn image.old image.new bounds.old bounds.new }
+    ensures bounds { BoundsFollow tiling.now image.old image.new bounds.old bounds.new }
 {
     let near = bounds_around(tiling, hints);
     for tile in tiles {

@@ -145,7 +145,7 @@ impl Core {
     }
 
     // Hands over each waiting hint, tile by tile.
-    fn hand_all(&mut self)
+    pub(super) fn hand_all(&mut self)
         requires { NoneOut self.old }
         ensures handed { AreHanded self.old self.new }
         ensures no_hints { (u : ℕ) → HasHints self.new u → ⊥ }
@@ -187,7 +187,7 @@ impl Core {
     // none is dirty, it takes no memory.
     //
     // Errors: out of memory, where a tile is dirty and may be swept, and core and set are as they were.
-    fn sweep_within(
+    pub(super) fn sweep_within(
         &mut self,
         alloc: Global,
         swept: &mut TileSet,

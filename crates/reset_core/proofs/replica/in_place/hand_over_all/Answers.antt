@@ -1,6 +1,6 @@
 use Rattle.std.proofs.Common.{◌∙◌, get_or, take, arith, flat_map}
 use Rattle.std.proofs.lemmas.List.Elements.{Contains-get_or}
-use Rattle.reset_core.specs.Telling.{hints_in}
+use Rattle.reset_core.specs.Telling.{both_on, hints_in, image_on}
 use Rattle.grid_core.specs.declared.conn.Conn.TheVariants.{Four}
 use Rattle.reset_core.proofs.Bounding.{follow_same, follow_twice}
 use Rattle.reset_core.proofs.TellingHands.{none_handed, tile_handed_next, still_of_tiles}
@@ -9,20 +9,22 @@ use Rattle.reset_core.proofs.replica.in_place.hand_over_all.Goals as goal
 
 pub loop-tile-init : goal.loop-tile-init
 loop-tile-init c = record {
-  handed = none_handed c.args.tiling.now (record { image = c.args.image.now; rows = c.args.work.now });
-  bounds = λ conn. follow_same c.args.tiling.now conn c.args.image.now c.args.bounds.now;
+  handed = none_handed c.args.tiling.now (both_on c.args.tiling.now c.args.image.now c.args.work.now);
+  bounds = λ conn. follow_same c.args.tiling.now conn (image_on c.args.tiling.now c.args.image.now) c.args.bounds.now;
 }
 
 pub loop-tile-preserved : goal.loop-tile-preserved
 loop-tile-preserved c = record {
   handed =
       tile_handed_next c.args.tiling.now c.args.hints.now c.args.tiles.now c.loop-tile.tile-index
-      (record { image = c.args.image.now; rows = c.args.work.now })
-      (record { image = c.loop-tile.image; rows = c.loop-tile.work })
-      (record { image = c.hand_over_in.new.image; rows = c.hand_over_in.new.work }) c.loop-tile-test.true
+      (both_on c.args.tiling.now c.args.image.now c.args.work.now)
+      (both_on c.args.tiling.now c.loop-tile.image c.loop-tile.work)
+      (both_on c.args.tiling.now c.hand_over_in.new.image c.hand_over_in.new.work) c.loop-tile-test.true
       c.loop-tile.invariant.handed c.hand_over_in.ensures.handed;
   bounds = λ conn.
-      follow_twice c.args.tiling.now conn c.args.image.now c.loop-tile.image c.hand_over_in.new.image c.args.bounds.now
+      follow_twice c.args.tiling.now conn (image_on c.args.tiling.now c.args.image.now)
+      (image_on c.args.tiling.now c.loop-tile.image) (image_on c.args.tiling.now c.hand_over_in.new.image)
+      c.args.bounds.now
       c.loop-tile.bounds c.hand_over_in.new.bounds c.requires.parts.tiled c.requires.bounds
       (c.loop-tile.invariant.bounds conn) (c.hand_over_in.ensures.bounds conn);
 }

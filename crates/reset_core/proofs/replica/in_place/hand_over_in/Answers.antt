@@ -3,7 +3,7 @@ use Rattle.std.proofs.lemmas.List.Elements.{Contains-get_or}
 use Rattle.grid_core.specs.{Tiles.count_of, declared.conn.Conn.TheVariants.Four}
 use Rattle.grid_core.specs.{declared.bounds.Bounds.Bounds, Bounds.AreEmpty, Bounds.bounds_of, Bounds.intersection}
 use Rattle.border_queues.specs.declared.hint.Hint.{Hint}
-use Rattle.reset_core.specs.Telling.{ImageAndWork, AreHandedOver, hints_in}
+use Rattle.reset_core.specs.Telling.{ImageAndWork, AreHandedOver, both_on, hints_in, image_on}
 use Rattle.reset_core.proofs.Bounding.{follow_same, follow_twice}
 use Rattle.reset_core.proofs.TellingHands.{handed_next, none_handed, still_of_tiles}
 use Rattle.reset_core.proofs.TellingNear.{none_near}
@@ -17,7 +17,7 @@ returns-then-is_empty-clause-handed c =
     let a = c.args in
     let tiles = a.tiling.now in
     let parts = c.requires.tile.parts in
-    let s : ImageAndWork = record { image = a.image.now; rows = a.work.now } in
+    let s : ImageAndWork = both_on tiles a.image.now a.work.now in
     let meet =
     c.intersection.ensures
     ∙ ap (λ (own : Bounds). intersection own a.near) (c.of.ensures ∙ ap bounds_of c.rect-rect.ensures.value) in
@@ -28,7 +28,7 @@ returns-then-is_empty-clause-handed c =
 
 pub returns-then-is_empty-clause-bounds : goal.returns-then-is_empty-clause-bounds
 returns-then-is_empty-clause-bounds c =
-    λ conn. follow_same c.args.tiling.now conn c.args.image.now c.args.bounds.now
+    λ conn. follow_same c.args.tiling.now conn (image_on c.args.tiling.now c.args.image.now) c.args.bounds.now
 
 pub hand_over-requires-clause-inside : goal.hand_over-requires-clause-inside
 hand_over-requires-clause-inside c =
@@ -37,20 +37,22 @@ hand_over-requires-clause-inside c =
 
 pub loop-hint-init : goal.loop-hint-init
 loop-hint-init c = record {
-  handed = none_handed c.args.tiling.now (record { image = c.args.image.now; rows = c.args.work.now });
-  bounds = λ conn. follow_same c.args.tiling.now conn c.args.image.now c.args.bounds.now;
+  handed = none_handed c.args.tiling.now (both_on c.args.tiling.now c.args.image.now c.args.work.now);
+  bounds = λ conn. follow_same c.args.tiling.now conn (image_on c.args.tiling.now c.args.image.now) c.args.bounds.now;
 }
 
 pub loop-hint-preserved : goal.loop-hint-preserved
 loop-hint-preserved c = record {
   handed =
       handed_next c.args.tiling.now c.args.hints.now c.args.tile c.loop-hint.hint-index none
-      (record { image = c.args.image.now; rows = c.args.work.now })
-      (record { image = c.loop-hint.image; rows = c.loop-hint.work })
-      (record { image = c.hand_over.new.image; rows = c.hand_over.new.work }) c.loop-hint-test.true
+      (both_on c.args.tiling.now c.args.image.now c.args.work.now)
+      (both_on c.args.tiling.now c.loop-hint.image c.loop-hint.work)
+      (both_on c.args.tiling.now c.hand_over.new.image c.hand_over.new.work) c.loop-hint-test.true
       c.loop-hint.invariant.handed c.hand_over.ensures.handed;
   bounds = λ conn.
-      follow_twice c.args.tiling.now conn c.args.image.now c.loop-hint.image c.hand_over.new.image c.args.bounds.now
+      follow_twice c.args.tiling.now conn (image_on c.args.tiling.now c.args.image.now)
+      (image_on c.args.tiling.now c.loop-hint.image) (image_on c.args.tiling.now c.hand_over.new.image)
+      c.args.bounds.now
       c.loop-hint.bounds c.hand_over.new.bounds c.requires.tile.parts.tiled c.requires.bounds
       (c.loop-hint.invariant.bounds conn) (c.hand_over.ensures.bounds conn);
 }

@@ -1,10 +1,10 @@
-use Rattle.std.proofs.Common.{◌≡◌, ◌<◌, ◌≤◌, ◌++◌, ◌∙◌, sym, ap, subst, arith, Result, Ok, Err, IsOk, OnOk, Contains}
-use Rattle.std.proofs.Common.{flat_map}
+use Rattle.std.proofs.Common.{◌≡◌, ◌<◌, ◌≤◌, ◌++◌, ◌∙◌, sym, ap, subst, arith, Result, Ok, Err, IsOk, OnOk}
+use Rattle.std.proofs.Common.{ℕ, List, Contains, flat_map}
 use Rattle.std.specs.List.Sorted.{IsStrictlyIncreasing}
 use Rattle.grid_core.specs.{Tiles.count_of, Tiles.tile_of, Raster.value_at}
 use Rattle.border_queues.specs.declared.hint.Hint.{Hint}
-use Rattle.border_queues.specs.OpenEdges.{Sender, room_for_edges, open_edges}
-use Rattle.reset_core.specs.Telling.{ImageAndWork, hints_in, AreByTile, AreTold}
+use Rattle.border_queues.specs.OpenEdges.{Sender, sender_by, room_for_edges, open_edges}
+use Rattle.reset_core.specs.Telling.{ImageAndWork, both_on, image_on, hints_in, AreByTile, AreTold}
 use Rattle.reset_core.proofs.TellingOrder.{IsToldBy, told_by, are_by_tile}
 use Rattle.reset_core.proofs.replica.in_place.tell.Goals.{After-as_slice-2}
 use Rattle.std.proofs.lemmas.Grind.{common_steps}
@@ -18,19 +18,36 @@ abbrev sender : After-as_slice-2 → Sender
 sender c = record {
   tiles = c.args.tiling.now;
   conn = c.args.conn;
-  mask = value_at c.args.mask.now;
-  image = value_at c.args.image.now;
+  mask = value_at (image_on c.args.tiling.now c.args.mask.now);
+  image = value_at (image_on c.args.tiling.now c.args.image.now);
   tile = c.args.tile;
   generation = c.generation-generation.result;
 }
+
+sent : (c : After-as_slice-2)
+    → sender_by c.args.tiling.now c.args.conn (value_at c.over-limits.result) (value_at c.over-before.result)
+    c.args.tile c.generation-generation.result ≡ sender c
+sent c =
+    let size : (cells : List ℕ) → record { width = c.width-w.result; height = c.height-h.result; cells = cells }
+    ≡ image_on c.args.tiling.now cells =
+    λ cells i. record { width = c.width-w.ensures.value i; height = c.height-h.ensures.value i; cells = cells } in
+    let limits = c.over-limits.ensures ∙ size c.args.mask.now in
+    let before = c.over-before.ensures ∙ size c.args.image.now in
+    λ i. sender_by c.args.tiling.now c.args.conn (value_at (limits i)) (value_at (before i)) c.args.tile
+    c.generation-generation.result
 
 hints_are_told : (c : After-as_slice-2) → c.as_slice-2.result.now ≡ open_edges (sender c)
 hints_are_told c =
     let enough : room_for_edges c.args.tiling.now ≤ c.clear.new.self.room =
     omega (arith, c.clear.ensures.room, c.requires.enough) in
+    let added : OnOk c.open_edges_in_rows.result (c.open_edges_in_rows.new.out.hints
+    ≡ c.clear.new.self.hints ++ open_edges (sender c)) =
+    subst (λ s. OnOk c.open_edges_in_rows.result (c.open_edges_in_rows.new.out.hints
+    ≡ c.clear.new.self.hints ++ open_edges s)) (sent c) c.open_edges_in_rows.ensures.hints in
     c.as_slice-2.ensures
-    ∙ of_ok c.open_edges_in.result (c.open_edges_in.new.out.hints ≡ c.clear.new.self.hints ++ open_edges (sender c))
-    (c.open_edges_in.ensures.enough enough) c.open_edges_in.ensures.hints
+    ∙ of_ok c.open_edges_in_rows.result
+    (c.open_edges_in_rows.new.out.hints ≡ c.clear.new.self.hints ++ open_edges (sender c))
+    (c.open_edges_in_rows.ensures.enough enough) added
     ∙ ap (λ hs. hs ++ open_edges (sender c)) c.clear.ensures.hints
 
 told : (c : After-as_slice-2) (hint : Hint) → Contains c.as_slice-2.result.now hint → IsToldBy (sender c) hint
@@ -61,8 +78,8 @@ hand_over_all-requires-clause-inside c = λ hint there. (told c hint there).insi
 
 pub returns-clause-hints : goal.returns-clause-hints
 returns-clause-hints c =
-    let before : ImageAndWork = record { image = c.args.image.now; rows = c.args.work.now } in
-    let after : ImageAndWork = record { image = c.hand_over_all.new.image; rows = c.hand_over_all.new.work } in
+    let before : ImageAndWork = both_on c.args.tiling.now c.args.image.now c.args.work.now in
+    let after : ImageAndWork = both_on c.args.tiling.now c.hand_over_all.new.image c.hand_over_all.new.work in
     let at = (goal.at.returns-clause-hints c).After-as_slice-2 in
     let all : AreTold c.args.tiling.now c.as_slice-2.result.now before after = record {
       by_tile = flat_map (hints_in c.args.tiling.now c.as_slice-2.result.now) c.as_slice.result.now;
@@ -71,5 +88,5 @@ returns-clause-hints c =
     } in
     rw (hints_are_told at, c.generation-generation.ensures.value) at all
 
-pub open_edges_in-requires-clause-bounds : goal.open_edges_in-requires-clause-bounds
-open_edges_in-requires-clause-bounds c = grind (arith, common_steps)
+pub open_edges_in_rows-requires-clause-bounds : goal.open_edges_in_rows-requires-clause-bounds
+open_edges_in_rows-requires-clause-bounds c = grind (arith, common_steps)
