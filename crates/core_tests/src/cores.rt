@@ -91,8 +91,8 @@ fn foreign_swept(alloc: Global, mask: &Grid, strokes: &State) -> Option<Swept> {
     swept
 }
 
-// How far the image is from what grows from the strokes, in all.
-fn owed(alloc: Global, core: &Core) -> Option<u64> {
+/// How far the image is from what grows from the strokes, in all.
+pub fn owed(alloc: Global, core: &Core) -> Option<u64> {
     let mask = core.mask();
     if core.state().outside(mask.width(), mask.height()).is_some() {
         return None;

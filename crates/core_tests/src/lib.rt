@@ -1,7 +1,7 @@
 #![tactic(auto)]
 //! Tests of everything below a session, by public calls alone: devices, image files, growth and views of an image;
-//! strokes, their states, frames and lines; growth by bands in threads; one replica's core, and worlds of
-//! replicas.
+//! strokes, their states, frames and lines; growth by bands in threads; one replica's core, also where it settles in
+//! bands, and worlds of replicas.
 //!
 //! They stand in a crate of their own since a crate with tests is proved twice. What a contract says exactly is not
 //! asked again: there are worked examples, ends of devices, and each call that takes memory is made with ample memory.
@@ -31,6 +31,8 @@ mod merging;
 mod pictures;
 #[cfg(test)]
 mod played;
+#[cfg(test)]
+mod settling_in_bands;
 #[cfg(test)]
 mod states;
 #[cfg(test)]

@@ -19,8 +19,8 @@ const HINT: Hint = Hint {
     value: 4,
 };
 
-// Whether the image has the tiling's width and height.
-fn is_on(image: &Grid, tiling: &Tiling) -> bool
+/// Whether the image has the tiling's width and height.
+pub fn is_on(image: &Grid, tiling: &Tiling) -> bool
     ensures { IsTrue result → IsOnTiling tiling.now image.now }
 {
     image.width() == tiling.width() && image.height() == tiling.height()
