@@ -20,12 +20,13 @@ use grid_core::{Conn, Memory};
 use link_nodes::Link;
 use pgm_codec::{Image, below_keeps_maxval};
 use raster_sweeps::{Blanks, Grower};
-use reset_core::Core;
+use reset_core::{Core, TileSet};
 use run_faults::RunError;
 use spd_codec::Print;
 use std::alloc::Global;
+use std::marker::Sync;
 use std::sync::Wait;
-use std::thread::Threads;
+use std::thread::{Threads, available_parallelism};
 use std::time::Clock;
 use stroke_lattice::State;
 use view_session::gathering::{Gathered, gather_beside};
@@ -74,7 +75,7 @@ pub(crate) fn paint<R: Threads + Wait + Clock + Sync, L: Link>(
         shift: plan.shift,
     };
     let shared = share(rt, alloc, core, blanks, sharing, link)?;
-    let quiet = settled(alloc, shared)?;
+    let quiet = settled(rt, alloc, shared)?;
     Ok(shown(quiet, maxval, print))
 }
 
@@ -113,16 +114,33 @@ fn let_go(core: Core) -> Memory {
     Memory
 }
 
-// The core, when no work is left.
-fn settled(alloc: Global, core: Core) -> Result<Core, Memory>
+// The core, when no work is left. What several threads leave of it is done by this one.
+fn settled<R: Threads + Sync>(rt: &R, alloc: Global, core: Core) -> Result<Core, Memory>
     ensures quiet { IfOk result IsQuiet }
     ensures same { IfOk result (IsCoreOf core.mask core.conn core.state) }
 {
     let mut core = core;
+    settle_in_threads(rt, alloc, &mut core);
     match core.settle(alloc) {
         Ok(_count) => Ok(core),
         Err(Memory) => Err(let_go(core)),
     }
+}
+
+// Settles a core by as many threads as the system says that may run at once, as far as there is memory.
+fn settle_in_threads<R: Threads + Sync>(rt: &R, alloc: Global, core: &mut Core)
+    ensures { IsCoreOf core.old.mask core.old.conn core.old.state core.new }
+{
+    if core.is_quiet() {
+        return;
+    }
+    let Ok(processors) = available_parallelism(rt) else {
+        return;
+    };
+    let Ok(mut swept) = TileSet::empty(alloc, core.tiles()) else {
+        return;
+    };
+    let _ = core.settle_in_bands(rt, alloc, &mut swept, processors.get(), u64::MAX);
 }
 
 // The image of a core at which no work is left, with the mask's maxval, and its strokes for the mask of this print.

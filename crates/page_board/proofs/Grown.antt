@@ -7,9 +7,9 @@ use Rattle.grid_core.specs.Tiles.{count_of}
 use Rattle.stroke_lattice.specs.State.{State, IsBelow, IsLiveTag}
 use Rattle.stroke_lattice.proofs.Joins.{below_itself}
 use Rattle.tile_work.specs.TileSet.{Has, HasGained}
-use Rattle.core_rules.specs.{Shown.ShowsTheSame, Runs.IsDirty, Runs.IsTakenIn}
+use Rattle.core_rules.specs.{Shown.ShowsTheSame, Runs.IsDirty, Runs.IsTakenIn, Runs.NoneOut}
 use Rattle.core_rules.specs.Work.{Core, IsQuiet, IsTile, tiling}
-use Rattle.reset_core.specs.{Answers.IsSlice, Answers.IsSliceCutShort, declared.replica.settling.Slice.Slice}
+use Rattle.reset_core.specs.{Answers.IsSliceInBands, Answers.IsRunCutShort, declared.replica.settling.Slice.Slice}
 use Rattle.view_session.specs.Kept.{print_of}
 use Rattle.page_board.specs.{declared.news.News.News, Marking.AreMarked, Stored.board_of, Stored.IsStored}
 use Rattle.page_board.specs.declared.board.PageBoard.TheInside.{Inside as Parts}
@@ -23,12 +23,29 @@ use Rattle.page_board.proofs.Wholeness.{same_mask, rises, still_whole}
 -- a slice that came to its end, or ended for want of memory, worked on the core, and the set gained the tiles that were
 -- swept
 worked_on : {E : Type 0} (before after : Core) (jobs : ℕ) (marks swept : List Bool) (answer : Result Slice E)
-    → IfOk answer (λ slice. IsSlice before marks jobs slice after swept)
-    → OnErr answer (IsSliceCutShort before marks after swept)
-    → (worked : IsWorkedOn before jobs after) × HasGained marks (IsTakenIn worked.0) swept
-worked_on before after jobs marks swept (Ok slice) done cut =
-    ((done.log, inl (done.settling, omega (arith, done.at_most, done.jobs_are))), done.swept)
-worked_on before after jobs marks swept (Err e) done cut = ((cut.0, inr cut.1), cut.2)
+    → IfOk answer (λ slice. IsSliceInBands before marks jobs slice after swept)
+    → OnErr answer (IsRunCutShort before marks after swept) → NoneOut after
+    → (worked : IsWorkedOn before jobs after) × HasGained marks (IsTakenIn worked.log) swept
+worked_on before after jobs marks swept (Ok slice) done cut none_out = (
+  record {
+    log = done.run.log;
+    run = done.run.run;
+    none_merged = done.run.none_merged;
+    none_out = none_out;
+    ends = inl (omega (arith, done.at_most, done.run.jobs_are));
+  },
+  done.run.swept,
+)
+worked_on before after jobs marks swept (Err e) done cut none_out = (
+  record {
+    log = cut.run.log;
+    run = cut.run.run;
+    none_merged = cut.run.none_merged;
+    none_out = none_out;
+    ends = inr cut.some_dirty;
+  },
+  cut.run.swept,
+)
 
 -- the tiles of a set that gained some and then others, where it was empty before
 gained_both : (marks swept tiles : List Bool) (P Q : ℕ → Type 0) → ((t : ℕ) → Has marks t → ⊥)
@@ -51,15 +68,16 @@ gained_both marks swept tiles P Q none first second t = (
 pub record IsSliceOf {E : Type 0} (old : Parts) (jobs : ℕ) (core : Core) (swept : List Bool) (answer : Result Slice E)
     : Type 0 where
   pub stored : IsStored old
-  pub slice : IfOk answer (λ slice. IsSlice old.core old.marks jobs slice core swept)
-  pub cut_short : OnErr answer (IsSliceCutShort old.core old.marks core swept)
+  pub slice : IfOk answer (λ slice. IsSliceInBands old.core old.marks jobs slice core swept)
+  pub cut_short : OnErr answer (IsRunCutShort old.core old.marks core swept)
+  pub none_out : NoneOut core
   pub unchanged : (t : ℕ) → (Has swept t → ⊥) → (IsDirty core t → ⊥) → ShowsTheSame old.core core t
   pub count : length core.tiles ≡ count_of (tiling core)
 
 module _ {E : Type 0} (old : Parts) (jobs : ℕ) (core : Core) (swept : List Bool) (answer : Result Slice E)
     (done : IsSliceOf old jobs core swept answer) where
-  all_worked_on : (worked : IsWorkedOn old.core jobs core) × HasGained old.marks (IsTakenIn worked.0) swept
-  all_worked_on = worked_on old.core core jobs old.marks swept answer done.slice done.cut_short
+  all_worked_on : (worked : IsWorkedOn old.core jobs core) × HasGained old.marks (IsTakenIn worked.log) swept
+  all_worked_on = worked_on old.core core jobs old.marks swept answer done.slice done.cut_short done.none_out
 
   keeps_parts : Keeps old.core core
   keeps_parts = worked_on_keeps old.core core jobs all_worked_on.0
@@ -108,12 +126,12 @@ pub record HasGrown {E : Type 0} (old : Parts) (jobs : ℕ) (swept tiles : List 
 
 module _ {E : Type 0} {old : Parts} {jobs : ℕ} {swept tiles : List Bool} {answer : Result Slice E} {new : Parts}
     (done : HasGrown old jobs swept tiles answer new) where
-  worked : (by : IsWorkedOn old.core jobs new.core) × HasGained old.marks (IsTakenIn by.0) swept
+  worked : (by : IsWorkedOn old.core jobs new.core) × HasGained old.marks (IsTakenIn by.log) swept
   worked = all_worked_on old jobs new.core swept answer done.slice
 
-  moving : (t : ℕ) → Has tiles t ↔ IsMoving worked.0.0 new.core t
+  moving : (t : ℕ) → Has tiles t ↔ IsMoving worked.0.log new.core t
   moving =
-      gained_both old.marks swept tiles (IsTakenIn worked.0.0) (IsDirty new.core)
+      gained_both old.marks swept tiles (IsTakenIn worked.0.log) (IsDirty new.core)
       (λ t has. none_in (length old.core.tiles) t (subst (λ (set : List Bool). Has set t) done.slice.stored.no_marks
       has)) worked.1 done.gained
 
@@ -184,19 +202,22 @@ module _ {E : Type 0} {old : Parts} {jobs : ℕ} {swept tiles : List Bool} {answ
 
 -- where it came to its end, the core settled for so many jobs
 pub settled_when : {E : Type 0} (before after : Core) (jobs : ℕ) (marks swept : List Bool) (answer : Result Slice E)
-    → IfOk answer (λ slice. IsSlice before marks jobs slice after swept)
+    → IfOk answer (λ slice. IsSliceInBands before marks jobs slice after swept) → NoneOut after
     → OnOk (quiet_of answer) (IsSettledFor before jobs after)
-settled_when before after jobs marks swept (Ok slice) done = record {
-  log = done.log;
-  settling = done.settling;
-  at_most = omega (arith, done.at_most, done.jobs_are);
-  to_the_end = λ fewer. done.to_the_end (omega (arith, fewer, done.jobs_are));
+settled_when before after jobs marks swept (Ok slice) done none_out = record {
+  log = done.run.log;
+  run = done.run.run;
+  none_merged = done.run.none_merged;
+  each_out = omega (arith, done.each_out, done.run.abandons_are);
+  none_out = none_out;
+  at_most = omega (arith, done.at_most, done.run.jobs_are);
+  to_the_end = λ fewer. done.to_the_end (omega (arith, fewer, done.run.jobs_are));
 }
-settled_when before after jobs marks swept (Err e) done = done
+settled_when before after jobs marks swept (Err e) done none_out = done
 
 -- and it tells whether no work is left
 pub quiet_told : {E : Type 0} (before after : Core) (jobs : ℕ) (marks swept : List Bool) (answer : Result Slice E)
-    → IfOk answer (λ slice. IsSlice before marks jobs slice after swept)
+    → IfOk answer (λ slice. IsSliceInBands before marks jobs slice after swept)
     → IfOk (quiet_of answer) (λ quiet. IsTrue quiet ↔ IsQuiet after)
 quiet_told before after jobs marks swept (Ok slice) done = done.quiet
 quiet_told before after jobs marks swept (Err e) done = done

@@ -10,7 +10,8 @@ use Rattle.page_server.specs.{Hall.IsWaiting}
 use Rattle.page_server.specs.{Peer.past, Peers.peers_of, Peers.most_of, Peers.stays, Round.IsRound}
 use Rattle.page_server.specs.{declared.peer.Peer.Peer, Caller.front_of, Page.PageAnswers, Page.PageGrows, Page.PageHas}
 use Rattle.page_server.specs.{Page.PageNotes, Page.PageSpells, Page.PageTakes, Page.HasPageWork, Page.page_version}
-use Rattle.page_server.specs.{Slices.IsSliceOf, declared.caller.Caller.Caller, declared.door.Door.Door}
+use Rattle.page_server.specs.{Slices.AreFewThreads, Slices.IsSliceOf, declared.caller.Caller.Caller}
+use Rattle.page_server.specs.declared.door.Door.{Door}
 use Rattle.page_server.specs.{declared.page.Page.Page, declared.server.Server.Server, declared.site.Site.Site}
 use Rattle.page_service.specs.Showing.{ShowsKey}
 use Rattle.view_session.specs.Store.{StoreSeen}
@@ -31,7 +32,8 @@ pub record IsPageAt (site : Site) (board : PageBoard) (side : ℕ) (page : Page)
   pub name : page.painting.name ≡ site.name
   pub html : page.painting.page ≡ PAGE.now
   pub policy : page.painting.policy ≡ POLICY.now
-  pub jobs : IsSliceOf side page.jobs
+  pub threads : AreFewThreads page.threads
+  pub jobs : IsSliceOf side page.threads page.jobs
 
 -- what the file has is what the page has, unless the version tells that the page may have more
 abbrev pub IsKeptTrack : Keeping Page → Type 0

@@ -16,12 +16,15 @@ use page_board::PageBoard;
 use page_service::{Hosts, Kept, Key, MaskName, Painting};
 use run_faults::RunError;
 use std::alloc::{AllocError, Global};
+use std::marker::Sync;
+use std::thread::Threads;
 
-/// A painting, and how many jobs a share of its settling has.
+/// A painting, and by how many threads and how many jobs it settles in a share.
 #[derive(Drop)]
 pub(crate) struct Page {
     pub(crate) alloc: Global,
     pub(crate) painting: Painting,
+    pub(crate) threads: usize,
     pub(crate) jobs: u64,
 }
 
@@ -51,6 +54,7 @@ impl Page {
         hosts: Hosts,
         key: Key,
         name: MaskName,
+        threads: usize,
         jobs: u64,
     ) -> Page
         ensures painting { result.painting ≡ record {
@@ -62,6 +66,7 @@ impl Page {
           policy = POLICY.now;
           unkept = None;
         } }
+        ensures threads { result.threads ≡ threads }
         ensures jobs { result.jobs ≡ jobs }
     {
         Page {
@@ -75,6 +80,7 @@ impl Page {
                 embedded_page(),
                 embedded_policy(),
             ),
+            threads,
             jobs,
         }
     }
@@ -133,12 +139,12 @@ impl Kept for Page {
 
     // Where no work is left, the board is not touched, so that the files that the painting has made stay. Where memory
     // is wanting, the rest is left.
-    fn work(&mut self) -> bool {
+    fn work<R: Threads + Sync>(&mut self, rt: &R) -> bool {
         self.painting.forget_read();
         if self.painting.board().is_quiet() {
             return false;
         }
-        let _ = self.painting.grow(self.jobs);
+        let _ = self.painting.grow_in_bands(rt, self.threads, self.jobs);
         !self.painting.board().is_quiet()
     }
 }

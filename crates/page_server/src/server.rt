@@ -12,6 +12,7 @@ ghost use Rattle.page_server.specs.Hall.{guests_of};
 ghost use Rattle.page_server.specs.Peers.{most_of, peers_of};
 ghost use Rattle.page_server.specs.Caller.{front_of};
 ghost use Rattle.page_server.specs.Serving.{IsKeptIn, IsServed, IsNotServed, address_line};
+ghost use Rattle.page_server.specs.Slices.{AreFewThreads};
 ghost use Rattle.page_service.specs.Showing.{ShowsKey};
 ghost use Rattle.page_service.specs.MaskName.{naming_at};
 ghost use Rattle.page_server.specs.Turning.{IsNewServer, AreRounds, LetsIn, TakesTurn, TakesAllTurns, WasServed, scene};
@@ -29,7 +30,7 @@ use crate::page::Page;
 use crate::peers::PeerList;
 use crate::rounds::round;
 use crate::site::Site;
-use crate::slices::jobs_of;
+use crate::slices::{jobs_of, threads_of};
 use byte_devices::{Sink, StdSource};
 use grid_core::Memory;
 use http_server::Connection;
@@ -40,9 +41,11 @@ use run_faults::RunError;
 use std::alloc::Global;
 use std::hash::RandomState;
 use std::io;
+use std::marker::Sync;
 use std::net::Net;
 use std::random::RandomSource;
 use std::rt::Files;
+use std::thread::Threads;
 use std::time::{Clock, Duration, Instant};
 use view_session::store::{StatePath, StateStore};
 
@@ -63,8 +66,8 @@ const MOST_TIME: u64 = 60_000;
 
 /// Serves the page of a mask and of the state file that keeps its strokes, on 127.0.0.1, until the process is ended.
 /// Puts one line into the sink, the address of the page; before that it writes the file that forwards there, where one
-/// is asked for, which is gone while the start lasts. The image grows by `grower` before both. It ends without an error
-/// only behind as many turns as can be counted.
+/// is asked for, which is gone while the start lasts. The image grows by `grower` before both, and later in at most
+/// four threads of `starter`. It ends without an error only behind as many turns as can be counted.
 ///
 /// Errors, the first that is met: P11 where an earlier file that forwards could not be removed; D3 where there are no
 /// random bytes; V2 where the state file could not be loaded; P1 to P9 of the mask's file; M1 to M7 of the state file;
@@ -72,8 +75,15 @@ const MOST_TIME: u64 = 60_000;
 /// where the port could not be bound, or where the system refused to tell the time or who is ready. P11 where the
 /// mask's file could not be read, or where the line or the file that forwards could not be written; P10, M8, C4 or
 /// plain want of memory.
-pub fn paint<R: Net + Files + Clock + RandomSource, G: Grower, T: StateStore + Drop, K: Sink>(
+pub fn paint<
+    R: Net + Files + Clock + RandomSource,
+    H: Threads + Sync,
+    G: Grower,
+    T: StateStore + Drop,
+    K: Sink,
+>(
     rt: &R,
+    starter: &H,
     grower: &G,
     alloc: Global,
     call: PaintCall,
@@ -92,7 +102,9 @@ pub fn paint<R: Net + Files + Clock + RandomSource, G: Grower, T: StateStore + D
     let mut store = store;
     let opened = opened_for(rt, grower, alloc, &call, &mut store)?;
     match Site::told(rt, alloc, &call, sink) {
-        Ok(site) => serve(rt, alloc, site, opened, call.side, store, call.file),
+        Ok(site) => serve(
+            rt, starter, alloc, site, opened, call.side, store, call.file,
+        ),
         Err(why) => {
             drop(opened);
             Err(why)
@@ -134,8 +146,9 @@ fn opened_for<R: Files + RandomSource, G: Grower, T: StateStore>(
 }
 
 // Serves a board at a site, for as long as anybody counts.
-fn serve<R: Clock + RandomSource, T: StateStore + Drop>(
+fn serve<R: Clock + RandomSource, H: Threads + Sync, T: StateStore + Drop>(
     rt: &R,
+    starter: &H,
     alloc: Global,
     site: Site,
     opened: KeptBoard,
@@ -148,8 +161,9 @@ fn serve<R: Clock + RandomSource, T: StateStore + Drop>(
     ensures served { OnOk result (WasServed T.seen site opened.board opened.kept.items side store file) }
     ensures ended { IfErr result (λ e. (e ≡ errors.Link) ⊎ (e ≡ errors.Memory)) }
 {
-    let mut server = Server::new(alloc, site, opened, side, store, file)?;
-    match server.serve(rt) {
+    let threads = threads_of(starter);
+    let mut server = Server::new(alloc, site, opened, side, threads, store, file)?;
+    match server.serve(rt, starter) {
         Ok(()) => {
             drop(server);
             Ok(())
@@ -173,16 +187,19 @@ pub(crate) struct Server<T> {
 }
 
 impl<T: StateStore + Drop> Server<T> {
-    // The server of a board, whose state file the store has under this name already.
+    // The server of a board, whose state file the store has under this name already, and which settles by so many
+    // threads.
     pub(crate) fn new(
         alloc: Global,
         site: Site,
         opened: KeptBoard,
         side: u32,
+        threads: usize,
         store: T,
         file: StatePath,
     ) -> Result<Server<T>, Memory>
         requires side { IsTileSide side }
+        requires threads { AreFewThreads threads }
         requires kept { IsKeptIn (T.seen store).held file opened.kept.items opened.board }
         ensures { IfOk result (IsNewServer T.seen site opened.board opened.kept.items side store file) }
     {
@@ -195,7 +212,8 @@ impl<T: StateStore + Drop> Server<T> {
                     name,
                 } = site;
                 let KeptBoard { board, kept } = opened;
-                let page = Page::new(alloc, board, hosts, key, name, jobs_of(side));
+                let jobs = jobs_of(side, threads);
+                let page = Page::new(alloc, board, hosts, key, name, threads, jobs);
                 Ok(Server {
                     alloc,
                     door,
@@ -214,28 +232,32 @@ impl<T: StateStore + Drop> Server<T> {
     }
 
     // Takes turns, for as long as anybody counts.
-    pub(crate) fn serve<R: Clock + RandomSource>(&mut self, rt: &R) -> io::Result<()>
+    pub(crate) fn serve<R: Clock + RandomSource, H: Threads + Sync>(
+        &mut self,
+        rt: &R,
+        starter: &H,
+    ) -> io::Result<()>
         ensures { OnOk result (TakesAllTurns T.seen self.old self.new) }
     {
         let start = Instant::now(rt)?;
         for _ in 0..u64::MAX {
             self.door.wait(patience(self.is_busy))?;
             let now = start.elapsed(rt)?;
-            self.turn(rt, millis(now));
+            self.turn(rt, starter, millis(now));
         }
         Ok(())
     }
 
     // A turn: who has shown the key is let in, bytes come and go, who is still or slow goes, and the board settles a
     // little.
-    fn turn<R: RandomSource>(&mut self, rt: &R, now: u64)
+    fn turn<R: RandomSource, H: Threads + Sync>(&mut self, rt: &R, starter: &H, now: u64)
         ensures { TakesTurn T.seen now self.old self.new }
     {
         let is_crowded = self.let_in(rt, now);
         let is_moving = self.make_rounds(now);
         self.peers.sweep(now, PATIENCE, MOST_TIME);
         self.hall.sweep(now);
-        let is_working = self.keeper.work();
+        let is_working = self.keeper.work(starter);
         self.is_busy = is_any(is_moving, is_working, is_crowded);
     }
 

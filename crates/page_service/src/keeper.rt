@@ -10,6 +10,8 @@ use bytes::Bytes;
 use http::Request;
 use http_server::{Response, Service};
 use std::alloc::{AllocError, Global};
+use std::marker::Sync;
+use std::thread::Threads;
 use view_session::store::{StatePath, StateStore};
 
 /// A service, the store that has its file, the bytes that the store answered last, and the version of the service that
@@ -78,9 +80,9 @@ impl<S: Kept, T: StateStore> StateKeeper<S, T> {
         self.saved < version || version == u64::MAX
     }
 
-    /// Does a share of the work that calls have left. Says whether work is left after it, also where memory was
-    /// wanting.
-    pub fn work(&mut self) -> bool
+    /// Does a share of the work that calls have left, by threads of this handle where that is worth while. Says whether
+    /// work is left after it, also where memory was wanting.
+    pub fn work<R: Threads + Sync>(&mut self, rt: &R) -> bool
         ensures works { S.works (keeping T.seen self.old).service (keeping T.seen self.new).service }
         ensures left { IsTrue result ↔ S.has_work (keeping T.seen self.new).service }
         ensures rest { keeping T.seen self.new
@@ -88,7 +90,7 @@ impl<S: Kept, T: StateStore> StateKeeper<S, T> {
         ensures tracked { IsTracked S.version S.spells S.has (keeping T.seen self.old)
             → IsTracked S.version S.spells S.has (keeping T.seen self.new) }
     {
-        self.joiner.service.work()
+        self.joiner.service.work(rt)
     }
 
     /// Saves the file where what is kept may have changed: what others wrote there meanwhile is taken in, and the file

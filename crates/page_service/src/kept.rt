@@ -1,6 +1,7 @@
 //! Services whose state a file keeps.
 
 ghost use Rattle.std.specs.Prelude.{◌≡◌, ◌↔◌, ℕ, List, Option, IfOk, IfErr, OnOk, OnErr, IsTrue};
+ghost use Rattle.std.specs.Thread.{IsSync};
 ghost use Rattle.http.specs.declared.request.Request.{Request};
 ghost use Rattle.http_server.specs.declared.response.Response.{Response};
 ghost use Rattle.page_service.specs.Kept.{HasTaken, IsKeptAlike, IsLater};
@@ -10,6 +11,8 @@ ghost use Rattle.run_faults.specs.declared.run_error.RunError.TheVariants as err
 use grid_core::Memory;
 use http_server::Service;
 use run_faults::RunError;
+use std::marker::Sync;
+use std::thread::Threads;
 
 /// A service whose state a file keeps, which others may write, too. Its version rises with each change of what the file
 /// is to keep. It may stop at `u64::MAX`: from there on each round saves.
@@ -57,9 +60,10 @@ pub trait Kept: Service {
     fn note(&mut self, why: Option<RunError>)
         ensures { notes self.old why self.new };
 
-    /// Does a share of the work that calls have left. Says whether work is left after it, also where memory was
-    /// wanting.
-    fn work(&mut self) -> bool
+    /// Does a share of the work that calls have left, by threads of this handle where that is worth while. Says whether
+    /// work is left after it, also where memory was wanting.
+    fn work<R: Threads + Sync>(&mut self, rt: &R) -> bool
+        requires shared { IsSync R.row }
         ensures works { works self.old self.new }
         ensures left { IsTrue result ↔ has_work self.new };
 

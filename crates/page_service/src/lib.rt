@@ -4,7 +4,7 @@
 //! ```text
 //! let mut painting = Painting::new(alloc, board, hosts, key, name, page, policy);
 //! connection.advance(&mut painting);       // each whole request is answered
-//! while !painting.grow(64)? {}             // between requests: no work is left
+//! while !painting.grow_in_bands(&rt, 4, 256)? {}   // between requests: no work is left
 //! ```
 //!
 //! A page in a browser asks a server on the loopback by HTTP. [`read_request`] says what a request asks for, an
@@ -14,8 +14,9 @@
 //! [`put_answer`] fills a response with a status, a body and the fields that every answer has, and [`put_refusal`] that
 //! of a refusal.
 //!
-//! A [`Painting`] is a `Service` of `http_server`, without a handle, a clock or a connection. What it tells of its
-//! board, `page_board` says. One call is one moment: numbers, strokes and pixels of an answer are those of one board.
+//! A [`Painting`] is a `Service` of `http_server`, without a handle, a clock or a connection; it grows by the threads
+//! of a handle that it is lent. What it tells of its board, `page_board` says. One call is one moment: numbers, strokes
+//! and pixels of an answer are those of one board.
 //! What is posted is taken whole or not at all, and once it is taken, nothing that the answer needs can be wanting.
 //!
 //! Whoever keeps the board's state tells the painting whether it is kept ([`Painting::note_kept`]): while it is not,

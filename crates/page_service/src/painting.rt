@@ -20,7 +20,8 @@ use http_server::Response;
 use page_board::PageBoard;
 use run_faults::RunError;
 use std::alloc::{AllocError, Global};
-use std::marker::Model;
+use std::marker::{Model, Sync};
+use std::thread::Threads;
 
 mod answer;
 mod files;
@@ -115,10 +116,15 @@ impl Painting {
         self.unkept = why;
     }
 
-    /// One slice of settling: at most so many jobs. Says whether no work is left.
+    /// One slice of settling: at most so many jobs, by at most so many threads. Says whether no work is left.
     ///
-    /// Errors: out of memory. The board is then as some steps of settling left it.
-    pub fn grow(&mut self, jobs: u64) -> Result<bool, Memory>
+    /// Errors: out of memory. The board is then as some events of settling left it.
+    pub fn grow_in_bands<R: Threads + Sync>(
+        &mut self,
+        rt: &R,
+        threads: usize,
+        jobs: u64,
+    ) -> Result<bool, Memory>
         ensures grown { IsGrown self.old.board jobs self.new.board }
         ensures settled { OnOk result (IsSettledFor self.old.board.core jobs self.new.board.core) }
         ensures some_work { OnErr result ((IsQuiet self.old.board.core → ⊥) × (0 < jobs)) }
@@ -127,7 +133,7 @@ impl Painting {
         ensures rest { self.new ≡ record self.old { board = self.new.board } }
     {
         self.unread.keep(self.image.take());
-        self.board.grow(self.alloc, jobs)
+        self.board.grow_in_bands(rt, self.alloc, threads, jobs)
     }
 
     /// Gives back the memory of large answers that were read.

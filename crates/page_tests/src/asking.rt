@@ -1,6 +1,7 @@
 //! Who may ask, and what is asked.
 
 use crate::files::FOUR;
+use crate::host::Host;
 use crate::session::{BLANK, Session};
 use crate::spelling::{OURS, Request, begins};
 use grid_core::Conn;
@@ -36,7 +37,7 @@ const NOBODY: &str = "Host: localhost:8080\r\nOrigin: null\r\n";
 const ANOTHER_PORT: &str = "Host: localhost:8080\r\nOrigin: http://127.0.0.1:8081\r\n";
 
 // The first line that is not answered with its status, if there is one, and its fields.
-fn first_wrong(rt: &HostRuntime, session: &mut Session) -> Option<(&'static str, &'static str)> {
+fn first_wrong(rt: &impl Host, session: &mut Session) -> Option<(&'static str, &'static str)> {
     for &(line, fields, status) in ASKED {
         let body = b"";
         session.ask(rt, &Request { line, fields, body });

@@ -2,6 +2,7 @@
 //! that becomes large.
 
 use crate::files::OLD;
+use crate::host::Host;
 use crate::session::{BLANK, Scene, Session};
 use crate::spelling::begins;
 use crate::steps::{EDITS, PLACE, STEPS, Step};
@@ -39,7 +40,7 @@ enum Reply {
 }
 
 // Asks for a step. Its answer has to end so.
-fn reply_to(rt: &HostRuntime, session: &mut Session, step: &Step, end: &[u8]) -> Reply {
+fn reply_to(rt: &impl Host, session: &mut Session, step: &Step, end: &[u8]) -> Reply {
     let &(line, body, _, _, file) = step;
     session.ask_ours(rt, line, body);
     let told = session.told();
@@ -57,7 +58,7 @@ fn reply_to(rt: &HostRuntime, session: &mut Session, step: &Step, end: &[u8]) ->
 // Asks for a step until it is answered rightly; before it the file was this. How often that takes, if it comes to that:
 // once, where nothing failed; twice, where memory was wanting; three times, where what was taken could not be kept, so
 // that the second one is held off while it is.
-fn asks(rt: &HostRuntime, session: &mut Session, step: &Step, old: &[u8]) -> Option<u32> {
+fn asks(rt: &impl Host, session: &mut Session, step: &Step, old: &[u8]) -> Option<u32> {
     let &(_, _, end, again, file) = step;
     let version = session.version();
     match reply_to(rt, session, step, end) {
@@ -80,7 +81,7 @@ fn asks(rt: &HostRuntime, session: &mut Session, step: &Step, old: &[u8]) -> Opt
 
 // How often somebody asked until all requests were answered rightly, and how often one that looked on was not told the
 // mask meanwhile. It fails at the first that is answered wrongly, also when it is made again, or leaves another file.
-fn asks_all(rt: &HostRuntime, session: &mut Session) -> Result<(u32, u32), Fail> {
+fn asks_all(rt: &impl Host, session: &mut Session) -> Result<(u32, u32), Fail> {
     let mut asked = 0u32;
     let mut file = OLD;
     for step in STEPS {
@@ -93,7 +94,7 @@ fn asks_all(rt: &HostRuntime, session: &mut Session) -> Result<(u32, u32), Fail>
     Ok((asked, session.unseen()))
 }
 
-fn play(rt: &HostRuntime, scene: &Scene) -> Result<(u32, u32), Fail> {
+fn play(rt: &impl Host, scene: &Scene) -> Result<(u32, u32), Fail> {
     match Session::open(rt.alloc(), scene) {
         Ok(mut session) => {
             let asked = asks_all(rt, &mut session);

@@ -1,6 +1,7 @@
 //! Who is dropped, and when.
 
 use crate::client::Client;
+use crate::host::Host;
 use crate::session::{BLANK, Session, admit};
 use grid_core::Memory;
 use page_server::PeerList;
@@ -27,11 +28,7 @@ const MOMENTS: &[(u64, usize)] = &[
 ];
 
 // Takes the three in. Whether there is memory for them.
-fn seat<'a>(
-    rt: &HostRuntime,
-    peers: &mut PeerList<Client<'a>>,
-    told: &'a RefCell<Vec<u8>>,
-) -> bool {
+fn seat<'a>(rt: &impl Host, peers: &mut PeerList<Client<'a>>, told: &'a RefCell<Vec<u8>>) -> bool {
     admit(rt, peers, Client::new(b"", 1, told))
         && admit(rt, peers, Client::new(LAST, usize::MAX, told))
         && admit(rt, peers, Client::new(LAST, 1, told))
@@ -50,7 +47,7 @@ fn go_in_turn(session: &mut Session, peers: &mut PeerList<Client<'_>>) -> bool {
 
 // Whether the three go so.
 fn three_go(
-    rt: &HostRuntime,
+    rt: &impl Host,
     session: &mut Session,
     told: &RefCell<Vec<u8>>,
 ) -> Result<bool, Memory> {

@@ -11,7 +11,8 @@ use http_server::{Response, Service};
 use page_service::{Kept, Painting, answers_leave_later};
 use run_faults::RunError;
 use std::alloc::{AllocError, Global};
-use std::marker::Model;
+use std::marker::{Model, Sync};
+use std::thread::Threads;
 
 /// A painting whose board is kept. It is seen as that board.
 #[derive(Drop)]
@@ -76,8 +77,8 @@ impl Kept for Served {
         self.painting.note_kept(why)
     }
 
-    fn work(&mut self) -> bool {
-        let _ = self.painting.grow(64);
+    fn work<R: Threads + Sync>(&mut self, rt: &R) -> bool {
+        let _ = self.painting.grow_in_bands(rt, 2, 64);
         !self.painting.board().is_quiet()
     }
 

@@ -13,9 +13,11 @@ use run_faults::RunError;
 use std::alloc::Global;
 use std::cell::RefCell;
 use std::fs;
+use std::marker::Sync;
 use std::net::Net;
 use std::rt::Files;
 use std::test::Fail;
+use std::thread::Threads;
 use view_session::memory_store::MemoryStore;
 use view_session::store::StatePath;
 use world::World;
@@ -111,7 +113,8 @@ const PLAYS: &[Play] = &[
     },
 ];
 
-fn serve<R: Net + Files>(
+fn serve<R: Net + Files + Threads + Sync>(
+    rt: &R,
     world: &World<'_, R>,
     alloc: Global,
     sink: &mut StdSink<Caller<'_, R>>,
@@ -127,7 +130,7 @@ fn serve<R: Net + Files>(
         port: Some(0),
         forward: None,
     };
-    paint(world, &OneThread, alloc, call, store, sink)
+    paint(world, rt, &OneThread, alloc, call, store, sink)
 }
 
 fn is_right(answer: &[u8], play: &Play) -> bool {
@@ -139,7 +142,7 @@ fn is_right(answer: &[u8], play: &Play) -> bool {
 }
 
 // Whether a page is served, until nobody tells the time, and answers as it should.
-fn is_played<R: Net + Files>(rt: &R, alloc: Global, play: &'static Play) -> bool {
+fn is_played<R: Net + Files + Threads + Sync>(rt: &R, alloc: Global, play: &'static Play) -> bool {
     let mut line: Line<R::Stream> = RefCell::new(None);
     let mut sink = StdSink::new(Caller {
         rt,
@@ -147,7 +150,7 @@ fn is_played<R: Net + Files>(rt: &R, alloc: Global, play: &'static Play) -> bool
         play,
         line: &line,
     });
-    let ended = serve(&World::new(rt, play, &line), alloc, &mut sink);
+    let ended = serve(rt, &World::new(rt, play, &line), alloc, &mut sink);
     drop(sink);
     let mut answer = Vec::new(alloc);
     let is_whole = hears(line.get_mut(), &mut answer);

@@ -2,6 +2,7 @@
 
 use crate::client::Client;
 use crate::files::FOUR;
+use crate::host::Host;
 use crate::served::Served;
 use crate::spelling::{KEY, OURS, Request, begins};
 use byte_devices::MemorySource;
@@ -94,7 +95,7 @@ fn board_of(alloc: Global, setting: &mut Setting, scene: &Scene) -> Result<KeptB
 }
 
 /// Takes a client in. Whether there is memory for its connection.
-pub fn admit<'a>(rt: &HostRuntime, peers: &mut PeerList<Client<'a>>, client: Client<'a>) -> bool {
+pub fn admit<'a>(rt: &impl Host, peers: &mut PeerList<Client<'a>>, client: Client<'a>) -> bool {
     match RandomState::new(rt) {
         Ok(keys) => peers.admit(client, Connection::new(rt.alloc(), keys, config()), 0),
         Err(_) => false,
@@ -149,7 +150,7 @@ impl Session {
     }
 
     /// Lets a client ask this while another looks at the mask, and then the board settle.
-    pub fn ask(&mut self, rt: &HostRuntime, request: &Request<'_>) {
+    pub fn ask(&mut self, rt: &impl Host, request: &Request<'_>) {
         self.told.get_mut().clear();
         self.seen.get_mut().clear();
         if let Ok(asked) = request.spelled(rt.alloc(), KEY) {
@@ -158,19 +159,19 @@ impl Session {
         if !begins(self.seen.get_mut(), b"200") {
             self.unseen = self.unseen.saturating_add(1);
         }
-        if self.keeper.work() {
-            self.keeper.work();
+        if self.keeper.work(rt) {
+            self.keeper.work(rt);
         }
     }
 
     /// The same of a request with our fields.
-    pub fn ask_ours(&mut self, rt: &HostRuntime, line: &str, body: &[u8]) {
+    pub fn ask_ours(&mut self, rt: &impl Host, line: &str, body: &[u8]) {
         let fields = OURS;
         self.ask(rt, &Request { line, fields, body });
     }
 
     // Makes rounds with one who asks this, and one who looks on.
-    fn turn(&mut self, rt: &HostRuntime, asked: &[u8]) {
+    fn turn(&mut self, rt: &impl Host, asked: &[u8]) {
         let Ok(mut peers) = PeerList::new(rt.alloc(), 2) else {
             return;
         };

@@ -1,6 +1,7 @@
 //! What is posted, and what a page is told.
 
 use crate::files::{FOUR, OLD, SIXTEEN};
+use crate::host::Host;
 use crate::session::{BLANK, Scene, Session};
 use crate::spelling::{begins, body_of};
 use crate::steps::{EDITS, PLACE, WITHDRAW};
@@ -74,7 +75,7 @@ fn is_answer(told: &[u8], answer: &[u8]) -> bool {
 }
 
 // The line of the first of these rows that is not answered as it says, if there is one.
-fn first_wrong(rt: &HostRuntime, session: &mut Session, rows: &[Row]) -> Option<&'static str> {
+fn first_wrong(rt: &impl Host, session: &mut Session, rows: &[Row]) -> Option<&'static str> {
     for &(line, body, answer) in rows {
         session.ask_ours(rt, line, body);
         if !is_answer(session.told(), answer) {

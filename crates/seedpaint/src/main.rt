@@ -35,6 +35,7 @@ fn main(rt: HostRuntime) -> ExitCode {
     ) {
         Ok(Some(call)) => paint(
             &rt,
+            &rt,
             &ManyThreads::new(&rt),
             rt.alloc(),
             call,

@@ -37,5 +37,6 @@ returns-in-Ok-clause-refused g c =
 
 pub serve-requires-clause-kept : goal.serve-requires-clause-kept
 serve-requires-clause-kept g c =
+    λ lifetimes outlived.
     kept_on (g.T.StateStore.seen c.args.store).held _ c.args.call.file _ _ c.opened_for.ensures.files
     c.in_ok-opened.ensures.kept

@@ -5,14 +5,14 @@ use Rattle.page_server.proofs.Counting.{page_grows, page_stays}
 use Rattle.page_server.proofs.page.PageKept.work.Goals as goal
 
 pub returns-then-is_quiet-clause-works : goal.returns-then-is_quiet-clause-works
-returns-then-is_quiet-clause-works c =
+returns-then-is_quiet-clause-works g c =
     let old : Page = c.args.self.now in
     subst (λ (p : Painting). PageGrows old (record old { painting = p })) (sym c.forget_read.ensures) (page_stays old)
 
 pub returns-clause-works : goal.returns-clause-works
-returns-clause-works c =
+returns-clause-works g c =
     let old : Page = c.args.self.now in
-    let new : Page = record old { painting = c.grow.new.self } in
+    let new : Page = record old { painting = c.grow_in_bands.new.self } in
     subst (λ (p : Painting). PageGrows (record old { painting = p }) new) c.forget_read.ensures
-    (page_grows (record old { painting = c.forget_read.new.self }) c.grow.new.self c.grow.ensures.rest
-    c.grow.ensures.grown c.grow.ensures.later)
+    (page_grows (record old { painting = c.forget_read.new.self }) c.grow_in_bands.new.self c.grow_in_bands.ensures.rest
+    c.grow_in_bands.ensures.grown c.grow_in_bands.ensures.later)

@@ -1,7 +1,7 @@
 use Rattle.std.proofs.Common.{◌≡◌, ap, refl, subst, sym}
 use Rattle.page_board.specs.{Board.PageBoard, Keeping.KeepsBoard, Keeping.HasAllIn}
 use Rattle.page_service.specs.Painting.{Painting}
-use Rattle.page_server.specs.Slices.{IsSliceOf}
+use Rattle.page_server.specs.Slices.{AreFewThreads}
 use Rattle.page_server.proofs.server.Server.new.Goals as goal
 
 pub returns-in-Ok : goal.returns-in-Ok
@@ -17,7 +17,8 @@ returns-in-Ok g c =
         name = ap (λ (p : Painting). p.name) is;
         html = ap (λ (p : Painting). p.page) is;
         policy = ap (λ (p : Painting). p.policy) is;
-        jobs = subst (IsSliceOf c.args.side) (sym c.new-page.ensures.jobs) c.jobs_of.ensures;
+        threads = subst AreFewThreads (sym c.new-page.ensures.threads) c.requires.threads;
+        jobs = rw (c.new-page.ensures.threads, c.new-page.ensures.jobs) c.jobs_of-jobs.ensures;
       };
       keeps = c.new.ensures.seen;
       tracked = c.new.ensures.tracked
