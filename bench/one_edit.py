@@ -25,11 +25,11 @@ def baseline_seconds(baseline, source, runs):
     return statistics.median(seconds[1:])
 
 
-def edits(program, source, side):
+def edits(program, source, side, threads):
     """The figures of each edit, by its kind: tiles reset, tiles swept, nanoseconds."""
+    command = [program, "edit", str(EDITS), str(side)] + ([str(threads)] if threads else [])
     with open(source.path, "rb") as reader:
-        done = subprocess.run([program, "edit", str(EDITS), str(side)], stdin=reader, stdout=subprocess.PIPE,
-                              text=True, check=False)
+        done = subprocess.run(command, stdin=reader, stdout=subprocess.PIPE, text=True, check=False)
     if done.returncode != 0:
         run.stop(f"{program} ended with status {done.returncode} on {source.path}")
     figures = {kind: [] for kind in KINDS}
@@ -41,9 +41,9 @@ def edits(program, source, side):
     return figures
 
 
-def rows(source, program, side, whole):
+def rows(source, program, side, whole, threads):
     """The rows of one image, one for each kind of edit, where a whole run of the baseline takes `whole` seconds."""
-    figures = edits(program, source, side)
+    figures = edits(program, source, side, threads)
     for kind in KINDS:
         reset, swept, nanoseconds = (statistics.median(column) for column in zip(*figures[kind]))
         run.say(f"{source.family}, tile {side}, {kind}: {nanoseconds / 1000:.0f} microseconds")
@@ -67,9 +67,11 @@ def read_words():
                         help=" ".join(FAMILIES))
     parser.add_argument("--sides", type=run.read_sides, default=[64], metavar="N,N..",
                         help="sides of the tiles, a table for each (64)")
+    parser.add_argument("--threads", type=int, default=0, metavar="N",
+                        help="settle in bands, by at most N threads, and measure by the clock")
     words = parser.parse_args()
-    if words.runs < 1 or words.size < 1:
-        parser.error("runs and size are at least 1")
+    if words.runs < 1 or words.size < 1 or words.threads < 0:
+        parser.error("runs and size are at least 1, and threads at least 0")
     if not words.program.is_file():
         parser.error(f"{words.program} is not there; `rt run` in crates/benchmarks makes the program")
     return words
@@ -90,7 +92,7 @@ def main():
         run.table([f"{words.size} by {words.size}, tile {side}", "edit", "baseline ms", "edit µs", "part of baseline",
                    "tiles reset", "tiles swept"],
                   [row for source, seconds in zip(sources, whole)
-                   for row in rows(source, words.program.resolve(), side, seconds)])
+                   for row in rows(source, words.program.resolve(), side, seconds, words.threads)])
 
 
 if __name__ == "__main__":

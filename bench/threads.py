@@ -2,6 +2,7 @@
 """Measure hands in threads, shows and glimpses against a plain C program, and print tables in Markdown.
 
     python3 bench/threads.py crates/benchmarks/out/benchmarks
+    python3 bench/threads.py --bands crates/benchmarks/out/benchmarks
 
 The baseline is compiled and the images are made as run.py does it. README.md says what the columns mean.
 """
@@ -19,6 +20,7 @@ import run
 
 FAMILIES = ["cells", "plates", "map", "maze"]
 HANDS = [0, 1, 2, 4]  # with none the core settles by itself
+BANDS = [0, 2, 4]  # threads that settle in bands; with none the core settles by itself
 PARTS = ["take", "push", "sweep", "give back", "hints"]
 EDITED = "few-lit"  # the family whose last edits are watched and shown
 EDITS = 200  # the edits of that family that are measured
@@ -71,12 +73,17 @@ def baseline_seconds(baseline, source):
 
 # ---- Settling ----
 
-def settled(program, source, hands, side, right):
+def settled(program, source, hands, side, right, word="settle"):
     """Jobs, seconds and peak bytes of one settling, which ends the script where the sum is not the right one."""
-    ((total, jobs, wall),), peak = lines_of(program, ["settle", hands, side], source)
+    ((total, jobs, wall),), peak = lines_of(program, [word, hands, side], source)
     if total != right:
-        run.stop(f"settle {hands} {side} and baseline differ on {source.path}")
+        run.stop(f"{word} {hands} {side} and baseline differ on {source.path}")
     return jobs, wall / 1e9, peak
+
+
+def in_bands(program, source, threads, side, right):
+    """The same of a core that settles in bands by so many threads, or by itself."""
+    return settled(program, source, threads, side, right, "bands" if threads else "settle")
 
 
 def settling_row(source, program, baseline, words):
@@ -97,6 +104,24 @@ def settling_row(source, program, baseline, words):
     run.say(f"{source.family}: baseline and hands {', '.join(times)} ms")
     return [source.family, *times, f"{wall[1] / wall[4]:.2f}", *(f"{jobs[hands]:,.0f}" for hands in (0, 1, 4)),
             multiple_of_cells(peak, words.size)]
+
+
+def bands_row(source, program, baseline, words):
+    """The row of one image: each number of threads in turns, after a run of each to warm up."""
+    right = baseline_sum(baseline, source)
+    rounds = [[in_bands(program, source, threads, words.side, right) for threads in BANDS]
+              for _ in range(words.runs + 1)][1:]
+    jobs, wall, _ = zip(*(map(statistics.median, zip(*results)) for results in zip(*rounds)))
+    run.say(f"{source.family}: in bands {', '.join(f'{1000 * seconds:.1f}' for seconds in wall)} ms")
+    return [source.family, *(f"{1000 * seconds:.0f}" for seconds in wall), f"{wall[0] / wall[-1]:.2f}",
+            *(f"{count:,.0f}" for count in (jobs[0], jobs[-1]))]
+
+
+def bands(sources, program, baseline, words):
+    """Print the table of settling in bands."""
+    run.table([f"{words.size} by {words.size}, tile {words.side}", "alone ms", "2 threads ms", "4 threads ms",
+               "4 over alone", "jobs alone", "4 threads"],
+              [bands_row(source, program, baseline, words) for source in sources])
 
 
 def multiple_of_cells(peak, size):
@@ -159,6 +184,7 @@ def read_words():
     parser.add_argument("--side", type=int, default=64, metavar="N", help="side of the tiles where it settles (64)")
     parser.add_argument("--families", nargs="+", default=FAMILIES, choices=run.FAMILIES, metavar="FAMILY",
                         help=" ".join(FAMILIES))
+    parser.add_argument("--bands", action="store_true", help="settle in bands, and measure nothing else")
     words = parser.parse_args()
     if words.runs < 1 or words.size < 1:
         parser.error("runs and size are at least 1")
@@ -178,6 +204,9 @@ def main():
     program = words.program.resolve()
     sources = [run.Input(family, words.size) for family in words.families]
     print(f"{run.machine()}; 4 neighbours; the median of {words.runs} runs each.\n", flush=True)
+    if words.bands:
+        bands(sources, program, baseline, words)
+        return
     settling(sources, program, baseline, words)
     parts_of_jobs(sources, program, baseline, words)
     shows_and_glimpses(program, words)

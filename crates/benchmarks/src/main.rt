@@ -5,7 +5,10 @@
 //! tiles, else 64. Times are in nanoseconds, and a sum is that of the image at the end.
 //!
 //! - `edit COUNT SIDE` merges all edits but the last COUNT and settles. Each of these is merged, and the core settles
-//!   again. A line for each: `placed` or `withdrawn`; how many tiles were reset and swept; the processor time.
+//!   again. A line for each: `placed` or `withdrawn`; how many tiles were reset and swept; the processor time. With
+//!   `edit COUNT SIDE THREADS` the core settles in bands, by at most so many threads, and the clock tells the time.
+//! - `bands THREADS SIDE` merges all edits and lets the core settle in bands, by at most so many threads: the sum, how
+//!   many jobs there were, and the time.
 //! - `settle HANDS SIDE` merges all edits and lets so many hands settle, in threads of their own; with none the core
 //!   settles by itself: the sum, how many jobs there were, and the time.
 //! - `settle parts SIDE` works the same off in one thread, job by job: how many jobs there were, and the time to take
@@ -50,7 +53,12 @@ fn main(rt: HostRuntime) -> Outcome {
 fn measure(rt: &impl System, source: &mut impl Source, words: &[String]) -> Outcome {
     let word = words.get(1).map(|word| word.as_str()).unwrap_or("");
     match (word, number_at(words, 2), number_at(words, 3)) {
-        ("edit", Some(count), Some(side)) => settling::each(rt, read(rt, source)?, side, count),
+        ("edit", Some(count), Some(side)) => {
+            settling::each(rt, read(rt, source)?, side, count, number_at(words, 4))
+        }
+        ("bands", Some(threads), Some(side)) => {
+            settling::in_bands(rt, read(rt, source)?, side, threads)
+        }
         ("settle", Some(0), Some(side)) => settling::once(rt, read(rt, source)?, side),
         ("settle", Some(hands), Some(side)) => {
             studios::run(rt, read(rt, source)?, hands, side, None)
@@ -62,7 +70,7 @@ fn measure(rt: &impl System, source: &mut impl Source, words: &[String]) -> Outc
         ("flood", Some(hands), Some(8)) => flood_aslant(rt, read(rt, source)?, hands),
         ("stress", Some(rounds), Some(seed)) => stress::play_all(rt, rounds, seed),
         _ => Err(Fault(
-            "the words are none of: edit, settle, watch, board, flood, stress and numbers",
+            "the words are none of: edit, bands, settle, watch, board, flood, stress and numbers",
         )),
     }
 }
