@@ -72,30 +72,6 @@ pub fn open_edges(
 ///
 /// Errors: Q1, where `out` keeps its hints. With a room of [`room_for_edges`] it takes no memory.
 pub fn open_edges_in(
-    image: &Grid,
-    mask: &Grid,
-    tiling: &Tiling,
-    tile: usize,
-    generation: u64,
-    conn: Conn,
-    bounds: Bounds,
-    out: &mut Inbox,
-) -> Result<(), QueueError>
-    requires parts { HaveTile tiling.now image.now mask.now tile }
-    requires lie { LieIn bounds (rect_of tiling.now tile) }
-    requires bounds { EdgesBeginIn (sender_by tiling.now conn (value_at mask.now) (value_at image.now) tile generation)
-        bounds }
-    ensures { AddsOrFails out.old out.new (open_edges (sender_by tiling.now conn (value_at mask.now)
-        (value_at image.now) tile generation)) (room_for_edges tiling.now) result }
-{
-    let (image, mask) = (View::of(image), View::of(mask));
-    open_edges_in_rows(&image, &mask, tiling, tile, generation, conn, bounds, out)
-}
-
-/// As [`open_edges_in`], on whole rows of cells.
-///
-/// Errors: Q1, where `out` keeps its hints. With a room of [`room_for_edges`] it takes no memory.
-pub fn open_edges_in_rows(
     image: &View<'_>,
     mask: &View<'_>,
     tiling: &Tiling,

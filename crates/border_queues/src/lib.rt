@@ -12,7 +12,8 @@
 //! image.set(Pixel { x: 7, y: 0 }, 6);                   // at the right border of tile 0
 //! let mut out = Inbox::new(alloc);
 //! let bounds = Bounds::of(tiling.rect(0));              // within which each open edge of tile 0 begins
-//! open_edges_in(&image, &mask, &tiling, 0, 0, Conn::Four, bounds, &mut out)?;
+//! let (cells, limits) = (View::of(&image), View::of(&mask));
+//! open_edges_in(&cells, &limits, &tiling, 0, 0, Conn::Four, bounds, &mut out)?;
 //! out.as_slice();                                       // one hint: to (8, 0), of the value 6
 //! ```
 //!
@@ -29,7 +30,7 @@ mod inbox;
 pub mod laws;
 mod view;
 
-pub use edges::{open_edges, open_edges_in, open_edges_in_rows, room_for_edges};
+pub use edges::{open_edges, open_edges_in, room_for_edges};
 pub use error::QueueError;
 pub use hint::Hint;
 pub use inbox::Inbox;

@@ -20,7 +20,7 @@ ghost use Rattle.tile_work.specs.WorkTable.{IsToInside};
 
 use crate::replica::Core;
 use border_queues::laws::edges_are_open;
-use border_queues::{Hint, Inbox, View, open_edges_in_rows};
+use border_queues::{Hint, Inbox, View, open_edges_in};
 use grid_core::laws::{each_pixel_in_one_tile, neighbours_lie_in_touching_tiles};
 use grid_core::{Bounds, Conn, Pixel, Rect, Tiling};
 use raster_sweeps::Room;
@@ -128,7 +128,7 @@ fn tell(
     let (w, h) = (tiling.width(), tiling.height());
     let (before, limits) = (View::over(w, h, image), View::over(w, h, mask));
     // There is room for all of them, so it does not fail.
-    let _ = open_edges_in_rows(&before, &limits, tiling, tile, generation, conn, area, told);
+    let _ = open_edges_in(&before, &limits, tiling, tile, generation, conn, area, told);
     if told.is_empty() {
         return;
     }

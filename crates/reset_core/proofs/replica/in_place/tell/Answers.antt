@@ -40,14 +40,14 @@ hints_are_told : (c : After-as_slice-2) → c.as_slice-2.result.now ≡ open_edg
 hints_are_told c =
     let enough : room_for_edges c.args.tiling.now ≤ c.clear.new.self.room =
     omega (arith, c.clear.ensures.room, c.requires.enough) in
-    let added : OnOk c.open_edges_in_rows.result (c.open_edges_in_rows.new.out.hints
+    let added : OnOk c.open_edges_in.result (c.open_edges_in.new.out.hints
     ≡ c.clear.new.self.hints ++ open_edges (sender c)) =
-    subst (λ s. OnOk c.open_edges_in_rows.result (c.open_edges_in_rows.new.out.hints
-    ≡ c.clear.new.self.hints ++ open_edges s)) (sent c) c.open_edges_in_rows.ensures.hints in
+    subst (λ s. OnOk c.open_edges_in.result (c.open_edges_in.new.out.hints
+    ≡ c.clear.new.self.hints ++ open_edges s)) (sent c) c.open_edges_in.ensures.hints in
     c.as_slice-2.ensures
-    ∙ of_ok c.open_edges_in_rows.result
-    (c.open_edges_in_rows.new.out.hints ≡ c.clear.new.self.hints ++ open_edges (sender c))
-    (c.open_edges_in_rows.ensures.enough enough) added
+    ∙ of_ok c.open_edges_in.result
+    (c.open_edges_in.new.out.hints ≡ c.clear.new.self.hints ++ open_edges (sender c))
+    (c.open_edges_in.ensures.enough enough) added
     ∙ ap (λ hs. hs ++ open_edges (sender c)) c.clear.ensures.hints
 
 told : (c : After-as_slice-2) (hint : Hint) → Contains c.as_slice-2.result.now hint → IsToldBy (sender c) hint
@@ -88,5 +88,5 @@ returns-clause-hints c =
     } in
     rw (hints_are_told at, c.generation-generation.ensures.value) at all
 
-pub open_edges_in_rows-requires-clause-bounds : goal.open_edges_in_rows-requires-clause-bounds
-open_edges_in_rows-requires-clause-bounds c = grind (arith, common_steps)
+pub open_edges_in-requires-clause-bounds : goal.open_edges_in-requires-clause-bounds
+open_edges_in-requires-clause-bounds c = grind (arith, common_steps)

@@ -3,7 +3,7 @@ use Rattle.grid_core.specs.{declared.pixel.Pixel.Pixel, Raster.value_at, Tiles.r
 use Rattle.border_queues.specs.{declared.hint.Hint.Hint, Borders.moved}
 use Rattle.border_queues.specs.OpenEdges.{Sender, hints_from, pixels_of, open_edges, with_tile}
 use Rattle.border_queues.proofs.{Bounded.same_begin, SameEdges.own_image}
-use Rattle.border_queues.proofs.edges.open_edges_in_rows.Goals as goal
+use Rattle.border_queues.proofs.edges.open_edges_in.Goals as goal
 
 pub border_of-border-requires-clause-bounds : goal.border_of-border-requires-clause-bounds
 border_of-border-requires-clause-bounds c =
