@@ -1,7 +1,7 @@
 -- Bands as they are stored: which of their tiles are inner ones, one sweep more, and all bands together.
 use Rattle.std.proofs.Common.{◌≡◌, ℕ, ◌+◌, ◌-◌, ◌*◌, ◌^◌, ◌<◌, ◌≤◌, ◌⊎◌, ◌↔◌, inl, inr, refl, sym, ap, ◌∙◌, subst}
 use Rattle.std.proofs.Common.{arith, true, List, [], ◌∷◌, ◌++◌, length, take, drop, set, Contains}
-use Rattle.std.proofs.lemmas.List.{length-append, take-append-drop}
+use Rattle.std.proofs.lemmas.List.{length-append, take-append-drop, take_at, drop_at}
 use Rattle.std.proofs.lemmas.Bool.{cases_lt}
 use Rattle.std.proofs.lemmas.Nat.{div_below, le-div, mul-le}
 use Rattle.grid_core.specs.declared.bounds.Bounds.{Bounds}
@@ -211,6 +211,34 @@ few_rows whole above mask image bands band rest parts all =
     (subst (λ (list : List Band). AreSomewhere whole above (strips_of mask image list)) parts all).0 in
     let few = rows-within (tiling somewhere.whole) above band.tiling somewhere.tiled somewhere.is.tiles in
     omega (arith, few, somewhere.sound.shape.tiled.size.height_within)
+
+-- the first band and those below it were swept, each in its part of mask and image
+pub swept_parts : (whole : Tiles) (above : ℕ) (mask old : List ℕ) (bands : List Band) (band : Band) (rest : List Band)
+    (n rows : ℕ) (mask_here mask_below here below new : List ℕ) (after : Band) (new_below : List ℕ)
+    (others : List Band) → bands ≡ band ∷ rest → n ≡ cells_in band → rows ≡ rows_of band.tiling
+    → mask_here ≡ take n mask → mask_below ≡ drop n mask → here ≡ take n old → below ≡ drop n old → length new ≡ n
+    → IsBandSwept whole above mask_here band here after new
+    → AreBandsSwept whole (above + rows) mask_below below rest new_below others
+    → AreBandsSwept whole above mask old bands (new ++ new_below) (after ∷ others)
+swept_parts whole above mask old bands band rest n rows mask_here mask_below here below new after new_below others parts
+    cells rows_are mask_is mask_below_is is below_is long swept swept_below =
+    let all = new ++ new_below in
+    let first : IsBandSwept whole above (take n mask) band (take n old) after (take n all) =
+    subst (IsBandSwept whole above (take n mask) band (take n old) after) (sym (take_at new new_below n long))
+    (subst (λ cells. IsBandSwept whole above (take n mask) band cells after new) is
+    (subst (λ cells. IsBandSwept whole above cells band here after new) mask_is swept)) in
+    let others_swept : AreBandsSwept whole (above + rows_of band.tiling) (drop n mask) (drop n old) rest (drop n all)
+    others =
+    subst (λ cells. AreBandsSwept whole (above + rows_of band.tiling) (drop n mask) (drop n old) rest cells others)
+    (sym (drop_at new new_below n long))
+    (subst (λ cells. AreBandsSwept whole (above + rows_of band.tiling) (drop n mask) cells rest new_below others)
+    below_is
+    (subst (λ cells. AreBandsSwept whole (above + rows_of band.tiling) cells below rest new_below others) mask_below_is
+    (subst (λ k. AreBandsSwept whole (above + k) mask_below below rest new_below others) rows_are swept_below))) in
+    subst (λ list. AreBandsSwept whole above mask old list all (after ∷ others)) (sym parts)
+    (subst (λ k. IsBandSwept whole above (take k mask) band (take k old) after (take k all)
+    × AreBandsSwept whole (above + rows_of band.tiling) (drop k mask) (drop k old) rest (drop k all) others) cells
+    (first, others_swept))
 
 -- each of the bands has gained and counted its tiles
 abbrev pub AreCounted : List Band → List (List ℕ) → List Band → Type 0

@@ -4,7 +4,6 @@ use Rattle.std.proofs.lemmas.List.{length-map, length-take, map_more, take_all}
 use Rattle.grid_core.specs.{declared.bounds.Bounds.Bounds, Bounds.AreEmpty, Bounds.no_bounds}
 use Rattle.tile_work.specs.{OpenBounds.bounds_for, Cutting.in_whole, Cutting.with_part}
 use Rattle.tile_work.proofs.Parts.{with_no_part, with_one_more, length_with_part}
-use Rattle.tile_work.proofs.open_bounds.OpenBounds.put.Goals.{After-set}
 use Rattle.tile_work.proofs.open_bounds.OpenBounds.put.Goals as goal
 
 pub overflow_add-first : goal.overflow_add-first

@@ -6,8 +6,14 @@ use Rattle.reset_core.specs.Telling.{both_on}
 use Rattle.reset_core.specs.BandParts.{strip_of}
 use Rattle.reset_core.proofs.BandInside.{band_below, band_bounded, still_somewhere}
 use Rattle.reset_core.proofs.BandInPlace.{swept_in_band}
-use Rattle.reset_core.proofs.BandParts.{one_swept_more, still_ready, swept_to_the_end}
+use Rattle.reset_core.proofs.BandParts.{none_swept, one_swept_more, still_ready, swept_to_the_end}
 use Rattle.reset_core.proofs.replica.bands.Band.sweep.Goals as goal
+
+pub loop-self-init : goal.loop-self-init
+loop-self-init c = record {
+  swept = none_swept c.args.whole.now c.args.above c.args.mask.now c.args.self.now c.args.image.now;
+  somewhere = c.requires.somewhere;
+}
 
 pub sweep_one-requires-clause-below : goal.sweep_one-requires-clause-below
 sweep_one-requires-clause-below c =
