@@ -88,7 +88,7 @@ impl Core {
     {
         let rows = rows_of(&self.tiling());
         let bands = threads.min(rows as usize);
-        if bands < 2 || jobs < SHARED_TILES as u64 || !self.has_many_dirty() {
+        if bands < 2 || !self.is_worth_sharing(jobs) {
             return 0;
         }
         let Ok(mut cuts) = self.cuts(alloc, bands) else {
@@ -100,7 +100,7 @@ impl Core {
     }
 
     // Sweeps dirty tiles in bands that begin at these rows of tiles, and says how often tiles were swept: none where
-    // there are too few to share, or memory for the bands is wanting.
+    // there is too little to share, or memory for the bands is wanting.
     fn round<R: Threads + Sync>(
         &mut self,
         rt: &R,
@@ -115,7 +115,7 @@ impl Core {
         ensures at_most { result ≤ jobs }
     {
         edges_are_open();
-        if !self.has_many_dirty() {
+        if !self.is_worth_sharing(jobs) {
             return 0;
         }
         let tiling = self.markers.tiling();
@@ -139,11 +139,11 @@ impl Core {
         swept_jobs
     }
 
-    // Whether so many tiles are dirty that they are worth a second thread.
-    fn has_many_dirty(&self) -> bool
+    // Whether so many tiles are dirty, and may be swept, that they are worth a second thread.
+    fn is_worth_sharing(&self, jobs: u64) -> bool
         ensures { IsTrue result → (t : ℕ) × IsDirty self.now t }
     {
-        self.count_dirty(SHARED_TILES) == SHARED_TILES
+        jobs >= SHARED_TILES as u64 && self.count_dirty(SHARED_TILES) == SHARED_TILES
     }
 
     // How many tiles are dirty, or `most`, where more are.

@@ -7,8 +7,8 @@ use Rattle.core_rules.specs.Work.{Core, tiling}
 use Rattle.reset_core.specs.declared.replica.Core.TheInside.{Inside as Parts}
 use Rattle.reset_core.specs.{BandParts.AreBandsCut, BandParts.AreBandsSwept, Replica.core_of, Settling.HasOnlySweeps}
 use Rattle.grid_core.specs.Tiles.{rows_of}
-use Rattle.reset_core.proofs.BandRounds.{IsLent, untouched_there, can_take_there, somewhere_there, ready_there}
-use Rattle.reset_core.proofs.BandRounds.{few_there, fit_there, stored_there, into_there}
+use Rattle.reset_core.proofs.Bands.Rounds.{IsLent, untouched_there, can_take_there, somewhere_there, ready_there}
+use Rattle.reset_core.proofs.Bands.Rounds.{few_there, fit_there, stored_there, into_there}
 use Rattle.reset_core.proofs.replica.Core.round.Given.{Over}
 use Rattle.reset_core.proofs.replica.Core.round.Goals as goal
 use Rattle.reset_core.proofs.replica.Core.round.Goals.{After-deref, After-deref_mut}

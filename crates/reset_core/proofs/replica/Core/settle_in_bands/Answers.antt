@@ -3,7 +3,7 @@ use Rattle.core_rules.specs.{Work.Core, Runs.IsDirty, Runs.abandoned, Runs.ticke
 use Rattle.core_rules.proofs.{Leaving.abandoned_count, Running.run_keeps_sound}
 use Rattle.reset_core.proofs.Scheduling.{on_err}
 use Rattle.reset_core.proofs.Settling.{some_work_before}
-use Rattle.reset_core.proofs.BandSettling.{bands_cut_short, run_in_bands, run_of_rest, run_shows, slice_in_bands}
+use Rattle.reset_core.proofs.Bands.Settling.{bands_cut_short, run_in_bands, run_of_rest, run_shows, slice_in_bands}
 use Rattle.reset_core.proofs.replica.Core.settle_in_bands.Goals as goal
 
 pub sweep_in_bands-in_bands-requires-clause-left : goal.sweep_in_bands-in_bands-requires-clause-left

@@ -1,4 +1,4 @@
-use Rattle.reset_core.proofs.BandSettling.{swept_in_both}
+use Rattle.reset_core.proofs.Bands.Settling.{swept_in_both}
 use Rattle.reset_core.proofs.replica.Core.sweep_in_bands.Goals as goal
 
 pub returns-clause-swept : goal.returns-clause-swept

@@ -1,5 +1,5 @@
 use Rattle.std.proofs.Common.{◌∙◌, arith}
-use Rattle.reset_core.proofs.BandParts.{few_rows, swept_parts}
+use Rattle.reset_core.proofs.Bands.Parts.{few_rows, swept_parts}
 use Rattle.reset_core.proofs.replica.bands.+bands.Goals as goal
 
 pub sweep_bands-overflow_add-below : goal.sweep_bands-overflow_add-below

@@ -1,6 +1,6 @@
 use Rattle.std.proofs.Common.{◌≡◌, ◌*◌, ◌-◌, ◌<◌, ◌⊎◌, inl, inr, ap, arith}
 use Rattle.grid_core.specs.Tiles.{columns_of}
-use Rattle.reset_core.proofs.BandParts.{columns-within, inner_between}
+use Rattle.reset_core.proofs.Bands.Parts.{columns-within, inner_between}
 use Rattle.reset_core.proofs.replica.bands.inner_tiles.Goals.{then-above-eq0, else-above-eq0}
 use Rattle.reset_core.proofs.replica.bands.inner_tiles.Goals as goal
 

@@ -1,7 +1,7 @@
 use Rattle.std.proofs.Common.{◌≡◌, ◌-◌, ◌*◌, min, sym, subst, ◌∙◌}
 use Rattle.grid_core.specs.Tiles.{Tiles}
 use Rattle.reset_core.specs.BandParts.{IsTilingOf}
-use Rattle.reset_core.proofs.BandCuts.{is_tiling, tiling_of}
+use Rattle.reset_core.proofs.Bands.Cuts.{is_tiling, tiling_of}
 use Rattle.reset_core.proofs.replica.cutting.band_tiling.Goals as goal
 
 pub returns : goal.returns

@@ -2,7 +2,7 @@ use Rattle.std.proofs.Common.{◌≡◌, ℕ, ◌+◌, ◌*◌, ◌≤◌, ◌<�
 use Rattle.grid_core.specs.Tiles.{Tiles, IsTiled, columns_of, rows_of, count_of}
 use Rattle.tile_work.specs.OpenBounds.{bounds_for}
 use Rattle.reset_core.specs.{Bands.tiles_above, BandParts.IsTilingOf}
-use Rattle.reset_core.proofs.BandCuts.{tiles_within, begin_below}
+use Rattle.reset_core.proofs.Bands.Cuts.{tiles_within, begin_below}
 use Rattle.reset_core.proofs.replica.cutting.cut_band.Goals as goal
 
 -- where the band's tiles begin, and that they end within the table

@@ -4,7 +4,7 @@ use Rattle.grid_core.specs.{declared.bounds.Bounds.Bounds, declared.conn.Conn.Co
 use Rattle.border_queues.specs.TileWork.{TileWork}
 use Rattle.reset_core.specs.declared.replica.bands.Band.{Band}
 use Rattle.reset_core.specs.BandParts.{AreBandsCut, IsBandCut}
-use Rattle.reset_core.proofs.BandCuts.{one_more_cut}
+use Rattle.reset_core.proofs.Bands.Cuts.{one_more_cut}
 use Rattle.reset_core.proofs.replica.cutting.cut_bands.Goals as goal
 use Rattle.reset_core.proofs.replica.cutting.cut_bands.Goals.{then-above-below+then-below-rows+in_ok-band+in_ok-push}
 use Rattle.reset_core.proofs.replica.cutting.cut_bands.Goals.{else-above-below}

@@ -4,7 +4,7 @@ use Rattle.grid_core.specs.Tiles.{Tiles}
 use Rattle.grid_core.specs.{declared.bounds.Bounds.Bounds}
 use Rattle.border_queues.specs.TileWork.{TileWork}
 use Rattle.reset_core.specs.declared.replica.bands.Band.{Band}
-use Rattle.reset_core.proofs.BandPuts.{IsPutSoFar, IsAllPut, fits_now, one_more_is, all_put}
+use Rattle.reset_core.proofs.Bands.Puts.{IsPutSoFar, IsAllPut, fits_now, one_more_is, all_put}
 use Rattle.reset_core.proofs.replica.cutting.put_back.Goals as goal
 
 -- the next band is the first of those that are left

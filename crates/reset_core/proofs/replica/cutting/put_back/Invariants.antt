@@ -1,5 +1,5 @@
 use Rattle.std.proofs.Common.{drop}
-use Rattle.reset_core.proofs.BandPuts.{IsPutSoFar}
+use Rattle.reset_core.proofs.Bands.Puts.{IsPutSoFar}
 use Rattle.reset_core.proofs.replica.cutting.put_back.Given as goal
 
 -- the bands so far have been put back

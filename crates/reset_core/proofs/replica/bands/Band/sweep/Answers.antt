@@ -4,9 +4,9 @@ use Rattle.reset_core.specs.declared.replica.bands.Band.{Band}
 use Rattle.reset_core.specs.Bands.{IsInner, IsSweptInBand}
 use Rattle.reset_core.specs.Telling.{both_on}
 use Rattle.reset_core.specs.BandParts.{strip_of}
-use Rattle.reset_core.proofs.BandInside.{band_below, band_bounded, still_somewhere}
-use Rattle.reset_core.proofs.BandInPlace.{swept_in_band}
-use Rattle.reset_core.proofs.BandParts.{none_swept, one_swept_more, still_ready, swept_to_the_end}
+use Rattle.reset_core.proofs.Bands.Inside.{band_below, band_bounded, still_somewhere}
+use Rattle.reset_core.proofs.Bands.InPlace.{swept_in_band}
+use Rattle.reset_core.proofs.Bands.Parts.{none_swept, one_swept_more, still_ready, swept_to_the_end}
 use Rattle.reset_core.proofs.replica.bands.Band.sweep.Goals as goal
 
 pub loop-self-init : goal.loop-self-init

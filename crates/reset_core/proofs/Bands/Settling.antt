@@ -24,7 +24,7 @@ use Rattle.reset_core.specs.Settling.{AreHanded, AreWorkedOffWithin, HasOnlySwee
 use Rattle.reset_core.proofs.Settling.{jobs_append, jobs_are_taken, none_abandoned}
 use Rattle.core_rules.proofs.Counting.{merges_append}
 use Rattle.core_rules.proofs.Counting.{worked_merges}
-use Rattle.reset_core.proofs.BandRuns.{abandons_both}
+use Rattle.reset_core.proofs.Bands.Runs.{abandons_both}
 
 merges_abandoned : (tickets : List Ticket) → merges_of (abandoned tickets) ≡ 0
 merges_abandoned [] = refl

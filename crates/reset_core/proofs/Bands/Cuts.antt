@@ -13,7 +13,7 @@ use Rattle.border_queues.specs.TileWork.{TileWork}
 use Rattle.reset_core.specs.declared.replica.bands.Band.{Band}
 use Rattle.reset_core.specs.Bands.{rows_above, tiles_above}
 use Rattle.reset_core.specs.BandParts.{IsTilingOf, IsBandCut, AreBandsCut}
-use Rattle.reset_core.proofs.BandTiles.{columns_same}
+use Rattle.reset_core.proofs.Bands.Tiles.{columns_same}
 
 -- how many spans there are
 pub span_count : (w s n : ℕ) → 0 < s → w ≤ n * s → n * s < w + s → div_ceil w s ≡ n

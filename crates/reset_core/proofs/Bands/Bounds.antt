@@ -14,9 +14,9 @@ use Rattle.tile_work.specs.OpenBounds.{AreWidened, bounds_for}
 use Rattle.reset_core.specs.{Bounding.FollowChange, Telling.ImageAndWork}
 use Rattle.reset_core.specs.Bands.{IsBandOf, rows_above, tiles_above, lowered_rect, Around, put_in, FitsIn}
 use Rattle.reset_core.specs.Bands.{lowered_bounds, put_bounds}
-use Rattle.reset_core.proofs.BandTiles.{raised, lowered-raised, tile_of_lowered, rect_of_lowered}
-use Rattle.reset_core.proofs.BandStates.{get_between, value_put}
-use Rattle.reset_core.proofs.{BandSweeps.outside_same, Bounding.none_lie}
+use Rattle.reset_core.proofs.Bands.Tiles.{raised, lowered-raised, tile_of_lowered, rect_of_lowered}
+use Rattle.reset_core.proofs.Bands.States.{get_between, value_put}
+use Rattle.reset_core.proofs.{Bands.Sweeps.outside_same, Bounding.none_lie}
 
 lie_lowered : (rows : ℕ) (b : Bounds) (rect : Rect) → LieIn b rect → LieIn (lowered_bounds rows b) (lowered_rect rows
     rect)

@@ -11,7 +11,7 @@ use Rattle.grid_core.proofs.Tilings.{tile_of-within}
 use Rattle.border_queues.specs.{declared.hint.Hint.Hint, TileWork.TileWork, TileWork.idle}
 use Rattle.reset_core.specs.Telling.{ImageAndWork, risen_by, handed, all_handed}
 use Rattle.reset_core.specs.Bands.{IsBandOf, rows_above, tiles_above, lowered, lowered_hint, Around, put_in, FitsIn}
-use Rattle.reset_core.proofs.BandTiles.{tile_of_lowered}
+use Rattle.reset_core.proofs.Bands.Tiles.{tile_of_lowered}
 
 -- ---- lists between two others
 

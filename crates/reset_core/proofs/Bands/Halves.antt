@@ -8,7 +8,7 @@ use Rattle.core_rules.specs.Work.{Core, tiling}
 use Rattle.reset_core.specs.{Settling.HasOnlySweeps, Bounding.AreBounded}
 use Rattle.reset_core.specs.Bands.{Strip, Top, cells_of, works_of, tables_of, AreStacked, IsTopOf, AreAllSwept, rows_in}
 use Rattle.reset_core.specs.Bands.{rows_above, lowered_bounds, AreSomewhere, IsSomewhere}
-use Rattle.reset_core.proofs.BandStacks.{IsBandKept, around, band_in, more_top, top_of_rest}
+use Rattle.reset_core.proofs.Bands.Stacks.{IsBandKept, around, band_in, more_top, top_of_rest}
 
 -- bands that stand somewhere may be cut in two
 pub cut_somewhere : (tiles : Tiles) (above : ℕ) (first second : List Strip) → AreSomewhere tiles above (first ++ second)

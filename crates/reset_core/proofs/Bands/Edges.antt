@@ -13,8 +13,8 @@ use Rattle.border_queues.specs.OpenEdges.{Sender, sender_by, IsOpenEdge, hint_to
 use Rattle.core_rules.proofs.Ordered.{one_ordered}
 use Rattle.reset_core.specs.Bands.{IsBandOf, IsInner, rows_above, tiles_above, lowered, lowered_hint}
 use Rattle.reset_core.specs.Bands.{lowered_rect}
-use Rattle.reset_core.proofs.BandTiles.{raised, lowered-raised, neighbours_lowered, neighbours_raised, inside_lowered}
-use Rattle.reset_core.proofs.BandTiles.{tile_of_lowered, rect_of_lowered, lowered-within, not_at_top, not_at_bottom}
+use Rattle.reset_core.proofs.Bands.Tiles.{raised, lowered-raised, neighbours_lowered, neighbours_raised, inside_lowered}
+use Rattle.reset_core.proofs.Bands.Tiles.{tile_of_lowered, rect_of_lowered, lowered-within, not_at_top, not_at_bottom}
 
 -- ---- the order of pairs
 

@@ -31,13 +31,13 @@ use Rattle.reset_core.specs.BandParts.{cells_in, strip_of, strips_of}
 use Rattle.reset_core.specs.PuttingBack.{IsFit, AreFit, CanTake, IsInBand, IsInBands, works_in, bounds_in, jobs_in}
 use Rattle.reset_core.specs.Replica.{core_of, IsStored}
 use Rattle.reset_core.specs.declared.replica.Core.TheInside.{Inside as Parts}
-use Rattle.reset_core.proofs.BandCuts.{tiles_within}
-use Rattle.reset_core.proofs.BandTables.{cut_down, next_first, bounded_cut, bounded_back, ends_within}
-use Rattle.reset_core.proofs.BandCells.{AreLeft, top_of, stacked, works_cut, cells_cut, cells_are, all_cells, ready}
-use Rattle.reset_core.proofs.BandParts.{AreCounted, all_swept}
-use Rattle.reset_core.proofs.BandHalves.{each_somewhere}
-use Rattle.reset_core.proofs.BandStacks.{IsBandKept, sweeps_keep, stack_runs, serials_add}
-use Rattle.reset_core.proofs.BandRuns.{IsBandDone}
+use Rattle.reset_core.proofs.Bands.Cuts.{tiles_within}
+use Rattle.reset_core.proofs.Bands.Tables.{cut_down, next_first, bounded_cut, bounded_back, ends_within}
+use Rattle.reset_core.proofs.Bands.Cells.{AreLeft, top_of, stacked, works_cut, cells_cut, cells_are, all_cells, ready}
+use Rattle.reset_core.proofs.Bands.Parts.{AreCounted, all_swept}
+use Rattle.reset_core.proofs.Bands.Halves.{each_somewhere}
+use Rattle.reset_core.proofs.Bands.Stacks.{IsBandKept, sweeps_keep, stack_runs, serials_add}
+use Rattle.reset_core.proofs.Bands.Runs.{IsBandDone}
 
 -- ---- what sweeping keeps of the work at a tile: all but whether it is dirty
 

@@ -19,10 +19,10 @@ use Rattle.core_rules.proofs.Pieces.{reconstruction_same}
 use Rattle.reset_core.specs.Telling.{ImageAndWork, image_and_work, AreTold}
 use Rattle.reset_core.specs.Bands.{IsBandIn, IsInner, rows_above, tiles_above, lowered, lowered_rect, lowered_hint}
 use Rattle.reset_core.specs.Bands.{Around, put_in, FitsIn}
-use Rattle.reset_core.proofs.BandTiles.{raised, lowered-raised, rect_of_lowered}
-use Rattle.reset_core.proofs.BandEdges.{edges_lowered}
-use Rattle.reset_core.proofs.BandStates.{get_between, set_between, value_put}
-use Rattle.reset_core.proofs.BandTelling.{told_put}
+use Rattle.reset_core.proofs.Bands.Tiles.{raised, lowered-raised, rect_of_lowered}
+use Rattle.reset_core.proofs.Bands.Edges.{edges_lowered}
+use Rattle.reset_core.proofs.Bands.States.{get_between, set_between, value_put}
+use Rattle.reset_core.proofs.Bands.Telling.{told_put}
 use Rattle.reset_core.proofs.{Telling.with_image_and_work, TellingOrder.told_by}
 use Rattle.reset_core.proofs.TellingSweeps.{IsGrownAt, clean, grown_core}
 

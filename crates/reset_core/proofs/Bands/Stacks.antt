@@ -16,8 +16,8 @@ use Rattle.reset_core.specs.Bands.{Strip, Top, cells_of, works_of, tables_of, St
 use Rattle.reset_core.specs.Bands.{IsTopOf}
 use Rattle.reset_core.specs.Bands.{all_taken, with_all, AreSweptInBand, IsSweptInBand, AreSwept, with_band}
 use Rattle.core_rules.proofs.Counting.{merges_append}
-use Rattle.reset_core.proofs.BandTiles.{columns_same}
-use Rattle.reset_core.proofs.BandRuns.{IsBandDone, band_runs, abandons_both}
+use Rattle.reset_core.proofs.Bands.Tiles.{columns_same}
+use Rattle.reset_core.proofs.Bands.Runs.{IsBandDone, band_runs, abandons_both}
 
 -- ---- one run after another
 

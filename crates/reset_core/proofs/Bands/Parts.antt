@@ -17,7 +17,7 @@ use Rattle.reset_core.specs.Bands.{AreSomewhere, IsSomewhere, IsBandOf, IsInner,
 use Rattle.reset_core.specs.Bands.{AreAllSwept}
 use Rattle.reset_core.specs.BandParts.{strip_of, strips_of, cells_in, IsReady, IsCounted, IsBandSwept}
 use Rattle.reset_core.specs.BandParts.{AreTilesSwept, AreBandsSwept}
-use Rattle.reset_core.proofs.BandInside.{none_out}
+use Rattle.reset_core.proofs.Bands.Inside.{none_out}
 
 -- ---- inner tiles
 

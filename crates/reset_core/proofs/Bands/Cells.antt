@@ -16,9 +16,9 @@ use Rattle.tile_work.proofs.Parts.{length_part}
 use Rattle.reset_core.specs.declared.replica.bands.Band.{Band}
 use Rattle.reset_core.specs.Bands.{Strip, StandsAt, AreStacked, cells_of, works_of, lowered, rows_above, tiles_above}
 use Rattle.reset_core.specs.BandParts.{AreReady, IsTilingOf, IsBandCut, AreBandsCut, cells_in, strip_of, strips_of}
-use Rattle.reset_core.proofs.BandCuts.{span_count, tiles_within}
-use Rattle.reset_core.proofs.BandTables.{cut_down, next_first, bounds_count}
-use Rattle.reset_core.proofs.BandParts.{some_rows}
+use Rattle.reset_core.proofs.Bands.Cuts.{span_count, tiles_within}
+use Rattle.reset_core.proofs.Bands.Tables.{cut_down, next_first, bounds_count}
+use Rattle.reset_core.proofs.Bands.Parts.{some_rows}
 
 -- how many rows of pixels stand above a row of tiles, of those that there are
 abbrev pub top_of : Tiles → ℕ → ℕ

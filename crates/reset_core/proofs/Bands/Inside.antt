@@ -15,11 +15,11 @@ use Rattle.reset_core.specs.{Bounding.AreBounded, Telling.ImageAndWork, Telling.
 use Rattle.reset_core.specs.Telling.{with_image_and_work}
 use Rattle.reset_core.specs.Bands.{IsSomewhere, Strip, IsSweptInBand, rows_above, tiles_above, lowered, lowered_bounds}
 use Rattle.reset_core.specs.Bands.{put_bounds, put_in}
-use Rattle.reset_core.proofs.BandTiles.{tile_of_lowered, rect_of_lowered, lowered-within, neighbours_lowered}
-use Rattle.reset_core.proofs.BandTiles.{inside_lowered}
-use Rattle.reset_core.proofs.BandStates.{get_between, value_put}
-use Rattle.reset_core.proofs.BandBounds.{bounds_put, lie_raised}
-use Rattle.reset_core.proofs.BandRuns.{final, one, next_is, bounded_then}
+use Rattle.reset_core.proofs.Bands.Tiles.{tile_of_lowered, rect_of_lowered, lowered-within, neighbours_lowered}
+use Rattle.reset_core.proofs.Bands.Tiles.{inside_lowered}
+use Rattle.reset_core.proofs.Bands.States.{get_between, value_put}
+use Rattle.reset_core.proofs.Bands.Bounds.{bounds_put, lie_raised}
+use Rattle.reset_core.proofs.Bands.Runs.{final, one, next_is, bounded_then}
 
 module _ (tiles : Tiles) (above : ℕ) (strip : Strip) (somewhere : IsSomewhere tiles above strip) where
   abbrev whole : Core

@@ -19,8 +19,8 @@ use Rattle.reset_core.specs.{Bounding.AreBounded}
 use Rattle.reset_core.specs.Bands.{lowered_bounds, lowered_rect, rows_above, tiles_above, tables_of}
 use Rattle.reset_core.specs.BandParts.{IsBandCut, AreBandsCut, cells_in, strips_of}
 use Rattle.reset_core.specs.PuttingBack.{bounds_in}
-use Rattle.reset_core.proofs.{BandTiles.raised, BandTiles.lowered-raised, Bounding.none_lie}
-use Rattle.reset_core.proofs.BandCuts.{begin_below, count_to, tiles_within}
+use Rattle.reset_core.proofs.{Bands.Tiles.raised, Bands.Tiles.lowered-raised, Bounding.none_lie}
+use Rattle.reset_core.proofs.Bands.Cuts.{begin_below, count_to, tiles_within}
 
 -- ---- cut out
 

@@ -13,7 +13,7 @@ use Rattle.tile_work.proofs.Parts.{length_with_part, get_or_beside_part}
 use Rattle.reset_core.specs.declared.replica.bands.Band.{Band}
 use Rattle.reset_core.specs.Bands.{rows_above, tiles_above}
 use Rattle.reset_core.specs.PuttingBack.{IsFit, AreFit, CanTake, IsInBand, IsInBands, works_in, bounds_in, jobs_in}
-use Rattle.reset_core.proofs.BandTiles.{columns_same}
+use Rattle.reset_core.proofs.Bands.Tiles.{columns_same}
 
 -- what one set has gained and then another one
 gained_either : (a b c : List Bool) (P Q : ℕ → Type 0) → HasGained a P b → HasGained b Q c

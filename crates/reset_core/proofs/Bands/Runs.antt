@@ -23,7 +23,7 @@ use Rattle.core_rules.proofs.Counting.{merges_append}
 use Rattle.reset_core.specs.Telling.{IsGrownAt, clean, grown_core}
 use Rattle.reset_core.specs.Bounding.{AreBounded, FollowChange}
 use Rattle.reset_core.proofs.TellingSweeps.{IsOneSwept, one_swept, rises}
-use Rattle.reset_core.proofs.{Bounding.swept_bounded, TellingOrder.told_by, BandBounds.follow_put}
+use Rattle.reset_core.proofs.{Bounding.swept_bounded, TellingOrder.told_by, Bands.Bounds.follow_put}
 use Rattle.reset_core.proofs.TellingHands.{work_elsewhere_stays}
 use Rattle.grid_core.proofs.Tilings.{each_pixel_in_one_tile, neighbours_lie_in_touching_tiles}
 use Rattle.grid_core.proofs.Cells.{index_of-within}
@@ -31,8 +31,8 @@ use Rattle.grid_core.specs.{Bounds.no_bounds, Raster.IsInside, Tiles.count_of}
 use Rattle.border_queues.specs.TileWork.{work_of}
 use Rattle.core_rules.specs.Sweeps.{sender_of}
 use Rattle.core_rules.proofs.Cores.{work_there}
-use Rattle.reset_core.proofs.BandTiles.{lowered-within}
-use Rattle.reset_core.proofs.BandSweeps.{grown_in, told_in, fits_middle, fits_after, work_is, image_in}
+use Rattle.reset_core.proofs.Bands.Tiles.{lowered-within}
+use Rattle.reset_core.proofs.Bands.Sweeps.{grown_in, told_in, fits_middle, fits_after, work_is, image_in}
 
 pub abandons_both : (first second : List Entry) → abandons_of (first ++ second) ≡ abandons_of first + abandons_of second
 abandons_both [] second = omega arith

@@ -12,8 +12,8 @@ use Rattle.border_queues.specs.{declared.hint.Hint.Hint, TileWork.TileWork}
 use Rattle.reset_core.specs.Telling.{ImageAndWork, hints_in, AreInTileOrder, AreByTile, AreTold}
 use Rattle.reset_core.specs.Bands.{IsBandOf, tiles_above, lowered_hint, Around, put_in, FitsIn}
 use Rattle.reset_core.proofs.Telling.{none_for}
-use Rattle.reset_core.proofs.BandTiles.{tile_of_lowered}
-use Rattle.reset_core.proofs.BandStates.{all_handed_put}
+use Rattle.reset_core.proofs.Bands.Tiles.{tile_of_lowered}
+use Rattle.reset_core.proofs.Bands.States.{all_handed_put}
 
 same_test : (n a b : ℕ) → (n + a == n + b) ≡ (a == b)
 same_test n a b = elim (cases_eq a b) [

@@ -1,0 +1,19 @@
+-- What holds of settling in bands, from one tile of a band to the whole core.
+pub mod Tiles
+pub mod Edges
+pub mod States
+pub mod Telling
+pub mod Sweeps
+pub mod Runs
+pub mod Bounds
+pub mod Stacks
+pub mod Inside
+pub mod InPlace
+pub mod Halves
+pub mod Settling
+pub mod Parts
+pub mod Cuts
+pub mod Puts
+pub mod Tables
+pub mod Cells
+pub mod Rounds
