@@ -7,7 +7,6 @@ use Rattle.grid_core.specs.declared.conn.Conn.{Conn}
 use borrow.Rule.Slice.PartMut.{put_mid}
 use Rattle.row_scans.specs.Rows.{AreAside, AreBeside, AreRows, IsClosedTo}
 use Rattle.row_scans.specs.RowRaises.{IsRaisedStraight, IsRaisedBy, IsRaisedFromLeft, IsRaisedFromRight, AreCellsRaised}
-use Rattle.row_scans.specs.RowRaises.{IsStepFromLeft, IsStepFromRight}
 use Rattle.row_scans.proofs.RowPairs.{AreParts, closed_aside, left_parts, right_parts}
 use Rattle.row_scans.proofs.Replacing.{IsReplaced, replaced_front, replaced_mid, replaced_read}
 
@@ -167,55 +166,3 @@ rises_from_right {old} raised x less = elim (cases_lt (x + 1) (length old)) [
   | inl inner ↦ omega (arith, raised.raised x inner)
   | inr last ↦ omega (arith, raised.last x (omega arith))
 ]
-
--- ---- a step along a row, and then the rest of the way
-
--- no value falls in a step
-step_from_left_rises : {mask before after : List ℕ} → IsStepFromLeft mask before after → (k : ℕ) → k < length before
-    → get_or before k 0 ≤ get_or after k 0
-step_from_left_rises step zero less = omega (arith, step.first)
-step_from_left_rises step (suc k) less =
-    let one : suc k ≡ k + 1 = omega arith in
-    rw one (omega (arith, step.raised k (omega arith)))
-
-step_from_right_rises : {mask before after : List ℕ} → IsStepFromRight mask before after → (k : ℕ) → k < length before
-    → get_or before k 0 ≤ get_or after k 0
-step_from_right_rises {before} step k less =
-    elim (cases_lt (k + 1) (length before)) [
-      | inl more ↦ omega (arith, step.raised k more)
-      | inr end ↦ omega (arith, step.last k (omega arith))
-    ]
-
--- what a row becomes after a step it becomes without it
-pub after_step_from_left : {mask before between after : List ℕ} → IsStepFromLeft mask before between
-    → IsRaisedFromLeft mask between after → IsRaisedFromLeft mask before after
-after_step_from_left {between} {after} step raised = record {
-  long = omega (arith, raised.long, step.long);
-  first = omega (arith, raised.first, step.first);
-  raised = λ k within.
-      let rose : get_or between k 0 ≤ get_or after k 0 = rises_from_left raised k (omega (arith, step.long)) in
-      omega (
-        arith,
-        raised.raised k (omega (arith, step.long)),
-        step.raised k within,
-        rose,
-        step_from_left_rises step k (omega arith),
-      );
-}
-
-pub after_step_from_right : {mask before between after : List ℕ} → IsStepFromRight mask before between
-    → IsRaisedFromRight mask between after → IsRaisedFromRight mask before after
-after_step_from_right {between} {after} step raised = record {
-  long = omega (arith, raised.long, step.long);
-  last = λ k end. omega (arith, raised.last k (omega (arith, step.long)), step.last k end);
-  raised = λ k within.
-      let rose : get_or between (k + 1) 0 ≤ get_or after (k + 1) 0 =
-      rises_from_right raised (k + 1) (omega (arith, step.long)) in
-      omega (
-        arith,
-        raised.raised k (omega (arith, step.long)),
-        step.raised k within,
-        rose,
-        step_from_right_rises step (k + 1) within,
-      );
-}

@@ -7,8 +7,8 @@
 //! of its pixels can still raise another. [`queue_to`] and [`queue_aslant`] put those that can into a [`Waiting`], the
 //! queue of the cells whose neighbours are still to be raised.
 //!
-//! A pass over a row with the row beside it becomes vector code; only the pass along the row itself goes cell by cell,
-//! and only where there is a cell to raise.
+//! A pass over a row with the row beside it becomes vector code, and so does one along the row itself, where there is a
+//! cell to raise, a strip at a time.
 
 mod lists;
 mod row_queues;

@@ -1,10 +1,10 @@
 //! How a scan raises a row: by another row that touches it, and along itself.
 
-ghost use Rattle.std.specs.Prelude.{◌≡◌, ◌<◌, length, IsTrue};
+ghost use Rattle.std.specs.Prelude.{◌≡◌, ◌+◌, ◌<◌, ◌≤◌, length, IsTrue};
 ghost use Rattle.row_scans.specs.Rows.{AreAside, AreBeside, AreRows, IsClosedTo};
 ghost use Rattle.row_scans.specs.RowRaises.{AreApart, AreCellsRaised, IsRaisedBy, IsRaisedFromLeft};
 ghost use Rattle.row_scans.specs.RowRaises.{IsRaisedFromRight, IsRaisedStraight};
-ghost use Rattle.row_scans.specs.RowRaises.{IsStepFromLeft, IsStepFromRight};
+ghost use Rattle.row_scans.specs.RowRaises.{IsLetIn, IsReachAt, IsTwiceFromLeft, IsTwiceFromRight};
 
 use crate::rows::is_closed_straight;
 use grid_core::Conn;
@@ -15,8 +15,13 @@ const BLOCK: usize = 64;
 // How many pixels of such a block are raised together.
 const STRIP: usize = 16;
 
-// How many steps are taken together along such a strip before it is raised pixel by pixel.
-const STEPS: usize = 4;
+// The pixels of such a strip: the level of each, raised by those so many pixels before it, and the cap up to which what
+// comes from beyond them can still raise it.
+#[derive(Clone, Copy)]
+struct Reach {
+    levels: [u16; STRIP],
+    caps: [u16; STRIP],
+}
 
 /// Raises each pixel of a row by its neighbours in a row that touches it, as far as the mask lets it, so that none of
 /// these can raise it further.
@@ -111,28 +116,64 @@ fn raise_block_from_left(mask: &[u16], block: &mut [u16])
     }
 }
 
-// Raises each pixel of a strip but the first, from the left, where there is one to be raised.
+// Raises each pixel of a strip but the first, from the left: a whole one by looking twice as far again and again, so
+// that no pixel waits for the one before it.
 fn raise_strip_from_left(mask: &[u16], strip: &mut [u16])
     requires { (0 < length strip.old) × (length mask.now ≡ length strip.old) }
     ensures { IsRaisedFromLeft mask.now strip.old strip.new }
 {
-    for _ in 0..STEPS {
-        if is_raised_from_left(mask, strip) {
-            return;
-        }
-        step_from_left(mask, strip);
+    if strip.len() < STRIP || strip.len() > STRIP + 1 {
+        run_from_left(mask, strip);
+        return;
     }
-    run_from_left(mask, strip);
+    let start = strip.len() - STRIP;
+    let level = strip[0];
+    let two = twice_from_left(reach_at(mask, strip, start), 1);
+    let four = twice_from_left(two, 2);
+    let eight = twice_from_left(four, 4);
+    let_in(strip, start, level, twice_from_left(eight, 8));
 }
 
-// Raises each pixel of a strip by the one to its left as that was, as far as the mask lets it.
-fn step_from_left(mask: &[u16], row: &mut [u16])
-    requires { length mask.now ≡ length row.old }
-    ensures { IsStepFromLeft mask.now row.old row.new }
+// The pixels of a row from `start` on, each by itself.
+#[inline(always)]
+fn reach_at(mask: &[u16], row: &[u16], start: usize) -> Reach
+    requires within { start + 16 ≤ length row.now }
+    requires same { length mask.now ≡ length row.now }
+    ensures { IsReachAt start mask.now row.now result }
 {
-    for i in (1..row.len()).rev() {
-        row[i] = row[i].max(row[i - 1].min(mask[i]));
+    let mut reach = Reach {
+        levels: [0; STRIP],
+        caps: [0; STRIP],
+    };
+    for i in 0..STRIP {
+        reach.levels[i] = row[start + i];
+        reach.caps[i] = mask[start + i];
     }
+    reach
+}
+
+// Raises the pixels of a row from `start` on to what they reach, by a level that comes from beyond.
+#[inline(always)]
+fn let_in(row: &mut [u16], start: usize, level: u16, reach: Reach)
+    requires { start + 16 ≤ length row.old }
+    ensures { IsLetIn start level reach row.old row.new }
+{
+    for i in 0..STRIP {
+        row[start + i] = reach.levels[i].max(level.min(reach.caps[i]));
+    }
+}
+
+// Lets each pixel of a strip look on to the one so many before it, and so twice as far.
+#[inline(always)]
+fn twice_from_left(reach: Reach, by: usize) -> Reach
+    ensures { IsTwiceFromLeft by reach result }
+{
+    let mut next = reach;
+    for i in by..STRIP {
+        next.levels[i] = reach.levels[i].max(reach.levels[i - by].min(reach.caps[i]));
+        next.caps[i] = reach.caps[i].min(reach.caps[i - by]);
+    }
+    next
 }
 
 // Raises each pixel of a row, from the left, by the one to its left, as far as the mask lets it.
@@ -176,28 +217,34 @@ fn raise_block_from_right(mask: &[u16], block: &mut [u16])
     }
 }
 
-// Raises each pixel of a strip but the last, from the right, where there is one to be raised.
+// Raises each pixel of a strip but the last, from the right, as [`raise_strip_from_left`] from the left.
 fn raise_strip_from_right(mask: &[u16], strip: &mut [u16])
     requires { (0 < length strip.old) × (length mask.now ≡ length strip.old) }
     ensures { IsRaisedFromRight mask.now strip.old strip.new }
 {
-    for _ in 0..STEPS {
-        if is_raised_from_right(mask, strip) {
-            return;
-        }
-        step_from_right(mask, strip);
+    if strip.len() < STRIP || strip.len() > STRIP + 1 {
+        run_from_right(mask, strip);
+        return;
     }
-    run_from_right(mask, strip);
+    let level = strip[strip.len() - 1];
+    let two = twice_from_right(reach_at(mask, strip, 0), 1);
+    let four = twice_from_right(two, 2);
+    let eight = twice_from_right(four, 4);
+    let_in(strip, 0, level, twice_from_right(eight, 8));
 }
 
-// Raises each pixel of a strip by the one to its right as that was, as far as the mask lets it.
-fn step_from_right(mask: &[u16], row: &mut [u16])
-    requires { length mask.now ≡ length row.old }
-    ensures { IsStepFromRight mask.now row.old row.new }
+// Lets each pixel of a strip look on to the one so many behind it, and so twice as far.
+#[inline(always)]
+fn twice_from_right(reach: Reach, by: usize) -> Reach
+    requires { by ≤ 16 }
+    ensures { IsTwiceFromRight by reach result }
 {
-    for i in 1..row.len() {
-        row[i - 1] = row[i - 1].max(row[i].min(mask[i - 1]));
+    let mut next = reach;
+    for i in 0..STRIP - by {
+        next.levels[i] = reach.levels[i].max(reach.levels[i + by].min(reach.caps[i]));
+        next.caps[i] = reach.caps[i].min(reach.caps[i + by]);
     }
+    next
 }
 
 // Raises each pixel of a row, from the right, by the one to its right, as far as the mask lets it.
