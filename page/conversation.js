@@ -4,6 +4,10 @@
 const REST = 150, REST_WHILE_GROWING = 4, MOST_REST = 5000;
 const restBehind = failures => Math.min(250 * 2 ** failures, MOST_REST);
 const TELLING_FAILURES = 3;  // so many, and the page asks for a new address
+// Behind an answer of many bytes of samples the page asks for numbers alone, for so many milliseconds while the image
+// grows: most of those samples change again.
+const MANY_BYTES = 1 << 20, MOST_NUMBERS = 100, NO_SAMPLES = "1000000000000000000";  // (a step that no board comes to)
+const looking = { samplesFrom: 0 };  // when they are asked for again
 const silence = { failures: 0 };
 const ALL_SAVED = { failures: 0, code: "", next: 0 };
 const saves = { ...ALL_SAVED };  // how often in turn and why edits were not kept, and when they are sent again
@@ -31,7 +35,9 @@ function nextEdit() {
 
 /** Sends an edit, or looks for news. */
 async function exchange() {
-  const edit = nextEdit(), response = await (edit ? post(edit) : look());
+  const edit = nextEdit();
+  if (!edit && !board.isQuiet && performance.now() < looking.samplesFrom) return lookForNumbers();
+  const response = await (edit ? post(edit) : look());
   if (edit && response.status !== 200) return turnDown(edit, response);
   const answer = readAnswer(bytesOf(edit?.path === "state" ? await look() : response));
   if (answer.run !== board.run && !isSameMask(readImage(await fetchBytes("mask")))) return closeBoard();
@@ -42,6 +48,14 @@ async function exchange() {
 
 const moment = () => `run=${board.run}&since=${board.step}`;
 const look = () => request(`changes?${moment()}`);
+
+/** Looks how much is left to grow, without samples. Where it is nothing they are asked for at once. */
+async function lookForNumbers() {
+  const { run, isQuiet, tilesLeft } = readAnswer(bytesOf(await request(`changes?run=${board.run}&since=${NO_SAMPLES}`)));
+  if (isQuiet || run !== board.run) looking.samplesFrom = 0;
+  else board.tilesLeft = tilesLeft;
+  sayBoard();
+}
 
 /** Posts an edit. A state file is posted without a moment, so what is new is asked for behind it. */
 function post({ path, body }) {
@@ -84,6 +98,7 @@ function takeAnswer(answer) {
   noteNews(answer);
   const { run, step, isQuiet, tilesLeft } = answer;
   Object.assign(board, { run, step, isQuiet, tilesLeft });
+  looking.samplesFrom = answer.samples.length < MANY_BYTES ? 0 : performance.now() + MOST_NUMBERS;
 }
 
 function takeRectangles({ rectangles, samples }) {

@@ -26,6 +26,8 @@ from browser import Browser, Fault
 from paint_testing import Page, Program
 
 STROKES_A_POST = 2_000
+# How many strokes are withdrawn while nobody else looks.
+WITHDRAWALS = 9
 # A step that no board comes to.
 NEVER = 10 ** 18
 
@@ -251,6 +253,19 @@ class Looker(threading.Thread):
         self.join()
 
 
+def withdraw_strokes(page, cells, known):
+    """Strokes withdrawn one after another by a click on each, while nobody else looks: their times in the page."""
+    page.tab.key("x")
+    page.tab.run("timings.length = 0; 0")
+    for k, (x, y, _) in enumerate(cells, 1):
+        look_at(page.tab, x, y, 1)
+        page.drag((x, y))
+        page.tab.wait(f"board.strokes.size === {known - k} && board.isQuiet && timings.length === {k}"
+                      f" && timings[{k - 1}].grown > 0", 120)
+    page.tab.key("b")
+    return page.tab.run("timings")
+
+
 def withdraw(page, address, cell, known):
     """A withdrawal by a click while two other clients look without a pause, one of them for no news: seconds of growth,
     and the looks of both."""
@@ -309,8 +324,12 @@ def tell(words, program, browser, page, cells):
         print(f"| between two frames of panning at {100 * zoom:g} %, ms | {figures} |", flush=True)
     if words.lit:
         known = words.strokes + words.edits
-        seconds, looker, waiter = withdraw(page, program.address, cells[0], known)
-        print(f"| a withdrawal until all is grown and drawn, s | {seconds:.2f} | | |")
+        withdrawn = withdraw_strokes(page, cells[1:1 + WITHDRAWALS], known)
+        for name, key in (("its answer", "answered"), ("all of it grown and drawn", "grown")):
+            times = [timing[key] - timing["begun"] for timing in withdrawn]
+            print(f"| a withdrawal, from button up to {name}, ms | {spread(times)} |", flush=True)
+        seconds, looker, waiter = withdraw(page, program.address, cells[0], known - WITHDRAWALS)
+        print(f"| a withdrawal beside two that look without a pause, until all is grown and drawn, s | {seconds:.2f} | | |")
         print(f"| a look meanwhile, ms | {spread(looker.milliseconds)} |")
         print(f"| a request without pixels while tiles are left, ms | {spread(waiter.in_growth())} |")
         print(f"| most tiles left meanwhile | {max(looker.tiles_left)} | | |")
