@@ -89,7 +89,7 @@ PRIVATE = {
     "stroke_lattice": {"Filling": (), "Growth": (), "Stored": ()},
     "spd_codec": {"Hashing": (), "Putting": (), "Reading": ()},
     "marker_tiles": {"Blocks": (), "InOrder": (), "Painting": (), "UnderTags": ("IsBlankOn",)},
-    "raster_sweeps": {"Corridors": (), "Flood": (), "Flooding": (), "Spans": ()},
+    "raster_sweeps": {"Beside": (), "Corridors": (), "Flood": (), "Flooding": (), "Spans": (), "Trail": ()},
     "band_growth": {"Steps": ()},
     "border_queues": {"Borders": ()},
     "live_board": {"Flooding": (), "Following": (), "Planting": (), "Reading": (), "Steps": ()},

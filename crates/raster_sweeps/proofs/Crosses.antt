@@ -5,6 +5,7 @@ use Rattle.grid_core.specs.{declared.conn.Conn.TheVariants.Four, declared.pixel.
 use Rattle.grid_core.specs.{Neighbours.AreNeighbours, Raster.IsInside}
 use Rattle.grid_core.proofs.Pixels.{same_pixel}
 use Rattle.raster_sweeps.specs.{declared.neighbourhood.Cross.Cross, declared.neighbourhood.Neighbour.Neighbour}
+use Rattle.raster_sweeps.specs.Beside.{IsAbove, IsLeft, IsRight, IsUnder}
 use Rattle.raster_sweeps.specs.Growth.{cell_of}
 use Rattle.raster_sweeps.specs.Spans.{AreAround, IsCell, IsOnCross}
 
@@ -35,21 +36,8 @@ no_arm is none = record {
   every = λ q inside there. absurd (none q inside there);
 }
 
--- the pixel lies right above another, or left of it, right of it, or below it
-abbrev IsAbove : Pixel → Pixel → Type 0
-IsAbove p q = (q.x ≡ p.x) × (q.y + 1 ≡ p.y)
-
-abbrev IsLeft : Pixel → Pixel → Type 0
-IsLeft p q = (q.x + 1 ≡ p.x) × (q.y ≡ p.y)
-
-abbrev IsRight : Pixel → Pixel → Type 0
-IsRight p q = (q.x ≡ p.x + 1) × (q.y ≡ p.y)
-
-abbrev IsBelowIt : Pixel → Pixel → Type 0
-IsBelowIt p q = (q.x ≡ p.x) × (q.y ≡ p.y + 1)
-
 -- a neighbour lies in one of the four directions
-directions : (p q : Pixel) → AreNeighbours Four p q → (IsAbove p q ⊎ IsLeft p q) ⊎ (IsRight p q ⊎ IsBelowIt p q)
+pub directions : (p q : Pixel) → AreNeighbours Four p q → (IsAbove p q ⊎ IsLeft p q) ⊎ (IsRight p q ⊎ IsUnder p q)
 directions p q near =
     elim (cases_order q.y p.y) [
       | inl row ↦ elim (cases_order q.x p.x) [
@@ -68,7 +56,7 @@ directions p q near =
 -- four directions make a cross
 cross_of : {rect : Rect} {width : ℕ} {p : Pixel} {cross : Cross}
     → IsArm rect width p (IsAbove p) cross.above → IsArm rect width p (IsLeft p) cross.left
-    → IsArm rect width p (IsRight p) cross.right → IsArm rect width p (IsBelowIt p) cross.below
+    → IsArm rect width p (IsRight p) cross.right → IsArm rect width p (IsUnder p) cross.below
     → AreAround Four rect width p (IsOnCross cross)
 cross_of {p} above left right below = record {
   each = λ k here. elim here [

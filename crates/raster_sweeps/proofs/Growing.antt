@@ -37,7 +37,7 @@ module _ (size : Size) (mask before : Raster) (limits cells : List ℕ) (of_mask
       (λ i. record { width = (whole i).width; height = (whole i).height; cells = of_mask i }))
 
   -- what holds of the mask and the image holds of their rows
-  pub to_rows : (Holds : Raster → Raster → Type 0) → Holds mask before
+  to_rows : (Holds : Raster → Raster → Type 0) → Holds mask before
       → Holds (rows_of size limits) (rows_of size cells)
   to_rows Holds held =
       subst (λ r. Holds r (rows_of size cells)) (sym rows_mask) (subst (λ r. Holds mask r) (sym rows_before) held)

@@ -15,3 +15,5 @@ pub mod OpenCells
 pub mod OpenBounds
 pub mod Ways
 pub mod Growing
+pub mod Beside
+pub mod Trails

@@ -1,17 +1,17 @@
 -- Cells of some kind of which those that begin an open pair have joined the queue.
-use Rattle.std.proofs.Common.{◌≡◌, ℕ, ◌+◌, ◌-◌, ◌*◌, ◌<◌, ◌≤◌, ◌⊎◌, ◌↔◌, Bool, true, false, IsTrue, List, [], length, min}
-use Rattle.std.proofs.Common.{get_or, ap, subst, sym, ◌∙◌, arith, inl, inr, refl, Contains, MatchBool}
+use Rattle.std.proofs.Common.{◌≡◌, ℕ, ◌+◌, ◌-◌, ◌*◌, ◌<◌, ◌≤◌, ◌⊎◌, ◌↔◌, Bool, true, false, IsTrue, List, []}
+use Rattle.std.proofs.Common.{length, min, get_or, ap, subst, sym, ◌∙◌, arith, inl, inr, refl, Contains, MatchBool}
 use Rattle.std.proofs.{lemmas.Bool.cases_lt, lemmas.Bool.false≢true}
 use Rattle.grid_core.specs.{declared.bounds.Bounds.Bounds, declared.conn.Conn.Conn, declared.pixel.Pixel.Pixel}
 use Rattle.grid_core.specs.{declared.rect.Rect.Rect, Rects.IsInRect, Rects.in_image}
 use Rattle.grid_core.specs.Bounds.{AreEmpty, IsInBounds, LieIn, rect_within}
 use Rattle.grid_core.specs.Raster.{Raster, IsInside, index_of}
 use Rattle.raster_sweeps.specs.declared.size.Size.{Size}
-use Rattle.raster_sweeps.specs.Growth.{AllWait, AreInside, IsCellIn, IsOpenIn, cell_of, rows_of}
+use Rattle.raster_sweeps.specs.Growth.{AllWait, AreInside, CanClose, IsCellIn, IsOpenIn, IsPixelOf, cell_of, rows_of}
 use Rattle.raster_sweeps.specs.{OpenBounds.OpenPairsBeginIn, OpenCells.HaveOpenJoined, RowPairs.IsFirstOfRow}
 use Rattle.raster_sweeps.specs.Spans.{AreAround}
 use Rattle.row_scans.specs.{Rows.IsAmong, Waiting.AreOneMore}
-use Rattle.raster_sweeps.proofs.Grown.{in_rect_or_not}
+use Rattle.raster_sweeps.proofs.Grown.{fits_below, in_rect_or_not}
 
 -- the cell is that of a pixel of the rectangle in a row before this one
 abbrev pub IsCellAbove : Rect → ℕ → ℕ → ℕ → Type 0
@@ -48,6 +48,17 @@ neighbour_rises {q = q} size mask cells around raises here value = (
   around.every q raises.to_inside raises.beside,
   omega (arith, raises.lower, ap (λ k. get_or cells k 0) here, value),
 )
+
+-- the pixel of a cell of the rectangle lies in the image
+pub lies_in_image : {rect : Rect} {mask image : Raster} {cell : ℕ} {pixel : Pixel} → CanClose rect mask image
+    → IsCellIn rect image.width cell → IsPixelOf image.width cell pixel
+    → IsInside image.width image.height pixel × (index_of image.width pixel ≡ cell)
+lies_in_image {rect} {image = image} {cell} close found own =
+    let fits = fits_below close.below close.fits in
+    let inside : IsInside image.width image.height (in_image rect found.0) =
+    (omega (arith, found.1.0, fits.columns), omega (arith, found.1.1, fits.rows)) in
+    let same = own (in_image rect found.0) inside.0 found.2 in
+    subst (λ p. IsInside image.width image.height p × (index_of image.width p ≡ cell)) (sym same) (inside, found.2)
 
 -- the cells of the next row
 pub in_row : {part : Rect} {y first width : ℕ} → y < part.h → IsFirstOfRow part width y first → (i : ℕ)

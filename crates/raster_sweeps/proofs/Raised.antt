@@ -1,12 +1,14 @@
 -- Cells that are raised to one level, as far as the mask lets them, and the queue of those that rose.
 use Rattle.std.proofs.Common.{◌≡◌, ℕ, ◌+◌, ◌<◌, ◌≤◌, ◌⊎◌, List, length, min, max, set, sym, ◌∙◌, subst, arith, inl, inr}
-use Rattle.std.proofs.Common.{refl, get_or, Contains, ◌≢◌}
-use Rattle.std.proofs.lemmas.Bool.{cases_eq, cases_lt}
-use Rattle.std.proofs.lemmas.List.{length-set, get_or-set_same, get_or-set_other}
+use Rattle.std.proofs.Common.{refl, get_or, Contains, ◌≢◌, ap, nat_lt, Bool, IsTrue, MatchBool, true, [], ◌∷◌, ◌++◌}
+use Rattle.std.proofs.lemmas.Bool.{cases_eq, cases_lt, le-ltb, lt-ltb}
+use Rattle.std.proofs.lemmas.List.{length-set, get_or-set_same, get_or-set_other, set-get_or}
 use Rattle.grid_core.specs.Raster.{headroom, max_level}
 use Rattle.grid_core.proofs.Headroom.{headroom_set}
 use Rattle.raster_sweeps.specs.declared.neighbourhood.RowSpan.{RowSpan}
 use Rattle.raster_sweeps.specs.Spans.{AreQueued, AreSpread, InSpan, IsRaised}
+use Rattle.raster_sweeps.specs.Trail.{Trail}
+use Rattle.raster_sweeps.proofs.Trails.{last_joined}
 use Rattle.row_scans.specs.Waiting.{AreOneMore}
 
 -- no cell is raised
@@ -242,6 +244,47 @@ spread_stays {mask} {level} {cells} {j} all high = record {
       let same : get_or cells j 0 < min level (get_or mask j 0) =
       subst (λ i. get_or cells i 0 < min level (get_or mask i 0)) e low in
       absurd (omega (arith, same, high));
+}
+
+-- a cell is raised if it lies lower, and has then joined the trail
+pub spread_if : (mask : List ℕ) (level : ℕ) (cells : List ℕ) (j : ℕ) (old new : Trail) → level ≤ max_level
+    → j < length cells
+    → MatchBool (nat_lt (get_or cells j 0) (min level (get_or mask j 0))) (new.cells ≡ old.cells ++ j ∷ []) (new ≡ old)
+    → AreSpread (λ k. k ≡ j) mask level cells (set cells j (max (get_or cells j 0) (min level (get_or mask j 0))))
+    old.cells new.cells (IsTrue true)
+spread_if mask level cells j old new top within joined =
+    let now : ℕ = get_or cells j 0 in
+    let v : ℕ = min level (get_or mask j 0) in
+    let on : Bool → Type 0 = λ b. MatchBool b (new.cells ≡ old.cells ++ j ∷ []) (new ≡ old) in
+    elim (cases_lt now v) [
+      | inl lower ↦
+          let is : max now v ≡ v = omega (arith, lower) in
+          let last : new.cells ≡ old.cells ++ j ∷ [] = subst on (lt-ltb now v lower) joined in
+          subst (λ x. AreSpread (λ k. k ≡ j) mask level cells (set cells j x) old.cells new.cells (IsTrue true))
+          (sym is)
+          (spread_one mask level cells j old.cells new.cells (IsTrue true) top within lower (inl (last_joined last)))
+      | inr high ↦
+          let is : max now v ≡ now = omega (arith, high) in
+          let same : new ≡ old = subst on (le-ltb now v high) joined in
+          let kept : set cells j (max now v) ≡ cells = ap (set cells j) is ∙ set-get_or cells j 0 in
+          subst (λ xs. AreSpread (λ k. k ≡ j) mask level cells xs old.cells new.cells (IsTrue true)) (sym kept)
+          (subst (λ t. AreSpread (λ k. k ≡ j) mask level cells cells old.cells t.cells (IsTrue true)) (sym same)
+          (spread_stays refl high))
+    ]
+
+-- the same cells, said in another way
+pub spread_at : {at other : ℕ → Type 0} {mask : List ℕ} {level : ℕ} {before after old new : List ℕ} {Room : Type 0}
+    → AreSpread at mask level before after old new Room → ((k : ℕ) → at k → other k) → ((k : ℕ) → other k → at k)
+    → AreSpread other mask level before after old new Room
+spread_at spread to from = record {
+  raised = raised_at spread.raised to from;
+  inside = λ i waits. elim (spread.inside i waits) [ inl was ↦ inl was | inr here ↦ inr (to i here) ];
+  queued = λ room. queued_at (spread.queued room) from;
+  count = spread.count;
+  effort = spread.effort;
+  fell = spread.fell;
+  kept = spread.kept;
+  less = λ k here. spread.less k (from k here);
 }
 
 -- where there is no cell, all stays

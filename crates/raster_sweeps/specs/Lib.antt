@@ -5,6 +5,7 @@ pub use Rattle.grid_core.specs.Reconstruction
 pub use Rattle.grid_core.specs.Rects
 pub use Rattle.row_scans.specs.Rows
 pub use Rattle.row_scans.specs.Waiting
+pub mod Beside
 pub mod Corridors
 pub mod Flood
 pub mod Flooding
@@ -15,3 +16,4 @@ pub mod OpenCells
 pub mod Regrowth
 pub mod RowPairs
 pub mod Spans
+pub mod Trail

@@ -13,6 +13,7 @@ use crate::open_pairs::queue_open_pairs;
 use crate::raising::{drain, drain_within, spread};
 use crate::scans::{scan_back, scan_down};
 use crate::size::Size;
+use crate::trail::Trail;
 use grid_core::laws::cells_given_back;
 use grid_core::{Bounds, Conn, Grid, Memory, Rect};
 use row_scans::Waiting;
@@ -21,6 +22,9 @@ use std::alloc::Global;
 // From more pixels on, whole rows are looked at.
 const MANY: u32 = 512;
 
+// How many pixels may rise one by one, before the scans are faster.
+const PLACES: usize = 4096;
+
 /// The memory that growing needs: room for the cells whose neighbours are still to be raised.
 ///
 /// It may be used for one rectangle after another. Any room serves any rectangle; where it is small, the growth goes
@@ -28,15 +32,18 @@ const MANY: u32 = 512;
 #[derive(Drop)]
 pub struct Room {
     waiting: Waiting,
+    trail: Trail,
 }
 
 impl Room {
-    /// Room for growing in rectangles of about so many pixels: 4 bytes for each 64th pixel, and at least 4,096.
+    /// Room for growing in rectangles of about so many pixels: 16 KiB, and 4 bytes for each 64th pixel, but of these at
+    /// least 4 KiB.
     ///
     /// Errors: out of memory.
     pub fn new(alloc: Global, pixels: u32) -> Result<Room, Memory> {
         let waiting = Waiting::new(alloc, 1, (pixels as usize / 64).max(1024))?;
-        Ok(Room { waiting })
+        let trail = Trail::new(alloc, PLACES)?;
+        Ok(Room { waiting, trail })
     }
 }
 
@@ -60,38 +67,15 @@ pub fn grow_within(room: &mut Room, mask: &Grid, image: &mut Grid, rect: Rect, c
     );
 }
 
-/// Raises an image inside a rectangle as [`grow_within`] does, where only pixels within the bounds can still raise a
-/// neighbour in it: where the image was grown there before, and since then pixels within the bounds have risen. The
-/// image must be at most the mask, the rectangle lie in it, and the bounds in the rectangle.
+/// Raises an image inside a rectangle as [`grow_within`] does, on whole rows of cells, where only pixels within the
+/// bounds can still raise a neighbour in it: where the image was grown there before, and since then pixels within the
+/// bounds have risen. The image must be at most the mask, the rectangle lie in it, and the bounds in the rectangle.
 ///
 /// It answers bounds within which these lie and every pixel that rises.
 ///
-/// A queue spreads from the pixels within the bounds that can raise a neighbour, and no others are looked at first.
-/// Where it is full, and where more than a few such pixels or many pixels lie within the bounds, it goes on with the
-/// scans. It takes no memory.
-pub fn grow_from_bounds(
-    room: &mut Room,
-    mask: &Grid,
-    image: &mut Grid,
-    rect: Rect,
-    conn: Conn,
-    bounds: Bounds,
-) -> Bounds
-    requires grow { CanGrow rect mask.now image.old }
-    requires bounds { OpenPairsBeginIn conn rect mask.now image.old bounds }
-    requires lie { LieIn bounds rect }
-    ensures regrown { IsRegrownIn conn rect mask.now image.old image.new }
-    ensures rises { RiseWithin rect image.old image.new bounds result }
-    ensures lie { LieIn result rect }
-{
-    cells_given_back();
-    let size = Size::of(image);
-    let limits = mask.cells();
-    let cells = image.cells_mut();
-    grow_rows_from_bounds(room, limits, cells, size, rect, conn, bounds)
-}
-
-/// As [`grow_from_bounds`], on whole rows of cells.
+/// A queue of its own spreads from the pixels within the bounds that can raise a neighbour, and no others are looked at
+/// first. Where it is full, and where more than a few such pixels or many pixels lie within the bounds, it goes on with
+/// the scans. It takes no memory.
 pub fn grow_rows_from_bounds(
     room: &mut Room,
     mask: &[u16],
@@ -109,7 +93,7 @@ pub fn grow_rows_from_bounds(
     ensures rises { RiseWithin rect (rows_of size image.old) (rows_of size image.new) bounds result }
     ensures lie { LieIn result rect }
 {
-    let risen = raise_from_bounds(mask, image, size, rect, conn, &mut room.waiting, bounds);
+    let risen = raise_from_bounds(mask, image, size, rect, conn, &mut room.trail, bounds);
     if let Some(risen) = risen {
         return risen;
     }
@@ -164,15 +148,15 @@ pub fn grow_in_place(alloc: Global, mask: &Grid, image: &mut Grid, conn: Conn) -
 // Lets the open pairs of a rectangle within the bounds spread until none is left, and answers the bounds within which
 // pixels rose.
 //
-// It answers none where the bounds are those of the whole rectangle or have many pixels within them, where more than a
-// quarter of the rectangle's width of these can raise a neighbour, and where the queue is full: scans are faster there.
+// It answers none where the bounds are those of the whole rectangle or have many pixels within them, where more than
+// half the rectangle's width of these can raise a neighbour, and where the trail is full: scans are faster there.
 fn raise_from_bounds(
     mask: &[u16],
     image: &mut [u16],
     size: Size,
     rect: Rect,
     conn: Conn,
-    waiting: &mut Waiting,
+    trail: &mut Trail,
     bounds: Bounds,
 ) -> Option<Bounds>
     requires close { CanClose rect (rows_of size mask.now) (rows_of size image.old) }
@@ -191,11 +175,11 @@ fn raise_from_bounds(
     if is_large(part) {
         return None;
     }
-    waiting.clear();
-    if !queue_open_cells(mask, image, size, rect, conn, part, rect.w / 4, waiting) {
+    trail.clear(size.w);
+    if !queue_open_cells(mask, image, size, rect, conn, part, rect.w / 2, trail) {
         return None;
     }
-    drain_within(mask, image, size, rect, conn, waiting, bounds)
+    drain_within(mask, image, size, rect, conn, trail, bounds)
 }
 
 // Whether so many pixels lie in a part of a rectangle that the scans are faster than to look at them one by one.

@@ -19,7 +19,8 @@
 //!
 //! [`grow_in_place`] does the same to an image that is there already, and [`grow_within`] inside a rectangle of one,
 //! where it leaves every pixel outside as it was. That takes no memory: the caller lends it a [`Room`], and may use
-//! that again. [`grow_from_bounds`] looks only within bounds, where no pixel outside of them can raise a neighbour.
+//! that again. [`steps::grow_rows_from_bounds`] looks only within bounds, where no pixel outside of them can raise a
+//! neighbour.
 //!
 //! A [`Grower`] is what grows a whole image for those above, who need not know how many threads it takes. It also makes
 //! memory for images while something else is done ([`Blanks`]).
@@ -47,9 +48,10 @@ mod scans;
 mod size;
 pub mod steps;
 mod thresholds;
+mod trail;
 
 pub use blanks::Blanks;
 pub use closed::is_closed;
 pub use grower::{Grower, OneThread};
-pub use growth::{Room, grow, grow_from_bounds, grow_in_place, grow_within};
+pub use growth::{Room, grow, grow_in_place, grow_within};
 pub use thresholds::slow;

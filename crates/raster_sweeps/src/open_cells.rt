@@ -1,5 +1,5 @@
 //! The check of single cells for open pairs, where only few can begin one, as those of a column of a border. These are
-//! put into the queue.
+//! put on a trail.
 
 ghost use Rattle.std.specs.Prelude.{◌≡◌, ℕ, ◌+◌, ◌<◌, ◌≤◌, ◌⊎◌, length, min, slice_index, IsTrue};
 ghost use Rattle.grid_core.specs.Raster.{max_pixels};
@@ -10,12 +10,12 @@ ghost use Rattle.raster_sweeps.specs.Spans.{InSpan, IsAround, IsCell, IsOnCross}
 ghost use Rattle.row_scans.specs.Rows.{IsAmong};
 
 use crate::neighbourhood::{Cross, Neighbour, RowSpan, Spans, cross_around, spans_around};
+use crate::raising::pixel_of;
 use crate::size::{Size, first_cell};
+use crate::trail::Trail;
 use grid_core::{Conn, Rect};
-use row_scans::Waiting;
 
-/// Puts the cells of a part of the rectangle into the queue that can raise a neighbour in the rectangle, the first list
-/// of it.
+/// Puts the cells of a part of the rectangle on the trail that can raise a neighbour in the rectangle.
 ///
 /// It answers whether these are at most so many and there was room for them, and else stops.
 pub fn queue_open_cells(
@@ -26,19 +26,21 @@ pub fn queue_open_cells(
     conn: Conn,
     part: Rect,
     most: u32,
-    waiting: &mut Waiting,
+    trail: &mut Trail,
 ) -> bool
     requires close { CanClose rect (rows_of size mask.now) (rows_of size image.now) }
     requires fits { RectFits size.w size.h part }
+    requires width { trail.old.width ≡ size.w }
     requires within { (k : ℕ) → IsCellIn part size.w k → IsCellIn rect size.w k }
-    ensures { HaveOpenJoined conn rect (rows_of size mask.now) (rows_of size image.now) (IsCellIn part size.w) result
-        waiting.old waiting.new }
+    ensures width { trail.new.width ≡ trail.old.width }
+    ensures joined { HaveOpenJoined conn rect (rows_of size mask.now) (rows_of size image.now) (IsCellIn part size.w)
+        result trail.old.cells trail.new.cells }
 {
     let mut left = most;
     for y in 0..part.h {
         let first = first_cell(size, part, y);
         if !queue_open_run(
-            mask, image, size, rect, conn, first, part.w, &mut left, waiting,
+            mask, image, size, rect, conn, first, part.w, &mut left, trail,
         ) {
             return false;
         }
@@ -56,16 +58,18 @@ fn queue_open_run(
     first: u32,
     count: u32,
     left: &mut u32,
-    waiting: &mut Waiting,
+    trail: &mut Trail,
 ) -> bool
     requires close { CanClose rect (rows_of size mask.now) (rows_of size image.now) }
+    requires width { trail.old.width ≡ size.w }
     requires few { first + count ≤ max_pixels }
     requires within { (k : ℕ) → IsAmong first (first + count) k → IsCellIn rect size.w k }
-    ensures { HaveOpenJoined conn rect (rows_of size mask.now) (rows_of size image.now)
-        (IsAmong first (first + count)) result waiting.old waiting.new }
+    ensures width { trail.new.width ≡ trail.old.width }
+    ensures joined { HaveOpenJoined conn rect (rows_of size mask.now) (rows_of size image.now)
+        (IsAmong first (first + count)) result trail.old.cells trail.new.cells }
 {
     for cell in first..first + count {
-        if !queue_if_open(mask, image, size, rect, conn, cell, left, waiting) {
+        if !queue_if_open(mask, image, size, rect, conn, cell, left, trail) {
             return false;
         }
     }
@@ -82,21 +86,24 @@ fn queue_if_open(
     conn: Conn,
     cell: u32,
     left: &mut u32,
-    waiting: &mut Waiting,
+    trail: &mut Trail,
 ) -> bool
     requires close { CanClose rect (rows_of size mask.now) (rows_of size image.now) }
+    requires width { trail.old.width ≡ size.w }
     requires inside { IsCellIn rect size.w cell }
-    ensures { HaveOpenJoined conn rect (rows_of size mask.now) (rows_of size image.now) (λ k. k ≡ cell) result
-        waiting.old waiting.new }
+    ensures width { trail.new.width ≡ trail.old.width }
+    ensures joined { HaveOpenJoined conn rect (rows_of size mask.now) (rows_of size image.now) (λ k. k ≡ cell) result
+        trail.old.cells trail.new.cells }
 {
     if !can_raise(mask, image, size, rect, conn, cell) {
         return true;
     }
-    if *left == 0 {
+    if *left == 0 || !trail.has_room() {
         return false;
     }
     *left -= 1;
-    waiting.push(0, cell)
+    trail.push_if(true, pixel_of(size.w, cell));
+    true
 }
 
 // Whether a cell of the rectangle can raise a neighbour in it.

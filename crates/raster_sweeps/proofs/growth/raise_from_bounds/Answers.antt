@@ -1,4 +1,4 @@
-use Rattle.std.proofs.Common.{arith}
+use Rattle.std.proofs.Common.{◌∙◌, ap, arith}
 use Rattle.raster_sweeps.specs.Growth.{rows_of}
 use Rattle.raster_sweeps.proofs.{OpenCells.some_within, OpenCells.open_inside, OpenCells.open_wait}
 use Rattle.raster_sweeps.proofs.{OpenCells.within_rect, OpenBounds.empty_closed, OpenBounds.rise_within_same}
@@ -54,12 +54,19 @@ returns-then-not-queue_open_cells c = record {
   lie = tt;
 }
 
+pub queue_open_cells-requires-clause-width : goal.queue_open_cells-requires-clause-width
+queue_open_cells-requires-clause-width c = ap (λ trail. trail.width) c.clear.ensures
+
+pub drain_within-requires-clause-width : goal.drain_within-requires-clause-width
+drain_within-requires-clause-width c =
+    c.queue_open_cells.ensures.width ∙ ap (λ trail. trail.width) c.clear.ensures
+
 pub drain_within-requires-clause-inside : goal.drain_within-requires-clause-inside
 drain_within-requires-clause-inside c =
     open_inside c.args.rect c.args.bounds c.args.size.w c.requires.lie
-    (rw c.rect-part.ensures at c.queue_open_cells.ensures) c.clear.ensures
+    (rw c.rect-part.ensures at c.queue_open_cells.ensures.joined) (ap (λ trail. trail.cells) c.clear.ensures)
 
 pub drain_within-requires-clause-all : goal.drain_within-requires-clause-all
 drain_within-requires-clause-all c =
     open_wait c.args.rect c.args.bounds c.args.size.w c.requires.lie
-    (rw c.rect-part.ensures at c.queue_open_cells.ensures) c.if-not-queue_open_cells.false c.requires.bounds
+    (rw c.rect-part.ensures at c.queue_open_cells.ensures.joined) c.if-not-queue_open_cells.false c.requires.bounds
