@@ -72,7 +72,9 @@ fn cut_band(
     let end = first + band.count();
     let room = Room::new(alloc, band.side() * band.side())?;
     let mut told = Inbox::new(alloc);
-    told.reserve(room_for_edges(&band)).map_err(|_| Memory)?;
+    if told.reserve(room_for_edges(&band)).is_err() {
+        return Err(Memory);
+    }
     let swept = TileSet::empty(alloc, band.count())?;
     let bounds = bounds.cut(alloc, first, end, top)?;
     let work = work.cut(alloc, first, end)?;

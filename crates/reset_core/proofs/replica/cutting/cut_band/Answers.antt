@@ -1,6 +1,8 @@
-use Rattle.std.proofs.Common.{◌≡◌, ℕ, ◌+◌, ◌*◌, ◌≤◌, ◌<◌, length, inr, subst, sym, ap, arith}
+use Rattle.std.proofs.Common.{◌≡◌, ℕ, ◌+◌, ◌*◌, ◌≤◌, ◌<◌, length, inr, refl, subst, sym, ap, ◌∙◌, arith}
+use Rattle.std.proofs.Common.{rules}
 use Rattle.grid_core.specs.Tiles.{Tiles, IsTiled, columns_of, rows_of, count_of}
 use Rattle.tile_work.specs.OpenBounds.{bounds_for}
+use Rattle.tile_work.proofs.WorkTableHints.{ok_part}
 use Rattle.reset_core.specs.{Bands.tiles_above, BandParts.IsTilingOf}
 use Rattle.reset_core.proofs.Bands.Cuts.{tiles_within, begin_below}
 use Rattle.reset_core.proofs.replica.cutting.cut_band.Goals as goal
@@ -48,3 +50,20 @@ cut-requires-2-clause-marks c = λ t from before.
     c.requires.untouched.tiled c.requires.within c.band_tiling-band.ensures c.columns_of.ensures
     c.count.ensures.value in
     c.requires.untouched.only_marks t (omega arith) (omega (arith, before, within, c.requires.untouched.count))
+
+pub returns-clause-cut : goal.returns-clause-cut
+returns-clause-cut c =
+    let cut = c.band_tiling-band.ensures in
+    let no_error = sym c.is_err.ensures.value ∙ c.if-is_err.false in
+    let room = ok_part c.reserve.result _ no_error c.reserve.ensures.room in
+    record {
+      tiling = subst (λ below. IsTilingOf c.args.tiling.now c.args.above below c.band_tiling-band.result) (sym cut.rows)
+          cut;
+      conn_is = refl;
+      work = search rules;
+      bounds = search rules;
+      swept = search rules;
+      none_yet = refl;
+      limit_is = refl;
+      enough = omega (arith, room, c.room_for_edges.ensures);
+    }
