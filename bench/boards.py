@@ -40,13 +40,14 @@ def raised(program, hands, source, right, words):
     """The figures of a board that hands raise. It ends the script where the sum is not the right one.
 
     They are seconds, rounds or floods, nanoseconds of a peek beside the hands and of one alone, those in which a first
-    marker was brought and one with a stroke more, and those of one more round.
+    marker was brought, one after a stroke and one after a withdrawal (0 where there is none), those of one more round,
+    and the seconds beside the peek.
     """
-    (brought, (wall, rounds, peeks, beside, alone, again), (total,)), _ = threads.lines_of(
+    (brought, (wall, rounds, watched, peeks, beside, alone, again), (total,)), _ = threads.lines_of(
         program, call_of(words, hands), source)
     if total != right:
         run.stop(f"board {hands} and baseline differ on {source.path}")
-    return wall / 1e9, rounds, beside / max(peeks, 1), alone / max(peeks, 1), *brought, again
+    return wall / 1e9, rounds, beside / max(peeks, 1), alone / max(peeks, 1), *brought, again, watched / 1e9
 
 
 def figures_of(source, program, baseline, words):
@@ -76,22 +77,28 @@ def growing_row(family, whole, tiled, boards):
              for hands in HANDS]
     ratio = f"{boards[1][0] / boards[4][0]:.2f}" if 1 in boards and 4 in boards else "-"
     rounds = [cell(boards, hands, 1, "{:,.0f}") for hands in HANDS]
-    return [family, f"{1000 * whole:.0f}", f"{1000 * tiled:.0f}" if tiled else "-", *times, ratio, *rounds]
+    watched = cell({hands: [1000 * figures[8]] for hands, figures in boards.items()}, 4, 0, "{:,.0f}")
+    return [family, f"{1000 * whole:.0f}", f"{1000 * tiled:.0f}" if tiled else "-", *times, ratio, watched, *rounds]
+
+
+def brought_cell(boards, place):
+    """Milliseconds in which a marker was brought; a dash where none was brought so."""
+    return threads.milliseconds(boards[1][place]) if 1 in boards and boards[1][place] else "-"
 
 
 def growing(sources, program, baseline, words):
     """Print the tables of boards that hands raise, of peeks, and of markers that are brought."""
     results = {source.family: figures_of(source, program, baseline, words) for source in sources}
     run.table([f"{words.size} by {words.size}", "baseline ms", "tiles ms",
-               *(f"{hands} hand{'s' * (hands > 1)} ms" for hands in HANDS), "4 over 1",
+               *(f"{hands} hand{'s' * (hands > 1)} ms" for hands in HANDS), "4 over 1", "4 hands and a peek ms",
                *(f"{'rounds' if words.rounds else 'floods'}, {hands}" for hands in HANDS)],
               [growing_row(family, *figures) for family, figures in results.items()])
     run.table([f"a peek, {words.size} by {words.size}", "alone ns", *(f"beside {hands} ns" for hands in HANDS)],
               [[family, cell(boards, 1, 3, "{:.0f}"), *(cell(boards, hands, 2, "{:.0f}") for hands in HANDS)]
                for family, (_, _, boards) in results.items()])
-    run.table([f"in one thread, {words.size} by {words.size}", "a first marker ms", "a marker after one more edit ms",
-               "a round ms"],
-              [[family, *(threads.milliseconds(boards[1][place]) if 1 in boards else "-" for place in (4, 5, 6))]
+    run.table([f"in one thread, {words.size} by {words.size}", "a first marker ms", "a marker after a stroke ms",
+               "after a withdrawal ms", "a round ms"],
+              [[family, *(brought_cell(boards, place) for place in (4, 5, 6, 7))]
                for family, (_, _, boards) in results.items()])
 
 

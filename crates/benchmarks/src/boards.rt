@@ -23,15 +23,19 @@ use stroke_lattice::Delta;
 use studio::Keeper;
 
 // How many rows a strip has that hands flood.
-const STRIP: u32 = 64;
+const STRIP: u32 = 32;
+
+// How many of the last edits a board is brought one by one.
+const LAST: u32 = 2;
 
 // A hand, and what it floods with.
 type Worker = (HandSeat, Draft);
 
-/// Lets so many hands raise a board that has the marker of all edits, by floods or by rounds. It prints the times to
-/// bring the marker of all edits but the last, and then that of all; the time to raise the board, how many rounds or
-/// floods there were, and how many peeks, what these took beside the hands and alone, and the time of a round after
-/// that; and the sum.
+/// Lets so many hands raise a board that has the marker of all edits, by floods or by rounds, and then in the next
+/// generation once more with a peek beside them. It prints the times to bring the marker of all edits but the last two,
+/// and to bring it after a stroke and after a withdrawal, the last of them; the time to raise the board alone, and how
+/// many rounds or floods there were; the time beside the peek, how many peeks there were, what these took beside the
+/// hands and alone, and the time of a round after that; and the sum.
 pub fn measure(rt: &impl System, input: Input, hands: u32, by_floods: bool) -> Outcome {
     match Board::open(rt.alloc(), &input.mask, input.conn, hands as usize, 1) {
         Ok(mut opened) => match raise(rt, input, &mut opened, by_floods) {
@@ -57,19 +61,19 @@ fn close(rt: &impl System, board: Board, seat: KeeperSeat) -> Outcome
 
 // ---- the marker
 
-// Brings the marker of all edits but the last to the board, and then that of all.
+// Brings the marker of all edits but the last two to the board, and then that after each of these.
 fn mirror(rt: &impl System, input: Input, board: &Board, seat: &mut KeeperSeat) -> Outcome
     requires { IsKeeperOf board.now seat.old }
     ensures { IsKeeperOf board.now seat.new }
 {
-    let (core, last) = input.open(rt.alloc(), SIDE, Some(1))?;
-    let told = mirror_both(rt, core, &last, board, seat);
+    let (core, last) = input.open(rt.alloc(), SIDE, Some(LAST))?;
+    let told = mirror_all(rt, core, &last, board, seat);
     drop(last);
     told
 }
 
-// The same of a core without these edits, and with them. It prints the times.
-fn mirror_both(
+// The same of a core without these edits, and with each. It prints the times.
+fn mirror_all(
     rt: &impl System,
     core: Core,
     last: &[Delta],
@@ -81,17 +85,39 @@ fn mirror_both(
 {
     let (mut keeper, mut pens, _, _) = open(rt, core, 1, 1)?;
     let before = time_of_mirror(rt, &mut keeper, board, seat);
-    let mut is_in = true;
-    for edit in last {
-        is_in = submits(rt.alloc(), &mut pens, edit) & is_in;
-    }
-    let turned = turn(&mut keeper);
-    let after = time_of_mirror(rt, &mut keeper, board, seat);
+    let after = mirror_each(rt, &mut keeper, &mut pens, last, board, seat);
     drop(pens);
     drop(keeper.end(rt));
-    check(is_in && turned.is_ok(), "an edit is not taken")?;
-    println!(rt; "{} {}", before?, after?)?;
+    let ((before, _), (risen, fallen)) = (before?, after?);
+    println!(rt; "{before} {risen} {fallen}")?;
     Ok(())
+}
+
+// Merges edits and brings the marker after each. It gives the last time that one rose, and the last that one fell and a
+// generation began for it: 0 where none did.
+fn mirror_each(
+    rt: &impl System,
+    keeper: &mut Keeper,
+    pens: &mut Vec<Pen>,
+    edits: &[Delta],
+    board: &Board,
+    seat: &mut KeeperSeat,
+) -> Result<(u128, u128), Fault>
+    requires { IsKeeperOf board.now seat.old }
+    ensures { IsKeeperOf board.now seat.new }
+{
+    let (mut risen, mut fallen) = (0, 0);
+    for edit in edits {
+        check(submits(rt.alloc(), pens, edit), "an edit is not taken")?;
+        turn(keeper)?;
+        let (time, has_advanced) = time_of_mirror(rt, keeper, board, seat)?;
+        if has_advanced {
+            fallen = time;
+        } else {
+            risen = time;
+        }
+    }
+    Ok((risen, fallen))
 }
 
 fn submits(alloc: Global, pens: &mut Vec<Pen>, edit: &Delta) -> bool {
@@ -104,13 +130,13 @@ fn submits(alloc: Global, pens: &mut Vec<Pen>, edit: &Delta) -> bool {
     }
 }
 
-// What it takes to bring the core's marker to the board.
+// What it takes to bring the core's marker to the board, and whether a generation began for it.
 fn time_of_mirror(
     rt: &impl System,
     keeper: &mut Keeper,
     board: &Board,
     seat: &mut KeeperSeat,
-) -> Result<u128, Fault>
+) -> Result<(u128, bool), Fault>
     requires { IsKeeperOf board.now seat.old }
     ensures { IsKeeperOf board.now seat.new }
 {
@@ -118,7 +144,7 @@ fn time_of_mirror(
     let mirrored = keeper.mirror(board, seat);
     let time = laps.lap(rt);
     match mirrored {
-        Ok(_) => Ok(time),
+        Ok(mirrored) => Ok((time, mirrored.advanced)),
         Err(why) => Err(Fault(why.code())),
     }
 }
@@ -191,15 +217,62 @@ fn raise(rt: &impl System, input: Input, opened: &mut Opened, by_floods: bool) -
     let Some(peek) = opened.peeks.first_mut() else {
         return Ok(());
     };
-    let (board, marker) = (&opened.board, opened.keeper.marker());
+    let board = &opened.board;
     let (mut workers, are_all) = workers_of(rt.alloc(), board, &mut opened.hands);
     let told = if are_all {
-        raise_watched(rt, board, marker, peek, &mut workers, by_floods)
+        raise_twice(rt, board, &mut opened.keeper, peek, &mut workers, by_floods)
     } else {
         Err(MEMORY)
     };
     drop(workers);
     told
+}
+
+// Has the hands raise the board in threads, and once more in the next generation, with a peek beside them.
+fn raise_twice(
+    rt: &impl System,
+    board: &Board,
+    seat: &mut KeeperSeat,
+    peek: &mut PeekSeat,
+    workers: &mut Vec<Worker>,
+    by_floods: bool,
+) -> Outcome
+    requires seat { IsKeeperOf board.now seat.old }
+    requires peek { IsPeekOf board.now peek.old }
+    requires workers { All (λ w. IsHandOf board.now w.0 × IsDraftOf board.now w.1) workers.old.items }
+    ensures { IsKeeperOf board.now seat.new }
+{
+    let (rounds, none) = (AtomicU64::new(0), AtomicU64::new(0));
+    let time = go_all(rt, board, workers, by_floods, &rounds, &none);
+    check(is_raised(board, workers), "a pixel can still raise another")?;
+    begin_again(rt.alloc(), board, seat)?;
+    let rounds = rounds.load(Ordering::SeqCst);
+    print!(rt; "{time} {rounds} ")?;
+    raise_watched(rt, board, seat.marker(), peek, workers, by_floods)
+}
+
+// Whether the first hand finds nothing to raise in a round.
+fn is_raised(board: &Board, workers: &mut Vec<Worker>) -> bool
+    requires { All (λ w. IsHandOf board.now w.0 × IsDraftOf board.now w.1) workers.old.items }
+    ensures { All (λ w. IsHandOf board.now w.0 × IsDraftOf board.now w.1) workers.new.items }
+{
+    match workers.first_mut() {
+        Some(worker) => worker.0.round(board) == 0,
+        None => true,
+    }
+}
+
+// Begins the next generation, with the same marker, and plants it.
+fn begin_again(alloc: Global, board: &Board, seat: &mut KeeperSeat) -> Outcome
+    requires { IsKeeperOf board.now seat.old }
+    ensures { IsKeeperOf board.now seat.new }
+{
+    let marker = seat.marker().copy(alloc).or(Err(MEMORY))?;
+    if let Err(spent) = seat.advance(board, marker) {
+        return Fault("there is no next generation").dropping(spent);
+    }
+    seat.plant_all(board);
+    Ok(())
 }
 
 // Has the hands raise the board in threads with a peek beside them, which then looks as often alone, and then one hand
@@ -232,8 +305,7 @@ fn raise_watched(
     );
     let (_, alone) = peek_on(rt, board, marker, &AtomicU64::new(peeks), peek);
     let round = time_of_round(rt, board, workers);
-    let rounds = rounds.load(Ordering::SeqCst);
-    println!(rt; "{time} {rounds} {peeks} {beside} {alone} {round}")?;
+    println!(rt; "{time} {peeks} {beside} {alone} {round}")?;
     Ok(())
 }
 

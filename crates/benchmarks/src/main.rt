@@ -16,12 +16,13 @@
 //!   sum.
 //! - `watch COUNT` begins as `edit` does. Each of the last edits is submitted while two hands run in threads. A line
 //!   for each: the time until a glimpse has it; that of the show before it; and that of one more, after nothing.
-//! - `board HANDS` brings the marker of all edits but the last to a board, and then that of all: the times of it. Then
-//!   it lets so many hands go round in threads until nothing rises, with a peek beside them: the time of it, how many
-//!   rounds there were, how many peeks, the processor times of these and of as many peeks after that, and the time of
-//!   one more round; then the sum.
-//! - `flood HANDS CONNECTIVITY` does the same by floods, each hand of rows of its own, with 4 or 8 neighbours. In the
-//!   place of the rounds is how often all rows were flooded.
+//! - `board HANDS` brings the marker of all edits but the last two to a board, and then that after each: the times of
+//!   the first, after a stroke and after a withdrawal (0 where there is none). Then it lets so many hands go round in
+//!   threads until nothing rises: the time of it, and how many rounds there were. Then once more in the next generation
+//!   with a peek beside them: the time of it, how many peeks, the processor times of these and of as many peeks after
+//!   that, and the time of one more round; then the sum.
+//! - `flood HANDS CONNECTIVITY` does the same by floods of strips, with 4 or 8 neighbours. In the place of the rounds
+//!   is how many floods there were.
 //! - `stress ROUNDS SEED` reads nothing. It plays rounds of pens, hands, eyes and a keeper in threads (`stress`).
 
 mod boards;

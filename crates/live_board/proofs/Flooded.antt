@@ -50,6 +50,28 @@ beside_out : (conn : Conn) (rect : Rect) (p q : Pixel) → AreNeighbours conn p 
 beside_out Four rect p q h = omega (arith, h)
 beside_out Eight rect p q h = (omega (arith, h.0), omega (arith, h.1), omega (arith, h.2))
 
+-- ---- what supports a value
+
+pub founded_lower : (base : Ground) (v : SeatView) (p : Pixel) (n k : ℕ) → k ≤ n → IsFounded base v p n
+    → IsFounded base v p k
+founded_lower base v p n k low founded marker supported =
+    reaches_lower (domain base) (value_at (mask_of base)) (value_at marker) p n k low (founded marker supported)
+
+-- what is known is founded, and so is 0
+pub known_founded : (base : Ground) (v : SeatView) (p : Pixel) (n : ℕ) → IsOn base p → (n ≡ 0) ⊎ Knows v p n
+    → IsFounded base v p n
+known_founded base v p n on known marker supported =
+    let mask : Pixel → ℕ = value_at (mask_of base) in ⊎_elim
+    (λ (zero : n ≡ 0).
+    reaches_lower (domain base) mask (value_at marker) p 0 n (omega arith)
+    (reaches_zero (domain base) mask (value_at marker) p on))
+    (λ (knows : Knows v p n).
+    let enough : n ≤ knows.known.value = knows.enough in
+    reaches_lower (domain base) mask (value_at marker) p knows.known.value n (omega arith)
+    (subst (λ (z : Pixel). Supports base marker z knows.known.value) knows.pixel
+    (supported knows.known knows.is_known knows.generation)))
+    known
+
 -- ---- an image that has grown in rows
 
 abbrev pub rows_rect : Ground → ℕ → ℕ → Rect
@@ -112,11 +134,11 @@ module _ (base : Ground) (first end : ℕ) (before after : Raster) (high : end �
       reaches_by_step (domain base) (value_at (mask_of base)) (value_at marker) (in_image rect p) (in_image rect q) k
       (in_rows p path.0).0 (beside_out base.conn rect p q path.1) all.0 (walk marker k q rest path.2 all.1 ends)
 
-  -- what the seat knew before supports what the pixels have grown to
+  -- what supported them before supports what the pixels have grown to
   pub founded : (v : SeatView)
-      → ((q : Pixel) → IsOn base q → IsInRows first end q → (value_at before q ≡ 0) ⊎ Knows v q (value_at before q))
+      → ((q : Pixel) → IsOn base q → IsInRows first end q → IsFounded base v q (value_at before q))
       → (p : Pixel) → IsOn base p → IsInRows first end p → IsFounded base v p (value_at after p)
-  founded v known p on rows marker supported =
+  founded v was p on rows marker supported =
       let mask : Pixel → ℕ = value_at (mask_of base) in
       let reach = (grown.reconstruction (at p) (at_inside p on rows)).0 in
       let k : ℕ = value_at after (in_image rect (at p)) in
@@ -124,16 +146,9 @@ module _ (base : Ground) (first end : ℕ) (before after : Raster) (high : end �
       let E : Pixel = in_image rect e in
       let lies = in_rows e (IsPath-ends_inside (domain_in rect base.conn) (at p) reach.0 reach.1) in
       let low : k ≤ value_at before E = reach.3 in
-      let ends : Supports base marker E k = ⊎_elim
-      (λ (zero : value_at before E ≡ 0).
-      reaches_lower (domain base) mask (value_at marker) E 0 k (omega arith)
-      (reaches_zero (domain base) mask (value_at marker) E lies.0))
-      (λ (knows : Knows v E (value_at before E)).
-      let enough : value_at before E ≤ knows.known.value = knows.enough in
-      reaches_lower (domain base) mask (value_at marker) E knows.known.value k (omega arith)
-      (subst (λ (z : Pixel). Supports base marker z knows.known.value) knows.pixel
-      (supported knows.known knows.is_known knows.generation)))
-      (known E lies.0 lies.1) in
+      let ends : Supports base marker E k =
+      reaches_lower (domain base) mask (value_at marker) E (value_at before E) k low
+      (was E lies.0 lies.1 marker supported) in
       subst (λ (z : Pixel). Supports base marker z (value_at after z)) (at_is p rows.0)
       (walk marker k (at p) reach.0 reach.1 reach.2 ends)
 
@@ -147,7 +162,7 @@ cell_value base image wide k =
     (ap (λ (z : ℕ). index_of z (pixel_after base k)) wide ∙ cell_is base k)
 
 -- the pixel of a cell of the rows
-cell_rows : (base : Ground) (first end k : ℕ) → 0 < (mask_of base).width → (mask_of base).width * first ≤ k
+pub cell_rows : (base : Ground) (first end k : ℕ) → 0 < (mask_of base).width → (mask_of base).width * first ≤ k
     → k < (mask_of base).width * end → IsInRows first end (pixel_after base k)
 cell_rows base first end k some after before =
     let w : ℕ = (mask_of base).width in (
@@ -172,9 +187,10 @@ cells_founded base first end before after v u filled some high was_wide wide gro
     (λ q on_q in_q.
     let i : ℕ = index_of w q in
     let lies = row_cell base first end q on_q in_q in
-    subst (λ (z : Pixel). (value_at before z ≡ 0) ⊎ Knows u z (value_at before z)) (comes_after base q i on_q refl)
+    known_founded base u q (value_at before q) on_q
+    (subst (λ (z : Pixel). (value_at before z ≡ 0) ⊎ Knows u z (value_at before z)) (comes_after base q i on_q refl)
     (subst (λ (n : ℕ). (n ≡ 0) ⊎ Knows u (pixel_after base i) n) (sym (cell_value base before was_wide i))
-    (taken.known i lies.0 lies.1)))
+    (taken.known i lies.0 lies.1))))
     (pixel_after base k) on rows)
 
 -- what the pixels have that were raised is known

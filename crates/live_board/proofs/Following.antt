@@ -1,6 +1,6 @@
 -- How a hand follows what it raises: one neighbour, and some and then others.
-use Rattle.std.proofs.Common.{◌&&◌, ◌+◌, ◌++◌, ◌<◌, Bool, Contains, IsTrue, List, [], ap, ap₂, arith, count_by, inl, inr, min}
-use Rattle.std.proofs.Common.{get_or, length, nat_lt, take, refl, subst, sym, true, false, ℕ, ◌∙◌, ◌∷◌, ◌≡◌, ◌≤◌, ◌⊎◌}
+use Rattle.std.proofs.Common.{◌+◌, ◌++◌, ◌<◌, Bool, Contains, IsTrue, List, [], ap, ap₂, arith, count_by, inl, inr}
+use Rattle.std.proofs.Common.{get_or, length, take, refl, subst, sym, true, false, ℕ, ◌∙◌, ◌∷◌, ◌≡◌, ◌≤◌, ◌⊎◌}
 use Rattle.std.proofs.lemmas.{Bool.ltb-true, List.take_more}
 use Rattle.std.proofs.lemmas.List.Elements.{Contains-append_cases, Contains-append_left, Contains-append_right}
 use Rattle.std.proofs.lemmas.List.Elements.{Contains-push, Contains-push_cases}

@@ -12,3 +12,5 @@ pub mod Flooded
 pub mod Settled
 pub mod Planted
 pub mod Following
+pub mod Bands
+pub mod Comparing

@@ -3,7 +3,7 @@ use Rattle.std.proofs.Common.{◌*◌, ◌+◌, ◌<◌, Bool, Contains, IsTrue,
 use Rattle.std.proofs.Common.{refl, replicate}
 use Rattle.std.proofs.Common.{slice_index, subst, subst₂, sym, true, ℕ, ◌∙◌, ◌∷◌, ◌≡◌, ◌≤◌, ◌⊎◌}
 use Rattle.std.proofs.Math.Logic.{∥∥₁_elim, ∥∥₁_map}
-use Rattle.std.proofs.lemmas.Bool.{cases_eq, false≢true}
+use Rattle.std.proofs.lemmas.Bool.{cases_eq, cases_lt, false≢true}
 use Rattle.std.proofs.lemmas.List.{length-replicate}
 use Rattle.std.proofs.lemmas.List.Elements.{Contains-append_cases, Contains-append_left, Contains-append_right}
 use Rattle.std.proofs.lemmas.List.Elements.{Contains-push, Contains-push_cases}
@@ -15,8 +15,9 @@ use mathlib.Core.Logic.{dite, ⊎_elim}
 use native.Mathlib.Decide.{ℕ_discrete}
 use Rattle.live_board.proofs.Flooding.{IsLater, cell_is, later_adds}
 use Rattle.live_board.proofs.Places.{place_within}
-use Rattle.live_board.specs.{Closing.AreAllPlanted, Planting.HasPlantedCell, Planting.HasPlantedTo}
-use Rattle.live_board.specs.{Planting.KnowsImage, Rounds.pixel_after, Seats.Adds, Seats.planted_fact}
+use Rattle.live_board.specs.{Closing.AreAllPlanted, Planting.HasPlantedCell, Planting.HasPlantedIn}
+use Rattle.live_board.specs.{Blocks.AreNoneAbove, Planting.KnowsImage, Rounds.pixel_after}
+use Rattle.live_board.specs.Seats.{Adds, planted_fact}
 use Rattle.live_board.specs.Words.{IsOn, KnowsMarker, blank, fact, mask_of, size_of}
 use Rattle.live_board.specs.{declared.fact.Fact.Fact, declared.rule.Ground.Ground, declared.rule.SeatView.SeatView}
 
@@ -103,12 +104,12 @@ cells_under base image marker k filled under below low =
     filled ∙ ap₂ (λ (w h : ℕ). w * h) (under.width ∙ below.width) (under.height ∙ below.height) in
     omega (arith, low, long)
 
-pub planted_none : (base : Ground) (v : SeatView) → HasPlantedTo base 0 v v
-planted_none base v = record {
+pub planted_none : (base : Ground) (from : ℕ) (v : SeatView) → HasPlantedIn base from from v v
+planted_none base from v = record {
   generation = refl;
   marker = refl;
   known = λ f known. known;
-  planted = λ k low. absurd (omega arith);
+  planted = λ k after before. absurd (omega (arith, after, before));
 }
 
 -- with the same generation and marker the same fact is planted
@@ -130,16 +131,31 @@ cell_by_step base k u w adds =
     }
 
 -- one more cell
-pub planted_more : (base : Ground) (k : ℕ) (v u w : SeatView) → HasPlantedTo base k v u → HasPlantedCell base k u w
-    → HasPlantedTo base (k + 1) v w
-planted_more base k v u w done here = record {
+pub planted_more : (base : Ground) (from k : ℕ) (v u w : SeatView) → HasPlantedIn base from k v u
+    → HasPlantedCell base k u w → HasPlantedIn base from (k + 1) v w
+planted_more base from k v u w done here = record {
   generation = here.generation ∙ done.generation;
   marker = here.marker ∙ done.marker;
   known = λ f known. here.known f (done.known f known);
-  planted = λ i low. dite (ℕ_discrete i k)
+  planted = λ i after low. dite (ℕ_discrete i k)
       (λ e. subst (λ (j : ℕ). Contains w.facts (planted_fact w (pixel_after base j))) (sym e) here.planted)
       (λ ne. subst (Contains w.facts) (same_plant (pixel_after base i) u w here.generation here.marker)
-      (here.known (planted_fact u (pixel_after base i)) (done.planted i (omega (arith, low, ne)))));
+      (here.known (planted_fact u (pixel_after base i)) (done.planted i after (omega (arith, low, ne)))));
+}
+
+-- one block more
+pub planted_block : (base : Ground) (from to : ℕ) (v u w : SeatView) → HasPlantedIn base 0 from v u
+    → HasPlantedIn base from to u w → HasPlantedIn base 0 to v w
+planted_block base from to v u w done here = record {
+  generation = here.generation ∙ done.generation;
+  marker = here.marker ∙ done.marker;
+  known = λ f known. here.known f (done.known f known);
+  planted = λ i after before. ⊎_elim
+      (λ (less : i < from).
+      subst (Contains w.facts) (same_plant (pixel_after base i) u w here.generation here.marker)
+      (here.known (planted_fact u (pixel_after base i)) (done.planted i after less)))
+      (λ (no_less : from ≤ i). here.planted i no_less before)
+      (cases_lt i from);
 }
 
 -- a pixel at which the marker is not above an image that was planted
@@ -157,6 +173,20 @@ cell_stands base before k v knows above below low within high =
       known = λ f known. known;
       planted = subst (λ (x : ℕ). Contains v.facts (fact p v.generation x)) value (knows k low);
     }
+
+-- pixels at which the marker is nowhere above it
+pub block_stands : (base : Ground) (before : Raster) (from to : ℕ) (v : SeatView) → KnowsImage base before v
+    → IsFilled before → IsBelow before v.marker → IsBelow v.marker (mask_of base) → to ≤ size_of base
+    → AreNoneAbove from to v.marker.cells before.cells → HasPlantedIn base from to v v
+block_stands base before from to v knows filled above below high none = record {
+  generation = refl;
+  marker = refl;
+  known = λ f known. known;
+  planted = λ k after less.
+      let low : k < size_of base = omega (arith, less, high) in
+      (cell_stands base before k v knows above below low
+      (cells_under base before v.marker k filled above below low) (none k after less)).planted;
+}
 
 -- the pixel of a cell lies on the board
 pub cell_lies : (base : Ground) (k : ℕ) → k < size_of base → IsOn base (pixel_after base k)
@@ -184,7 +214,7 @@ image_known base v u image below knows is facts generation k low =
     (subst₂ (λ (n x : ℕ). Contains v.facts (fact p n x)) (sym generation) value there)
 
 -- where all cells were planted all pixels were
-pub all_planted : (base : Ground) (count : ℕ) (v w : SeatView) → HasPlantedTo base count v w → size_of base ≤ count
+pub all_planted : (base : Ground) (count : ℕ) (v w : SeatView) → HasPlantedIn base 0 count v w → size_of base ≤ count
     → AreAllPlanted base w
 all_planted base count v w done all p on =
     let width : ℕ = (mask_of base).width in
@@ -192,4 +222,5 @@ all_planted base count v w done all p on =
     let low : k < size_of base = omega (arith, place_within base p on) in
     let is : pixel_after base k ≡ p =
     same_place width (mask_of base).height (pixel_after base k) p (cell_lies base k low) on (cell_is base k) in
-    subst (λ (q : Pixel). Contains w.facts (planted_fact w q)) is (done.planted k (omega (arith, low, all)))
+    subst (λ (q : Pixel). Contains w.facts (planted_fact w q)) is
+    (done.planted k (omega arith) (omega (arith, low, all)))

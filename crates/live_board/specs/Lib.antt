@@ -6,6 +6,7 @@ pub use Rattle.grid_core.specs.Reconstruction
 pub use Rattle.pgm_codec.specs.Graymap
 pub mod Codes
 pub mod Stored
+pub mod Blocks
 pub mod Words
 pub mod Rule
 pub mod Steps
@@ -18,4 +19,5 @@ pub mod Reading
 pub mod Floods
 pub mod Flooding
 pub mod Following
+pub mod Bands
 pub mod Laws

@@ -9,17 +9,10 @@ use crate::closing::value_in;
 use crate::draft::Draft;
 use crate::fact::{Fact, LEVELS};
 use crate::hand::HandSeat;
-use crate::strips::Strips;
 use grid_core::laws::cells_given_back;
 use grid_core::{Grid, Pixel, Rect};
 use raster_sweeps::grow_within;
 use std::marker::Brand;
-
-// How often a hand looks for a strip before it is done.
-const VAIN: u64 = 4096;
-
-// How many pixels a hand follows at once beyond the rows that it flooded.
-const FEW: u64 = 128;
 
 /// What a flood came to.
 #[derive(Clone, Copy, Debug, PartialEq, Eq)]
@@ -37,7 +30,7 @@ impl HandSeat {
     ghost use Rattle.grid_core.specs.Raster.{IsBelow, IsFilled};
     ghost use Rattle.live_board.specs.Flooding.{AreFounded, AreLow, HasGivenOut, HasLevel, HasLifted, HasPassedOn};
     ghost use Rattle.live_board.specs.Flooding.{HasTakenIn, IsFounded, IsRowKnown};
-    ghost use Rattle.live_board.specs.Floods.{HasFlooded, HasFollowed, IsDraftOf, IsStripsOf};
+    ghost use Rattle.live_board.specs.Floods.{HasFlooded, HasFollowed, IsDraftOf};
     ghost use Rattle.live_board.specs.Rounds.{pixel_after};
     ghost use Rattle.live_board.specs.Seats.{IsHandOf, ground_of, hand_view};
     ghost use Rattle.live_board.specs.Words.{mask_of, max_board, size_of};
@@ -75,25 +68,6 @@ impl HandSeat {
         ensures followed { HasFollowed (ground_of board.now) first end result
             (hand_view self.old) (hand_view self.new) }
     {
-        self.flood_edges(board, first, end, draft).0
-    }
-
-    // The same, and how many pixels rose by the first and the last row.
-    fn flood_edges(
-        &mut self,
-        board: &Board,
-        first: u32,
-        end: u32,
-        draft: &mut Draft,
-    ) -> (Reach, u64)
-        requires hand { IsHandOf board.now self.old }
-        requires draft { IsDraftOf board.now draft.old }
-        requires rows { (first < end) × (end ≤ (mask_of (ground_of board.now)).height) }
-        ensures hand { IsHandOf board.now self.new }
-        ensures draft { IsDraftOf board.now draft.new }
-        ensures followed { HasFollowed (ground_of board.now) first end result.0
-            (hand_view self.old) (hand_view self.new) }
-    {
         self.start(board);
         let width = board.width();
         let (from, to) = (
@@ -118,72 +92,11 @@ impl HandSeat {
         let rose = self.give_out(board, from, to, draft.image.cells());
         let above = self.pass_on(board, first, &draft.image);
         let below = self.pass_on(board, end - 1, &draft.image);
-        let reach = told(first, end, board.height(), (rose, above, below));
-        (reach, above + below)
-    }
-
-    /// Floods strips, at most so many at once, and marks those in which its floods name rows. It begins with those from
-    /// `near` on, and is done where it has looked for one in vain again and again. It answers how often it flooded.
-    ///
-    /// Several hands that do so in threads, over the same strips, flood the board together. Who is the last to mark a
-    /// strip floods it, if nobody else does.
-    pub fn flood_strips(
-        &mut self,
-        board: &Board,
-        strips: &Strips,
-        near: usize,
-        most: usize,
-        draft: &mut Draft,
-    ) -> u64
-        requires hand { IsHandOf board.now self.old }
-        requires draft { IsDraftOf board.now draft.old }
-        requires strips { IsStripsOf board.now strips.now }
-        ensures hand { IsHandOf board.now self.new }
-        ensures draft { IsDraftOf board.now draft.new }
-    {
-        let (mut floods, mut vain) = (0, 0);
-        for turn in 0..u64::MAX {
-            match strips.take(near, most) {
-                Some((first, end)) => {
-                    self.flood_rows(board, strips, (first, end), draft);
-                    vain = turn;
-                    floods += 1;
-                }
-                None => {
-                    if turn - vain >= VAIN {
-                        break;
-                    }
-                }
-            }
-        }
-        floods
-    }
-
-    // Floods rows. Where few pixels rose beside them it follows these, and it marks the strips of what it leaves.
-    fn flood_rows(&mut self, board: &Board, strips: &Strips, rows: (u32, u32), draft: &mut Draft)
-        requires hand { IsHandOf board.now self.old }
-        requires draft { IsDraftOf board.now draft.old }
-        requires rows { (rows.0 < rows.1) × (rows.1 ≤ (mask_of (ground_of board.now)).height) }
-        ensures hand { IsHandOf board.now self.new }
-        ensures draft { IsDraftOf board.now draft.new }
-    {
-        let (first, end) = rows;
-        let (reach, rose) = self.flood_edges(board, first, end, draft);
-        if rose > FEW {
-            strips.mark(reach.first, first);
-            strips.mark(end, reach.end);
-            return;
-        }
-        for row in reach.first..first {
-            self.follow_row(board, strips, row, draft);
-        }
-        for row in end..reach.end {
-            self.follow_row(board, strips, row, draft);
-        }
+        told(first, end, board.height(), (rose, above, below))
     }
 
     // Reads the cells from `from` to before `to` into the image.
-    fn draw(&mut self, board: &Board, from: usize, to: usize, image: &mut Grid)
+    pub(crate) fn draw(&mut self, board: &Board, from: usize, to: usize, image: &mut Grid)
         requires hand { IsHandOf board.now self.old }
         requires image { IsBelow image.old (mask_of (ground_of board.now)) }
         requires cells { (from ≤ to) × (to ≤ size_of (ground_of board.now)) }
@@ -217,7 +130,7 @@ impl HandSeat {
     }
 
     // Reads the pixel of a cell: its value in the hand's generation, or 0 where it has none.
-    fn level(&mut self, board: &Board, cell: usize) -> u16
+    pub(crate) fn level(&mut self, board: &Board, cell: usize) -> u16
         requires hand { IsHandOf board.now self.old }
         requires cell { cell < size_of (ground_of board.now) }
         ensures hand { IsHandOf board.now self.new }
@@ -231,7 +144,7 @@ impl HandSeat {
     }
 
     // Raises the pixels of the cells from `from` to before `to` to what these have. It answers how many rose.
-    fn give_out(&mut self, board: &Board, from: usize, to: usize, cells: &[u16]) -> u64
+    pub(crate) fn give_out(&mut self, board: &Board, from: usize, to: usize, cells: &[u16]) -> u64
         requires hand { IsHandOf board.now self.old }
         requires cells { (from ≤ to) × (to ≤ length cells.now) }
         requires long { length cells.now ≡ size_of (ground_of board.now) }

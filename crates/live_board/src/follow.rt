@@ -5,7 +5,6 @@ use crate::draft::Draft;
 use crate::fact::{Fact, Seen};
 use crate::flood::Reach;
 use crate::hand::HandSeat;
-use crate::strips::Strips;
 use crate::trail::Trail;
 use grid_core::Pixel;
 
@@ -63,7 +62,7 @@ impl HandSeat {
 
     // The same with the pixels of a row beside the fact's column if `sides`, and the one in it if `middle`, all of them
     // beside the fact's pixel.
-    fn trail_row(
+    pub(crate) fn trail_row(
         &mut self,
         board: &Board,
         from: Fact,
@@ -127,7 +126,7 @@ impl HandSeat {
 
     // Spreads what waits, and what rises by it, the last first, until nothing waits or it has done so many. It answers
     // how many rose.
-    fn serve(&mut self, board: &Board, trail: &mut Trail) -> u64
+    pub(crate) fn serve(&mut self, board: &Board, trail: &mut Trail) -> u64
         requires hand { IsHandOf board.now self.old }
         requires trail { IsTrailOf (ground_of board.now) (hand_view self.old) trail.old }
         ensures hand { IsHandOf board.now self.new }
@@ -202,34 +201,6 @@ impl HandSeat {
             Seen::Value(fact) => trail.note(fact),
             Seen::Older => {}
             Seen::Newer => {}
-        }
-    }
-
-    // Grows from the pixels of a row, and marks the strips of what has not spread.
-    pub(crate) fn follow_row(&mut self, board: &Board, strips: &Strips, y: u32, draft: &mut Draft)
-        requires hand { IsHandOf board.now self.old }
-        requires draft { IsDraftOf board.now draft.old }
-        requires row { y < (mask_of (ground_of board.now)).height }
-        ensures hand { IsHandOf board.now self.new }
-        ensures draft { IsDraftOf board.now draft.new }
-    {
-        draft.trail.clear();
-        self.read_row(board, y, &mut draft.trail);
-        self.serve(board, &mut draft.trail);
-        draft.trail.name_all(board.height());
-        strips.mark(draft.trail.first, draft.trail.end);
-    }
-
-    // Reads the pixels of a row, and lets what they have wait.
-    fn read_row(&mut self, board: &Board, y: u32, trail: &mut Trail)
-        requires hand { IsHandOf board.now self.old }
-        requires row { y < (mask_of (ground_of board.now)).height }
-        requires trail { IsTrailOf (ground_of board.now) (hand_view self.old) trail.old }
-        ensures hand { IsHandOf board.now self.new }
-        ensures trail { IsTrailOf (ground_of board.now) (hand_view self.new) trail.new }
-    {
-        for x in 0..board.width() {
-            self.read_in(board, Pixel { x, y }, trail);
         }
     }
 }

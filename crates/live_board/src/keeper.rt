@@ -5,6 +5,7 @@ ghost use Rattle.std.specs.Prelude.{[], IsTrue, ◌≡◌, ◌≤◌};
 ghost use Rattle.grid_core.specs.Stored.{raster_code};
 ghost use Rattle.live_board.specs.Words.{KnowsMarker, max_generation};
 
+use crate::blocks::{BLOCK, are_nowhere_above, is_nowhere_above};
 use crate::board::Board;
 use crate::cells::lift_cell;
 use crate::error::Spent;
@@ -37,11 +38,11 @@ pub struct KeeperSeat {
 
 impl KeeperSeat {
     ghost use Rattle.std.specs.Coded.{Coded-set};
-    ghost use Rattle.std.specs.Prelude.{◌<◌, IfErr, IsTrue, MatchResult, OnErr, OnOk, [], ◌≡◌, ◌≤◌};
+    ghost use Rattle.std.specs.Prelude.{◌<◌, IfErr, IsTrue, MatchResult, OnErr, OnOk, [], ◌↔◌, ◌≡◌, ◌≤◌};
     ghost use Rattle.grid_core.specs.Raster.{IsBelow, IsSized, value_at};
     ghost use Rattle.grid_core.specs.Stored.{raster_code};
     ghost use Rattle.live_board.specs.Closing.{AreAllPlanted};
-    ghost use Rattle.live_board.specs.Planting.{HasPlantedCell, KnowsImage};
+    ghost use Rattle.live_board.specs.Planting.{HasPlantedCell, HasPlantedIn, KnowsImage};
     ghost use Rattle.live_board.specs.Rounds.{pixel_after};
     ghost use Rattle.live_board.specs.Seats.{Adds, HasAdvanced, HasRisen, IsKeeperOf, ground_of, keeper_view};
     ghost use Rattle.live_board.specs.Seats.{planted_fact};
@@ -55,6 +56,15 @@ impl KeeperSeat {
         // For its clause alone: the marker has a size.
         let _ = self.marker.width();
         &self.marker
+    }
+
+    /// Whether a marker is nowhere below the present one.
+    pub fn is_below(&self, marker: &Grid) -> bool
+        ensures { IsTrue result ↔ IsBelow (keeper_view self.now).marker marker.now }
+    {
+        let same_size = self.marker.width() == marker.width()
+            && self.marker.height() == marker.height();
+        same_size && are_nowhere_above(self.marker.cells(), marker.cells())
     }
 
     /// Begins the next generation, with another marker: no pixel has a value in it yet.
@@ -168,10 +178,29 @@ impl KeeperSeat {
         ensures marker { (keeper_view self.new).marker ≡ (keeper_view self.old).marker }
         ensures planted { AreAllPlanted (ground_of board.now) (keeper_view self.new) }
     {
-        for cell in 0..board.size() {
-            self.plant_where_risen(board, before, cell);
+        let size = board.size();
+        for block in 0..size.div_ceil(BLOCK) {
+            let from = block * BLOCK;
+            self.plant_block(board, before, from, size.min(from + BLOCK));
         }
         self.is_planted = true;
+    }
+
+    // Plants each pixel of the cells from `from` to before `to`, unless it was planted as high by the image.
+    fn plant_block(&mut self, board: &Board, before: &Grid, from: usize, to: usize)
+        requires keeper { IsKeeperOf board.now self.old }
+        requires cells { (from ≤ to) × (to ≤ size_of (ground_of board.now)) }
+        requires before { IsBelow before.now (keeper_view self.old).marker }
+        requires known { KnowsImage (ground_of board.now) before.now (keeper_view self.old) }
+        ensures keeper { IsKeeperOf board.now self.new }
+        ensures planted { HasPlantedIn (ground_of board.now) from to (keeper_view self.old) (keeper_view self.new) }
+    {
+        if is_nowhere_above(self.marker.cells(), before.cells(), from, to) {
+            return;
+        }
+        for cell in from..to {
+            self.plant_where_risen(board, before, cell);
+        }
     }
 
     // Plants the pixel of a cell, unless it was planted as high by the image.

@@ -23,6 +23,8 @@
 //!
 //! Read on in `specs/Rule.antt`, which has the rule, and in `specs/Seats.antt`, which says what each seat's call does.
 
+mod band;
+mod blocks;
 mod board;
 mod cells;
 mod closing;

@@ -60,7 +60,7 @@ fn bring(board: &Board, seat: &mut KeeperSeat, marker: Grid) -> Result<bool, Mir
     ensures spent { IfErr result (λ e. (e ≡ errors.Spent) × ((keeper_view seat.old).generation ≡ max_generation)
         × (IsBelow (keeper_view seat.old).marker marker → ⊥)) }
 {
-    if seat.marker().is_below(&marker) {
+    if seat.is_below(&marker) {
         seat.raise_planted(board, marker);
         return Ok(false);
     }

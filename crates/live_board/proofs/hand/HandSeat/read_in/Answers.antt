@@ -1,4 +1,4 @@
-use Rattle.std.proofs.Common.{◌<◌, arith, subst, ◌≡◌}
+use Rattle.std.proofs.Common.{arith, subst}
 use Rattle.live_board.proofs.Following.{read_is_known, read_is_on, read_none, trail_after, trail_noted}
 use Rattle.live_board.specs.{Following.IsLeft, Seats.ground_of, Seats.hand_view}
 use Rattle.live_board.specs.declared.fact.Seen.TheVariants.{Newer, Older}

@@ -1,4 +1,4 @@
-use Rattle.std.proofs.Common.{◌*◌, ◌+◌, arith, ℕ, ◌≤◌}
+use Rattle.std.proofs.Common.{arith}
 use Rattle.live_board.proofs.Following.{grows_more, grows_one, grows_same, none_left, trail_next}
 use Rattle.live_board.specs.{Seats.ground_of, Seats.hand_view}
 use Rattle.live_board.proofs.hand.HandSeat.serve.Goals as goal

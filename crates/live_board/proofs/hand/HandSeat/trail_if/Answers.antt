@@ -1,9 +1,9 @@
 use Rattle.std.proofs.Common.{ap, arith, min, subst, sym, ℕ, ◌∙◌, ◌≡◌, ◌≤◌}
-use Rattle.grid_core.specs.{Raster.value_at, declared.pixel.Pixel.Pixel}
+use Rattle.grid_core.specs.{declared.pixel.Pixel.Pixel}
 use Rattle.live_board.proofs.Following.{raised_is_known, trail_after, trail_noted, trails_fell, trails_rose}
 use Rattle.live_board.proofs.Rounds.{if_there}
-use Rattle.live_board.specs.Following.{IsLeft, IsTrailOf, Trails}
-use Rattle.live_board.specs.Seats.{IsBeside, IsFactOf, ground_of, hand_view, raised_fact}
+use Rattle.live_board.specs.Following.{IsLeft}
+use Rattle.live_board.specs.Seats.{IsFactOf, ground_of, hand_view, raised_fact}
 use Rattle.live_board.specs.{Words.fact, Words.mask_of, declared.fact.Fact.Fact}
 use Rattle.live_board.proofs.hand.HandSeat.trail_if.Goals as goal
 

@@ -5,12 +5,12 @@ use Rattle.live_board.specs.Seats.{ground_of, keeper_view}
 use Rattle.live_board.proofs.keeper.KeeperSeat.plant_all.Goals as goal
 
 pub loop-cell-init : goal.loop-cell-init
-loop-cell-init c = (c.requires.keeper, planted_none (ground_of c.args.board.now) (keeper_view c.args.self.now))
+loop-cell-init c = (c.requires.keeper, planted_none (ground_of c.args.board.now) 0 (keeper_view c.args.self.now))
 
 pub loop-cell-preserved : goal.loop-cell-preserved
 loop-cell-preserved c = (
   c.plant_cell.ensures.keeper,
-  planted_more (ground_of c.args.board.now) c.loop-cell.cell (keeper_view c.args.self.now)
+  planted_more (ground_of c.args.board.now) 0 c.loop-cell.cell (keeper_view c.args.self.now)
       (keeper_view c.loop-cell.self) (keeper_view c.plant_cell.new.self) c.loop-cell.invariant.1 c.plant_cell.ensures.planted,
 )
 

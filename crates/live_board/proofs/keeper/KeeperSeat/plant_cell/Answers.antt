@@ -1,6 +1,6 @@
 use Rattle.std.proofs.Common.{◌*◌, ◌+◌, ◌<◌, ap₂, arith, subst, sym, ℕ, ◌∙◌, ◌≡◌}
 use Rattle.grid_core.proofs.Cells.{below_at_each_pixel}
-use Rattle.grid_core.specs.{Raster.IsBelow, Raster.IsFilled, Raster.Raster, Raster.value_at, declared.pixel.Pixel.Pixel}
+use Rattle.grid_core.specs.{Raster.IsBelow, Raster.IsFilled, Raster.value_at, declared.pixel.Pixel.Pixel}
 use Rattle.live_board.proofs.{Allowed.may_plant, Flooding.cell_is, Planted.cell_by_step, Planted.cell_lies}
 use Rattle.live_board.proofs.{Planted.still_known, Telling.adds_number}
 use Rattle.live_board.specs.{Rounds.pixel_after, Seats.Adds, Seats.ground_of, Seats.keeper_view, Seats.planted_fact}

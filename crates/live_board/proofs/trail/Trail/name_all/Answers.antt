@@ -1,5 +1,5 @@
-use Rattle.std.proofs.Common.{◌+◌, ◌<◌, ap, arith, Contains, List, get_or, le_refl, length, subst, sym, take, ℕ, ◌∙◌}
-use Rattle.std.proofs.Common.{◌≡◌, ◌≤◌, ◌⊎◌}
+use Rattle.std.proofs.Common.{◌<◌, ap, arith, Contains, List, get_or, length, subst, sym, take, ℕ, ◌∙◌}
+use Rattle.std.proofs.Common.{◌≡◌, ◌≤◌}
 use Rattle.std.proofs.lemmas.{List.take_all, List.Elements.Contains-get_or}
 use mathlib.Core.Logic.{⊎_elim}
 use Rattle.live_board.proofs.Following.{taken_cases}

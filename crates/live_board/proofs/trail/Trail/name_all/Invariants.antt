@@ -1,4 +1,4 @@
-use Rattle.std.proofs.Common.{Contains, ◌<◌, ◌≡◌, ◌≤◌, take}
+use Rattle.std.proofs.Common.{Contains, ◌≡◌, ◌≤◌, take}
 use Rattle.live_board.specs.{Following.IsNamed, declared.fact.Fact.Fact}
 use Rattle.live_board.proofs.trail.Trail.name_all.Given as goal
 

@@ -1,21 +1,20 @@
-use Rattle.std.proofs.Common.{arith, false, refl, subst, sym, true, Bool, IsTrue, ◌↔◌, ◌≡◌}
+use Rattle.std.proofs.Common.{arith, false, refl, true, Bool, IsTrue, ◌↔◌, ◌≡◌}
 use Rattle.grid_core.specs.Raster.{IsBelow, Raster}
 use Rattle.studio.proofs.keeper.mirroring.bring.Goals as goal
 use Rattle.studio.proofs.keeper.mirroring.bring.Goals.{in-Err, in-Ok}
 
 -- a marker that was found not to be below
-falls : (old found marker : Raster) (is_below : Bool) → found ≡ old → (IsTrue is_below ↔ IsBelow found marker)
-    → is_below ≡ false → IsBelow old marker → ⊥
-falls old found marker is_below same is above below =
-    let true_is : is_below ≡ true = is.1 (subst (λ (r : Raster). IsBelow r marker) (sym same) below) in
+falls : (old marker : Raster) (is_below : Bool) → (IsTrue is_below ↔ IsBelow old marker) → is_below ≡ false
+    → IsBelow old marker → ⊥
+falls old marker is_below is above below =
+    let true_is : is_below ≡ true = is.1 below in
     absurd cc
 
 pub raise_planted-requires-clause-keeper : goal.raise_planted-requires-clause-keeper
 raise_planted-requires-clause-keeper c = c.requires.seat
 
 pub raise_planted-requires-clause-above : goal.raise_planted-requires-clause-above
-raise_planted-requires-clause-above c = subst (λ (old : Raster). IsBelow old c.args.marker) c.marker.ensures.value
-    (c.is_below.ensures.0 c.if-is_below.true)
+raise_planted-requires-clause-above c = c.is_below.ensures.0 c.if-is_below.true
 
 pub raise_planted-requires-clause-below : goal.raise_planted-requires-clause-below
 raise_planted-requires-clause-below c = c.requires.below
@@ -25,8 +24,7 @@ returns-then-is_below-clause-seat c = c.raise_planted.ensures.keeper
 
 pub returns-then-is_below-clause-brought : goal.returns-then-is_below-clause-brought
 returns-then-is_below-clause-brought c =
-    let rises = subst (λ (old : Raster). IsBelow old c.args.marker) c.marker.ensures.value
-    (c.is_below.ensures.0 c.if-is_below.true) in
+    let rises = c.is_below.ensures.0 c.if-is_below.true in
     record {
       marker_is = c.raise_planted.ensures.marker;
       advanced_is = ((λ advanced. absurd cc), λ none. absurd (none rises));
@@ -50,7 +48,7 @@ returns-clause-brought c =
           rw w.result-is (record {
             marker_is = advanced.marker_is;
             advanced_is = (
-              (λ yes. falls _ _ _ _ c.marker.ensures.value c.is_below.ensures c.if-is_below.false),
+              (λ yes. falls _ _ _ c.is_below.ensures c.if-is_below.false),
               λ other. refl,
             );
             generation = omega (arith, advanced.generation_is);
@@ -73,7 +71,7 @@ returns-clause-spent c =
       | in-Err w ↦ rw w.result-is (
         refl,
         w.in-Err.ensures.spent,
-        falls _ _ _ _ c.marker.ensures.value c.is_below.ensures c.if-is_below.false,
+        falls _ _ _ c.is_below.ensures c.if-is_below.false,
       )
     ]
 

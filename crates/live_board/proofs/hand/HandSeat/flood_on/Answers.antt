@@ -6,7 +6,7 @@ use Rattle.live_board.proofs.Flooding.{later_by}
 use Rattle.live_board.specs.Flooding.{AreFounded, HasGivenOut, HasTakenIn, IsReachOf}
 use Rattle.live_board.specs.{Seats.ground_of, Seats.hand_view, Words.mask_of}
 use Rattle.raster_sweeps.specs.Regrowth.{IsRegrownIn}
-use Rattle.live_board.proofs.hand.HandSeat.flood_edges.Goals as goal
+use Rattle.live_board.proofs.hand.HandSeat.flood_on.Goals as goal
 
 pub give_out-rose-requires-clause-founded : goal.give_out-rose-requires-clause-founded
 give_out-rose-requires-clause-founded c =
@@ -100,6 +100,6 @@ returns-clause-followed c =
           c.give_out-rose.ensures.given;
       up = c.pass_on-above.ensures.passed;
       down = c.pass_on-below.ensures.passed;
-    }) c.told-reach.result c.told-reach.ensures.rose
-    (subst (λ (z : ℕ). IsReachOf first end z c.pass_on-above.result c.pass_on-below.result c.told-reach.result)
-    c.height.ensures.value c.told-reach.ensures.reach)
+    }) c.told.result c.told.ensures.rose
+    (subst (λ (z : ℕ). IsReachOf first end z c.pass_on-above.result c.pass_on-below.result c.told.result)
+    c.height.ensures.value c.told.ensures.reach)
