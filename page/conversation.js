@@ -4,9 +4,10 @@
 const REST = 150, REST_WHILE_GROWING = 4, MOST_REST = 5000;
 const restBehind = failures => Math.min(250 * 2 ** failures, MOST_REST);
 const TELLING_FAILURES = 3;  // so many, and the page asks for a new address
-// Behind an answer of many bytes of samples the page asks for numbers alone, for so many milliseconds while the image
-// grows: most of those samples change again.
-const MANY_BYTES = 1 << 20, MOST_NUMBERS = 100, NO_SAMPLES = "1000000000000000000";  // (a step that no board comes to)
+// Where many tiles are left to grow, or an answer has brought many bytes of samples while the image grows, the page
+// asks for numbers alone, for so many milliseconds: most of what it would be told changes again.
+const MANY_TILES = 256, MANY_BYTES = 1 << 20, MOST_NUMBERS = 100;
+const NO_SAMPLES = "1000000000000000000";  // a step that no board comes to
 const looking = { samplesFrom: 0 };  // when they are asked for again
 const silence = { failures: 0 };
 const ALL_SAVED = { failures: 0, code: "", next: 0 };
@@ -36,10 +37,10 @@ function nextEdit() {
 /** Sends an edit, or looks for news. */
 async function exchange() {
   const edit = nextEdit();
-  if (!edit && !board.isQuiet && performance.now() < looking.samplesFrom) return lookForNumbers();
+  if (!edit && performance.now() < looking.samplesFrom && await isGrowing()) return;
   const response = await (edit ? post(edit) : look());
   if (edit && response.status !== 200) return turnDown(edit, response);
-  const answer = readAnswer(bytesOf(edit?.path === "state" ? await look() : response));
+  const answer = readAnswer(bytesOf(edit ? await newsBehind(edit, response) : response));
   if (answer.run !== board.run && !isSameMask(readImage(await fetchBytes("mask")))) return closeBoard();
   takeAnswer(answer);
   if (edit) finish(edit, answer);
@@ -49,17 +50,33 @@ async function exchange() {
 const moment = () => `run=${board.run}&since=${board.step}`;
 const look = () => request(`changes?${moment()}`);
 
-/** Looks how much is left to grow, without samples. Where it is nothing they are asked for at once. */
-async function lookForNumbers() {
-  const { run, isQuiet, tilesLeft } = readAnswer(bytesOf(await request(`changes?run=${board.run}&since=${NO_SAMPLES}`)));
-  if (isQuiet || run !== board.run) looking.samplesFrom = 0;
-  else board.tilesLeft = tilesLeft;
+/** Looks how much is left to grow, without samples. It says whether they are still to be waited for. */
+async function isGrowing() {
+  const response = await request(`changes?run=${board.run}&since=${NO_SAMPLES}`);
+  const { run, isQuiet, tilesLeft } = readAnswer(bytesOf(response));
+  if (isQuiet || run !== board.run) return false;
+  board.tilesLeft = tilesLeft;
   sayBoard();
+  return true;
 }
 
-/** Posts an edit. A state file is posted without a moment, so what is new is asked for behind it. */
-function post({ path, body }) {
-  return request(path === "edits" ? `edits?${moment()}` : path, { method: "POST", body });
+/**
+ * Posts an edit. A state file is posted without a moment, and a withdrawal, which may change all of the image twice,
+ * with one that brings no samples. What is new is asked for behind them.
+ */
+function post({ path, body, withdrawn }) {
+  const since = withdrawn.length > 0 ? NO_SAMPLES : board.step;
+  return request(path === "edits" ? `edits?run=${board.run}&since=${since}` : path, { method: "POST", body });
+}
+
+/** What is new behind an edit: its answer, or what is asked for behind it, once little is left to grow. */
+async function newsBehind({ path, withdrawn }, response) {
+  if (path === "state") return look();
+  if (withdrawn.length === 0) return response;
+  const { tilesLeft } = readAnswer(bytesOf(response));
+  const end = performance.now() + (tilesLeft < MANY_TILES ? 0 : MOST_NUMBERS);
+  while (performance.now() < end && outbox.length === 1 && await isGrowing()) await rest(REST_WHILE_GROWING);
+  return look();
 }
 
 /** The lines up to the first empty one, and the samples behind it. */
@@ -98,7 +115,7 @@ function takeAnswer(answer) {
   noteNews(answer);
   const { run, step, isQuiet, tilesLeft } = answer;
   Object.assign(board, { run, step, isQuiet, tilesLeft });
-  looking.samplesFrom = answer.samples.length < MANY_BYTES ? 0 : performance.now() + MOST_NUMBERS;
+  looking.samplesFrom = isQuiet || answer.samples.length < MANY_BYTES ? 0 : performance.now() + MOST_NUMBERS;
 }
 
 function takeRectangles({ rectangles, samples }) {

@@ -20,7 +20,7 @@ async function request(path, options = {}, told = () => {}) {
     const response = await fetch(path, { cache: "no-store", signal: controller.signal, ...options });
     const total = Number(response.headers.get("Content-Length"));
     const { status, headers } = response;
-    return { status, headers, bytes: await readPieces(response, read => {
+    return { status, headers, bytes: await readPieces(response, total, read => {
       clearTimeout(limit);
       limit = giveUpIn(PATIENCE);
       told(read, total);
@@ -32,26 +32,24 @@ async function request(path, options = {}, told = () => {}) {
   }
 }
 
-/** All bytes of an answer; behind each piece it is told how many were read. */
-async function readPieces(response, told) {
-  const reader = response.body.getReader(), pieces = [];
-  let count = 0;
+/** All bytes of an answer that is said to have so many; behind each piece it is told how many were read. */
+async function readPieces(response, total, told) {
+  const reader = response.body.getReader();
+  let bytes = new Uint8Array(total), count = 0;
   for (let next = await reader.read(); !next.done; next = await reader.read()) {
-    pieces.push(next.value);
+    if (count + next.value.length > bytes.length) bytes = withRoom(bytes, count + next.value.length);
+    bytes.set(next.value, count);
     count += next.value.length;
     told(count);
   }
-  return pieces.length === 1 ? pieces[0] : inOne(pieces, count);
+  return bytes.subarray(0, count);
 }
 
-function inOne(pieces, count) {
-  const bytes = new Uint8Array(count);
-  let place = 0;
-  for (const piece of pieces) {
-    bytes.set(piece, place);
-    place += piece.length;
-  }
-  return bytes;
+/** The same bytes, with room for so many, and for more where there will be more. */
+function withRoom(bytes, count) {
+  const larger = new Uint8Array(Math.max(count, 2 * bytes.length));
+  larger.set(bytes);
+  return larger;
 }
 
 function bytesOf({ status, bytes }) {
