@@ -329,7 +329,8 @@ def tell(words, program, browser, page, cells):
             times = [timing[key] - timing["begun"] for timing in withdrawn]
             print(f"| a withdrawal, from button up to {name}, ms | {spread(times)} |", flush=True)
         seconds, looker, waiter = withdraw(page, program.address, cells[0], known - WITHDRAWALS)
-        print(f"| a withdrawal beside two that look without a pause, until all is grown and drawn, s | {seconds:.2f} | | |")
+        print("| a withdrawal beside two that look without a pause, until all is grown and drawn, s "
+              f"| {seconds:.2f} | | |")
         print(f"| a look meanwhile, ms | {spread(looker.milliseconds)} |")
         print(f"| a request without pixels while tiles are left, ms | {spread(waiter.in_growth())} |")
         print(f"| most tiles left meanwhile | {max(looker.tiles_left)} | | |")
