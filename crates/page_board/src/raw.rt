@@ -2,10 +2,11 @@
 
 ghost use Rattle.std.specs.Prelude.{◌≡◌, ◌++◌, ◌≤◌, All, IfOk, OnOk, string_bytes};
 ghost use Rattle.std.specs.List.{flat_map};
+ghost use Rattle.grid_core.specs.Rects.{RectFits};
 ghost use Rattle.pgm_codec.specs.Graymap.{IsGraymap};
 ghost use Rattle.pgm_codec.specs.Writing.{raw_header, raw_text, sample_bytes};
 ghost use Rattle.page_board.specs.Changes.{AllFit};
-ghost use Rattle.page_board.specs.Putting.{PutsSamples};
+ghost use Rattle.page_board.specs.Putting.{PutsPart, PutsSamples};
 
 use grid_core::{Grid, Memory, Rect};
 use pgm_codec::{put_samples, sample_len};
@@ -49,11 +50,10 @@ pub(crate) fn push_samples(out: &mut Vec<u8>, maxval: u16, samples: &[u16]) -> R
     Ok(())
 }
 
-/// Adds the samples of an image in rectangles, one after another, each row by row.
+/// Adds the samples of an image in rectangles, one after another, each row by row. It takes no memory but for `out`.
 ///
 /// Errors: out of memory.
 pub(crate) fn push_pixels(
-    alloc: Global,
     out: &mut Vec<u8>,
     image: &Grid,
     maxval: u16,
@@ -65,8 +65,22 @@ pub(crate) fn push_pixels(
         out.new.items) }
 {
     for rect in rects {
-        let part = image.cut(alloc, *rect)?;
-        push_samples(out, maxval, part.cells())?;
+        push_part(out, image, maxval, *rect)?;
+    }
+    Ok(())
+}
+
+// Adds the samples of an image in a rectangle, row by row.
+//
+// Errors: out of memory.
+fn push_part(out: &mut Vec<u8>, image: &Grid, maxval: u16, rect: Rect) -> Result<(), Memory>
+    requires graymap { IsGraymap (record { raster = image.now; maxval = maxval }) }
+    requires fits { RectFits image.now.width image.now.height rect }
+    ensures { OnOk result (PutsPart (record { raster = image.now; maxval = maxval }) rect out.old.items
+        out.new.items) }
+{
+    for y in 0..rect.h {
+        push_samples(out, maxval, image.row_in(rect, y))?;
     }
     Ok(())
 }

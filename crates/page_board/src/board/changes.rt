@@ -39,7 +39,7 @@ impl PageBoard {
         push_tags(&mut out, self.core.state(), &tags)?;
         out.push(b'\n')?;
         out.reserve_exact(pixel_count(&rects).saturating_mul(sample_len(self.maxval)))?;
-        push_pixels(alloc, &mut out, self.core.image(), self.maxval, &rects)?;
+        push_pixels(&mut out, self.core.image(), self.maxval, &rects)?;
         Ok(out)
     }
 
