@@ -1,4 +1,4 @@
--- Handing over a hint keeps a core sound.
+-- Handing over a hint keeps a core sound, and each other hint that waits as good as it was.
 use Rattle.std.proofs.Common.{◌≡◌, ℕ, ◌<◌, ◌≤◌, true, length, refl, sym, ◌∙◌, ap, subst, arith, inl, inr, ◌⊎◌, Contains}
 use Rattle.std.proofs.Common.{Some, None, IsTrue, remove, slice_get}
 use Rattle.std.proofs.{lemmas.Bool.cases_lt, lemmas.Bool.cases_eq, lemmas.List.length-set, lemmas.List.get_or_past}
@@ -73,6 +73,13 @@ module _ (before : Core) (sound : IsSound before) (t i : ℕ) (hint : Hint) (the
     generations = λ u. stays (λ (w : TileWork). w.generation) refl u;
   }
 
+  -- another hint that waits is as good as it was
+  pub lost_told : (p q : Pixel) (told : HasHint before p q) → (told.hint ≡ hint → ⊥) → HasHint lost p q
+  lost_told p q told other = elim (waits_still (tile_of (tiling before) q) told.hint told.waits) [
+    | inl waits ↦ told_after before before.image lost.tiles before.serial lost_rise p q refl told waits
+    | inr same ↦ absurd (other same)
+  ]
+
   lost_work : ((p q : Pixel) → IsOpen (domain before) (mask_at before) (image_at before) p q
       → (told : HasHint before p q) → told.hint ≡ hint → ⊥) → (p q : Pixel)
       → IsOpen (domain before) (mask_at before) (image_at before) p q → HasWork before p q → HasWork lost p q
@@ -80,10 +87,7 @@ module _ (before : Core) (sound : IsSound before) (t i : ℕ) (hint : Hint) (the
       inl (subst IsTrue (sym (stays (λ (w : TileWork). w.dirty) refl (tile_of (tiling before) p))) dirty)
   lost_work needless p q pair (inr (inl out)) =
       inr (inl (λ none. out (sym (stays (λ (w : TileWork). w.out) refl (tile_of (tiling before) p)) ∙ none)))
-  lost_work needless p q pair (inr (inr told)) = elim (waits_still (tile_of (tiling before) q) told.hint told.waits) [
-    | inl waits ↦ inr (inr (told_after before before.image lost.tiles before.serial lost_rise p q refl told waits))
-    | inr same ↦ absurd (needless p q pair told same)
-  ]
+  lost_work needless p q pair (inr (inr told)) = inr (inr (lost_told p q told (needless p q pair told)))
 
   pub lost_sound : ((p q : Pixel) → IsOpen (domain before) (mask_at before) (image_at before) p q
       → (told : HasHint before p q) → told.hint ≡ hint → ⊥) → IsSound lost
@@ -165,6 +169,22 @@ module _ (before : Core) (sound : IsSound before) (t i : ℕ) (hint : Hint) (the
     raised_waited u h waits =
         waited u h (subst (λ hs. Contains hs h) (marked (λ (w : TileWork). w.inbox) (λ w. refl) u) waits)
 
+    -- a hint for a pair that is open still is as good as it was, where the first pixel did not rise
+    pub raised_told : (p q : Pixel) → (p ≡ hint.to_pixel → ⊥)
+        → IsOpen (domain before) (mask_at before) (value_at image) p q → HasHint before p q → HasHint after p q
+    raised_told p q other pair told =
+        let same = elsewhere p pair.from_inside other in
+        elim (waits_still (tile_of (tiling before) q) told.hint told.waits) [
+          | inl waits ↦
+              told_after before image after.tiles before.serial raised_rise p q same told
+              (rw (marked (λ (w : TileWork). w.inbox) (λ w. refl) (tile_of (tiling before) q)) waits)
+          | inr handed ↦
+              let to : q ≡ hint.to_pixel = sym told.to ∙ ap (λ (h : Hint). h.to_pixel) handed in
+              let value : told.hint.value ≡ hint.value = ap (λ (h : Hint). h.value) handed in
+              let at_q : value_at image q ≡ hint.value = rw to at_home in
+              absurd (omega (arith, at_q, value, same, pair.lower, told.enough))
+        ]
+
     -- a pair whose first pixel did not rise
     raised_work : (p q : Pixel) → (p ≡ hint.to_pixel → ⊥) → IsOpen (domain before) (mask_at before) (value_at image) p q
         → HasWork before p q → HasWork after p q
@@ -173,18 +193,7 @@ module _ (before : Core) (sound : IsSound before) (t i : ℕ) (hint : Hint) (the
         let u = tile_of (tiling before) p in
         inr (inl (λ none.
         out (sym (marked (λ (w : TileWork). w.out) (λ w. refl) u ∙ stays (λ (w : TileWork). w.out) refl u) ∙ none)))
-    raised_work p q other pair (inr (inr told)) =
-        let same = elsewhere p pair.from_inside other in
-        elim (waits_still (tile_of (tiling before) q) told.hint told.waits) [
-          | inl waits ↦
-              inr (inr (told_after before image after.tiles before.serial raised_rise p q same told
-              (rw (marked (λ (w : TileWork). w.inbox) (λ w. refl) (tile_of (tiling before) q)) waits)))
-          | inr handed ↦
-              let to : q ≡ hint.to_pixel = sym told.to ∙ ap (λ (h : Hint). h.to_pixel) handed in
-              let value : told.hint.value ≡ hint.value = ap (λ (h : Hint). h.value) handed in
-              let at_q : value_at image q ≡ hint.value = rw to at_home in
-              absurd (omega (arith, at_q, value, same, pair.lower, told.enough))
-        ]
+    raised_work p q other pair (inr (inr told)) = inr (inr (raised_told p q other pair told))
 
     pub raised_sound : IsSound after
     raised_sound =
@@ -204,19 +213,65 @@ module _ (before : Core) (sound : IsSound before) (t i : ℕ) (hint : Hint) (the
               raised_work p q other pair (sound.work p q before_too)
         ])
 
+-- a hint that raises nothing and leaves its inbox stood for no open pair: either it is not present
+pub stale_is_needless : (before : Core) (hint : Hint) → (IsPresent before hint → ⊥) → (p q : Pixel)
+    (told : HasHint before p q) → told.hint ≡ hint → ⊥
+stale_is_needless before hint old p q told handed = old (subst (IsPresent before) handed told.present)
+
+-- or its pixel is as high as it says
+pub same_is_needless : (before : Core) (hint : Hint) → hint.value ≤ image_at before hint.to_pixel → (p q : Pixel)
+    → IsOpen (domain before) (mask_at before) (image_at before) p q → (told : HasHint before p q) → told.hint ≡ hint
+    → ⊥
+same_is_needless before hint enough p q pair told handed =
+    let to : hint.to_pixel ≡ q = sym (ap (λ (h : Hint). h.to_pixel) handed) ∙ told.to in
+    let value : told.hint.value ≡ hint.value = ap (λ (h : Hint). h.value) handed in
+    let at_q : hint.value ≤ image_at before q = subst (λ (r : Pixel). hint.value ≤ image_at before r) to enough in
+    omega (arith, at_q, value, pair.lower, told.enough)
+
+-- a hint that is raised was valid
+valid_hint : (before : Core) (t i : ℕ) (hint : Hint) → IsSound before → hint_at before t i ≡ Some hint
+    → IsValid before t hint
+valid_hint before t i hint sound there =
+    sound.hints t hint (hint_of_tile before t i hint there)
+    (taken_was_there (work_at before t).inbox i hint there)
+
 pub hand_keeps_sound : (before after : Core) (t i : ℕ) (handed : Handed) → IsSound before
     → IsHanded before t i handed after → IsSound after
 hand_keeps_sound before after t i Nothing sound (none, same) = subst IsSound (sym same) sound
 hand_keeps_sound before after t i Stale sound (hint, there, old, same) =
     subst IsSound (sym same) (lost_sound before sound t i hint there
-    (λ p q pair told handed. old (subst (IsPresent before) handed told.present)))
+    (λ p q pair told handed. stale_is_needless before hint old p q told handed))
 hand_keeps_sound before after t i Raised sound (hint, there, present, above, same) =
-    let waits = taken_was_there (work_at before t).inbox i hint there in
-    let valid = sound.hints t hint (hint_of_tile before t i hint there) waits in
-    subst IsSound (sym same) (raised_sound before sound t i hint there valid present above)
+    subst IsSound (sym same) (raised_sound before sound t i hint there (valid_hint before t i hint sound there)
+    present above)
 hand_keeps_sound before after t i Same sound (hint, there, present, enough, same) =
-    subst IsSound (sym same) (lost_sound before sound t i hint there (λ p q pair told handed.
-    let to : hint.to_pixel ≡ q = sym (ap (λ (h : Hint). h.to_pixel) handed) ∙ told.to in
-    let value : told.hint.value ≡ hint.value = ap (λ (h : Hint). h.value) handed in
-    let at_q : hint.value ≤ image_at before q = subst (λ (r : Pixel). hint.value ≤ image_at before r) to enough in
-    omega (arith, at_q, value, pair.lower, told.enough)))
+    subst IsSound (sym same) (lost_sound before sound t i hint there (same_is_needless before hint enough))
+
+-- a hint for a pair that is open afterwards, and whose first pixel did not rise, is as good as it was
+pub hand_keeps_told : (before after : Core) (t i : ℕ) (handed : Handed) (p q : Pixel) → IsSound before
+    → IsHanded before t i handed after → IsOpen (domain before) (mask_at before) (image_at after) p q
+    → image_at after p ≤ image_at before p → HasHint before p q → HasHint after p q
+hand_keeps_told before after t i Nothing p q sound (none, same) pair low told =
+    subst (λ (core : Core). HasHint core p q) (sym same) told
+hand_keeps_told before after t i Stale p q sound (hint, there, old, same) pair low told =
+    subst (λ (core : Core). HasHint core p q) (sym same)
+    (lost_told before sound t i hint there p q told (stale_is_needless before hint old p q told))
+hand_keeps_told before after t i Same p q sound (hint, there, present, enough, same) pair low told =
+    let was : IsOpen (domain before) (mask_at before) (image_at before) p q =
+    subst (λ (core : Core). IsOpen (domain before) (mask_at before) (image_at core) p q) same pair in
+    subst (λ (core : Core). HasHint core p q) (sym same)
+    (lost_told before sound t i hint there p q told (same_is_needless before hint enough p q was told))
+hand_keeps_told before after t i Raised p q sound (hint, there, present, above, same) pair low told =
+    let valid = valid_hint before t i hint sound there in
+    let image : Raster = with_value before.image hint.to_pixel hint.value in
+    let is_open : IsOpen (domain before) (mask_at before) (value_at image) p q =
+    subst (λ (core : Core). IsOpen (domain before) (mask_at before) (image_at core) p q) same pair in
+    let at_most : value_at image p ≤ image_at before p =
+    subst (λ (core : Core). image_at core p ≤ image_at before p) same low in
+    let other : p ≡ hint.to_pixel → ⊥ = λ here.
+    let high = at_home before sound t i hint there valid present above in
+    let there_too : value_at image hint.to_pixel ≤ image_at before hint.to_pixel =
+    subst (λ (r : Pixel). value_at image r ≤ image_at before r) here at_most in
+    omega (arith, high, above, there_too) in
+    subst (λ (core : Core). HasHint core p q) (sym same)
+    (raised_told before sound t i hint there valid present above p q other is_open told)

@@ -1,4 +1,4 @@
--- Joining a swept tile keeps a core sound.
+-- Joining a swept tile keeps a core sound, and tells each open pair that leads out of the tile.
 use Rattle.std.proofs.Common.{◌≡◌, ℕ, ◌<◌, ◌≤◌, max, List, length, map, refl, sym, ◌∙◌, ap, subst, arith, inl, inr, ◌⊎◌}
 use Rattle.std.proofs.Common.{◌≢◌, ◌==◌, Contains, IsTrue, None}
 use Rattle.std.proofs.lemmas.Bool.{cases_lt, cases_eq, eqb-true, eq-eqb}
@@ -233,7 +233,7 @@ module _ (before after : Core) (swept : Swept) (sound : IsSound before) (is_swep
   -- ---- what work is left afterwards
 
   -- an open pair that leads out of the tile has its hint
-  told_outside : (p q : Pixel) → home p ≡ its_tile
+  pub told_outside : (p q : Pixel) → home p ≡ its_tile
       → home q ≢ its_tile → IsOpen (domain before) (mask_at before) (image_at after) p q → HasHint now p q
   told_outside p q from_here to_other pair =
       let (pairs, are_hints) = edges_open sender sound.shape.tiled (tile_within before swept sound known) in
@@ -265,6 +265,20 @@ module _ (before after : Core) (swept : Swept) (sound : IsSound before) (is_swep
         enough = omega arith;
       }
 
+  -- a hint for a pair whose first pixel lies in another tile is as good as it was
+  pub told_elsewhere : (p q : Pixel) → home p ≢ its_tile → Inside (domain before) p → Inside (domain before) q
+      → HasHint before p q → HasHint now p q
+  told_elsewhere p q other inside_p inside_q told =
+      told_after before after.image after.tiles before.serial rise p q (elsewhere p inside_p other) told
+      (waits_still (home q) told.hint (tile_of_pixel before q sound.shape inside_q) told.waits)
+
+  -- and such a pair was open before
+  pub open_elsewhere : (p q : Pixel) → home p ≢ its_tile
+      → IsOpen (domain before) (mask_at before) (image_at after) p q
+      → IsOpen (domain before) (mask_at before) (image_at before) p q
+  open_elsewhere p q other pair =
+      open_before before after.image after.tiles before.serial rise p q (elsewhere p pair.from_inside other) pair
+
   -- an open pair whose first pixel lies in another tile
   work_elsewhere : (p q : Pixel) → home p ≢ its_tile
       → IsOpen (domain before) (mask_at before) (image_at after) p q → HasWork before p q → HasWork now p q
@@ -273,9 +287,7 @@ module _ (before after : Core) (swept : Swept) (sound : IsSound before) (is_swep
       let is_tile = tile_of_pixel before p sound.shape pair.from_inside in
       inr (inl (rw (joined.others (home p) is_tile other) out))
   work_elsewhere p q other pair (inr (inr told)) =
-      inr (inr (told_after before after.image after.tiles before.serial rise p q
-      (elsewhere p pair.from_inside other) told
-      (waits_still (home q) told.hint (tile_of_pixel before q sound.shape pair.to_inside) told.waits)))
+      inr (inr (told_elsewhere p q other pair.from_inside pair.to_inside told))
 
   -- the core is sound once the tile's own open pairs have work
   joined_sound : ((p q : Pixel) → IsOpen (domain before) (mask_at before) (image_at after) p q
@@ -293,21 +305,15 @@ module _ (before after : Core) (swept : Swept) (sound : IsSound before) (is_swep
           | inr to_other ↦ inr (inr (told_outside p q from_here to_other pair))
         ]
         | inr from_other ↦
-            work_elsewhere p q from_other pair (sound.work p q (open_before before after.image after.tiles before.serial
-            rise p q (elsewhere p pair.from_inside from_other) pair))
+            work_elsewhere p q from_other pair (sound.work p q (open_elsewhere p q from_other pair))
       ])
 
-  -- where the image of the tile was the base, it is what the sweep gave
-  new_is_swept : ((p : Pixel) → Inside (local swept) p
-      → image_at before (placed before swept p) ≡ value_at swept.job.base p) → (p : Pixel) → Inside (local swept) p
-      → image_at after (placed before swept p) ≡ value_at swept.pixels p
-  new_is_swept same p inside = omega (arith, base_at_most swept is_swept p inside, same p inside, at_part p inside)
-
-  -- where the image of the tile was the base, no pair of its pixels is open
-  closed_inside : ((p : Pixel) → Inside (local swept) p
-      → image_at before (placed before swept p) ≡ value_at swept.job.base p) → (p q : Pixel)
-      → IsOpen (domain before) (mask_at before) (image_at after) p q → home p ≡ its_tile → home q ≡ its_tile → ⊥
-  closed_inside same p q pair from_here to_here =
+  -- an open pair of the tile's pixels begins at one that was above what the sweep gave
+  above_swept : (p q : Pixel) → IsOpen (domain before) (mask_at before) (image_at after) p q → home p ≡ its_tile
+      → home q ≡ its_tile
+      → (a : Pixel) × Inside (local swept) a × (placed before swept a ≡ p)
+      × (value_at swept.pixels a < image_at before p)
+  above_swept p q pair from_here to_here =
       let (a, inside_a, is_a) = from_image before swept sound known p pair.from_inside from_here in
       let (b, inside_b, is_b) = from_image before swept sound known q pair.to_inside to_here in
       let recon = is_swept.is_reconstruction in
@@ -321,11 +327,40 @@ module _ (before after : Core) (swept : Swept) (sound : IsSound before) (is_swep
       let mask_b : value_at swept.job.mask b ≡ mask_at before q =
       known.mask.values b (in_rect_size before swept sound known b inside_b)
       ∙ ap (λ (r : Pixel). mask_at before r) is_b in
-      let at_a : image_at after p ≡ value_at swept.pixels a =
-      sym (ap (λ (r : Pixel). image_at after r) is_a) ∙ new_is_swept same a inside_a in
-      let at_b : image_at after q ≡ value_at swept.pixels b =
-      sym (ap (λ (r : Pixel). image_at after r) is_b) ∙ new_is_swept same b inside_b in
-      omega (arith, closed, mask_b, at_a, at_b, pair.lower)
+      let at_a : image_at after p ≡ max (image_at before p) (value_at swept.pixels a) =
+      subst (λ (r : Pixel). image_at after r ≡ max (image_at before r) (value_at swept.pixels a)) is_a
+      (at_part a inside_a) in
+      let at_b : image_at after q ≡ max (image_at before q) (value_at swept.pixels b) =
+      subst (λ (r : Pixel). image_at after r ≡ max (image_at before r) (value_at swept.pixels b)) is_b
+      (at_part b inside_b) in (
+        a,
+        inside_a,
+        is_a,
+        elim (cases_lt (value_at swept.pixels a) (image_at before p)) [
+          | inl above ↦ above
+          | inr low ↦ absurd (omega (arith, closed, mask_b, at_a, at_b, pair.lower, low))
+        ],
+      )
+
+  -- so it was open before
+  pub open_inside : (p q : Pixel) → IsOpen (domain before) (mask_at before) (image_at after) p q → home p ≡ its_tile
+      → home q ≡ its_tile → IsOpen (domain before) (mask_at before) (image_at before) p q
+  open_inside p q pair from_here to_here =
+      let (a, inside_a, is_a, above) = above_swept p q pair from_here to_here in
+      let at_a : image_at after p ≡ max (image_at before p) (value_at swept.pixels a) =
+      subst (λ (r : Pixel). image_at after r ≡ max (image_at before r) (value_at swept.pixels a)) is_a
+      (at_part a inside_a) in
+      open_before before after.image after.tiles before.serial rise p q (omega (arith, at_a, above)) pair
+
+  -- where the image of the tile was the base, no pair of its pixels is open
+  pub closed_inside : ((p : Pixel) → Inside (local swept) p
+      → image_at before (placed before swept p) ≡ value_at swept.job.base p) → (p q : Pixel)
+      → IsOpen (domain before) (mask_at before) (image_at after) p q → home p ≡ its_tile → home q ≡ its_tile → ⊥
+  closed_inside same p q pair from_here to_here =
+      let (a, inside_a, is_a, above) = above_swept p q pair from_here to_here in
+      let at_base : image_at before p ≡ value_at swept.job.base a =
+      subst (λ (r : Pixel). image_at before r ≡ value_at swept.job.base a) is_a (same a inside_a) in
+      omega (arith, base_at_most swept is_swept a inside_a, at_base, above)
 
 -- ---- give back
 

@@ -1,4 +1,4 @@
--- Taking a delta keeps a core sound.
+-- Taking a delta keeps a core sound, and each hint from a tile that is not hit as good as it was.
 use Rattle.std.proofs.Common.{◌≡◌, ℕ, ◌<◌, ◌≤◌, max, List, [], ◌∷◌, refl, sym, ◌∙◌, ap, subst, arith, inl, inr}
 use Rattle.std.proofs.Common.{Contains}
 use Rattle.std.proofs.lemmas.Bool.{cases_lt}
@@ -13,7 +13,7 @@ use Rattle.border_queues.specs.{declared.hint.Hint.Hint, TileWork.TileWork}
 use Rattle.core_rules.specs.{Image.IsOpen, Image.IsSupported, Merge.IsKept, Merge.IsMerged, Hints.IsPresent}
 use Rattle.core_rules.specs.Work.{Core, domain, tiling, mask_at, image_at, IsTile, work_at}
 use Rattle.core_rules.specs.Hits.{IsInTile, AreLinked, IsHit}
-use Rattle.core_rules.specs.Invariant.{CanRaise, IsValid, HasWork, IsSound}
+use Rattle.core_rules.specs.Invariant.{CanRaise, IsValid, HasHint, HasWork, IsSound}
 use Rattle.tile_generations.specs.Generations.{max_generation}
 use Rattle.core_rules.proofs.Cores.{tile_of_pixel}
 
@@ -232,6 +232,23 @@ module _ (before after : Core) (delta : State) (turnover : Turnover) (sound : Is
         lower = omega (arith, kept_image q pair.to_inside spared_q, pair.lower, no_rise);
       }
 
+  -- a hint from a tile that is not hit is as good as it was, where the first pixel did not rise
+  pub told_still : (p q : Pixel) → Inside (domain before) p → Inside (domain before) q
+      → image_at after p ≤ image_at before p → IsSpared (home p) → HasHint before p q → HasHint now p q
+  told_still p q inside_p inside_q no_rise spared told =
+      let same = spared_generation (home p) (tile_of_pixel before p sound.shape inside_p) spared in
+      record {
+        hint = told.hint;
+        waits = rw (same_inbox (home q) (tile_of_pixel before q sound.shape inside_q)) told.waits;
+        from = told.from;
+        to = told.to;
+        present = record {
+          is_tile = is_tile_still told.hint.from told.present.is_tile;
+          generation = rw told.from same ∙ told.present.generation;
+        };
+        enough = omega (arith, told.enough, no_rise);
+      }
+
   still_work : (p q : Pixel) → IsOpen (domain before) (mask_at before) (image_at after) p q
       → image_at after p ≤ image_at before p → IsSpared (home p)
       → IsKept before merged.marker after (home p) → HasWork before p q → HasWork now p q
@@ -240,20 +257,7 @@ module _ (before after : Core) (delta : State) (turnover : Turnover) (sound : Is
       let same = ap (λ (w : TileWork). w.out) kept.work in
       inr (inl (λ none. out (sym same ∙ none)))
   still_work p q pair no_rise spared kept (inr (inr told)) =
-      let u = tile_of (tiling before) q in
-      let is_tile_p = tile_of_pixel before p sound.shape pair.from_inside in
-      let same = spared_generation (home p) is_tile_p spared in
-      inr (inr (record {
-        hint = told.hint;
-        waits = rw (same_inbox u (tile_of_pixel before q sound.shape pair.to_inside)) told.waits;
-        from = told.from;
-        to = told.to;
-        present = record {
-          is_tile = is_tile_still told.hint.from told.present.is_tile;
-          generation = rw told.from same ∙ told.present.generation;
-        };
-        enough = omega (arith, told.enough, no_rise);
-      }))
+      inr (inr (told_still p q pair.from_inside pair.to_inside no_rise spared told))
 
   has_work : (p q : Pixel) → IsOpen (domain before) (mask_at before) (image_at after) p q → HasWork now p q
   has_work p q pair = elim (merged.each (home p) (tile_of_pixel before p sound.shape pair.from_inside)) [
@@ -309,3 +313,12 @@ pub merge_keeps_sound : (before after : Core) (delta : State) (turnover : Turnov
     → IsMerged before delta turnover after → IsSound after
 merge_keeps_sound before after delta turnover sound merged =
     subst IsSound (sym merged.rest) (merged_sound before after delta turnover sound merged)
+
+-- a hint from a tile that is not hit is as good as it was, where the first pixel did not rise
+pub merge_keeps_told : (before after : Core) (delta : State) (turnover : Turnover) (p q : Pixel) → IsSound before
+    → IsMerged before delta turnover after → Inside (domain before) p → Inside (domain before) q
+    → image_at after p ≤ image_at before p → (IsHit before after.state (tile_of (tiling before) p) → ⊥)
+    → HasHint before p q → HasHint after p q
+merge_keeps_told before after delta turnover p q sound merged inside_p inside_q no_rise spared told =
+    subst (λ (core : Core). HasHint core p q) (sym merged.rest)
+    (told_still before after delta turnover sound merged p q inside_p inside_q no_rise spared told)

@@ -1,11 +1,12 @@
--- Taking a tile and abandoning a job keep a core sound.
+-- Taking a tile and abandoning a job keep a core sound, and each hint that waits as good as it was.
 use Rattle.std.proofs.Common.{◌≡◌, ℕ, ◌+◌, ◌%◌, ◌^◌, Bool, true, false, refl, sym, subst, arith, inl, inr, ◌⊎◌, ◌≢◌}
 use Rattle.std.proofs.Common.{Contains, Option, Some, None, IsTrue}
 use Rattle.std.proofs.{lemmas.Bool.cases_eq, lemmas.List.length-set}
 use Rattle.grid_core.specs.{declared.pixel.Pixel.Pixel, Tiles.tile_of}
 use Rattle.tile_generations.specs.{declared.ticket.Ticket.Ticket, Jobs.Job}
 use Rattle.core_rules.specs.Work.{Core, tiling, IsTile, work_at, with_work}
-use Rattle.core_rules.specs.{Sweeps.IsTaken, Sweeps.IsAbandoned, Invariant.HasWork, Invariant.IsSound}
+use Rattle.core_rules.specs.{Sweeps.IsTaken, Sweeps.IsAbandoned, Invariant.HasHint, Invariant.HasWork}
+use Rattle.core_rules.specs.Invariant.{IsSound}
 use Rattle.border_queues.specs.TileWork.{TileWork}
 use Rattle.core_rules.proofs.Cores.{work_there, work_elsewhere, field_kept, IsRise, sound_after, told_after, changed}
 
@@ -76,6 +77,13 @@ module _ (before : Core) (sound : IsSound before) (t : ℕ) (is_tile : IsTile be
         | inr other ↦ works_elsewhere p q other (sound.work p q pair)
       ]))
 
+  -- a hint that waits is as good as it was
+  pub marks_told : (p q : Pixel) → HasHint before p q
+      → HasHint (changed before before.image (marks before t dirty out).tiles serial) p q
+  marks_told p q told =
+      told_after before before.image (marks before t dirty out).tiles serial marks_rise p q refl told
+      (subst (λ hs. Contains hs told.hint) (sym (same_inbox (tile_of (tiling before) q))) told.waits)
+
 some_is_out : (serial : ℕ) → Some serial ≢ None
 some_is_out serial equal = absurd cc
 
@@ -91,3 +99,22 @@ pub abandon_keeps_sound : (before after : Core) (ticket : Ticket) (was_out : Boo
 abandon_keeps_sound before after ticket true sound (out, same) =
     subst IsSound (sym same) (marks_sound before sound ticket.tile out.is_tile true None before.serial (inl refl))
 abandon_keeps_sound before after ticket false sound (not_out, same) = subst IsSound (sym same) sound
+
+-- ---- a hint that waits is as good as it was
+
+pub take_keeps_told : (before after : Core) (t : ℕ) (job : Option Job) (p q : Pixel) → IsSound before
+    → IsTaken before t job after → HasHint before p q → HasHint after p q
+take_keeps_told before after t (Some job) p q sound (ready, next, same) told =
+    subst (λ (core : Core). HasHint core p q) (sym same)
+    (marks_told before sound t ready.is_tile false (Some before.serial) ((before.serial + 1) % 2 ^ 64)
+    (inr (some_is_out before.serial)) p q told)
+take_keeps_told before after t None p q sound (unready, same) told =
+    subst (λ (core : Core). HasHint core p q) (sym same) told
+
+pub abandon_keeps_told : (before after : Core) (ticket : Ticket) (was_out : Bool) (p q : Pixel) → IsSound before
+    → IsAbandoned before ticket was_out after → HasHint before p q → HasHint after p q
+abandon_keeps_told before after ticket true p q sound (out, same) told =
+    subst (λ (core : Core). HasHint core p q) (sym same)
+    (marks_told before sound ticket.tile out.is_tile true None before.serial (inl refl) p q told)
+abandon_keeps_told before after ticket false p q sound (not_out, same) told =
+    subst (λ (core : Core). HasHint core p q) (sym same) told

@@ -4,22 +4,21 @@ use Rattle.std.proofs.Common.{inr, refl, subst, sym, ◌∙◌, ◌≢◌, Conta
 use Rattle.std.proofs.lemmas.Bool.{cases_eq, cases_lt, false≢true}
 use Rattle.std.proofs.lemmas.List.{get_or-replicate, get_or-set_same, get_or-set_other, length-set, length-replicate}
 use Rattle.grid_core.specs.{declared.bounds.Bounds.Bounds, declared.conn.Conn.Conn, declared.pixel.Pixel.Pixel}
-use Rattle.grid_core.specs.{declared.rect.Rect.Rect, Rects.IsInRect, Rects.in_image, Path.Inside}
-use Rattle.grid_core.specs.Bounds.{IsInBounds, LieIn, bounds_at, bounds_of, joined, no_bounds}
+use Rattle.grid_core.specs.{Rects.IsInRect, Path.Inside}
+use Rattle.grid_core.specs.Bounds.{IsInBounds, LieIn, bounds_at, joined, no_bounds}
 use Rattle.grid_core.specs.Raster.{Raster, IsFilled, IsInside, index_of, value_at, with_value}
 use Rattle.grid_core.specs.Tiles.{Tiles, IsTiled, count_of, rect_of, tile_of}
 use Rattle.grid_core.proofs.{Cells.index_of-within, Cells.set_is_read, Cells.set_keeps_others, Pixels.same_pixel_or_not}
-use Rattle.grid_core.proofs.{Tilings.each_pixel_in_one_tile, Tilings.tile_pixels, Tilings.tiles_lie_inside}
+use Rattle.grid_core.proofs.{Tilings.each_pixel_in_one_tile, Tilings.tiles_lie_inside}
 use Rattle.tile_work.proofs.OpenBoundsWidened.{widened_by_none, widened_twice}
 use Rattle.tile_work.specs.Renewing.{AreMarkedReset, AreResetsWithin, AreRisesWithin, IsLowBeyond, IsRaisedByTags}
 use Rattle.tile_work.specs.TileSet.{Has}
-use Rattle.tile_work.specs.OpenBounds.{AreWidened, IsWithinItsBounds, LieInTiles, bounds_for}
+use Rattle.tile_work.specs.OpenBounds.{AreWidened, IsWithinItsBounds, bounds_for}
 use Rattle.reset_core.specs.Bounding.{FollowChange, AreBounded}
 use Rattle.border_queues.specs.{OpenEdges.EdgesBeginIn, OpenEdges.sender_by, TileWork.TileWork, TileWork.work_of}
-use Rattle.raster_sweeps.specs.OpenBounds.{OpenPairsBeginIn, RiseWithin}
-use Rattle.core_rules.proofs.Supporting.{neighbours_in_image}
+use Rattle.raster_sweeps.specs.OpenBounds.{RiseWithin}
 use Rattle.core_rules.specs.{Sweeps.tile_rect, Opening.blank, Invariant.IsSound, Runs.HasHints, Runs.NoneOut}
-use Rattle.core_rules.specs.Image.{IsJoinedWith, IsOfSize, IsOpen}
+use Rattle.core_rules.specs.Image.{IsOfSize, IsOpen}
 use Rattle.core_rules.specs.Work.{Core, domain, tiling, mask_at, image_at, IsTile}
 use Rattle.stroke_lattice.specs.State.{State}
 
@@ -84,39 +83,6 @@ follow_twice tiles conn a b c old middle new tiled count first second =
         | inr not ↦ second.fallen p q inside_p inside_q near (omega (arith, fell, not))
       ];
     }
-
--- where the bounds follow the change of the image, nothing area begins outside them afterwards
-pub bounded_still : (core : Core) (image : Raster) (old new : List Bounds) → IsTiled (tiling core)
-    → AreBounded core old → FollowChange (tiling core) core.conn core.image image old new
-    → AreBounded (record core { image = image }) new
-bounded_still core image old new tiled bounded follow = record {
-  count = follow.widened.count ∙ bounded.count;
-  lie = λ t within.
-      let was : t < length old = omega (arith, within, follow.widened.count) in
-      follow.widened.lie t was (bounded.lie t was);
-  begin = λ p q wide.
-      elim (cases_lt (image_at core p) (value_at image p)) [
-        | inl rose ↦ follow.risen p wide.from_inside rose
-        | inr low ↦ elim (cases_lt (value_at image q) (image_at core q)) [
-          | inl fell ↦ follow.fallen p q wide.from_inside wide.to_inside wide.beside fell
-          | inr high ↦
-              follow.widened.kept (tile_of (tiling core) p) p
-              (omega (arith, (each_pixel_in_one_tile (tiling core) p tiled wide.from_inside).0, bounded.count))
-              (bounded.begin p q (record {
-                from_inside = wide.from_inside;
-                to_inside = wide.to_inside;
-                beside = wide.beside;
-                lower = omega (arith, wide.lower, low, high);
-              }))
-        ]
-      ];
-}
-
--- bounds are a matter of mask, neighbours, tiles and image alone
-pub bounded_like : (core : Core) (state : State) (work : List TileWork) (serial : ℕ) (table : List Bounds)
-    → AreBounded core table → AreBounded (record core { state = state; tiles = work; serial = serial }) table
-bounded_like core state work serial table bounded =
-    record { count = bounded.count; lie = bounded.lie; begin = bounded.begin }
 
 -- the bounds of no pixel lie in each tile
 pub none_lie : (tiles : Tiles) (t : ℕ) → IsTiled tiles → t < count_of tiles → LieIn no_bounds (rect_of tiles t)
@@ -276,81 +242,9 @@ pub blank_is_black : (mask : Raster) (p : Pixel) → IsFilled mask → IsInside 
 blank_is_black mask p filled inside =
     get_or-replicate (length mask.cells) (index_of mask.width p) 0 0 (index_of-within mask p filled inside)
 
--- an image rises in one tile alone, and the tile's bounds become those of all of it
-pub follow_tile : (tiles : Tiles) (conn : Conn) (old new : Raster) (table : List Bounds) (t : ℕ) → IsTiled tiles
-    → length table ≡ count_of tiles → t < count_of tiles → LieInTiles tiles table
-    → ((p : Pixel) → IsInside tiles.width tiles.height p → value_at old p ≤ value_at new p)
-    → ((p : Pixel) → IsInside tiles.width tiles.height p → tile_of tiles p ≢ t → value_at new p ≡ value_at old p)
-    → FollowChange tiles conn old new table (set table t (bounds_of (rect_of tiles t)))
-follow_tile tiles conn old new table t tiled count within lay rises beyond =
-    let rect : Rect = rect_of tiles t in
-    let after : List Bounds = set table t (bounds_of rect) in
-    let there : t < length table = omega (arith, within, count) in
-    let here : bounds_for after t ≡ bounds_of rect = get_or-set_same table t (bounds_of rect) no_bounds there in
-    record {
-      widened = record {
-        count = length-set table t (bounds_of rect);
-        kept = λ u p within_u was. elim (cases_eq u t) [
-          | inl same ↦
-              let lies : LieIn (bounds_for table t) rect = lay t there in
-              let inside : IsInBounds (bounds_for table t) p = rw same at was in
-              subst (λ n. IsInBounds (bounds_for after n) p) (sym same) (subst (λ b. IsInBounds b p) (sym here) (
-                omega (arith, inside.0, lies.0),
-                omega (arith, inside.1, lies.1),
-                omega (arith, inside.2, lies.2),
-                omega (arith, inside.3, lies.3),
-              ))
-          | inr other ↦ rw (get_or-set_other table t u (bounds_of rect) no_bounds other) was
-        ];
-        lie = λ u within_u was. elim (cases_eq u t) [
-          | inl same ↦ rw (same, here) (omega arith, omega arith, omega arith, omega arith)
-          | inr other ↦ rw (get_or-set_other table t u (bounds_of rect) no_bounds other) was
-        ];
-      };
-      risen = λ p inside rose. elim (cases_eq (tile_of tiles p) t) [
-        | inl same ↦
-            let found : IsInRect rect p = ((each_pixel_in_one_tile tiles p tiled inside).1 t within).1 same in
-            rw (same, here) (found.0, found.1, found.2, found.3)
-        | inr other ↦ absurd (omega (arith, rose, beyond p inside other))
-      ];
-      fallen = λ p q inside_p inside_q near fell. absurd (omega (arith, fell, rises q inside_q));
-    }
-
--- a swept tile is joined into the image
-pub follow_join : (tiles : Tiles) (conn : Conn) (old new : Raster) (table : List Bounds) (t : ℕ) (piece : Raster)
-    → IsTiled tiles → length table ≡ count_of tiles → t < count_of tiles → LieInTiles tiles table
-    → old.width ≡ tiles.width → old.height ≡ tiles.height → IsJoinedWith (rect_of tiles t) piece old new
-    → FollowChange tiles conn old new table (set table t (bounds_of (rect_of tiles t)))
-follow_join tiles conn old new table t piece tiled count within lay width height joined =
-    let beyond : (p : Pixel) → IsInside tiles.width tiles.height p → tile_of tiles p ≢ t
-    → value_at new p ≡ value_at old p =
-    λ p inside other. joined.beyond p (omega (arith, inside.0, width), omega (arith, inside.1, height))
-    (λ found. other (((each_pixel_in_one_tile tiles p tiled inside).1 t within).0 found)) in
-    follow_tile tiles conn old new table t tiled count within lay (λ p inside. elim (cases_eq (tile_of tiles p) t) [
-      | inl same ↦
-          let r = (tile_pixels tiles t p tiled within).0 (inside, same) in
-          subst (λ q. value_at old q ≤ value_at new q) r.2 (omega (arith, joined.within r.0 r.1))
-      | inr other ↦ omega (arith, beyond p inside other)
-    ]) beyond
-
 -- ---- a tile that is swept in place
 
--- a pair that is area in a tile begins within the tile's bounds
-pub begins_in_tile : (core : Core) (table : List Bounds) (t : ℕ) → IsTiled (tiling core) → AreBounded core table
-    → t < count_of (tiling core)
-    → OpenPairsBeginIn core.conn (tile_rect core t) core.mask core.image (bounds_for table t)
-begins_in_tile core table t tiled bounded within p q wide =
-    let rect : Rect = tile_rect core t in
-    let from = (tile_pixels (tiling core) t (in_image rect p) tiled within).1 (p, wide.from_inside, refl) in
-    let to = (tile_pixels (tiling core) t (in_image rect q) tiled within).1 (q, wide.to_inside, refl) in
-    rw from.1 at (bounded.begin (in_image rect p) (in_image rect q) (record {
-      from_inside = from.0;
-      to_inside = to.0;
-      beside = neighbours_in_image core.conn rect p q wide.beside;
-      lower = wide.lower;
-    }))
-
--- once a tile has grown, an area edge of it begins at a pixel that lay within its bounds or has risen
+-- once a tile has grown, an open edge of it begins at a pixel that lay within its bounds or has risen
 pub edges_begin : (core : Core) (table : List Bounds) (t generation : ℕ) (grown : Raster) (area : Bounds)
     → IsTiled (tiling core) → IsOfSize core.mask core.image → AreBounded core table → t < count_of (tiling core)
     → ((p : Pixel) → IsInside core.image.width core.image.height p
@@ -396,7 +290,7 @@ module _ (before : Core) (t : ℕ) (grown image : Raster) (rows : List TileWork)
   is_tile : (p : Pixel) → Inside (domain before) p → IsTile after (tile_of (tiling before) p)
   is_tile p inside = omega (arith, its_tile p inside, done.shape.tiles)
 
-  -- no work is left that would close a pair that begins in the tile, so none is area
+  -- no work is left that would close a pair that begins in the tile, so none is open
   none_begins : (p q : Pixel) → IsOpen (domain before) (mask_at before) (value_at image) p q
       → tile_of (tiling before) p ≡ t → ⊥
   none_begins p q wide home =
@@ -414,7 +308,7 @@ module _ (before : Core) (t : ℕ) (grown image : Raster) (rows : List TileWork)
         ]
       ]
 
-  -- a pair that begins in another tile was area before, or its first pixel rose by a hint
+  -- a pair that begins in another tile was open before, or its first pixel rose by a hint
   begins_elsewhere : (p q : Pixel) → IsOpen (domain before) (mask_at before) (value_at image) p q
       → tile_of (tiling before) p ≢ t → IsWithinItsBounds (tiling before) told p
   begins_elsewhere p q wide away =
@@ -442,7 +336,7 @@ module _ (before : Core) (t : ℕ) (grown image : Raster) (rows : List TileWork)
         ]
       ]
 
-  -- once a tile is swept and its hints are handed over, nothing area begins in it, so it needs no bounds; elsewhere the
+  -- once a tile is swept and its hints are handed over, nothing open begins in it, so it needs no bounds; elsewhere the
   -- bounds have followed what the hints raised
   pub swept_bounded : AreBounded after told
   swept_bounded = record {

@@ -18,6 +18,7 @@ use Rattle.reset_core.specs.{Bounding.AreBounded, InPlace.IsSweptHere, InPlace.c
 use Rattle.reset_core.specs.{Settling.IsOneWorkedOff}
 use Rattle.reset_core.specs.Telling.{ImageAndWork, image_and_work, all_handed, AreTold, IsGrownAt, clean, grown_core}
 use Rattle.reset_core.specs.Telling.{both, both_on, image_on}
+use Rattle.reset_core.proofs.{BoundedOrTold.bounded_without_hints, BoundedOrTold.told_of_bounded}
 use Rattle.reset_core.proofs.{Bounding.swept_bounded, Storing.stored_still, TellingHands.work_elsewhere_stays}
 use Rattle.reset_core.proofs.{TellingOrder.told_by}
 use Rattle.reset_core.proofs.TellingSweeps.{one_step, rises, worked_parts}
@@ -100,8 +101,9 @@ module _ (edges_open : EdgesAreOpen) (parts : Parts) (stored : IsStored parts) (
 
   bounded : AreBounded (core_of (worked_parts parts s)) new
   bounded =
+      let were = bounded_without_hints before parts.bounds stored.sound left.no_hints stored.bounded in
       swept_bounded before t swept.image s.image s.rows (worked_parts parts s).serial parts.bounds new stored.sound
-      step.1 stored.bounded within grown.beyond never_falls clean_still step.0.none_out step.0.no_hints swept.follow
+      step.1 were within grown.beyond never_falls clean_still step.0.none_out step.0.no_hints swept.follow
 
   -- and the core is stored still
   pub stored_then : IsStored (record (worked_parts parts s) { bounds = new })
@@ -110,4 +112,4 @@ module _ (edges_open : EdgesAreOpen) (parts : Parts) (stored : IsStored parts) (
       let count : length s.rows ≡ length parts.work =
       told.over.count ∙ length-set parts.work t (clean before t) in
       stored_still parts after.image after.work new after.serial stored count
-      (record { count = bounded.count; lie = bounded.lie; begin = bounded.begin }) step.1
+      (told_of_bounded (core_of after) new bounded) step.1

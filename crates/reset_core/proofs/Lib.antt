@@ -11,6 +11,7 @@ pub mod TellingSweeps
 pub mod InPlace
 pub mod Masking
 pub mod MergeSteps
+pub mod BoundedOrTold
 pub mod Bounding
 pub mod Scheduling
 pub mod Starting

@@ -3,26 +3,27 @@ use Rattle.std.proofs.Common.{◌≡◌, ℕ, ◌<◌, ◌≤◌, max, false, Bo
 use Rattle.std.proofs.Common.{subst, arith, inl, inr, ◌⊎◌, IsTrue, IsErrOf, Err}
 use Rattle.std.proofs.lemmas.Bool.{cases_lt, cases_eq}
 use Rattle.grid_core.specs.{declared.pixel.Pixel.Pixel, Raster.Raster, Raster.IsInside, Raster.value_at, Path.Inside}
-use Rattle.grid_core.specs.{Tiles.Tiles, Tiles.count_of}
+use Rattle.grid_core.specs.{Tiles.Tiles, Tiles.count_of, Tiles.tile_of}
 use Rattle.stroke_lattice.specs.State.{State, StateFits, AreCompatible, IsJoin, IsLive, IsLiveTag}
 use Rattle.stroke_lattice.specs.Change.{Turnover}
 use Rattle.stroke_lattice.proofs.{Joins.one_seed, Joins.join_is_union, Joining.joined}
 use Rattle.marker_tiles.specs.{Marker.IsMarker, Marker.IsMarkedAt}
 use Rattle.tile_generations.specs.Generations.{max_generation}
 use Rattle.core_rules.specs.{declared.error.CoreError.CoreError, declared.error.CoreError.TheVariants.GenerationsSpent}
-use Rattle.core_rules.specs.Invariant.{IsSound}
+use Rattle.core_rules.specs.{Image.IsOpen, Invariant.HasHint, Invariant.IsSound}
 use Rattle.core_rules.specs.Work.{Core, domain, tiling, mask_at, image_at, IsTile, work_at}
 use Rattle.core_rules.specs.Hits.{HoldsOne, LosesStroke, AreLinked, LeadFrom, IsHit, TouchesHit}
 use Rattle.core_rules.specs.Merge.{HasRisen, IsReset, IsKept, IsMerged, IsRefused, IsAcceptable}
 use Rattle.border_queues.specs.TileWork.{TileWork, work_of}
-use Rattle.tile_work.specs.{TileSet.Has, Marks.AreHits}
+use Rattle.tile_work.specs.{OpenBounds.IsWithinItsBounds, TileSet.Has, Marks.AreHits}
 use Rattle.tile_work.specs.Renewing.{IsTileKept, TouchesMarked, IsUnder, AreMarkedReset, IsRaisedByTags}
-use Rattle.reset_core.specs.{Bounding.AreBounded, declared.replica.Core.TheInside.Inside as Parts}
+use Rattle.reset_core.specs.{Bounding.AreBoundedOrTold, declared.replica.Core.TheInside.Inside as Parts}
 use Rattle.reset_core.specs.Replica.{core_of, IsStored}
 use Rattle.reset_core.specs.MergeSteps.{IsMarked, HasSpentMark, IsGrown, IsRenewed}
-use Rattle.reset_core.proofs.{Bounding.bounded_like, Bounding.bounded_still, Storing.empty_still}
+use Rattle.reset_core.proofs.{BoundedOrTold.told_still, Storing.empty_still}
 use Rattle.tile_work.proofs.RenewingResets.{reset_stays}
-use Rattle.core_rules.proofs.{Cores.tile_of_pixel_is_tile, Merging.merge_keeps_sound, Resets.one_refusal}
+use Rattle.core_rules.proofs.{Cores.tile_of_pixel, Cores.tile_of_pixel_is_tile, Merging.merge_keeps_sound}
+use Rattle.core_rules.proofs.{Merging.merge_keeps_told, Resets.one_refusal}
 
 -- ---- tiles that are hit
 
@@ -291,12 +292,33 @@ module _ (before after : Parts) (delta : State) (turnover : Turnover) (stored : 
     serial = sym renewed.serial i;
   }
 
-  pub renewed_is_merged : IsMerged (core_of before) delta turnover (core_of after)
-  renewed_is_merged =
-      subst (IsMerged (core_of before) delta turnover) same_core
-      (steps_merge (core_of before) delta turnover renewed.marks after.state after.markers.marker renewed.image.middle
+  abbrev renewed_then : Core
+  renewed_then = renewed_core (core_of before) after.state after.image after.work
+
+  merged : IsMerged (core_of before) delta turnover renewed_then
+  merged =
+      steps_merge (core_of before) delta turnover renewed.marks after.state after.markers.marker renewed.image.middle
       after.image renewed.image.between after.work stored.sound renewed.marked renewed.none_spent renewed.grown
-      renewed.image.reset renewed.image.raised)
+      renewed.image.reset renewed.image.raised
+
+  pub renewed_is_merged : IsMerged (core_of before) delta turnover (core_of after)
+  renewed_is_merged = subst (IsMerged (core_of before) delta turnover) same_core merged
+
+  -- each pixel of a tile that is reset is within its bounds, and a hint from another tile is as good as it was
+  told_or_reset : (p q : Pixel) → IsOpen (domain (core_of before)) (mask_at (core_of before)) (value_at after.image) p q
+      → value_at after.image p ≤ image_at (core_of before) p → HasHint (core_of before) p q
+      → IsWithinItsBounds (tiling (core_of before)) after.bounds p ⊎ HasHint renewed_then p q
+  told_or_reset p q pair low told =
+      let home : ℕ = tile_of (tiling (core_of before)) p in
+      elim (merged.each home (tile_of_pixel (core_of before) p stored.sound.shape pair.from_inside)) [
+        | inl (hit, reset) ↦
+            inl (renewed.bounds.own p pair.from_inside
+            (hit_is_marked (core_of before) delta renewed.marks stored.sound renewed.marked after.state
+            renewed.grown.join home hit))
+        | inr (spared, kept) ↦
+            inr (merge_keeps_told (core_of before) renewed_then delta turnover p q stored.sound merged pair.from_inside
+            pair.to_inside low spared told)
+      ]
 
   same_count : length after.work ≡ length before.work
   same_count = renewed.image.raised.count ∙ renewed.image.reset.count
@@ -305,11 +327,9 @@ module _ (before after : Parts) (delta : State) (turnover : Turnover) (stored : 
   renewed_is_stored = record {
     sound = merge_keeps_sound (core_of before) (core_of after) delta turnover stored.sound renewed_is_merged;
     bounded =
-        subst (λ core. AreBounded core after.bounds) same_core (bounded_like (record (core_of before) {
-          image = after.image;
-        }) after.state after.work (core_of before).serial after.bounds
-        (bounded_still (core_of before) after.image before.bounds after.bounds stored.sound.shape.tiled stored.bounded
-        renewed.bounds));
+        subst (λ core. AreBoundedOrTold core after.bounds) same_core
+        (told_still (core_of before) after.image after.state after.work (core_of before).serial before.bounds
+        after.bounds stored.sound.shape.tiled stored.bounded renewed.bounds.follow told_or_reset);
     marks = rw renewed.mask renewed.grown.marker_is;
     masks = rw (renewed.mask, renewed.tiling_is, renewed.masks) stored.masks;
     no_marks =

@@ -27,9 +27,10 @@ use Rattle.core_rules.proofs.{Merging.merge_keeps_sound, Opening.opened_is_quiet
 use Rattle.core_rules.proofs.{Quiet.none_in_nothing, Quiet.quiet_is_reconstruction, Running.run_keeps_sound}
 use Rattle.core_rules.proofs.{Running.settled_is_run, Supporting.reach_at_most}
 use Rattle.reset_core.specs.{Starting.BegunIsAsSettled, Starting.IsBeginningOf, Starting.IsBegunWith}
-use Rattle.reset_core.specs.{Bounding.AreBounded, declared.replica.Core.TheInside.Inside as Parts, Replica.IsStored}
+use Rattle.reset_core.specs.{Bounding.AreBounded, Bounding.AreBoundedOrTold, Replica.IsStored}
+use Rattle.reset_core.specs.{declared.replica.Core.TheInside.Inside as Parts}
 use Rattle.reset_core.specs.{Replica.begun, Replica.core_of, Replica.with_image, declared.replica.Beginning.Beginning}
-use Rattle.reset_core.proofs.{Bounding.closed_bounded, StartingTiles.settled_tiles}
+use Rattle.reset_core.proofs.{BoundedOrTold.told_of_bounded, Bounding.closed_bounded, StartingTiles.settled_tiles}
 use Rattle.reset_core.proofs.Storing.{none_cut, same_tiling}
 
 -- ---- the reconstruction is supported
@@ -142,10 +143,11 @@ module _ (conn : Conn) (first : ℕ) (state : State) (markers : Kept) (beginning
         (begun_is_sound markers.mask conn markers.tiling.side first state markers.marker beginning.image begins.filled
         tiled bound fits begins.marks begins.grown);
     bounded =
-        subst (λ core. AreBounded core parts.bounds) (sym are_made)
-        (subst (λ n. AreBounded made (replicate n no_bounds)) (sym (ap count_of same_tiles))
+        subst (λ core. AreBoundedOrTold core parts.bounds) (sym are_made)
+        (subst (λ n. AreBoundedOrTold made (replicate n no_bounds)) (sym (ap count_of same_tiles))
+        (told_of_bounded made (replicate (count_of (tiling made)) no_bounds)
         (begun_is_bounded markers.mask conn markers.tiling.side first state markers.marker beginning.image
-        begins.filled tiled bound fits begins.marks begins.grown));
+        begins.filled tiled bound fits begins.marks begins.grown)));
     marks = begins.marks;
     masks = none_cut markers.mask markers.tiling (sym begins.width) (sym begins.height);
     no_marks = ap (λ n. replicate n false) (sym count);

@@ -7,9 +7,10 @@ use Rattle.grid_core.specs.{declared.bounds.Bounds.Bounds, Bounds.bounds_at, Bou
 use Rattle.grid_core.specs.Raster.{IsFilled, Raster, IsInside, IsBelow, with_value}
 use Rattle.grid_core.specs.Tiles.{Tiles, IsTiled, count_of, tile_of}
 use Rattle.tile_work.specs.OpenBounds.{bounds_for}
-use Rattle.reset_core.specs.{Bounding.AreBounded, declared.replica.Core.TheInside.Inside as Parts}
+use Rattle.reset_core.specs.{Bounding.AreBoundedOrTold, declared.replica.Core.TheInside.Inside as Parts}
 use Rattle.reset_core.specs.Replica.{core_of, IsEmptySet, IsStored}
-use Rattle.reset_core.proofs.Bounding.{blank_is_black, bounded_still, follow_rise, none_bounded}
+use Rattle.reset_core.proofs.{BoundedOrTold.told_alike, BoundedOrTold.told_of_bounded, BoundedOrTold.told_still}
+use Rattle.reset_core.proofs.Bounding.{blank_is_black, follow_rise, follow_same, none_bounded}
 use Rattle.tile_generations.specs.{CutMasks.AreTileMasks, Generations.max_generation, declared.ticket.Ticket.Ticket}
 use Rattle.stroke_lattice.specs.State.{nothing}
 use Rattle.core_rules.specs.{Opening.blank, Opening.opened, declared.answers.Handed.Handed}
@@ -18,7 +19,8 @@ use Rattle.core_rules.specs.{Hints.without_hint, Hints.raised, Hints.IsHanded, I
 use Rattle.core_rules.specs.Work.{Core, tiling, image_at, IsTile, work_at, with_work}
 use Rattle.border_queues.specs.{TileWork.fresh, TileWork.TileWork, declared.hint.Hint.Hint}
 use Rattle.core_rules.proofs.{Opening.opened_is_sound, Cores.inside_image, Handing.hint_of_tile, Handing.left}
-use Rattle.core_rules.proofs.{Handing.hand_keeps_sound, Taking.abandon_keeps_sound, Removals.taken_was_there}
+use Rattle.core_rules.proofs.{Handing.hand_keeps_sound, Handing.hand_keeps_told, Removals.taken_was_there}
+use Rattle.core_rules.proofs.Taking.{abandon_keeps_sound, abandon_keeps_told}
 use Rattle.grid_core.proofs.Cells.{each_pixel_below}
 use Rattle.marker_tiles.specs.Kept.{Kept, IsMarkerOf}
 
@@ -40,15 +42,16 @@ pub empty_still : (old new : List TileWork) (set : List Bool) → length new ≡
     → IsEmptySet new set
 empty_still old new set count empty = empty ∙ ap (λ n. replicate n false) (sym count)
 
--- an event that changes image, work, bounds and serial alone leaves a stored core where it leaves a sound one, and
--- nothing open outside the bounds
+-- an event that changes image, work, bounds and serial alone leaves a stored core where it leaves a sound one, in which
+-- an open pair begins within the bounds or is told
 pub stored_still : (old : Parts) (image : Raster) (work : List TileWork) (bounds : List Bounds) (serial : ℕ)
-    → IsStored old → length work ≡ length old.work → AreBounded (record (core_of old) { image = image }) bounds
+    → IsStored old → length work ≡ length old.work
+    → AreBoundedOrTold (core_of (record old { image = image; work = work; bounds = bounds; serial = serial })) bounds
     → IsSound (core_of (record old { image = image; work = work; bounds = bounds; serial = serial }))
     → IsStored (record old { image = image; work = work; bounds = bounds; serial = serial })
 stored_still old image work bounds serial stored count bounded sound = record {
   sound = sound;
-  bounded = record { count = bounded.count; lie = bounded.lie; begin = bounded.begin };
+  bounded = bounded;
   marks = stored.marks;
   masks = stored.masks;
   no_marks = empty_still old.work work old.marks count stored.no_marks;
@@ -85,9 +88,14 @@ module _ (parts : Parts) (stored : IsStored parts) (t i : ℕ) (hint : Hint)
   pub lost_is_stored : (handed : Handed) → IsHanded (core_of parts) t i handed (without_hint (core_of parts) t i)
       → IsStored (record parts { work = (without_hint (core_of parts) t i).tiles })
   lost_is_stored handed happens =
-      stored_still parts parts.image (without_hint (core_of parts) t i).tiles parts.bounds parts.serial stored
-      (length-set parts.work t (left (core_of parts) t i)) stored.bounded
-      (hand_keeps_sound (core_of parts) (without_hint (core_of parts) t i) t i handed stored.sound happens)
+      let before = core_of parts in
+      let lost = without_hint before t i in
+      stored_still parts parts.image lost.tiles parts.bounds parts.serial stored
+      (length-set parts.work t (left before t i))
+      (told_still before parts.image parts.state lost.tiles parts.serial parts.bounds parts.bounds
+      stored.sound.shape.tiled stored.bounded (follow_same (tiling before) parts.conn parts.image parts.bounds)
+      (λ p q pair low told. inr (hand_keeps_told before lost t i handed p q stored.sound happens pair low told)))
+      (hand_keeps_sound before lost t i handed stored.sound happens)
 
   -- the hint leaves its inbox, its pixel is raised, and its tile is dirty
   module _ (present : IsPresent (core_of parts) hint)
@@ -114,10 +122,13 @@ module _ (parts : Parts) (stored : IsStored parts) (t i : ℕ) (hint : Hint)
         stored_still parts image (raised lost hint).tiles bounds parts.serial stored
         (length-set lost.tiles home (record (work_at lost home) { dirty = true })
         ∙ length-set parts.work t (left (core_of parts) t i))
-        (bounded_still (core_of parts) image parts.bounds bounds shape.tiled stored.bounded
+        (told_still (core_of parts) image parts.state (raised lost hint).tiles parts.serial parts.bounds bounds
+        shape.tiled stored.bounded
         (follow_rise (tiling (core_of parts)) parts.conn parts.image parts.bounds hint.to_pixel hint.value t shape.tiled
         stored.bounded.count shape.image.filled shape.image.width shape.image.height goes_to_tile.inside
-        goes_to_tile.tile above))
+        goes_to_tile.tile above)
+        (λ p q pair low told. inr (hand_keeps_told (core_of parts) (raised lost hint) t i Raised p q stored.sound
+        raised_happens pair low told)))
         (hand_keeps_sound (core_of parts) (raised lost hint) t i Raised stored.sound raised_happens)
 
 -- ---- the masks of tiles
@@ -176,8 +187,9 @@ opened_is_stored parts mask side first filled tiled bound is_open marks no_marks
     record {
       sound = subst IsSound (sym is_open) (opened_is_sound mask parts.conn side first filled tiled bound);
       bounded =
-          rw (is_open, bounds_are) (none_bounded (opened mask parts.conn side first) (count_of tiling) tiled refl
-          (λ p inside. blank_is_black mask p filled inside));
+          rw (is_open, bounds_are) (told_of_bounded (opened mask parts.conn side first)
+          (replicate (count_of tiling) no_bounds) (none_bounded (opened mask parts.conn side first) (count_of tiling)
+          tiled refl (λ p inside. blank_is_black mask p filled inside)));
       marks = rw (ap (λ (core : Core). core.state) is_open) marks;
       masks = rw (same_mask, same_tiles, masks_are) (none_cut mask tiling refl refl);
       no_marks = no_marks ∙ ap (λ n. replicate n false) (sym count);
@@ -192,5 +204,8 @@ pub let_go_is_stored : (parts : Parts) → IsStored parts → (t : ℕ) (ticket 
     → IsStored (record parts { work = slice_set parts.work t work })
 let_go_is_stored parts stored t ticket work happens =
     stored_still parts parts.image (slice_set parts.work t work) parts.bounds parts.serial stored
-    (length-set parts.work t work) stored.bounded
+    (length-set parts.work t work)
+    (told_alike (core_of parts) (slice_set parts.work t work) parts.serial parts.bounds stored.sound.shape.tiled
+    stored.bounded (λ p q told. abandon_keeps_told (core_of parts) (with_work (core_of parts) t work) ticket true p q
+    stored.sound happens told))
     (abandon_keeps_sound (core_of parts) (with_work (core_of parts) t work) ticket true stored.sound happens)

@@ -1,13 +1,13 @@
 -- Taking a tile, giving it back and abandoning a job, as the stored core does them.
 use Rattle.std.proofs.Common.{◌≡◌, ℕ, ◌+◌, ◌%◌, ◌^◌, ◌<◌, Bool, true, false, List, [], ◌∷◌, ◌++◌, length, refl, sym}
 use Rattle.std.proofs.Common.{◌∙◌, ap, subst, arith, inl, inr, ◌⊎◌, ◌==◌, Contains, Some, None, filter, if◌then◌else◌}
-use Rattle.std.proofs.Common.{slice_index_or, slice_set, All}
+use Rattle.std.proofs.Common.{slice_index_or, slice_set, All, IsTrue, ◌≤◌}
 use Rattle.std.proofs.{lemmas.Bool.eqb-true, lemmas.Bool.Decides.eqb_tells}
 use Rattle.std.proofs.lemmas.List.{length-set, get_or-set_same, get_or-set_other, append-nil}
 use Rattle.std.proofs.lemmas.List.Elements.{Contains-get_or, All-contains}
 use Rattle.grid_core.specs.{declared.pixel.Pixel.Pixel, declared.rect.Rect.Rect, Raster.Raster, Raster.IsInside}
 use Rattle.grid_core.specs.{Raster.IsBelow, Raster.value_at, Path.Inside, Rects.in_image, Tiles.Tiles, Tiles.IsTiled}
-use Rattle.grid_core.specs.{Tiles.count_of, Tiles.tile_of, Bounds.bounds_of}
+use Rattle.grid_core.specs.{Tiles.count_of, Tiles.tile_of, declared.bounds.Bounds.Bounds, Bounds.no_bounds}
 use Rattle.grid_core.proofs.{Cells.each_pixel_below, Pixels.same_pixel}
 use Rattle.grid_core.proofs.Tilings.{each_pixel_in_one_tile, tile_pixels, neighbours_lie_in_touching_tiles}
 use Rattle.border_queues.specs.{declared.hint.Hint.Hint, Laws.EdgesAreOpen, Laws.SameImageSameEdges}
@@ -18,13 +18,15 @@ use Rattle.core_rules.specs.{declared.answers.Back.TheVariants.Joined, declared.
 use Rattle.core_rules.specs.{Image.IsPart, Image.IsJoinedWith, Invariant.IsSound}
 use Rattle.core_rules.specs.Work.{Core, domain, tiling, image_at, IsTile, work_at}
 use Rattle.core_rules.specs.Sweeps.{tile_rect, IsReady, IsNextJob, IsOut, IsKnown, IsUnchanged, HasOnlyRisen, sender_of}
-use Rattle.core_rules.specs.Sweeps.{hints_of, IsJoined}
+use Rattle.core_rules.specs.Sweeps.{hints_of, IsAbandoned, IsJoined, IsTaken}
 use Rattle.core_rules.specs.Laws.{TakeKeepsSound, AbandonKeepsSound, GiveBackKeepsSound}
 use Rattle.reset_core.specs.{Parts.IsBelowPiece, Parts.IsRaisedPart, declared.replica.Core.TheInside.Inside as Parts}
-use Rattle.reset_core.specs.{Replica.core_of, Replica.IsStored, Bounding.FollowChange}
-use Rattle.tile_work.specs.WorkTable.{IsToTouching, AreReceived}
-use Rattle.reset_core.proofs.{Bounding.bounded_still, Bounding.follow_join, Storing.stored_still, TellingOrder.told_by}
-use Rattle.core_rules.proofs.{Cores.inside_image, Joining.base_at_most, Joining.local}
+use Rattle.reset_core.specs.{Replica.core_of, Replica.IsStored}
+use Rattle.tile_work.specs.{OpenBounds.bounds_for, WorkTable.IsToTouching, WorkTable.AreReceived}
+use Rattle.reset_core.proofs.{BoundedOrTold.joined_bounded, BoundedOrTold.left_of, BoundedOrTold.told_alike}
+use Rattle.reset_core.proofs.{Storing.stored_still, TellingOrder.told_by}
+use Rattle.core_rules.proofs.{Cores.inside_image, Joining.base_at_most, Joining.in_rect_size, Joining.local}
+use Rattle.core_rules.proofs.{Joining.placed, Taking.abandon_keeps_told, Taking.take_keeps_told}
 use Rattle.core_rules.proofs.Removals.{passed_was_there, passed_test}
 
 -- ---- what is stored
@@ -47,12 +49,16 @@ taken_is_stored keeps parts core t job work view stored ready next is =
     let serial = (parts.serial + 1) % 2 ^ 64 in
     let old = core_of parts in
     let change = gone_out (slice_index_or parts.work t idle) parts.serial in
-    stored_still parts parts.image work parts.bounds serial stored (ap length is ∙ length-set parts.work t change)
-    stored.bounded (keeps old (core_of (record parts { work = work; serial = serial })) t (Some job) stored.sound (
+    let after = core_of (record parts { work = work; serial = serial }) in
+    let happens : IsTaken old t (Some job) after = (
       subst (λ c. IsReady c t) (sym view) ready,
       subst (λ c. IsNextJob c t job) (sym view) next,
       λ i. record old { tiles = is i; serial = serial },
-    ))
+    ) in
+    stored_still parts parts.image work parts.bounds serial stored (ap length is ∙ length-set parts.work t change)
+    (told_alike old work serial parts.bounds stored.sound.shape.tiled stored.bounded
+    (λ p q told. take_keeps_told old after t (Some job) p q stored.sound happens told))
+    (keeps old after t (Some job) stored.sound happens)
 
 pub abandoned_is_stored : AbandonKeepsSound → (parts : Parts) (core : Core) (ticket : Ticket) (work : List TileWork)
     → core_of parts ≡ core → IsStored parts → IsOut core ticket
@@ -61,12 +67,16 @@ pub abandoned_is_stored : AbandonKeepsSound → (parts : Parts) (core : Core) (t
 abandoned_is_stored keeps parts core ticket work view stored out is =
     let old = core_of parts in
     let change = let_go (slice_index_or parts.work ticket.tile idle) in
-    stored_still parts parts.image work parts.bounds parts.serial stored
-    (ap length is ∙ length-set parts.work ticket.tile change) stored.bounded
-    (keeps old (core_of (record parts { work = work })) ticket true stored.sound (
+    let after = core_of (record parts { work = work }) in
+    let happens : IsAbandoned old ticket true after = (
       subst (λ c. IsOut c ticket) (sym view) out,
       λ i. record old { tiles = is i },
-    ))
+    ) in
+    stored_still parts parts.image work parts.bounds parts.serial stored
+    (ap length is ∙ length-set parts.work ticket.tile change)
+    (told_alike old work parts.serial parts.bounds stored.sound.shape.tiled stored.bounded
+    (λ p q told. abandon_keeps_told old after ticket true p q stored.sound happens told))
+    (keeps old after ticket true stored.sound happens)
 
 -- ---- the next job
 
@@ -84,6 +94,17 @@ base_is_below core t base mask sound is_tile of_image of_mask =
     (p, in_rect, refl) in
     let low = (sound.supported (in_image (tile_rect core t) p) there.0).1 in
     omega (arith, low, of_image.values p in_rect, of_mask.values p in_rect))
+
+-- ---- a job that comes back
+
+-- its base is nowhere above the tile, where that is as it was or has only risen since
+pub base_is_low : (core : Core) (swept : Swept) → IsSound core → IsKnown core swept.job
+    → IsUnchanged core swept.job ⊎ HasOnlyRisen core swept.job → (p : Pixel) → Inside (local swept) p
+    → value_at swept.job.base p ≤ image_at core (placed core swept p)
+base_is_low core swept sound known (inl unchanged) p inside =
+    omega (arith, unchanged.base.values p (in_rect_size core swept sound known p inside))
+base_is_low core swept sound known (inr risen) p inside =
+    risen.base.values p (in_rect_size core swept sound known p inside)
 
 -- ---- hints
 
@@ -292,28 +313,42 @@ module _ (parts : Parts) (core : Core) (swept : Swept) (tiles : Tiles) (tile : �
   parts_joined =
       subst (λ (c : Core). IsJoined core swept (record c { image = image; tiles = done })) (sym view) stored_joined
 
-  pub joined_is_stored : GiveBackKeepsSound → IsStored parts → IsSwept swept → IsKnown core swept.job
+  pub joined_is_stored : GiveBackKeepsSound → EdgesAreOpen → (is_unchanged : Bool)
+      → (IsTrue is_unchanged → IsUnchanged core swept.job) → IsStored parts → IsSwept swept → IsKnown core swept.job
       → IsOut core swept.job.ticket → IsUnchanged core swept.job ⊎ HasOnlyRisen core swept.job
-      → IsStored (record parts { image = image; work = done; bounds = slice_set parts.bounds tile (bounds_of rect) })
-  joined_is_stored keeps stored is_swept known out base =
+      → IsStored (record parts {
+        image = image;
+        work = done;
+        bounds = slice_set parts.bounds tile (if is_unchanged then no_bounds else bounds_for parts.bounds tile);
+      })
+  joined_is_stored keeps edges_open is_unchanged unchanged stored is_swept known out base =
       let change = come_back (slice_index_or told tile idle) in
-      let shape = stored.sound.shape in
-      let rect_at : rect ≡ tile_rect (core_of parts) tile = rect_is ∙ ap (λ (c : Core). tile_rect c tile) (sym view) in
-      let within : tile < count_of (tiling (core_of parts)) =
+      let old : Core = core_of parts in
+      let after : Core = core_of (record parts { image = image; work = done }) in
+      let left : Bounds = if is_unchanged then no_bounds else bounds_for parts.bounds tile in
+      let new : List Bounds = slice_set parts.bounds tile left in
+      let known_there : IsKnown old swept.job = subst (λ (c : Core). IsKnown c swept.job) (sym view) known in
+      let base_there : IsUnchanged old swept.job ⊎ HasOnlyRisen old swept.job =
+      subst (λ (c : Core). IsUnchanged c swept.job ⊎ HasOnlyRisen c swept.job) (sym view) base in
+      let joined : IsJoined old swept after = subst (λ (c : Core). IsJoined c swept after) (sym view) parts_joined in
+      let within : tile < length parts.bounds =
       omega (
         arith,
         is_tile,
         ap (λ (c : Core). length c.tiles) view,
         tile_is,
-        shape.tiles,
+        stored.sound.shape.tiles,
+        stored.bounded.count,
       ) in
-      let follow : FollowChange (tiling (core_of parts)) parts.conn parts.image image parts.bounds
-      (slice_set parts.bounds tile (bounds_of rect)) =
-      rw rect_at (follow_join (tiling (core_of parts)) parts.conn parts.image image parts.bounds tile pixels shape.tiled
-      stored.bounded.count within stored.bounded.lie shape.image.width shape.image.height
-      (subst (λ r. IsJoinedWith r pixels parts.image image) rect_at raise)) in
-      stored_still parts image done (slice_set parts.bounds tile (bounds_of rect)) parts.serial stored
+      let own =
+      left_of old swept.job parts.bounds tile is_unchanged within
+      (λ yes. subst (λ (c : Core). IsUnchanged c swept.job) (sym view) (unchanged yes)) in
+      stored_still parts image done new parts.serial stored
       (ap length done_is ∙ length-set told tile change ∙ receive.count)
-      (bounded_still (core_of parts) image parts.bounds (slice_set parts.bounds tile (bounds_of rect)) shape.tiled
-      stored.bounded follow) (join_keeps_sound keeps core (core_of (record parts { image = image; work = done })) swept
-      (subst IsSound view stored.sound) is_swept known out base parts_joined)
+      (joined_bounded old after swept stored.sound is_swept known_there joined edges_open
+      (base_is_low old swept stored.sound known_there base_there) parts.bounds stored.bounded new
+      (length-set parts.bounds tile left)
+      (λ u other. get_or-set_other parts.bounds tile u left no_bounds (λ same. other (same ∙ tile_is)))
+      (subst (λ n. (bounds_for new n ≡ bounds_for parts.bounds n)
+      ⊎ (IsUnchanged old swept.job × (bounds_for new n ≡ no_bounds))) tile_is own))
+      (join_keeps_sound keeps core after swept (subst IsSound view stored.sound) is_swept known out base parts_joined)

@@ -9,7 +9,7 @@ use Rattle.core_rules.specs.Work.{Core, tiling, work_at}
 use Rattle.border_queues.specs.{OpenEdges.IsOnTiling, TileWork.TileWork, TileWork.work_of}
 use Rattle.tile_work.specs.{Marks.AreHits, TileSet.Has}
 use Rattle.tile_work.specs.Renewing.{AreMarkedReset, IsRaisedByTags, IsLowBeyond}
-use Rattle.reset_core.specs.{Bounding.FollowChange, declared.replica.Core.TheInside.Inside as Parts, Replica.core_of}
+use Rattle.reset_core.specs.{Bounding.FollowResets, declared.replica.Core.TheInside.Inside as Parts, Replica.core_of}
 
 -- the delta fits the core, and its hits are marked
 pub record IsMarked (core : Core) (delta : State) (marks : List Bool) : Type 0 where
@@ -81,7 +81,8 @@ pub record IsRenewed (before : Parts) (delta : State) (turnover : Turnover) (aft
   pub grown : IsGrown (core_of before) delta turnover after.state after.markers.marker
   pub image : IsImageRenewed (tiling (core_of before)) marks turnover after.state after.markers.marker before.image
       after.image before.work after.work
-  pub bounds : FollowChange (tiling (core_of before)) before.conn before.image after.image before.bounds after.bounds
+  pub bounds : FollowResets (tiling (core_of before)) before.conn marks before.image after.image before.bounds
+      after.bounds
   pub cleared : after.marks ≡ replicate (length marks) false
   pub queue : after.queue ≡ before.queue
   pub mask : after.markers.mask ≡ before.markers.mask

@@ -7,7 +7,7 @@ use Rattle.marker_tiles.specs.Kept.{Kept, IsMarkerOf}
 use Rattle.core_rules.specs.{Work.Core, Opening.blank, Invariant.IsSound}
 use Rattle.border_queues.specs.TileWork.{TileWork, fresh}
 use Rattle.tile_generations.specs.CutMasks.{AreTileMasks}
-use Rattle.reset_core.specs.{Bounding.AreBounded, declared.replica.Core.TheInside.Inside as Parts}
+use Rattle.reset_core.specs.{Bounding.AreBoundedOrTold, declared.replica.Core.TheInside.Inside as Parts}
 use Rattle.reset_core.specs.{declared.replica.Beginning.Beginning}
 
 -- the core that is stored as these parts
@@ -58,11 +58,12 @@ begun beginning conn markers = record {
 abbrev pub IsEmptySet : List TileWork → List Bool → Type 0
 IsEmptySet work set = set ≡ replicate (length work) false
 
--- the core is sound, nothing open begins outside the bounds of a tile, the marker is that of the strokes, the masks
--- that jobs share are those of their tiles, and between merges no tile is marked and none waits to be looked at
+-- the core is sound, an open pair begins within the bounds of a tile or a hint waits for it, the marker is that of the
+-- strokes, the masks that jobs share are those of their tiles, and between merges no tile is marked and none waits to
+-- be looked at
 pub record IsStored (parts : Parts) : Type 0 where
   pub sound : IsSound (core_of parts)
-  pub bounded : AreBounded (core_of parts) parts.bounds
+  pub bounded : AreBoundedOrTold (core_of parts) parts.bounds
   pub marks : IsMarkerOf parts.markers.mask parts.state parts.markers.marker
   pub masks : AreTileMasks parts.markers.mask parts.markers.tiling parts.masks
   pub no_marks : IsEmptySet parts.work parts.marks

@@ -63,7 +63,7 @@ pub struct Core {
     markers: Markers,
     image: Grid,
     work: WorkTable,
-    // An open pair begins within the bounds of the tile of its first pixel.
+    // An open pair begins within the bounds of the tile of its first pixel, or a hint waits for it.
     bounds: OpenBounds,
     // The masks that jobs share.
     masks: TileMasks,

@@ -14,6 +14,7 @@ use crate::gate::Gate;
 use crate::report::{Report, Turn};
 use crate::rule::{Deal, EndView, Got};
 use crossbeam_deque::{Pass, Stealer};
+use raster_sweeps::Room;
 use rtrb::{Producer, PushError};
 use std::alloc::Global;
 use std::marker::Model;
@@ -59,6 +60,8 @@ impl Thief {
 #[derive(Drop)]
 pub struct Hand {
     alloc: Global,
+    // What it sweeps in, job after job.
+    room: Room,
     thief: Thief,
     ring: Producer<Report>,
     held: Option<Report>,
@@ -122,11 +125,11 @@ fn flush(ring: &mut Producer<Report>, held: Option<Report>) -> Option<Report>
 }
 
 // Sweeps a job. It gives the answer of the turn, and the report.
-fn sweep(alloc: Global, job: Job) -> (Turn, Report)
+fn sweep(alloc: Global, room: &mut Room, job: Job) -> (Turn, Report)
     ensures { IsOutcome job result.0 result.1 }
 {
     let ticket = job.ticket();
-    match job.sweep(alloc) {
+    match job.sweep_in(alloc, room) {
         Ok(swept) => (Turn::Worked(ticket), Report::Done(swept)),
         Err(_) => (Turn::Failed(ticket), Report::Failed(ticket)),
     }
@@ -136,6 +139,7 @@ fn sweep(alloc: Global, job: Job) -> (Turn, Report)
 // no place in the ring was seen to be free. It is None where no job was got.
 fn work<G: Gate>(
     alloc: Global,
+    room: &mut Room,
     thief: &mut Thief,
     ring: &mut Producer<Report>,
     gate: &G,
@@ -153,13 +157,13 @@ fn work<G: Gate>(
 {
     let job = thief.steal()?;
     gate.pass(job.ticket());
-    let (turn, report) = sweep(alloc, job);
+    let (turn, report) = sweep(alloc, room, job);
     Some((turn, send(ring, report)))
 }
 
 impl Hand {
     /// A hand that did nothing yet.
-    pub(crate) fn new(alloc: Global, thief: Thief, ring: Producer<Report>) -> Hand
+    pub(crate) fn new(alloc: Global, room: Room, thief: Thief, ring: Producer<Report>) -> Hand
         requires got { (view thief.pass).got ≡ [] }
         requires sent { sent ring ≡ [] }
         requires room { known_free ring ≡ ring_room }
@@ -167,6 +171,7 @@ impl Hand {
     {
         Hand {
             alloc,
+            room,
             thief,
             ring,
             held: None,
@@ -190,7 +195,13 @@ impl Hand {
             self.held = Some(report);
             return Turn::RingFull;
         }
-        match work(self.alloc, &mut self.thief, &mut self.ring, gate) {
+        match work(
+            self.alloc,
+            &mut self.room,
+            &mut self.thief,
+            &mut self.ring,
+            gate,
+        ) {
             None => Turn::Idle,
             Some((turn, None)) => turn,
             Some((_, Some(report))) => {

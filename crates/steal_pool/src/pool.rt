@@ -9,12 +9,16 @@ use crate::report::Report;
 use crate::rule::{Deal, EndView};
 use crossbeam_deque::Worker;
 use grid_core::Memory;
+use raster_sweeps::Room;
 use rtrb::RingBuffer;
 use std::alloc::Global;
 use tile_generations::Job;
 
 /// How many reports of a hand wait at most to be collected, beside the one that it holds.
 const REPORTS: usize = 64;
+
+/// The pixels of the largest tile, which a hand has room to sweep.
+const PIXELS: u32 = 256 * 256;
 
 /// An owner and its hands, which go their own ways.
 #[derive(Drop)]
@@ -47,9 +51,10 @@ impl Pool {
         let mut all = Vec::with_capacity(alloc, hands)?;
         for _hand in 0..hands {
             let (producer, consumer) = RingBuffer::<Report>::new(alloc, REPORTS)?;
+            let room = Room::new(alloc, PIXELS)?;
             let thief = Thief::new(deque.stealer()?);
             rings.push(consumer)?;
-            all.push(Hand::new(alloc, thief, producer))?;
+            all.push(Hand::new(alloc, room, thief, producer))?;
         }
         Ok(Pool {
             owner: Owner {

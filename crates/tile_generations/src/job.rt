@@ -2,13 +2,15 @@
 
 ghost use Rattle.std.specs.Prelude.{◌≡◌, IfOk, IfErr};
 ghost use Rattle.std.specs.Arc.{arc_value};
-ghost use Rattle.grid_core.specs.Raster.{IsBelow};
-ghost use Rattle.tile_generations.specs.Jobs.{IsJob, IsSwept};
+ghost use Rattle.grid_core.specs.Raster.{IsBelow, IsSized};
+ghost use Rattle.tile_generations.specs.Jobs.{AreBoundsOf, IsJob, IsSwept, all_of};
 
 use crate::swept::Swept;
 use crate::ticket::Ticket;
-use grid_core::{Conn, Grid, Memory};
-use raster_sweeps::grow;
+use grid_core::laws::cells_given_back;
+use grid_core::{Bounds, Conn, Grid, Memory, Rect};
+use raster_sweeps::steps::{Size, grow_rows_from_bounds};
+use raster_sweeps::{Room, grow};
 use std::alloc::Global;
 use std::marker::Model;
 use std::sync::Arc;
@@ -21,28 +23,43 @@ pub struct Job {
     conn: Conn,
     base: Grid,
     mask: Arc<Grid>,
+    // A pixel of the base that can raise a neighbour in the tile lies within them.
+    bounds: Bounds,
 }
 
 impl Model for Job {
     ghost use Rattle.std.specs.Arc.{arc_value};
-    ghost use Rattle.tile_generations.specs.Jobs.{Job as Task, IsJob};
+    ghost use Rattle.tile_generations.specs.Jobs.{Job as Task, IsKeptJob};
 
     ghost Value = { Task };
 
     ghost view = { λ j. record { ticket = j.ticket; conn = j.conn; base = j.base; mask = arc_value j.mask } };
 
-    ghost invariant = { λ j. IsJob (record {
+    ghost invariant = { λ j. IsKeptJob (record {
       ticket = j.ticket;
       conn = j.conn;
       base = j.base;
       mask = arc_value j.mask;
-    }) };
+    }) j.bounds };
 }
 
 impl Job {
     /// A job on a tile, whose mask may be shared with others. It takes no memory.
     pub fn new(ticket: Ticket, conn: Conn, base: Grid, mask: Arc<Grid>) -> Job
         requires { IsBelow base (arc_value mask) }
+        ensures { result ≡ record { ticket = ticket; conn = conn; base = base; mask = arc_value mask } }
+    {
+        let bounds = Bounds::of(whole(&base));
+        Job::bounded(ticket, conn, base, mask, bounds)
+    }
+
+    /// A job on a tile of which only pixels within the bounds can raise a neighbour in the tile: where it was grown
+    /// before, and since then pixels within them have risen. They are counted from the tile's upper left corner. It
+    /// takes no memory.
+    pub fn bounded(ticket: Ticket, conn: Conn, base: Grid, mask: Arc<Grid>, bounds: Bounds) -> Job
+        requires below { IsBelow base (arc_value mask) }
+        requires bounds { AreBoundsOf
+            (record { ticket = ticket; conn = conn; base = base; mask = arc_value mask }) bounds }
         ensures { result ≡ record { ticket = ticket; conn = conn; base = base; mask = arc_value mask } }
     {
         // The widths tell the prover that base and mask have a cell for each pixel.
@@ -52,6 +69,7 @@ impl Job {
             conn,
             base,
             mask,
+            bounds,
         }
     }
 
@@ -93,7 +111,8 @@ impl Job {
     {
         let base = self.base().copy(alloc)?;
         let mask = Arc::try_clone(&self.mask)?;
-        Ok(Job::new(self.ticket(), self.conn(), base, mask))
+        let bounds = self.bounds();
+        Ok(Job::bounded(self.ticket(), self.conn(), base, mask, bounds))
     }
 
     /// Sweeps the tile: its pixels become the reconstruction of its mask from its base.
@@ -111,5 +130,59 @@ impl Job {
             Ok(pixels) => Ok(Swept::new(self, pixels)),
             Err(why) => Err((self, why)),
         }
+    }
+
+    /// Sweeps the tile as [`sweep`](Job::sweep) does, in a room that is used for one job after another. It looks at
+    /// first only at pixels within the bounds, where the job has some, and takes memory for the pixels alone.
+    ///
+    /// Errors: out of memory, with the job handed back.
+    pub fn sweep_in(self, alloc: Global, room: &mut Room) -> Result<Swept, (Job, Memory)>
+        ensures job { IfOk result (λ swept. swept.job ≡ self) }
+        ensures swept { IfOk result IsSwept }
+        ensures returned { IfErr result (λ e. e.0 ≡ self) }
+    {
+        match self.base().copy(alloc) {
+            Ok(mut pixels) => {
+                self.raise(room, &mut pixels);
+                Ok(Swept::new(self, pixels))
+            }
+            Err(why) => Err((self, why)),
+        }
+    }
+
+    // Raises a copy of the base until it is what a sweep gives.
+    fn raise(&self, room: &mut Room, pixels: &mut Grid)
+        requires { pixels.old ≡ self.now.base }
+        ensures { IsSwept (record { job = self.now; pixels = pixels.new }) }
+    {
+        cells_given_back();
+        let mask = self.mask();
+        let conn = self.conn();
+        let bounds = self.bounds();
+        let size = Size::of(pixels);
+        let rect = whole(pixels);
+        let limits = mask.cells();
+        let cells = pixels.cells_mut();
+        let _ = grow_rows_from_bounds(room, limits, cells, size, rect, conn, bounds);
+    }
+
+    // A pixel of the base that can raise a neighbour in the tile lies within them.
+    fn bounds(&self) -> Bounds
+        ensures { AreBoundsOf self.now result }
+    {
+        self.bounds
+    }
+}
+
+// All of an image, as a rectangle of it.
+fn whole(image: &Grid) -> Rect
+    ensures rect { result ≡ all_of image.now }
+    ensures sized { IsSized image.now }
+{
+    Rect {
+        x: 0,
+        y: 0,
+        w: image.width(),
+        h: image.height(),
     }
 }

@@ -20,7 +20,7 @@ use Rattle.tile_work.specs.{Cutting.IsOnlyMarked, Cutting.AreOnlyMarked, Cutting
 use Rattle.tile_work.specs.TileSet.{Has, HasGained}
 use Rattle.tile_work.proofs.Parts.{get_or_part, length_part}
 use Rattle.reset_core.specs.declared.replica.bands.Band.{Band}
-use Rattle.reset_core.specs.{Bounding.AreBounded, Settling.HasOnlySweeps}
+use Rattle.reset_core.specs.{Bounding.AreBounded, Bounding.AreBoundedOrTold, Settling.HasOnlySweeps}
 use Rattle.reset_core.specs.Telling.{ImageAndWork, clean, handed, all_handed, risen_by}
 use Rattle.reset_core.specs.Bands.{Strip, Top, IsSweptInBand, AreSweptInBand, AreSwept, AreStacked, AreAllSwept}
 use Rattle.reset_core.specs.Bands.{AreSomewhere, AreSweptInto, IsTopOf, all_taken, cells_of, works_of, tables_of}
@@ -31,6 +31,7 @@ use Rattle.reset_core.specs.BandParts.{cells_in, strip_of, strips_of}
 use Rattle.reset_core.specs.PuttingBack.{IsFit, AreFit, CanTake, IsInBand, IsInBands, works_in, bounds_in, jobs_in}
 use Rattle.reset_core.specs.Replica.{core_of, IsStored}
 use Rattle.reset_core.specs.declared.replica.Core.TheInside.{Inside as Parts}
+use Rattle.reset_core.proofs.BoundedOrTold.{bounded_without_hints, told_of_bounded}
 use Rattle.reset_core.proofs.Bands.Cuts.{tiles_within}
 use Rattle.reset_core.proofs.Bands.Tables.{cut_down, next_first, bounded_cut, bounded_back, ends_within}
 use Rattle.reset_core.proofs.Bands.Cells.{AreLeft, top_of, stacked, works_cut, cells_cut, cells_are, all_cells, ready}
@@ -526,8 +527,10 @@ module _ (parts : Parts) (new : List ℕ) (after : List Band) (done : IsRoundDon
       record {
         sound = subst IsSound core_is done.sound;
         bounded =
-            subst (AreBounded (core_of (parts_after parts new work table serial))) (sym table_is)
-            (subst (λ core. AreBounded core (bounds_in (tiling (core_of parts)) 0 after)) core_is done.bounded);
+            subst (AreBoundedOrTold (core_of (parts_after parts new work table serial))) (sym table_is)
+            (subst (λ core. AreBoundedOrTold core (bounds_in (tiling (core_of parts)) 0 after)) core_is
+            (told_of_bounded (core_after (core_of parts) new after) (bounds_in (tiling (core_of parts)) 0 after)
+            done.bounded));
         marks = stored.marks;
         masks = stored.masks;
         no_marks = stored.no_marks ∙ ap (λ n. replicate n false) count;
@@ -564,16 +567,19 @@ module _ (edges_open : EdgesAreOpen) (parts : Parts) (stored : IsStored parts) (
     abbrev whole : Core
     whole = core_of parts
 
+    bounded_there : AreBounded whole parts.bounds
+    bounded_there = bounded_without_hints whole parts.bounds stored.sound left.no_hints stored.bounded
+
     pub untouched_there : (tiles : Tiles) → tiles ≡ tiling whole → IsUntouched tiles parts.work parts.bounds
     untouched_there tiles tiles_are =
         subst (λ t. IsUntouched t parts.work parts.bounds) (sym tiles_are)
-        (untouched whole parts.bounds stored.sound left stored.bounded)
+        (untouched whole parts.bounds stored.sound left bounded_there)
 
     pub can_take_there : (tiles : Tiles) → tiles ≡ tiling whole → (gains : List Bool)
         → length gains ≡ length parts.work → CanTake tiles 0 parts.work parts.bounds gains
     can_take_there tiles tiles_are gains count =
         subst (λ t. CanTake t 0 parts.work parts.bounds gains) (sym tiles_are)
-        (can_take whole parts.bounds gains stored.sound left stored.bounded count)
+        (can_take whole parts.bounds gains stored.sound left bounded_there count)
 
     module _ (limit : ℕ) (tiles : Tiles) (mask old : List ℕ) (bands : List Band)
         (lent : IsLent parts limit tiles mask old bands) where
@@ -589,10 +595,10 @@ module _ (edges_open : EdgesAreOpen) (parts : Parts) (stored : IsStored parts) (
           subst (AreSomewhere tiles 0) strips
           (subst (λ t. AreSomewhere t 0 (strips_of parts.markers.mask.cells parts.image.cells bands))
           (sym lent.tiles_are)
-          (somewhere edges_open whole stored.sound left limit parts.bounds stored.bounded bands cut_there))
+          (somewhere edges_open whole stored.sound left limit parts.bounds bounded_there bands cut_there))
 
       pub ready_there : AreReady bands
-      ready_there = all_ready edges_open whole stored.sound left limit parts.bounds stored.bounded bands cut_there
+      ready_there = all_ready edges_open whole stored.sound left limit parts.bounds bounded_there bands cut_there
 
       module _ (new : List ℕ) (after : List Band) (swept : AreBandsSwept tiles 0 mask old bands new after) where
         swept_there : AreBandsSwept (tiling whole) 0 whole.mask.cells whole.image.cells bands new after
@@ -604,7 +610,7 @@ module _ (edges_open : EdgesAreOpen) (parts : Parts) (stored : IsStored parts) (
         pub few_there : (jobs cuts : ℕ) → limit ≡ jobs / (cuts + 1) → length bands ≤ cuts + 1 → jobs_in after ≤ jobs
         few_there jobs cuts limit_is few =
             let most =
-            at_most edges_open whole stored.sound left limit parts.bounds stored.bounded bands cut_there new after
+            at_most edges_open whole stored.sound left limit parts.bounds bounded_there bands cut_there new after
             swept_there in
             let same : length bands * limit ≡ length bands * (jobs / (cuts + 1)) =
             ap (λ n. length bands * n) limit_is in
@@ -613,7 +619,7 @@ module _ (edges_open : EdgesAreOpen) (parts : Parts) (stored : IsStored parts) (
         module _ (serial_fits : parts.serial < 2 ^ 64) where
           done_there : IsRoundDone whole new after
           done_there =
-              round_done edges_open whole stored.sound left limit parts.bounds stored.bounded bands cut_there new after
+              round_done edges_open whole stored.sound left limit parts.bounds bounded_there bands cut_there new after
               serial_fits swept_there
 
           pub fit_there : AreFit tiles parts.work 0 after

@@ -7,7 +7,7 @@ ghost use Rattle.core_rules.specs.declared.error.CoreError.{CoreError};
 ghost use Rattle.stroke_lattice.specs.State.{StateFits, AreCompatible};
 ghost use Rattle.core_rules.specs.Merge.{IsMerged, IsRefused};
 ghost use Rattle.grid_core.specs.Tiles.{count_of};
-ghost use Rattle.reset_core.specs.Bounding.{FollowChange};
+ghost use Rattle.reset_core.specs.Bounding.{FollowResets};
 
 use super::Core;
 use core_rules::CoreError;
@@ -104,7 +104,8 @@ fn renew(
     requires bounds { length bounds.old ≡ count_of markers.old.tiling }
     ensures renewed { AreRenewed markers.old marks.old image.old work.old state.now change.now markers.new marks.new
         image.new work.new }
-    ensures bounds { (conn : _) → FollowChange markers.old.tiling conn image.old image.new bounds.old bounds.new }
+    ensures bounds { (conn : _) → FollowResets markers.old.tiling conn marks.old image.old image.new bounds.old
+        bounds.new }
 {
     let tiling = markers.tiling();
     // The side tells the prover that the tiling is one.

@@ -1,6 +1,6 @@
 //! Jobs that are taken, given back and abandoned.
 
-ghost use Rattle.std.specs.Prelude.{◌≡◌, ◌↔◌, IfOk, IfErr, OnOk, OnErr, IsTrue};
+ghost use Rattle.std.specs.Prelude.{◌≡◌, ◌↔◌, IfOk, IfErr, OnOk, OnErr, IsTrue, if◌then◌else◌};
 ghost use Rattle.std.specs.Arc.{arc_value};
 ghost use Rattle.core_rules.specs.Image.{IsPart};
 ghost use Rattle.core_rules.specs.Work.{IsTile};
@@ -9,7 +9,9 @@ ghost use Rattle.core_rules.specs.Sweeps.{IsJoined, IsGivenBack, IsAbandoned, ti
 ghost use Rattle.reset_core.specs.Answers.{IsJoinable};
 ghost use Rattle.reset_core.specs.Parts.{IsRaisedPart};
 ghost use Rattle.reset_core.specs.Sweeping.{IsJudged, AreHintsOnceJoined};
+ghost use Rattle.grid_core.specs.Bounds.{LieIn, no_bounds};
 ghost use Rattle.grid_core.specs.Rects.{RectFits};
+ghost use Rattle.reset_core.specs.Bounding.{AreCountedFrom};
 
 use super::Core;
 use crate::parts::{is_at_most_part, is_part, raise_part, raised_part};
@@ -110,7 +112,8 @@ impl Core {
             generation: self.work.generation(tile),
             serial: self.serial,
         };
-        Ok(Job::new(ticket, self.conn, base, mask))
+        let bounds = counted_from(rect, self.bounds.get(tile));
+        Ok(Job::bounded(ticket, self.conn, base, mask, bounds))
     }
 
     // The rectangle of a tile.
@@ -189,13 +192,15 @@ impl Core {
         ensures err { OnErr result (self.new ≡ self.old) }
     {
         give_back_keeps_sound();
+        edges_are_open();
         let tile = swept.ticket().tile;
         let rect = self.rect(tile);
         let hints = self.hints_once_joined(alloc, swept, is_unchanged)?;
         let tiling = self.markers.tiling();
         self.work.receive(&tiling, tile, hints.as_slice())?;
         raise_part(&mut self.image, rect, swept.pixels(), is_unchanged);
-        self.bounds.set(tile, Bounds::of(rect));
+        let left = left_open(self.bounds.get(tile), is_unchanged);
+        self.bounds.set(tile, left);
         self.work.end_job(tile);
         Ok(())
     }
@@ -250,5 +255,34 @@ impl Core {
             Ok(()) => Ok(inbox),
             Err(_) => Err(Memory),
         }
+    }
+}
+
+// What is left of a tile's bounds once a swept tile is joined to it and its edges are told: where the tile was as it
+// was when its job was taken, no pixel can raise another of the tile.
+fn left_open(bounds: Bounds, is_unchanged: bool) -> Bounds
+    ensures { result ≡ (if is_unchanged then no_bounds else bounds) }
+{
+    if is_unchanged {
+        return Bounds::none();
+    }
+    bounds
+}
+
+// The bounds, which lie in the rectangle, counted from its upper left corner.
+fn counted_from(rect: Rect, bounds: Bounds) -> Bounds
+    requires { LieIn bounds rect }
+    ensures { AreCountedFrom rect bounds result }
+{
+    if bounds.is_empty() {
+        return Bounds::none();
+    }
+    let right = bounds.right - rect.x;
+    let bottom = bounds.bottom - rect.y;
+    Bounds {
+        left: bounds.left - rect.x,
+        right,
+        top: bounds.top - rect.y,
+        bottom,
     }
 }

@@ -1,7 +1,8 @@
 -- What the tactics leave open of `join`.
-use Rattle.std.proofs.Common.{◌≡◌, slice_set, ap, refl, ◌∙◌, arith}
+use Rattle.std.proofs.Common.{◌≡◌, slice_set, ap, refl, ◌∙◌, arith, if◌then◌else◌}
 use Rattle.std.proofs.lemmas.Result.{err_from_is_err_and}
-use Rattle.grid_core.specs.Bounds.{bounds_of}
+use Rattle.grid_core.specs.Bounds.{no_bounds}
+use Rattle.tile_work.specs.OpenBounds.{bounds_for}
 use Rattle.tile_generations.specs.declared.ticket.Ticket.{Ticket}
 use Rattle.reset_core.proofs.Sweeping.{tiling_is, stored_below, parts_joined, joined_is_stored}
 use Rattle.std.proofs.lemmas.Grind.{common_steps}
@@ -64,13 +65,19 @@ invariant_of-self-2 c =
     let tile_is = ap (λ (k : Ticket). k.tile) c.ticket-tile.ensures in
     let tiling = c.tiling-tiling.ensures in
     let tiles = tiling_is parts core c.tiling-tiling.result c.self.view_is tiling.value tiling.width tiling.height in
-    let bounds : c.set.new.self ≡ slice_set parts.bounds c.ticket-tile.result.tile (bounds_of c.rect-rect.result) =
-    c.set.ensures ∙ ap (slice_set parts.bounds c.ticket-tile.result.tile) c.of.ensures in
+    let is_unchanged = c.args.is_unchanged in
+    let tile = c.ticket-tile.result.tile in
+    let bounds : c.set.new.self
+    ≡ slice_set parts.bounds tile (if is_unchanged then no_bounds else bounds_for parts.bounds tile) =
+    c.set.ensures
+    ∙ ap (slice_set parts.bounds tile)
+    (c.left_open-left.ensures ∙ ap (λ b. if is_unchanged then no_bounds else b) c.get.ensures) in
     rw bounds (joined_is_stored parts core swept c.tiling-tiling.result c.ticket-tile.result.tile c.rect-rect.result
     c.pixels.result.now c.raise_part.new.whole c.receive.new.self c.end_job.new.self c.in_ok-hints.hints.hints
     c.as_slice.result.now c.self.view_is tiles tile_is c.rect-rect.ensures.rect c.pixels.ensures.value
     c.raise_part.ensures c.in_ok-hints.ensures.touching c.as_slice.ensures c.in_ok-receive.ensures.ok c.end_job.ensures
-    c.in_ok-hints.ensures.hints c.requires.joinable.known.is_tile c.give_back_keeps_sound.ensures c.self.invariant
+    c.in_ok-hints.ensures.hints c.requires.joinable.known.is_tile c.give_back_keeps_sound.ensures
+    c.edges_are_open.ensures is_unchanged c.requires.unchanged c.self.invariant
     c.pixels.ensures.swept c.requires.joinable.known c.requires.joinable.out c.requires.joinable.base)
 
 pub returns-clause-joined : goal.returns-clause-joined
@@ -86,9 +93,6 @@ returns-clause-joined c =
     c.as_slice.result.now c.self.view_is tiles tile_is c.rect-rect.ensures.rect c.pixels.ensures.value
     c.raise_part.ensures c.in_ok-hints.ensures.touching c.as_slice.ensures c.in_ok-receive.ensures.ok c.end_job.ensures
     c.in_ok-hints.ensures.hints c.requires.joinable.known.is_tile
-
-pub of-requires-clause-columns : goal.of-requires-clause-columns
-of-requires-clause-columns c = grind (arith, common_steps)
 
 pub receive-requires-clause-tiles : goal.receive-requires-clause-tiles
 receive-requires-clause-tiles c = grind (arith, common_steps)

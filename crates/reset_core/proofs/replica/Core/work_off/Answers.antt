@@ -7,6 +7,7 @@ use Rattle.core_rules.specs.Work.{Core, tiling}
 use Rattle.reset_core.specs.{Bounding.AreBounded, InPlace.core_on, Replica.core_of}
 use Rattle.reset_core.specs.{Settling.IsOneWorkedOff}
 use Rattle.reset_core.specs.Telling.{both}
+use Rattle.reset_core.proofs.BoundedOrTold.{bounded_without_hints}
 use Rattle.reset_core.proofs.InPlace.{plain, plain_is, step, stored_then, swept_here}
 use Rattle.reset_core.proofs.Storing.{image_below_mask}
 use Rattle.reset_core.proofs.TellingSweeps.{worked_parts}
@@ -69,7 +70,9 @@ pub sweep_one-requires-clause-bounded : goal.sweep_one-requires-clause-bounded
 sweep_one-requires-clause-bounded c =
     let at = (goal.at.sweep_one-requires-clause-bounded c).After-mask in
     let is = sym (lent_is at c.cells-mask.result.now c.cells-mask.ensures.values) in
-    let bounded = c.self.invariant.bounded in
+    let bounded =
+    bounded_without_hints (before at) c.self.inside.bounds c.self.invariant.sound (is_next at).1
+    c.self.invariant.bounded in
     subst (λ core. AreBounded core c.self.inside.bounds) is
     (record { count = bounded.count; lie = bounded.lie; begin = bounded.begin })
 

@@ -13,7 +13,7 @@ use Rattle.tile_work.specs.OpenBounds.{bounds_for}
 use Rattle.reset_core.specs.Bounding.{FollowChange}
 use Rattle.reset_core.specs.InPlace.{core_on}
 use Rattle.reset_core.specs.Telling.{AreTold, IsGrownAt, both, both_on, clean, grown_core, image_and_work, image_on}
-use Rattle.reset_core.proofs.Bounding.{begins_in_tile, edges_begin}
+use Rattle.reset_core.proofs.{BoundedOrTold.begins_in_tile, BoundedOrTold.told_of_bounded, Bounding.edges_begin}
 use Rattle.reset_core.proofs.replica.in_place.sweep_one.Goals.{After-get, After-tell}
 use Rattle.reset_core.proofs.replica.in_place.sweep_one.Goals as goal
 
@@ -37,7 +37,8 @@ grow_rows_from_bounds-area-requires-clause-close c = rw (c.width.ensures.value, 
 pub grow_rows_from_bounds-area-requires-clause-bounds : goal.grow_rows_from_bounds-area-requires-clause-bounds
 grow_rows_from_bounds-area-requires-clause-bounds c =
     rw (c.get.ensures, c.rect.ensures.value, c.width.ensures.value, c.height.ensures.value)
-    (begins_in_tile (start c) c.args.bounds.now c.args.tile c.requires.tile.parts.tiled c.requires.bounded (within c))
+    (begins_in_tile (start c) c.args.bounds.now c.args.tile c.requires.tile.parts.tiled
+    (told_of_bounded (start c) c.args.bounds.now c.requires.bounded) (within c))
 
 pub grow_rows_from_bounds-area-requires-clause-lie : goal.grow_rows_from_bounds-area-requires-clause-lie
 grow_rows_from_bounds-area-requires-clause-lie c =

@@ -1,9 +1,10 @@
 -- What the tactics leave open of `renew`.
 use Rattle.std.proofs.Common.{◌≡◌, length, ap, ◌∙◌, rules, sym, subst, arith}
-use Rattle.grid_core.specs.{Raster.Raster, Tiles.Tiles, Tiles.count_of}
+use Rattle.grid_core.specs.{Raster.Raster, Tiles.Tiles, Tiles.count_of, Tiles.tile_of}
+use Rattle.grid_core.proofs.Tilings.{each_pixel_in_one_tile}
 use Rattle.marker_tiles.specs.Kept.{IsMarkerOf}
 use Rattle.tile_work.specs.Renewing.{IsLowBeyond}
-use Rattle.reset_core.specs.Bounding.{FollowChange}
+use Rattle.reset_core.specs.Bounding.{FollowChange, FollowResets}
 use Rattle.reset_core.proofs.Bounding.{births_rise, follow_resets, follow_rises, follow_twice, low_after_resets}
 use Rattle.reset_core.proofs.MergeSteps.{marked_are_reset, births_are_raised}
 use Rattle.std.proofs.lemmas.Grind.{common_steps}
@@ -79,8 +80,17 @@ returns-clause-bounds c conn =
     (births_rise tiles c.born.result.now c.args.state.now c.marker-marker.result.now middle new
     c.reset_marked.new.work c.raise_to_marker.new.work width height c.raise_to_marker.ensures.raised)
     c.raise_to_marker.ensures.bounds in
-    rw same at (follow_twice tiles conn old middle new c.args.bounds.now c.reset_marked.new.bounds
-    c.raise_to_marker.new.bounds tiled count first second)
+    let done : FollowResets tiles conn c.args.marks.now old new c.args.bounds.now c.raise_to_marker.new.bounds =
+    record {
+      follow =
+          follow_twice tiles conn old middle new c.args.bounds.now c.reset_marked.new.bounds
+          c.raise_to_marker.new.bounds tiled count first second;
+      own = λ p inside marked.
+          second.widened.kept (tile_of tiles p) p
+          (omega (arith, (each_pixel_in_one_tile tiles p tiled inside).0, first.widened.count, count))
+          (resets.bounds.own p inside marked);
+    } in
+    rw same at done
 
 pub reset_marked-requires-clause-marks : goal.reset_marked-requires-clause-marks
 reset_marked-requires-clause-marks c = grind (arith, common_steps)
