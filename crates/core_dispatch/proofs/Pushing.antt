@@ -6,7 +6,7 @@ use Rattle.std.proofs.{lemmas.List.Sums.sum_by-append, lemmas.Bool.cases_eq, lem
 use Rattle.std.specs.List.{list_any}
 use Rattle.tile_generations.specs.{declared.ticket.Ticket.Ticket, Jobs.Job}
 use Rattle.border_queues.specs.TileWork.{TileWork, IsLeast, idle}
-use Rattle.core_rules.specs.{Work.Core, Work.work_at, Sweeps.IsReady, Sweeps.IsTaken}
+use Rattle.core_rules.specs.{Work.Core, Work.work_at, Sweeps.IsSkipped, Sweeps.IsReady, Sweeps.IsTaken}
 use Rattle.core_dispatch.specs.{Books.BooksView, Books.KeepsRest, declared.turned.Jobs.Jobs}
 use Rattle.core_dispatch.specs.{declared.turned.Pushing.Pushing, declared.dispatcher.Dispatcher.Dispatcher}
 use Rattle.core_dispatch.specs.declared.turned.Pushing.TheVariants.{Pushed, Refused, Wanting}
@@ -37,6 +37,19 @@ placed_is_pushed t old new books job Refused is_taken rest (abandoned, same, ful
   full,
 )
 placed_is_pushed t old new books job Wanting is_taken rest placed = absurd placed
+
+-- a tile that was passed over was refused
+pub passed_is_refused : (t : ℕ) (old : Dispatcher) (books : BooksView) → IsSkipped old.books.core t books.core
+    → KeepsRest old.books books → old.owner.capacity ≤ length old.owner.pushed
+    → IsPushed t old Refused (record old { books = books })
+passed_is_refused t old books passed rest full = (
+  passed.job,
+  passed.between,
+  passed.is_taken,
+  passed.is_abandoned,
+  ap (λ (b : BooksView). record old { books = b }) rest,
+  full,
+)
 
 -- whatever became of the tile, all others are as they were
 pub pushed_elsewhere : (t : ℕ) (old new : Dispatcher) (pushing : Pushing) → IsPushed t old pushing new

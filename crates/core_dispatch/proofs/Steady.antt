@@ -1,6 +1,6 @@
 -- Events that are no merges leave strokes, mask, connectivity and generations, and so keep the books faithful.
 use Rattle.std.proofs.Common.{◌≡◌, ℕ, ◌<◌, true, Bool, List, length, sym, refl}
-use Rattle.std.proofs.Common.{ap, ◌∙◌, subst, arith, Option, remove, Result, Ok, Err, IfOk, OnErr}
+use Rattle.std.proofs.Common.{ap, ◌∙◌, subst, arith, Option, Some, remove, Result, Ok, Err, IfOk, OnErr}
 use Rattle.std.proofs.lemmas.List.{length-set}
 use mathlib.Core.Logic.{dite}
 use native.Mathlib.Decide.{ℕ_discrete}
@@ -14,7 +14,7 @@ use Rattle.core_rules.specs.declared.answers.Back.TheVariants.{Joined, Again, St
 use Rattle.core_rules.specs.declared.error.CoreError.TheVariants.{OutOfImage, Conflict, GenerationsSpent, Memory}
 use Rattle.core_rules.specs.declared.error.CoreError.TheVariants.{BadSide}
 use Rattle.core_rules.specs.Work.{Core, IsTile, tiling, with_work, work_at}
-use Rattle.core_rules.specs.Sweeps.{IsTaken, IsGivenBack, IsJoined, IsAbandoned}
+use Rattle.core_rules.specs.Sweeps.{IsTaken, IsGivenBack, IsJoined, IsAbandoned, IsSkipped}
 use Rattle.core_rules.specs.Hints.{IsHanded, without_hint, raised}
 use Rattle.core_dispatch.specs.Books.{BooksView, IsReason, IsFaithful, KeepsRest, ledger}
 use Rattle.core_dispatch.proofs.Marking.{IsOnlyMarked, take_marks, abandon_marks, abandons_mark, kept_field}
@@ -135,6 +135,11 @@ pub abandoned_is_steady : (before after : Core) (ticket : Ticket) (was_out : Boo
     → IsAbandoned before ticket was_out after → IsSteady before after
 abandoned_is_steady before after ticket was_out is =
     marked_is_steady before after (abandon_marks before after ticket was_out is).marked
+
+pub passed_is_steady : (before after : Core) (t : ℕ) → IsSkipped before t after → IsSteady before after
+passed_is_steady before after t passed =
+    through before passed.between after (taken_is_steady before passed.between t (Some passed.job) passed.is_taken)
+    (abandoned_is_steady passed.between after passed.job.ticket true passed.is_abandoned)
 
 pub abandons_are_steady : (before : Core) (tickets : List Ticket) (after : Core)
     → IsRun before (abandoned tickets) after → IsSteady before after

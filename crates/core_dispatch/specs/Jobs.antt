@@ -24,8 +24,8 @@ IsPlaced old job Refused new =
     × (old.owner.capacity ≤ length old.owner.pushed)
 IsPlaced old job Wanting new = ⊥
 
--- what became of the tile: its job was taken and pushed; or it was taken, found no place, where as many jobs were
--- pushed as surely find one, and was abandoned; or memory was wanting to take it
+-- what became of the tile: its job was taken and pushed; or it was taken and abandoned, where as many jobs were pushed
+-- as surely find a place; or memory was wanting to take it
 abbrev pub IsPushed : ℕ → Dispatcher → Pushing → Dispatcher → Type 0
 IsPushed t old Pushed new =
     (job : Job) × IsTaken old.books.core t (Some job) new.books.core

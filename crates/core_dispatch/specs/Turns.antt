@@ -35,7 +35,7 @@ AreOfReports (suc n) log =
     (report : Report) × (wanting : Bool) × (first rest : List Entry) × Leads report wanting first
     × (log ≡ first ++ rest) × AreOfReports n rest
 
--- each of the events takes the job of a tile, or abandons a job that found no place
+-- each of the events takes the job of a tile, or abandons a job that was not pushed
 abbrev pub AreOfJobs : List Entry → Type 0
 AreOfJobs [] = Unit {0}
 AreOfJobs ((Take t, OfTake (Some job)) ∷ log) = AreOfJobs log
@@ -43,7 +43,7 @@ AreOfJobs ((Abandon ticket, OfAbandon true) ∷ log) = AreOfJobs log
 AreOfJobs (entry ∷ log) = ⊥
 
 -- what a turn did to the core is a list of its events, in this order: merges, what the reports lead to, hints that are
--- handed over, and jobs that are taken, those that found no place being abandoned
+-- handed over, and jobs that are taken, those that were not pushed being abandoned
 pub record AreEvents (before : Core) (turned : Turned) (after : Core) : Type 0 where
   pub merges : List Entry
   pub reports : List Entry

@@ -14,8 +14,7 @@
 //! pens[0].submit(delta)?;            // in whichever thread: the first 64 edits of a pen succeed
 //! dispatcher.turn();                 // edits: 1, jobs: 1
 //! hand.turn(&Open);                  // in whichever thread
-//! dispatcher.turn();                 // results: 1
-//! dispatcher.core().image();   // raised
+//! dispatcher.turn();                 // results: 1, and the image has risen
 //! ```
 //!
 //! At each moment the strokes of the core are those at opening, joined with each edit that was taken and not listed;

@@ -33,7 +33,7 @@ pub(crate) struct Results {
 pub(crate) enum Pushing {
     /// Its job was pushed.
     Pushed,
-    /// Its job was taken, found no place in the deque, and was abandoned.
+    /// Its job was taken and abandoned: it found no place in the deque, or the tile waits for one that touches it.
     Refused,
     /// Memory was wanting to take its job.
     Wanting,

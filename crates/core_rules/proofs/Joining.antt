@@ -309,7 +309,7 @@ module _ (before after : Core) (swept : Swept) (sound : IsSound before) (is_swep
       ])
 
   -- an open pair of the tile's pixels begins at one that was above what the sweep gave
-  above_swept : (p q : Pixel) → IsOpen (domain before) (mask_at before) (image_at after) p q → home p ≡ its_tile
+  pub above_swept : (p q : Pixel) → IsOpen (domain before) (mask_at before) (image_at after) p q → home p ≡ its_tile
       → home q ≡ its_tile
       → (a : Pixel) × Inside (local swept) a × (placed before swept a ≡ p)
       × (value_at swept.pixels a < image_at before p)
@@ -342,18 +342,8 @@ module _ (before after : Core) (swept : Swept) (sound : IsSound before) (is_swep
         ],
       )
 
-  -- so it was open before
-  pub open_inside : (p q : Pixel) → IsOpen (domain before) (mask_at before) (image_at after) p q → home p ≡ its_tile
-      → home q ≡ its_tile → IsOpen (domain before) (mask_at before) (image_at before) p q
-  open_inside p q pair from_here to_here =
-      let (a, inside_a, is_a, above) = above_swept p q pair from_here to_here in
-      let at_a : image_at after p ≡ max (image_at before p) (value_at swept.pixels a) =
-      subst (λ (r : Pixel). image_at after r ≡ max (image_at before r) (value_at swept.pixels a)) is_a
-      (at_part a inside_a) in
-      open_before before after.image after.tiles before.serial rise p q (omega (arith, at_a, above)) pair
-
   -- where the image of the tile was the base, no pair of its pixels is open
-  pub closed_inside : ((p : Pixel) → Inside (local swept) p
+  closed_inside : ((p : Pixel) → Inside (local swept) p
       → image_at before (placed before swept p) ≡ value_at swept.job.base p) → (p q : Pixel)
       → IsOpen (domain before) (mask_at before) (image_at after) p q → home p ≡ its_tile → home q ≡ its_tile → ⊥
   closed_inside same p q pair from_here to_here =

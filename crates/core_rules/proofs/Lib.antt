@@ -15,6 +15,7 @@ pub mod Deltas
 pub mod Ordered
 pub mod Successors
 pub mod Pieces
+pub mod PassingOver
 pub mod InPlaceSweeps
 pub mod Counting
 pub mod Leaving

@@ -119,3 +119,10 @@ IsAbandoned before ticket true after =
     IsOut before ticket
     × (after ≡ with_work before ticket.tile (record (work_at before ticket.tile) { dirty = true; out = None }))
 IsAbandoned before ticket false after = (IsOut before ticket → ⊥) × (after ≡ before)
+
+-- the job of the tile is taken, and abandoned at once
+pub record IsSkipped (before : Core) (t : ℕ) (after : Core) : Type 0 where
+  pub job : Job
+  pub between : Core
+  pub is_taken : IsTaken before t (Some job) between
+  pub is_abandoned : IsAbandoned between job.ticket true after

@@ -6,7 +6,8 @@ use Rattle.std.proofs.lemmas.List.Elements.{Contains-append_cases, Contains-appe
 use Rattle.std.proofs.lemmas.List.Elements.{Contains-push, Contains-push_cases}
 use Rattle.grid_core.specs.{Rows.pixel_if, declared.pixel.Pixel.Pixel}
 use mathlib.Core.Logic.{⊎_elim}
-use Rattle.live_board.proofs.Touching.{only, read_rises, rise_of, risen_is, rises_both, rises_one, touched_both, touched_none}
+use Rattle.live_board.proofs.Touching.{only, read_rises, rise_of, risen_is, rises_both, rises_one, touched_both}
+use Rattle.live_board.proofs.Touching.{touched_none}
 use Rattle.live_board.proofs.Touching.{touched_one}
 use Rattle.live_board.proofs.{Rounds.fact_stays, Flooding.IsLater, Flooding.knows_later, Flooding.later_by}
 use Rattle.live_board.proofs.{Flooding.touch_known, Flooded.none_risen}
@@ -116,7 +117,8 @@ raised_is_known base from q rose v w mine raised = record {
 
 -- some, and then others
 pub trails_both : (base : Ground) (from : Fact) (ps qs : List Pixel) (count more : ℕ) (old middle new : SeatView)
-    (was then now : Trail) → Trails base from ps count old middle was then → Trails base from qs more middle new then now
+    (was then now : Trail) → Trails base from ps count old middle was then
+    → Trails base from qs more middle new then now
     → Trails base from (ps ++ qs) (count + more) old new was now
 trails_both base from ps qs count more old middle new was then now one two = record {
   touches = one.touches ++ two.touches;
@@ -216,7 +218,8 @@ trail_next base v was now is only same = record {
 pub grows_more : (base : Ground) (a b : ℕ) (u v w : SeatView) (was mid now : Trail) → GrowsOn base a u v was mid
     → GrowsOn base b v w mid now → GrowsOn base (a + b) u w was now
 grows_more base a b u v w was mid now one two pixels count started g =
-    subst (λ (n : ℕ). IsGrowing base pixels n started w now) (let all : count + a + b ≡ count + (a + b) = omega arith in all)
+    subst (λ (n : ℕ). IsGrowing base pixels n started w now)
+    (let all : count + a + b ≡ count + (a + b) = omega arith in all)
     (two pixels (count + a) started (one pixels count started g))
 
 served_still : (base : Ground) (v : SeatView) (was now : Trail) (f : Fact) → KeepsLeft was now → IsServed base v was f

@@ -1,7 +1,7 @@
 -- The steps of a flood, cell by cell: the cell of a pixel is its place in raster order. Only private functions have
 -- these words in their contracts.
-use Rattle.std.specs.Prelude.{◌+◌, ◌-◌, ◌<◌, ◌⊎◌, Bool, Contains, IsTrue, List, count_by, length, min, slice_index, ℕ, ◌↔◌}
-use Rattle.std.specs.Prelude.{◌≡◌, ◌≤◌}
+use Rattle.std.specs.Prelude.{◌+◌, ◌-◌, ◌<◌, ◌⊎◌, Bool, Contains, IsTrue, List, count_by, length, min, slice_index, ℕ}
+use Rattle.std.specs.Prelude.{◌≡◌, ◌≤◌, ◌↔◌}
 use Rattle.grid_core.specs.{Raster.Raster, Raster.value_at, declared.pixel.Pixel.Pixel}
 use Rattle.live_board.specs.Floods.{Knows}
 use Rattle.live_board.specs.Rounds.{HasTouched, Touch, has_risen, pixel_after}

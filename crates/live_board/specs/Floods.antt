@@ -71,8 +71,8 @@ pub record HasFollowed (base : Ground) (first end : ℕ) (answer : Reach) (old n
       → (IsInRows answer.first answer.end t.0.pixel → ⊥) → HasSpread base new t.0
 
 -- the generation was learnt, and each of the pixels was read. Where a pixel had a value of that generation, it has
--- spread, and so has all that these steps raised, but for what lies in the answer's rows. The count is that of the steps
--- that found less than they left
+-- spread, and so has all that these steps raised, but for what lies in the answer's rows. The count is that of the
+-- steps that found less than they left
 pub record HasGrownFrom (base : Ground) (pixels : List Pixel) (answer : Reach) (old new : SeatView) : Type 0 where
   pub started : SeatView
   pub start : HasStarted old started

@@ -19,7 +19,7 @@ impl HandSeat {
     ghost use Rattle.live_board.specs.Seats.{IsBeside, IsFactOf, IsHandOf, ground_of, hand_view};
     ghost use Rattle.live_board.specs.Words.{IsOn, mask_of};
 
-    // Raises the pixel in this place, which lies beside the fact's, if there is one, and leaves it in the trail where it
+    // Raises the pixel in this place, which lies beside the fact's, if there is one, and leaves it in the trail if it
     // rose. It answers how many did.
     fn trail_if(
         &mut self,

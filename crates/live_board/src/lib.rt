@@ -21,7 +21,12 @@
 //! No word of the present generation is more than its pixel reaches from the keeper's marker: that is the rule of the
 //! board, and it holds between any two steps of any threads. No call waits, and those of seats take no memory.
 //!
-//! Read on in `specs/Rule.antt`, which has the rule, and in `specs/Seats.antt`, which says what each seat's call does.
+//! A round looks at each pixel once. A hand grows faster by floods ([`HandSeat::flood`]): it reads some rows, grows
+//! them in a [`Draft`] of its own, and raises the board to what it has grown. Several hands share a board by [`Strips`]
+//! of rows that wait for whoever comes next ([`HandSeat::flood_strips`]).
+//!
+//! Read on in `specs/Rule.antt`, which has the rule, in `specs/Seats.antt`, which says what each seat's call does, and
+//! in `specs/Floods.antt` for floods.
 
 mod band;
 mod blocks;

@@ -11,8 +11,8 @@ use std::alloc::Global;
 /// How many facts wait at most.
 const ROOM: usize = 4096;
 
-/// Facts that wait to be spread, the last of them first, and the rows of those for which there was no room: from `first`
-/// to before `end`, none where these are the same.
+/// Facts that wait to be spread, the last of them first, and the rows of those for which there was no room: from
+/// `first` to before `end`, none where these are the same.
 #[derive(Drop)]
 pub(crate) struct Trail {
     pub(crate) waiting: Vec<Fact>,

@@ -1,5 +1,6 @@
 -- What a page is told that asks what changed: numbers, rectangles, strokes and pixels of one moment.
-use Rattle.std.specs.Prelude.{◌≡◌, ℕ, ◌+◌, ◌<◌, ◌≤◌, List, [], ◌∷◌, ◌++◌, ◌↔◌, ◌⊎◌, if◌then◌else◌, decimal, Contains, Option}
+use Rattle.std.specs.Prelude.{◌≡◌, ℕ, ◌+◌, ◌<◌, ◌≤◌, List, [], ◌∷◌, ◌++◌}
+use Rattle.std.specs.Prelude.{◌↔◌, ◌⊎◌, if◌then◌else◌, decimal, Contains, Option}
 use Rattle.std.specs.Prelude.{Some, None, flat_map}
 use Rattle.grid_core.specs.{declared.pixel.Pixel.Pixel, declared.rect.Rect.Rect, Raster.Raster, Raster.IsInside}
 use Rattle.grid_core.specs.{Rects.IsInRect, Rects.IsPart, Rects.RectFits, Tiles.tile_of}

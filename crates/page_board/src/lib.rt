@@ -10,9 +10,9 @@
 //! ```
 //!
 //! A [`PageBoard`] has no handle, no clock and no connection: it is the state of a service, and whoever answers
-//! requests calls it, and lends it the handle by whose threads it grows. Each change has a step. For each tile the board
-//! keeps the step at which it last changed, and for each merge the tags that came and went with it. So a page that was
-//! told a step is told later what is new since then, and all that is told in one answer is of one moment.
+//! requests calls it, and lends it the handle by whose threads it grows. Each change has a step. For each tile the
+//! board keeps the step at which it last changed, and for each merge the tags that came and went with it. So a page
+//! that was told a step is told later what is new since then, and all that is told in one answer is of one moment.
 //!
 //! A board opens without strokes, or with those that a state file keeps ([`PageBoard::open_kept`]). Then its image has
 //! grown at once, and no work is left.

@@ -23,8 +23,8 @@
 //! - `html` has the page as a text, which `tools/embed_page.py` writes from the files of `page/`, and the policy that
 //!   allows its style and its script alone;
 //! - `server` has the turns. `call` has what is asked for, [`opening`] the board as it is opened, `page` the service
-//!   with its share of settling, `slices` how much that is, `ports`, `door`, `site` and `forward` where it is served and
-//!   who is told, and `caller` a stream of one who showed the key.
+//!   with its share of settling, `slices` how much that is, `ports`, `door`, `site` and `forward` where it is served
+//!   and who is told, and `caller` a stream of one who showed the key.
 //!
 //! Read on in `specs/Opening.antt` for what a board is opened from, and why it is not, in `specs/Round.antt` for what a
 //! round does, and in `specs/Turning.antt` for what a turn does.

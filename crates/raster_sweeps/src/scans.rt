@@ -23,8 +23,8 @@ const WIDE: u32 = 256;
 /// and then along its row, as far as the mask lets it. A row that is 0 as is the one before it is passed over: nothing
 /// rises there.
 ///
-/// Vincent's scan runs along a row from the left alone. To run back from the right as well leaves less for later: of the
-/// open pairs only those that lead up.
+/// Vincent's scan runs along a row from the left alone. To run back from the right as well leaves less for later: of
+/// the open pairs only those that lead up.
 pub fn scan_down(mask: &[u16], image: &mut [u16], size: Size, rect: Rect, conn: Conn)
     requires { CanClose rect (rows_of size mask.now) (rows_of size image.old) }
     ensures grown { IsGrown conn rect (rows_of size mask.now) (rows_of size image.old) (rows_of size image.new) }
@@ -75,8 +75,8 @@ pub fn scan_up(
 }
 
 /// The anti-raster scan behind the raster scan, as [`scan_up`] by itself. A row that the one below it can not raise is
-/// passed over: of its pairs none is left that leads along the row or down. In wide rectangles nearly each row rises, so
-/// that it does not pay to look first.
+/// passed over: of its pairs none is left that leads along the row or down. In wide rectangles nearly each row rises,
+/// so that it does not pay to look first.
 ///
 /// It answers whether there was room for all pixels that can still raise one in the row below.
 pub fn scan_back(

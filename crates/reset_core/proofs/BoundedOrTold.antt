@@ -1,9 +1,8 @@
 -- Bounds outside which an open pair begins only where a hint waits for it: they stay so where they follow each change
 -- of the image, and where each hint for a pair that is open still is as good as it was.
-use Rattle.std.proofs.Common.{◌≡◌, ℕ, ◌-◌, ◌<◌, ◌≤◌, ◌⊎◌, ◌≢◌, Bool, true, false, IsTrue, List, [], length, arith}
-use Rattle.std.proofs.Common.{inl, inr, refl, subst, sym, ap, ◌∙◌, Contains, slice_set, if◌then◌else◌}
+use Rattle.std.proofs.Common.{◌≡◌, ℕ, ◌-◌, ◌<◌, ◌≤◌, ◌⊎◌, ◌≢◌, List, [], length, arith, inl, inr, refl, subst, sym, ap}
+use Rattle.std.proofs.Common.{◌∙◌, Contains}
 use Rattle.std.proofs.lemmas.Bool.{cases_eq, cases_lt}
-use Rattle.std.proofs.lemmas.List.{get_or-set_same}
 use Rattle.grid_core.specs.{declared.bounds.Bounds.Bounds, declared.pixel.Pixel.Pixel}
 use Rattle.grid_core.specs.{declared.rect.Rect.Rect, Bounds.AreEmpty, Bounds.IsInBounds, Bounds.LieIn}
 use Rattle.grid_core.specs.{Bounds.no_bounds, Path.Inside}
@@ -18,12 +17,12 @@ use Rattle.raster_sweeps.proofs.Whole.{whole_part}
 use Rattle.tile_work.specs.OpenBounds.{IsWithinItsBounds, bounds_for}
 use Rattle.core_rules.specs.{Image.IsOpen, Image.IsPart, Invariant.HasHint, Invariant.IsSound, Runs.HasHints}
 use Rattle.core_rules.specs.Work.{Core, domain, tiling, mask_at, image_at}
-use Rattle.core_rules.specs.Sweeps.{IsJoined, IsKnown, IsUnchanged, tile_rect}
+use Rattle.core_rules.specs.Sweeps.{IsJoined, IsKnown, tile_rect}
 use Rattle.core_rules.proofs.Cores.{changed, tile_of_pixel}
-use Rattle.core_rules.proofs.Joining.{closed_inside, in_rect_size, local, open_elsewhere, open_inside, placed}
+use Rattle.core_rules.proofs.Joining.{above_swept, local, open_elsewhere, placed}
 use Rattle.core_rules.proofs.{Joining.told_elsewhere, Joining.told_outside, Supporting.neighbours_in_image}
 use Rattle.reset_core.specs.Bounding.{AreBounded, AreBoundedOrTold, AreCountedFrom, FollowChange, IsTold}
-use Rattle.reset_core.proofs.Bounding.{follow_same, none_lie}
+use Rattle.reset_core.proofs.Bounding.{follow_same}
 
 -- bounds outside which nothing open begins
 pub told_of_bounded : (core : Core) (table : List Bounds) → AreBounded core table → AreBoundedOrTold core table
@@ -116,13 +115,13 @@ module _ (before after : Core) (swept : Swept) (sound : IsSound before) (is_swep
   abbrev its_tile : ℕ
   its_tile = swept.job.ticket.tile
 
-  its_tile_within : its_tile < count_of (tiling before)
-  its_tile_within = omega (arith, known.is_tile, sound.shape.tiles)
-
-  module _ (new : List Bounds) (count : length new ≡ length table)
-      (others : (u : ℕ) → u ≢ its_tile → bounds_for new u ≡ bounds_for table u)
-      (own : (bounds_for new its_tile ≡ bounds_for table its_tile)
-      ⊎ (IsUnchanged before swept.job × (bounds_for new its_tile ≡ no_bounds))) where
+  -- the tile gets bounds that lie in it, and have each pixel that was above what the sweep gave
+  module _ (new : List Bounds) (area : Bounds) (count : length new ≡ length table)
+      (others : (u : ℕ) → u ≢ its_tile → bounds_for new u ≡ bounds_for table u) (own : bounds_for new its_tile ≡ area)
+      (lie : LieIn area (rect_of (tiling before) its_tile))
+      (above : (p : Pixel) → Inside (local swept) p
+      → value_at swept.pixels p < image_at before (placed before swept p)
+      → IsInBounds area (placed before swept p)) where
     begins_elsewhere : (p q : Pixel) → tile_of (tiling before) p ≢ its_tile
         → IsOpen (domain before) (mask_at before) (image_at after) p q
         → IsWithinItsBounds (tiling before) new p ⊎ IsTold now p q
@@ -137,26 +136,18 @@ module _ (before after : Core) (swept : Swept) (sound : IsSound before) (is_swep
           })
         ]
 
-    -- a pair of the tile's pixels was open before, and the tile is not as it was when its job was taken
+    -- an open pair of the tile's pixels begins at one that was above what the sweep gave
     begins_inside : (p q : Pixel) → tile_of (tiling before) p ≡ its_tile → tile_of (tiling before) q ≡ its_tile
         → IsOpen (domain before) (mask_at before) (image_at after) p q → IsWithinItsBounds (tiling before) new p
-    begins_inside p q home here pair = elim own [
-      | inr (unchanged, none) ↦
-          let same : (a : Pixel) → Inside (local swept) a
-          → image_at before (placed before swept a) ≡ value_at swept.job.base a = λ a inside.
-          sym (unchanged.base.values a (in_rect_size before swept sound known a inside)) in
-          absurd (closed_inside before after swept sound is_swept known joined edges_open below same p q pair home
-          here)
-      | inl kept ↦
-          let was = open_inside before after swept sound is_swept known joined edges_open below p q pair home here in
-          elim (bounded.begin p q was) [
-            | inl there ↦
-                let at : bounds_for new (tile_of (tiling before) p) ≡ bounds_for table (tile_of (tiling before) p) =
-                subst (λ n. bounds_for new n ≡ bounds_for table n) (sym home) kept in
-                subst (λ b. IsInBounds b p) (sym at) there
-            | inr told ↦ absurd (told.other (here ∙ sym home))
-          ]
-    ]
+    begins_inside p q home here pair =
+        let (a, inside_a, is_a, high) =
+        above_swept before after swept sound is_swept known joined edges_open below p q pair home here in
+        let high_there : value_at swept.pixels a < image_at before (placed before swept a) =
+        subst (λ (r : Pixel). value_at swept.pixels a < image_at before r) (sym is_a) high in
+        let there : IsInBounds area p = subst (λ (r : Pixel). IsInBounds area r) is_a (above a inside_a high_there) in
+        let at : bounds_for new (tile_of (tiling before) p) ≡ area =
+        subst (λ n. bounds_for new n ≡ area) (sym home) own in
+        subst (λ b. IsInBounds b p) (sym at) there
 
     -- each open pair that leads out of the tile has been told
     pub joined_bounded : AreBoundedOrTold now new
@@ -165,14 +156,9 @@ module _ (before after : Core) (swept : Swept) (sound : IsSound before) (is_swep
       lie = λ u there.
           let was : u < length table = omega (arith, there, count) in
           elim (cases_eq u its_tile) [
-            | inl same ↦ rw same (elim own [
-              | inl kept ↦
-                  subst (λ b. LieIn b (rect_of (tiling before) its_tile)) (sym kept)
-                  (bounded.lie its_tile (omega (arith, its_tile_within, bounded.count)))
-              | inr (unchanged, none) ↦
-                  subst (λ b. LieIn b (rect_of (tiling before) its_tile)) (sym none)
-                  (none_lie (tiling before) its_tile sound.shape.tiled its_tile_within)
-            ])
+            | inl same ↦
+                subst (λ n. LieIn (bounds_for new n) (rect_of (tiling before) n)) (sym same)
+                (subst (λ b. LieIn b (rect_of (tiling before) its_tile)) (sym own) lie)
             | inr other ↦
                 subst (λ b. LieIn b (rect_of (tiling before) u)) (sym (others u other)) (bounded.lie u was)
           ];
@@ -187,17 +173,6 @@ module _ (before after : Core) (swept : Swept) (sound : IsSound before) (is_swep
         ]
       ];
     }
-
--- what is left of the bounds of the tile: none where it was as it was when its job was taken
-pub left_of : (before : Core) (job : Job) (table : List Bounds) (t : ℕ) (is_unchanged : Bool) → t < length table
-    → (IsTrue is_unchanged → IsUnchanged before job)
-    → (bounds_for (slice_set table t (if is_unchanged then no_bounds else bounds_for table t)) t ≡ bounds_for table t)
-    ⊎ (IsUnchanged before job
-    × (bounds_for (slice_set table t (if is_unchanged then no_bounds else bounds_for table t)) t ≡ no_bounds))
-left_of before job table t true within unchanged =
-    inr (unchanged refl, get_or-set_same table t no_bounds no_bounds within)
-left_of before job table t false within unchanged =
-    inl (get_or-set_same table t (bounds_for table t) no_bounds within)
 
 -- ---- a tile of which a job is taken
 

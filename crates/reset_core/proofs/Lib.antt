@@ -9,6 +9,7 @@ pub mod TellingNear
 pub mod TellingOrder
 pub mod TellingSweeps
 pub mod InPlace
+pub mod LeftOpen
 pub mod Masking
 pub mod MergeSteps
 pub mod BoundedOrTold

@@ -1,10 +1,9 @@
 -- Schedules: what each step leads to, and how one goes after another.
 use Rattle.std.proofs.Common.{◌≡◌, ℕ, ◌+◌, ◌<◌, ◌≤◌, Bool, true, false, List, [], ◌∷◌, ◌++◌, length, take, drop, suc}
-use Rattle.std.proofs.Common.{get_or, set, refl, sym, subst, ap, ◌∙◌, arith, inl, inr, ◌⊎◌, ◌≢◌, Option, Some, None}
+use Rattle.std.proofs.Common.{get_or, refl, sym, subst, ap, ◌∙◌, arith, inl, inr, ◌⊎◌, ◌≢◌, Option, Some, None}
 use Rattle.std.proofs.Common.{Result, Ok, Err, OnOk, OnErr, slice_get, Bor}
 use Rattle.std.proofs.{lemmas.Option.slice_get_past, lemmas.Option.slice_get_read, Math.Seq.drop-cons}
-use Rattle.std.proofs.lemmas.List.{append-nil, length_push, take_more, take-append-drop, length-set, set-set}
-use Rattle.std.proofs.lemmas.List.{set-get_or}
+use Rattle.std.proofs.lemmas.List.{append-nil, length_push, take_more, take-append-drop}
 use Rattle.std.specs.Slice.{IsItemAt}
 use Rattle.stroke_lattice.specs.{State.State, Change.Turnover}
 use Rattle.tile_generations.specs.{declared.ticket.Ticket.Ticket, Jobs.Job, Jobs.Swept, Jobs.IsSwept}
@@ -13,15 +12,14 @@ use Rattle.core_rules.specs.{declared.answers.Handed.Handed, declared.step.Step.
 use Rattle.core_rules.specs.{Work.with_work, Merge.IsMerged, Merge.IsRefused, Merge.IsAcceptable, Hints.IsHanded}
 use Rattle.core_rules.specs.{Runs.Entry, Runs.jobs_of, Runs.abandons_of, Counting.IsWithinWork}
 use Rattle.core_rules.specs.{Laws.ScheduleIsWithinWork, Invariant.IsSound}
-use Rattle.core_rules.specs.Sweeps.{IsTaken, IsGivenBack, IsAbandoned, IsReady, IsOut, taken}
+use Rattle.core_rules.specs.Sweeps.{IsTaken, IsGivenBack, IsAbandoned, taken}
 use Rattle.core_rules.specs.Events.{Event, Answer, Happens, Merge, Take, GiveBack, Abandon, Hand, OfMerge, OfTake}
 use Rattle.core_rules.specs.Events.{OfGiveBack, OfAbandon, OfHand}
 use Rattle.core_rules.specs.Schedule.{Progress, Ran, started, passed, after_event, IsStep, AreSteps, ran_of, IsStopped}
 use Rattle.core_rules.specs.Schedule.{IsCutOff, edits_of}
-use Rattle.border_queues.specs.TileWork.{TileWork, idle}
 use Rattle.reset_core.specs.declared.replica.scheduling.Tally.{Tally}
 use Rattle.reset_core.specs.Scheduling.{Kept, Agrees, LeadsOn, HaveRunSoFar, HasRoom}
-use Rattle.core_rules.proofs.Cores.{work_there}
+use Rattle.core_rules.proofs.PassingOver.{same_work, taken_is_out, work_back, work_is_back}
 use Rattle.reset_core.proofs.Settling.{jobs_append}
 use Rattle.core_rules.specs.declared.error.CoreError.TheVariants as errors
 use Rattle.core_rules.specs.declared.step.Step.TheVariants as steps
@@ -297,39 +295,6 @@ hint_handed n t place before after kept handed is_handed = record {
 }
 
 -- ---- a job that is taken and abandoned at once
-
--- what is at a tile once it is taken, and once its job is abandoned
-abbrev work_out : Core → ℕ → TileWork
-work_out before t = record (work_at before t) { dirty = false; out = Some before.serial }
-
-abbrev work_back : TileWork → TileWork
-work_back work = record work { dirty = true; out = None }
-
--- the work at the tile is as before
-same_work : (before : Core) (t : ℕ) (work : TileWork) → work ≡ work_at before t
-    → with_work (taken before t) t work ≡ record before { serial = (taken before t).serial }
-same_work before t work same =
-    let tiles : set (taken before t).tiles t work ≡ before.tiles =
-    set-set before.tiles t (work_out before t) work ∙ ap (set before.tiles t) same ∙ set-get_or before.tiles t idle in
-    let with_tiles : List TileWork → Core = λ works. record (taken before t) { tiles = works } in
-    ap with_tiles tiles
-
-taken_there : (before : Core) (t : ℕ) → IsReady before t → work_at (taken before t) t ≡ work_out before t
-taken_there before t ready = work_there before t (work_out before t) ready.is_tile
-
-work_is_back : (before : Core) (t : ℕ) → IsReady before t → work_back (work_at (taken before t) t) ≡ work_at before t
-work_is_back before t ready =
-    let put : Bool → Option ℕ → TileWork = λ dirty out. record (work_at before t) { dirty = dirty; out = out } in
-    ap work_back (taken_there before t ready) ∙ ap (λ dirty. put dirty None) (sym ready.dirty)
-    ∙ ap (put (work_at before t).dirty) (sym ready.none_out)
-
-taken_is_out : (before : Core) (t : ℕ) → IsReady before t
-    → IsOut (taken before t) (record { tile = t; generation = (work_at before t).generation; serial = before.serial })
-taken_is_out before t ready = record {
-  is_tile = subst (λ n. t < n) (sym (length-set before.tiles t (work_out before t))) ready.is_tile;
-  generation = ap (λ (work : TileWork). work.generation) (taken_there before t ready);
-  out = ap (λ (work : TileWork). work.out) (taken_there before t ready);
-}
 
 pub taken_and_abandoned : (before mid after : Core) (t : ℕ) (job : Job) (ticket : Ticket) (was_out : Bool)
     → IsTaken before t (Some job) mid → ticket ≡ job.ticket → IsAbandoned mid ticket was_out after

@@ -1,13 +1,14 @@
--- Taking a tile, giving it back and abandoning a job, as the stored core does them.
+-- Taking a tile, giving it back, abandoning a job and passing over a tile, as the stored core does them.
 use Rattle.std.proofs.Common.{◌≡◌, ℕ, ◌+◌, ◌%◌, ◌^◌, ◌<◌, Bool, true, false, List, [], ◌∷◌, ◌++◌, length, refl, sym}
 use Rattle.std.proofs.Common.{◌∙◌, ap, subst, arith, inl, inr, ◌⊎◌, ◌==◌, Contains, Some, None, filter, if◌then◌else◌}
-use Rattle.std.proofs.Common.{slice_index_or, slice_set, All, IsTrue, ◌≤◌}
+use Rattle.std.proofs.Common.{slice_index_or, slice_set, All, ◌≤◌}
 use Rattle.std.proofs.{lemmas.Bool.eqb-true, lemmas.Bool.Decides.eqb_tells}
 use Rattle.std.proofs.lemmas.List.{length-set, get_or-set_same, get_or-set_other, append-nil}
 use Rattle.std.proofs.lemmas.List.Elements.{Contains-get_or, All-contains}
 use Rattle.grid_core.specs.{declared.pixel.Pixel.Pixel, declared.rect.Rect.Rect, Raster.Raster, Raster.IsInside}
-use Rattle.grid_core.specs.{Raster.IsBelow, Raster.value_at, Path.Inside, Rects.in_image, Tiles.Tiles, Tiles.IsTiled}
-use Rattle.grid_core.specs.{Tiles.count_of, Tiles.tile_of, declared.bounds.Bounds.Bounds, Bounds.no_bounds}
+use Rattle.grid_core.specs.{Raster.IsBelow, Raster.value_at, Path.Inside, Rects.RectFits, Rects.in_image, Tiles.Tiles}
+use Rattle.grid_core.specs.{declared.bounds.Bounds.Bounds, Bounds.no_bounds}
+use Rattle.grid_core.specs.Tiles.{IsTiled, count_of, tile_of}
 use Rattle.grid_core.proofs.{Cells.each_pixel_below, Pixels.same_pixel}
 use Rattle.grid_core.proofs.Tilings.{each_pixel_in_one_tile, tile_pixels, neighbours_lie_in_touching_tiles}
 use Rattle.border_queues.specs.{declared.hint.Hint.Hint, Laws.EdgesAreOpen, Laws.SameImageSameEdges}
@@ -20,13 +21,15 @@ use Rattle.core_rules.specs.Work.{Core, domain, tiling, image_at, IsTile, work_a
 use Rattle.core_rules.specs.Sweeps.{tile_rect, IsReady, IsNextJob, IsOut, IsKnown, IsUnchanged, HasOnlyRisen, sender_of}
 use Rattle.core_rules.specs.Sweeps.{hints_of, IsAbandoned, IsJoined, IsTaken}
 use Rattle.core_rules.specs.Laws.{TakeKeepsSound, AbandonKeepsSound, GiveBackKeepsSound}
-use Rattle.reset_core.specs.{Parts.IsBelowPiece, Parts.IsRaisedPart, declared.replica.Core.TheInside.Inside as Parts}
+use Rattle.reset_core.specs.Parts.{AreBoundsAbove, IsBelowPiece, IsPieceFor, IsRaisedPart}
+use Rattle.reset_core.specs.declared.replica.Core.TheInside.{Inside as Parts}
 use Rattle.reset_core.specs.{Replica.core_of, Replica.IsStored}
 use Rattle.tile_work.specs.{OpenBounds.bounds_for, WorkTable.IsToTouching, WorkTable.AreReceived}
-use Rattle.reset_core.proofs.{BoundedOrTold.joined_bounded, BoundedOrTold.left_of, BoundedOrTold.told_alike}
+use Rattle.reset_core.proofs.BoundedOrTold.{joined_bounded, told_alike}
 use Rattle.reset_core.proofs.{Storing.stored_still, TellingOrder.told_by}
 use Rattle.core_rules.proofs.{Cores.inside_image, Joining.base_at_most, Joining.in_rect_size, Joining.local}
 use Rattle.core_rules.proofs.{Joining.placed, Taking.abandon_keeps_told, Taking.take_keeps_told}
+use Rattle.core_rules.proofs.PassingOver.{is_passed_over, pass_keeps_sound, pass_keeps_told, with_next_serial}
 use Rattle.core_rules.proofs.Removals.{passed_was_there, passed_test}
 
 -- ---- what is stored
@@ -77,6 +80,17 @@ abandoned_is_stored keeps parts core ticket work view stored out is =
     (told_alike old work parts.serial parts.bounds stored.sound.shape.tiled stored.bounded
     (λ p q told. abandon_keeps_told old after ticket true p q stored.sound happens told))
     (keeps old after ticket true stored.sound happens)
+
+pub passed_is_stored : (parts : Parts) (core : Core) (t : ℕ) → core_of parts ≡ core → IsStored parts → IsReady core t
+    → IsStored (record parts { serial = (parts.serial + 1) % 2 ^ 64 })
+passed_is_stored parts core t view stored ready =
+    let serial = (parts.serial + 1) % 2 ^ 64 in
+    let old = core_of parts in
+    let happens = is_passed_over old t (subst (λ c. IsReady c t) (sym view) ready) in
+    stored_still parts parts.image parts.work parts.bounds serial stored refl
+    (told_alike old parts.work serial parts.bounds stored.sound.shape.tiled stored.bounded
+    (λ p q told. pass_keeps_told old (with_next_serial old) t p q stored.sound happens told))
+    (pass_keeps_sound old (with_next_serial old) t stored.sound happens)
 
 -- ---- the next job
 
@@ -180,6 +194,23 @@ stored_below parts core swept tile rect held view tile_is rect_is held_is is_swe
     (subst (IsBelowPiece (tile_rect core swept.job.ticket.tile) parts.image) (sym held_is)
     (subst (λ (c : Core). IsBelowPiece (tile_rect core swept.job.ticket.tile) c.image swept.pixels) (sym view)
     (swept_is_above core swept is_swept known unchanged)))
+
+-- what a sweep gave has the size of its tile's rectangle
+pub swept_is_piece : (parts : Parts) (core : Core) (swept : Swept) (tile : ℕ) (rect : Rect) (held : Raster)
+    → core_of parts ≡ core → tile ≡ swept.job.ticket.tile → rect ≡ tile_rect core tile → held ≡ swept.pixels
+    → RectFits core.image.width core.image.height rect → IsSwept swept → IsKnown core swept.job
+    → IsPieceFor rect parts.image held
+swept_is_piece parts core swept tile rect held view tile_is rect_is held_is fits is_swept known =
+    let size : rect ≡ tile_rect core swept.job.ticket.tile = rect_is ∙ ap (tile_rect core) tile_is in
+    record {
+      fits = subst (λ (c : Core). RectFits c.image.width c.image.height rect) (sym view) fits;
+      width =
+          ap (λ (r : Raster). r.width) held_is ∙ is_swept.width ∙ known.mask.width
+          ∙ sym (ap (λ (r : Rect). r.w) size);
+      height =
+          ap (λ (r : Raster). r.height) held_is ∙ is_swept.height ∙ known.mask.height
+          ∙ sym (ap (λ (r : Rect). r.h) size);
+    }
 
 -- ---- join
 
@@ -313,24 +344,25 @@ module _ (parts : Parts) (core : Core) (swept : Swept) (tiles : Tiles) (tile : �
   parts_joined =
       subst (λ (c : Core). IsJoined core swept (record c { image = image; tiles = done })) (sym view) stored_joined
 
-  pub joined_is_stored : GiveBackKeepsSound → EdgesAreOpen → (is_unchanged : Bool)
-      → (IsTrue is_unchanged → IsUnchanged core swept.job) → IsStored parts → IsSwept swept → IsKnown core swept.job
+  pub joined_is_stored : GiveBackKeepsSound → EdgesAreOpen → (area : Bounds)
+      → AreBoundsAbove rect rect.h parts.image pixels area → IsStored parts → IsSwept swept → IsKnown core swept.job
       → IsOut core swept.job.ticket → IsUnchanged core swept.job ⊎ HasOnlyRisen core swept.job
-      → IsStored (record parts {
-        image = image;
-        work = done;
-        bounds = slice_set parts.bounds tile (if is_unchanged then no_bounds else bounds_for parts.bounds tile);
-      })
-  joined_is_stored keeps edges_open is_unchanged unchanged stored is_swept known out base =
+      → IsStored (record parts { image = image; work = done; bounds = slice_set parts.bounds tile area })
+  joined_is_stored keeps edges_open area above stored is_swept known out base =
       let change = come_back (slice_index_or told tile idle) in
+      let t = swept.job.ticket.tile in
       let old : Core = core_of parts in
       let after : Core = core_of (record parts { image = image; work = done }) in
-      let left : Bounds = if is_unchanged then no_bounds else bounds_for parts.bounds tile in
-      let new : List Bounds = slice_set parts.bounds tile left in
+      let new : List Bounds = slice_set parts.bounds tile area in
       let known_there : IsKnown old swept.job = subst (λ (c : Core). IsKnown c swept.job) (sym view) known in
       let base_there : IsUnchanged old swept.job ⊎ HasOnlyRisen old swept.job =
       subst (λ (c : Core). IsUnchanged c swept.job ⊎ HasOnlyRisen c swept.job) (sym view) base in
       let joined : IsJoined old swept after = subst (λ (c : Core). IsJoined c swept after) (sym view) parts_joined in
+      let rect_at : rect ≡ tile_rect old t =
+      rect_is ∙ ap (λ (c : Core). tile_rect c tile) (sym view) ∙ ap (tile_rect old) tile_is in
+      let above_there : AreBoundsAbove (tile_rect old t) (tile_rect old t).h parts.image swept.pixels area =
+      subst (λ (r : Rect). AreBoundsAbove r r.h parts.image swept.pixels area) rect_at
+      (subst (λ (q : Raster). AreBoundsAbove rect rect.h parts.image q area) pixels_are above) in
       let within : tile < length parts.bounds =
       omega (
         arith,
@@ -340,15 +372,13 @@ module _ (parts : Parts) (core : Core) (swept : Swept) (tiles : Tiles) (tile : �
         stored.sound.shape.tiles,
         stored.bounded.count,
       ) in
-      let own =
-      left_of old swept.job parts.bounds tile is_unchanged within
-      (λ yes. subst (λ (c : Core). IsUnchanged c swept.job) (sym view) (unchanged yes)) in
       stored_still parts image done new parts.serial stored
       (ap length done_is ∙ length-set told tile change ∙ receive.count)
       (joined_bounded old after swept stored.sound is_swept known_there joined edges_open
-      (base_is_low old swept stored.sound known_there base_there) parts.bounds stored.bounded new
-      (length-set parts.bounds tile left)
-      (λ u other. get_or-set_other parts.bounds tile u left no_bounds (λ same. other (same ∙ tile_is)))
-      (subst (λ n. (bounds_for new n ≡ bounds_for parts.bounds n)
-      ⊎ (IsUnchanged old swept.job × (bounds_for new n ≡ no_bounds))) tile_is own))
+      (base_is_low old swept stored.sound known_there base_there) parts.bounds stored.bounded new area
+      (length-set parts.bounds tile area)
+      (λ u other. get_or-set_other parts.bounds tile u area no_bounds (λ same. other (same ∙ tile_is)))
+      (subst (λ n. bounds_for new n ≡ area) tile_is (get_or-set_same parts.bounds tile area no_bounds within))
+      above_there.lie
+      (λ p inside high. above_there.above p (in_rect_size old swept stored.sound known_there p inside) high))
       (join_keeps_sound keeps core after swept (subst IsSound view stored.sound) is_swept known out base parts_joined)

@@ -22,10 +22,10 @@
 //! What a core is, what can happen to it and what each event answers is one table, in the crate `core_rules`, which the
 //! contracts here cite; [`laws`] are that crate's.
 //!
-//! In the code, `replica` has the core, with a module below it for each kind of event and one for cores that begin with
-//! strokes, and `parts` has pieces of an image.
-//! They stand on the crate `tile_work`: the work at each tile, which tiles a withdrawal resets, and what a merge does
-//! to image and work.
+//! In the code, `replica` has the core, with a module below it for each kind of event, for cores that begin with
+//! strokes, for settling, alone or in bands of rows of tiles, and for a list of events that is run and judged. `parts`
+//! has pieces of an image. They stand on the crate `tile_work`: the work at each tile, which tiles a withdrawal resets,
+//! and what a merge does to image and work.
 
 mod parts;
 mod replica;

@@ -5,9 +5,10 @@ ghost use Rattle.grid_core.specs.Raster.{value_at};
 ghost use Rattle.grid_core.specs.Rects.{RectFits, IsRowOf, AreCellsChanged};
 ghost use Rattle.core_rules.specs.Image.{IsPart, IsAtMostPart, IsJoinedWith};
 ghost use Rattle.reset_core.specs.Parts.{IsPieceFor, IsBelowPiece, IsRaisedPart, raised_from};
+ghost use Rattle.reset_core.specs.Parts.{AreBoundsAbove, AreWidenedAbove, AreWidenedByRow};
 
 use grid_core::laws::cells_given_back;
-use grid_core::{Grid, Memory, Rect};
+use grid_core::{Bounds, Grid, Memory, Pixel, Rect};
 use std::alloc::Global;
 
 /// Whether the piece is the part of the whole image in the rectangle.
@@ -71,6 +72,61 @@ pub(crate) fn raised_part(
     let mut part = whole.cut(alloc, rect)?;
     raise_cells(&mut part, 0, piece.cells(), false);
     Ok(part)
+}
+
+/// Bounds of the pixels of the rectangle where the whole image is above the piece. Where `is_above` says that the piece
+/// is nowhere below it, there is none.
+pub(crate) fn bounds_above(whole: &Grid, rect: Rect, piece: &Grid, is_above: bool) -> Bounds
+    requires piece { IsPieceFor rect whole.now piece.now }
+    requires above { IsTrue is_above → IsBelowPiece rect whole.now piece.now }
+    ensures { AreBoundsAbove rect rect.h whole.now piece.now result }
+{
+    // For its clause alone: the sides of an image are bounded.
+    let _ = whole.width();
+    let mut bounds = Bounds::none();
+    if is_above {
+        return bounds;
+    }
+    for y in 0..rect.h {
+        bounds = widened_by_row(bounds, rect, y, whole.row_in(rect, y), row(piece, y));
+    }
+    bounds
+}
+
+// The bounds, widened by the pixels of row `y` of the rectangle where the values are above the limits. Most rows have
+// none, which is found like `is_equal`.
+fn widened_by_row(before: Bounds, rect: Rect, y: u32, values: &[u16], limits: &[u16]) -> Bounds
+    requires columns { rect.x + rect.w < 4294967296 }
+    requires rows { rect.y + rect.h < 4294967296 }
+    requires row { y < rect.h }
+    requires values { length values.now ≡ rect.w }
+    requires limits { length limits.now ≡ rect.w }
+    ensures { AreWidenedByRow rect y values.now limits.now rect.w before result }
+{
+    if is_at_most(values, limits) {
+        return before;
+    }
+    let mut bounds = before;
+    for x in 0..rect.w {
+        let p = Pixel {
+            x: rect.x + x,
+            y: rect.y + y,
+        };
+        bounds = widened_by_pixel(bounds, p, values[x as usize], limits[x as usize]);
+    }
+    bounds
+}
+
+// The bounds, widened by the pixel where the value is above the limit.
+fn widened_by_pixel(bounds: Bounds, p: Pixel, value: u16, limit: u16) -> Bounds
+    requires column { p.x + 1 < 4294967296 }
+    requires row { p.y + 1 < 4294967296 }
+    ensures { AreWidenedAbove bounds p value limit result }
+{
+    if value <= limit {
+        return bounds;
+    }
+    bounds.including(p)
 }
 
 // Row `y` of the image.

@@ -1,6 +1,6 @@
 //! The owner of the jobs.
 
-ghost use Rattle.std.specs.Prelude.{◌≡◌, ◌≤◌, ◌<◌, [], ◌∷◌, ◌++◌, length, OnOk, OnErr, IfErr, IfSome, IfNone};
+ghost use Rattle.std.specs.Prelude.{◌≡◌, ◌≤◌, ◌<◌, [], ◌∷◌, ◌++◌, length, OnOk, OnErr, IfErr, IfSome, IfNone, IsTrue};
 ghost use Rattle.steal_pool.specs.Views.{FewWait, HasCollected, waiting_of};
 
 use crate::report::Report;
@@ -17,6 +17,8 @@ use tile_generations::Job;
 pub struct Owner {
     pub(crate) deque: Worker<Job, Global, EndView, Deal>,
     pub(crate) capacity: usize,
+    // How many jobs it pushed, or 2^64 - 1 where there were more.
+    pub(crate) pushes: usize,
     pub(crate) rings: Vec<Consumer<Report>>,
 }
 
@@ -41,7 +43,8 @@ impl Model for Owner {
 
     ghost invariant = { λ o.
         (worker_port o.deque ≡ 0) × (worker_flavor o.deque ≡ 0)
-        × (length (worker_view o.deque).pushed ≡ worker_index o.deque) × (o.capacity ≤ worker_capacity o.deque) };
+        × (length (worker_view o.deque).pushed ≡ worker_index o.deque) × (o.capacity ≤ worker_capacity o.deque)
+        × (o.pushes ≤ length (worker_view o.deque).pushed) };
 }
 
 impl Owner {
@@ -63,7 +66,20 @@ impl Owner {
         ensures returned { IfErr result (λ j. j ≡ job) }
         ensures refused { OnErr result (self.old.capacity ≤ length self.old.pushed) }
     {
-        self.deque.push_as::<Pushed>(job)
+        match self.deque.push_as::<Pushed>(job) {
+            Ok(()) => {
+                self.pushes = self.pushes.saturating_add(1);
+                Ok(())
+            }
+            Err(job) => Err(job),
+        }
+    }
+
+    /// Whether as many jobs were pushed as surely find a place.
+    pub fn is_past_capacity(&self) -> bool
+        ensures { IsTrue result → self.now.capacity ≤ length self.now.pushed }
+    {
+        self.pushes >= self.capacity
     }
 
     /// The next report in the ring of this hand: the oldest of those that were seen there and not collected yet, if any

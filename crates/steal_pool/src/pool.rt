@@ -60,6 +60,7 @@ impl Pool {
             owner: Owner {
                 deque,
                 capacity,
+                pushes: 0,
                 rings,
             },
             hands: all,

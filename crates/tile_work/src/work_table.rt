@@ -4,7 +4,7 @@ mod cutting;
 mod delivery;
 mod row;
 
-ghost use Rattle.std.specs.Prelude.{◌≡◌, ◌+◌, ◌<◌, ◌≤◌, ◌↔◌, ℕ, true, false, length, remove, replicate, slice_get};
+ghost use Rattle.std.specs.Prelude.{◌≡◌, ◌+◌, ◌<◌, ◌≤◌, ◌↔◌, ℕ, true, false, [], length, remove, replicate, slice_get};
 ghost use Rattle.std.specs.Prelude.{slice_set, All, Some, None, MatchOption, IfOk, OnOk, OnErr, IsTrue};
 ghost use Rattle.grid_core.specs.Tiles.{count_of};
 ghost use Rattle.tile_generations.specs.Generations.{max_generation};
@@ -15,12 +15,13 @@ ghost use Rattle.tile_work.specs.WorkTable.{IsDirtyTile, HasJobOut, HasHintsAt, 
 ghost use Rattle.tile_work.specs.WorkTable.{taken, without_hint};
 
 use crate::tile_set::TileSet;
-use border_queues::Hint;
+use border_queues::{Hint, Inbox};
 use delivery::{counts_at, deliver, make_room};
 use grid_core::{Memory, Tiling};
 use row::{TileRow, rows_from};
 use std::alloc::Global;
 use std::marker::Model;
+use std::mem;
 
 /// The work that is left at each tile: a row a tile, and sets of the tiles that are dirty, that are out, and where
 /// hints wait.
@@ -30,6 +31,8 @@ pub struct WorkTable {
     dirty: TileSet,
     out: TileSet,
     waiting: TileSet,
+    // Memory for the hints of one tile, which is used again and again. What it holds counts for nothing.
+    told: Inbox,
 }
 
 impl Model for WorkTable {
@@ -58,6 +61,7 @@ impl WorkTable {
             dirty: TileSet::empty(alloc, count)?,
             out: TileSet::empty(alloc, count)?,
             waiting: TileSet::empty(alloc, count)?,
+            told: Inbox::new(alloc),
         })
     }
 
@@ -240,6 +244,23 @@ impl WorkTable {
         if self.rows[tile].remove_hint(place) {
             self.waiting.remove(tile);
         }
+    }
+
+    /// An inbox without hints, with the room of the one that was kept last. It takes no memory.
+    pub fn lend_inbox(&mut self, alloc: Global) -> Inbox
+        ensures empty { result.hints ≡ [] }
+        ensures same { self.new ≡ self.old }
+    {
+        let mut inbox = mem::replace(&mut self.told, Inbox::new(alloc));
+        inbox.clear();
+        inbox
+    }
+
+    /// Keeps an inbox, which [`lend_inbox`](WorkTable::lend_inbox) gives out again. It takes no memory.
+    pub fn keep_inbox(&mut self, inbox: Inbox)
+        ensures { self.new ≡ self.old }
+    {
+        self.told = inbox;
     }
 
     /// Puts each of these hints into the inbox of the tile that its pixel lies in, behind those that wait there.

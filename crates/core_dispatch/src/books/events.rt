@@ -1,7 +1,7 @@
 //! What else happens to the core of the books.
 
 ghost use Rattle.std.specs.Prelude.{◌≡◌, length, IfOk, IfErr, OnErr};
-ghost use Rattle.core_rules.specs.Sweeps.{IsReady, IsTaken, IsGivenBack, IsAbandoned};
+ghost use Rattle.core_rules.specs.Sweeps.{IsReady, IsTaken, IsGivenBack, IsAbandoned, IsSkipped};
 ghost use Rattle.core_rules.specs.Runs.{IsRun, NoneOut, abandoned, tickets_out};
 ghost use Rattle.reset_core.specs.Answers.{IsJoinable};
 ghost use Rattle.core_dispatch.specs.Books.{KeepsRest};
@@ -24,6 +24,15 @@ impl Books {
         ensures rest { KeepsRest self.old self.new }
     {
         self.core.take(alloc, tile)
+    }
+
+    /// Passes over a tile that is dirty and not out, as [`Core::pass_over`](reset_core::Core::pass_over) does.
+    pub(crate) fn pass_over(&mut self, tile: usize)
+        requires { IsReady self.old.core tile }
+        ensures passed { IsSkipped self.old.core tile self.new.core }
+        ensures rest { KeepsRest self.old self.new }
+    {
+        self.core.pass_over(tile);
     }
 
     /// Gives back a swept tile, as [`Core::give_back`](reset_core::Core::give_back) does.

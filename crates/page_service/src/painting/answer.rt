@@ -19,7 +19,7 @@ impl Painting {
     /// Fills a blank response with the answer to what is asked; `body` is the body of the request. What is posted is
     /// taken only while what the board has is kept.
     ///
-    /// Errors: out of memory. Nothing has changed.
+    /// Errors: out of memory, or no room beside the large answers that nobody has read yet. Nothing has changed.
     pub(crate) fn answer(
         &mut self,
         asked: Asked,

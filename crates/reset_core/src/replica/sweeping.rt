@@ -1,20 +1,20 @@
 //! Jobs that are taken, given back and abandoned.
 
-ghost use Rattle.std.specs.Prelude.{◌≡◌, ◌↔◌, IfOk, IfErr, OnOk, OnErr, IsTrue, if◌then◌else◌};
+ghost use Rattle.std.specs.Prelude.{◌≡◌, ◌↔◌, ◌<◌, ℕ, [], length, slice_index, IfOk, IfErr, OnOk, OnErr, IsTrue};
 ghost use Rattle.std.specs.Arc.{arc_value};
 ghost use Rattle.core_rules.specs.Image.{IsPart};
 ghost use Rattle.core_rules.specs.Work.{IsTile};
 ghost use Rattle.core_rules.specs.Sweeps.{IsReady, IsNextJob, IsTaken, IsKnown, IsOut, IsUnchanged};
-ghost use Rattle.core_rules.specs.Sweeps.{IsJoined, IsGivenBack, IsAbandoned, tile_rect};
+ghost use Rattle.core_rules.specs.Sweeps.{IsJoined, IsGivenBack, IsAbandoned, IsSkipped, tile_rect};
 ghost use Rattle.reset_core.specs.Answers.{IsJoinable};
 ghost use Rattle.reset_core.specs.Parts.{IsRaisedPart};
 ghost use Rattle.reset_core.specs.Sweeping.{IsJudged, AreHintsOnceJoined};
-ghost use Rattle.grid_core.specs.Bounds.{LieIn, no_bounds};
+ghost use Rattle.grid_core.specs.Bounds.{LieIn};
 ghost use Rattle.grid_core.specs.Rects.{RectFits};
 ghost use Rattle.reset_core.specs.Bounding.{AreCountedFrom};
 
 use super::Core;
-use crate::parts::{is_at_most_part, is_part, raise_part, raised_part};
+use crate::parts::{bounds_above, is_at_most_part, is_part, raise_part, raised_part};
 use border_queues::laws::{edges_are_open, same_image_same_edges};
 use border_queues::{Inbox, open_edges};
 use core_rules::Back;
@@ -23,6 +23,7 @@ use grid_core::{Bounds, Grid, Memory, Rect};
 use std::alloc::Global;
 use std::sync::Arc;
 use tile_generations::{Job, Swept, Ticket};
+use tile_work::WorkTable;
 
 impl Core {
     /// The job of a tile that is dirty and not out: with the tile's pixels and mask as they stand, and with the next
@@ -76,6 +77,24 @@ impl Core {
             self.work.abandon(ticket.tile);
         }
         was_out
+    }
+
+    /// Passes over a tile that can be taken: as if its job were taken and abandoned at once, so that a serial is spent
+    /// and the tile is as it was. It takes no memory.
+    pub fn pass_over(&mut self, tile: usize)
+        requires { IsReady self.old tile }
+        ensures { IsSkipped self.old tile self.new }
+    {
+        self.serial = self.serial.wrapping_add(1);
+    }
+
+    /// Whether a job of a tile that touches this one is out.
+    pub fn is_beside_out(&self, tile: usize) -> bool
+        requires { IsTile self.now tile }
+    {
+        let tiling = self.markers.tiling();
+        let touching = tiling.touching(tile);
+        is_one_out(&self.work, touching.as_slice())
     }
 
     // Whether the tile can be taken.
@@ -182,7 +201,8 @@ impl Core {
     }
 
     // Joins a swept tile into the image. Where the tile is as it was when it was taken, the pixels are nowhere below
-    // it, so that they are the raised tile.
+    // it, so that they are the raised tile. A pixel can raise another of the tile then only where it was above what the
+    // sweep gave; what it can raise beyond the tile is told.
     //
     // Errors: out of memory; nothing has changed then.
     fn join(&mut self, alloc: Global, swept: &Swept, is_unchanged: bool) -> Result<(), Memory>
@@ -195,17 +215,28 @@ impl Core {
         edges_are_open();
         let tile = swept.ticket().tile;
         let rect = self.rect(tile);
-        let hints = self.hints_once_joined(alloc, swept, is_unchanged)?;
+        let inbox = self.empty_inbox(alloc);
+        let hints = self.hints_once_joined(alloc, swept, is_unchanged, inbox)?;
         let tiling = self.markers.tiling();
         self.work.receive(&tiling, tile, hints.as_slice())?;
-        raise_part(&mut self.image, rect, swept.pixels(), is_unchanged);
-        let left = left_open(self.bounds.get(tile), is_unchanged);
-        self.bounds.set(tile, left);
+        let pixels = swept.pixels();
+        let above = bounds_above(&self.image, rect, pixels, is_unchanged);
+        raise_part(&mut self.image, rect, pixels, is_unchanged);
+        self.bounds.set(tile, above);
         self.work.end_job(tile);
+        self.work.keep_inbox(hints);
         Ok(())
     }
 
-    // The hints of the tile's open edges, as they are once the swept tile is joined.
+    // An inbox without hints, with the room of the one that was kept last. It takes no memory.
+    fn empty_inbox(&mut self, alloc: Global) -> Inbox
+        ensures empty { result.hints ≡ [] }
+        ensures same { self.new ≡ self.old }
+    {
+        self.work.lend_inbox(alloc)
+    }
+
+    // The hints of the tile's open edges, as they are once the swept tile is joined, in an inbox that was empty.
     //
     // Errors: out of memory.
     fn hints_once_joined(
@@ -213,32 +244,35 @@ impl Core {
         alloc: Global,
         swept: &Swept,
         is_unchanged: bool,
+        inbox: Inbox,
     ) -> Result<Inbox, Memory>
         requires known { IsKnown self.now swept.now.job }
         requires unchanged { IsTrue is_unchanged → IsUnchanged self.now swept.now.job }
-        ensures { IfOk result (λ inbox. AreHintsOnceJoined self.now swept.now inbox.hints) }
+        requires empty { inbox.hints ≡ [] }
+        ensures { IfOk result (λ told. AreHintsOnceJoined self.now swept.now told.hints) }
     {
         let pixels = swept.pixels();
         if is_unchanged {
-            return self.hints_by(alloc, swept, pixels);
+            return self.hints_by(swept, pixels, inbox);
         }
         let raised = raised_part(alloc, &self.image, self.rect(swept.ticket().tile), pixels)?;
-        self.hints_by(alloc, swept, &raised)
+        self.hints_by(swept, &raised, inbox)
     }
 
-    // The hints of the tile's open edges, as they are once the swept tile is joined and the tile is as `raised` says.
+    // The hints of the tile's open edges, as they are once the swept tile is joined and the tile is as `raised` says,
+    // in an inbox that was empty.
     //
     // Errors: out of memory.
-    fn hints_by(&self, alloc: Global, swept: &Swept, raised: &Grid) -> Result<Inbox, Memory>
+    fn hints_by(&self, swept: &Swept, raised: &Grid, mut inbox: Inbox) -> Result<Inbox, Memory>
         requires known { IsKnown self.now swept.now.job }
         requires raised { IsRaisedPart (tile_rect self.now swept.now.job.ticket.tile) self.now.image swept.now.pixels
             raised.now }
-        ensures { IfOk result (λ inbox. AreHintsOnceJoined self.now swept.now inbox.hints) }
+        requires empty { inbox.hints ≡ [] }
+        ensures { IfOk result (λ told. AreHintsOnceJoined self.now swept.now told.hints) }
     {
         edges_are_open();
         same_image_same_edges();
         let tile = swept.ticket().tile;
-        let mut inbox = Inbox::new(alloc);
         let mask = self.markers.mask();
         let tiling = self.markers.tiling();
         let generation = self.work.generation(tile);
@@ -258,17 +292,6 @@ impl Core {
     }
 }
 
-// What is left of a tile's bounds once a swept tile is joined to it and its edges are told: where the tile was as it
-// was when its job was taken, no pixel can raise another of the tile.
-fn left_open(bounds: Bounds, is_unchanged: bool) -> Bounds
-    ensures { result ≡ (if is_unchanged then no_bounds else bounds) }
-{
-    if is_unchanged {
-        return Bounds::none();
-    }
-    bounds
-}
-
 // The bounds, which lie in the rectangle, counted from its upper left corner.
 fn counted_from(rect: Rect, bounds: Bounds) -> Bounds
     requires { LieIn bounds rect }
@@ -285,4 +308,16 @@ fn counted_from(rect: Rect, bounds: Bounds) -> Bounds
         top: bounds.top - rect.y,
         bottom,
     }
+}
+
+// Whether a job of one of these tiles is out.
+fn is_one_out(work: &WorkTable, tiles: &[usize]) -> bool
+    requires { (k : ℕ) → k < length tiles.now → slice_index tiles.now k < length work.now }
+{
+    for tile in tiles {
+        if work.out(*tile).is_some() {
+            return true;
+        }
+    }
+    false
 }

@@ -7,6 +7,7 @@ ghost use Rattle.tile_work.specs.WorkTable.{dirty_bits, works_of};
 use super::WorkTable;
 use super::row::{TileRow, marked_rows};
 use crate::tile_set::TileSet;
+use border_queues::Inbox;
 use grid_core::Memory;
 use std::alloc::Global;
 
@@ -27,6 +28,7 @@ impl WorkTable {
             dirty: dirty_tiles(alloc, rows)?,
             out: TileSet::empty(alloc, rows.len())?,
             waiting: TileSet::empty(alloc, rows.len())?,
+            told: Inbox::new(alloc),
         })
     }
 

@@ -10,7 +10,8 @@ name_all-requires-clause-on c f there =
 pub returns-clause-grown : goal.returns-clause-grown
 returns-clause-grown c =
     let base = ground_of c.args.board.now in
-    grown_is base c.args.pixels.now (record { rose = c.serve-rose.result; first = c.name_all.new.self.first; end = c.name_all.new.self.end })
+    grown_is base c.args.pixels.now
+    (record { rose = c.serve-rose.result; first = c.name_all.new.self.first; end = c.name_all.new.self.end })
     (hand_view c.args.self.now) (hand_view c.start.new.self) (hand_view c.serve-rose.new.self)
     c.serve-rose.new.trail c.name_all.new.self c.start.ensures.started
     (subst (λ (n : ℕ). IsGrowing base c.args.pixels.now n (hand_view c.start.new.self)

@@ -11,7 +11,8 @@ pub loop-cell-preserved : goal.loop-cell-preserved
 loop-cell-preserved c = (
   c.plant_cell.ensures.keeper,
   planted_more (ground_of c.args.board.now) 0 c.loop-cell.cell (keeper_view c.args.self.now)
-      (keeper_view c.loop-cell.self) (keeper_view c.plant_cell.new.self) c.loop-cell.invariant.1 c.plant_cell.ensures.planted,
+      (keeper_view c.loop-cell.self) (keeper_view c.plant_cell.new.self) c.loop-cell.invariant.1
+      c.plant_cell.ensures.planted,
 )
 
 pub returns-then-self-clause-planted : goal.returns-then-self-clause-planted

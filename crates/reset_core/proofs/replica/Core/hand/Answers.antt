@@ -1,5 +1,5 @@
 -- What the tactics leave open of `hand`.
-use Rattle.std.proofs.Common.{◌≡◌, ◌<◌, ◌≤◌, true, false, List, refl, sym, ◌∙◌, ap, subst, IsTrue, slice_index_or, arith}
+use Rattle.std.proofs.Common.{◌≡◌, ◌<◌, ◌≤◌, true, false, List, refl, sym, ◌∙◌, ap, subst, IsTrue, slice_index_or}
 use Rattle.std.proofs.Common.{slice_set, set, arith}
 use Rattle.grid_core.specs.{declared.bounds.Bounds.Bounds, Raster.Raster, Raster.with_value}
 use Rattle.grid_core.specs.Bounds.{bounds_at, joined, no_bounds}

@@ -20,8 +20,8 @@ returns-in-Ok c =
     let tiling = c.tiling-tiling.ensures in
     let told =
     told_are_edges parts core c.tiling-tiling.result c.self.view_is tiling.value tiling.width tiling.height t tile
-    c.generation-generation.result c.mask-mask.result.now raised c.new-inbox.result.hints c.open_edges.new.out.hints
-    c.mask-mask.ensures.value tile_is c.generation-generation.ensures.value c.new-inbox.ensures c.in-Ok.ensures.hints in
+    c.generation-generation.result c.mask-mask.result.now raised c.args.inbox.hints c.open_edges.new.out.hints
+    c.mask-mask.ensures.value tile_is c.generation-generation.ensures.value c.requires.empty c.in-Ok.ensures.hints in
     let sound = subst IsSound c.self.view_is c.self.invariant.sound in
     let within : t < count_of (work.tiling core) = omega (arith, c.requires.known.is_tile, sound.shape.tiles) in
     record {
