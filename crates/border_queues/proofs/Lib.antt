@@ -1,6 +1,7 @@
 -- The lemmas of this crate.
 pub mod Told
 pub mod Interior
+pub mod Around
 pub mod SameEdges
 pub mod InOrder
 pub mod EdgesOpen

@@ -1,8 +1,9 @@
 -- A tile's border, as the private functions walk it.
-use Rattle.std.specs.Prelude.{◌≡◌, ℕ, ◌+◌, ◌≤◌, ◌↔◌, Bool, true, if◌then◌else◌, List, [], flat_map}
-use Rattle.grid_core.specs.{declared.conn.Conn.Conn, declared.pixel.Pixel.Pixel, Bounds.LieIn, Raster.IsInside}
-use Rattle.grid_core.specs.{Raster.IsImageSize, Raster.value_at, Rects.IsInRect, Rects.RectFits, Rows.row_around}
-use Rattle.grid_core.specs.{Rows.rows_around, Tiles.IsTiled, Tiles.tile_of, Tiles.rect_of}
+use Rattle.std.specs.Prelude.{◌≡◌, ℕ, ◌+◌, ◌-◌, ◌≤◌, ◌↔◌, Bool, true, if◌then◌else◌, List, [], flat_map}
+use Rattle.grid_core.specs.{declared.conn.Conn.Conn, declared.pixel.Pixel.Pixel, declared.rect.Rect.Rect}
+use Rattle.grid_core.specs.{Bounds.LieIn, Raster.Raster, Raster.IsInside, Raster.IsImageSize, Raster.value_at}
+use Rattle.grid_core.specs.{Rects.IsInRect, Rects.RectFits, Rows.row_around, Rows.rows_around}
+use Rattle.grid_core.specs.Tiles.{Tiles, IsTiled, tile_of, rect_of}
 use Rattle.border_queues.specs.{declared.border.Border.Border, declared.hint.Hint.Hint, Waiting.Waiting}
 use Rattle.border_queues.specs.OpenEdges.{Sender, EdgesBeginIn, IsOnTiling, hints_from, hints_to, pixels_of, row_of}
 use Rattle.border_queues.specs.OpenEdges.{with_tile}
@@ -11,13 +12,22 @@ use Rattle.border_queues.specs.OpenEdges.{with_tile}
 abbrev pub moved : Pixel → Pixel → Pixel
 moved corner p = record { x = corner.x + p.x; y = corner.y + p.y }
 
+-- the pixel of a view where the image's pixel q stands, if the view begins at the pixel `origin` of the image
+abbrev pub moved_back : Pixel → Pixel → Pixel
+moved_back origin q = record { x = q.x - origin.x; y = q.y - origin.y }
+
+-- the image with the values of `inside` on the tile, and those of a view that begins at `origin` elsewhere
+abbrev pub image_by : Tiles → ℕ → Raster → Pixel → Raster → Pixel → Pixel → ℕ
+image_by tiles tile inside corner view origin =
+    with_tile tiles tile (λ p. value_at inside (moved corner p)) (λ q. value_at view (moved_back origin q))
+
 -- the tile whose border it is
 abbrev pub sender_of : Border → Sender
 sender_of b = record {
   tiles = b.tiling;
   conn = b.conn;
   mask = value_at b.mask.now;
-  image = with_tile b.tiling b.tile (λ p. value_at b.inside.now (moved b.corner p)) (value_at b.image.now);
+  image = image_by b.tiling b.tile b.inside.now b.corner b.image.now b.origin;
   tile = b.tile;
   generation = b.generation;
 }
@@ -42,12 +52,30 @@ hints_of_row b y = flat_map (hints_from (sender_of b)) (row_of b.rect y)
 abbrev pub hints_of_all : Border → List Hint
 hints_of_all b = flat_map (hints_from (sender_of b)) (pixels_of b.rect)
 
+-- the pixel is at most 1 from the rectangle, in columns and in rows
+pub record IsNear (rect : Rect) (q : Pixel) : Type 0 where
+  pub left : rect.x ≤ q.x + 1
+  pub right : q.x ≤ rect.x + rect.w
+  pub above : rect.y ≤ q.y + 1
+  pub below : q.y ≤ rect.y + rect.h
+
+-- the view, which begins at `origin`, has the image's pixel q
+pub record IsInView (origin : Pixel) (view : Raster) (q : Pixel) : Type 0 where
+  pub column : origin.x ≤ q.x
+  pub row : origin.y ≤ q.y
+  pub inside : IsInside view.width view.height (moved_back origin q)
+
+-- it has each pixel of the image in the rectangle and near it
+abbrev pub CoversAround : Tiles → Rect → Pixel → Raster → Type 0
+CoversAround tiles rect origin view =
+    (q : Pixel) → IsInside tiles.width tiles.height q → IsNear rect q → IsInView origin view q
+
 -- what the walk rests on
 pub record IsBorder (b : Border) : Type 0 where
   pub tiled : IsTiled b.tiling
   pub rect : b.rect ≡ rect_of b.tiling b.tile
   pub mask : IsOnTiling b.tiling b.mask.now
-  pub image : IsOnTiling b.tiling b.image.now
+  pub image : CoversAround b.tiling b.rect b.origin b.image.now
   pub inside : IsImageSize b.inside.now.width b.inside.now.height
   pub inside_columns : b.corner.x + b.rect.w ≤ b.inside.now.width
   pub inside_rows : b.corner.y + b.rect.h ≤ b.inside.now.height

@@ -6,5 +6,6 @@ pub use Rattle.grid_core.specs.Tiles
 pub mod Waiting
 pub mod TileWork
 pub mod OpenEdges
+pub mod Around
 pub mod Laws
 pub mod Borders

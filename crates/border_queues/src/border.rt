@@ -9,7 +9,7 @@ ghost use Rattle.grid_core.specs.Rows.{pixel_if};
 ghost use Rattle.border_queues.specs.Waiting.{Adds, AddsWithin};
 ghost use Rattle.border_queues.specs.OpenEdges.{hints_from};
 ghost use Rattle.border_queues.specs.Borders.{around, hints_of_all, hints_of_row, row_if, sender_of, told_to};
-ghost use Rattle.border_queues.specs.Borders.{CanTell, IsBorder};
+ghost use Rattle.border_queues.specs.Borders.{CanTell, IsBorder, IsInView, IsNear};
 
 use crate::hint::Hint;
 use crate::inbox::Inbox;
@@ -23,7 +23,10 @@ pub struct Border<'a> {
     pub tiling: Tiling,
     pub conn: Conn,
     pub mask: &'a View<'a>,
+    // Has the values beside the tile.
     pub image: &'a View<'a>,
+    // The pixel of the whole image where `image` begins.
+    pub origin: Pixel,
     // Has the tile's own values.
     pub inside: &'a View<'a>,
     // Where the tile's upper left pixel stands in `inside`.
@@ -50,6 +53,21 @@ impl Border<'_> {
         })
     }
 
+    // The value of a pixel beside the tile.
+    #[inline(always)]
+    fn outer_value(&self, q: Pixel) -> u16
+        requires border { IsBorder self.now }
+        requires inside { IsInside self.now.tiling.width self.now.tiling.height q }
+        requires seen { IsInView self.now.origin self.now.image.now q }
+        requires outer { ¬ (IsInRect self.now.rect q) }
+        ensures { result ≡ (sender_of self.now).image q }
+    {
+        self.image.get(Pixel {
+            x: q.x - self.origin.x,
+            y: q.y - self.origin.y,
+        })
+    }
+
     // Whether the pixel at `x` and `y` lies in the tile.
     #[inline(always)]
     fn is_own(&self, x: u32, y: u32) -> bool
@@ -63,10 +81,11 @@ impl Border<'_> {
     fn push_outer(&self, value: u16, q: Pixel, out: &mut Inbox)
         requires ready { CanTell self.now out.old 1 }
         requires inside { IsInside self.now.tiling.width self.now.tiling.height q }
+        requires seen { IsInView self.now.origin self.now.image.now q }
         requires outer { ¬ (IsInRect self.now.rect q) }
         ensures { AddsWithin out.old out.new (told_to self.now value (q ∷ [])) 1 }
     {
-        let now = self.image.get(q);
+        let now = self.outer_value(q);
         if now < value && now < self.mask.get(q) {
             let _ = out.push(Hint {
                 from: self.tile,
@@ -82,6 +101,7 @@ impl Border<'_> {
     fn push_if(&self, wanted: bool, own: bool, value: u16, x: u32, y: u32, out: &mut Inbox)
         requires ready { CanTell self.now out.old 1 }
         requires at { IsTrue wanted → IsInside self.now.tiling.width self.now.tiling.height (record { x = x; y = y }) }
+        requires near { IsNear self.now.rect (record { x = x; y = y }) }
         requires own { IsTrue wanted → (IsTrue own ↔ IsInRect self.now.rect (record { x = x; y = y })) }
         ensures { AddsWithin out.old out.new (told_to self.now value (pixel_if wanted x y)) 1 }
     {
@@ -90,12 +110,14 @@ impl Border<'_> {
         }
     }
 
-    // Tells the pixels at `x`, to its left and to its right in row `y`, where the row is wanted.
+    // Tells the pixels at `x`, a column of the tile, to its left and to its right in row `y`, where the row is wanted.
     #[inline(always)]
     fn push_row(&self, wanted: bool, value: u16, x: u32, y: u32, out: &mut Inbox)
         requires ready { CanTell self.now out.old 3 }
         requires column { x < self.now.tiling.width }
         requires row { IsTrue wanted → y < self.now.tiling.height }
+        requires own_column { (self.now.rect.x ≤ x) × (x < self.now.rect.x + self.now.rect.w) }
+        requires near_row { (self.now.rect.y ≤ y + 1) × (y ≤ self.now.rect.y + self.now.rect.h) }
         ensures { AddsWithin out.old out.new (told_to self.now value (row_if self.now wanted x y)) 3 }
     {
         if !wanted {

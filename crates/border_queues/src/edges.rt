@@ -1,18 +1,20 @@
 //! The hints of a tile's open edges.
 
-ghost use Rattle.std.specs.Prelude.{◌≡◌, ◌+◌, ◌≤◌};
+ghost use Rattle.std.specs.Prelude.{◌≡◌, ℕ, ◌+◌, ◌<◌, ◌≤◌};
+ghost use Rattle.grid_core.specs.declared.pixel.Pixel.{Pixel};
 ghost use Rattle.grid_core.specs.Bounds.{LieIn};
 ghost use Rattle.grid_core.specs.Raster.{value_at};
-ghost use Rattle.grid_core.specs.Tiles.{rect_of};
+ghost use Rattle.grid_core.specs.Tiles.{count_of, rect_of};
 ghost use Rattle.border_queues.specs.Waiting.{AddsOrFails};
-ghost use Rattle.border_queues.specs.OpenEdges.{EdgesBeginIn, HasTileSize, HaveTile, open_edges, room_for_edges};
-ghost use Rattle.border_queues.specs.OpenEdges.{sender_by, with_tile};
-ghost use Rattle.border_queues.specs.Borders.{moved, sender_of, IsBorder};
+ghost use Rattle.border_queues.specs.OpenEdges.{EdgesBeginIn, HasTileSize, HaveTile, IsOnTiling, open_edges};
+ghost use Rattle.border_queues.specs.OpenEdges.{room_for_edges, sender_by, with_tile};
+ghost use Rattle.border_queues.specs.Around.{HasAroundSize, IsRingOf};
+ghost use Rattle.border_queues.specs.Borders.{image_by, sender_of, CoversAround, IsBorder};
 
 use crate::border::Border;
 use crate::error::QueueError;
 use crate::inbox::Inbox;
-use crate::laws::{edges_begin_in_tile, same_image_same_edges};
+use crate::laws::{edges_begin_in_tile, same_around_same_edges, same_image_same_edges};
 use crate::view::View;
 use grid_core::laws::each_pixel_in_one_tile;
 use grid_core::{Bounds, Conn, Grid, Pixel, Tiling};
@@ -49,22 +51,54 @@ pub fn open_edges(
     edges_begin_in_tile();
     // The side tells the prover that the tiling is one.
     let _ = tiling.side();
-    out.reserve(room_for_edges(tiling))?;
     let bounds = Bounds::of(tiling.rect(tile));
+    let first = Pixel { x: 0, y: 0 };
     let (inside, image, mask) = (View::of(inside), View::of(image), View::of(mask));
     let border = border_of(
-        &inside,
-        Pixel { x: 0, y: 0 },
-        &image,
-        &mask,
-        tiling,
-        tile,
-        generation,
-        conn,
-        bounds,
+        &inside, first, &image, first, &mask, tiling, tile, generation, conn, bounds,
     );
-    border.push_all(out);
-    Ok(())
+    tell(&border, out)
+}
+
+/// As [`open_edges`], where `patch` stands in place of the image: it has the size of the tile's rectangle grown by one
+/// pixel on each side, as far as the image goes, and beside the tile the image's values. On the tile it may have any.
+///
+/// Errors: Q1, where `out` keeps its hints. With a room of [`room_for_edges`] it takes no memory.
+pub fn open_edges_around(
+    inside: &Grid,
+    patch: &View<'_>,
+    mask: &Grid,
+    tiling: &Tiling,
+    tile: usize,
+    generation: u64,
+    conn: Conn,
+    out: &mut Inbox,
+) -> Result<(), QueueError>
+    requires tile { tile < count_of tiling.now }
+    requires mask { IsOnTiling tiling.now mask.now }
+    requires size { HasTileSize tiling.now tile inside.now }
+    requires patch { HasAroundSize tiling.now tile patch.now }
+    ensures { (image : Pixel → ℕ) → IsRingOf tiling.now tile image patch.now
+        → AddsOrFails out.old out.new (open_edges (sender_by tiling.now conn (value_at mask.now) (with_tile
+        tiling.now tile (value_at inside.now) image) tile generation)) (room_for_edges tiling.now) result }
+{
+    each_pixel_in_one_tile();
+    edges_begin_in_tile();
+    same_around_same_edges();
+    // The side tells the prover that the tiling is one.
+    let _ = tiling.side();
+    let rect = tiling.rect(tile);
+    let bounds = Bounds::of(rect);
+    let first = Pixel { x: 0, y: 0 };
+    let origin = Pixel {
+        x: rect.x.saturating_sub(1),
+        y: rect.y.saturating_sub(1),
+    };
+    let (inside, mask) = (View::of(inside), View::of(mask));
+    let border = border_of(
+        &inside, first, patch, origin, &mask, tiling, tile, generation, conn, bounds,
+    );
+    tell(&border, out)
 }
 
 /// As [`open_edges`] where J is the image itself, on the tile too, and each open edge begins within the bounds. Only
@@ -92,24 +126,38 @@ pub fn open_edges_in(
     same_image_same_edges();
     // The side tells the prover that the tiling is one.
     let _ = tiling.side();
-    out.reserve(room_for_edges(tiling))?;
     let rect = tiling.rect(tile);
     let corner = Pixel {
         x: rect.x,
         y: rect.y,
     };
+    let first = Pixel { x: 0, y: 0 };
     let border = border_of(
-        image, corner, image, mask, tiling, tile, generation, conn, bounds,
+        image, corner, image, first, mask, tiling, tile, generation, conn, bounds,
     );
+    tell(&border, out)
+}
+
+// Makes room for the hints of the border's open edges, and tells them.
+//
+// Errors: Q1, where `out` keeps its hints. With a room of `room_for_edges` it takes no memory.
+fn tell(border: &Border<'_>, out: &mut Inbox) -> Result<(), QueueError>
+    requires { IsBorder border.now }
+    ensures { AddsOrFails out.old out.new (open_edges (sender_of border.now)) (room_for_edges border.now.tiling)
+        result }
+{
+    out.reserve(room_for_edges(&border.tiling))?;
     border.push_all(out);
     Ok(())
 }
 
-// The border of a tile whose upper left pixel stands at `corner` in `inside`.
+// The border of a tile whose upper left pixel stands at `corner` in `inside`, by a view that begins at the pixel
+// `origin` of the image.
 fn border_of<'a>(
     inside: &'a View<'a>,
     corner: Pixel,
     image: &'a View<'a>,
+    origin: Pixel,
     mask: &'a View<'a>,
     tiling: &Tiling,
     tile: usize,
@@ -117,16 +165,17 @@ fn border_of<'a>(
     conn: Conn,
     bounds: Bounds,
 ) -> Border<'a>
-    requires parts { HaveTile tiling.now image.now mask.now tile }
+    requires tile { tile < count_of tiling.now }
+    requires mask { IsOnTiling tiling.now mask.now }
+    requires covers { CoversAround tiling.now (rect_of tiling.now tile) origin image.now }
     requires lie { LieIn bounds (rect_of tiling.now tile) }
     requires bounds { EdgesBeginIn (sender_by tiling.now conn (value_at mask.now)
-        (with_tile tiling.now tile (λ p. value_at inside.now (moved corner p)) (value_at image.now)) tile generation)
-        bounds }
+        (image_by tiling.now tile inside.now corner image.now origin) tile generation) bounds }
     requires columns { corner.x + (rect_of tiling.now tile).w ≤ inside.now.width }
     requires rows { corner.y + (rect_of tiling.now tile).h ≤ inside.now.height }
     ensures border { IsBorder result }
     ensures sender { sender_of result ≡ sender_by tiling.now conn (value_at mask.now)
-        (with_tile tiling.now tile (λ p. value_at inside.now (moved corner p)) (value_at image.now)) tile generation }
+        (image_by tiling.now tile inside.now corner image.now origin) tile generation }
 {
     each_pixel_in_one_tile();
     // Side and width tell the prover that the tiling is one, and `inside` an image.
@@ -137,6 +186,7 @@ fn border_of<'a>(
         conn,
         mask,
         image,
+        origin,
         inside,
         corner,
         tile,

@@ -1,6 +1,6 @@
 //! Laws of open edges. Each is the contract of a function that does nothing.
 
-ghost use Rattle.border_queues.specs.Laws.{EdgesAreOpen, EdgesBeginInTile, SameImageSameEdges};
+ghost use Rattle.border_queues.specs.Laws.{EdgesAreOpen, EdgesBeginInTile, SameAroundSameEdges, SameImageSameEdges};
 
 use grid_core::laws::{
     each_pixel_in_one_tile, neighbours_by_rows, rect_pixels_lie_in_rect, tiles_lie_inside,
@@ -9,6 +9,14 @@ use grid_core::laws::{
 /// Open edges rest on the values of an image at its pixels alone.
 pub fn same_image_same_edges()
     ensures { SameImageSameEdges }
+{
+    neighbours_by_rows();
+    tiles_lie_inside();
+}
+
+/// Open edges of a tile rest on the values of an image at the tile's pixels and beside it alone.
+pub fn same_around_same_edges()
+    ensures { SameAroundSameEdges }
 {
     neighbours_by_rows();
     tiles_lie_inside();

@@ -17,10 +17,13 @@
 //! out.as_slice();                                       // one hint: to (8, 0), of the value 6
 //! ```
 //!
+//! Where there is no whole image, [`open_edges_around`] finds them by the pixels of a tile and of those beside it.
+//!
 //! Want of memory is told as a [`QueueError`], whose code is Q1. An inbox with room takes no memory.
 //!
 //! Read on in `specs/OpenEdges.antt`, which says what an open edge is and which hints it makes; in
-//! `specs/Waiting.antt` for inboxes; and in [`laws`]: the hints are those of the open edges, in raster order.
+//! `specs/Around.antt` for the pixels beside a tile; in `specs/Waiting.antt` for inboxes; and in [`laws`]: the hints
+//! are those of the open edges, in raster order.
 
 mod border;
 mod edges;
@@ -30,7 +33,7 @@ mod inbox;
 pub mod laws;
 mod view;
 
-pub use edges::{open_edges, open_edges_in, room_for_edges};
+pub use edges::{open_edges, open_edges_around, open_edges_in, room_for_edges};
 pub use error::QueueError;
 pub use hint::Hint;
 pub use inbox::Inbox;

@@ -6,7 +6,7 @@ ghost use Rattle.grid_core.specs.Raster.{IsImageSize, IsInside, IsSized, value_a
 use grid_core::{Grid, Pixel};
 use std::marker::Model;
 
-/// The width, the height and the cells of an image, or of whole rows of one.
+/// The width, the height and the cells of an image, or of a part of one that is a rectangle.
 #[derive(Drop)]
 pub struct View<'a> {
     w: u32,

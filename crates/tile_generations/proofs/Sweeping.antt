@@ -26,12 +26,13 @@ swept_job job mask base pixels conn same_mask same_base same_conn is_job filled 
       recon));
 }
 
--- a copy of a swept tile
-pub same_swept : (swept : Swept) (job : Job) (pixels : Raster) → job ≡ swept.job → pixels ≡ swept.pixels
-    → IsSwept swept → IsSwept (record { job = job; pixels = pixels })
-same_swept swept job pixels same_job same_pixels is_swept =
-    subst (λ j. IsSwept (record { job = j; pixels = pixels })) (sym same_job)
-    (subst (λ r. IsSwept (record { job = swept.job; pixels = r })) (sym same_pixels) is_swept)
+-- a swept tile is the one that is made of its parts
+pub swept_of_parts : (swept : Swept) (job : Job) (pixels : Raster) → job ≡ swept.job → pixels ≡ swept.pixels
+    → swept ≡ record { job = job; pixels = pixels }
+swept_of_parts swept job pixels same_job same_pixels = λ i. record {
+  job = sym same_job i;
+  pixels = sym same_pixels i;
+}
 
 -- a job is the one that is made of its parts
 pub job_of_parts : (job : Job) (ticket : Ticket) (conn : Conn) (base mask : Raster) → ticket ≡ job.ticket

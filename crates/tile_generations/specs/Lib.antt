@@ -5,3 +5,4 @@ pub use Rattle.grid_core.specs.Reconstruction
 pub mod Generations
 pub mod Jobs
 pub mod CutMasks
+pub mod Bases

@@ -3,8 +3,10 @@
 ghost use Rattle.std.specs.Prelude.{◌≡◌, IfOk, IfErr};
 ghost use Rattle.std.specs.Arc.{arc_value};
 ghost use Rattle.grid_core.specs.Raster.{IsBelow, IsSized};
+ghost use Rattle.tile_generations.specs.Bases.{raster_of};
 ghost use Rattle.tile_generations.specs.Jobs.{AreBoundsOf, IsJob, IsSwept, all_of};
 
+use crate::pixels::Base;
 use crate::swept::Swept;
 use crate::ticket::Ticket;
 use grid_core::laws::cells_given_back;
@@ -16,12 +18,12 @@ use std::marker::Model;
 use std::sync::Arc;
 
 /// A tile to be swept: its ticket, the connectivity, and the tile's pixels and mask, each as an image by itself. The
-/// pixels, which are called the base, are at most the mask.
+/// pixels, which are called the base, are at most the mask. Both may be shared with others.
 #[derive(Debug, Drop)]
 pub struct Job {
     ticket: Ticket,
     conn: Conn,
-    base: Grid,
+    base: Base,
     mask: Arc<Grid>,
     // A pixel of the base that can raise a neighbour in the tile lies within them.
     bounds: Bounds,
@@ -33,12 +35,19 @@ impl Model for Job {
 
     ghost Value = { Task };
 
-    ghost view = { λ j. record { ticket = j.ticket; conn = j.conn; base = j.base; mask = arc_value j.mask } };
+    ghost use Rattle.tile_generations.specs.Bases.{raster_of};
+
+    ghost view = { λ j. record {
+      ticket = j.ticket;
+      conn = j.conn;
+      base = raster_of j.base;
+      mask = arc_value j.mask;
+    } };
 
     ghost invariant = { λ j. IsKeptJob (record {
       ticket = j.ticket;
       conn = j.conn;
-      base = j.base;
+      base = raster_of j.base;
       mask = arc_value j.mask;
     }) j.bounds };
 }
@@ -62,8 +71,35 @@ impl Job {
             (record { ticket = ticket; conn = conn; base = base; mask = arc_value mask }) bounds }
         ensures { result ≡ record { ticket = ticket; conn = conn; base = base; mask = arc_value mask } }
     {
-        // The widths tell the prover that base and mask have a cell for each pixel.
-        prove!(base.width() == mask.width());
+        Job::of_base(ticket, conn, Base::Own(base), mask, bounds)
+    }
+
+    /// A job as [`bounded`](Job::bounded) makes it, on pixels that may be shared with others. It takes no memory.
+    pub fn shared(
+        ticket: Ticket,
+        conn: Conn,
+        base: Arc<Grid>,
+        mask: Arc<Grid>,
+        bounds: Bounds,
+    ) -> Job
+        requires below { IsBelow (arc_value base) (arc_value mask) }
+        requires bounds { AreBoundsOf
+            (record { ticket = ticket; conn = conn; base = arc_value base; mask = arc_value mask }) bounds }
+        ensures { result ≡ record { ticket = ticket; conn = conn; base = arc_value base; mask = arc_value mask } }
+    {
+        Job::of_base(ticket, conn, Base::Shared(base), mask, bounds)
+    }
+
+    // A job on a tile, whoever owns its pixels.
+    fn of_base(ticket: Ticket, conn: Conn, base: Base, mask: Arc<Grid>, bounds: Bounds) -> Job
+        requires below { IsBelow (raster_of base) (arc_value mask) }
+        requires bounds { AreBoundsOf
+            (record { ticket = ticket; conn = conn; base = raster_of base; mask = arc_value mask }) bounds }
+        ensures { result ≡ record { ticket = ticket; conn = conn; base = raster_of base; mask = arc_value mask } }
+    {
+        // For their clauses alone: base and mask have as many cells as their sides say.
+        let _cells = base.grid().cells();
+        let _limits = mask.cells();
         Job {
             ticket,
             conn,
@@ -92,7 +128,7 @@ impl Job {
         ensures value { result.now ≡ self.now.base }
         ensures job { IsJob self.now }
     {
-        &self.base
+        self.base.grid()
     }
 
     /// The mask of the tile.
@@ -127,13 +163,14 @@ impl Job {
         let base = self.base();
         let conn = self.conn();
         match grow(alloc, mask, base, conn) {
-            Ok(pixels) => Ok(Swept::new(self, pixels)),
+            Ok(pixels) => Swept::new(alloc, self, pixels),
             Err(why) => Err((self, why)),
         }
     }
 
     /// Sweeps the tile as [`sweep`](Job::sweep) does, in a room that is used for one job after another. It looks at
-    /// first only at pixels within the bounds, where the job has some, and takes memory for the pixels alone.
+    /// first only at pixels within the bounds, where the job has some. It takes memory for the pixels, which are then
+    /// shared, and for nothing else.
     ///
     /// Errors: out of memory, with the job handed back.
     pub fn sweep_in(self, alloc: Global, room: &mut Room) -> Result<Swept, (Job, Memory)>
@@ -144,7 +181,7 @@ impl Job {
         match self.base().copy(alloc) {
             Ok(mut pixels) => {
                 self.raise(room, &mut pixels);
-                Ok(Swept::new(self, pixels))
+                Swept::new(alloc, self, pixels)
             }
             Err(why) => Err((self, why)),
         }

@@ -3,9 +3,10 @@
 //!
 //! A [`Job`] is what a hand needs to sweep a tile of an image by itself: the tile's pixels, its mask and the
 //! connectivity. [`Job::sweep`] raises the pixels to the reconstruction of the mask from them (Vincent, "Morphological
-//! Grayscale Reconstruction in Image Analysis", 1993), and answers a [`Swept`]. Jobs and results own what they hold, so
-//! that a tile can be swept elsewhere and given back late. The mask of a tile is cut out once, and all jobs on the tile
-//! share it: [`TileMasks`].
+//! Grayscale Reconstruction in Image Analysis", 1993), and answers a [`Swept`]. Jobs and results own what they hold,
+//! alone or with others, so that a tile can be swept elsewhere and given back late. The mask of a tile is cut out once,
+//! and all jobs on the tile share it: [`TileMasks`]. Who keeps an image in tiles lends the pixels of one to its job
+//! ([`Job::shared`]), and takes over those that a sweep gave ([`Swept::shared_pixels`]), without a copy.
 //!
 //! Each carries a [`Ticket`]: the tile, its generation and a serial. [`Generations`] counts for each tile how often it
 //! was reset, so that a result from before a reset is known by its generation.
@@ -14,6 +15,7 @@
 
 mod generations;
 mod job;
+mod pixels;
 mod swept;
 mod ticket;
 mod tile_masks;

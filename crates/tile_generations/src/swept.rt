@@ -1,6 +1,7 @@
 //! Swept tiles.
 
-ghost use Rattle.std.specs.Prelude.{◌≡◌, IfOk};
+ghost use Rattle.std.specs.Prelude.{◌≡◌, IfOk, IfErr};
+ghost use Rattle.std.specs.Arc.{arc_value};
 ghost use Rattle.tile_generations.specs.Jobs.{IsSwept};
 
 use crate::job::Job;
@@ -8,32 +9,41 @@ use crate::ticket::Ticket;
 use grid_core::{Conn, Grid, Memory};
 use std::alloc::Global;
 use std::marker::Model;
+use std::sync::Arc;
 
 /// A job that was done, and the pixels that it gave: the reconstruction of the job's mask from its base, the tile taken
-/// as an image by itself.
+/// as an image by itself. They may be shared with others.
 #[derive(Debug, Drop)]
 pub struct Swept {
     job: Job,
-    pixels: Grid,
+    pixels: Arc<Grid>,
 }
 
 impl Model for Swept {
+    ghost use Rattle.std.specs.Arc.{arc_value};
     ghost use Rattle.tile_generations.specs.Jobs.{Swept as Result, IsSwept};
 
     ghost Value = { Result };
 
-    ghost view = { λ s. record { job = s.job; pixels = s.pixels } };
+    ghost view = { λ s. record { job = s.job; pixels = arc_value s.pixels } };
 
-    ghost invariant = { λ s. IsSwept (record { job = s.job; pixels = s.pixels }) };
+    ghost invariant = { λ s. IsSwept (record { job = s.job; pixels = arc_value s.pixels }) };
 }
 
 impl Swept {
-    /// The job with these pixels.
-    pub(crate) fn new(job: Job, pixels: Grid) -> Swept
+    /// The job with the pixels that its sweep gave.
+    ///
+    /// Errors: out of memory, with the job handed back.
+    pub(crate) fn new(alloc: Global, job: Job, pixels: Grid) -> Result<Swept, (Job, Memory)>
         requires { IsSwept (record { job = job; pixels = pixels }) }
-        ensures { result ≡ record { job = job; pixels = pixels } }
+        ensures job { IfOk result (λ swept. swept.job ≡ job) }
+        ensures swept { IfOk result IsSwept }
+        ensures returned { IfErr result (λ e. e.0 ≡ job) }
     {
-        Swept { job, pixels }
+        match Arc::new(alloc, pixels) {
+            Ok(pixels) => Ok(Swept { job, pixels }),
+            Err(_) => Err((job, Memory)),
+        }
     }
 
     /// Which job it was.
@@ -72,15 +82,24 @@ impl Swept {
         &self.pixels
     }
 
-    /// A copy.
+    /// What the sweep gave, to be shared: the pixels have an owner more, and are not copied.
+    ///
+    /// Errors: out of memory.
+    pub fn shared_pixels(&self) -> Result<Arc<Grid>, Memory>
+        ensures { IfOk result (λ shared. arc_value shared ≡ self.now.pixels) }
+    {
+        Ok(Arc::try_clone(&self.pixels)?)
+    }
+
+    /// A copy, which shares what the sweep gave.
     ///
     /// Errors: out of memory.
     pub fn copy(&self, alloc: Global) -> Result<Swept, Memory>
         ensures { IfOk result (λ s. s ≡ self.now) }
     {
-        let pixels = self.pixels().copy(alloc)?;
+        let pixels = Arc::try_clone(&self.pixels)?;
         let job = self.job().copy(alloc)?;
-        Ok(Swept::new(job, pixels))
+        Ok(Swept { job, pixels })
     }
 
     // The job.

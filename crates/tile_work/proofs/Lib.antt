@@ -5,12 +5,16 @@ pub mod CuttingWork
 pub mod OpenBoundsWidened
 pub mod TileSetWords
 pub mod TileSets
+pub mod Counts
 pub mod Leasts
+pub mod TileSetCounts
 pub mod TileSetPairs
 pub mod TileSetUnions
 pub mod TileSetShifts
 pub mod WorkTables
 pub mod WorkTableHints
+pub mod Beside
+pub mod Coming
 pub mod HittingCores
 pub mod HittingMarks
 pub mod HittingRects

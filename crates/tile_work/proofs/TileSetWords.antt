@@ -2,7 +2,7 @@
 use Rattle.std.proofs.Common.{◌≡◌, ◌≢◌, ℕ, ◌+◌, ◌-◌, ◌*◌, ◌/◌, ◌%◌, ◌^◌, ◌<◌, ◌≤◌, Bool, false, List, length, get_or}
 use Rattle.std.proofs.Common.{set, replicate, bit_and, bit_or, w64, sym, ap, subst, ◌∙◌, inl, inr, arith, length-set}
 use Rattle.std.proofs.Common.{get_or-set_same, get_or-set_other, ◌==◌}
-use Rattle.std.proofs.lemmas.Bool.{cases_eq, cases_lt, eqb-true, eq-eqb}
+use Rattle.std.proofs.lemmas.Bool.{cases_eq, cases_lt, eqb-true, eq-eqb, ne_eqb}
 use Rattle.std.proofs.lemmas.Nat.{shr-shr}
 use Rattle.std.proofs.lemmas.Nat.Bits.{bit_at-zero, bit_at-lt, bit_at_above, bit_at-trailing_zeros, bit_at_set_same}
 use Rattle.std.proofs.lemmas.Nat.Bits.{bit_at_set_other, bit_at_clear_same, bit_at_clear_other}
@@ -225,6 +225,16 @@ tiles_of-written count old new t bit tile write =
 -- ---- what the summary says
 
 module _ (count : ℕ) (words summary : List ℕ) (sound : IsSummed count words summary) where
+  -- a tile is in the set exactly where its bit is set
+  pub tile_bit : (t : ℕ) → get_or (tiles_of count words) t false ≡ (bit_of words t == 1)
+  tile_bit t =
+      elim (cases_lt t count) [
+        | inl within ↦ tile_of count words t within
+        | inr past ↦
+            get_or_past (tiles_of count words) t false (omega (arith, length-tiles count words))
+            ∙ sym (ne_eqb (bit_of words t) 1 (λ set. let below = sound.tiles t set in omega arith))
+      ]
+
   pub in_words : (t : ℕ) → t < count → t < 64 * length words
   in_words t tile = omega (arith, sound.word_count)
 

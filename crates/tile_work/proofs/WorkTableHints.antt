@@ -1,29 +1,19 @@
 -- Hints that come to the rows of a table: the room that they need, and the work once they have come.
 use Rattle.std.proofs.Common.{◌≡◌, ℕ, ◌+◌, ◌<◌, ◌≤◌, Bool, true, false, cond, List, ◌∷◌, ◌++◌, map, length, get_or, set}
-use Rattle.std.proofs.Common.{take, drop, refl, sym, ◌∙◌, ap, subst, arith, inl, inr, ◌⊎◌, Result, Ok, Err, OnOk, []}
-use Rattle.std.proofs.Common.{is_err, ◌↔◌, ◌==◌, is_some, All, Contains, slice_index}
-use Rattle.std.proofs.lemmas.Bool.{cases_eq, cond-true, cond-false, eq-eqb, eqb-true, ne_eqb}
+use Rattle.std.proofs.Common.{take, drop, refl, sym, ◌∙◌, ap, subst, arith, inl, inr, Result, Ok, Err, OnOk, []}
+use Rattle.std.proofs.Common.{is_err, ◌==◌, is_some, slice_index}
+use Rattle.std.proofs.lemmas.Bool.{cases_eq, cond-true, cond-false, eq-eqb, ne_eqb}
 use Rattle.std.proofs.lemmas.List.{length-map, get_or-map, get_or-set_same, get_or-set_other, set-get_or, map-set}
 use Rattle.std.proofs.lemmas.List.{append-nil, append_assoc, drop_more, ext_get_or, get_or_default, length-set, take_at}
-use Rattle.std.proofs.lemmas.List.Elements.{All-filter, filter_more, filter_passes, All-head}
-use Rattle.std.proofs.lemmas.List.Sums.{length-filter, count_by-le-length}
+use Rattle.std.proofs.lemmas.List.Elements.{filter_more}
 use Rattle.tile_generations.specs.Generations.{max_generation}
-use Rattle.grid_core.specs.Tiles.{Tiles, AreTouching, count_of, tile_of}
+use Rattle.grid_core.specs.Tiles.{Tiles, tile_of}
 use Rattle.border_queues.specs.declared.hint.Hint.{Hint}
 use Rattle.border_queues.specs.TileWork.{TileWork, idle, received, work_of, hints_at}
 use Rattle.tile_work.specs.declared.work_table.row.TileRow.{TileRow}
-use Rattle.tile_work.specs.WorkTable.{IsToTouching, AreReceived, as_work, works_of, rooms_of, is_some_hint, dirty_bits}
+use Rattle.tile_work.specs.WorkTable.{AreReceived, as_work, works_of, rooms_of, is_some_hint, dirty_bits}
 use Rattle.tile_work.specs.WorkTable.{waiting_bits, AreInStep, HaveRoomFor, IsDelivered}
 use Rattle.tile_work.proofs.WorkTables.{row_with_inbox}
-
--- ---- hints of a tile
-
--- there are at most as many as there are hints
-pub count_at_most : (tiles : Tiles) (t : ℕ) (hints : List Hint) → length (hints_at tiles t hints) ≤ length hints
-count_at_most tiles t hints =
-    let is = length-filter (λ (h : Hint). tile_of tiles h.to_pixel == t) hints in
-    let few = count_by-le-length (λ (h : Hint). tile_of tiles h.to_pixel == t) hints in
-    omega (arith, is, few)
 
 -- ---- room
 
@@ -82,42 +72,11 @@ module _ (rows : List TileRow) (t : ℕ) (row new : TileRow) (within : t < lengt
       let none = nothing_lost (t == u) in
       omega (arith, left, none)
 
--- there is none of these hints, or one of them
-pub first_or_none : (P : Hint → Type 0) (hints : List Hint) → All P hints
-    → (length hints ≡ 0) ⊎ ((hint : Hint) × P hint)
-first_or_none P [] all = inl refl
-first_or_none P (hint ∷ hints) all = inr (hint, All-head P hint hints all)
-
--- there is room for all the hints at each tile, where there is room at each of the tiles that touch theirs
-pub room_for_all : (tiles : Tiles) (from : ℕ) (hints : List Hint) (touching counts rooms : List ℕ)
-    → All (IsToTouching tiles from) hints
-    → ((other : ℕ) → Contains touching other ↔ (AreTouching tiles from other × (other < count_of tiles)))
-    → ((k : ℕ) → k < length touching
-    → slice_index counts k ≡ length (hints_at tiles (slice_index touching k) hints))
-    → ((k : ℕ) → k < length touching → slice_index counts k ≤ slice_index rooms (slice_index touching k))
-    → (t : ℕ) → t < count_of tiles → length (hints_at tiles t hints) ≤ slice_index rooms t
-room_for_all tiles from hints touching counts rooms to_touching members counted made t within =
-    let test : Hint → Bool = λ h. tile_of tiles h.to_pixel == t in
-    let P : Hint → Type 0 = λ h. IsToTouching tiles from h × (test h ≡ true) in
-    let all : All P (hints_at tiles t hints) =
-    λ k d there. (
-      All-filter test (IsToTouching tiles from) hints to_touching k d there,
-      filter_passes test hints k d there,
-    ) in
-    elim (first_or_none P (hints_at tiles t hints) all) [
-      | inl none ↦ omega (arith, none)
-      | inr (hint, to) ↦
-          let here : tile_of tiles hint.to_pixel ≡ t = eqb-true (tile_of tiles hint.to_pixel) t to.1 in
-          let member = (members t).1 (subst (AreTouching tiles from) here to.0.touching, within) in
-          let k = member.0 in
-          let place : k < length touching = member.1 in
-          let at_place : slice_index touching k ≡ t = get_or_default touching k 0 t place ∙ member.2 in
-          let count = counted k place in
-          let room = made k place in
-          subst (λ u. length (hints_at tiles u hints) ≤ slice_index rooms u) at_place (omega (arith, count, room))
-    ]
-
 -- ---- one hint is put into the inbox of its row
+
+-- a set that has the tile is as if it were put in
+pub still_waiting : (waiting : List Bool) (t : ℕ) → get_or waiting t false ≡ true → waiting ≡ set waiting t true
+still_waiting waiting t there = sym (ap (set waiting t) (sym there) ∙ set-get_or waiting t false)
 
 module _ (rows : List TileRow) (t : ℕ) (row new : TileRow) (hint : Hint) (within : t < length rows)
     (is : row ≡ get_or rows t row) (inbox_only : new ≡ record row { inbox = new.inbox })

@@ -1,18 +1,19 @@
 -- The rows of a table and its sets stay in step where one row changes, and the sets say what is left.
 use Rattle.std.proofs.Common.{◌≡◌, ◌≢◌, ℕ, zero, suc, ◌<◌, ◌≤◌, Bool, true, false, List, ◌∷◌, map, length, get_or, set}
 use Rattle.std.proofs.Common.{replicate, refl, sym, ◌∙◌, ap, subst, arith, inl, inr, ◌↔◌, Option, Some, None, []}
-use Rattle.std.proofs.Common.{MatchOption, is_some, IsTrue, not}
-use Rattle.std.proofs.lemmas.Bool.{cases_eq}
+use Rattle.std.proofs.Common.{MatchOption, is_some, IsTrue, not, ◌&&◌, ◌+◌, ◌-◌}
+use Rattle.std.proofs.lemmas.Bool.{cases_eq, cases_lt, and_from, and_parts, not-true, both_ways, false_from_ne_true}
 use Rattle.std.proofs.lemmas.List.{length-set, length-map, get_or-map, get_or-set_same, get_or-set_other, map-set}
-use Rattle.std.proofs.lemmas.List.{set-get_or, length-replicate, get_or-replicate}
+use Rattle.std.proofs.lemmas.List.{set-get_or, length-replicate, get_or-replicate, get_or_past}
 use Rattle.border_queues.specs.declared.hint.Hint.{Hint}
 use Rattle.border_queues.specs.TileWork.{TileWork, idle, IsIdle, fresh, IsLeast, work_of}
 use Rattle.tile_generations.specs.Generations.{max_generation}
 use Rattle.tile_work.specs.{declared.work_table.row.TileRow.TileRow, declared.work_table.WorkTable.TheInside.Inside}
 use Rattle.tile_work.specs.{TileSet.Has, TileSet.HasNoneFrom, TileSet.IsFirstFrom, Least.IsLeastFrom}
 use Rattle.tile_work.specs.WorkTable.{IsDirtyTile, HasJobOut, HasHintsAt, CanBeTaken, as_work, works_of, is_some_hint}
-use Rattle.tile_work.specs.WorkTable.{dirty_bits, out_bits, waiting_bits, AreInStep}
-use Rattle.tile_work.proofs.Leasts.{least_alike, least_of_all, least_of_set}
+use Rattle.tile_work.specs.WorkTable.{dirty_bits, out_bits, waiting_bits, AreInStep, can_be_taken, ready_in}
+use Rattle.tile_work.specs.{Counts.count_from, TileSet.is_without}
+use Rattle.tile_work.proofs.{Counts.count_alike, Leasts.least_alike, Leasts.least_of_set}
 
 -- ---- one row changes
 
@@ -204,6 +205,18 @@ module _ (table : Inside) (now : List TileWork) (view_is : works_of table.rows.i
   out_of_table : (t : ℕ) → Has table.out t ↔ HasJobOut now t
   out_of_table = out_says now table.out (in_step.out_in_step ∙ ap out_bits view_is)
 
+  -- a tile that is in the set of dirty ones and not in that of those that are out can be taken
+  ready_of_table : (t : ℕ) → (Has table.dirty t × (Has table.out t → ⊥)) ↔ CanBeTaken now t
+  ready_of_table t = (
+    λ left.
+        let dirty = (dirty_of_table t).0 left.0 in
+        (dirty, none_when (work_of now t).out (λ some. left.1 ((out_of_table t).1 (dirty.0, some)))),
+    λ ready. (
+      (dirty_of_table t).1 ready.0,
+      λ out. none_is_some (work_of now t).out ready.1 ((out_of_table t).0 out).1,
+    ),
+  )
+
   pub dirty_set_count : length table.dirty ≡ length now
   dirty_set_count =
       ap length (in_step.dirty_in_step ∙ ap dirty_bits view_is) ∙ length-map now (λ work. work.dirty)
@@ -214,9 +227,9 @@ module _ (table : Inside) (now : List TileWork) (view_is : works_of table.rows.i
       ∙ sym (ap length in_step.dirty_in_step ∙ length-map (works_of table.rows.items) (λ work. work.dirty))
 
   module _ (from : ℕ) (first : Option ℕ) where
-    dirty_from : MatchOption first (HasNoneFrom table.dirty from) (IsFirstFrom table.dirty from)
+    pub next_dirty_of_table : MatchOption first (HasNoneFrom table.dirty from) (IsFirstFrom table.dirty from)
         → IsLeastFrom (IsDirtyTile now) from first
-    dirty_from = least_by_set table.dirty (IsDirtyTile now) dirty_of_table from first
+    next_dirty_of_table = least_by_set table.dirty (IsDirtyTile now) dirty_of_table from first
 
     pub next_out_of_table : MatchOption first (HasNoneFrom table.out from) (IsFirstFrom table.out from)
         → IsLeastFrom (HasJobOut now) from first
@@ -228,24 +241,61 @@ module _ (table : Inside) (now : List TileWork) (view_is : works_of table.rows.i
         least_by_set table.waiting (HasHintsAt now)
         (waiting_says now table.waiting (in_step.waiting_in_step ∙ ap waiting_bits view_is)) from first
 
-    -- a tile that is in the set of dirty ones and not in that of those that are out can be taken
     pub next_ready_of_table : IsLeastFrom (λ t. Has table.dirty t × (Has table.out t → ⊥)) from first
         → IsLeastFrom (CanBeTaken now) from first
     next_ready_of_table =
-        least_alike (λ t. Has table.dirty t × (Has table.out t → ⊥)) (CanBeTaken now)
-        (λ t left.
-        let dirty = (dirty_of_table t).0 left.0 in
-        (dirty, none_when (work_of now t).out (λ some. left.1 ((out_of_table t).1 (dirty.0, some)))))
-        (λ t ready. (
-          (dirty_of_table t).1 ready.0,
-          λ out. none_is_some (work_of now t).out ready.1
-              ((out_of_table t).0 out).1,
-        )) from first
+        least_alike (λ t. Has table.dirty t × (Has table.out t → ⊥)) (CanBeTaken now) (λ t. (ready_of_table t).0)
+        (λ t. (ready_of_table t).1) from first
 
-  pub first_dirty_of_table : (first : Option ℕ)
-      → MatchOption first (HasNoneFrom table.dirty 0) (IsFirstFrom table.dirty 0)
-      → MatchOption first ((t : ℕ) → IsDirtyTile now t → ⊥) (IsLeast (IsDirtyTile now))
-  first_dirty_of_table first found = least_of_all (IsDirtyTile now) first (dirty_from 0 first found)
+    pub next_ready_outside_of_table : (set : List Bool)
+        → IsLeastFrom (λ t. Has table.dirty t × (Has table.out t → ⊥) × (Has set t → ⊥)) from first
+        → IsLeastFrom (λ t. CanBeTaken now t × (Has set t → ⊥)) from first
+    next_ready_outside_of_table set =
+        least_alike (λ t. Has table.dirty t × (Has table.out t → ⊥) × (Has set t → ⊥))
+        (λ t. CanBeTaken now t × (Has set t → ⊥))
+        (λ t left. ((ready_of_table t).0 (left.0, left.1), left.2))
+        (λ t ready. let parts = (ready_of_table t).1 ready.0 in (parts.0, parts.1, ready.1)) from first
+
+  -- the sets say whether a tile can be taken
+  ready_bit : (t : ℕ) → t < length now → is_without table.dirty table.out t ≡ can_be_taken (work_of now t)
+  ready_bit t within =
+      let dirty : get_or table.dirty t false ≡ (work_of now t).dirty =
+      ap (λ (b : List Bool). get_or b t false) (in_step.dirty_in_step ∙ ap dirty_bits view_is)
+      ∙ get_or-map (λ work. work.dirty) now t idle false within in
+      let out : get_or table.out t false ≡ is_some (work_of now t).out =
+      ap (λ (b : List Bool). get_or b t false) (in_step.out_in_step ∙ ap out_bits view_is)
+      ∙ get_or-map (λ work. is_some work.out) now t idle false within in
+      ap (λ (x : Bool). x && not (get_or table.out t false)) dirty
+      ∙ ap (λ (y : Bool). (work_of now t).dirty && not y) out
+
+  pub count_ready_of_table : (from to : ℕ) → to ≤ length now
+      → count_from (is_without table.dirty table.out) from (to - from) ≡ ready_in now from (to - from)
+  count_ready_of_table from to within =
+      count_alike (is_without table.dirty table.out) (λ t. can_be_taken (work_of now t)) from from (to - from)
+      (λ k below. ready_bit (from + k) (omega arith))
+
+-- ---- what can be taken
+
+pub can_be_taken_says : (works : List TileWork) (t : ℕ) → IsTrue (can_be_taken (work_of works t)) ↔ CanBeTaken works t
+can_be_taken_says works t =
+    let work = work_of works t in (
+      λ can.
+          let parts = and_parts work.dirty (not (is_some work.out)) can in
+          let none = none_when work.out (both_ways (is_some work.out) (not-true (is_some work.out) parts.1)) in
+          elim (cases_lt t (length works)) [
+            | inl within ↦ ((within, parts.0), none)
+            | inr past ↦
+                let clean : work.dirty ≡ false =
+                ap (λ (w : TileWork). w.dirty) (get_or_past works t idle past) in
+                absurd (both_ways work.dirty clean parts.0)
+          ],
+      λ ready. and_from work.dirty (not (is_some work.out)) ready.0.1 (ap (λ o. not (is_some o)) ready.1),
+    )
+
+pub cannot_be_taken : (works : List TileWork) (t : ℕ) → (CanBeTaken works t → ⊥)
+    → can_be_taken (work_of works t) ≡ false
+cannot_be_taken works t never =
+    false_from_ne_true (can_be_taken (work_of works t)) (λ can. never ((can_be_taken_says works t).0 can))
 
 -- ---- idle tiles
 

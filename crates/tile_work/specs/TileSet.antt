@@ -1,6 +1,6 @@
 -- Sets of the tiles of an image: for each tile, by its number, whether it is in the set.
-use Rattle.std.specs.Prelude.{◌≡◌, ◌≢◌, ℕ, ◌+◌, ◌/◌, ◌%◌, ◌<◌, ◌≤◌, Bool, false, IsTrue, ◌==◌, List, length, map, ◌↔◌}
-use Rattle.std.specs.Prelude.{◌⊎◌, slice_index, slice_index_or, bit_or, EachIndex}
+use Rattle.std.specs.Prelude.{◌≡◌, ◌≢◌, ℕ, ◌+◌, ◌*◌, ◌/◌, ◌%◌, ◌<◌, ◌≤◌, Bool, false, not, ◌&&◌, IsTrue, ◌==◌, List}
+use Rattle.std.specs.Prelude.{length, map, ◌↔◌, ◌⊎◌, slice_index, slice_index_or, bit_or, EachIndex}
 use Rattle.std.specs.{List.range_with_len, Int.bit_at}
 
 -- the tile is in the set
@@ -22,7 +22,20 @@ pub record HasGained (old : List Bool) (P : ℕ → Type 0) (new : List Bool) : 
   pub count : length new ≡ length old
   pub each : (t : ℕ) → Has new t ↔ (Has old t ⊎ P t)
 
+-- whether the tile is in the one set and not in the other
+abbrev pub is_without : List Bool → List Bool → ℕ → Bool
+is_without one other t = slice_index_or one t false && not (slice_index_or other t false)
+
+-- the tile, whose word is this one's, is in the first set and in neither of the others
+abbrev pub IsInFirstOfWord : List Bool → List Bool → List Bool → ℕ → ℕ → Type 0
+IsInFirstOfWord one other third start t =
+    (t / 64 ≡ start / 64) × Has one t × (Has other t → ⊥) × (Has third t → ⊥)
+
 -- ---- words of bits
+
+-- the bits of a word say of which tiles the test holds, of those whose word is this tile's
+abbrev pub IsWordOf : (ℕ → Bool) → ℕ → ℕ → Type 0
+IsWordOf test tile word = (bit : ℕ) → bit < 64 → (bit_at word bit == 1) ≡ test (tile / 64 * 64 + bit)
 
 -- the bit at a place of words of 64 bits, of which the lowest comes first
 abbrev pub bit_of : List ℕ → ℕ → ℕ

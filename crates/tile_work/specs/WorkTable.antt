@@ -1,11 +1,11 @@
 -- The work that is left at each tile as the table of a core stores it, and what the table answers.
 use Rattle.std.specs.Prelude.{◌≡◌, ◌≢◌, ℕ, ◌+◌, ◌<◌, ◌≤◌, ◌==◌, Bool, true, false, if◌then◌else◌, List, [], ◌∷◌, map}
-use Rattle.std.specs.Prelude.{is_some, length, remove, slice_index, slice_set, IsTrue, IsSome, Some, None}
+use Rattle.std.specs.Prelude.{not, ◌&&◌, is_some, length, remove, slice_index, slice_set, IsTrue, IsSome, Some, None}
 use Rattle.grid_core.specs.{Raster.IsInside, Tiles.Tiles, Tiles.AreTouching, Tiles.tile_of}
 use Rattle.border_queues.specs.declared.hint.Hint.{Hint}
 use Rattle.border_queues.specs.TileWork.{TileWork, work_of, received, hints_at}
 use Rattle.tile_generations.specs.Generations.{max_generation}
-use Rattle.tile_work.specs.declared.work_table.row.TileRow.{TileRow}
+use Rattle.tile_work.specs.{Counts.count_from, declared.work_table.row.TileRow.TileRow}
 
 -- the tile is dirty
 abbrev pub IsDirtyTile : List TileWork → ℕ → Type 0
@@ -22,6 +22,14 @@ HasHintsAt works t = (t < length works) × ((work_of works t).inbox ≢ [])
 -- the tile can be taken: it is dirty, and no job of it is out
 abbrev pub CanBeTaken : List TileWork → ℕ → Type 0
 CanBeTaken works t = IsDirtyTile works t × ((work_of works t).out ≡ None)
+
+-- whether a tile with this work can be taken
+abbrev pub can_be_taken : TileWork → Bool
+can_be_taken work = work.dirty && not (is_some work.out)
+
+-- how many of so many tiles, from this one on, can be taken
+abbrev pub ready_in : List TileWork → ℕ → ℕ → ℕ
+ready_in works from n = count_from (λ t. can_be_taken (work_of works t)) from n
 
 -- ---- hints that come
 
@@ -46,17 +54,6 @@ taken work serial = record work { dirty = false; out = Some serial }
 -- the hint at this place was taken out
 abbrev pub without_hint : TileWork → ℕ → TileWork
 without_hint work place = record work { inbox = remove work.inbox place }
-
--- how many of the hints go to each of these tiles
-abbrev pub AreCounts : Tiles → List ℕ → List Hint → List ℕ → Type 0
-AreCounts tiling tiles hints counts =
-    (k : ℕ) → k < length tiles → slice_index counts k ≡ length (hints_at tiling (slice_index tiles k) hints)
-
--- one more was counted at each place where this tile stands
-abbrev pub IsCounted : List ℕ → ℕ → List ℕ → List ℕ → Type 0
-IsCounted tiles tile old new =
-    (k : ℕ) → k < length tiles
-    → slice_index new k ≡ slice_index old k + (if slice_index tiles k == tile then 1 else 0)
 
 -- ---- the stored form
 

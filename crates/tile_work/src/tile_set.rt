@@ -1,11 +1,11 @@
 //! Sets of tiles, as words of bits.
 
-ghost use Rattle.std.specs.Prelude.{◌≡◌, ℕ, ◌+◌, ◌*◌, ◌/◌, ◌^◌, ◌<◌, ◌≤◌, length, replicate, true, false, IfOk, IfSome};
-ghost use Rattle.std.specs.Prelude.{MatchOption, slice_index_or, slice_set};
+ghost use Rattle.std.specs.Prelude.{◌≡◌, ℕ, ◌+◌, ◌-◌, ◌*◌, ◌/◌, ◌%◌, ◌^◌, ◌<◌, ◌≤◌, ◌==◌, length, replicate, true};
+ghost use Rattle.std.specs.Prelude.{false, IfOk, IfSome, MatchOption, slice_index_or, slice_set};
 ghost use Rattle.std.specs.Int.{bit_at};
-ghost use Rattle.tile_work.specs.Least.{IsLeastFrom};
+ghost use Rattle.tile_work.specs.{Counts.count_from, Least.IsLeastFrom};
 ghost use Rattle.tile_work.specs.TileSet.{AreZeroFrom, Has, HasNoneFrom, HasGained, IsFirstFrom, bit_of, IsLowestFrom};
-ghost use Rattle.tile_work.specs.TileSet.{AreUnited, IsWritten};
+ghost use Rattle.tile_work.specs.TileSet.{AreUnited, IsInFirstOfWord, IsWordOf, IsWritten, is_without};
 
 use grid_core::Memory;
 use std::alloc::Global;
@@ -129,11 +129,26 @@ impl TileSet {
         requires { length other.now ≡ length self.now }
         ensures { IsLeastFrom (λ t. Has self.now t × (Has other.now t → ⊥)) start result }
     {
+        self.first_without_both(other, other, start)
+    }
+
+    /// The first tile from `start` on that is in this set and in neither of the other two, if there is one. All three
+    /// are over as many tiles. To pass over tiles of this set that are in another one it costs one step for 64 of them.
+    pub fn first_without_both(
+        &self,
+        other: &TileSet,
+        third: &TileSet,
+        start: usize,
+    ) -> Option<usize>
+        requires other { length other.now ≡ length self.now }
+        requires third { length third.now ≡ length self.now }
+        ensures { IsLeastFrom (λ t. Has self.now t × (Has other.now t → ⊥) × (Has third.now t → ⊥)) start result }
+    {
         // For its clause alone: the number of tiles is a usize.
         let _ = self.len();
         let mut from = start;
         while let Some(tile) = self.first_from(from) {
-            if let Some(left) = self.first_of_word(other, tile) {
+            if let Some(left) = self.first_of_word(other, third, tile) {
                 return Some(left);
             }
             from = (tile / 64 * 64).saturating_add(64);
@@ -141,15 +156,54 @@ impl TileSet {
         None
     }
 
-    // The first tile from `start` on, of those of one word, that is in this set and not in the other one.
-    fn first_of_word(&self, other: &TileSet, start: usize) -> Option<usize>
-        requires within { start < length self.now }
+    /// How many tiles, from `start` on and before `end`, are in this set and not in the other one. Both sets are over
+    /// as many tiles. It costs one step for 64 tiles.
+    pub fn count_without(&self, other: &TileSet, start: usize, end: usize) -> usize
         requires count { length other.now ≡ length self.now }
-        ensures { IsLeastFrom (λ t. (t / 64 ≡ start / 64) × Has self.now t × (Has other.now t → ⊥)) start result }
+        requires within { end ≤ length self.now }
+        ensures { result ≡ count_from (is_without self.now other.now) start (end - start) }
     {
-        let word = start / 64;
-        let bit = lowest_bit(self.words[word] & !other.words[word], start % 64)?;
-        Some(word * 64 + bit)
+        let mut total = 0;
+        let mut from = start;
+        while from < end {
+            let tiles = (64 - from % 64).min(end - from);
+            total += self.count_of_word(other, from, tiles);
+            from += tiles;
+        }
+        total
+    }
+
+    // The first tile from `start` on, of those of one word, that is in this set and in neither of the other two.
+    fn first_of_word(&self, other: &TileSet, third: &TileSet, start: usize) -> Option<usize>
+        requires within { start < length self.now }
+        requires other { length other.now ≡ length self.now }
+        requires third { length third.now ≡ length self.now }
+        ensures { IsLeastFrom (IsInFirstOfWord self.now other.now third.now start) start result }
+    {
+        let left = self.word_without(other, start) & self.word_without(third, start);
+        let bit = lowest_bit(left, start % 64)?;
+        Some(start / 64 * 64 + bit)
+    }
+
+    // How many of so many tiles from `start` on, all of one word, are in this set and not in the other one.
+    fn count_of_word(&self, other: &TileSet, start: usize, tiles: usize) -> usize
+        requires some { 0 < tiles }
+        requires within { start + tiles ≤ length self.now }
+        requires word { start % 64 + tiles ≤ 64 }
+        requires count { length other.now ≡ length self.now }
+        ensures { result ≡ count_from (is_without self.now other.now) start tiles }
+    {
+        count_low(self.word_without(other, start) >> (start % 64), tiles)
+    }
+
+    // Which of the tiles whose word is this tile's are in this set and not in the other one, as bits.
+    fn word_without(&self, other: &TileSet, tile: usize) -> u64
+        requires within { tile < length self.now }
+        requires count { length other.now ≡ length self.now }
+        ensures { IsWordOf (is_without self.now other.now) tile result }
+    {
+        let word = tile / 64;
+        self.words[word] & !other.words[word]
     }
 
     /// Takes all tiles out of the set. It costs about the tiles that are in it.
@@ -199,6 +253,15 @@ fn lowest_bit(word: u64, from: usize) -> Option<usize>
     } else {
         Some(from + rest.trailing_zeros() as usize)
     }
+}
+
+// How many of so many of the lowest bits of the word are set.
+fn count_low(word: u64, bits: usize) -> usize
+    requires some { 0 < bits }
+    requires most { bits ≤ 64 }
+    ensures { result ≡ count_from (λ bit. bit_at word bit == 1) 0 bits }
+{
+    (word << (64 - bits)).count_ones() as usize
 }
 
 // The lowest place whose bit is set, of those from `start` on.

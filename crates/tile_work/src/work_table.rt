@@ -1,22 +1,24 @@
 //! The table of the work that is left at each tile.
 
+mod beside;
 mod cutting;
 mod delivery;
 mod row;
 
-ghost use Rattle.std.specs.Prelude.{◌≡◌, ◌+◌, ◌<◌, ◌≤◌, ◌↔◌, ℕ, true, false, [], length, remove, replicate, slice_get};
-ghost use Rattle.std.specs.Prelude.{slice_set, All, Some, None, MatchOption, IfOk, OnOk, OnErr, IsTrue};
+ghost use Rattle.std.specs.Prelude.{◌≡◌, ◌+◌, ◌-◌, ◌<◌, ◌≤◌, ◌↔◌, ℕ, true, false, [], length, remove, replicate};
+ghost use Rattle.std.specs.Prelude.{slice_get, slice_set, All, Some, None, MatchOption, IfOk, OnOk, OnErr, IsTrue};
 ghost use Rattle.grid_core.specs.Tiles.{count_of};
 ghost use Rattle.tile_generations.specs.Generations.{max_generation};
 ghost use Rattle.border_queues.specs.TileWork.{IsIdle, fresh, reset_work, IsLeast, work_of};
 ghost use Rattle.tile_work.specs.Least.{IsLeastFrom};
-ghost use Rattle.tile_work.specs.TileSet.{HasGained};
+ghost use Rattle.tile_work.specs.TileSet.{Has, HasGained};
 ghost use Rattle.tile_work.specs.WorkTable.{IsDirtyTile, HasJobOut, HasHintsAt, CanBeTaken, IsToTouching, AreReceived};
-ghost use Rattle.tile_work.specs.WorkTable.{taken, without_hint};
+ghost use Rattle.tile_work.specs.WorkTable.{ready_in, taken, without_hint};
 
 use crate::tile_set::TileSet;
+use beside::TilesBeside;
 use border_queues::{Hint, Inbox};
-use delivery::{counts_at, deliver, make_room};
+use delivery::{count_hints, deliver, make_room};
 use grid_core::{Memory, Tiling};
 use row::{TileRow, rows_from};
 use std::alloc::Global;
@@ -124,7 +126,7 @@ impl WorkTable {
     pub fn first_dirty(&self) -> Option<usize>
         ensures { MatchOption result ((t : ℕ) → IsDirtyTile self.now t → ⊥) (IsLeast (IsDirtyTile self.now)) }
     {
-        self.dirty.first_from(0)
+        self.next_dirty(0)
     }
 
     /// The first tile with a job that is out, if there is one.
@@ -141,11 +143,35 @@ impl WorkTable {
         self.next_waiting(0)
     }
 
+    /// The first dirty tile from `from` on, if there is one.
+    pub fn next_dirty(&self, from: usize) -> Option<usize>
+        ensures { IsLeastFrom (IsDirtyTile self.now) from result }
+    {
+        self.dirty.first_from(from)
+    }
+
     /// The first tile from `from` on that is dirty and of which no job is out, if there is one.
     pub fn next_ready(&self, from: usize) -> Option<usize>
         ensures { IsLeastFrom (CanBeTaken self.now) from result }
     {
         self.dirty.first_without(&self.out, from)
+    }
+
+    /// The first tile from `from` on that is dirty, of which no job is out, and that is not in the set, if there is
+    /// one. The set is over as many tiles. It passes over 64 tiles a step.
+    pub fn next_ready_outside(&self, set: &TileSet, from: usize) -> Option<usize>
+        requires { length set.now ≡ length self.now }
+        ensures { IsLeastFrom (λ t. CanBeTaken self.now t × (Has set.now t → ⊥)) from result }
+    {
+        self.dirty.first_without_both(&self.out, set, from)
+    }
+
+    /// How many tiles, from `from` on and before `to`, are dirty with no job of them out. It counts 64 tiles a step.
+    pub fn count_ready(&self, from: usize, to: usize) -> usize
+        requires { to ≤ length self.now }
+        ensures { result ≡ ready_in self.now from (to - from) }
+    {
+        self.dirty.count_without(&self.out, from, to)
     }
 
     /// The first tile from `from` on with a job that is out, if there is one.
@@ -274,11 +300,10 @@ impl WorkTable {
         ensures ok { OnOk result (AreReceived tiling.now hints.now self.old self.new) }
         ensures err { OnErr result (self.new ≡ self.old) }
     {
-        let touching = tiling.touching(from);
-        let tiles = touching.as_slice();
-        let counts = counts_at(tiling, tiles, hints);
-        make_room(&mut self.rows, tiles, &counts)?;
-        deliver(&mut self.rows, &mut self.waiting, tiling, hints);
+        let beside = TilesBeside::new(tiling, from);
+        let coming = count_hints(&beside, hints);
+        make_room(&mut self.rows, &coming.tiles, &coming.counts)?;
+        deliver(&mut self.rows, &mut self.waiting, &beside, hints);
         Ok(())
     }
 }

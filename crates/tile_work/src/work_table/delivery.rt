@@ -1,43 +1,39 @@
 //! Hints that are put into the inboxes of their tiles.
 
-ghost use Rattle.std.specs.Prelude.{◌≡◌, ◌+◌, ◌<◌, ◌≤◌, ◌^◌, ℕ, length, slice_index};
-ghost use Rattle.std.specs.Prelude.{◌==◌, All, OnOk};
+ghost use Rattle.std.specs.Prelude.{◌≡◌, ◌<◌, ◌≤◌, length, slice_index, All, OnOk};
 ghost use Rattle.grid_core.specs.Tiles.{count_of};
-ghost use Rattle.tile_work.specs.WorkTable.{works_of, rooms_of, waiting_bits, IsToInside};
-ghost use Rattle.tile_work.specs.WorkTable.{AreCounts, AreReceived, HaveRoomFor, HaveRooms, IsCounted, IsDelivered};
+ghost use Rattle.tile_work.specs.Beside.{AreCounted, IsBeside};
+ghost use Rattle.tile_work.specs.WorkTable.{works_of, rooms_of, waiting_bits, IsToTouching};
+ghost use Rattle.tile_work.specs.WorkTable.{AreReceived, HaveRoomFor, HaveRooms, IsDelivered};
 
+use super::beside::{PLACES, TilesBeside};
 use super::row::TileRow;
 use crate::tile_set::TileSet;
 use border_queues::Hint;
-use grid_core::{Memory, Tiling};
+use grid_core::Memory;
 
-/// How many tiles touch a tile at most.
-const MAX_TOUCHING: usize = 8;
-
-/// How many of the hints go to each of these tiles.
-pub(super) fn counts_at(tiling: &Tiling, tiles: &[usize], hints: &[Hint]) -> [usize; MAX_TOUCHING]
-    requires few { length tiles.now ≤ MAX_TOUCHING }
-    requires inside { All (IsToInside tiling.now) hints.now }
-    ensures { AreCounts tiling.now tiles.now hints.now result }
-{
-    let mut counts = [0; MAX_TOUCHING];
-    for hint in hints {
-        count_at(&mut counts, tiles, tiling.tile_of(hint.to_pixel));
-    }
-    counts
+/// How many hints come to each of the tiles at and around one.
+#[derive(Clone, Copy, Debug)]
+pub(super) struct Coming {
+    // The tile at a place, once a hint comes to it.
+    pub(crate) tiles: [usize; PLACES],
+    pub(crate) counts: [usize; PLACES],
 }
 
-// Counts one more at each place where this tile stands.
-fn count_at(counts: &mut [usize], tiles: &[usize], tile: usize)
-    requires few { length tiles.now ≤ length counts.old }
-    requires fits { (k : ℕ) → k < length tiles.now → slice_index counts.old k + 1 < 2 ^ 64 }
-    ensures { IsCounted tiles.now tile counts.old counts.new }
+/// Counts the hints that come to each of the tiles at and around one.
+pub(super) fn count_hints(beside: &TilesBeside, hints: &[Hint]) -> Coming
+    requires beside { IsBeside beside.now }
+    requires touching { All (IsToTouching beside.now.tiling beside.now.tile) hints.now }
+    ensures { AreCounted beside.now.tiling hints.now result }
 {
-    for (place, other) in tiles.iter().enumerate() {
-        if *other == tile {
-            counts[place] += 1;
-        }
+    let mut tiles = [beside.tile; PLACES];
+    let mut counts = [0; PLACES];
+    for hint in hints {
+        let place = beside.place_of(hint.to_pixel);
+        tiles[place] = beside.tile_of(hint.to_pixel);
+        counts[place] += 1;
     }
+    Coming { tiles, counts }
 }
 
 /// Makes room for so many more hints at each of these tiles.
@@ -62,16 +58,22 @@ pub(super) fn make_room(
 }
 
 /// Puts each hint into the inbox of its tile, where there is room for all of them.
-pub(super) fn deliver(rows: &mut [TileRow], waiting: &mut TileSet, tiling: &Tiling, hints: &[Hint])
-    requires tiles { length rows.old ≡ count_of tiling.now }
-    requires inside { All (IsToInside tiling.now) hints.now }
-    requires room { HaveRoomFor tiling.now hints.now rows.old }
+pub(super) fn deliver(
+    rows: &mut [TileRow],
+    waiting: &mut TileSet,
+    beside: &TilesBeside,
+    hints: &[Hint],
+)
+    requires tiles { length rows.old ≡ count_of beside.now.tiling }
+    requires beside { IsBeside beside.now }
+    requires touching { All (IsToTouching beside.now.tiling beside.now.tile) hints.now }
+    requires room { HaveRoomFor beside.now.tiling hints.now rows.old }
     requires waiting { waiting.old ≡ waiting_bits (works_of rows.old) }
-    ensures works { AreReceived tiling.now hints.now (works_of rows.old) (works_of rows.new) }
+    ensures works { AreReceived beside.now.tiling hints.now (works_of rows.old) (works_of rows.new) }
     ensures waiting { waiting.new ≡ waiting_bits (works_of rows.new) }
 {
     for hint in hints {
-        deliver_one(rows, waiting, tiling.tile_of(hint.to_pixel), *hint);
+        deliver_one(rows, waiting, beside.tile_of(hint.to_pixel), *hint);
     }
 }
 
@@ -83,5 +85,7 @@ fn deliver_one(rows: &mut [TileRow], waiting: &mut TileSet, tile: usize, hint: H
     ensures { IsDelivered tile hint rows.old rows.new waiting.new }
 {
     rows[tile].push_hint(hint);
-    waiting.insert(tile);
+    if !waiting.contains(tile) {
+        waiting.insert(tile);
+    }
 }

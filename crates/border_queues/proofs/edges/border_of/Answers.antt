@@ -1,5 +1,6 @@
 use Rattle.std.proofs.Common.{◌≡◌, sym, subst, ◌↔◌}
 use Rattle.grid_core.specs.{declared.rect.Rect.Rect, Rects.IsInRect, Tiles.tile_of}
+use Rattle.border_queues.specs.Borders.{CoversAround}
 use Rattle.border_queues.proofs.edges.border_of.Goals as goal
 
 pub returns-clause-border : goal.returns-clause-border
@@ -11,14 +12,14 @@ returns-clause-border c =
     record {
       tiled = c.side.ensures.tiled;
       rect = same;
-      mask = c.requires.parts.mask_fits;
-      image = c.requires.parts.image_fits;
+      mask = c.requires.mask;
+      image = subst (λ (rect : Rect). CoversAround t rect c.args.origin c.args.image.now) (sym same) c.requires.covers;
       inside = c.width.ensures.sized.size;
       inside_columns = rw same c.requires.columns;
       inside_rows = rw same c.requires.rows;
       fits = fits;
       own = λ p inside. subst (λ (rect : Rect). IsInRect rect p ↔ (tile_of t p ≡ tile)) (sym same)
-          ((c.each_pixel_in_one_tile.ensures t p c.side.ensures.tiled inside).1 tile c.requires.parts.tile);
+          ((c.each_pixel_in_one_tile.ensures t p c.side.ensures.tiled inside).1 tile c.requires.tile);
       lie = rw same c.requires.lie;
       begin = c.requires.bounds;
     }

@@ -4,6 +4,11 @@ use Rattle.border_queues.specs.Borders.{told_to}
 use Rattle.border_queues.proofs.Interior.{own_told_none}
 use Rattle.border_queues.proofs.border.Border.push_if.Goals as goal
 
+pub push_outer-requires-clause-seen : goal.push_outer-requires-clause-seen
+push_outer-requires-clause-seen c =
+    let q : Pixel = record { x = c.args.x; y = c.args.y } in
+    c.requires.ready.border.image q (c.requires.at (search rules)) c.requires.near
+
 pub returns-else-wanted : goal.returns-else-wanted
 returns-else-wanted c =
     let b = c.args.self.now in

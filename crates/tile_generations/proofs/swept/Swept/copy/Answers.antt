@@ -1,8 +1,20 @@
-use Rattle.std.proofs.Common.{◌∙◌}
-use Rattle.tile_generations.proofs.Sweeping.{same_swept}
+-- What the tactics leave open of `copy`. The pixels are the same, and the job is equal.
+use Rattle.std.proofs.Common.{sym, subst, ◌∙◌, ap}
+use Rattle.std.specs.Arc.{arc_value}
+use Rattle.tile_generations.specs.Jobs.{Swept, IsSwept}
+use Rattle.tile_generations.proofs.Sweeping.{swept_of_parts}
 use Rattle.tile_generations.proofs.swept.Swept.copy.Goals as goal
 
-pub new-requires : goal.new-requires
-new-requires c =
-    same_swept c.args.self.now c.in_ok-job.job c.in_ok-pixels.pixels (c.in_ok-job.ensures ∙ c.job.ensures)
-    (c.in_ok-pixels.ensures ∙ c.pixels.ensures.value) c.pixels.ensures.swept
+pub invariant_of-result : goal.invariant_of-result
+invariant_of-result c =
+    let pixels = c.in_ok-pixels.ensures ∙ ap (λ (s : Swept). s.pixels) c.self.view_is in
+    let same =
+    swept_of_parts c.args.self.now c.in_ok-job.job (arc_value c.in_ok-pixels.pixels)
+    (c.in_ok-job.ensures ∙ c.job.ensures) pixels in
+    subst IsSwept same (subst IsSwept c.self.view_is c.self.invariant)
+
+pub returns : goal.returns
+returns c =
+    let pixels = c.in_ok-pixels.ensures ∙ ap (λ (s : Swept). s.pixels) c.self.view_is in
+    sym (swept_of_parts c.args.self.now c.in_ok-job.job (arc_value c.in_ok-pixels.pixels)
+    (c.in_ok-job.ensures ∙ c.job.ensures) pixels)

@@ -1,12 +1,11 @@
 -- What the tactics leave open of `first_without`.
-use Rattle.std.proofs.Common.{arith}
+use Rattle.tile_work.specs.TileSet.{Has}
+use Rattle.tile_work.proofs.Leasts.{least_alike}
 use Rattle.tile_work.proofs.tile_set.TileSet.first_without.Goals as goal
 
-pub loop-tile-smaller : goal.loop-tile-smaller
-loop-tile-smaller c =
-    let found = c.in-Some.ensures in
-    let within = found.has.0 in
-    let later = found.from in
-    let count = c.len.ensures in
-    let next = c.saturating_add-from.ensures in
-    omega (arith, within, later, count, next)
+pub returns : goal.returns
+returns c =
+    let one = c.args.self.now in
+    let other = c.args.other.now in
+    least_alike (λ t. Has one t × (Has other t → ⊥) × (Has other t → ⊥)) (λ t. Has one t × (Has other t → ⊥))
+    (λ t has. (has.0, has.1)) (λ t has. (has.0, has.1, has.1)) c.args.start _ c.first_without_both.ensures

@@ -1,27 +1,44 @@
 -- What the tactics leave open of `receive`.
-use Rattle.std.proofs.Common.{List, ◌≡◌, ◌<◌, ◌≤◌, get_or, length, subst, sym, ◌∙◌, ap, ◌↔◌, Contains}
-use Rattle.std.proofs.Common.{slice_index}
-use Rattle.std.proofs.{lemmas.List.length-map, lemmas.List.Elements.Contains-get_or, lemmas.Result.err_from_is_err_and}
-use Rattle.grid_core.specs.Tiles.{AreTouching, count_of}
-use Rattle.tile_work.specs.WorkTable.{as_work, works_of, rooms_of, waiting_bits, AreReceived, AreInStep}
-use Rattle.tile_work.specs.declared.work_table.row.TileRow.{TileRow}
+use Rattle.std.proofs.Common.{List, ◌≡◌, ◌<◌, ◌≤◌, All, length, subst, sym, ◌∙◌, ap, slice_index}
+use Rattle.std.proofs.{lemmas.List.length-map, lemmas.Result.err_from_is_err_and}
+use Rattle.grid_core.specs.Tiles.{Tiles, count_of}
+use Rattle.tile_work.specs.{Beside.AreCounted, declared.work_table.row.TileRow.TileRow}
+use Rattle.tile_work.specs.WorkTable.{as_work, works_of, rooms_of, waiting_bits, IsToTouching, AreReceived, AreInStep}
 use Rattle.border_queues.specs.TileWork.{hints_at, TileWork}
-use Rattle.tile_work.proofs.WorkTableHints.{room_for_all, received_in_step, written_back}
+use Rattle.tile_work.proofs.{Coming.room_for_all, WorkTableHints.received_in_step, WorkTableHints.written_back}
+use Rattle.tile_work.proofs.work_table.WorkTable.receive.Goals.{After-new-beside, After-count_hints-coming}
 use Rattle.tile_work.proofs.work_table.WorkTable.receive.Goals.{After-deref_mut-2}
 use Rattle.tile_work.proofs.work_table.WorkTable.receive.Goals as goal
 
-pub counts_at-counts-requires-clause-inside : goal.counts_at-counts-requires-clause-inside
-counts_at-counts-requires-clause-inside c = λ k d within. (c.requires.touching k d within).inside
+-- the hints go to tiles that touch the one that was taken along
+to_touching : (c : After-new-beside)
+    → All (IsToTouching c.new-beside.result.tiling c.new-beside.result.tile) c.args.hints.now
+to_touching c =
+    subst (λ (tiles : Tiles). All (IsToTouching tiles c.new-beside.result.tile) c.args.hints.now)
+    (sym c.new-beside.ensures.tiling)
+    (subst (λ t. All (IsToTouching c.args.tiling.now t) c.args.hints.now) (sym c.new-beside.ensures.tile)
+    c.requires.touching)
+
+pub count_hints-coming-requires-clause-touching : goal.count_hints-coming-requires-clause-touching
+count_hints-coming-requires-clause-touching c =
+    to_touching (goal.at.count_hints-coming-requires-clause-touching c).After-new-beside
+
+-- what was counted, in the tiling that was passed
+counted : (c : After-count_hints-coming) → AreCounted c.args.tiling.now c.args.hints.now c.count_hints-coming.result
+counted c =
+    subst (λ (tiles : Tiles). AreCounted tiles c.args.hints.now c.count_hints-coming.result)
+    c.new-beside.ensures.tiling c.count_hints-coming.ensures
+
+pub make_room-requires-clause-few : goal.make_room-requires-clause-few
+make_room-requires-clause-few c = (counted (goal.at.make_room-requires-clause-few c).After-count_hints-coming).places
 
 pub make_room-requires-clause-tiles : goal.make_room-requires-clause-tiles
-make_room-requires-clause-tiles c = λ k d h.
-    let tiles = c.as_slice-tiles.result.now in
-    let member = (c.touching-touching.ensures.members (get_or tiles k d)).0
-    (subst (λ ts. Contains ts (get_or tiles k d)) c.as_slice-tiles.ensures.tiles (Contains-get_or tiles k d h)) in
+make_room-requires-clause-tiles c =
     let count : length c.deref_mut.result.now ≡ count_of c.args.tiling.now =
     ap length c.deref_mut.ensures.value ∙ sym (length-map c.self.inside.rows.items as_work) ∙ ap length c.self.view_is
     ∙ c.requires.tiles in
-    subst (λ n. get_or tiles k d < n) (sym count) member.1
+    subst (λ n. All (λ t. t < n) c.count_hints-coming.result.tiles) (sym count)
+    (counted (goal.at.make_room-requires-clause-tiles c).After-count_hints-coming).within
 
 -- where there was no room, the rows come back with the work that they had
 pub invariant_of-self : goal.invariant_of-self
@@ -63,40 +80,40 @@ count_with_room c =
     ∙ c.requires.tiles
 
 pub deliver-requires-clause-tiles : goal.deliver-requires-clause-tiles
-deliver-requires-clause-tiles c = count_with_room (goal.at.deliver-requires-clause-tiles c).After-deref_mut-2
+deliver-requires-clause-tiles c =
+    count_with_room (goal.at.deliver-requires-clause-tiles c).After-deref_mut-2
+    ∙ ap count_of (sym c.new-beside.ensures.tiling)
 
-pub deliver-requires-clause-inside : goal.deliver-requires-clause-inside
-deliver-requires-clause-inside c = λ k d within. (c.requires.touching k d within).inside
+pub deliver-requires-clause-touching : goal.deliver-requires-clause-touching
+deliver-requires-clause-touching c = to_touching (goal.at.deliver-requires-clause-touching c).After-new-beside
 
 pub deliver-requires-clause-room : goal.deliver-requires-clause-room
 deliver-requires-clause-room c = λ t within.
     let here = (goal.at.deliver-requires-clause-room c).After-deref_mut-2 in
-    let tiles = c.as_slice-tiles.result.now in
-    let in_tiling : t < count_of c.args.tiling.now = subst (λ n. t < n) (count_with_room here) within in
-    subst (λ (rs : List TileRow). length (hints_at c.args.tiling.now t c.args.hints.now) ≤ slice_index (rooms_of rs) t)
-    (sym (rows_with_room here))
-    (room_for_all c.args.tiling.now c.args.from c.args.hints.now tiles c.counts_at-counts.result
-    (rooms_of c.make_room.new.rows) c.requires.touching
-    (λ other.
-    subst (λ ts. Contains ts other ↔ (AreTouching c.args.tiling.now c.args.from other
-    × (other < count_of c.args.tiling.now)))
-    (sym c.as_slice-tiles.ensures.tiles) (c.touching-touching.ensures.members other))
-    c.counts_at-counts.ensures c.in_ok-make_room.ensures.room t in_tiling)
+    subst (λ (rs : List TileRow). length (hints_at c.new-beside.result.tiling t c.args.hints.now)
+    ≤ slice_index (rooms_of rs) t) (sym (rows_with_room here))
+    (room_for_all c.count_hints-coming.ensures (rooms_of c.make_room.new.rows) c.in_ok-make_room.ensures.room t)
 
 pub deliver-requires-clause-waiting : goal.deliver-requires-clause-waiting
 deliver-requires-clause-waiting c =
     c.self.invariant.waiting_in_step
     ∙ ap waiting_bits (sym (works_with_room (goal.at.deliver-requires-clause-waiting c).After-deref_mut-2))
 
+-- the hints came to the rows that the table had
+came : (c : After-deref_mut-2) (rows : List TileRow)
+    → AreReceived c.new-beside.result.tiling c.args.hints.now (works_of c.deref_mut-2.result.now) (works_of rows)
+    → AreReceived c.args.tiling.now c.args.hints.now (works_of c.self.inside.rows.items) (works_of rows)
+came c rows received =
+    subst (λ (ws : List TileWork). AreReceived c.args.tiling.now c.args.hints.now ws (works_of rows))
+    (works_with_room c)
+    (subst (λ (tiles : Tiles). AreReceived tiles c.args.hints.now (works_of c.deref_mut-2.result.now) (works_of rows))
+    c.new-beside.ensures.tiling received)
+
 pub invariant_of-self-2 : goal.invariant_of-self-2
 invariant_of-self-2 c =
     let here = (goal.at.invariant_of-self-2 c).After-deref_mut-2 in
-    let came : AreReceived c.args.tiling.now c.args.hints.now (works_of c.self.inside.rows.items)
-    (works_of c.deliver.new.rows) =
-    subst (λ (ws : List TileWork). AreReceived c.args.tiling.now c.args.hints.now ws (works_of c.deliver.new.rows))
-    (works_with_room here) c.deliver.ensures.works in
-    let step = received_in_step came c.self.inside.dirty c.self.inside.out c.self.inside.waiting c.deliver.new.waiting
-    c.self.invariant c.deliver.ensures.waiting in
+    let step = received_in_step (came here c.deliver.new.rows c.deliver.ensures.works) c.self.inside.dirty
+    c.self.inside.out c.self.inside.waiting c.deliver.new.waiting c.self.invariant c.deliver.ensures.waiting in
     subst (λ (rs : List TileRow). AreInStep (works_of rs) c.self.inside.dirty c.self.inside.out c.deliver.new.waiting)
     (sym (written_back c.deliver.new.rows _ c.self.inside.rows.len (c.deliver.auto.rows ∙ c.deref_mut-2.ensures.len)))
     step
@@ -107,4 +124,4 @@ returns-clause-ok c =
     subst (λ (rs : List TileRow). AreReceived c.args.tiling.now c.args.hints.now c.args.self.now (works_of rs))
     (sym (written_back c.deliver.new.rows _ c.self.inside.rows.len (c.deliver.auto.rows ∙ c.deref_mut-2.ensures.len)))
     (subst (λ (ws : List TileWork). AreReceived c.args.tiling.now c.args.hints.now ws (works_of c.deliver.new.rows))
-    (works_with_room here ∙ c.self.view_is) c.deliver.ensures.works)
+    c.self.view_is (came here c.deliver.new.rows c.deliver.ensures.works))

@@ -2,16 +2,17 @@
 use Rattle.std.proofs.Common.{◌<◌, ◌∙◌, subst, sym}
 use Rattle.std.proofs.lemmas.List.{take_all}
 use Rattle.tile_work.specs.WorkTable.{works_of, AreReceived}
+use Rattle.tile_work.proofs.Coming.{is_near}
 use Rattle.tile_work.proofs.WorkTableHints.{delivery_starts, delivery_goes_on, room_for_next}
 use Rattle.tile_work.proofs.work_table.delivery.deliver.Goals as goal
 
 pub loop-hint-init : goal.loop-hint-init
 loop-hint-init c =
-    delivery_starts c.args.tiling.now c.args.hints.now c.args.rows.now c.args.waiting.now c.requires.room
+    delivery_starts c.args.beside.now.tiling c.args.hints.now c.args.rows.now c.args.waiting.now c.requires.room
     c.requires.waiting
 
-pub tile_of-requires : goal.tile_of-requires
-tile_of-requires c = c.requires.inside c.loop-hint.hint-index _ c.loop-hint-test.true
+pub tile_of-requires-clause-near : goal.tile_of-requires-clause-near
+tile_of-requires-clause-near c = is_near (c.requires.touching c.loop-hint.hint-index _ c.loop-hint-test.true)
 
 pub deliver_one-requires-clause-tile : goal.deliver_one-requires-clause-tile
 deliver_one-requires-clause-tile c =
@@ -32,7 +33,7 @@ loop-hint-preserved c =
 
 pub returns-clause-works : goal.returns-clause-works
 returns-clause-works c =
-    subst (λ hints. AreReceived c.args.tiling.now hints (works_of c.args.rows.now) (works_of c.loop-hint.rows))
+    subst (λ hints. AreReceived c.args.beside.now.tiling hints (works_of c.args.rows.now) (works_of c.loop-hint.rows))
     (take_all c.loop-hint.hint-index c.args.hints.now c.loop-hint-test.false) c.loop-hint.invariant.came
 
 pub returns-clause-waiting : goal.returns-clause-waiting

@@ -1,11 +1,15 @@
 -- What the tactics leave open of `deliver_one`.
-use Rattle.std.proofs.Common.{get_or, arith}
-use Rattle.tile_work.proofs.WorkTableHints.{read_again, room_left, row_received, waiting_received}
-use Rattle.std.proofs.lemmas.Grind.{common_steps}
+use Rattle.std.proofs.Common.{List, Bool, ◌≡◌, get_or, set, true, sym, ◌∙◌}
+use Rattle.tile_work.specs.WorkTable.{IsDelivered}
+use Rattle.tile_work.proofs.WorkTableHints.{read_again, room_left, row_received, waiting_received, still_waiting}
+use Rattle.tile_work.proofs.work_table.delivery.deliver_one.Goals.{After-push_hint}
 use Rattle.tile_work.proofs.work_table.delivery.deliver_one.Goals as goal
 
-pub returns : goal.returns
-returns c =
+-- the hint is in its row, and the set is as if the tile were put in
+delivered : (c : After-push_hint) (waits : List Bool) → waits ≡ set c.args.waiting.now c.args.tile true
+    → IsDelivered c.args.tile c.args.hint c.args.rows.now
+    (set c.args.rows.now c.args.tile c.push_hint.new.self) waits
+delivered c waits waits_are =
     let rows = c.args.rows.now in
     let tile = c.args.tile in
     let row = get_or rows tile c.index-rows-tile.result in
@@ -17,8 +21,14 @@ returns c =
       room = room_left rows tile row c.push_hint.new.self c.requires.tile is 1 c.push_hint.ensures.room;
       waiting =
           waiting_received rows tile row c.push_hint.new.self c.args.hint c.requires.tile is c.push_hint.ensures.row
-          c.push_hint.ensures.hints c.args.waiting.now c.insert.new.self c.requires.waiting c.insert.ensures;
+          c.push_hint.ensures.hints c.args.waiting.now waits c.requires.waiting waits_are;
     }
 
-pub insert-requires : goal.insert-requires
-insert-requires c = grind (arith, common_steps)
+pub returns-then-not-contains : goal.returns-then-not-contains
+returns-then-not-contains c =
+    delivered (goal.at.returns-then-not-contains c).After-push_hint c.insert.new.self c.insert.ensures
+
+pub returns-else-not-contains : goal.returns-else-not-contains
+returns-else-not-contains c =
+    delivered (goal.at.returns-else-not-contains c).After-push_hint c.args.waiting.now
+    (still_waiting c.args.waiting.now c.args.tile (sym c.contains.ensures ∙ c.if-not-contains.false))
