@@ -1,4 +1,4 @@
--- Bounds outside which nothing open begins. Only private functions have these words in their contracts.
+-- Bounds outside which nothing open begins.
 use Rattle.std.specs.Prelude.{◌≡◌, ◌≢◌, ◌<◌, ◌⊎◌, Bool, List, length}
 use Rattle.grid_core.specs.{declared.bounds.Bounds.Bounds, declared.conn.Conn.Conn, declared.pixel.Pixel.Pixel}
 use Rattle.grid_core.specs.{declared.rect.Rect.Rect, Bounds.IsInBounds, Bounds.LieIn, Neighbours.AreNeighbours}

@@ -1,5 +1,4 @@
--- Which core the parts of a stored one are, and what is true of each stored core. Private functions cite it; the
--- clauses of the core's looks hand it out.
+-- Which core the parts of a stored one are, and what is true of each stored core.
 use Rattle.std.specs.Prelude.{◌≡◌, ℕ, Bool, false, List, length, replicate, None}
 use Rattle.grid_core.specs.{declared.conn.Conn.Conn, Raster.Raster, Bounds.no_bounds}
 use Rattle.stroke_lattice.specs.State.{State, nothing}
@@ -8,7 +7,7 @@ use Rattle.core_rules.specs.{Work.Core, Opening.blank, Invariant.IsSound}
 use Rattle.border_queues.specs.TileWork.{TileWork, fresh}
 use Rattle.tile_generations.specs.CutMasks.{AreTileMasks}
 use Rattle.reset_core.specs.{Bounding.AreBoundedOrTold, declared.replica.Core.TheInside.Inside as Parts}
-use Rattle.reset_core.specs.{declared.replica.Beginning.Beginning}
+use Rattle.reset_core.specs.{declared.replica.Beginning.Beginning, declared.replica.stored.CoreParts.CoreParts}
 
 -- the core that is stored as these parts
 abbrev pub core_of : Parts → Core
@@ -52,6 +51,21 @@ begun beginning conn markers = record {
   serial = 0;
   marks = beginning.marks;
   queue = beginning.queue;
+}
+
+-- the same parts, as they are held without a core
+abbrev pub stored_as : CoreParts → Parts
+stored_as held = record {
+  conn = held.conn;
+  state = held.state;
+  markers = held.markers;
+  image = held.image;
+  work = held.work;
+  bounds = held.bounds;
+  masks = held.masks;
+  serial = held.serial;
+  marks = held.marks;
+  queue = held.queue;
 }
 
 -- no tile is in the set

@@ -23,14 +23,14 @@
 //! contracts here cite; [`laws`] are that crate's.
 //!
 //! In the code, `replica` has the core, with a module below it for each kind of event, for cores that begin with
-//! strokes, for settling, alone or in bands of rows of tiles, and for a list of events that is run and judged. `parts`
-//! has pieces of an image. They stand on the crate `tile_work`: the work at each tile, which tiles a withdrawal resets,
-//! and what a merge does to image and work.
+//! strokes, for settling, alone or in bands of rows of tiles, and for a list of events that is run and judged.
+//! [`parts`] has pieces of an image. They stand on the crate `tile_work`: the work at each tile, which tiles a
+//! withdrawal resets, and what a merge does to image and work.
 
-mod parts;
+pub mod parts;
 mod replica;
 
 pub use core_rules::{Back, CoreError, Handed, Step, laws};
 pub use grid_core::TILE_SIDE;
-pub use replica::{Core, Count, Ran, RefusedMask, Slice, begun_is_as_settled};
+pub use replica::{Core, CoreParts, Count, Ran, RefusedMask, Slice, begun_is_as_settled, renew};
 pub use tile_work::TileSet;

@@ -1,9 +1,11 @@
 //! Parts of a whole image: those in a rectangle, and the pieces that are compared with them.
 
 ghost use Rattle.std.specs.Prelude.{◌≡◌, ◌+◌, ◌<◌, ◌≤◌, ◌↔◌, length, max, slice_index, IsTrue, IfOk, EachIndex};
+ghost use Rattle.grid_core.specs.Bounds.{LieIn};
 ghost use Rattle.grid_core.specs.Raster.{value_at};
 ghost use Rattle.grid_core.specs.Rects.{RectFits, IsRowOf, AreCellsChanged};
 ghost use Rattle.core_rules.specs.Image.{IsPart, IsAtMostPart, IsJoinedWith};
+ghost use Rattle.reset_core.specs.Bounding.{AreCountedFrom};
 ghost use Rattle.reset_core.specs.Parts.{IsPieceFor, IsBelowPiece, IsRaisedPart, raised_from};
 ghost use Rattle.reset_core.specs.Parts.{AreBoundsAbove, AreWidenedAbove, AreWidenedByRow};
 
@@ -12,7 +14,7 @@ use grid_core::{Bounds, Grid, Memory, Pixel, Rect};
 use std::alloc::Global;
 
 /// Whether the piece is the part of the whole image in the rectangle.
-pub(crate) fn is_part(whole: &Grid, rect: Rect, piece: &Grid) -> bool
+pub fn is_part(whole: &Grid, rect: Rect, piece: &Grid) -> bool
     requires { RectFits whole.now.width whole.now.height rect }
     ensures { IsTrue result ↔ IsPart rect whole.now piece.now }
 {
@@ -28,7 +30,7 @@ pub(crate) fn is_part(whole: &Grid, rect: Rect, piece: &Grid) -> bool
 }
 
 /// Whether the piece is at most the part of the whole image in the rectangle.
-pub(crate) fn is_at_most_part(whole: &Grid, rect: Rect, piece: &Grid) -> bool
+pub fn is_at_most_part(whole: &Grid, rect: Rect, piece: &Grid) -> bool
     requires { RectFits whole.now.width whole.now.height rect }
     ensures { IsTrue result ↔ IsAtMostPart rect whole.now piece.now }
 {
@@ -60,12 +62,7 @@ pub(crate) fn raise_part(whole: &mut Grid, rect: Rect, piece: &Grid, is_above: b
 /// The part of the whole image in the rectangle, raised to the piece, as an image by itself.
 ///
 /// Errors: out of memory.
-pub(crate) fn raised_part(
-    alloc: Global,
-    whole: &Grid,
-    rect: Rect,
-    piece: &Grid,
-) -> Result<Grid, Memory>
+pub fn raised_part(alloc: Global, whole: &Grid, rect: Rect, piece: &Grid) -> Result<Grid, Memory>
     requires { IsPieceFor rect whole.now piece.now }
     ensures { IfOk result (IsRaisedPart rect whole.now piece.now) }
 {
@@ -76,7 +73,7 @@ pub(crate) fn raised_part(
 
 /// Bounds of the pixels of the rectangle where the whole image is above the piece. Where `is_above` says that the piece
 /// is nowhere below it, there is none.
-pub(crate) fn bounds_above(whole: &Grid, rect: Rect, piece: &Grid, is_above: bool) -> Bounds
+pub fn bounds_above(whole: &Grid, rect: Rect, piece: &Grid, is_above: bool) -> Bounds
     requires piece { IsPieceFor rect whole.now piece.now }
     requires above { IsTrue is_above → IsBelowPiece rect whole.now piece.now }
     ensures { AreBoundsAbove rect rect.h whole.now piece.now result }
@@ -91,6 +88,24 @@ pub(crate) fn bounds_above(whole: &Grid, rect: Rect, piece: &Grid, is_above: boo
         bounds = widened_by_row(bounds, rect, y, whole.row_in(rect, y), row(piece, y));
     }
     bounds
+}
+
+/// The bounds, which lie in the rectangle, counted from its upper left corner.
+pub fn counted_from(rect: Rect, bounds: Bounds) -> Bounds
+    requires { LieIn bounds rect }
+    ensures { AreCountedFrom rect bounds result }
+{
+    if bounds.is_empty() {
+        return Bounds::none();
+    }
+    let right = bounds.right - rect.x;
+    let bottom = bounds.bottom - rect.y;
+    Bounds {
+        left: bounds.left - rect.x,
+        right,
+        top: bounds.top - rect.y,
+        bottom,
+    }
 }
 
 // The bounds, widened by the pixels of row `y` of the rectangle where the values are above the limits. Most rows have

@@ -38,11 +38,14 @@ mod scheduling;
 mod settling;
 mod settling_in_bands;
 mod starting;
+mod stored;
 mod sweeping;
 
+pub use merging::renew;
 pub use scheduling::Ran;
 pub use settling::{Count, Slice};
 pub use starting::begun_is_as_settled;
+pub use stored::CoreParts;
 
 /// A mask of which no core was opened.
 #[derive(Debug, Drop)]

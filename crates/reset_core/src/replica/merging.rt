@@ -89,9 +89,9 @@ impl Core {
     }
 }
 
-// Makes marker, image and work those of the strokes as they are now, where the tiles that are reset are marked. No mark
-// is left.
-fn renew(
+/// Makes marker, image and work those of the strokes as they are now, where the tiles that are reset are marked. No mark
+/// is left.
+pub fn renew(
     marks: &mut TileSet,
     image: &mut Grid,
     markers: &mut Markers,

@@ -1,29 +1,26 @@
 //! Jobs that are taken, given back and abandoned.
 
-ghost use Rattle.std.specs.Prelude.{◌≡◌, ◌↔◌, ◌<◌, ℕ, [], length, slice_index, IfOk, IfErr, OnOk, OnErr, IsTrue};
+ghost use Rattle.std.specs.Prelude.{◌≡◌, ◌↔◌, [], IfOk, IfErr, OnOk, OnErr, IsTrue};
 ghost use Rattle.std.specs.Arc.{arc_value};
 ghost use Rattle.core_rules.specs.Image.{IsPart};
 ghost use Rattle.core_rules.specs.Work.{IsTile};
 ghost use Rattle.core_rules.specs.Sweeps.{IsReady, IsNextJob, IsTaken, IsKnown, IsOut, IsUnchanged};
-ghost use Rattle.core_rules.specs.Sweeps.{IsJoined, IsGivenBack, IsAbandoned, IsSkipped, tile_rect};
+ghost use Rattle.core_rules.specs.Sweeps.{IsJoined, IsGivenBack, IsAbandoned, tile_rect};
 ghost use Rattle.reset_core.specs.Answers.{IsJoinable};
 ghost use Rattle.reset_core.specs.Parts.{IsRaisedPart};
 ghost use Rattle.reset_core.specs.Sweeping.{IsJudged, AreHintsOnceJoined};
-ghost use Rattle.grid_core.specs.Bounds.{LieIn};
 ghost use Rattle.grid_core.specs.Rects.{RectFits};
-ghost use Rattle.reset_core.specs.Bounding.{AreCountedFrom};
 
 use super::Core;
-use crate::parts::{bounds_above, is_at_most_part, is_part, raise_part, raised_part};
+use crate::parts::{bounds_above, counted_from, is_at_most_part, is_part, raise_part, raised_part};
 use border_queues::laws::{edges_are_open, same_image_same_edges};
 use border_queues::{Inbox, open_edges};
 use core_rules::Back;
 use core_rules::laws::{abandon_keeps_sound, give_back_keeps_sound, take_keeps_sound};
-use grid_core::{Bounds, Grid, Memory, Rect};
+use grid_core::{Grid, Memory, Rect};
 use std::alloc::Global;
 use std::sync::Arc;
 use tile_generations::{Job, Swept, Ticket};
-use tile_work::WorkTable;
 
 impl Core {
     /// The job of a tile that is dirty and not out: with the tile's pixels and mask as they stand, and with the next
@@ -77,24 +74,6 @@ impl Core {
             self.work.abandon(ticket.tile);
         }
         was_out
-    }
-
-    /// Passes over a tile that can be taken: as if its job were taken and abandoned at once, so that a serial is spent
-    /// and the tile is as it was. It takes no memory.
-    pub fn pass_over(&mut self, tile: usize)
-        requires { IsReady self.old tile }
-        ensures { IsSkipped self.old tile self.new }
-    {
-        self.serial = self.serial.wrapping_add(1);
-    }
-
-    /// Whether a job of a tile that touches this one is out.
-    pub fn is_beside_out(&self, tile: usize) -> bool
-        requires { IsTile self.now tile }
-    {
-        let tiling = self.markers.tiling();
-        let touching = tiling.touching(tile);
-        is_one_out(&self.work, touching.as_slice())
     }
 
     // Whether the tile can be taken.
@@ -290,34 +269,4 @@ impl Core {
             Err(_) => Err(Memory),
         }
     }
-}
-
-// The bounds, which lie in the rectangle, counted from its upper left corner.
-fn counted_from(rect: Rect, bounds: Bounds) -> Bounds
-    requires { LieIn bounds rect }
-    ensures { AreCountedFrom rect bounds result }
-{
-    if bounds.is_empty() {
-        return Bounds::none();
-    }
-    let right = bounds.right - rect.x;
-    let bottom = bounds.bottom - rect.y;
-    Bounds {
-        left: bounds.left - rect.x,
-        right,
-        top: bounds.top - rect.y,
-        bottom,
-    }
-}
-
-// Whether a job of one of these tiles is out.
-fn is_one_out(work: &WorkTable, tiles: &[usize]) -> bool
-    requires { (k : ℕ) → k < length tiles.now → slice_index tiles.now k < length work.now }
-{
-    for tile in tiles {
-        if work.out(*tile).is_some() {
-            return true;
-        }
-    }
-    false
 }

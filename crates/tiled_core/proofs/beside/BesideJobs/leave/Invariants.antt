@@ -1,0 +1,6 @@
+-- What the loop of `leave` keeps.
+use Rattle.std.proofs.Common.{◌≡◌}
+use Rattle.tiled_core.proofs.beside.BesideJobs.leave.Given as goal
+
+abbrev pub invariant-loop-other : goal.invariant-loop-other
+invariant-loop-other l = l.self ≡ l.fn.self

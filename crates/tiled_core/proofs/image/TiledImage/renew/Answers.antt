@@ -1,0 +1,68 @@
+-- What the tactics leave open of `renew`.
+use Rattle.std.proofs.Common.{ap, sym, subst, ◌∙◌}
+use Rattle.grid_core.specs.Raster.{Raster}
+use Rattle.reset_core.specs.{Bounding.FollowResets, MergeSteps.AreRenewed, MergeSteps.CanRenew}
+use Rattle.tiled_core.specs.TiledImage.{TiledRaster, image_of}
+use Rattle.tile_work.specs.WorkTable.{IsDirtyTile}
+use Rattle.tiled_core.proofs.{KeptImages.image_is, SharedCopies.still_copies, SharedCopies.with_copies}
+use Rattle.tiled_core.proofs.RenewedTiles.{merged_kept, merged_values, works_for_parts}
+use Rattle.tiled_core.proofs.image.TiledImage.renew.Goals as goal
+
+pub renew-requires-clause-renew : goal.renew-requires-clause-renew
+renew-requires-clause-renew c =
+    let a = c.args in
+    let rows_now = c.write_newer.ensures.rows ∙ ap (λ (r : TiledRaster). r.image) c.self.view_is in
+    subst (λ (image : Raster). CanRenew a.markers.now a.marks.now image a.work.now a.state.now a.change.now)
+    (sym rows_now) c.requires.renew
+
+pub let_dirty_go-requires : goal.let_dirty_go-requires
+let_dirty_go-requires c =
+    let rows = c.write_newer.ensures in
+    works_for_parts rows.kept rows.none rows.rows
+    (c.requires.tiling ∙ sym (ap (λ (r : TiledRaster). r.tiling) c.self.view_is)) c.renew.ensures.renewed.image_is
+    c.requires.renew.unspent.works
+
+pub invariant_of-self : goal.invariant_of-self
+invariant_of-self c =
+    let rows = c.write_newer.ensures in
+    let tiles_are = c.requires.tiling ∙ sym (ap (λ (r : TiledRaster). r.tiling) c.self.view_is) in
+    let renewed = c.renew.ensures.renewed.image_is in
+    let count = c.requires.renew.unspent.works in
+    with_copies
+    (merged_kept rows.kept rows.none rows.rows tiles_are renewed count c.let_dirty_go.new.parts
+    c.let_dirty_go.ensures)
+    (still_copies c.self.invariant.copies_are c.mark_dirty.new.self (IsDirtyTile c.renew.new.work) c.mark_dirty.ensures
+    c.renew.new.image (merged_values rows.kept rows.none rows.rows tiles_are renewed count))
+
+pub returns-clause-tiling : goal.returns-clause-tiling
+returns-clause-tiling c = ap (λ (r : TiledRaster). r.tiling) c.self.view_is
+
+pub returns-clause-renewed : goal.returns-clause-renewed
+returns-clause-renewed c =
+    let a = c.args in
+    let i = c.self.inside in
+    let rows = c.write_newer.ensures in
+    let new = image_of i.tiling c.renew.new.image c.let_dirty_go.new.parts c.write_newer.new.newer in
+    let rows_now = rows.rows ∙ ap (λ (r : TiledRaster). r.image) c.self.view_is in
+    let new_is = image_is (merged_kept rows.kept rows.none rows.rows
+    (c.requires.tiling ∙ sym (ap (λ (r : TiledRaster). r.tiling) c.self.view_is)) c.renew.ensures.renewed.image_is
+    c.requires.renew.unspent.works c.let_dirty_go.new.parts c.let_dirty_go.ensures) in
+    let Renewed : Raster → Raster → Type 0 = λ before after. AreRenewed a.markers.now a.marks.now before a.work.now
+    a.state.now a.change.now c.renew.new.markers c.renew.new.marks after c.renew.new.work in
+    subst (λ (r : Raster). Renewed r new) rows_now
+    (subst (λ (r : Raster). Renewed c.write_newer.new.rows r) (sym new_is) c.renew.ensures.renewed)
+
+pub returns-clause-bounds : goal.returns-clause-bounds
+returns-clause-bounds c conn =
+    let a = c.args in
+    let i = c.self.inside in
+    let rows = c.write_newer.ensures in
+    let new = image_of i.tiling c.renew.new.image c.let_dirty_go.new.parts c.write_newer.new.newer in
+    let rows_now = rows.rows ∙ ap (λ (r : TiledRaster). r.image) c.self.view_is in
+    let new_is = image_is (merged_kept rows.kept rows.none rows.rows
+    (c.requires.tiling ∙ sym (ap (λ (r : TiledRaster). r.tiling) c.self.view_is)) c.renew.ensures.renewed.image_is
+    c.requires.renew.unspent.works c.let_dirty_go.new.parts c.let_dirty_go.ensures) in
+    let Follow : Raster → Raster → Type 0 = λ before after.
+    FollowResets a.markers.now.tiling conn a.marks.now before after a.bounds.now c.renew.new.bounds in
+    subst (λ (r : Raster). Follow r new) rows_now
+    (subst (λ (r : Raster). Follow c.write_newer.new.rows r) (sym new_is) (c.renew.ensures.bounds conn))

@@ -1,0 +1,47 @@
+-- What the tactics leave open of `source`.
+use Rattle.std.proofs.Common.{sym, subst}
+use Rattle.grid_core.specs.{declared.rect.Rect.Rect, Tiles.rect_of}
+use Rattle.tiled_core.specs.{Shown.Shows, TiledImage.TiledRaster, TiledImage.image_of}
+use Rattle.tiled_core.proofs.KeptImages.{part_shows, rows_show, slot_within, tile_before}
+use Rattle.tiled_core.proofs.WrittenParts.{all_by_sides}
+use Rattle.tiled_core.proofs.image.TiledImage.source.Goals as goal
+
+pub part-requires : goal.part-requires
+part-requires c =
+    let i = c.self.inside in
+    slot_within c.self.invariant.kept c.args.tile
+    (tile_before i.tiling (image_of i.tiling i.rows i.parts i.newer) c.args.self.now c.args.tile c.self.view_is
+    c.requires)
+
+pub rect-requires : goal.rect-requires
+rect-requires c =
+    let i = c.self.inside in
+    tile_before i.tiling (image_of i.tiling i.rows i.parts i.newer) c.args.self.now c.args.tile c.self.view_is
+    c.requires
+
+pub returns-in-Some : goal.returns-in-Some
+returns-in-Some c =
+    let i = c.self.inside in
+    let tile = c.args.tile in
+    let whole = image_of i.tiling i.rows i.parts i.newer in
+    let m = c.in-Some.part.now in
+    let within = tile_before i.tiling whole c.args.self.now tile c.self.view_is c.requires in
+    subst (λ (r : TiledRaster). Shows (rect_of r.tiling tile) r.image m c.rect.result) c.self.view_is
+    (subst (λ (shown : Rect). Shows (rect_of i.tiling tile) whole m shown) (sym c.rect.ensures.value)
+    (part_shows c.self.invariant.kept tile within m c.in-Some.ensures))
+
+pub returns-in-None : goal.returns-in-None
+returns-in-None c =
+    let i = c.self.inside in
+    let tile = c.args.tile in
+    let whole = image_of i.tiling i.rows i.parts i.newer in
+    let within = tile_before i.tiling whole c.args.self.now tile c.self.view_is c.requires in
+    let all = all_by_sides i.rows c.width.result c.height.result c.width.ensures.value c.height.ensures.value in
+    subst (λ (r : TiledRaster). Shows (rect_of r.tiling tile) r.image i.rows (record {
+      x = 0;
+      y = 0;
+      w = c.width.result;
+      h = c.height.result;
+    })) c.self.view_is
+    (subst (λ (shown : Rect). Shows (rect_of i.tiling tile) whole i.rows shown) all
+    (rows_show c.self.invariant.kept tile within c.in-None.ensures))

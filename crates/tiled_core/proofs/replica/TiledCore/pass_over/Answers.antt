@@ -1,0 +1,1 @@
+-- What the tactics leave open of `pass_over`.

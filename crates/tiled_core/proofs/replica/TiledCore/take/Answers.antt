@@ -1,0 +1,24 @@
+-- What the tactics leave open of `take`.
+use Rattle.std.proofs.Common.{refl, arith, ◌∙◌}
+use Rattle.reset_core.proofs.Sweeping.{taken_is_stored}
+use Rattle.std.proofs.lemmas.Grind.{common_steps}
+use Rattle.tiled_core.specs.Stored.{parts_of}
+use Rattle.tiled_core.proofs.replica.TiledCore.take.Goals as goal
+
+pub invariant_of-self : goal.invariant_of-self
+invariant_of-self c = record {
+  stored =
+      taken_is_stored c.take_keeps_sound.ensures (parts_of c.self.inside) c.next_job.new.self c.args.tile
+      c.in_ok-job.job c.take.new.self c.self.view_is c.self.invariant.stored
+      (rw (c.next_job.ensures.same, c.mask_of.ensures.same) (c.if-not-is_ready.ensures.0 refl))
+      (rw c.next_job.ensures.same c.in_ok-job.ensures.job) c.take.ensures;
+  tiling = c.self.invariant.tiling;
+  beside = c.enter.ensures ∙ c.self.invariant.beside;
+  room = c.self.invariant.room;
+}
+
+pub next_job-requires-clause-mask : goal.next_job-requires-clause-mask
+next_job-requires-clause-mask c = grind (arith, common_steps)
+
+pub next_job-requires-clause-is_tile : goal.next_job-requires-clause-is_tile
+next_job-requires-clause-is_tile c = grind (arith, common_steps)

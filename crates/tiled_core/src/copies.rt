@@ -1,0 +1,53 @@
+//! Strips of an image, copied from what shows one rectangle of it to what shows another.
+
+ghost use Rattle.std.specs.Prelude.{◌≡◌, length};
+ghost use Rattle.grid_core.specs.Raster.{IsInside};
+ghost use Rattle.grid_core.specs.Rects.{IsInRect};
+ghost use Rattle.tiled_core.specs.Shown.{CanCopy, IsStripCopied, place_in, value_in};
+
+use grid_core::{Grid, Pixel, Rect};
+
+/// Where a pixel stands in a rectangle, counted from the rectangle's upper left corner.
+pub(crate) fn place_in(rect: Rect, p: Pixel) -> Pixel
+    requires { IsInRect rect p }
+    ensures value { result ≡ place_in rect p }
+    ensures inside { IsInside rect.w rect.h result }
+{
+    Pixel {
+        x: p.x - rect.x,
+        y: p.y - rect.y,
+    }
+}
+
+/// Copies a strip of an image from a source, which shows the rectangle `from` of the image, into cells that show the
+/// rectangle `to` of it row by row.
+pub(crate) fn copy_strip(strip: Rect, source: &Grid, from: Rect, cells: &mut [u16], to: Rect)
+    requires { CanCopy strip source.now from to (length cells.old) }
+    ensures { IsStripCopied strip (value_in from source.now) to cells.old cells.new }
+{
+    let inner = Rect {
+        x: strip.x - from.x,
+        y: strip.y - from.y,
+        w: strip.w,
+        h: strip.h,
+    };
+    let left = strip.x - to.x;
+    let top = strip.y - to.y;
+    for y in 0..strip.h {
+        let start = (top + y) as usize * to.w as usize + left as usize;
+        let end = start + strip.w as usize;
+        copy_row(&mut cells[start..end], source.row_in(inner, y));
+    }
+}
+
+// Copies a row. One pixel, as in a column beside a tile, needs no call.
+fn copy_row(cells: &mut [u16], row: &[u16])
+    requires { length cells.old ≡ length row.now }
+    ensures { cells.new ≡ row.now }
+{
+    if row.len() == 1 {
+        cells[0] = row[0];
+    } else {
+        cells.copy_from_slice(row);
+    }
+}

@@ -1,0 +1,299 @@
+//! Jobs that are taken, and swept tiles that are given back.
+
+ghost use Rattle.std.specs.Prelude.{◌≡◌, ◌*◌, ◌≤◌, ◌↔◌, [], length, IfErr, IfOk, IsTrue, OnErr, OnOk};
+ghost use Rattle.std.specs.Arc.{arc_value};
+ghost use Rattle.grid_core.specs.Raster.{IsImageSize};
+ghost use Rattle.grid_core.specs.Rects.{RectFits};
+ghost use Rattle.core_rules.specs.Image.{IsAtMostPart, IsPart};
+ghost use Rattle.core_rules.specs.Work.{IsTile};
+ghost use Rattle.core_rules.specs.Sweeps.{IsGivenBack, IsJoined, IsKnown, IsNextJob, IsOut, IsReady, IsTaken};
+ghost use Rattle.core_rules.specs.Sweeps.{IsUnchanged, tile_rect};
+ghost use Rattle.reset_core.specs.Answers.{IsJoinable};
+ghost use Rattle.reset_core.specs.Parts.{IsRaisedPart};
+ghost use Rattle.reset_core.specs.Sweeping.{AreHintsOnceJoined, IsJudged};
+ghost use Rattle.tiled_core.specs.Patches.{patch_of};
+
+use super::TiledCore;
+use crate::image::around_of;
+use border_queues::laws::{edges_are_open, same_image_same_edges};
+use border_queues::{Inbox, View, open_edges_around};
+use core_rules::Back;
+use core_rules::laws::{give_back_keeps_sound, take_keeps_sound};
+use grid_core::{Grid, Memory, Rect};
+use reset_core::parts::{counted_from, is_part};
+use std::alloc::Global;
+use std::sync::Arc;
+use tile_generations::{Job, Swept, Ticket};
+
+impl TiledCore {
+    /// The job of a tile that is dirty and not out: it shares the tile's pixels and mask, and has the next serial. The
+    /// tile is then out, and not dirty. None where there is no such tile, or it is clean or out.
+    ///
+    /// Errors: out of memory; nothing has changed then.
+    pub fn take(&mut self, alloc: Global, tile: usize) -> Result<Option<Job>, Memory>
+        ensures taken { IfOk result (λ job. IsTaken self.old tile job self.new) }
+        ensures memory { OnErr result (IsReady self.old tile) }
+        ensures err { OnErr result (self.new ≡ self.old) }
+    {
+        take_keeps_sound();
+        if !self.is_ready(tile) {
+            return Ok(None);
+        }
+        let mask = self.mask_of(alloc, tile)?;
+        let job = self.next_job(alloc, tile, mask)?;
+        let tiling = self.markers.tiling();
+        self.beside.enter(&tiling, tile);
+        self.work.take(tile, self.serial);
+        self.serial = self.serial.wrapping_add(1);
+        Ok(Some(job))
+    }
+
+    /// Gives back a swept tile, as [`Core::give_back`](reset_core::Core::give_back) does. What the sweep gave is put in
+    /// without a copy where the tile is as it was.
+    ///
+    /// Errors: out of memory, with the swept tile handed back; nothing has changed then.
+    pub fn give_back(&mut self, alloc: Global, swept: Swept) -> Result<Back, (Swept, Memory)>
+        ensures given { IfOk result (λ back. IsGivenBack self.old swept back self.new) }
+        ensures memory { OnErr result (IsJoinable self.old swept.job) }
+        ensures err { OnErr result (self.new ≡ self.old) }
+        ensures returned { IfErr result (λ e. e.0 ≡ swept) }
+    {
+        let back = self.answer_to(&swept);
+        match back {
+            Back::Joined | Back::Again => match self.join(alloc, &swept, back == Back::Joined) {
+                Ok(()) => Ok(back),
+                Err(why) => Err((swept, why)),
+            },
+            Back::Stale | Back::Stranger => Ok(back),
+        }
+    }
+
+    // Whether the tile can be taken.
+    fn is_ready(&self, tile: usize) -> bool
+        ensures { IsTrue result ↔ IsReady self.now tile }
+    {
+        tile < self.work.len() && self.work.is_dirty(tile) && self.work.out(tile).is_none()
+    }
+
+    // The mask of a tile, which all jobs on it share.
+    //
+    // Errors: out of memory.
+    pub(super) fn mask_of(&mut self, alloc: Global, tile: usize) -> Result<Arc<Grid>, Memory>
+        requires { IsTile self.old tile }
+        ensures part { IfOk result (λ mask. IsPart (tile_rect self.old tile) self.old.mask (arc_value mask)) }
+        ensures same { self.new ≡ self.old }
+    {
+        let tiling = self.markers.tiling();
+        self.masks.share(alloc, self.markers.mask(), &tiling, tile)
+    }
+
+    // The job on a tile as the core stands.
+    //
+    // Errors: out of memory.
+    fn next_job(&mut self, alloc: Global, tile: usize, mask: Arc<Grid>) -> Result<Job, Memory>
+        requires is_tile { IsTile self.old tile }
+        requires mask { IsPart (tile_rect self.old tile) self.old.mask (arc_value mask) }
+        ensures job { IfOk result (IsNextJob self.old tile) }
+        ensures same { self.new ≡ self.old }
+    {
+        let rect = self.rect(tile);
+        let base = self.image.share(alloc, tile)?;
+        let ticket = Ticket {
+            tile,
+            generation: self.work.generation(tile),
+            serial: self.serial,
+        };
+        let bounds = counted_from(rect, self.bounds.get(tile));
+        Ok(Job::shared(ticket, self.conn, base, mask, bounds))
+    }
+
+    // The rectangle of a tile.
+    fn rect(&self, tile: usize) -> Rect
+        requires { IsTile self.now tile }
+        ensures rect { result ≡ tile_rect self.now tile }
+        ensures mask { RectFits self.now.mask.width self.now.mask.height result }
+        ensures image { RectFits self.now.image.width self.now.image.height result }
+    {
+        self.markers.tiling().rect(tile)
+    }
+
+    // Whether the job of the ticket is out.
+    pub(super) fn has_out(&self, ticket: Ticket) -> bool
+        ensures { IsTrue result ↔ IsOut self.now ticket }
+    {
+        let tile = ticket.tile;
+        tile < self.work.len()
+            && self.work.generation(tile) == ticket.generation
+            && self.work.out(tile) == Some(ticket.serial)
+    }
+
+    // Whether the job may be one of this core.
+    fn knows(&self, swept: &Swept) -> bool
+        ensures { IsTrue result ↔ IsKnown self.now swept.now.job }
+    {
+        let ticket = swept.ticket();
+        ticket.tile < self.work.len()
+            && ticket.generation <= self.work.generation(ticket.tile)
+            && swept.conn() == self.conn
+            && self.has_mask(ticket.tile, swept.mask())
+    }
+
+    // Whether the piece is the mask of the tile.
+    fn has_mask(&self, tile: usize, piece: &Grid) -> bool
+        requires { IsTile self.now tile }
+        ensures { IsTrue result ↔ IsPart (tile_rect self.now tile) self.now.mask piece.now }
+    {
+        let rect = self.rect(tile);
+        match self.masks.get(tile) {
+            Some(mask) => is_part(mask, Rect { x: 0, y: 0, ..rect }, piece),
+            None => is_part(self.markers.mask(), rect, piece),
+        }
+    }
+
+    // Whether the piece is the tile.
+    fn has_pixels(&self, tile: usize, piece: &Grid) -> bool
+        requires { IsTile self.now tile }
+        ensures { IsTrue result ↔ IsPart (tile_rect self.now tile) self.now.image piece.now }
+    {
+        self.image.is_part(tile, piece)
+    }
+
+    // Whether the piece is nowhere above the tile.
+    fn has_at_least(&self, tile: usize, piece: &Grid) -> bool
+        requires { IsTile self.now tile }
+        ensures { IsTrue result ↔ IsAtMostPart (tile_rect self.now tile) self.now.image piece.now }
+    {
+        self.image.is_at_most_part(tile, piece)
+    }
+
+    // What becomes of a swept tile that is given back, if memory lasts.
+    fn answer_to(&self, swept: &Swept) -> Back
+        ensures { IsJudged self.now swept.now.job result }
+    {
+        let tile = swept.ticket().tile;
+        if !self.knows(swept) {
+            return Back::Stranger;
+        }
+        if !self.has_out(swept.ticket()) {
+            return Back::Stale;
+        }
+        if self.work.is_dirty(tile) {
+            if self.has_at_least(tile, swept.base()) {
+                return Back::Again;
+            }
+        } else if self.has_pixels(tile, swept.base()) {
+            return Back::Joined;
+        }
+        Back::Stranger
+    }
+
+    // Joins a swept tile into the image: what the tile is then is put in. A pixel can raise another of the tile then
+    // only where it was above what the sweep gave; what it can raise beyond the tile is told.
+    //
+    // Errors: out of memory; nothing has changed then.
+    fn join(&mut self, alloc: Global, swept: &Swept, is_unchanged: bool) -> Result<(), Memory>
+        requires joinable { IsJoinable self.old swept.now.job }
+        requires unchanged { IsTrue is_unchanged → IsUnchanged self.old swept.now.job }
+        ensures joined { OnOk result (IsJoined self.old swept.now self.new) }
+        ensures err { OnErr result (self.new ≡ self.old) }
+    {
+        give_back_keeps_sound();
+        edges_are_open();
+        let tile = swept.ticket().tile;
+        let raised = self.raised(alloc, swept, is_unchanged)?;
+        let inbox = self.empty_inbox(alloc);
+        let hints = self.hints_once_joined(swept, &raised, inbox)?;
+        let tiling = self.markers.tiling();
+        self.work.receive(&tiling, tile, hints.as_slice())?;
+        let pixels = swept.pixels();
+        let above = self.image.bounds_above(tile, pixels, is_unchanged);
+        self.image.put(tile, raised);
+        self.bounds.set(tile, above);
+        self.beside.leave(&tiling, tile);
+        self.work.end_job(tile);
+        self.work.keep_inbox(hints);
+        Ok(())
+    }
+
+    // The tile as it is once the swept tile is joined. Where it is as it was when its job was taken, that is what the
+    // sweep gave, which is shared then.
+    //
+    // Errors: out of memory.
+    fn raised(&self, alloc: Global, swept: &Swept, is_unchanged: bool) -> Result<Arc<Grid>, Memory>
+        requires known { IsKnown self.now swept.now.job }
+        requires unchanged { IsTrue is_unchanged → IsUnchanged self.now swept.now.job }
+        ensures { IfOk result (λ raised. IsRaisedPart (tile_rect self.now swept.now.job.ticket.tile) self.now.image
+            swept.now.pixels (arc_value raised)) }
+    {
+        let pixels = swept.pixels();
+        if is_unchanged {
+            return swept.shared_pixels();
+        }
+        let raised = self.raised_by(alloc, swept.ticket().tile, pixels)?;
+        Ok(Arc::new(alloc, raised)?)
+    }
+
+    // The tile, raised to the piece, which has its size.
+    //
+    // Errors: out of memory.
+    fn raised_by(&self, alloc: Global, tile: usize, piece: &Grid) -> Result<Grid, Memory>
+        requires is_tile { IsTile self.now tile }
+        requires width { piece.now.width ≡ (tile_rect self.now tile).w }
+        requires height { piece.now.height ≡ (tile_rect self.now tile).h }
+        ensures { IfOk result (IsRaisedPart (tile_rect self.now tile) self.now.image piece.now) }
+    {
+        self.image.raised_part(alloc, tile, piece)
+    }
+
+    // An inbox without hints, with the room of the one that was kept last. It takes no memory.
+    fn empty_inbox(&mut self, alloc: Global) -> Inbox
+        ensures empty { result.hints ≡ [] }
+        ensures same { self.new ≡ self.old }
+    {
+        self.work.lend_inbox(alloc)
+    }
+
+    // The hints of the tile's open edges, as they are once the swept tile is joined and the tile is as `raised` says,
+    // in an inbox that was empty.
+    //
+    // Errors: out of memory.
+    fn hints_once_joined(
+        &mut self,
+        swept: &Swept,
+        raised: &Grid,
+        mut inbox: Inbox,
+    ) -> Result<Inbox, Memory>
+        requires known { IsKnown self.old swept.now.job }
+        requires raised { IsRaisedPart (tile_rect self.old swept.now.job.ticket.tile) self.old.image swept.now.pixels
+            raised.now }
+        requires empty { inbox.hints ≡ [] }
+        ensures told { IfOk result (λ told. AreHintsOnceJoined self.old swept.now told.hints) }
+        ensures same { self.new ≡ self.old }
+    {
+        edges_are_open();
+        same_image_same_edges();
+        let tile = swept.ticket().tile;
+        let mask = self.markers.mask();
+        let tiling = self.markers.tiling();
+        let generation = self.work.generation(tile);
+        let around = around_of(&tiling, tile);
+        self.image.fill_ring(tile, &mut self.ring);
+        let ring = patch(&self.ring, around);
+        let Ok(()) = open_edges_around(
+            raised, &ring, mask, &tiling, tile, generation, self.conn, &mut inbox,
+        ) else {
+            return Err(Memory);
+        };
+        Ok(inbox)
+    }
+}
+
+// The first of the cells, which show the rectangle row by row.
+fn patch(cells: &[u16], rect: Rect) -> View<'_>
+    requires size { IsImageSize rect.w rect.h }
+    requires room { rect.w * rect.h ≤ length cells.now }
+    ensures { result ≡ patch_of rect cells.now }
+{
+    let count = rect.w as usize * rect.h as usize;
+    View::over(rect.w, rect.h, &cells[..count])
+}
