@@ -3,8 +3,8 @@
 use crate::input::Input;
 use crate::outcome::{Fault, MEMORY, Outcome, check, sum_of};
 use crate::system::{Laps, System};
-use reset_core::Core;
 use steal_pool::{Open, Pool, Report};
+use tiled_core::TiledCore;
 
 // A pool of one hand; and how many jobs there were, and what taking, pushing, sweeping, giving back and handing hints
 // over took so far.
@@ -13,26 +13,28 @@ type Bench = (Pool, [u128; 6]);
 /// Works a core of all edits off in one thread, job by job. It prints how many jobs there were, and the time of each
 /// part; and the sum.
 pub fn measure(rt: &impl System, input: Input, side: u32) -> Outcome {
-    let (mut core, _) = input.open(rt.alloc(), side, None)?;
+    let (core, _) = input.open(rt.alloc(), side, None)?;
+    let mut core = TiledCore::over(rt.alloc(), core).or(Err(MEMORY))?;
     let told = measure_parts(rt, &mut core);
-    drop(core);
-    told
+    let core = core.into_core();
+    told?;
+    println!(rt; "{}", sum_of(core.image().cells()))?;
+    Ok(())
 }
 
-// Works all off, and prints what is asked.
-fn measure_parts(rt: &impl System, core: &mut Core) -> Outcome {
+// Works all off, and prints how many jobs there were, and the time of each part.
+fn measure_parts(rt: &impl System, core: &mut TiledCore) -> Outcome {
     let mut bench = (Pool::open(rt.alloc(), 1, 1).or(Err(MEMORY))?, [0; 6]);
     let worked = work_off(rt, core, &mut bench);
     let [jobs, take, push, sweep, give, hint] = bench.1;
     drop(bench);
     worked?;
     println!(rt; "{jobs} {take} {push} {sweep} {give} {hint}")?;
-    println!(rt; "{}", sum_of(core.image().cells()))?;
     Ok(())
 }
 
 // Works tiles in rising order, again and again until no work is left.
-fn work_off(rt: &impl System, core: &mut Core, bench: &mut Bench) -> Outcome {
+fn work_off(rt: &impl System, core: &mut TiledCore, bench: &mut Bench) -> Outcome {
     let mut from = 0;
     for _ in 0..u64::MAX {
         if core.is_quiet() {
@@ -50,7 +52,7 @@ fn work_off(rt: &impl System, core: &mut Core, bench: &mut Bench) -> Outcome {
 }
 
 // Takes the job of a tile, pushes it, sweeps it, gives it back and hands the hints over, each part by itself.
-fn work(rt: &impl System, core: &mut Core, bench: &mut Bench, tile: usize) -> Outcome {
+fn work(rt: &impl System, core: &mut TiledCore, bench: &mut Bench, tile: usize) -> Outcome {
     let (pool, sums) = bench;
     let mut laps = Laps::begin(rt);
     let Some(job) = core.take(rt.alloc(), tile).or(Err(MEMORY))? else {
@@ -75,11 +77,11 @@ fn work(rt: &impl System, core: &mut Core, bench: &mut Bench, tile: usize) -> Ou
 }
 
 // Hands over each hint that waits, tile by tile, the last of an inbox first.
-fn hand_all(core: &mut Core) {
+fn hand_all(core: &mut TiledCore) {
     for _ in 0..u64::MAX {
         let Some(tile) = core.next_waiting(0) else {
             break;
         };
-        core.hand(tile, core.waiting(tile) - 1);
+        core.hand_waiting(tile);
     }
 }

@@ -153,7 +153,8 @@ fn judge(alloc: Global, keeper: &Keeper, seed: u64) -> Outcome {
     }
     let marker = marker(alloc, mask, &joined).or(Err(MEMORY))?;
     let grown = slow(alloc, mask, &marker, core.conn()).or(Err(MEMORY))?;
-    check(core.image().is_same(&grown), "not what grows from them")
+    let image = core.image(alloc).or(Err(MEMORY))?;
+    check(image.is_same(&grown), "not what grows from them")
 }
 
 // The join of all edits that are not listed as refused.

@@ -1,16 +1,18 @@
 -- Jobs that are taken and pushed.
 use Rattle.std.proofs.Common.{◌≡◌, ◌≢◌, ℕ, ◌+◌, ◌<◌, ◌≤◌, Bool, true, false, ◌||◌, List, [], ◌∷◌, ◌++◌, length}
-use Rattle.std.proofs.Common.{refl, sym, ap, ◌∙◌, subst, inl, inr, arith, Some, sum_by}
+use Rattle.std.proofs.Common.{refl, sym, ap, ◌∙◌, subst, inl, inr, arith, zero, suc, ◌-◌, None, Some, sum_by}
 use Rattle.std.proofs.lemmas.List.{get_or-set_same}
 use Rattle.std.proofs.{lemmas.List.Sums.sum_by-append, lemmas.Bool.cases_eq, lemmas.Bool.cases_lt}
 use Rattle.std.specs.List.{list_any}
 use Rattle.tile_generations.specs.{declared.ticket.Ticket.Ticket, Jobs.Job}
 use Rattle.border_queues.specs.TileWork.{TileWork, IsLeast, idle}
-use Rattle.core_rules.specs.{Work.Core, Work.work_at, Sweeps.IsSkipped, Sweeps.IsReady, Sweeps.IsTaken}
+use Rattle.core_rules.specs.{Work.Core, Work.work_at, Sweeps.IsReady, Sweeps.IsTaken}
 use Rattle.core_dispatch.specs.{Books.BooksView, Books.KeepsRest, declared.turned.Jobs.Jobs}
 use Rattle.core_dispatch.specs.{declared.turned.Pushing.Pushing, declared.dispatcher.Dispatcher.Dispatcher}
 use Rattle.core_dispatch.specs.declared.turned.Pushing.TheVariants.{Pushed, Refused, Wanting}
-use Rattle.core_dispatch.specs.Jobs.{IsPlaced, IsPushed, ArePushed, IsLeft, pushing, pushed_in, is_wanting}
+use Rattle.core_dispatch.specs.Jobs.{HavePushed, IsNextTile, IsPlaced, IsPushed, ArePushed, IsLeft, pushing, pushed_in}
+use Rattle.core_dispatch.specs.Jobs.{is_wanting, with_core}
+use Rattle.tiled_core.specs.Passing.{ArePassed}
 use Rattle.core_dispatch.proofs.Rounds.{any_more}
 use Rattle.core_dispatch.proofs.Marking.{IsMarkedAt, abandon_marks, marked_twice, take_marks, unmarked}
 
@@ -37,19 +39,6 @@ placed_is_pushed t old new books job Refused is_taken rest (abandoned, same, ful
   full,
 )
 placed_is_pushed t old new books job Wanting is_taken rest placed = absurd placed
-
--- a tile that was passed over was refused
-pub passed_is_refused : (t : ℕ) (old : Dispatcher) (books : BooksView) → IsSkipped old.books.core t books.core
-    → KeepsRest old.books books → old.owner.capacity ≤ length old.owner.pushed
-    → IsPushed t old Refused (record old { books = books })
-passed_is_refused t old books passed rest full = (
-  passed.job,
-  passed.between,
-  passed.is_taken,
-  passed.is_abandoned,
-  ap (λ (b : BooksView). record old { books = b }) rest,
-  full,
-)
 
 -- whatever became of the tile, all others are as they were
 pub pushed_elsewhere : (t : ℕ) (old new : Dispatcher) (pushing : Pushing) → IsPushed t old pushing new
@@ -197,3 +186,103 @@ one_more_pushed from t old now next jobs more pushing so_far least turn jobs_are
           ∙ (ap (λ (b : Bool). b || is_wanting pushing) so_far.memory
           ∙ sym (any_more (λ (tile : ℕ × Pushing). is_wanting tile.1) so_far.tiles (t, pushing)));
     }
+
+-- ---- tiles that are passed over
+
+-- at a tile that can't be taken nothing happens
+none_more : (from : ℕ) (old now : Dispatcher) (jobs : Jobs) → ArePushedBelow from old jobs now
+    → (IsReady now.books.core from → ⊥) → ArePushedBelow (from + 1) old jobs now
+none_more from old now jobs so_far not = record {
+  tiles = so_far.tiles;
+  pushed = so_far.pushed;
+  end = omega (arith, so_far.end);
+  left = λ t within ready. elim (cases_eq t from) [
+    | inl here ↦ absurd (not (subst (λ (u : ℕ). IsReady now.books.core u) here ready))
+    | inr other ↦ so_far.left t (omega (arith, within, other)) ready
+  ];
+  kept = so_far.kept;
+  few = omega (arith, so_far.few);
+  count = so_far.count;
+  memory = so_far.memory;
+}
+
+or_none : (b : Bool) → b ≡ (b || false)
+or_none true = refl
+or_none false = refl
+
+-- tiles that are passed over are refused
+passed_below : (n from : ℕ) (old now : Dispatcher) (jobs : Jobs) (after : Core) → ArePushedBelow from old jobs now
+    → now.owner.capacity ≤ length now.owner.pushed → ArePassed from n now.books.core after
+    → ArePushedBelow (from + n) old jobs (with_core now after)
+passed_below zero from old now jobs after so_far full same =
+    subst (λ (k : ℕ). ArePushedBelow k old jobs (with_core now after)) (omega arith)
+    (subst (λ (c : Core). ArePushedBelow from old jobs (with_core now c)) (sym same) so_far)
+passed_below (suc n) from old now jobs after so_far full (between, first, rest) =
+    let on : from + 1 + n ≡ from + suc n = omega arith in
+    elim first [
+      | inl passed ↦
+          let next : Dispatcher = with_core now between in
+          let turn : IsPushed from now Refused next =
+          (passed.job, passed.between, passed.is_taken, passed.is_abandoned, refl, full) in
+          let least : IsLeast (λ k. (from ≤ k) × IsReady now.books.core k) from =
+          ((omega arith, passed.is_taken.0), λ k there. there.0) in
+          let more =
+          one_more_pushed from from old now next jobs jobs Refused so_far least turn (omega arith)
+          (or_none jobs.memory) in
+          subst (λ (k : ℕ). ArePushedBelow k old jobs (with_core now after)) on
+          (passed_below n (from + 1) old next jobs after more full rest)
+      | inr (not, same) ↦
+          let more = none_more from old now jobs so_far not in
+          subst (λ (k : ℕ). ArePushedBelow k old jobs (with_core now after)) on
+          (passed_below n (from + 1) old now jobs after more full
+          (subst (λ (c : Core). ArePassed (from + 1) n c after) same rest))
+    ]
+
+-- the tiles below some number had their turn, and this is the first one that is ready from there on
+pub record IsNextBelow (t : ℕ) (old : Dispatcher) (jobs : Jobs) (now : Dispatcher) : Type 0 where
+  pub from : ℕ
+  pub so_far : ArePushedBelow from old jobs now
+  pub least : IsLeast (λ n. (from ≤ n) × IsReady now.books.core n) t
+
+pub next_below : (from t : ℕ) (old now next : Dispatcher) (jobs : Jobs) → ArePushedBelow from old jobs now
+    → IsNextTile from (Some t) now next → IsNextBelow t old jobs next
+next_below from t old now next jobs so_far (inl (same, least)) = record {
+  from = from;
+  so_far = subst (λ (d : Dispatcher). ArePushedBelow from old jobs d) (sym same) so_far;
+  least = subst (λ (d : Dispatcher). IsLeast (λ n. (from ≤ n) × IsReady d.books.core n) t) (sym same) least;
+}
+next_below from t old now next jobs so_far (inr (full, same, (rises, ready, passed))) = record {
+  from = t;
+  so_far =
+      subst (λ (d : Dispatcher). ArePushedBelow t old jobs d) (sym same)
+      (subst (λ (k : ℕ). ArePushedBelow k old jobs (with_core now next.books.core)) (omega (arith, rises))
+      (passed_below (t - from) from old now jobs next.books.core so_far full passed));
+  least = ((omega arith, ready), λ k there. there.0);
+}
+
+-- each tile had its turn
+all_pushed : (from : ℕ) (old now : Dispatcher) (jobs : Jobs) → ArePushedBelow from old jobs now
+    → ((t : ℕ) → from ≤ t → IsReady now.books.core t → ⊥) → HavePushed old jobs now
+all_pushed from old now jobs so_far none = record {
+  tiles = so_far.tiles;
+  pushed = so_far.pushed;
+  left = λ t ready. elim (cases_lt t from) [
+    | inl below ↦ so_far.left t below ready
+    | inr from_on ↦ absurd (none t from_on ready)
+  ];
+  count = so_far.count;
+  memory = so_far.memory;
+}
+
+pub pushed_to_end : (from : ℕ) (old now next : Dispatcher) (jobs : Jobs) → ArePushedBelow from old jobs now
+    → IsNextTile from None now next → HavePushed old jobs next
+pushed_to_end from old now next jobs so_far (inl (same, none)) =
+    subst (λ (d : Dispatcher). HavePushed old jobs d) (sym same) (all_pushed from old now jobs so_far none)
+pushed_to_end from old now next jobs so_far (inr (full, same, passed)) =
+    let count = length now.books.core.tiles in
+    let all =
+    passed_below (count - from) from old now jobs next.books.core so_far full passed in
+    subst (λ (d : Dispatcher). HavePushed old jobs d) (sym same)
+    (all_pushed (from + (count - from)) old (with_core now next.books.core) jobs all (λ t from_on ready.
+    let within : t < length next.books.core.tiles = ready.is_tile in
+    omega (arith, from_on, within, all.kept, so_far.kept)))

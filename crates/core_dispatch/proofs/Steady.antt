@@ -1,5 +1,5 @@
 -- Events that are no merges leave strokes, mask, connectivity and generations, and so keep the books faithful.
-use Rattle.std.proofs.Common.{◌≡◌, ℕ, ◌<◌, true, Bool, List, length, sym, refl}
+use Rattle.std.proofs.Common.{◌≡◌, ℕ, zero, suc, ◌+◌, ◌-◌, ◌<◌, inl, inr, None, true, Bool, List, length, sym, refl}
 use Rattle.std.proofs.Common.{ap, ◌∙◌, subst, arith, Option, Some, remove, Result, Ok, Err, IfOk, OnErr}
 use Rattle.std.proofs.lemmas.List.{length-set}
 use mathlib.Core.Logic.{dite}
@@ -16,6 +16,8 @@ use Rattle.core_rules.specs.declared.error.CoreError.TheVariants.{BadSide}
 use Rattle.core_rules.specs.Work.{Core, IsTile, tiling, with_work, work_at}
 use Rattle.core_rules.specs.Sweeps.{IsTaken, IsGivenBack, IsJoined, IsAbandoned, IsSkipped}
 use Rattle.core_rules.specs.Hints.{IsHanded, without_hint, raised}
+use Rattle.tiled_core.specs.Handing.{AreHandedOver}
+use Rattle.tiled_core.specs.Passing.{ArePassed, ArePassedUntil}
 use Rattle.core_dispatch.specs.Books.{BooksView, IsReason, IsFaithful, KeepsRest, ledger}
 use Rattle.core_dispatch.proofs.Marking.{IsOnlyMarked, take_marks, abandon_marks, abandons_mark, kept_field}
 use Rattle.core_rules.specs.declared.answers.Handed.TheVariants as handed
@@ -141,6 +143,24 @@ passed_is_steady before after t passed =
     through before passed.between after (taken_is_steady before passed.between t (Some passed.job) passed.is_taken)
     (abandoned_is_steady passed.between after passed.job.ticket true passed.is_abandoned)
 
+pub passed_are_steady : (n from : ℕ) (before after : Core) → ArePassed from n before after → IsSteady before after
+passed_are_steady zero from before after same = as_before before after same
+passed_are_steady (suc n) from before after (between, first, rest) = elim first [
+  | inl passed ↦
+      through before between after (passed_is_steady before between from passed)
+      (passed_are_steady n (from + 1) between after rest)
+  | inr (none, same) ↦
+      through before between after (as_before before between same)
+      (passed_are_steady n (from + 1) between after rest)
+]
+
+pub passed_until_is_steady : (from : ℕ) (answer : Option ℕ) (before after : Core)
+    → ArePassedUntil from answer before after → IsSteady before after
+passed_until_is_steady from (Some t) before after (rises, ready, passed) =
+    passed_are_steady (t - from) from before after passed
+passed_until_is_steady from None before after passed =
+    passed_are_steady (length before.tiles - from) from before after passed
+
 pub abandons_are_steady : (before : Core) (tickets : List Ticket) (after : Core)
     → IsRun before (abandoned tickets) after → IsSteady before after
 abandons_are_steady before tickets after run = marked_is_steady before after (abandons_mark before tickets after run)
@@ -162,3 +182,9 @@ handed_is_steady before after t i handed.Raised (hint, there, present, above, sa
     let once = of_tile lost home (record (work_at lost home) { dirty = true }) (raised lost hint).image refl in
     subst (λ (c : Core). IsSteady before c) (sym same)
     (through before lost (raised lost hint) (without_is_steady before t i) once)
+
+pub handed_over_is_steady : (n t : ℕ) (before after : Core) → AreHandedOver t n before after → IsSteady before after
+handed_over_is_steady zero t before after same = as_before before after same
+handed_over_is_steady (suc n) t before after (handed, between, happens, rest) =
+    through before between after (handed_is_steady before between t n handed happens)
+    (handed_over_is_steady n t between after rest)

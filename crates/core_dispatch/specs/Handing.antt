@@ -1,7 +1,7 @@
 -- Hints that are handed over, one after another.
-use Rattle.std.specs.Prelude.{◌≡◌, ◌≢◌, ℕ, ◌+◌, ◌<◌, ◌≤◌, ◌⊎◌, Bool, true, false, List, [], ◌∷◌, length, sum_by}
+use Rattle.std.specs.Prelude.{◌≡◌, ◌≢◌, ℕ, ◌+◌, ◌<◌, ◌≤◌, ◌⊎◌, Option, None, Some, List, [], ◌∷◌, length, sum_by}
 use Rattle.border_queues.specs.TileWork.{TileWork}
-use Rattle.core_rules.specs.{declared.answers.Handed.Handed, Work.Core, Hints.IsHanded, Events.Hand, Events.OfHand}
+use Rattle.core_rules.specs.{Work.Core, Events.Hand, Events.OfHand}
 use Rattle.core_rules.specs.declared.answers.Handed.TheVariants.{Nothing}
 use Rattle.core_rules.specs.Runs.{Entry, IsRun, HasHints}
 
@@ -26,17 +26,23 @@ pub record HaveHanded (before : Core) (hands : ℕ) (after : Core) : Type 0 wher
   pub are_hands : AreHands log
   pub count : Counts hands (length log)
 
--- one more than the count, as far as can be counted. Only private functions have this and the rest in their contracts
-abbrev pub IsOneMore : ℕ → ℕ → Type 0
-IsOneMore n m = ((n < most) × (m ≡ n + 1)) ⊎ ((n ≡ most) × (m ≡ most))
+-- the sum of the two, as far as can be counted. Only private functions have this and the rest in their contracts
+abbrev pub IsSum : ℕ → ℕ → ℕ → Type 0
+IsSum n k sum = ((n + k ≤ most) × (sum ≡ n + k)) ⊎ ((most < n + k) × (sum ≡ most))
 
 -- how many hints wait, in all
 abbrev pub waiting_count : List TileWork → ℕ
 waiting_count works = sum_by (λ work. length work.inbox) works
 
--- one hint was handed over, if any waited, and fewer wait than before
-abbrev pub IsNextHanded : Core → Bool → Core → Type 0
-IsNextHanded before was_one after =
-    ((was_one ≡ true) × ((t i : ℕ) × (handed : Handed) × IsHanded before t i handed after
-    × (waiting_count after.tiles < waiting_count before.tiles)))
-    ⊎ ((was_one ≡ false) × (after ≡ before) × ((u : ℕ) → HasHints before u → ⊥))
+-- so many hints were handed over, one after another, and as many fewer wait
+pub record WereHanded (n : ℕ) (before after : Core) : Type 0 where
+  pub log : List Entry
+  pub run : IsRun before log after
+  pub are_hands : AreHands log
+  pub count : length log ≡ n
+  pub fewer : waiting_count after.tiles + n ≤ waiting_count before.tiles
+
+-- some hints were handed over, as many as the answer says, if any waited
+abbrev pub IsNextHanded : Core → Option ℕ → Core → Type 0
+IsNextHanded before (Some n) after = (0 < n) × WereHanded n before after
+IsNextHanded before None after = (after ≡ before) × ((u : ℕ) → HasHints before u → ⊥)

@@ -1,7 +1,9 @@
 -- What becomes of the tiles that are dirty and not out.
-use Rattle.std.specs.Prelude.{◌≡◌, ℕ, ◌+◌, ◌≤◌, ◌⊎◌, Bool, true, false, List, [], ◌∷◌, ◌++◌, length, Some, sum_by}
+use Rattle.std.specs.Prelude.{◌≡◌, ℕ, ◌+◌, ◌≤◌, ◌⊎◌, Bool, true, false, List, [], ◌∷◌, ◌++◌, length, Option, Some, sum_by}
 use Rattle.std.specs.List.{list_any}
 use Rattle.tile_generations.specs.Jobs.{Job}
+use Rattle.tile_work.specs.Least.{IsLeastFrom}
+use Rattle.tiled_core.specs.Passing.{ArePassedUntil}
 use Rattle.core_rules.specs.{Work.Core, Sweeps.IsReady, Sweeps.IsTaken, Sweeps.IsAbandoned}
 use Rattle.steal_pool.specs.Views.{OwnerView}
 use Rattle.core_dispatch.specs.{declared.turned.Jobs.Jobs, declared.turned.Pushing.Pushing}
@@ -41,6 +43,14 @@ abbrev pub ArePushed : ℕ → Dispatcher → List (ℕ × Pushing) → Dispatch
 ArePushed from old [] new = new ≡ old
 ArePushed from old ((t, pushing) ∷ tiles) new =
     (from ≤ t) × ((next : Dispatcher) × IsPushed t old pushing next × ArePushed (t + 1) next tiles new)
+
+-- the answer is the next tile, from this one on, that can be taken. Either nothing else happened; or the tiles that can be
+-- taken before it were passed over, where as many jobs were pushed as surely find a place
+abbrev pub IsNextTile : ℕ → Option ℕ → Dispatcher → Dispatcher → Type 0
+IsNextTile from answer old new =
+    ((new ≡ old) × IsLeastFrom (IsReady old.books.core) from answer)
+    ⊎ ((old.owner.capacity ≤ length old.owner.pushed) × (new ≡ with_core old new.books.core)
+    × ArePassedUntil from answer old.books.core new.books.core)
 
 -- the tile is one of these, and its job was not pushed
 abbrev pub IsLeft : List (ℕ × Pushing) → ℕ → Type 0

@@ -13,10 +13,12 @@ use rtrb::RingBuffer;
 use std::alloc::Global;
 use std::marker::Model;
 use stroke_lattice::{Delta, State};
+use tiled_core::TiledCore;
 
 mod events;
 mod handing;
 mod resting;
+mod showing;
 mod taking;
 
 /// The core, the strokes that it had at opening, the keeper's end of each pen's ring, and the edits that were refused.
@@ -25,14 +27,14 @@ mod taking;
 /// listed; and each edit that is listed is the pen's edit of its number, and is refused for a reason that stands still.
 #[derive(Drop)]
 pub struct Books {
-    core: Core,
+    core: TiledCore,
     opening: State,
     desks: Vec<PenDesk>,
     refusals: Vec<Refusal>,
 }
 
 impl Model for Books {
-    ghost use Rattle.reset_core.specs.contracts.replica.Core as replica;
+    ghost use Rattle.tiled_core.specs.contracts.replica.TiledCore as replica;
     ghost use Rattle.stroke_lattice.specs.contracts.state.State as strokes;
     ghost use Rattle.core_dispatch.specs.contracts.desk.PenDesk as desk;
     ghost use Rattle.core_dispatch.specs.contracts.refusal.Refusal as refusal;
@@ -74,7 +76,7 @@ struct Rings {
 }
 
 impl Books {
-    /// Books over a core, with 1 to 16 pens that submitted nothing yet.
+    /// Books over a core, with 1 to 16 pens that submitted nothing yet. Its image is cut into tiles from now on.
     ///
     /// Errors: out of memory, with the core handed back as it was.
     pub fn open(alloc: Global, core: Core, pens: usize) -> Result<OpenedBooks, (Core, Memory)>
@@ -92,8 +94,12 @@ impl Books {
             Ok(rings) => rings,
             Err(why) => return Err((core, why)),
         };
-        match core.state().copy(alloc) {
-            Ok(opening) => Ok(OpenedBooks {
+        let opening = match core.state().copy(alloc) {
+            Ok(opening) => opening,
+            Err(_) => return Err((core, Memory)),
+        };
+        match TiledCore::over(alloc, core) {
+            Ok(core) => Ok(OpenedBooks {
                 books: Books {
                     core,
                     opening,
@@ -102,12 +108,12 @@ impl Books {
                 },
                 pens,
             }),
-            Err(_) => Err((core, Memory)),
+            Err(returned) => Err(returned),
         }
     }
 
     /// The core.
-    pub fn core(&self) -> &Core
+    pub fn core(&self) -> &TiledCore
         ensures value { result.now ≡ self.now.core }
         ensures faithful { IsFaithful (ledger self.now) }
     {
@@ -128,13 +134,13 @@ impl Books {
         self.desks.len()
     }
 
-    /// The core and the list of refusals, without the rest.
+    /// The core, with its image in rows, and the list of refusals, without the rest. It takes no memory.
     pub fn into_parts(self) -> (Core, Vec<Refusal>)
         ensures core { result.0 ≡ self.core }
         ensures refusals { result.1.items ≡ self.refusals }
     {
         let Books { core, refusals, .. } = self;
-        (core, refusals)
+        (core.into_core(), refusals)
     }
 }
 

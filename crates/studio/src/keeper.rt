@@ -11,14 +11,13 @@ ghost use Rattle.studio.specs.Words.{last_by};
 ghost use Rattle.core_dispatch.specs.Dispatching.{core_by};
 ghost use Rattle.studio.specs.Following.{Follows};
 
-use crate::images::Images;
 use crate::shots::Publisher;
 use core_dispatch::{Dispatcher, Refusal};
 use grid_core::Grid;
-use reset_core::Core;
 use std::alloc::Global;
 use std::sync::Arc;
 use tile_generations::Ticket;
+use tiled_core::TiledCore;
 
 mod closing;
 mod mirroring;
@@ -31,8 +30,6 @@ pub struct Keeper {
     pub(crate) alloc: Global,
     pub(crate) dispatcher: Dispatcher,
     pub(crate) publisher: Publisher,
-    // What makes copies of the core's image for shots.
-    pub(crate) images: Images,
     // What all shots share.
     pub(crate) mask: Arc<Grid>,
     // Whether the strokes are those of the last shot, and whether the image is that of the last shot.
@@ -58,7 +55,7 @@ impl Keeper {
     ghost use Rattle.studio.specs.Keeping.{core_of, books_of, owner_of, IsUntouched};
 
     /// The core.
-    pub fn core(&self) -> &Core
+    pub fn core(&self) -> &TiledCore
         ensures value { result.now ≡ core_of self.now }
         ensures faithful { IsFaithful (ledger (books_of self.now)) }
     {

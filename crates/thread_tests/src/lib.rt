@@ -22,6 +22,8 @@ mod nodes;
 #[cfg(test)]
 mod outcome;
 #[cfg(test)]
+mod passing;
+#[cfg(test)]
 mod peeks;
 #[cfg(test)]
 mod pictures;

@@ -1,6 +1,6 @@
 //! Masks, cores, edits, and what grows from strokes.
 
-use grid_core::{Conn, Grid, TILE_SIDE};
+use grid_core::{Conn, Grid, Pixel, TILE_SIDE};
 use marker_tiles::marker;
 use pgm_codec::Image;
 use raster_sweeps::slow;
@@ -8,6 +8,7 @@ use reset_core::Core;
 use std::alloc::Global;
 use stroke_core::{Run, Stroke, Tag};
 use stroke_lattice::{Delta, State};
+use tiled_core::TiledCore;
 
 /// The row, what grows in it from level 9 in the second column, from that and level 3 in the last one, and from the
 /// latter alone, as worked out by hand.
@@ -190,6 +191,33 @@ fn mixed_work(sum: u64, core: &Core) -> u64 {
     sum
 }
 
+// The sum with the values of a core's image.
+fn mixed_pixels(sum: u64, core: &TiledCore) -> u64 {
+    let tiling = core.tiling();
+    let mut sum = sum;
+    for y in 0..tiling.height() {
+        for x in 0..tiling.width() {
+            sum = mixed(sum, u64::from(core.pixel(Pixel { x, y })));
+        }
+    }
+    sum
+}
+
+/// Whether these are the values of a core's image, row by row from the top.
+pub fn has_cells(core: &TiledCore, cells: &[u16]) -> bool {
+    let tiling = core.tiling();
+    let mut place: usize = 0;
+    for y in 0..tiling.height() {
+        for x in 0..tiling.width() {
+            match cells.get(place) {
+                Some(cell) if *cell == core.pixel(Pixel { x, y }) => place = place.wrapping_add(1),
+                _ => return false,
+            }
+        }
+    }
+    place == cells.len()
+}
+
 /// A sum of what is there in a core: image, marker, strokes of tags 0 to 9, generations, marks, and hints that wait.
 pub fn sum_of(core: &Core) -> u64 {
     let mut sum = mixed_cells(1, core.image().cells());
@@ -200,4 +228,22 @@ pub fn sum_of(core: &Core) -> u64 {
         sum = mixed(sum, u64::from(core.state().has_tombstone(tag)));
     }
     mixed_work(sum, core)
+}
+
+/// The same sum, of a core whose image is in tiles.
+pub fn sum_of_tiled(core: &TiledCore) -> u64 {
+    let mut sum = mixed_pixels(1, core);
+    sum = mixed_cells(sum, core.marker().marker().cells());
+    for tag in 0..10u8 {
+        let tag = Tag(u128::from(tag));
+        sum = mixed(sum, u64::from(core.state().has_stroke(tag)));
+        sum = mixed(sum, u64::from(core.state().has_tombstone(tag)));
+    }
+    for tile in 0..core.tiles() {
+        sum = mixed(sum, core.generation(tile));
+        sum = mixed(sum, u64::from(core.is_dirty(tile)));
+        sum = mixed(sum, u64::from(core.is_out(tile)));
+        sum = mixed(sum, core.waiting(tile) as u64);
+    }
+    sum
 }

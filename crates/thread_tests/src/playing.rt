@@ -3,7 +3,7 @@
 ghost use Rattle.thread_tests.specs.Company.{IsCompany};
 
 use crate::company::Scene;
-use crate::pictures::Edit;
+use crate::pictures::{Edit, has_cells};
 use core_dispatch::{Full, Turned};
 use std::alloc::Global;
 use std::sync::atomic::{AtomicBool, AtomicU64, Ordering};
@@ -237,7 +237,7 @@ fn takes_reports(scene: &mut Scene, count: u64) -> bool
 }
 
 fn is_quiet_on(scene: &Scene, image: &[u16]) -> bool {
-    scene.keeper.core().is_quiet() & (scene.keeper.core().image().cells() == image)
+    scene.keeper.core().is_quiet() & has_cells(scene.keeper.core(), image)
 }
 
 // A stroke of this tag, in the second column.

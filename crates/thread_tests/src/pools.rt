@@ -11,7 +11,7 @@ use std::test::Fail;
 use std::thread;
 use std::thread::Threads;
 use steal_pool::{Gate, Hand, Owner, Pool, Report};
-use tile_generations::{Job, Ticket};
+use tile_generations::{Job, Swept, Ticket};
 
 const TICKET: Ticket = Ticket {
     tile: 7,
@@ -38,11 +38,20 @@ fn is_pushed(alloc: Global, owner: &mut Owner) -> bool {
     }
 }
 
+// Whether the pixels have an owner more, and are what the row grows into.
+fn are_shared(swept: &Swept) -> bool {
+    match swept.shared_pixels() {
+        Ok(pixels) => pixels.cells() == GROWN,
+        Err(_) => false,
+    }
+}
+
 // Whether that job was swept. It says by false that there was no memory for it.
 fn is_swept(report: Option<Report>) -> OutcomeOf<bool> {
     match report {
         Some(Report::Done(swept)) => {
-            let is_it = (swept.ticket() == TICKET) & (swept.pixels().cells() == GROWN);
+            let is_grown = (swept.pixels().cells() == GROWN) & are_shared(&swept);
+            let is_it = (swept.ticket() == TICKET) & is_grown;
             drop(swept);
             right_if(is_it, "what was swept").and(Ok(true))
         }

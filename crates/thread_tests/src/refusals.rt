@@ -8,7 +8,7 @@ ghost use Rattle.thread_tests.specs.Company.{IsCompany};
 
 use crate::boards::opened_board;
 use crate::outcome::{CHANGED, NO_MEMORY, Outcome, OutcomeOf, right_if, told};
-use crate::pictures::{Edit, Mask, sum_of};
+use crate::pictures::{Edit, Mask, has_cells, sum_of, sum_of_tiled};
 use crate::playing::{hand_turn, submits, turn};
 use crate::scene::{Scene, give_up, leave, open, scene_of, shows};
 use core_dispatch::{CloseError, Refusal};
@@ -96,14 +96,14 @@ fn takes(alloc: Global, scene: &mut Scene, edit: Edit, number: u64) -> Outcome
     ensures { IsCompany scene.new }
 {
     right_if(submits(scene, edit.delta(alloc)), NO_MEMORY)?;
-    let before = sum_of(scene.keeper.core());
+    let before = sum_of_tiled(scene.keeper.core());
     let turned = turn(scene);
     let is_listed = is_listed(scene.keeper.refusals(), number);
     let core = scene.keeper.core();
     let is_taken = (turned.edits == 1) & !is_listed;
     right_if(has(core.state(), edit) == is_taken, "what a turn tells")?;
     let is_still = (turned.results == 0) & (turned.hints == 0) & (turned.jobs == 0);
-    let is_same = is_taken | !is_still | (sum_of(core) == before);
+    let is_same = is_taken | !is_still | (sum_of_tiled(core) == before);
     right_if(is_same, CHANGED)?;
     if turned.memory {
         goes_on(alloc, scene, edit, is_listed)
@@ -136,7 +136,7 @@ fn grows(alloc: Global, scene: &mut Scene) -> Outcome
     let _swept = hand_turn(scene, &Open);
     takes(alloc, scene, SECOND, 1)?;
     works(scene)?;
-    let is_grown = scene.keeper.core().image().cells() == FOURS;
+    let is_grown = has_cells(scene.keeper.core(), FOURS);
     right_if(is_grown, "what has grown")
 }
 
@@ -167,12 +167,12 @@ fn follows(keeper: &mut Keeper, board: &Board, seat: &mut KeeperSeat) -> Outcome
     requires { IsKeeperOf board.now seat.old }
     ensures { keeper.new ≡ keeper.old }
 {
-    let before = sum_of(keeper.core());
+    let before = sum_of_tiled(keeper.core());
     let is_brought = match keeper.mirror(board, seat) {
         Ok(_) => true,
         Err(MirrorError::Memory) => {
             let is_kept = seat.marker().cells() == [0; 128].as_slice()
-                && sum_of(keeper.core()) == before;
+                && sum_of_tiled(keeper.core()) == before;
             right_if(is_kept, CHANGED)?;
             keeper.mirror(board, seat).is_ok()
         }
@@ -225,7 +225,7 @@ fn closes<R: Wait>(rt: &R, alloc: Global, scene: Scene) -> Outcome
 {
     let (keeper, ends) = leave(alloc, scene);
     let has_begun = right_if(!ends.is_empty(), NO_MEMORY);
-    let before = sum_of(keeper.core());
+    let before = sum_of_tiled(keeper.core());
     let outcome = match keeper.close(rt, ends) {
         Ok(closed) => settles(alloc, closed),
         Err(not_closed) => closes_again(rt, alloc, not_closed, before),
@@ -238,7 +238,7 @@ fn closes_again<R: Wait>(rt: &R, alloc: Global, not_closed: NotClosed, before: u
     requires { AreEndsOf not_closed.ends.items (books_of not_closed.keeper) }
 {
     let NotClosed { keeper, ends, why } = not_closed;
-    let is_kept = why == CloseError::Memory && sum_of(keeper.core()) == before;
+    let is_kept = why == CloseError::Memory && sum_of_tiled(keeper.core()) == before;
     let outcome = match keeper.close(rt, ends) {
         Ok(closed) => settles(alloc, closed),
         Err(not_closed) => {

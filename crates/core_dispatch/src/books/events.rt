@@ -1,9 +1,10 @@
 //! What else happens to the core of the books.
 
 ghost use Rattle.std.specs.Prelude.{◌≡◌, length, IfOk, IfErr, OnErr};
-ghost use Rattle.core_rules.specs.Sweeps.{IsReady, IsTaken, IsGivenBack, IsAbandoned, IsSkipped};
+ghost use Rattle.core_rules.specs.Sweeps.{IsReady, IsTaken, IsGivenBack, IsAbandoned};
 ghost use Rattle.core_rules.specs.Runs.{IsRun, NoneOut, abandoned, tickets_out};
 ghost use Rattle.reset_core.specs.Answers.{IsJoinable};
+ghost use Rattle.tiled_core.specs.Passing.{ArePassedUntil};
 ghost use Rattle.core_dispatch.specs.Books.{KeepsRest};
 ghost use Rattle.core_dispatch.specs.Growing.{ShowsSame};
 
@@ -12,9 +13,10 @@ use core_rules::Back;
 use grid_core::Memory;
 use std::alloc::Global;
 use tile_generations::{Job, Swept, Ticket};
+use tiled_core::TiledCore;
 
 impl Books {
-    /// The job of a tile that is dirty and not out, as [`Core::take`](reset_core::Core::take) gives it.
+    /// The job of a tile that is dirty and not out, as [`TiledCore::take`] gives it.
     ///
     /// Errors: out of memory; nothing has changed then.
     pub(crate) fn take(&mut self, alloc: Global, tile: usize) -> Result<Option<Job>, Memory>
@@ -26,16 +28,16 @@ impl Books {
         self.core.take(alloc, tile)
     }
 
-    /// Passes over a tile that is dirty and not out, as [`Core::pass_over`](reset_core::Core::pass_over) does.
-    pub(crate) fn pass_over(&mut self, tile: usize)
-        requires { IsReady self.old.core tile }
-        ensures passed { IsSkipped self.old.core tile self.new.core }
+    /// Passes over the tiles that are dirty and not out, from `from` on, up to the least that no tile touches of which
+    /// a job is out, and says which that is, as [`TiledCore::pass_over`] does.
+    pub(crate) fn pass_over(&mut self, from: usize) -> Option<usize>
+        ensures passed { ArePassedUntil from result self.old.core self.new.core }
         ensures rest { KeepsRest self.old self.new }
     {
-        self.core.pass_over(tile);
+        self.core.pass_over(from)
     }
 
-    /// Gives back a swept tile, as [`Core::give_back`](reset_core::Core::give_back) does.
+    /// Gives back a swept tile, as [`TiledCore::give_back`] does.
     ///
     /// Errors: out of memory, with the swept tile handed back; nothing has changed then.
     pub(crate) fn give_back(&mut self, alloc: Global, swept: Swept) -> Result<Back, (Swept, Memory)>

@@ -3,7 +3,7 @@
 ghost use Rattle.std.specs.Prelude.{ℕ};
 ghost use Rattle.core_rules.specs.Runs.{HasHints};
 ghost use Rattle.core_dispatch.specs.Books.{KeepsRest};
-ghost use Rattle.core_dispatch.specs.Handing.{HaveHanded, IsNextHanded, IsOneMore};
+ghost use Rattle.core_dispatch.specs.Handing.{HaveHanded, IsNextHanded, IsSum};
 
 use super::Books;
 
@@ -16,29 +16,25 @@ impl Books {
         ensures rest { KeepsRest self.old self.new }
     {
         let mut hands = 0;
-        while self.hand_next() {
-            hands = one_more(hands);
+        while let Some(handed) = self.hand_next() {
+            hands = sum(hands, handed);
         }
         hands
     }
 
-    // Hands over the last hint of the first tile where one waits, and says whether there was one.
-    fn hand_next(&mut self) -> bool
+    // Hands over each hint of the first tile where one waits, and says how many there were. None where no hint waits.
+    fn hand_next(&mut self) -> Option<usize>
         ensures next { IsNextHanded self.old.core result self.new.core }
         ensures rest { KeepsRest self.old self.new }
     {
-        let Some(tile) = self.core().next_waiting(0) else {
-            return false;
-        };
-        let waiting = self.core().waiting(tile);
-        let _handed = self.core.hand(tile, waiting - 1);
-        true
+        let tile = self.core().next_waiting(0)?;
+        Some(self.core.hand_waiting(tile))
     }
 }
 
-// One more, as far as can be counted.
-fn one_more(n: u64) -> u64
-    ensures { IsOneMore n result }
+// The sum, as far as can be counted.
+fn sum(hands: u64, handed: usize) -> u64
+    ensures { IsSum hands handed result }
 {
-    if n == u64::MAX { n } else { n + 1 }
+    hands.saturating_add(handed as u64)
 }

@@ -1,9 +1,8 @@
 //! Jobs that are pushed for hands.
 
-ghost use Rattle.std.specs.Prelude.{◌≤◌, length, IsTrue};
 ghost use Rattle.core_rules.specs.Sweeps.{IsReady, IsOut};
-ghost use Rattle.core_dispatch.specs.Dispatching.{core_by, owner_by};
-ghost use Rattle.core_dispatch.specs.Jobs.{HavePushed, IsPlaced, IsPushed};
+ghost use Rattle.core_dispatch.specs.Dispatching.{core_by};
+ghost use Rattle.core_dispatch.specs.Jobs.{HavePushed, IsNextTile, IsPlaced, IsPushed};
 
 use super::Dispatcher;
 use crate::turned::{Jobs, Pushing};
@@ -22,7 +21,7 @@ impl Dispatcher {
             memory: false,
         };
         let mut from = 0;
-        while let Some(tile) = self.books.core().next_dirty(from) {
+        while let Some(tile) = self.next_tile(from) {
             let pushing = self.push_job(tile);
             pushed = pushed.and(pushing);
             from = tile + 1;
@@ -30,28 +29,27 @@ impl Dispatcher {
         pushed
     }
 
-    // Takes the job of a tile that is dirty and not out, and pushes it. Once as many jobs were pushed as surely find a
-    // place, a tile is passed over while a job of one that touches it is out: that one has hints for it soon.
+    // The next tile, from `from` on, that is dirty and not out. Once as many jobs were pushed as surely find a place, a
+    // tile is passed over while a job of one that touches it is out: that one has hints for it soon.
+    fn next_tile(&mut self, from: usize) -> Option<usize>
+        ensures { IsNextTile from result self.old self.new }
+    {
+        if self.owner.is_past_capacity() {
+            self.books.pass_over(from)
+        } else {
+            self.books.core().next_dirty(from)
+        }
+    }
+
+    // Takes the job of a tile that is dirty and not out, and pushes it.
     fn push_job(&mut self, tile: usize) -> Pushing
         requires { IsReady (core_by self.old) tile }
         ensures { IsPushed tile self.old result self.new }
     {
-        if self.waits(tile) {
-            self.books.pass_over(tile);
-            return Pushing::Refused;
-        }
         match self.books.take(self.alloc, tile) {
             Ok(Some(job)) => self.push(job),
             Ok(None) | Err(_) => Pushing::Wanting,
         }
-    }
-
-    // Whether the tile waits for one that touches it.
-    fn waits(&self, tile: usize) -> bool
-        requires { IsReady (core_by self.now) tile }
-        ensures { IsTrue result → (owner_by self.now).capacity ≤ length (owner_by self.now).pushed }
-    {
-        self.owner.is_past_capacity() && self.books.core().is_beside_out(tile)
     }
 
     // Pushes a job that was just taken, or abandons it where there is no place.

@@ -70,7 +70,6 @@ impl Keeper {
             alloc: _,
             dispatcher,
             publisher,
-            images: _,
             mask: _,
             has_state: _,
             has_image: _,

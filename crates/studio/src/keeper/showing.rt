@@ -10,16 +10,16 @@ ghost use Rattle.studio.specs.declared.refused.OpenError.TheVariants as errors;
 ghost use Rattle.studio.specs.Opening.{IsFirst, IsEyeOf, AreEyesOf, HasOneMore, ShowsTheSame};
 
 use super::Keeper;
-use crate::images::{Images, shared_copy};
+use crate::images::shared_copy;
 use crate::refused::OpenError;
 use crate::shots::{Eye, Publisher, Shot, Told};
-use core_dispatch::Dispatcher;
+use core_dispatch::{Books, Dispatcher};
 use grid_core::{Grid, Memory};
 use raster_sweeps::Blanks;
-use reset_core::Core;
 use std::alloc::Global;
 use std::sync::{Arc, Wait};
 use stroke_lattice::State;
+use tiled_core::TiledCore;
 
 impl Keeper {
     /// A keeper that shows the core as it is, with places for so many eyes. Mask and image are copied into memory of
@@ -37,20 +37,14 @@ impl Keeper {
         ensures first { IfOk result (IsFirst dispatcher) }
         ensures returned { IfErr result (λ d. d ≡ dispatcher) }
     {
+        let mut dispatcher = dispatcher;
         let mut blanks = blanks;
         let for_mask = blanks.take(dispatcher.books.core().mask());
         let Ok(mask) = shared_copy(alloc, for_mask, dispatcher.books.core().mask()) else {
             return Err(dispatcher);
         };
-        let mut images = Images::new(alloc);
         let for_image = blanks.take(dispatcher.books.core().mask());
-        let Ok(shot) = first_shot(
-            alloc,
-            &mut images,
-            for_image,
-            &mask,
-            dispatcher.books.core(),
-        ) else {
+        let Ok(shot) = first_shot(alloc, for_image, &mask, &mut dispatcher.books) else {
             return Err(dispatcher);
         };
         match Publisher::open(rt, alloc, shot, eyes) {
@@ -58,7 +52,6 @@ impl Keeper {
                 alloc,
                 dispatcher,
                 publisher,
-                images,
                 mask,
                 has_state: true,
                 has_image: true,
@@ -83,7 +76,8 @@ impl Keeper {
     /// shot or a later one. It may wait for glimpses that are held.
     ///
     /// The strokes are copied only where an edit was merged since the last show, and the image only where an edit was
-    /// merged, a report was taken or a hint was handed over. The mask is never copied.
+    /// merged, a report was taken or a hint was handed over. Of the image only the tiles are copied that changed since
+    /// the third last copy was made, where nobody holds that copy any more. The mask is never copied.
     ///
     /// Errors: out of memory. The chain is as it was then.
     #[tactic(auto, using(crate::proofs::Following::may_follow, crate::proofs::Following::shot_follows))]
@@ -141,7 +135,7 @@ impl Keeper {
         if self.has_image {
             return Ok(Arc::try_clone(self.publisher.last().image())?);
         }
-        self.images.copy(self.dispatcher.books.core().image())
+        self.dispatcher.books.shared_image(self.alloc, None)
     }
 }
 
@@ -193,7 +187,7 @@ fn eye_of(publisher: &mut Publisher) -> Result<Eye, OpenError>
 // A copy of the strokes of a core, to be shared.
 //
 // Errors: out of memory.
-fn strokes_of(alloc: Global, core: &Core) -> Result<Arc<State>, Memory>
+fn strokes_of(alloc: Global, core: &TiledCore) -> Result<Arc<State>, Memory>
     ensures { IfOk result (λ copy. arc_value copy ≡ core.now.state) }
 {
     let Ok(copy) = core.state().copy(alloc) else {
@@ -202,29 +196,29 @@ fn strokes_of(alloc: Global, core: &Core) -> Result<Arc<State>, Memory>
     Ok(Arc::new(alloc, copy)?)
 }
 
-// The first shot of a core.
+// The first shot of a core, with the image in a spare one where that is there and of its size.
 //
 // Errors: out of memory.
 fn first_shot(
     alloc: Global,
-    images: &mut Images,
     spare: Option<Grid>,
     mask: &Arc<Grid>,
-    core: &Core,
+    books: &mut Books,
 ) -> Result<Shot, Memory>
-    requires { arc_value mask.now ≡ core.now.mask }
-    ensures shot { IfOk result (IsShotOf core.now) }
+    requires { arc_value mask.now ≡ books.old.core.mask }
+    ensures shot { IfOk result (IsShotOf books.old.core) }
     ensures sound { IfOk result IsSound }
+    ensures same { books.new ≡ books.old }
 {
     let shared = Arc::try_clone(mask)?;
-    let state = strokes_of(alloc, core)?;
-    let image = images.copy_over(spare, core.image())?;
-    Ok(shot_of(core, shared, state, image))
+    let state = strokes_of(alloc, books.core())?;
+    let image = books.shared_image(alloc, spare)?;
+    Ok(shot_of(books.core(), shared, state, image))
 }
 
 // The shot of a core, over these.
 #[tactic(auto, using(crate::proofs::Showing::sound_shot, crate::proofs::Showing::one_size))]
-fn shot_of(core: &Core, mask: Arc<Grid>, state: Arc<State>, image: Arc<Grid>) -> Shot
+fn shot_of(core: &TiledCore, mask: Arc<Grid>, state: Arc<State>, image: Arc<Grid>) -> Shot
     requires mask { arc_value mask ≡ core.now.mask }
     requires state { arc_value state ≡ core.now.state }
     requires image { arc_value image ≡ core.now.image }
@@ -233,7 +227,7 @@ fn shot_of(core: &Core, mask: Arc<Grid>, state: Arc<State>, image: Arc<Grid>) ->
 {
     // For its clauses alone: the image has the size of the mask, is lawful, and where no work is left it is the
     // reconstruction.
-    let _image = core.image();
+    core.image_is_lawful();
     let quiet = core.is_quiet();
     Shot::new(mask, core.conn(), state, image, quiet)
 }

@@ -1,42 +1,32 @@
-use Rattle.std.proofs.Common.{◌-◌, refl, ◌∙◌, ap, subst, inl, false, length, arith}
-use Rattle.core_rules.specs.{Work.Core, Work.work_at, Hints.IsHanded, Runs.HasHints}
-use Rattle.core_dispatch.specs.{contracts.books.Books.the_view, Books.BooksView, Handing.IsNextHanded}
-use Rattle.core_dispatch.proofs.Handing.{none_waits, some_wait, fewer}
-use Rattle.core_dispatch.proofs.Steady.{steady_books, handed_is_steady}
+use Rattle.std.proofs.Common.{◌≡◌, ap, arith, length, subst, sym, ◌∙◌}
+use Rattle.core_rules.specs.{Work.Core, Work.work_at, Runs.HasHints}
+use Rattle.tiled_core.specs.Handing.{AreHandedOver}
+use Rattle.core_dispatch.specs.{contracts.books.Books.the_view, Books.BooksView, Handing.WereHanded}
+use Rattle.core_dispatch.proofs.Handing.{some_wait, were_handed}
+use Rattle.core_dispatch.proofs.Steady.{steady_books, handed_over_is_steady}
 use Rattle.core_dispatch.proofs.books.Books.hand_next.Goals as goal
-
-pub overflow_sub-waiting : goal.overflow_sub-waiting
-overflow_sub-waiting c =
-    let tile = c.in-Some.tile in
-    let hints = subst (λ (k : Core). HasHints k tile) c.core.ensures.value c.in-Some.ensures.0.1 in
-    let some = some_wait c.args.self.now.core tile hints in
-    let count = c.waiting-waiting.ensures
-    ∙ ap (λ (k : Core). length (work_at k tile).inbox) c.core-2.ensures.value in
-    omega (arith, some, count)
 
 pub invariant_of-self : goal.invariant_of-self
 invariant_of-self c =
     let b = the_view c.self.inside in
-    steady_books b c.hand-handed.new.self c.self.invariant
-    (handed_is_steady b.core c.hand-handed.new.self c.in-Some.tile (c.waiting-waiting.result - 1) c.hand-handed.result
-    c.hand-handed.ensures)
-
-pub returns-in_default-clause-next : goal.returns-in_default-clause-next
-returns-in_default-clause-next c =
-    subst (λ (k : Core). IsNextHanded k false k) c.core.ensures.value
-    (none_waits c.core.result.now c.in_default.ensures)
+    steady_books b c.hand_waiting.new.self c.self.invariant
+    (handed_over_is_steady (length (work_at b.core c.in_ok-tile.tile).inbox) c.in_ok-tile.tile b.core
+    c.hand_waiting.new.self c.hand_waiting.ensures.handed)
 
 pub returns-clause-next : goal.returns-clause-next
 returns-clause-next c =
-    let tile = c.in-Some.tile in
-    let hints = subst (λ (k : Core). HasHints k tile) c.core.ensures.value c.in-Some.ensures.0.1 in
-    let some = some_wait c.args.self.now.core tile hints in
-    let count = c.waiting-waiting.ensures
-    ∙ ap (λ (k : Core). length (work_at k tile).inbox) c.core-2.ensures.value in
-    let last = c.waiting-waiting.result - 1 in
-    let happens =
-    subst (λ (k : Core). IsHanded k tile last c.hand-handed.result c.hand-handed.new.self)
-    (ap (λ (b : BooksView). b.core) c.self.view_is) c.hand-handed.ensures in
-    let less = fewer c.args.self.now.core tile last hints.0 (omega (arith, some, count)) c.hand-handed.result
-    c.hand-handed.new.self happens in
-    inl (refl, (tile, last, c.hand-handed.result, happens, less))
+    let tile = c.in_ok-tile.tile in
+    let core = c.args.self.now.core in
+    let new = c.hand_waiting.new.self in
+    let least = c.in_ok-tile.ensures in
+    let hints = subst (λ (k : Core). HasHints k tile) c.core.ensures.value least.0.1 in
+    let some = some_wait core tile hints in
+    let count : c.hand_waiting.result ≡ length (work_at core tile).inbox =
+    c.hand_waiting.ensures.count ∙ ap (λ (b : BooksView). length (work_at b.core tile).inbox) c.self.view_is in
+    let over =
+    subst (λ (b : BooksView). AreHandedOver tile (length (work_at b.core tile).inbox) b.core new) c.self.view_is
+    c.hand_waiting.ensures.handed in (
+      omega (arith, some, count),
+      subst (λ n. WereHanded n core new) (sym count)
+          (were_handed (length (work_at core tile).inbox) tile core new hints.0 (omega arith) over),
+    )

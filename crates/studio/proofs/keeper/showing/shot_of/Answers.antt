@@ -3,7 +3,6 @@ use Rattle.std.specs.Arc.{arc_value}
 use Rattle.grid_core.specs.{declared.conn.Conn.Conn, Raster.Raster}
 use Rattle.stroke_lattice.specs.State.{State}
 use Rattle.core_rules.specs.Work.{Core, IsQuiet}
-use Rattle.reset_core.specs.Answers.{IsImageOf}
 use Rattle.studio.specs.{Keeping.IsShotOf, Shots.Shot}
 use Rattle.studio.proofs.Showing.{one_size, sound_shot}
 use Rattle.studio.proofs.keeper.showing.shot_of.Goals as goal
@@ -23,9 +22,8 @@ shot_is core shot mask image conn state quiet is m n s i q = record {
 
 pub new-requires : goal.new-requires
 new-requires c =
-    let is = c.image-image.ensures in
     one_size c.args.core.now (arc_value c.args.mask) (arc_value c.args.image) c.requires.mask c.requires.image
-    (subst (IsImageOf c.args.core.now) is.value is)
+    c.image_is_lawful.ensures
 
 pub returns-clause-shot : goal.returns-clause-shot
 returns-clause-shot c =
@@ -35,7 +33,6 @@ returns-clause-shot c =
 pub returns-clause-sound : goal.returns-clause-sound
 returns-clause-sound c =
     let core = c.args.core.now in
-    let is = c.image-image.ensures in
     let shows = shot_is core c.new.result _ _ _ _ _ c.new.ensures c.requires.mask c.conn.ensures c.requires.state
     c.requires.image c.is_quiet-quiet.ensures in
-    sound_shot core c.new.result shows (subst (IsImageOf core) is.value is)
+    sound_shot core c.new.result shows c.image_is_lawful.ensures

@@ -1,0 +1,22 @@
+//! The image, copied to be shown.
+
+ghost use Rattle.std.specs.Prelude.{◌≡◌, IfOk};
+ghost use Rattle.std.specs.Arc.{arc_value};
+
+use super::Books;
+use grid_core::{Grid, Memory};
+use std::alloc::Global;
+use std::sync::Arc;
+
+impl Books {
+    /// A copy of the core's image, to be shared, as [`TiledCore::shared_image`](tiled_core::TiledCore::shared_image)
+    /// makes it.
+    ///
+    /// Errors: out of memory.
+    pub fn shared_image(&mut self, alloc: Global, spare: Option<Grid>) -> Result<Arc<Grid>, Memory>
+        ensures image { IfOk result (λ copy. arc_value copy ≡ self.old.core.image) }
+        ensures same { self.new ≡ self.old }
+    {
+        self.core.shared_image(alloc, spare)
+    }
+}
