@@ -8,8 +8,8 @@ use Rattle.grid_core.specs.{Bounds.LieIn, Bounds.bounds_of, Neighbours.AreNeighb
 use Rattle.grid_core.specs.{Raster.IsImageSize, Raster.value_at, Rects.IsInRect, Rects.RectFits}
 use Rattle.grid_core.specs.Tiles.{Tiles, tile_of, rect_of}
 use Rattle.border_queues.specs.{declared.border.Border.Border, OpenEdges.IsOnTiling, OpenEdges.from_corner}
-use Rattle.border_queues.specs.Around.{widened}
-use Rattle.border_queues.specs.Borders.{moved, moved_back, sender_of, CoversAround, IsBorder, IsNear}
+use Rattle.border_queues.specs.Around.{HasAroundSize, widened}
+use Rattle.border_queues.specs.Borders.{moved, moved_back, seen_from, sender_of, CoversAround, IsBorder, IsNear}
 use Rattle.grid_core.proofs.{Pixels.near, Rectangles.in_rect_inside}
 
 -- ---- near a rectangle
@@ -67,18 +67,24 @@ whole_covers tiles rect image fits q inside close = record {
   inside = (omega (arith, inside, fits.width), omega (arith, inside, fits.height));
 }
 
--- and so has a patch of the size of the rectangle grown by one pixel on each side
-pub patch_covers : (tiles : Tiles) (rect : Rect) (origin : Pixel) (patch : Raster) → origin.x ≡ rect.x - 1
-    → origin.y ≡ rect.y - 1 → patch.width ≡ (widened tiles.width tiles.height rect).w
-    → patch.height ≡ (widened tiles.width tiles.height rect).h → CoversAround tiles rect origin patch
-patch_covers tiles rect origin patch left top wide high q inside close = record {
-  column = omega (arith, left, close.left);
-  row = omega (arith, top, close.above);
-  inside = (
-    near_counted rect.x rect.w tiles.width origin.x patch.width q.x left wide inside.0 close.left close.right,
-    near_counted rect.y rect.h tiles.height origin.y patch.height q.y top high inside.1 close.above close.below,
-  );
-}
+-- and so has a patch of the size of a tile's rectangle grown by one pixel on each side
+pub patch_covers : (tiles : Tiles) (t : ℕ) (rect : Rect) (origin : Pixel) (patch : Raster) → rect ≡ rect_of tiles t
+    → origin.x ≡ rect.x - 1 → origin.y ≡ rect.y - 1 → HasAroundSize tiles t patch
+    → CoversAround tiles (rect_of tiles t) origin patch
+patch_covers tiles t rect origin patch same left top size q inside close =
+    let own = rect_of tiles t in
+    let at_left : origin.x ≡ own.x - 1 = left ∙ ap (λ (r : Rect). r.x - 1) same in
+    let at_top : origin.y ≡ own.y - 1 = top ∙ ap (λ (r : Rect). r.y - 1) same in
+    record {
+      column = omega (arith, at_left, close.left);
+      row = omega (arith, at_top, close.above);
+      inside = (
+        near_counted own.x own.w tiles.width origin.x patch.width q.x at_left size.width inside.0 close.left
+            close.right,
+        near_counted own.y own.h tiles.height origin.y patch.height q.y at_top size.height inside.1 close.above
+            close.below,
+      );
+    }
 
 -- ---- values
 
@@ -88,17 +94,17 @@ pub own_value : (b : Border) (p : Pixel) → IsBorder b → IsInRect b.rect p
 own_value b p border found =
     let inside = in_rect_inside b.tiling.width b.tiling.height b.rect p border.fits found in
     let value : Rect → ℕ = λ rect. value_at b.inside.now (moved b.corner (from_corner rect p)) in
-    let beyond = value_at b.image.now (moved_back b.origin p) in
+    let beyond = seen_from b.origin b.image.now p in
     ap value border.rect
     ∙ sym (ap (λ t. if t then value (rect_of b.tiling b.tile) else beyond)
     (eq-eqb (tile_of b.tiling p) b.tile ((border.own p inside).0 found)))
 
 -- and that of a pixel of another tile in the view of the image
 pub outer_value : (b : Border) (q : Pixel) → IsBorder b → IsInside b.tiling.width b.tiling.height q
-    → (IsInRect b.rect q → ⊥) → value_at b.image.now (moved_back b.origin q) ≡ (sender_of b).image q
+    → (IsInRect b.rect q → ⊥) → seen_from b.origin b.image.now q ≡ (sender_of b).image q
 outer_value b q border inside outer =
     let own = value_at b.inside.now (moved b.corner (from_corner (rect_of b.tiling b.tile) q)) in
-    let beyond = value_at b.image.now (moved_back b.origin q) in
+    let beyond = seen_from b.origin b.image.now q in
     elim (eqb_tells (tile_of b.tiling q) b.tile) [
       | inl (passes, same) ↦ absurd (outer ((border.own q inside).1 same))
       | inr (fails, other) ↦ sym (ap (λ t. if t then own else beyond) fails)

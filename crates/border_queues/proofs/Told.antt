@@ -1,6 +1,6 @@
 -- Hints that are told part by part.
 use Rattle.std.proofs.Common.{◌≡◌, ℕ, ◌+◌, ◌-◌, ◌≤◌, List, [], ◌∷◌, ◌++◌, map, refl, ap, sym, ◌∙◌, arith, append_assoc}
-use Rattle.std.proofs.Common.{append-nil, filter, flat_map}
+use Rattle.std.proofs.Common.{append-nil, filter, flat_map, Bool, true, false, cond}
 use Rattle.std.proofs.lemmas.List.{map-append, flat_map_more, map-id}
 use Rattle.std.proofs.{lemmas.List.Concat.flat_map-append, lemmas.List.Folds.flat_map-map}
 use Rattle.std.proofs.{lemmas.List.FromFn.map-range_with_len_more, lemmas.List.Elements.filter-append}
@@ -14,6 +14,21 @@ pub hints_to-append : (s : Sender) (value : ℕ) (qs rs : List Pixel)
 hints_to-append s value qs rs =
     ap (map (hint_to s value)) (filter-append (is_open s value) qs rs)
     ∙ map-append (hint_to s value) (filter (is_open s value) qs) (filter (is_open s value) rs)
+
+-- the hint to a pixel, if it can be raised
+abbrev pub hint_if : Sender → ℕ → Pixel → List Hint
+hint_if s value q = cond (is_open s value q) (hint_to s value q ∷ []) []
+
+map_one : (f : Pixel → Hint) (kept : Bool) (q : Pixel) → map f (cond kept (q ∷ []) []) ≡ cond kept (f q ∷ []) []
+map_one f true q = refl
+map_one f false q = refl
+
+-- pixels are told one by one
+pub told_each : (s : Sender) (value : ℕ) (qs : List Pixel) → hints_to s value qs ≡ flat_map (hint_if s value) qs
+told_each s value [] = refl
+told_each s value (q ∷ qs) =
+    hints_to-append s value (q ∷ []) qs
+    ∙ (λ i. map_one (hint_to s value) (is_open s value q) q i ++ told_each s value qs i)
 
 pub told_two : (s : Sender) (value : ℕ) (old : List Hint) (qs rs : List Pixel)
     → (old ++ hints_to s value qs) ++ hints_to s value rs ≡ old ++ hints_to s value (qs ++ rs)

@@ -26,11 +26,16 @@ pub record HasAroundSize (tiles : Tiles) (t : ℕ) (patch : Raster) : Type 0 whe
 abbrev pub in_patch : Tiles → ℕ → Raster → Pixel → ℕ
 in_patch tiles t patch q = value_at patch (from_corner (around_of tiles t) q)
 
+-- two images have the same values beside the tile
+abbrev pub AreSameBeside : Tiles → ℕ → (Pixel → ℕ) → (Pixel → ℕ) → Type 0
+AreSameBeside tiles t one other =
+    (q : Pixel) → IsInside tiles.width tiles.height q → IsInRect (around_of tiles t) q
+    → (IsInRect (rect_of tiles t) q → ⊥) → one q ≡ other q
+
 -- it has the values that the image has beside the tile; those on the tile may be any
 pub record IsRingOf (tiles : Tiles) (t : ℕ) (image : Pixel → ℕ) (patch : Raster) : Type 0 where
   pub size : HasAroundSize tiles t patch
-  pub values : (q : Pixel) → IsInside tiles.width tiles.height q → IsInRect (around_of tiles t) q
-      → (IsInRect (rect_of tiles t) q → ⊥) → in_patch tiles t patch q ≡ image q
+  pub values : AreSameBeside tiles t (in_patch tiles t patch) image
 
 -- the image with the values of `inside` on the tile, counted from its upper left corner, and the patch's elsewhere
 abbrev pub ringed : Tiles → ℕ → (Pixel → ℕ) → Raster → Pixel → ℕ

@@ -5,7 +5,7 @@ use Rattle.grid_core.specs.{Bounds.LieIn, Raster.Raster, Raster.IsInside, Raster
 use Rattle.grid_core.specs.{Rects.IsInRect, Rects.RectFits, Rows.row_around, Rows.rows_around}
 use Rattle.grid_core.specs.Tiles.{Tiles, IsTiled, tile_of, rect_of}
 use Rattle.border_queues.specs.{declared.border.Border.Border, declared.hint.Hint.Hint, Waiting.Waiting}
-use Rattle.border_queues.specs.OpenEdges.{Sender, EdgesBeginIn, IsOnTiling, hints_from, hints_to, pixels_of, row_of}
+use Rattle.border_queues.specs.OpenEdges.{Sender, EdgesBeginIn, hints_from, hints_to, pixels_of, row_of}
 use Rattle.border_queues.specs.OpenEdges.{with_tile}
 
 -- the pixel of `inside` where the tile's pixel stands that is p from the tile's corner
@@ -16,17 +16,21 @@ moved corner p = record { x = corner.x + p.x; y = corner.y + p.y }
 abbrev pub moved_back : Pixel → Pixel → Pixel
 moved_back origin q = record { x = q.x - origin.x; y = q.y - origin.y }
 
+-- the value at the image's pixel q in such a view
+abbrev pub seen_from : Pixel → Raster → Pixel → ℕ
+seen_from origin view q = value_at view (moved_back origin q)
+
 -- the image with the values of `inside` on the tile, and those of a view that begins at `origin` elsewhere
 abbrev pub image_by : Tiles → ℕ → Raster → Pixel → Raster → Pixel → Pixel → ℕ
 image_by tiles tile inside corner view origin =
-    with_tile tiles tile (λ p. value_at inside (moved corner p)) (λ q. value_at view (moved_back origin q))
+    with_tile tiles tile (λ p. value_at inside (moved corner p)) (seen_from origin view)
 
 -- the tile whose border it is
 abbrev pub sender_of : Border → Sender
 sender_of b = record {
   tiles = b.tiling;
   conn = b.conn;
-  mask = value_at b.mask.now;
+  mask = seen_from b.origin b.mask.now;
   image = image_by b.tiling b.tile b.inside.now b.corner b.image.now b.origin;
   tile = b.tile;
   generation = b.generation;
@@ -74,7 +78,7 @@ CoversAround tiles rect origin view =
 pub record IsBorder (b : Border) : Type 0 where
   pub tiled : IsTiled b.tiling
   pub rect : b.rect ≡ rect_of b.tiling b.tile
-  pub mask : IsOnTiling b.tiling b.mask.now
+  pub mask : CoversAround b.tiling b.rect b.origin b.mask.now
   pub image : CoversAround b.tiling b.rect b.origin b.image.now
   pub inside : IsImageSize b.inside.now.width b.inside.now.height
   pub inside_columns : b.corner.x + b.rect.w ≤ b.inside.now.width

@@ -8,8 +8,8 @@ ghost use Rattle.grid_core.specs.Rects.{IsInRect};
 ghost use Rattle.grid_core.specs.Rows.{pixel_if};
 ghost use Rattle.border_queues.specs.Waiting.{Adds, AddsWithin};
 ghost use Rattle.border_queues.specs.OpenEdges.{hints_from};
-ghost use Rattle.border_queues.specs.Borders.{around, hints_of_all, hints_of_row, row_if, sender_of, told_to};
-ghost use Rattle.border_queues.specs.Borders.{CanTell, IsBorder, IsInView, IsNear};
+ghost use Rattle.border_queues.specs.Borders.{around, hints_of_all, hints_of_row, row_if, seen_from, sender_of};
+ghost use Rattle.border_queues.specs.Borders.{told_to, CanTell, IsBorder, IsInView, IsNear};
 
 use crate::hint::Hint;
 use crate::inbox::Inbox;
@@ -22,10 +22,10 @@ use grid_core::{Bounds, Conn, Pixel, Rect, Tiling};
 pub struct Border<'a> {
     pub tiling: Tiling,
     pub conn: Conn,
+    // Mask and image have the values beside the tile.
     pub mask: &'a View<'a>,
-    // Has the values beside the tile.
     pub image: &'a View<'a>,
-    // The pixel of the whole image where `image` begins.
+    // The pixel of the whole image where both begin.
     pub origin: Pixel,
     // Has the tile's own values.
     pub inside: &'a View<'a>,
@@ -53,6 +53,18 @@ impl Border<'_> {
         })
     }
 
+    // The value of a pixel of the whole image in a view that begins where mask and image do.
+    #[inline(always)]
+    fn seen(&self, view: &View<'_>, q: Pixel) -> u16
+        requires { IsInView self.now.origin view.now q }
+        ensures { result ≡ seen_from self.now.origin view.now q }
+    {
+        view.get(Pixel {
+            x: q.x - self.origin.x,
+            y: q.y - self.origin.y,
+        })
+    }
+
     // The value of a pixel beside the tile.
     #[inline(always)]
     fn outer_value(&self, q: Pixel) -> u16
@@ -62,10 +74,7 @@ impl Border<'_> {
         requires outer { ¬ (IsInRect self.now.rect q) }
         ensures { result ≡ (sender_of self.now).image q }
     {
-        self.image.get(Pixel {
-            x: q.x - self.origin.x,
-            y: q.y - self.origin.y,
-        })
+        self.seen(self.image, q)
     }
 
     // Whether the pixel at `x` and `y` lies in the tile.
@@ -82,16 +91,21 @@ impl Border<'_> {
         requires ready { CanTell self.now out.old 1 }
         requires inside { IsInside self.now.tiling.width self.now.tiling.height q }
         requires seen { IsInView self.now.origin self.now.image.now q }
+        requires limited { IsInView self.now.origin self.now.mask.now q }
         requires outer { ¬ (IsInRect self.now.rect q) }
         ensures { AddsWithin out.old out.new (told_to self.now value (q ∷ [])) 1 }
     {
-        let now = self.outer_value(q);
-        if now < value && now < self.mask.get(q) {
+        let beside = self.outer_value(q);
+        if beside >= value {
+            return;
+        }
+        let level = value.min(self.seen(self.mask, q));
+        if beside < level {
             let _ = out.push(Hint {
                 from: self.tile,
                 from_generation: self.generation,
                 to_pixel: q,
-                value: value.min(self.mask.get(q)),
+                value: level,
             });
         }
     }

@@ -6,10 +6,10 @@ ghost use Rattle.grid_core.specs.Bounds.{LieIn};
 ghost use Rattle.grid_core.specs.Raster.{value_at};
 ghost use Rattle.grid_core.specs.Tiles.{count_of, rect_of};
 ghost use Rattle.border_queues.specs.Waiting.{AddsOrFails};
-ghost use Rattle.border_queues.specs.OpenEdges.{EdgesBeginIn, HasTileSize, HaveTile, IsOnTiling, open_edges};
+ghost use Rattle.border_queues.specs.OpenEdges.{EdgesBeginIn, HasTileSize, HaveTile, open_edges};
 ghost use Rattle.border_queues.specs.OpenEdges.{room_for_edges, sender_by, with_tile};
 ghost use Rattle.border_queues.specs.Around.{HasAroundSize, IsRingOf};
-ghost use Rattle.border_queues.specs.Borders.{image_by, sender_of, CoversAround, IsBorder};
+ghost use Rattle.border_queues.specs.Borders.{image_by, seen_from, sender_of, CoversAround, IsBorder};
 
 use crate::border::Border;
 use crate::error::QueueError;
@@ -60,14 +60,15 @@ pub fn open_edges(
     tell(&border, out)
 }
 
-/// As [`open_edges`], where `patch` stands in place of the image: it has the size of the tile's rectangle grown by one
-/// pixel on each side, as far as the image goes, and beside the tile the image's values. On the tile it may have any.
+/// As [`open_edges`], where `patch` stands in place of the image, and `limits` in place of the mask: each has the size
+/// of the tile's rectangle grown by one pixel on each side, as far as the image goes, and beside the tile the values of
+/// that in whose place it stands. On the tile it may have any.
 ///
 /// Errors: Q1, where `out` keeps its hints. With a room of [`room_for_edges`] it takes no memory.
 pub fn open_edges_around(
     inside: &Grid,
     patch: &View<'_>,
-    mask: &Grid,
+    limits: &View<'_>,
     tiling: &Tiling,
     tile: usize,
     generation: u64,
@@ -75,12 +76,13 @@ pub fn open_edges_around(
     out: &mut Inbox,
 ) -> Result<(), QueueError>
     requires tile { tile < count_of tiling.now }
-    requires mask { IsOnTiling tiling.now mask.now }
     requires size { HasTileSize tiling.now tile inside.now }
     requires patch { HasAroundSize tiling.now tile patch.now }
-    ensures { (image : Pixel → ℕ) → IsRingOf tiling.now tile image patch.now
-        → AddsOrFails out.old out.new (open_edges (sender_by tiling.now conn (value_at mask.now) (with_tile
-        tiling.now tile (value_at inside.now) image) tile generation)) (room_for_edges tiling.now) result }
+    requires limits { HasAroundSize tiling.now tile limits.now }
+    ensures { (image mask : Pixel → ℕ) → IsRingOf tiling.now tile image patch.now
+        → IsRingOf tiling.now tile mask limits.now
+        → AddsOrFails out.old out.new (open_edges (sender_by tiling.now conn mask (with_tile tiling.now tile
+        (value_at inside.now) image) tile generation)) (room_for_edges tiling.now) result }
 {
     each_pixel_in_one_tile();
     edges_begin_in_tile();
@@ -94,9 +96,9 @@ pub fn open_edges_around(
         x: rect.x.saturating_sub(1),
         y: rect.y.saturating_sub(1),
     };
-    let (inside, mask) = (View::of(inside), View::of(mask));
+    let inside = View::of(inside);
     let border = border_of(
-        &inside, first, patch, origin, &mask, tiling, tile, generation, conn, bounds,
+        &inside, first, patch, origin, limits, tiling, tile, generation, conn, bounds,
     );
     tell(&border, out)
 }
@@ -151,8 +153,8 @@ fn tell(border: &Border<'_>, out: &mut Inbox) -> Result<(), QueueError>
     Ok(())
 }
 
-// The border of a tile whose upper left pixel stands at `corner` in `inside`, by a view that begins at the pixel
-// `origin` of the image.
+// The border of a tile whose upper left pixel stands at `corner` in `inside`, by views of image and mask that begin at
+// the pixel `origin` of both.
 fn border_of<'a>(
     inside: &'a View<'a>,
     corner: Pixel,
@@ -166,15 +168,15 @@ fn border_of<'a>(
     bounds: Bounds,
 ) -> Border<'a>
     requires tile { tile < count_of tiling.now }
-    requires mask { IsOnTiling tiling.now mask.now }
-    requires covers { CoversAround tiling.now (rect_of tiling.now tile) origin image.now }
+    requires image { CoversAround tiling.now (rect_of tiling.now tile) origin image.now }
+    requires mask { CoversAround tiling.now (rect_of tiling.now tile) origin mask.now }
     requires lie { LieIn bounds (rect_of tiling.now tile) }
-    requires bounds { EdgesBeginIn (sender_by tiling.now conn (value_at mask.now)
+    requires bounds { EdgesBeginIn (sender_by tiling.now conn (seen_from origin mask.now)
         (image_by tiling.now tile inside.now corner image.now origin) tile generation) bounds }
     requires columns { corner.x + (rect_of tiling.now tile).w ≤ inside.now.width }
     requires rows { corner.y + (rect_of tiling.now tile).h ≤ inside.now.height }
     ensures border { IsBorder result }
-    ensures sender { sender_of result ≡ sender_by tiling.now conn (value_at mask.now)
+    ensures sender { sender_of result ≡ sender_by tiling.now conn (seen_from origin mask.now)
         (image_by tiling.now tile inside.now corner image.now origin) tile generation }
 {
     each_pixel_in_one_tile();

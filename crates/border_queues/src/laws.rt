@@ -10,14 +10,17 @@ use grid_core::laws::{
 pub fn same_image_same_edges()
     ensures { SameImageSameEdges }
 {
+    each_pixel_in_one_tile();
     neighbours_by_rows();
     tiles_lie_inside();
 }
 
-/// Open edges of a tile rest on the values of an image at the tile's pixels and beside it alone.
+/// Open edges of a tile rest on the values of an image at the tile's pixels and beside it, and on those of a mask
+/// beside it, alone.
 pub fn same_around_same_edges()
     ensures { SameAroundSameEdges }
 {
+    each_pixel_in_one_tile();
     neighbours_by_rows();
     tiles_lie_inside();
 }

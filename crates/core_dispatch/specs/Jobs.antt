@@ -1,5 +1,6 @@
 -- What becomes of the tiles that are dirty and not out.
-use Rattle.std.specs.Prelude.{◌≡◌, ℕ, ◌+◌, ◌≤◌, ◌⊎◌, Bool, true, false, List, [], ◌∷◌, ◌++◌, length, Option, Some, sum_by}
+use Rattle.std.specs.Prelude.{◌≡◌, ℕ, ◌+◌, ◌≤◌, ◌⊎◌, Bool, true, false, List, [], ◌∷◌, ◌++◌, length}
+use Rattle.std.specs.Prelude.{Option, Some, sum_by}
 use Rattle.std.specs.List.{list_any}
 use Rattle.tile_generations.specs.Jobs.{Job}
 use Rattle.tile_work.specs.Least.{IsLeastFrom}
@@ -44,8 +45,8 @@ ArePushed from old [] new = new ≡ old
 ArePushed from old ((t, pushing) ∷ tiles) new =
     (from ≤ t) × ((next : Dispatcher) × IsPushed t old pushing next × ArePushed (t + 1) next tiles new)
 
--- the answer is the next tile, from this one on, that can be taken. Either nothing else happened; or the tiles that can be
--- taken before it were passed over, where as many jobs were pushed as surely find a place
+-- the answer is the next tile, from this one on, that can be taken. Either nothing else happened; or the tiles that can
+-- be taken before it were passed over, where as many jobs were pushed as surely find a place
 abbrev pub IsNextTile : ℕ → Option ℕ → Dispatcher → Dispatcher → Type 0
 IsNextTile from answer old new =
     ((new ≡ old) × IsLeastFrom (IsReady old.books.core) from answer)

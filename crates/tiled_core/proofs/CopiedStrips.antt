@@ -6,10 +6,11 @@ use Rattle.std.proofs.lemmas.Nat.{mul-add-lt, mul-le, row_fits_turned}
 use borrow.Rule.Slice.PartMut.{put_mid}
 use Rattle.grid_core.specs.{declared.pixel.Pixel.Pixel, declared.rect.Rect.Rect}
 use Rattle.grid_core.specs.Raster.{Raster, index_of, value_at}
-use Rattle.grid_core.specs.Rects.{IsInRect, IsRowOf, RectFits, part}
+use Rattle.grid_core.specs.Rects.{IsInRect, IsRowOf, part}
 use Rattle.grid_core.proofs.Pixels.{same_pixel}
 use Rattle.row_scans.proofs.Replacing.{IsReplaced, replaced_mid}
-use Rattle.tiled_core.specs.Shown.{CanCopy, IsStripCopied, cell_in, place_in, value_in}
+use Rattle.tile_work.proofs.Parts.{get_or_part}
+use Rattle.tiled_core.specs.Shown.{CanCopy, IsStripCopied, as_image, cell_in, place_in, value_in}
 use Rattle.tiled_core.proofs.Places.{in_wider}
 
 -- ---- places in rows of `w` cells, of which row `row` has a part that begins at a column
@@ -75,15 +76,19 @@ none_copied strip value shown cells = record {
   beyond = λ p there outside. refl;
 }
 
-module _ (strip : Rect) (source : Raster) (from to : Rect) (count : ℕ) (can : CanCopy strip source from to count) where
-  pub strip_fits : RectFits source.width source.height (strip_in from strip)
-  strip_fits = record {
-    some_width = can.some_width;
-    some_height = can.some_height;
-    columns = omega (arith, can.width, can.lies_from.0, can.lies_from.1);
-    rows = omega (arith, can.height, can.lies_from.2, can.lies_from.3);
-  }
+-- a row of cells that show a rectangle, from the strip's first column on
+pub row_of_cells : (strip from : Rect) (cells : List ℕ) (y first : ℕ)
+    → first ≡ (strip.y - from.y + y) * from.w + (strip.x - from.x) → first + strip.w ≤ length cells
+    → IsRowOf strip.w (part (strip_in from strip) (value_at (as_image from cells))) y
+    (slice_range cells first (first + strip.w))
+row_of_cells strip from cells y first first_is within = record {
+  long = part_long cells first strip.w within;
+  values = λ x column.
+      get_or_part cells first (first + strip.w) (omega arith) within x 0 (omega (arith, column))
+      ∙ ap (λ i. get_or cells i 0) (omega (arith, first_is));
+}
 
+module _ (strip : Rect) (source : Raster) (from to : Rect) (count : ℕ) (can : CanCopy strip source from to count) where
   across : strip.x - to.x + strip.w ≤ to.w
   across = omega (arith, can.lies_to.0, can.lies_to.1)
 
@@ -91,6 +96,13 @@ module _ (strip : Rect) (source : Raster) (from to : Rect) (count : ℕ) (can : 
   row_within y below =
       row_ends_within to.w (strip.y - to.y + y) (strip.x - to.x) strip.w to.h count
       (omega (arith, below, can.lies_to.2, can.lies_to.3)) across can.room
+
+  -- so does each row in cells that show the source's rectangle
+  pub row_within_source : (cells : ℕ) → from.w * from.h ≤ cells → (y : ℕ) → y < strip.h
+      → row_start strip from y + strip.w ≤ cells
+  row_within_source cells room y below =
+      row_ends_within from.w (strip.y - from.y + y) (strip.x - from.x) strip.w from.h cells
+      (omega (arith, below, can.lies_from.2, can.lies_from.3)) (omega (arith, can.lies_from.0, can.lies_from.1)) room
 
   module _ (old mid new row : List ℕ) (y : ℕ) (below : y < strip.h)
       (is_row : IsRowOf strip.w (part (strip_in from strip) (value_at source)) y row)

@@ -10,10 +10,14 @@ pub mod KeptTiles
 pub mod WrittenTiles
 pub mod KeptPixels
 pub mod SharedCopies
+pub mod AllKept
 pub mod UpdatedCopies
-pub mod RingTiles
 pub mod ShownParts
 pub mod RenewedTiles
+pub mod Strips
+pub mod TileRims
+pub mod StripCopies
+pub mod RingTiles
 pub mod StoredCore
 pub mod HandedOver
 pub mod JoinedTiles

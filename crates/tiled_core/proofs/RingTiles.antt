@@ -4,7 +4,7 @@ use Rattle.std.proofs.Common.{arith, refl, ◌↔◌, Contains, le_trans, slice_
 use Rattle.std.proofs.lemmas.{Bool.cases_eq, Bool.cases_lt, List.get_or_default, Nat.mul-le}
 use Rattle.grid_core.specs.{declared.conn.Conn.TheVariants.Eight, declared.pixel.Pixel.Pixel, declared.rect.Rect.Rect}
 use Rattle.grid_core.specs.{declared.bounds.Bounds.Bounds, Neighbours.AreNeighbours, Neighbours.apart}
-use Rattle.grid_core.specs.Bounds.{AreEmpty, bounds_of, intersection, rect_within}
+use Rattle.grid_core.specs.Bounds.{AreEmpty, LieIn, bounds_of, intersection, rect_within}
 use Rattle.grid_core.specs.Raster.{Raster, IsImageSize, IsInside, value_at}
 use Rattle.grid_core.specs.Rects.{IsInRect, RectFits}
 use Rattle.grid_core.specs.Tiles.{Tiles, IsTiled, AreTouching, count_of, rect_of, tile_of}
@@ -12,8 +12,9 @@ use Rattle.grid_core.proofs.{Rectangles.in_rect_inside, Tilings.neighbours_lie_i
 use Rattle.grid_core.proofs.Tilings.{tiles_lie_inside}
 use Rattle.border_queues.specs.Around.{around_of, widened}
 use Rattle.tiled_core.specs.Ring.{HasRing, IsShownWhere}
-use Rattle.tiled_core.specs.Shown.{CanCopy, IsStripCopied, Shows, cell_in, value_in}
-use Rattle.tiled_core.proofs.Places.{rect_from_tile, tile_from_rect, tile_within}
+use Rattle.tiled_core.specs.Rims.{IsEdgeBeside, strip_at}
+use Rattle.tiled_core.specs.{declared.rims.Edge.Edge, Shown.CanCopy, Shown.IsStripCopied, Shown.as_image, Shown.cell_in}
+use Rattle.tiled_core.proofs.Places.{in_wider, rect_from_tile, tile_from_rect, tile_within}
 
 -- ---- a rectangle with its border
 
@@ -84,6 +85,14 @@ ring_touches tiling tile p tiled within near outside =
       | inr touch ↦ (inside, subst (λ t. AreTouching tiling t (tile_of tiling p)) own touch)
     ]
 
+-- the strip of a rectangle at an edge has each of its pixels that lie around another one
+pub beside_has : (width height : ℕ) (rect own : Rect) (edge : Edge) → IsEdgeBeside rect own edge → (p : Pixel)
+    → IsInRect (widened width height own) p → IsInRect rect p → IsInRect (strip_at edge rect) p
+beside_has width height rect own edge at p near inside =
+    let (left, right) = near_border own.x own.w width p.x near.0 near.1 in
+    let (above, below) = near_border own.y own.h height p.y near.2 near.3 in
+    at p inside left right above below
+
 -- ---- the pixels of a rectangle that lie in another one
 
 -- these pixels, where there are some
@@ -124,67 +133,72 @@ some_in bounds some = (
   ],
 )
 
--- the part that both spans have lies in each place where the first or the second lies
-common_lies : (a m b n from size : ℕ) → max a b < min (a + m) (b + n) → from ≤ a → a + m ≤ from + size
-    → (from ≤ max a b) × (max a b + (min (a + m) (b + n) - max a b) ≤ from + size)
-common_lies a m b n from size some low high = (omega arith, omega arith)
+-- the part that both spans have lies in the first and in the second
+common_lies : (a m b n : ℕ) → max a b < min (a + m) (b + n)
+    → (a ≤ max a b) × (max a b + (min (a + m) (b + n) - max a b) ≤ a + m)
+common_lies a m b n some = (omega arith, omega arith)
 
 common_lies_too : (a m b n : ℕ) → max a b < min (a + m) (b + n)
     → (b ≤ max a b) × (max a b + (min (a + m) (b + n) - max a b) ≤ b + n)
 common_lies_too a m b n some = (omega arith, omega arith)
 
-module _ (rect shown : Rect) (whole : Raster) where
-  none_common : AreEmpty (intersection (bounds_of rect) (bounds_of shown)) → (p : Pixel) → IsInRect shown p
+-- a strip of a rectangle, which has each pixel of the rectangle that is to be shown
+module _ (rect strip shown : Rect) (lies : LieIn (bounds_of strip) rect)
+    (has : (p : Pixel) → IsInRect shown p → IsInRect rect p → IsInRect strip p) where
+  none_common : AreEmpty (intersection (bounds_of strip) (bounds_of shown)) → (p : Pixel) → IsInRect shown p
       → IsInRect rect p → ⊥
   none_common empty p in_shown in_rect =
-      let there = in_common rect shown p in_rect in_shown in
+      let there = in_common strip shown p (has p in_shown in_rect) in_shown in
       elim empty [
         | inl columns ↦ omega (arith, columns, there.0, there.1)
         | inr rows ↦ omega (arith, rows, there.2, there.3)
       ]
 
   -- where there are none, nothing is to be shown
-  pub none_shown : AreEmpty (intersection (bounds_of rect) (bounds_of shown)) → (cells : List ℕ)
+  pub none_shown : AreEmpty (intersection (bounds_of strip) (bounds_of shown)) → (whole : Raster) (cells : List ℕ)
       → IsShownWhere rect whole shown cells cells
-  none_shown empty cells = record {
+  none_shown empty whole cells = record {
     count = refl;
     inside = λ p in_shown in_rect. absurd (none_common empty p in_shown in_rect);
     beyond = λ p in_shown outside. refl;
   }
 
-  -- they are copied from what shows the rectangle
-  pub can_copy_common : (source : Raster) (from : Rect) (width height count : ℕ)
-      → (AreEmpty (intersection (bounds_of rect) (bounds_of shown)) → ⊥) → Shows rect whole source from
-      → RectFits width height shown → IsImageSize width height → shown.w * shown.h ≤ count
-      → CanCopy (common rect shown) source from shown count
-  can_copy_common source from width height count some shows fits size room =
-      let (columns, rows) = some_in (intersection (bounds_of rect) (bounds_of shown)) some in
-      let across = common_lies rect.x rect.w shown.x shown.w from.x from.w columns shows.lies.0 shows.lies.1 in
-      let down = common_lies rect.y rect.h shown.y shown.h from.y from.h rows shows.lies.2 shows.lies.3 in
-      let across_to = common_lies_too rect.x rect.w shown.x shown.w columns in
-      let down_to = common_lies_too rect.y rect.h shown.y shown.h rows in
-      let wide : shown.w ≤ width = omega (arith, fits.columns) in
-      let high : shown.h ≤ height = omega (arith, fits.rows) in
-      record {
-        width = shows.width;
-        height = shows.height;
-        some_width = omega (arith, columns);
-        some_height = omega (arith, rows);
-        lies_from = (across.0, across.1, down.0, down.1);
-        lies_to = (across_to.0, across_to.1, down_to.0, down_to.1);
-        room = room;
-        small = le_trans (mul-le shown.w shown.h width height wide high) size.pixels_within;
-      }
-
-  pub common_shown : (source : Raster) (from : Rect) (old new : List ℕ) → Shows rect whole source from
-      → IsStripCopied (common rect shown) (value_in from source) shown old new
-      → IsShownWhere rect whole shown old new
-  common_shown source from old new shows copied = record {
+  -- else they are shown once they are copied
+  pub common_shown : (whole : Raster) (value : Pixel → ℕ) (old new : List ℕ)
+      → ((p : Pixel) → IsInRect strip p → value p ≡ value_at whole p)
+      → IsStripCopied (common strip shown) value shown old new → IsShownWhere rect whole shown old new
+  common_shown whole value old new values copied = record {
     count = copied.count;
     inside = λ p in_shown in_rect.
-        copied.inside p (in_common rect shown p in_rect in_shown) ∙ shows.values p in_rect;
-    beyond = λ p in_shown outside. copied.beyond p in_shown (λ there. outside (of_common rect shown p there));
+        let in_strip = has p in_shown in_rect in
+        copied.inside p (in_common strip shown p in_strip in_shown) ∙ values p in_strip;
+    beyond = λ p in_shown outside.
+        copied.beyond p in_shown (λ there. outside (in_wider strip rect p lies (of_common strip shown p there)));
   }
+
+-- they can be copied from cells that show the strip
+pub can_copy_common : (strip shown : Rect) (cells : List ℕ) (width height count : ℕ)
+    → (AreEmpty (intersection (bounds_of strip) (bounds_of shown)) → ⊥) → RectFits width height shown
+    → IsImageSize width height → shown.w * shown.h ≤ count
+    → CanCopy (common strip shown) (as_image strip cells) strip shown count
+can_copy_common strip shown cells width height count some fits size room =
+    let (columns, rows) = some_in (intersection (bounds_of strip) (bounds_of shown)) some in
+    let across = common_lies strip.x strip.w shown.x shown.w columns in
+    let down = common_lies strip.y strip.h shown.y shown.h rows in
+    let across_to = common_lies_too strip.x strip.w shown.x shown.w columns in
+    let down_to = common_lies_too strip.y strip.h shown.y shown.h rows in
+    let wide : shown.w ≤ width = omega (arith, fits.columns) in
+    let high : shown.h ≤ height = omega (arith, fits.rows) in
+    record {
+      width = refl;
+      height = refl;
+      some_width = omega (arith, columns);
+      some_height = omega (arith, rows);
+      lies_from = (across.0, across.1, down.0, down.1);
+      lies_to = (across_to.0, across_to.1, down_to.0, down_to.1);
+      room = room;
+      small = le_trans (mul-le shown.w shown.h width height wide high) size.pixels_within;
+    }
 
 -- ---- tile after tile
 

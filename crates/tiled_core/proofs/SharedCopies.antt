@@ -5,10 +5,10 @@ use Rattle.std.proofs.lemmas.List.{length-replicate}
 use Rattle.grid_core.specs.{declared.pixel.Pixel.Pixel, Raster.Raster, Raster.IsInside, Raster.value_at}
 use Rattle.grid_core.specs.Tiles.{Tiles, count_of, tile_of}
 use Rattle.tile_work.specs.TileSet.{Has}
-use Rattle.tiled_core.specs.TiledImage.{IsKeptAs, IsOfTiling}
+use Rattle.tiled_core.specs.TiledImage.{IsOfTiling}
 use Rattle.tiled_core.specs.SharedCopies.{AreCopies, Copies, HasEither, HaveChanged, IsCopyBut, IsKeptLast}
-use Rattle.tiled_core.specs.SharedCopies.{IsKeptWithCopies, IsOldestTaken, no_copies}
-use Rattle.tiled_core.proofs.KeptImages.{image_is, is_kept, none_is_no_part, same_part}
+use Rattle.tiled_core.specs.SharedCopies.{IsOldestTaken, no_copies}
+use Rattle.tiled_core.proofs.KeptImages.{none_is_no_part, same_part}
 
 -- ---- one copy
 
@@ -130,14 +130,3 @@ module _ {tiling : Tiles} {whole : Raster} {old : Copies} (copies : AreCopies ti
         more_but (HasEither old.older_changed old.changed) (HasEither new.oldest_changed new.changed) tiling whole other
         (λ t either. inl ((done.oldest_changed.each t).1 either)) (copies.older other (sym done.oldest ∙ there));
   }
-
--- ---- with what is kept
-
--- what is kept is the image of which these are copies
-pub with_copies : {whole : Raster} {tiling : Tiles} {rows : Raster} {parts : List (Option Raster)} {newer : List Bool}
-    → {copies : Copies} → IsKeptAs whole tiling rows parts newer → AreCopies tiling whole copies
-    → IsKeptWithCopies tiling rows parts newer copies
-with_copies {whole} {tiling} {rows} {parts} {newer} {copies} kept are = record {
-  kept = is_kept kept;
-  copies_are = subst (λ (r : Raster). AreCopies tiling r copies) (sym (image_is kept)) are;
-}

@@ -26,6 +26,8 @@ pub mod Shown
 pub mod TileParts
 pub mod TiledImage
 pub mod SharedCopies
+pub mod Rims
+pub mod AllKept
 pub mod Ring
 pub mod Lending
 pub mod Stored

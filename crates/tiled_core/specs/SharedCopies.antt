@@ -5,7 +5,7 @@ use Rattle.grid_core.specs.Raster.{Raster, IsInside, value_at}
 use Rattle.grid_core.specs.Rects.{IsInRect, IsPatch}
 use Rattle.grid_core.specs.Tiles.{Tiles, count_of, tile_of}
 use Rattle.tile_work.specs.TileSet.{Has, HasGained}
-use Rattle.tiled_core.specs.TiledImage.{IsKept, IsOfTiling, image_of}
+use Rattle.tiled_core.specs.TiledImage.{IsOfTiling}
 
 -- the last three copies that were given out, as far as they are still there, and the tiles that changed: since the last
 -- one was made, between the older one and the last, and between the oldest one and the last
@@ -50,12 +50,6 @@ pub record AreCopies (tiling : Tiles) (whole : Raster) (copies : Copies) : Type 
       → IsCopyBut (HasEither copies.older_changed copies.changed) tiling whole copy
   pub oldest : (copy : Raster) → copies.oldest ≡ Some copy
       → IsCopyBut (HasEither copies.oldest_changed copies.changed) tiling whole copy
-
--- some image is kept as rows and parts, and these are copies of it
-pub record IsKeptWithCopies (tiling : Tiles) (rows : Raster) (parts : List (Option Raster)) (newer : List Bool)
-    (copies : Copies) : Type 0 where
-  pub kept : IsKept tiling rows parts newer
-  pub copies_are : AreCopies tiling (image_of tiling rows parts newer) copies
 
 -- ---- what becomes of them
 

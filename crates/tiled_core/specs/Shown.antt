@@ -17,6 +17,10 @@ value_in shown image p = value_at image (place_in shown p)
 abbrev pub cell_in : Rect → List ℕ → Pixel → ℕ
 cell_in shown cells p = slice_index cells (index_of shown.w (place_in shown p))
 
+-- cells that show the rectangle row by row, as an image by themselves
+abbrev pub as_image : Rect → List ℕ → Raster
+as_image shown cells = record { width = shown.w; height = shown.h; cells = cells }
+
 -- the source shows a rectangle in which this one lies, and has the whole image's values at its pixels
 pub record Shows (rect : Rect) (whole source : Raster) (shown : Rect) : Type 0 where
   pub width : source.width ≡ shown.w

@@ -1,9 +1,9 @@
 //! Strips of an image, copied from what shows one rectangle of it to what shows another.
 
-ghost use Rattle.std.specs.Prelude.{◌≡◌, length};
+ghost use Rattle.std.specs.Prelude.{◌≡◌, ◌*◌, ◌≤◌, length};
 ghost use Rattle.grid_core.specs.Raster.{IsInside};
 ghost use Rattle.grid_core.specs.Rects.{IsInRect};
-ghost use Rattle.tiled_core.specs.Shown.{CanCopy, IsStripCopied, place_in, value_in};
+ghost use Rattle.tiled_core.specs.Shown.{CanCopy, IsStripCopied, as_image, cell_in, place_in, value_in};
 
 use grid_core::{Grid, Pixel, Rect};
 
@@ -25,18 +25,27 @@ pub(crate) fn copy_strip(strip: Rect, source: &Grid, from: Rect, cells: &mut [u1
     requires { CanCopy strip source.now from to (length cells.old) }
     ensures { IsStripCopied strip (value_in from source.now) to cells.old cells.new }
 {
-    let inner = Rect {
-        x: strip.x - from.x,
-        y: strip.y - from.y,
-        w: strip.w,
-        h: strip.h,
-    };
+    copy_cells(strip, source.cells(), from, cells, to);
+}
+
+/// Copies a strip of an image from cells that show the rectangle `from` of it row by row into cells that show the
+/// rectangle `to` of it so.
+pub(crate) fn copy_cells(strip: Rect, source: &[u16], from: Rect, cells: &mut [u16], to: Rect)
+    requires strip { CanCopy strip (as_image from source.now) from to (length cells.old) }
+    requires room { from.w * from.h ≤ length source.now }
+    ensures { IsStripCopied strip (cell_in from source.now) to cells.old cells.new }
+{
+    let width = strip.w as usize;
+    let left_from = strip.x - from.x;
+    let top_from = strip.y - from.y;
     let left = strip.x - to.x;
     let top = strip.y - to.y;
     for y in 0..strip.h {
+        let first = (top_from + y) as usize * from.w as usize + left_from as usize;
+        let last = first + width;
         let start = (top + y) as usize * to.w as usize + left as usize;
-        let end = start + strip.w as usize;
-        copy_row(&mut cells[start..end], source.row_in(inner, y));
+        let end = start + width;
+        copy_row(&mut cells[start..end], &source[first..last]);
     }
 }
 

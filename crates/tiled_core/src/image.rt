@@ -12,6 +12,7 @@ ghost use Rattle.tiled_core.specs.TiledImage.{IsOfTiling, tiled_raster};
 
 use crate::copies::place_in;
 use crate::keeping::{set_value, write_newer};
+use crate::rims::Rims;
 use crate::shared_copies::SharedCopies;
 use crate::tile_parts::TileParts;
 use grid_core::{Grid, Memory, Pixel, Rect, Tiling};
@@ -39,17 +40,19 @@ pub struct TiledImage {
     newer: TileSet,
     // The last copies that were given out.
     copies: SharedCopies,
+    // Of each tile its first and last row and column, for what lies around a tile.
+    rims: Rims,
 }
 
 impl Model for TiledImage {
-    ghost use Rattle.tiled_core.specs.SharedCopies.{IsKeptWithCopies};
+    ghost use Rattle.tiled_core.specs.AllKept.{IsKeptWithAll};
     ghost use Rattle.tiled_core.specs.TiledImage.{TiledRaster, image_of, tiled_raster};
 
     ghost Value = { TiledRaster };
 
     ghost view = { λ i. tiled_raster i.tiling (image_of i.tiling i.rows i.parts i.newer) };
 
-    ghost invariant = { λ i. IsKeptWithCopies i.tiling i.rows i.parts i.newer i.copies };
+    ghost invariant = { λ i. IsKeptWithAll i.tiling i.rows i.parts i.newer i.copies i.rims };
 }
 
 impl TiledImage {
@@ -73,6 +76,10 @@ impl TiledImage {
             Ok(copies) => copies,
             Err(why) => return Err((rows, why)),
         };
+        let rims = match Rims::of(alloc, &tiling, &rows) {
+            Ok(rims) => rims,
+            Err(why) => return Err((rows, why)),
+        };
         match TileSet::empty(alloc, count) {
             Ok(newer) => Ok(TiledImage {
                 tiling,
@@ -80,6 +87,7 @@ impl TiledImage {
                 parts,
                 newer,
                 copies,
+                rims,
             }),
             Err(why) => Err((rows, why)),
         }
@@ -143,6 +151,7 @@ impl TiledImage {
             value,
         );
         self.copies.mark(tile);
+        self.rims.set(&self.tiling, tile, rect, p, value);
     }
 
     /// The part of the image in a tile, if it was cut out or put in.
@@ -181,6 +190,8 @@ impl TiledImage {
     {
         // For its clause alone: the part has a value for each pixel.
         let _ = part.width();
+        self.rims
+            .take(&self.tiling, tile, &part, self.tiling.rect(tile));
         self.parts.put(tile, part);
         self.newer.insert(tile);
         self.copies.mark(tile);
@@ -229,7 +240,8 @@ impl TiledImage {
         (tile, tiling.rect(tile))
     }
 
-    // What has the values of a tile, behind the rectangle that it shows: the tile's part if there is one, else the rows.
+    // What has the values of a tile, behind the rectangle that it shows: the tile's part if there is one, else the
+    // rows.
     fn source(&self, tile: usize) -> (Rect, &Grid)
         requires { tile < count_of self.now.tiling }
         ensures { Shows (rect_of self.now.tiling tile) self.now.image result.1.now result.0 }

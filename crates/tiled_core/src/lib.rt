@@ -22,13 +22,15 @@
 //! contracts see, for keepers that give jobs to others. It is made of a `Core`, and is one again in the end.
 //!
 //! Read on in `specs/Stored.antt`, which says which core is kept; in `specs/TiledImage.antt`, which says which image;
-//! in `specs/Shown.antt` for what shows a part of an image; and in `specs/Ring.antt` for the pixels around a tile.
+//! in `specs/Shown.antt` for what shows a part of an image; and in `specs/Ring.antt` for the pixels around a tile,
+//! which are read from the rims of `specs/Rims.antt`.
 
 mod beside;
 mod copies;
 mod image;
 mod keeping;
 mod replica;
+mod rims;
 mod shared_copies;
 mod tile_parts;
 mod updating;

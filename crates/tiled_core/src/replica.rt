@@ -15,6 +15,7 @@ ghost use Rattle.reset_core.specs.Answers.{IsImageOf};
 
 use crate::beside::BesideJobs;
 use crate::image::TiledImage;
+use crate::rims::Rims;
 use grid_core::{Conn, Grid, Memory, Pixel, Tiling};
 use marker_tiles::Markers;
 use std::alloc::Global;
@@ -54,6 +55,10 @@ pub struct TiledCore {
     beside: BesideJobs,
     // Room for the pixels beside a tile, which is used for one tile after another.
     ring: Vec<u16>,
+    // The rims of the mask's tiles, which never change.
+    mask_rims: Rims,
+    // Room for the mask beside a tile, as `ring` is for the image.
+    limits: Vec<u16>,
 }
 
 impl Model for TiledCore {

@@ -89,8 +89,8 @@ impl Core {
     }
 }
 
-/// Makes marker, image and work those of the strokes as they are now, where the tiles that are reset are marked. No mark
-/// is left.
+/// Makes marker, image and work those of the strokes as they are now, where the tiles that are reset are marked. No
+/// mark is left.
 pub fn renew(
     marks: &mut TileSet,
     image: &mut Grid,

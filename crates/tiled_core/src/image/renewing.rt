@@ -5,11 +5,13 @@ ghost use Rattle.grid_core.specs.Tiles.{count_of};
 ghost use Rattle.reset_core.specs.Bounding.{FollowResets};
 ghost use Rattle.reset_core.specs.MergeSteps.{AreRenewed, CanRenew};
 ghost use Rattle.tile_work.specs.WorkTable.{IsDirtyTile};
-ghost use Rattle.tiled_core.specs.TileParts.{AreLetGo};
+ghost use Rattle.tiled_core.specs.{Rims.AreTaken, Rims.room_of, TileParts.AreLetGo};
 
 use super::TiledImage;
 use crate::keeping::write_newer;
+use crate::rims::Rims;
 use crate::tile_parts::TileParts;
+use grid_core::{Grid, Tiling};
 use marker_tiles::Markers;
 use reset_core::renew;
 use stroke_lattice::{Change, State};
@@ -42,6 +44,7 @@ impl TiledImage {
         renew(marks, &mut self.rows, markers, work, bounds, state, change);
         let_dirty_go(&mut self.parts, work);
         self.copies.mark_dirty(work);
+        take_dirty(&mut self.rims, &self.tiling, &self.rows, work);
     }
 }
 
@@ -55,6 +58,24 @@ fn let_dirty_go(parts: &mut TileParts, work: &WorkTable)
     let mut next = 0;
     while let Some(tile) = work.next_dirty(next) {
         parts.remove(tile);
+        next = tile + 1;
+    }
+}
+
+// Takes over the rims of the dirty tiles from the image. It costs about these tiles.
+fn take_dirty(rims: &mut Rims, tiling: &Tiling, image: &Grid, work: &WorkTable)
+    requires count { length rims.old ≡ room_of tiling.now }
+    requires work { length work.now ≡ count_of tiling.now }
+    requires width { image.now.width ≡ tiling.now.width }
+    requires height { image.now.height ≡ tiling.now.height }
+    ensures { AreTaken (IsDirtyTile work.now) tiling.now image.now rims.old rims.new }
+{
+    // For their clauses alone: how the image is cut into tiles, and that there are no more than a `usize` counts.
+    let _ = tiling.side();
+    let _ = work.len();
+    let mut next = 0;
+    while let Some(tile) = work.next_dirty(next) {
+        rims.take_whole(tiling, tile, image);
         next = tile + 1;
     }
 }

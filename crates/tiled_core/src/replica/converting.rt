@@ -1,11 +1,12 @@
 //! Cores whose image is cut into tiles, and put together again.
 
-ghost use Rattle.std.specs.Prelude.{◌≡◌, IfErr, IfOk};
+ghost use Rattle.std.specs.Prelude.{◌≡◌, ◌+◌, ◌*◌, IfErr, IfOk, vec_len};
 
 use super::TiledCore;
 use crate::beside::BesideJobs;
 use crate::image::TiledImage;
-use grid_core::Memory;
+use crate::rims::Rims;
+use grid_core::{Memory, Tiling};
 use reset_core::{Core, CoreParts};
 use std::alloc::Global;
 
@@ -18,8 +19,13 @@ impl TiledCore {
         ensures returned { IfErr result (λ e. e.0 ≡ core) }
     {
         let tiling = core.tiling();
-        let side = tiling.side() + 2;
-        let Ok(ring) = vec![in alloc; 0; side as usize * side as usize] else {
+        let Ok(ring) = room_around(alloc, &tiling) else {
+            return Err((core, Memory));
+        };
+        let Ok(limits) = room_around(alloc, &tiling) else {
+            return Err((core, Memory));
+        };
+        let Ok(mask_rims) = Rims::of(alloc, &tiling, core.mask()) else {
             return Err((core, Memory));
         };
         let Ok(beside) = BesideJobs::none(alloc, tiling.count()) else {
@@ -52,6 +58,8 @@ impl TiledCore {
                     queue,
                     beside,
                     ring,
+                    mask_rims,
+                    limits,
                 };
                 tiled.cut(alloc)
             }
@@ -104,4 +112,15 @@ impl TiledCore {
         };
         parts.into_core()
     }
+}
+
+// Room for a tile and the pixels around it.
+//
+// Errors: out of memory.
+fn room_around(alloc: Global, tiling: &Tiling) -> Result<Vec<u16>, Memory>
+    ensures { IfOk result (λ cells. vec_len cells ≡ (tiling.now.side + 2) * (tiling.now.side + 2)) }
+{
+    let side = tiling.side() as usize + 2;
+    let cells = vec![in alloc; 0; side * side]?;
+    Ok(cells)
 }

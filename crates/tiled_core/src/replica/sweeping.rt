@@ -273,14 +273,15 @@ impl TiledCore {
         edges_are_open();
         same_image_same_edges();
         let tile = swept.ticket().tile;
-        let mask = self.markers.mask();
         let tiling = self.markers.tiling();
         let generation = self.work.generation(tile);
         let around = around_of(&tiling, tile);
         self.image.fill_ring(tile, &mut self.ring);
+        self.mask_rims.fill_ring(&tiling, tile, &mut self.limits);
         let ring = patch(&self.ring, around);
+        let limits = patch(&self.limits, around);
         let Ok(()) = open_edges_around(
-            raised, &ring, mask, &tiling, tile, generation, self.conn, &mut inbox,
+            raised, &ring, &limits, &tiling, tile, generation, self.conn, &mut inbox,
         ) else {
             return Err(Memory);
         };

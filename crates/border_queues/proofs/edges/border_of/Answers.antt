@@ -1,5 +1,5 @@
 use Rattle.std.proofs.Common.{◌≡◌, sym, subst, ◌↔◌}
-use Rattle.grid_core.specs.{declared.rect.Rect.Rect, Rects.IsInRect, Tiles.tile_of}
+use Rattle.grid_core.specs.{declared.rect.Rect.Rect, Raster.Raster, Rects.IsInRect, Tiles.tile_of, Tiles.rect_of}
 use Rattle.border_queues.specs.Borders.{CoversAround}
 use Rattle.border_queues.proofs.edges.border_of.Goals as goal
 
@@ -9,11 +9,14 @@ returns-clause-border c =
     let tile = c.args.tile in
     let same = c.rect-rect.ensures.value in
     let fits = c.rect-rect.ensures.fits in
+    let covers : (view : Raster) → CoversAround t (rect_of t tile) c.args.origin view
+    → CoversAround t c.rect-rect.result c.args.origin view =
+    λ view. subst (λ (rect : Rect). CoversAround t rect c.args.origin view) (sym same) in
     record {
       tiled = c.side.ensures.tiled;
       rect = same;
-      mask = c.requires.mask;
-      image = subst (λ (rect : Rect). CoversAround t rect c.args.origin c.args.image.now) (sym same) c.requires.covers;
+      mask = covers c.args.mask.now c.requires.mask;
+      image = covers c.args.image.now c.requires.image;
       inside = c.width.ensures.sized.size;
       inside_columns = rw same c.requires.columns;
       inside_rows = rw same c.requires.rows;

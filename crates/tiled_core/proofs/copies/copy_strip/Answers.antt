@@ -1,54 +1,32 @@
 -- What the tactics leave open of `copy_strip`.
-use Rattle.std.proofs.Common.{◌≡◌, ℕ, ◌+◌, ◌≤◌, List, length, sym, subst, ◌∙◌, arith}
-use Rattle.grid_core.specs.{Raster.value_at, Rects.IsRowOf, Rects.part}
-use Rattle.tiled_core.specs.Shown.{IsStripCopied, value_in}
-use Rattle.tiled_core.proofs.CopiedStrips.{none_copied, part_long, part_replaced, row_copied, row_start, row_within}
-use Rattle.tiled_core.proofs.CopiedStrips.{strip_fits, strip_in}
+use Rattle.std.proofs.Common.{◌≡◌, ℕ, ◌*◌, length, slice_index, ap, sym, subst, ◌∙◌, refl, le_of_eq}
+use Rattle.grid_core.specs.{declared.pixel.Pixel.Pixel, Raster.index_of}
+use Rattle.tiled_core.specs.Shown.{IsStripCopied, place_in}
 use Rattle.tiled_core.proofs.copies.copy_strip.Goals as goal
 
-pub loop-y-init : goal.loop-y-init
-loop-y-init c = none_copied c.args.strip (value_in c.args.from c.args.source.now) c.args.to c.args.cells.now
+pub copy_cells-requires-clause-strip : goal.copy_cells-requires-clause-strip
+copy_cells-requires-clause-strip c =
+    let can = c.requires in
+    record {
+      width = refl;
+      height = refl;
+      some_width = can.some_width;
+      some_height = can.some_height;
+      lies_from = can.lies_from;
+      lies_to = can.lies_to;
+      room = can.room;
+      small = can.small;
+    }
 
-pub row_in-requires-clause-fits : goal.row_in-requires-clause-fits
-row_in-requires-clause-fits c =
-    strip_fits c.args.strip c.args.source.now c.args.from c.args.to (length c.args.cells.now) c.requires
-
--- each row of the strip ends within the cells
-pub slice_bounds-copy_row-end : goal.slice_bounds-copy_row-end
-slice_bounds-copy_row-end c =
-    let a = c.args in
-    let start = row_start a.strip a.to c.loop-y.y in
-    subst (λ n. start + a.strip.w ≤ n) (sym c.loop-y.invariant.count)
-    (row_within a.strip a.source.now a.from a.to (length a.cells.now) c.requires c.loop-y.y c.loop-y-test.true)
-
-pub copy_row-requires : goal.copy_row-requires
-copy_row-requires c =
-    let a = c.args in
-    let start = row_start a.strip a.to c.loop-y.y in
-    let within : start + a.strip.w ≤ length c.loop-y.cells =
-    subst (λ n. start + a.strip.w ≤ n) (sym c.loop-y.invariant.count)
-    (row_within a.strip a.source.now a.from a.to (length a.cells.now) c.requires c.loop-y.y c.loop-y-test.true) in
-    part_long c.loop-y.cells start a.strip.w within ∙ sym c.row_in.ensures.long
-
-pub loop-y-preserved : goal.loop-y-preserved
-loop-y-preserved c =
-    let a = c.args in
-    let y = c.loop-y.y in
-    let start = row_start a.strip a.to y in
-    let row = c.copy_row.new.cells in
-    let below = c.loop-y-test.true in
-    let within : start + a.strip.w ≤ length c.loop-y.cells =
-    subst (λ n. start + a.strip.w ≤ n) (sym c.loop-y.invariant.count)
-    (row_within a.strip a.source.now a.from a.to (length a.cells.now) c.requires y below) in
-    let is_row : IsRowOf a.strip.w (part (strip_in a.from a.strip) (value_at a.source.now)) y row =
-    subst (λ (r : List ℕ). IsRowOf a.strip.w (part (strip_in a.from a.strip) (value_at a.source.now)) y r)
-    (sym c.copy_row.ensures) c.row_in.ensures in
-    row_copied a.strip a.source.now a.from a.to (length a.cells.now) c.requires a.cells.now c.loop-y.cells _ row y below
-    is_row (part_replaced start a.strip.w row c.loop-y.cells is_row.long within) c.loop-y.invariant
+pub copy_cells-requires-clause-room : goal.copy_cells-requires-clause-room
+copy_cells-requires-clause-room c =
+    let sides : c.args.source.now.width * c.args.source.now.height ≡ c.args.from.w * c.args.from.h =
+    λ i. c.requires.width i * c.requires.height i in
+    le_of_eq (sym (ap length c.cells.ensures.values ∙ c.cells.ensures.sized.filled ∙ sides))
 
 pub returns : goal.returns
 returns c =
     let a = c.args in
-    let end : c.loop-y.y ≡ a.strip.h = omega (arith, c.loop-y-test.false, c.loop-y.auto.y-end) in
-    subst (λ rows. IsStripCopied (record a.strip { h = rows }) (value_in a.from a.source.now) a.to a.cells.now
-    c.loop-y.cells) end c.loop-y.invariant
+    subst (λ (value : Pixel → ℕ). IsStripCopied a.strip value a.to a.cells.now c.copy_cells.new.cells)
+    (λ i p. slice_index (c.cells.ensures.values i) (index_of (sym c.requires.width i) (place_in a.from p)))
+    c.copy_cells.ensures

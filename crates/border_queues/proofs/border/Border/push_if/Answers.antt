@@ -9,6 +9,11 @@ push_outer-requires-clause-seen c =
     let q : Pixel = record { x = c.args.x; y = c.args.y } in
     c.requires.ready.border.image q (c.requires.at (search rules)) c.requires.near
 
+pub push_outer-requires-clause-limited : goal.push_outer-requires-clause-limited
+push_outer-requires-clause-limited c =
+    let q : Pixel = record { x = c.args.x; y = c.args.y } in
+    c.requires.ready.border.mask q (c.requires.at (search rules)) c.requires.near
+
 pub returns-else-wanted : goal.returns-else-wanted
 returns-else-wanted c =
     let b = c.args.self.now in

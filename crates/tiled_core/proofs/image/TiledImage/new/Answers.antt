@@ -2,12 +2,12 @@
 use Rattle.std.proofs.Common.{ap}
 use Rattle.tiled_core.specs.TiledImage.{tiled_raster}
 use Rattle.tiled_core.proofs.KeptImages.{image_is, rows_kept}
-use Rattle.tiled_core.proofs.SharedCopies.{no_copies_are, with_copies}
+use Rattle.tiled_core.proofs.{AllKept.with_all, SharedCopies.no_copies_are}
 use Rattle.tiled_core.proofs.image.TiledImage.new.Goals as goal
 
 pub invariant_of-result : goal.invariant_of-result
 invariant_of-result c =
-    with_copies (rows_kept c.args.tiling c.args.rows c.in-Ok.parts c.in-Ok-empty.newer c.count-count.result (record {
+    with_all (rows_kept c.args.tiling c.args.rows c.in-Ok.parts c.in-Ok-empty.newer c.count-count.result (record {
       tiled = c.count-count.ensures.tiled;
       width = c.requires.width;
       height = c.requires.height;
@@ -15,6 +15,7 @@ invariant_of-result c =
     }) c.count-count.ensures.value c.in-Ok.ensures c.in-Ok-empty.ensures)
     (no_copies_are c.args.tiling c.args.rows c.count-count.result c.in-Ok-none.copies c.count-count.ensures.value
     c.in-Ok-none.ensures)
+    c.in-Ok-of.ensures
 
 pub returns-in-Ok-empty-clause-image : goal.returns-in-Ok-empty-clause-image
 returns-in-Ok-empty-clause-image c =

@@ -2,14 +2,14 @@
 use Rattle.std.proofs.Common.{Bool, List, subst, sym}
 use Rattle.tile_work.specs.TileSet.{Has}
 use Rattle.tiled_core.specs.{SharedCopies.IsCopyBut, TiledImage.image_of}
-use Rattle.tiled_core.proofs.SharedCopies.{stale_copy, taken_copies, with_copies}
+use Rattle.tiled_core.proofs.{AllKept.with_all, SharedCopies.stale_copy, SharedCopies.taken_copies}
 use Rattle.tiled_core.proofs.image.TiledImage.next_copy.Goals as goal
 
 pub invariant_of-self : goal.invariant_of-self
 invariant_of-self c =
     let i = c.self.invariant in
-    with_copies i.kept
-    (taken_copies i.copies_are c.take_oldest.new.self c.take_oldest.result c.take_oldest.ensures)
+    with_all i.kept
+    (taken_copies i.copies_are c.take_oldest.new.self c.take_oldest.result c.take_oldest.ensures) i.rims_are
 
 pub copy_tiles-requires-clause-copy : goal.copy_tiles-requires-clause-copy
 copy_tiles-requires-clause-copy c =
@@ -23,5 +23,5 @@ copy_tiles-requires-clause-copy c =
 pub invariant_of-self-2 : goal.invariant_of-self-2
 invariant_of-self-2 c =
     let i = c.self.invariant in
-    with_copies i.kept
-    (taken_copies i.copies_are c.take_oldest.new.self c.take_oldest.result c.take_oldest.ensures)
+    with_all i.kept
+    (taken_copies i.copies_are c.take_oldest.new.self c.take_oldest.result c.take_oldest.ensures) i.rims_are

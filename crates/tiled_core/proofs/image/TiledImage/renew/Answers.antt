@@ -4,8 +4,9 @@ use Rattle.grid_core.specs.Raster.{Raster}
 use Rattle.reset_core.specs.{Bounding.FollowResets, MergeSteps.AreRenewed, MergeSteps.CanRenew}
 use Rattle.tiled_core.specs.TiledImage.{TiledRaster, image_of}
 use Rattle.tile_work.specs.WorkTable.{IsDirtyTile}
-use Rattle.tiled_core.proofs.{KeptImages.image_is, SharedCopies.still_copies, SharedCopies.with_copies}
+use Rattle.tiled_core.proofs.{AllKept.with_all, KeptImages.image_is, SharedCopies.still_copies}
 use Rattle.tiled_core.proofs.RenewedTiles.{merged_kept, merged_values, works_for_parts}
+use Rattle.tiled_core.proofs.TileRims.{dirty_or_not, taken_rims}
 use Rattle.tiled_core.proofs.image.TiledImage.renew.Goals as goal
 
 pub renew-requires-clause-renew : goal.renew-requires-clause-renew
@@ -22,17 +23,47 @@ let_dirty_go-requires c =
     (c.requires.tiling ∙ sym (ap (λ (r : TiledRaster). r.tiling) c.self.view_is)) c.renew.ensures.renewed.image_is
     c.requires.renew.unspent.works
 
+pub take_dirty-requires-clause-count : goal.take_dirty-requires-clause-count
+take_dirty-requires-clause-count c = c.self.invariant.rims_are.count
+
+pub take_dirty-requires-clause-work : goal.take_dirty-requires-clause-work
+take_dirty-requires-clause-work c =
+    let rows = c.write_newer.ensures in
+    works_for_parts rows.kept rows.none rows.rows
+    (c.requires.tiling ∙ sym (ap (λ (r : TiledRaster). r.tiling) c.self.view_is)) c.renew.ensures.renewed.image_is
+    c.requires.renew.unspent.works
+    ∙ rows.kept.are_cut.count
+
+pub take_dirty-requires-clause-width : goal.take_dirty-requires-clause-width
+take_dirty-requires-clause-width c =
+    let rows = c.write_newer.ensures in
+    (merged_kept rows.kept rows.none rows.rows
+    (c.requires.tiling ∙ sym (ap (λ (r : TiledRaster). r.tiling) c.self.view_is)) c.renew.ensures.renewed.image_is
+    c.requires.renew.unspent.works c.let_dirty_go.new.parts c.let_dirty_go.ensures).of_tiling.width
+
+pub take_dirty-requires-clause-height : goal.take_dirty-requires-clause-height
+take_dirty-requires-clause-height c =
+    let rows = c.write_newer.ensures in
+    (merged_kept rows.kept rows.none rows.rows
+    (c.requires.tiling ∙ sym (ap (λ (r : TiledRaster). r.tiling) c.self.view_is)) c.renew.ensures.renewed.image_is
+    c.requires.renew.unspent.works c.let_dirty_go.new.parts c.let_dirty_go.ensures).of_tiling.height
+
 pub invariant_of-self : goal.invariant_of-self
 invariant_of-self c =
     let rows = c.write_newer.ensures in
     let tiles_are = c.requires.tiling ∙ sym (ap (λ (r : TiledRaster). r.tiling) c.self.view_is) in
     let renewed = c.renew.ensures.renewed.image_is in
     let count = c.requires.renew.unspent.works in
-    with_copies
+    let same = merged_values rows.kept rows.none rows.rows tiles_are renewed count in
+    with_all
     (merged_kept rows.kept rows.none rows.rows tiles_are renewed count c.let_dirty_go.new.parts
     c.let_dirty_go.ensures)
     (still_copies c.self.invariant.copies_are c.mark_dirty.new.self (IsDirtyTile c.renew.new.work) c.mark_dirty.ensures
-    c.renew.new.image (merged_values rows.kept rows.none rows.rows tiles_are renewed count))
+    c.renew.new.image same)
+    (taken_rims c.self.inside.tiling rows.kept.of_tiling.tiled (IsDirtyTile c.renew.new.work)
+    (image_of c.self.inside.tiling c.self.inside.rows c.self.inside.parts c.self.inside.newer) c.renew.new.image
+    c.self.inside.rims c.take_dirty.new.rims c.self.invariant.rims_are c.take_dirty.ensures
+    (dirty_or_not c.renew.new.work) same)
 
 pub returns-clause-tiling : goal.returns-clause-tiling
 returns-clause-tiling c = ap (λ (r : TiledRaster). r.tiling) c.self.view_is

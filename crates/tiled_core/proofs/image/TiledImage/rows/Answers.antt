@@ -1,11 +1,12 @@
 -- What the tactics leave open of `rows`.
 use Rattle.std.proofs.Common.{ap, ◌∙◌, refl}
 use Rattle.tiled_core.specs.TiledImage.{TiledRaster, tiled_raster}
-use Rattle.tiled_core.proofs.{KeptImages.image_is, SharedCopies.with_copies}
+use Rattle.tiled_core.proofs.{AllKept.with_all, KeptImages.image_is}
 use Rattle.tiled_core.proofs.image.TiledImage.rows.Goals as goal
 
 pub invariant_of-self : goal.invariant_of-self
-invariant_of-self c = with_copies c.write_newer.ensures.kept c.self.invariant.copies_are
+invariant_of-self c =
+    with_all c.write_newer.ensures.kept c.self.invariant.copies_are c.self.invariant.rims_are
 
 pub returns : goal.returns
 returns c = (

@@ -6,7 +6,7 @@ use Rattle.tile_generations.specs.CutMasks.{cut_mask}
 use Rattle.tiled_core.specs.TiledImage.{TiledRaster, image_of, tiled_raster}
 use Rattle.tiled_core.proofs.KeptImages.{image_is, slot_within, tile_before}
 use Rattle.tiled_core.proofs.{KeptTiles.copy_kept, KeptTiles.cut_of_whole, PartsAt.none_when}
-use Rattle.tiled_core.proofs.SharedCopies.{with_copies}
+use Rattle.tiled_core.proofs.AllKept.{with_all}
 use Rattle.tiled_core.proofs.image.TiledImage.share.Goals as goal
 
 -- the tile has no part where none was found
@@ -58,9 +58,10 @@ invariant_of-self-2 c =
     c.self.view_is c.requires in
     let none = no_part c.in_ok-part.field-0 (slice_index_or i.parts c.args.tile None) c.in_default.not-Some
     c.in_ok-part.ensures in
-    with_copies (copy_kept c.self.invariant.kept c.args.tile within c.rect.result c.in_ok-cut.field-0
+    with_all (copy_kept c.self.invariant.kept c.args.tile within c.rect.result c.in_ok-cut.field-0
     (arc_value c.in_ok-try_clone.field-0) none c.rect.ensures.value c.in_ok-cut.ensures
-    (c.in_ok-try_clone.ensures ∙ c.in_ok-part-2.ensures.ok) c.put.new.self c.put.ensures) c.self.invariant.copies_are
+    (c.in_ok-try_clone.ensures ∙ c.in_ok-part-2.ensures.ok) c.put.new.self c.put.ensures)
+    c.self.invariant.copies_are c.self.invariant.rims_are
 
 pub returns-clause-part : goal.returns-clause-part
 returns-clause-part c =

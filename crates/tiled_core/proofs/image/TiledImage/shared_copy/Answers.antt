@@ -2,15 +2,16 @@
 use Rattle.std.proofs.Common.{ap, sym, ◌∙◌}
 use Rattle.std.specs.Arc.{arc_value}
 use Rattle.tiled_core.specs.TiledImage.{TiledRaster}
-use Rattle.tiled_core.proofs.SharedCopies.{kept_copies, with_copies}
+use Rattle.tiled_core.proofs.{AllKept.with_all, SharedCopies.kept_copies}
 use Rattle.tiled_core.proofs.image.TiledImage.shared_copy.Goals as goal
 
 pub invariant_of-self-2 : goal.invariant_of-self-2
 invariant_of-self-2 c =
     let i = c.self.invariant in
     let next = c.in_ok-next_copy.ensures in
-    with_copies i.kept
+    with_all i.kept
     (kept_copies i.copies_are c.keep.new.self i.kept.of_tiling (arc_value c.in_ok-try_clone.field-0)
     (c.in_ok-try_clone.ensures ∙ c.in_ok-copy.ensures.ok ∙ next.copy
     ∙ sym (ap (λ (r : TiledRaster). r.image) (c.self.view_is ∙ next.same)))
     c.keep.ensures)
+    i.rims_are

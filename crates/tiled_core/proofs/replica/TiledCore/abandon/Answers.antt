@@ -12,4 +12,6 @@ invariant_of-self c = record {
   tiling = c.self.invariant.tiling;
   beside = c.leave.ensures ∙ c.self.invariant.beside;
   room = c.self.invariant.room;
+  mask_rims = c.self.invariant.mask_rims;
+  limits_room = c.self.invariant.limits_room;
 }

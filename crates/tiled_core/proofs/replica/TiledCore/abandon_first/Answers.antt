@@ -17,6 +17,8 @@ invariant_of-self c =
       tiling = c.self.invariant.tiling;
       beside = c.leave.ensures ∙ c.self.invariant.beside;
       room = c.self.invariant.room;
+      mask_rims = c.self.invariant.mask_rims;
+      limits_room = c.self.invariant.limits_room;
     }
 
 pub returns-in-Some-clause-first : goal.returns-in-Some-clause-first

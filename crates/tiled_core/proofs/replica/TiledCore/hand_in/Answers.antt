@@ -27,6 +27,8 @@ invariant_of-self c =
       tiling = c.self.invariant.tiling;
       beside = c.self.invariant.beside;
       room = c.self.invariant.room;
+      mask_rims = c.self.invariant.mask_rims;
+      limits_room = c.self.invariant.limits_room;
     }
 
 pub invariant_of-self-then-get_in-hint : goal.invariant_of-self-then-get_in-hint
@@ -43,6 +45,8 @@ invariant_of-self-then-get_in-hint c =
       tiling = c.self.invariant.tiling;
       beside = c.self.invariant.beside;
       room = c.self.invariant.room;
+      mask_rims = c.self.invariant.mask_rims;
+      limits_room = c.self.invariant.limits_room;
     }
 
 pub invariant_of-self-2 : goal.invariant_of-self-2
@@ -69,6 +73,8 @@ invariant_of-self-2 c =
       tiling = c.self.invariant.tiling;
       beside = c.self.invariant.beside;
       room = c.self.invariant.room;
+      mask_rims = c.self.invariant.mask_rims;
+      limits_room = c.self.invariant.limits_room;
     })
 
 pub returns : goal.returns
@@ -90,7 +96,8 @@ returns c =
       there,
       present,
       above,
-      ap (λ (r : TiledRaster). core_of (record parts { image = r.image; work = c.mark_dirty.new.self })) c.set_in.ensures
+      ap (λ (r : TiledRaster). core_of (record parts { image = r.image; work = c.mark_dirty.new.self }))
+          c.set_in.ensures
           ∙ ap (λ (work : List TileWork). core_of (record parts {
             image = with_value parts.image c.in-Some.hint.to_pixel c.in-Some.hint.value;
             work = work;

@@ -220,6 +220,8 @@ invariant_of-self-2 c =
       tiling = c.put.ensures.tiling ∙ c.self.invariant.tiling;
       beside = c.leave.ensures ∙ c.self.invariant.beside;
       room = c.self.invariant.room;
+      mask_rims = c.self.invariant.mask_rims;
+      limits_room = c.self.invariant.limits_room;
     })
 
 pub returns-clause-joined : goal.returns-clause-joined

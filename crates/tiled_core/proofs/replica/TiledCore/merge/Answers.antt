@@ -112,6 +112,8 @@ invariant_of-self c =
       tiling = c.self.invariant.tiling;
       beside = c.self.invariant.beside;
       room = c.self.invariant.room;
+      mask_rims = c.self.invariant.mask_rims;
+      limits_room = c.self.invariant.limits_room;
     })
 
 is_acceptable : (c : After-into) → IsAcceptable c.args.self.now c.args.delta.now
@@ -144,6 +146,8 @@ invariant_of-self-in-Err c =
       tiling = c.self.invariant.tiling;
       beside = c.self.invariant.beside;
       room = c.self.invariant.room;
+      mask_rims = c.self.invariant.mask_rims;
+      limits_room = c.self.invariant.limits_room;
     })
 
 -- ---- what the calls require
@@ -247,6 +251,8 @@ invariant_of-self-in-Ok c =
           ∙ c.self.invariant.tiling ∙ sym same;
       beside = c.forget.ensures ∙ rw same c.self.invariant.beside;
       room = rw same c.self.invariant.room;
+      mask_rims = rw (same, c.renew.ensures.renewed.marker.mask) c.self.invariant.mask_rims;
+      limits_room = rw same c.self.invariant.limits_room;
     }
 
 pub returns-in-Ok-clause-merged : goal.returns-in-Ok-clause-merged

@@ -22,6 +22,8 @@ invariant_of-self c = record {
   tiling = c.self.invariant.tiling;
   beside = c.self.invariant.beside;
   room = c.self.invariant.room;
+  mask_rims = c.self.invariant.mask_rims;
+  limits_room = c.self.invariant.limits_room;
 }
 
 pub returns-clause-passed : goal.returns-clause-passed

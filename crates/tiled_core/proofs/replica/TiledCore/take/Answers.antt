@@ -15,6 +15,8 @@ invariant_of-self c = record {
   tiling = c.self.invariant.tiling;
   beside = c.enter.ensures ∙ c.self.invariant.beside;
   room = c.self.invariant.room;
+  mask_rims = c.self.invariant.mask_rims;
+  limits_room = c.self.invariant.limits_room;
 }
 
 pub next_job-requires-clause-mask : goal.next_job-requires-clause-mask
