@@ -13,13 +13,26 @@ type Bench = (Pool, [u128; 6]);
 /// Works a core of all edits off in one thread, job by job. It prints how many jobs there were, and the time of each
 /// part; and the sum.
 pub fn measure(rt: &impl System, input: Input, side: u32) -> Outcome {
-    let (core, _) = input.open(rt.alloc(), side, None)?;
-    let mut core = TiledCore::over(rt.alloc(), core).or(Err(MEMORY))?;
+    let (core, edits) = input.open(rt.alloc(), side, None)?;
+    drop(edits);
+    match TiledCore::over(rt.alloc(), core) {
+        Ok(core) => measure_over(rt, core),
+        Err(refused) => MEMORY.dropping(refused),
+    }
+}
+
+// Works the core off, and prints what is measured, and the sum.
+fn measure_over(rt: &impl System, mut core: TiledCore) -> Outcome {
     let told = measure_parts(rt, &mut core);
-    let core = core.into_core();
+    let sum = sum_at_end(core);
     told?;
-    println!(rt; "{}", sum_of(core.image().cells()))?;
+    println!(rt; "{sum}")?;
     Ok(())
+}
+
+// The sum of the core's image, which is the end of it.
+fn sum_at_end(core: TiledCore) -> u64 {
+    sum_of(core.into_core().image().cells())
 }
 
 // Works all off, and prints how many jobs there were, and the time of each part.
