@@ -19,7 +19,7 @@ import time
 import run
 
 FAMILIES = ["cells", "plates", "map", "maze"]
-HANDS = [0, 1, 2, 4]  # with none the core settles by itself
+HANDS = [0, 1, 2, 3, 4]  # with none the core settles by itself
 BANDS = [0, 2, 4]  # threads that settle in bands; with none the core settles by itself
 PARTS = ["take", "push", "sweep", "give back", "hints"]
 EDITED = "few-lit"  # the family whose last edits are watched and shown
@@ -102,7 +102,7 @@ def settling_row(source, program, baseline, words):
     peak = max(each[2] for each in figures[HANDS[-1]])
     times = [f"{1000 * seconds:.0f}" for seconds in [statistics.median(whole), *wall.values()]]
     run.say(f"{source.family}: baseline and hands {', '.join(times)} ms")
-    return [source.family, *times, f"{wall[1] / wall[4]:.2f}", *(f"{jobs[hands]:,.0f}" for hands in (0, 1, 4)),
+    return [source.family, *times, f"{wall[0] / wall[3]:.2f}", *(f"{jobs[hands]:,.0f}" for hands in (0, 1, 3)),
             multiple_of_cells(peak, words.size)]
 
 
@@ -133,8 +133,8 @@ def multiple_of_cells(peak, size):
 def settling(sources, program, baseline, words):
     """Print the table of settling."""
     run.table([f"{words.size} by {words.size}, tile {words.side}", "baseline ms",
-               "0 hands ms", "1 hand ms", "2 hands ms", "4 hands ms", "4 over 1",
-               "jobs, 0 hands", "1 hand", "4 hands", "memory"],
+               "0 hands ms", "1 hand ms", "2 hands ms", "3 hands ms", "4 hands ms", "3 over 0",
+               "jobs, 0 hands", "1 hand", "3 hands", "memory"],
               [settling_row(source, program, baseline, words) for source in sources])
 
 
