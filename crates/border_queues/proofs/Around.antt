@@ -14,16 +14,7 @@ use Rattle.grid_core.proofs.{Pixels.near, Rectangles.in_rect_inside}
 
 -- ---- near a rectangle
 
--- a pixel of a rectangle is near it
-pub near_itself : (rect : Rect) (p : Pixel) → IsInRect rect p → IsNear rect p
-near_itself rect p found = record {
-  left = omega (arith, found);
-  right = omega (arith, found);
-  above = omega (arith, found);
-  below = omega (arith, found);
-}
-
--- so is a neighbour of one
+-- a neighbour of a pixel of a rectangle is near it
 pub near_to_neighbour : (rect : Rect) (conn : Conn) (p q : Pixel) → IsInRect rect p → AreNeighbours conn p q
     → IsNear rect q
 near_to_neighbour rect conn p q found beside =
@@ -119,9 +110,14 @@ unmoved_back image = λ i q. image (record { x = sub-zero q.x i; y = sub-zero q.
 
 -- ---- sizes and bounds, as `border_of` and `Bounds::of` ask for them
 
--- an image of a rectangle's width has its columns from the first on
-pub fits_exactly : (len size : ℕ) → size ≡ len → 0 + len ≤ size
-fits_exactly len size same = omega arith
+-- the first of some places, counted from the one before it
+pub counted_back : (first origin own : ℕ) → origin ≡ first - 1 → first ≡ own → first - origin + origin ≡ own
+counted_back first origin own begins same = omega arith
+
+-- and those that lie in an image have as many beside one another where they are grown by one place at each end
+pub fits_grown : (first len whole origin size own : ℕ) → origin ≡ first - 1 → first ≡ own → own + len ≤ whole
+    → size ≡ min (own + len + 1) whole - (own - 1) → first - origin + len ≤ size
+fits_grown first len whole origin size own begins same inside long = omega arith
 
 -- the bounds of a rectangle do not reach out of it
 pub bounds_lie : (rect : Rect) → LieIn (bounds_of rect) rect

@@ -1,13 +1,14 @@
 -- Pixels inside a tile have no neighbour in another tile.
 use Rattle.std.proofs.Common.{◌≡◌, ℕ, zero, suc, ◌+◌, ◌<◌, ◌≤◌, Bool, false, cond, List, [], ◌∷◌, ◌++◌, map, refl, ap}
 use Rattle.std.proofs.Common.{sym, ◌∙◌, arith, append-nil, ◌&&◌, not, nat_eq, nat_lt, Contains, filter, flat_map}
-use Rattle.std.proofs.{lemmas.Bool.eq-eqb, lemmas.Bool.le-ltb, lemmas.List.Elements.Contains-append_right}
+use Rattle.std.proofs.Common.{◌⊎◌, inl, inr}
+use Rattle.std.proofs.lemmas.{Bool.cases_lt, Bool.eq-eqb, Bool.le-ltb, List.Elements.Contains-append_right}
 use Rattle.std.specs.List.{range_with_len}
 use Rattle.grid_core.specs.{declared.conn.Conn.Conn, declared.pixel.Pixel.Pixel, declared.rect.Rect.Rect}
 use Rattle.grid_core.specs.{Raster.IsInside, RasterLaws.NeighboursByRows, Neighbours.AreNeighbours, Rects.IsInRect}
-use Rattle.grid_core.specs.{Rows.rows_around, Tiles.tile_of}
+use Rattle.grid_core.specs.{Raster.IsOnBorder, Rows.rows_around, Tiles.tile_of}
 use Rattle.border_queues.specs.{declared.hint.Hint.Hint, declared.border.Border.Border}
-use Rattle.border_queues.specs.OpenEdges.{Sender, hint_to, is_open, hints_to, hints_from, level_to}
+use Rattle.border_queues.specs.OpenEdges.{Sender, from_corner, hint_to, is_open, hints_to, hints_from, level_to}
 use Rattle.border_queues.specs.Borders.{sender_of, told_to, IsBorder}
 use Rattle.grid_core.proofs.{Common.and_false, Pixels.near}
 
@@ -36,19 +37,43 @@ neighbour_in_rect rect conn p q interior beside =
       omega (arith, close, interior.below),
     )
 
--- a pixel inside a tile tells nothing
+-- a pixel of a rectangle lies on its border or inside it
+pub border_or_interior : (rect : Rect) (p : Pixel) → IsInRect rect p
+    → IsOnBorder rect.w rect.h (from_corner rect p) ⊎ IsInterior rect p
+border_or_interior rect p found = elim (cases_lt rect.x p.x) [
+  | inr first ↦ inl (inl (omega (arith, first)))
+  | inl left ↦ elim (cases_lt (p.x + 1) (rect.x + rect.w)) [
+    | inr last ↦ inl (inr (inl (omega (arith, found, last))))
+    | inl right ↦ elim (cases_lt rect.y p.y) [
+      | inr first ↦ inl (inr (inr (inl (omega (arith, first)))))
+      | inl above ↦ elim (cases_lt (p.y + 1) (rect.y + rect.h)) [
+        | inr last ↦ inl (inr (inr (inr (omega (arith, found, last)))))
+        | inl below ↦ inr (record { left = left; right = right; above = above; below = below })
+      ]
+    ]
+  ]
+]
+
+-- a pixel inside a rectangle, all of whose pixels are the tile's, tells nothing
+pub inner_tells_none : (s : Sender) (rect : Rect) (p : Pixel) → NeighboursByRows
+    → IsInside s.tiles.width s.tiles.height p
+    → ((q : Pixel) → IsInside s.tiles.width s.tiles.height q → IsInRect rect q → tile_of s.tiles q ≡ s.tile)
+    → IsInterior rect p → hints_from s p ≡ []
+inner_tells_none s rect p by_rows inside own interior =
+    let around = by_rows s.conn s.tiles.width s.tiles.height p inside in
+    ap (map (hint_to s (s.image p))) (filter_none (is_open s (s.image p))
+    (rows_around s.conn s.tiles.width s.tiles.height p) (λ q there.
+    let beside = (around.0 q).0 there in
+    let same = own q beside.1 (neighbour_in_rect rect s.conn p q interior beside.0) in
+    ap (λ t. not t && nat_lt (s.image q) (level_to s (s.image p) q)) (eq-eqb (tile_of s.tiles q) s.tile same)))
+
+-- and so does one inside a tile whose border is walked
 pub interior_tells_none : (b : Border) (p : Pixel) → IsBorder b → NeighboursByRows → IsInterior b.rect p
     → hints_from (sender_of b) p ≡ []
 interior_tells_none b p border by_rows interior =
-    let s = sender_of b in
     let inside : IsInside b.tiling.width b.tiling.height p =
     (omega (arith, interior.right, border.fits.columns), omega (arith, interior.below, border.fits.rows)) in
-    let around = by_rows b.conn b.tiling.width b.tiling.height p inside in
-    ap (map (hint_to s (s.image p))) (filter_none (is_open s (s.image p))
-    (rows_around b.conn b.tiling.width b.tiling.height p) (λ q there.
-    let beside = (around.0 q).0 there in
-    let same = (border.own q beside.1).0 (neighbour_in_rect b.rect b.conn p q interior beside.0) in
-    ap (λ t. not t && nat_lt (s.image q) (level_to s (s.image p) q)) (eq-eqb (tile_of b.tiling q) b.tile same)))
+    inner_tells_none (sender_of b) b.rect p by_rows inside (λ q there. (border.own q there).0) interior
 
 -- nor is the tile's own pixel told anything
 pub own_told_none : (b : Border) (value : ℕ) (q : Pixel) → IsBorder b → IsInside b.tiling.width b.tiling.height q

@@ -1,8 +1,9 @@
--- The pixels beside a tile, and a patch of the image that has them.
+-- The pixels beside a tile and those on its border, and a patch of the image that has them.
 use Rattle.std.specs.Prelude.{◌≡◌, ℕ, ◌+◌, ◌-◌, min}
 use Rattle.grid_core.specs.{declared.pixel.Pixel.Pixel, declared.rect.Rect.Rect, Rects.IsInRect}
-use Rattle.grid_core.specs.{Raster.Raster, Raster.IsInside, Raster.value_at, Tiles.Tiles, Tiles.rect_of}
-use Rattle.border_queues.specs.OpenEdges.{from_corner, with_tile}
+use Rattle.grid_core.specs.{Raster.Raster, Raster.IsInside, Raster.IsOnBorder, Raster.value_at, Tiles.Tiles}
+use Rattle.grid_core.specs.Tiles.{rect_of}
+use Rattle.border_queues.specs.OpenEdges.{from_corner}
 
 -- a rectangle grown by one pixel on each side, as far as an image of this width and height goes
 abbrev pub widened : ℕ → ℕ → Rect → Rect
@@ -32,11 +33,18 @@ AreSameBeside tiles t one other =
     (q : Pixel) → IsInside tiles.width tiles.height q → IsInRect (around_of tiles t) q
     → (IsInRect (rect_of tiles t) q → ⊥) → one q ≡ other q
 
+-- two images have the same values on the tile's border: in its first and last column, and in its first and last row
+abbrev pub AreSameOnBorder : Tiles → ℕ → (Pixel → ℕ) → (Pixel → ℕ) → Type 0
+AreSameOnBorder tiles t one other =
+    (p : Pixel) → IsInRect (rect_of tiles t) p
+    → IsOnBorder (rect_of tiles t).w (rect_of tiles t).h (from_corner (rect_of tiles t) p) → one p ≡ other p
+
 -- it has the values that the image has beside the tile; those on the tile may be any
 pub record IsRingOf (tiles : Tiles) (t : ℕ) (image : Pixel → ℕ) (patch : Raster) : Type 0 where
   pub size : HasAroundSize tiles t patch
   pub values : AreSameBeside tiles t (in_patch tiles t patch) image
 
--- the image with the values of `inside` on the tile, counted from its upper left corner, and the patch's elsewhere
-abbrev pub ringed : Tiles → ℕ → (Pixel → ℕ) → Raster → Pixel → ℕ
-ringed tiles t inside patch = with_tile tiles t inside (in_patch tiles t patch)
+-- it has those that the image has beside the tile and on the tile's border; those further in may be any
+pub record IsRimmedRingOf (tiles : Tiles) (t : ℕ) (image : Pixel → ℕ) (patch : Raster) : Type 0 where
+  pub ring : IsRingOf tiles t image patch
+  pub border : AreSameOnBorder tiles t (in_patch tiles t patch) image

@@ -2,10 +2,9 @@
 use Rattle.std.specs.Prelude.{◌≡◌, ℕ, ◌<◌, ◌⊎◌, ◌↔◌, List, [], ◌∷◌, map, Contains}
 use Rattle.std.specs.List.{AllByRecursion}
 use Rattle.grid_core.specs.{declared.bounds.Bounds.Bounds, declared.pixel.Pixel.Pixel, Bounds.bounds_of}
-use Rattle.grid_core.specs.{Raster.IsInside, Neighbours.IsBefore, Rects.IsInRect, Tiles.IsTiled, Tiles.count_of}
-use Rattle.grid_core.specs.Tiles.{rect_of}
+use Rattle.grid_core.specs.{Raster.IsInside, Neighbours.IsBefore, Tiles.IsTiled, Tiles.count_of, Tiles.rect_of}
 use Rattle.border_queues.specs.OpenEdges.{Sender, EdgesBeginIn, IsOpenEdge, hint_to, open_edges}
-use Rattle.border_queues.specs.Around.{AreSameBeside, around_of}
+use Rattle.border_queues.specs.Around.{AreSameBeside, AreSameOnBorder}
 
 -- senders whose images are equal at each pixel have the same open edges
 abbrev pub SameImageSameEdges : Type 0
@@ -14,14 +13,13 @@ SameImageSameEdges =
     → ((p : Pixel) → IsInside s.tiles.width s.tiles.height p → s.image p ≡ image p)
     → open_edges s ≡ open_edges (record s { image = image })
 
--- senders whose images are equal at each pixel of the tile and beside it, and whose masks are beside it, have the same
+-- senders whose images are equal on the tile's border and beside the tile, and whose masks are beside it, have the same
 -- open edges
 abbrev pub SameAroundSameEdges : Type 0
 SameAroundSameEdges =
     (s : Sender) (mask image : Pixel → ℕ) → IsTiled s.tiles → s.tile < count_of s.tiles
-    → AreSameBeside s.tiles s.tile s.mask mask
-    → ((p : Pixel) → IsInside s.tiles.width s.tiles.height p → IsInRect (around_of s.tiles s.tile) p
-    → s.image p ≡ image p)
+    → AreSameBeside s.tiles s.tile s.mask mask → AreSameBeside s.tiles s.tile s.image image
+    → AreSameOnBorder s.tiles s.tile s.image image
     → open_edges s ≡ open_edges (record s { mask = mask; image = image })
 
 -- the open edges of a tile begin within the bounds of its pixels

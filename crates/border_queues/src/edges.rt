@@ -8,7 +8,7 @@ ghost use Rattle.grid_core.specs.Tiles.{count_of, rect_of};
 ghost use Rattle.border_queues.specs.Waiting.{AddsOrFails};
 ghost use Rattle.border_queues.specs.OpenEdges.{EdgesBeginIn, HasTileSize, HaveTile, open_edges};
 ghost use Rattle.border_queues.specs.OpenEdges.{room_for_edges, sender_by, with_tile};
-ghost use Rattle.border_queues.specs.Around.{HasAroundSize, IsRingOf};
+ghost use Rattle.border_queues.specs.Around.{HasAroundSize, IsRimmedRingOf, IsRingOf};
 ghost use Rattle.border_queues.specs.Borders.{image_by, seen_from, sender_of, CoversAround, IsBorder};
 
 use crate::border::Border;
@@ -60,13 +60,13 @@ pub fn open_edges(
     tell(&border, out)
 }
 
-/// As [`open_edges`], where `patch` stands in place of the image, and `limits` in place of the mask: each has the size
-/// of the tile's rectangle grown by one pixel on each side, as far as the image goes, and beside the tile the values of
-/// that in whose place it stands. On the tile it may have any.
+/// As [`open_edges`] where J is the image itself, on the tile too. `patch` stands in place of the image, and `limits`
+/// in place of the mask: each has the size of the tile's rectangle grown by one pixel on each side, as far as the image
+/// goes, and beside the tile the values of that in whose place it stands. In the first and the last row and column of
+/// the tile, the patch has the image's values, too. What both have elsewhere on the tile does not matter.
 ///
 /// Errors: Q1, where `out` keeps its hints. With a room of [`room_for_edges`] it takes no memory.
 pub fn open_edges_around(
-    inside: &Grid,
     patch: &View<'_>,
     limits: &View<'_>,
     tiling: &Tiling,
@@ -76,13 +76,12 @@ pub fn open_edges_around(
     out: &mut Inbox,
 ) -> Result<(), QueueError>
     requires tile { tile < count_of tiling.now }
-    requires size { HasTileSize tiling.now tile inside.now }
     requires patch { HasAroundSize tiling.now tile patch.now }
     requires limits { HasAroundSize tiling.now tile limits.now }
-    ensures { (image mask : Pixel → ℕ) → IsRingOf tiling.now tile image patch.now
+    ensures { (image mask : Pixel → ℕ) → IsRimmedRingOf tiling.now tile image patch.now
         → IsRingOf tiling.now tile mask limits.now
-        → AddsOrFails out.old out.new (open_edges (sender_by tiling.now conn mask (with_tile tiling.now tile
-        (value_at inside.now) image) tile generation)) (room_for_edges tiling.now) result }
+        → AddsOrFails out.old out.new (open_edges (sender_by tiling.now conn mask image tile generation))
+        (room_for_edges tiling.now) result }
 {
     each_pixel_in_one_tile();
     edges_begin_in_tile();
@@ -91,14 +90,16 @@ pub fn open_edges_around(
     let _ = tiling.side();
     let rect = tiling.rect(tile);
     let bounds = Bounds::of(rect);
-    let first = Pixel { x: 0, y: 0 };
     let origin = Pixel {
         x: rect.x.saturating_sub(1),
         y: rect.y.saturating_sub(1),
     };
-    let inside = View::of(inside);
+    let corner = Pixel {
+        x: rect.x - origin.x,
+        y: rect.y - origin.y,
+    };
     let border = border_of(
-        &inside, first, patch, origin, limits, tiling, tile, generation, conn, bounds,
+        patch, corner, patch, origin, limits, tiling, tile, generation, conn, bounds,
     );
     tell(&border, out)
 }

@@ -15,7 +15,7 @@ pub fn same_image_same_edges()
     tiles_lie_inside();
 }
 
-/// Open edges of a tile rest on the values of an image at the tile's pixels and beside it, and on those of a mask
+/// Open edges of a tile rest on the values of an image on the tile's border and beside the tile, and on those of a mask
 /// beside it, alone.
 pub fn same_around_same_edges()
     ensures { SameAroundSameEdges }

@@ -17,7 +17,7 @@
 //! out.as_slice();                                       // one hint: to (8, 0), of the value 6
 //! ```
 //!
-//! Where there is no whole image, [`open_edges_around`] finds them by the pixels of a tile and of those beside it.
+//! Where there is no whole image, [`open_edges_around`] finds them by the pixels beside a tile and on its border.
 //!
 //! Want of memory is told as a [`QueueError`], whose code is Q1. An inbox with room takes no memory.
 //!

@@ -3,6 +3,7 @@ pub mod Storing
 pub mod Settling
 pub mod Sweeping
 pub mod SweepingRows
+pub mod AtOnce
 pub mod Telling
 pub mod TellingHands
 pub mod TellingNear

@@ -1,7 +1,8 @@
 -- Parts of images that are raised, and what is above them.
 use Rattle.std.specs.Prelude.{◌≡◌, ◌<◌, ◌≤◌, ℕ, ◌-◌, max, List, slice_index}
 use Rattle.grid_core.specs.{declared.bounds.Bounds.Bounds, declared.pixel.Pixel.Pixel, declared.rect.Rect.Rect}
-use Rattle.grid_core.specs.{Bounds.IsInBounds, Bounds.LieIn, Rects.IsInRect, Rects.RectFits, Rects.in_image}
+use Rattle.grid_core.specs.{Bounds.IsInBounds, Bounds.LieIn, Rects.IsInRect, Rects.IsPart, Rects.RectFits}
+use Rattle.grid_core.specs.Rects.{in_image}
 use Rattle.grid_core.specs.Raster.{Raster, IsInside, IsFilled, value_at}
 
 -- the rectangle lies in the whole image, and the piece has its size
@@ -14,6 +15,10 @@ pub record IsPieceFor (rect : Rect) (whole piece : Raster) : Type 0 where
 abbrev pub IsBelowPiece : Rect → Raster → Raster → Type 0
 IsBelowPiece rect whole piece =
     (p : Pixel) → IsInside rect.w rect.h p → value_at whole (in_image rect p) ≤ value_at piece p
+
+-- the cells are those of the whole image in the rectangle, row by row
+abbrev pub AreCellsIn : Rect → Raster → List ℕ → Type 0
+AreCellsIn rect whole cells = IsPart rect whole (record { width = rect.w; height = rect.h; cells = cells })
 
 -- the greater of a cell and of the value for it, where the values begin at a place
 abbrev pub raised_from : ℕ → List ℕ → List ℕ → ℕ → ℕ

@@ -6,12 +6,15 @@ ghost use Rattle.grid_core.specs.Raster.{value_at};
 ghost use Rattle.grid_core.specs.Rects.{RectFits, IsRowOf, AreCellsChanged};
 ghost use Rattle.core_rules.specs.Image.{IsPart, IsAtMostPart, IsJoinedWith};
 ghost use Rattle.reset_core.specs.Bounding.{AreCountedFrom};
-ghost use Rattle.reset_core.specs.Parts.{IsPieceFor, IsBelowPiece, IsRaisedPart, raised_from};
+ghost use Rattle.reset_core.specs.Parts.{AreCellsIn, IsPieceFor, IsBelowPiece, IsRaisedPart, raised_from};
 ghost use Rattle.reset_core.specs.Parts.{AreBoundsAbove, AreWidenedAbove, AreWidenedByRow};
 
 use grid_core::laws::cells_given_back;
 use grid_core::{Bounds, Grid, Memory, Pixel, Rect};
 use std::alloc::Global;
+
+// How many cells are compared before a comparison may leave.
+const STRETCH: usize = 512;
 
 /// Whether the piece is the part of the whole image in the rectangle.
 pub fn is_part(whole: &Grid, rect: Rect, piece: &Grid) -> bool
@@ -20,6 +23,9 @@ pub fn is_part(whole: &Grid, rect: Rect, piece: &Grid) -> bool
 {
     if piece.width() != rect.w || piece.height() != rect.h {
         return false;
+    }
+    if rect.w == whole.width() {
+        return is_equal_throughout(piece.cells(), full_rows(whole, rect));
     }
     for y in 0..rect.h {
         if !is_equal(row(piece, y), whole.row_in(rect, y)) {
@@ -36,6 +42,9 @@ pub fn is_at_most_part(whole: &Grid, rect: Rect, piece: &Grid) -> bool
 {
     if piece.width() != rect.w || piece.height() != rect.h {
         return false;
+    }
+    if rect.w == whole.width() {
+        return is_at_most_throughout(piece.cells(), full_rows(whole, rect));
     }
     for y in 0..rect.h {
         if !is_at_most(row(piece, y), whole.row_in(rect, y)) {
@@ -81,7 +90,7 @@ pub fn bounds_above(whole: &Grid, rect: Rect, piece: &Grid, is_above: bool) -> B
     // For its clause alone: the sides of an image are bounded.
     let _ = whole.width();
     let mut bounds = Bounds::none();
-    if is_above {
+    if is_above || is_seen_below(whole, rect, piece) {
         return bounds;
     }
     for y in 0..rect.h {
@@ -106,6 +115,17 @@ pub fn counted_from(rect: Rect, bounds: Bounds) -> Bounds
         top: bounds.top - rect.y,
         bottom,
     }
+}
+
+// Whether the rectangle is as wide as the whole image, and one pass over its cells finds none above the piece.
+fn is_seen_below(whole: &Grid, rect: Rect, piece: &Grid) -> bool
+    requires { IsPieceFor rect whole.now piece.now }
+    ensures { IsTrue result → IsBelowPiece rect whole.now piece.now }
+{
+    if rect.w != whole.width() {
+        return false;
+    }
+    is_at_most_throughout(full_rows(whole, rect), piece.cells())
 }
 
 // The bounds, widened by the pixels of row `y` of the rectangle where the values are above the limits. Most rows have
@@ -154,7 +174,52 @@ fn row(image: &Grid, y: u32) -> &[u16]
     &image.cells()[start..start + width]
 }
 
-// Whether the rows are equal. It looks at each value, without leaving early, so that it becomes vector code.
+// The cells of the whole image in the rectangle, which is as wide as it: its rows lie one behind another.
+fn full_rows(whole: &Grid, rect: Rect) -> &[u16]
+    requires fits { RectFits whole.now.width whole.now.height rect }
+    requires wide { rect.w ≡ whole.now.width }
+    ensures { AreCellsIn rect whole.now result.now }
+{
+    let width = whole.width() as usize;
+    let start = rect.y as usize * width;
+    let count = rect.h as usize * width;
+    &whole.cells()[start..start + count]
+}
+
+// Whether the cells are equal. It looks at a stretch of them after another, and leaves after one that differs.
+fn is_equal_throughout(a: &[u16], b: &[u16]) -> bool
+    requires { length a.now ≡ length b.now }
+    ensures { IsTrue result ↔ EachIndex a.now (λ k. slice_index a.now k ≡ slice_index b.now k) }
+{
+    let mut start = 0;
+    while start < a.len() {
+        let end = start + STRETCH.min(a.len() - start);
+        if !is_equal(&a[start..end], &b[start..end]) {
+            return false;
+        }
+        start = end;
+    }
+    true
+}
+
+// Whether no cell of the first is above that of the second, found like `is_equal_throughout`.
+fn is_at_most_throughout(a: &[u16], b: &[u16]) -> bool
+    requires { length a.now ≡ length b.now }
+    ensures { IsTrue result ↔ EachIndex a.now (λ k. slice_index a.now k ≤ slice_index b.now k) }
+{
+    let mut start = 0;
+    while start < a.len() {
+        let end = start + STRETCH.min(a.len() - start);
+        if !is_at_most(&a[start..end], &b[start..end]) {
+            return false;
+        }
+        start = end;
+    }
+    true
+}
+
+// Whether the cells of a row or of a stretch are equal. It looks at each, without leaving early, so that it becomes
+// vector code.
 fn is_equal(a: &[u16], b: &[u16]) -> bool
     requires { length a.now ≡ length b.now }
     ensures { IsTrue result ↔ EachIndex a.now (λ k. slice_index a.now k ≡ slice_index b.now k) }
@@ -166,7 +231,7 @@ fn is_equal(a: &[u16], b: &[u16]) -> bool
     !differ
 }
 
-// Whether no value of the first row is above that of the second, found like `is_equal`.
+// Whether no cell of the first is above that of the second, found like `is_equal`.
 fn is_at_most(a: &[u16], b: &[u16]) -> bool
     requires { length a.now ≡ length b.now }
     ensures { IsTrue result ↔ EachIndex a.now (λ k. slice_index a.now k ≤ slice_index b.now k) }

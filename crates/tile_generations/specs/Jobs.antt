@@ -4,7 +4,7 @@ use Rattle.grid_core.specs.{declared.bounds.Bounds.Bounds, declared.conn.Conn.Co
 use Rattle.grid_core.specs.{Bounds.LieIn, Path.domain_of, Reconstruction.IsReconstruction}
 use Rattle.grid_core.specs.Raster.{Raster, IsFilled, IsSized, IsBelow, value_at}
 use Rattle.raster_sweeps.specs.OpenBounds.{OpenPairsBeginIn}
-use Rattle.tile_generations.specs.declared.ticket.Ticket.{Ticket}
+use Rattle.tile_generations.specs.{declared.ticket.Ticket.Ticket, Rims.Rim, Rims.IsRimOf}
 
 -- what a hand needs to sweep a tile: its ticket, the connectivity, and the tile's pixels and mask, each as an
 -- image by itself
@@ -48,3 +48,8 @@ pub record IsSwept (swept : Swept) : Type 0 where
   pub is_reconstruction :
       IsReconstruction (domain_of swept.job.mask swept.job.conn) (value_at swept.job.mask) (value_at swept.job.base)
       (value_at swept.pixels)
+
+-- a swept tile as it is kept, with the rim of its pixels
+pub record IsKeptSwept (swept : Swept) (rim : Rim) : Type 0 where
+  pub is_swept : IsSwept swept
+  pub has_rim : IsRimOf swept.pixels rim

@@ -170,7 +170,7 @@ impl Job {
 
     /// Sweeps the tile as [`sweep`](Job::sweep) does, in a room that is used for one job after another. It looks at
     /// first only at pixels within the bounds, where the job has some. It takes memory for the pixels, which are then
-    /// shared, and for nothing else.
+    /// shared, and for their rim, and for nothing else.
     ///
     /// Errors: out of memory, with the job handed back.
     pub fn sweep_in(self, alloc: Global, room: &mut Room) -> Result<Swept, (Job, Memory)>
@@ -211,8 +211,8 @@ impl Job {
     }
 }
 
-// All of an image, as a rectangle of it.
-fn whole(image: &Grid) -> Rect
+/// All of an image, as a rectangle of it.
+pub(crate) fn whole(image: &Grid) -> Rect
     ensures rect { result ≡ all_of image.now }
     ensures sized { IsSized image.now }
 {

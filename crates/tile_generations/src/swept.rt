@@ -3,8 +3,10 @@
 ghost use Rattle.std.specs.Prelude.{◌≡◌, IfOk, IfErr};
 ghost use Rattle.std.specs.Arc.{arc_value};
 ghost use Rattle.tile_generations.specs.Jobs.{IsSwept};
+ghost use Rattle.tile_generations.specs.Rims.{IsRimOf};
 
 use crate::job::Job;
+use crate::rim::Rim;
 use crate::ticket::Ticket;
 use grid_core::{Conn, Grid, Memory};
 use std::alloc::Global;
@@ -12,26 +14,27 @@ use std::marker::Model;
 use std::sync::Arc;
 
 /// A job that was done, and the pixels that it gave: the reconstruction of the job's mask from its base, the tile taken
-/// as an image by itself. They may be shared with others.
+/// as an image by itself. They may be shared with others. Their rim stands apart.
 #[derive(Debug, Drop)]
 pub struct Swept {
     job: Job,
     pixels: Arc<Grid>,
+    rim: Rim,
 }
 
 impl Model for Swept {
     ghost use Rattle.std.specs.Arc.{arc_value};
-    ghost use Rattle.tile_generations.specs.Jobs.{Swept as Result, IsSwept};
+    ghost use Rattle.tile_generations.specs.Jobs.{Swept as Result, IsKeptSwept};
 
     ghost Value = { Result };
 
     ghost view = { λ s. record { job = s.job; pixels = arc_value s.pixels } };
 
-    ghost invariant = { λ s. IsSwept (record { job = s.job; pixels = arc_value s.pixels }) };
+    ghost invariant = { λ s. IsKeptSwept (record { job = s.job; pixels = arc_value s.pixels }) s.rim };
 }
 
 impl Swept {
-    /// The job with the pixels that its sweep gave.
+    /// The job with the pixels that its sweep gave, and their rim.
     ///
     /// Errors: out of memory, with the job handed back.
     pub(crate) fn new(alloc: Global, job: Job, pixels: Grid) -> Result<Swept, (Job, Memory)>
@@ -40,8 +43,11 @@ impl Swept {
         ensures swept { IfOk result IsSwept }
         ensures returned { IfErr result (λ e. e.0 ≡ job) }
     {
+        let Ok(rim) = Rim::of(alloc, &pixels) else {
+            return Err((job, Memory));
+        };
         match Arc::new(alloc, pixels) {
-            Ok(pixels) => Ok(Swept { job, pixels }),
+            Ok(pixels) => Ok(Swept { job, pixels, rim }),
             Err(_) => Err((job, Memory)),
         }
     }
@@ -82,6 +88,13 @@ impl Swept {
         &self.pixels
     }
 
+    /// The rim of what the sweep gave. Who looks at the border alone need not look at the pixels.
+    pub fn rim(&self) -> &Rim
+        ensures { IsRimOf self.now.pixels result.now }
+    {
+        &self.rim
+    }
+
     /// What the sweep gave, to be shared: the pixels have an owner more, and are not copied.
     ///
     /// Errors: out of memory.
@@ -99,7 +112,8 @@ impl Swept {
     {
         let pixels = Arc::try_clone(&self.pixels)?;
         let job = self.job().copy(alloc)?;
-        Ok(Swept { job, pixels })
+        let rim = self.rim.copy(alloc)?;
+        Ok(Swept { job, pixels, rim })
     }
 
     // The job.

@@ -1,18 +1,23 @@
 -- What the tactics leave open of `bounds_above`.
 use Rattle.std.proofs.Common.{◌≡◌, ◌∙◌, arith, subst, sym}
 use Rattle.grid_core.specs.{Raster.value_at, Rects.IsRowOf}
-use Rattle.reset_core.specs.Parts.{AreBoundsAbove}
+use Rattle.reset_core.specs.Parts.{AreBoundsAbove, IsBelowPiece}
 use Rattle.reset_core.proofs.LeftOpen.{none_above, row_more}
 use Rattle.reset_core.proofs.parts.bounds_above.Goals as goal
+use Rattle.reset_core.proofs.parts.bounds_above.Goals.{then-is_above-via-then-is_above}
+use Rattle.reset_core.proofs.parts.bounds_above.Goals.{then-is_above-via-else-is_above+then-is_seen_below}
 
 pub returns-then-is_above : goal.returns-then-is_above
 returns-then-is_above c =
     let rect = c.args.rect in
     let whole = c.args.whole.now in
     let piece = c.args.piece.now in
+    let below : IsBelowPiece rect whole piece = elim c.then-is_above.branch [
+      | then-is_above-via-then-is_above w ↦ c.requires.above w.if-is_above.true
+      | then-is_above-via-else-is_above+then-is_seen_below w ↦ w.is_seen_below.ensures w.if-is_seen_below.true
+    ] in
     subst (AreBoundsAbove rect rect.h whole piece) (sym c.none-bounds.ensures)
-    (none_above rect rect.h whole piece c.width.ensures.sized c.requires.piece.fits
-    (c.requires.above c.if-is_above.true))
+    (none_above rect rect.h whole piece c.width.ensures.sized c.requires.piece.fits below)
 
 pub loop-y-init : goal.loop-y-init
 loop-y-init c =

@@ -1,0 +1,15 @@
+-- What the loop of `is_equal_throughout` keeps.
+use Rattle.std.proofs.Common.{◌-◌, ◌≡◌, ◌≤◌, length}
+use Rattle.reset_core.proofs.AtOnce.{AreFirstRelated}
+use Rattle.reset_core.proofs.parts.is_equal_throughout.Given as goal
+
+-- no cell so far differs
+abbrev pub invariant-loop-start : goal.invariant-loop-start
+invariant-loop-start l = record {
+  within : l.start ≤ length l.a;
+  alike : AreFirstRelated (λ a b. a ≡ b) l.a l.b l.start;
+}
+
+-- the cells that are left
+abbrev pub decreases-loop-start : goal.decreases-loop-start
+decreases-loop-start l = length l.a - l.start
