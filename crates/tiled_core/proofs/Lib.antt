@@ -1,26 +1,7 @@
 -- The lemmas of this crate, file by file.
-pub mod Rasters
-pub mod Places
-pub mod PartsAt
-pub mod CopiedStrips
-pub mod WrittenParts
-pub mod KeptImages
-pub mod KeptChanges
-pub mod KeptTiles
-pub mod WrittenTiles
-pub mod KeptPixels
-pub mod SharedCopies
-pub mod AllKept
-pub mod UpdatedCopies
-pub mod ShownParts
-pub mod RenewedTiles
-pub mod Strips
-pub mod TileRims
-pub mod StripCopies
-pub mod RingTiles
+pub mod SharedStates
 pub mod StoredCore
 pub mod HandedOver
 pub mod JoinedTiles
 pub mod Rings
-pub mod Converting
 pub mod Passing

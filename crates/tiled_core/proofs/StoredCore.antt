@@ -8,9 +8,9 @@ use Rattle.core_rules.specs.{Hints.hint_at, Invariant.IsSound, Sweeps.tile_rect,
 use Rattle.core_rules.proofs.Quiet.{sound_is_lawful, quiet_is_reconstruction}
 use Rattle.reset_core.specs.Answers.{IsImageOf}
 use Rattle.reset_core.proofs.Storing.{goes_to_tile, image_below_mask, is_hint_of_tile, same_tiling}
+use Rattle.tiled_image.proofs.Places.{rect_from_tile}
 use Rattle.tiled_core.specs.declared.replica.TiledCore.TheInside.{Inside as TiledParts}
 use Rattle.tiled_core.specs.Stored.{core_of, parts_of, IsStored}
-use Rattle.tiled_core.proofs.Places.{rect_from_tile}
 
 -- an image that is a sound core's is what its image has to be
 pub is_image_of : (core : Core) (image : Raster) → IsSound core → image ≡ core.image → IsImageOf core image

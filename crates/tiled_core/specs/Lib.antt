@@ -1,12 +1,11 @@
 -- The definitions of this crate, file by file, and those from below that its clauses cite.
-pub use Rattle.grid_core.specs.Bounds
 pub use Rattle.grid_core.specs.Raster
 pub use Rattle.grid_core.specs.Rects
 pub use Rattle.grid_core.specs.Tiles
 pub use Rattle.stroke_lattice.specs.State
 pub use Rattle.marker_tiles.specs.Kept
-pub use Rattle.tile_generations.specs.CutMasks
 pub use Rattle.tile_generations.specs.Generations
+pub use Rattle.tile_generations.specs.Rims as TileRims
 pub use Rattle.core_rules.specs.Work
 pub use Rattle.core_rules.specs.Image
 pub use Rattle.core_rules.specs.Merge
@@ -14,22 +13,15 @@ pub use Rattle.core_rules.specs.Sweeps
 pub use Rattle.core_rules.specs.Hints
 pub use Rattle.core_rules.specs.Runs
 pub use Rattle.tile_work.specs.Least
-pub use Rattle.tile_work.specs.TileSet
 pub use Rattle.tile_work.specs.WorkTable
 pub use Rattle.reset_core.specs.Answers
-pub use Rattle.reset_core.specs.Bounding
-pub use Rattle.reset_core.specs.MergeSteps
 pub use Rattle.reset_core.specs.Parts
 pub use Rattle.reset_core.specs.Settling
 pub use Rattle.reset_core.specs.Sweeping
-pub mod Shown
-pub mod TileParts
-pub mod TiledImage
-pub mod SharedCopies
-pub mod Rims
-pub mod AllKept
-pub mod Ring
-pub mod Lending
+pub use Rattle.tiled_image.specs.Raising
+pub use Rattle.tiled_image.specs.Shown
+pub use Rattle.tiled_image.specs.Sides
+pub mod SharedStates
 pub mod Stored
 pub mod Patches
 pub mod Passing

@@ -14,8 +14,7 @@ ghost use Rattle.core_rules.specs.Work.{IsQuiet, IsTile, tiling, work_at};
 ghost use Rattle.reset_core.specs.Answers.{IsImageOf};
 
 use crate::beside::BesideJobs;
-use crate::image::TiledImage;
-use crate::rims::Rims;
+use crate::shared_states::SharedStates;
 use grid_core::{Conn, Grid, Memory, Pixel, Tiling};
 use marker_tiles::Markers;
 use std::alloc::Global;
@@ -24,6 +23,7 @@ use std::sync::Arc;
 use stroke_lattice::State;
 use tile_generations::{Ticket, TileMasks};
 use tile_work::{OpenBounds, TileSet, WorkTable};
+use tiled_image::{Rims, TiledImage};
 
 mod abandoning;
 mod converting;
@@ -59,6 +59,8 @@ pub struct TiledCore {
     mask_rims: Rims,
     // Room for the mask beside a tile, as `ring` is for the image.
     limits: Vec<u16>,
+    // The last copies of the strokes that were given out.
+    states: SharedStates,
 }
 
 impl Model for TiledCore {
@@ -205,6 +207,17 @@ impl TiledCore {
         ensures same { self.new ≡ self.old }
     {
         self.image.shared_copy(alloc, spare)
+    }
+
+    /// A copy of the strokes, to be shared. Where nobody else holds the oldest of the last three of these copies any
+    /// more, it is brought up to date by what was merged since it was made. Else all are copied.
+    ///
+    /// Errors: out of memory.
+    pub fn shared_state(&mut self, alloc: Global) -> Result<Arc<State>, Memory>
+        ensures state { IfOk result (λ copy. arc_value copy ≡ self.old.state) }
+        ensures same { self.new ≡ self.old }
+    {
+        self.states.next(alloc, &self.state)
     }
 
     /// The image lies between the marker of the strokes and the reconstruction of the mask from it, and where no work

@@ -56,10 +56,9 @@ impl TiledCore {
         if !present {
             return Handed::Stale;
         }
-        if self.image.get_in(tile, rect, hint.to_pixel) >= hint.value {
+        if !self.image.raise_in(tile, rect, hint.to_pixel, hint.value) {
             return Handed::Same;
         }
-        self.image.set_in(tile, rect, hint.to_pixel, hint.value);
         self.work.mark_dirty(tile);
         self.bounds
             .widen(tile, Bounds::none().including(hint.to_pixel));

@@ -43,6 +43,7 @@ impl TiledCore {
         match self.state.join(alloc, delta) {
             Ok(change) => {
                 self.beside.forget();
+                self.states.mark(alloc, delta);
                 self.image.renew(
                     &mut self.marks,
                     &mut self.markers,

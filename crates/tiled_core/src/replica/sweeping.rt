@@ -4,26 +4,30 @@ ghost use Rattle.std.specs.Prelude.{◌≡◌, ◌*◌, ◌≤◌, ◌↔◌, []
 ghost use Rattle.std.specs.Arc.{arc_value};
 ghost use Rattle.grid_core.specs.Raster.{IsImageSize};
 ghost use Rattle.grid_core.specs.Rects.{RectFits};
+ghost use Rattle.tile_generations.specs.{Jobs.IsSwept, Rims.IsRimOf};
 ghost use Rattle.core_rules.specs.Image.{IsAtMostPart, IsPart};
 ghost use Rattle.core_rules.specs.Work.{IsTile};
 ghost use Rattle.core_rules.specs.Sweeps.{IsGivenBack, IsJoined, IsKnown, IsNextJob, IsOut, IsReady, IsTaken};
 ghost use Rattle.core_rules.specs.Sweeps.{IsUnchanged, tile_rect};
 ghost use Rattle.reset_core.specs.Answers.{IsJoinable};
-ghost use Rattle.reset_core.specs.Parts.{IsRaisedPart};
+ghost use Rattle.reset_core.specs.Parts.{AreBoundsAbove, IsRaisedPart};
 ghost use Rattle.reset_core.specs.Sweeping.{AreHintsOnceJoined, IsJudged};
+ghost use Rattle.tiled_image.specs.Raising.{IsBelowInside, RaisesAs};
+ghost use Rattle.tiled_image.specs.Shown.{value_in};
+ghost use Rattle.tiled_image.specs.Sides.{HasSides};
 ghost use Rattle.tiled_core.specs.Patches.{patch_of};
 
 use super::TiledCore;
-use crate::image::around_of;
 use border_queues::laws::{edges_are_open, same_image_same_edges};
 use border_queues::{Inbox, View, open_edges_around};
 use core_rules::Back;
 use core_rules::laws::{give_back_keeps_sound, take_keeps_sound};
-use grid_core::{Grid, Memory, Rect};
+use grid_core::{Bounds, Grid, Memory, Rect};
 use reset_core::parts::{counted_from, is_part};
 use std::alloc::Global;
 use std::sync::Arc;
-use tile_generations::{Job, Swept, Ticket};
+use tile_generations::{Job, Rim, Swept, Ticket};
+use tiled_image::around_of;
 
 impl TiledCore {
     /// The job of a tile that is dirty and not out: it shares the tile's pixels and mask, and has the next serial. The
@@ -49,7 +53,7 @@ impl TiledCore {
     }
 
     /// Gives back a swept tile, as [`Core::give_back`](reset_core::Core::give_back) does. What the sweep gave is put in
-    /// without a copy where the tile is as it was.
+    /// without a copy where the tile is as it was, but for its rim.
     ///
     /// Errors: out of memory, with the swept tile handed back; nothing has changed then.
     pub fn give_back(&mut self, alloc: Global, swept: Swept) -> Result<Back, (Swept, Memory)>
@@ -187,8 +191,8 @@ impl TiledCore {
         Back::Stranger
     }
 
-    // Joins a swept tile into the image: what the tile is then is put in. A pixel can raise another of the tile then
-    // only where it was above what the sweep gave; what it can raise beyond the tile is told.
+    // Joins a swept tile into the image. Where the tile is as it was when its job was taken, but for its rim, what the
+    // sweep gave is put in, and is shared then. Else the tile is copied, raised, and put in.
     //
     // Errors: out of memory; nothing has changed then.
     fn join(&mut self, alloc: Global, swept: &Swept, is_unchanged: bool) -> Result<(), Memory>
@@ -197,40 +201,59 @@ impl TiledCore {
         ensures joined { OnOk result (IsJoined self.old swept.now self.new) }
         ensures err { OnErr result (self.new ≡ self.old) }
     {
+        let tile = swept.ticket().tile;
+        let pixels = swept.pixels();
+        if is_unchanged || self.image.has_below(tile, swept.base()) {
+            let shared = swept.shared_pixels()?;
+            let above = self.image.bounds_over(tile, swept.rim());
+            return self.join_raised(alloc, swept, shared, swept.rim(), above);
+        }
+        self.image.fold(alloc, tile);
+        let above = self.image.bounds_above(tile, pixels, false);
+        let raised = self.raised_by(alloc, tile, pixels)?;
+        let rim = Rim::of(alloc, &raised)?;
+        let held = Arc::new(alloc, raised)?;
+        self.join_raised(alloc, swept, held, &rim, above)
+    }
+
+    // Joins a swept tile, where `part`, an image with this rim, raises the tile as the sweep does, and is put in. A
+    // pixel can raise another of the tile then only where it was above what the sweep gave; what it can raise beyond
+    // the tile is told.
+    //
+    // Errors: out of memory; nothing has changed then.
+    fn join_raised(
+        &mut self,
+        alloc: Global,
+        swept: &Swept,
+        part: Arc<Grid>,
+        rim: &Rim,
+        above: Bounds,
+    ) -> Result<(), Memory>
+        requires joinable { IsJoinable self.old swept.now.job }
+        requires swept { IsSwept swept.now }
+        requires part { RaisesAs (tile_rect self.old swept.now.job.ticket.tile) self.old.image swept.now.pixels
+            (arc_value part) }
+        requires inside { IsBelowInside (tile_rect self.old swept.now.job.ticket.tile) self.old.image
+            (value_in (tile_rect self.old swept.now.job.ticket.tile) (arc_value part)) }
+        requires rim { IsRimOf (arc_value part) rim.now }
+        requires above { AreBoundsAbove (tile_rect self.old swept.now.job.ticket.tile)
+            (tile_rect self.old swept.now.job.ticket.tile).h self.old.image swept.now.pixels above }
+        ensures joined { OnOk result (IsJoined self.old swept.now self.new) }
+        ensures err { OnErr result (self.new ≡ self.old) }
+    {
         give_back_keeps_sound();
         edges_are_open();
         let tile = swept.ticket().tile;
-        let raised = self.raised(alloc, swept, is_unchanged)?;
         let inbox = self.empty_inbox(alloc);
-        let hints = self.hints_once_joined(swept, &raised, inbox)?;
+        let hints = self.hints_once_joined(swept, rim, inbox)?;
         let tiling = self.markers.tiling();
         self.work.receive(&tiling, tile, hints.as_slice())?;
-        let pixels = swept.pixels();
-        let above = self.image.bounds_above(tile, pixels, is_unchanged);
-        self.image.put(tile, raised);
+        self.image.raise(tile, part, rim);
         self.bounds.set(tile, above);
         self.beside.leave(&tiling, tile);
         self.work.end_job(tile);
         self.work.keep_inbox(hints);
         Ok(())
-    }
-
-    // The tile as it is once the swept tile is joined. Where it is as it was when its job was taken, that is what the
-    // sweep gave, which is shared then.
-    //
-    // Errors: out of memory.
-    fn raised(&self, alloc: Global, swept: &Swept, is_unchanged: bool) -> Result<Arc<Grid>, Memory>
-        requires known { IsKnown self.now swept.now.job }
-        requires unchanged { IsTrue is_unchanged → IsUnchanged self.now swept.now.job }
-        ensures { IfOk result (λ raised. IsRaisedPart (tile_rect self.now swept.now.job.ticket.tile) self.now.image
-            swept.now.pixels (arc_value raised)) }
-    {
-        let pixels = swept.pixels();
-        if is_unchanged {
-            return swept.shared_pixels();
-        }
-        let raised = self.raised_by(alloc, swept.ticket().tile, pixels)?;
-        Ok(Arc::new(alloc, raised)?)
     }
 
     // The tile, raised to the piece, which has its size.
@@ -253,21 +276,22 @@ impl TiledCore {
         self.work.lend_inbox(alloc)
     }
 
-    // The hints of the tile's open edges, as they are once the swept tile is joined and the tile is as `raised` says,
-    // in an inbox that was empty.
+    // The hints of the tile's open edges, as they are once the swept tile is joined, in an inbox that was empty. An
+    // image with this rim raises the tile as the sweep does.
     //
     // Errors: out of memory.
     fn hints_once_joined(
         &mut self,
         swept: &Swept,
-        raised: &Grid,
+        rim: &Rim,
         mut inbox: Inbox,
     ) -> Result<Inbox, Memory>
         requires known { IsKnown self.old swept.now.job }
-        requires raised { IsRaisedPart (tile_rect self.old swept.now.job.ticket.tile) self.old.image swept.now.pixels
-            raised.now }
+        requires rim { HasSides (tile_rect self.old swept.now.job.ticket.tile) rim.now }
         requires empty { inbox.hints ≡ [] }
-        ensures told { IfOk result (λ told. AreHintsOnceJoined self.old swept.now told.hints) }
+        ensures told { IfOk result (λ told. (part : _) → IsRimOf part rim.now
+            → RaisesAs (tile_rect self.old swept.now.job.ticket.tile) self.old.image swept.now.pixels part
+            → AreHintsOnceJoined self.old swept.now told.hints) }
         ensures same { self.new ≡ self.old }
     {
         edges_are_open();
@@ -276,12 +300,12 @@ impl TiledCore {
         let tiling = self.markers.tiling();
         let generation = self.work.generation(tile);
         let around = around_of(&tiling, tile);
-        self.image.fill_ring(tile, &mut self.ring);
+        self.image.fill_raised_ring(tile, rim, &mut self.ring);
         self.mask_rims.fill_ring(&tiling, tile, &mut self.limits);
         let ring = patch(&self.ring, around);
         let limits = patch(&self.limits, around);
         let Ok(()) = open_edges_around(
-            raised, &ring, &limits, &tiling, tile, generation, self.conn, &mut inbox,
+            &ring, &limits, &tiling, tile, generation, self.conn, &mut inbox,
         ) else {
             return Err(Memory);
         };

@@ -14,4 +14,5 @@ invariant_of-self c = record {
   room = c.self.invariant.room;
   mask_rims = c.self.invariant.mask_rims;
   limits_room = c.self.invariant.limits_room;
+  states = c.self.invariant.states;
 }

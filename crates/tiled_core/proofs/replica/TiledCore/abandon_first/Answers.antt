@@ -19,6 +19,7 @@ invariant_of-self c =
       room = c.self.invariant.room;
       mask_rims = c.self.invariant.mask_rims;
       limits_room = c.self.invariant.limits_room;
+      states = c.self.invariant.states;
     }
 
 pub returns-in-Some-clause-first : goal.returns-in-Some-clause-first

@@ -1,249 +1,110 @@
 -- What the tactics leave open of `join`.
-use Rattle.std.proofs.Common.{◌<◌, length, ap, refl, subst, sym, ◌∙◌, arith}
-use Rattle.std.proofs.lemmas.Result.{err_from_is_err_and}
+use Rattle.std.proofs.Common.{◌≡◌, ℕ, ◌⊎◌, ap, inl, inr, refl, subst, sym}
 use Rattle.std.specs.Arc.{arc_value}
-use Rattle.grid_core.specs.{declared.rect.Rect.Rect, Rects.RectFits}
-use Rattle.grid_core.specs.Tiles.{Tiles, count_of, rect_of}
+use Rattle.grid_core.specs.{declared.rect.Rect.Rect, Raster.Raster, Rects.RectFits, Tiles.rect_of}
 use Rattle.tile_generations.specs.declared.ticket.Ticket.{Ticket}
-use Rattle.core_rules.specs.{Invariant.IsSound, Sweeps.IsKnown, Sweeps.tile_rect, Work.Core, Work.IsTile}
-use Rattle.core_rules.specs.Work as work
-use Rattle.reset_core.specs.{Parts.IsRaisedPart, Sweeping.AreHintsOnceJoined}
-use Rattle.reset_core.proofs.Sweeping.{tiling_is, stored_below, swept_is_piece, parts_joined, joined_is_stored}
-use Rattle.std.proofs.lemmas.Grind.{common_steps}
-use Rattle.tiled_core.specs.Stored.{parts_of}
-use Rattle.tiled_core.proofs.{JoinedTiles.kept_is_joined, StoredCore.is_kept_tile, StoredCore.kept_rect}
-use Rattle.tiled_core.proofs.StoredCore.{kept_tile_fits}
+use Rattle.core_rules.specs.{Sweeps.IsUnchanged, Sweeps.tile_rect, Work.Core, Work.IsTile}
+use Rattle.reset_core.specs.Parts.{AreBoundsAbove, IsPieceFor, IsRaisedPart}
+use Rattle.reset_core.proofs.Sweeping.{swept_is_piece}
+use Rattle.tiled_image.specs.Raising.{IsBelowInside, IsBelowRim}
+use Rattle.tiled_image.specs.Shown.{value_in}
+use Rattle.tiled_core.specs.{Stored.core_of, Stored.parts_of}
+use Rattle.tiled_core.proofs.JoinedTiles.{kept_is_below, raised_is_above, raised_raises}
+use Rattle.tiled_core.proofs.StoredCore.{kept_rect, kept_tile_fits, of_core, of_kept}
 use Rattle.tiled_core.proofs.replica.TiledCore.join.Goals as goal
+use Rattle.tiled_core.proofs.replica.TiledCore.join.Goals.{then-is_unchanged-via-then-is_unchanged}
+use Rattle.tiled_core.proofs.replica.TiledCore.join.Goals.{then-is_unchanged-via-else-is_unchanged+then-has_below}
 
--- ---- the tile as it is then
+-- ---- where the tile is as it was, but for its rim
 
-pub returns-in_err-raised-clause-joined : goal.returns-in_err-raised-clause-joined
-returns-in_err-raised-clause-joined c =
-    let p = err_from_is_err_and c.from_residual.result c.from_residual.ensures.1 in
-    rw p.1 tt
+-- the tile is as it was, or is so but for its rim
+is_kept : (c : goal.After-rim-then-is_unchanged)
+    → IsUnchanged c.args.self.now c.args.swept.now.job
+    ⊎ IsBelowRim (tile_rect c.args.self.now c.args.swept.now.job.ticket.tile) c.args.self.now.image
+    c.args.swept.now.job.base
+is_kept c = elim c.then-is_unchanged.branch [
+  | then-is_unchanged-via-then-is_unchanged w ↦ inl (c.requires.unchanged w.if-is_unchanged.true)
+  | then-is_unchanged-via-else-is_unchanged+then-has_below w ↦
+      let core = c.args.self.now in
+      let base = c.args.swept.now.job.base in
+      let tile = c.ticket-tile.result.tile in
+      let below =
+      subst (λ (b : Raster). IsBelowRim (rect_of c.self.inside.image.tiling tile) c.self.inside.image.image b)
+      w.base.ensures (w.has_below.ensures w.if-has_below.true) in
+      let tile_is = ap (λ (k : Ticket). k.tile) c.ticket-tile.ensures in
+      inr (subst (λ n. IsBelowRim (tile_rect core n) core.image base) tile_is
+      (of_core c.self.inside core c.self.view_is c.self.invariant (λ rect whole. IsBelowRim rect whole base) tile
+      below))
+]
 
-pub returns-in_err-raised-clause-err : goal.returns-in_err-raised-clause-err
-returns-in_err-raised-clause-err c =
-    let p = err_from_is_err_and c.from_residual.result c.from_residual.ensures.1 in
-    rw p.1 refl
+is_below : (c : goal.After-rim-then-is_unchanged)
+    → IsBelowInside (tile_rect c.args.self.now c.args.swept.now.job.ticket.tile) c.args.self.now.image
+    (value_in (tile_rect c.args.self.now c.args.swept.now.job.ticket.tile) c.args.swept.now.pixels)
+is_below c =
+    kept_is_below c.args.self.now c.args.swept.now c.pixels-pixels.ensures.swept c.requires.joinable.known (is_kept c)
 
--- ---- hints
-
-pub hints_once_joined-requires-clause-known : goal.hints_once_joined-requires-clause-known
-hints_once_joined-requires-clause-known c =
-    subst (λ (k : Core). IsKnown k c.args.swept.now.job) (sym c.empty_inbox-inbox.ensures.same)
-    c.requires.joinable.known
-
-pub hints_once_joined-requires-clause-raised : goal.hints_once_joined-requires-clause-raised
-hints_once_joined-requires-clause-raised c =
-    let swept = c.args.swept.now in
-    rw c.deref.ensures
-    (subst (λ (k : Core). IsRaisedPart (tile_rect k swept.job.ticket.tile) k.image swept.pixels
-    (arc_value c.in_ok-raised.raised)) (sym c.empty_inbox-inbox.ensures.same) c.in_ok-raised.ensures)
-
-pub hints_once_joined-requires-clause-empty : goal.hints_once_joined-requires-clause-empty
-hints_once_joined-requires-clause-empty c = c.empty_inbox-inbox.ensures.empty
-
-pub returns-in_err-hints-clause-joined : goal.returns-in_err-hints-clause-joined
-returns-in_err-hints-clause-joined c =
-    let p = err_from_is_err_and c.from_residual-in_err-hints.result c.from_residual-in_err-hints.ensures.1 in
-    rw p.1 tt
-
-pub returns-in_err-hints-clause-err : goal.returns-in_err-hints-clause-err
-returns-in_err-hints-clause-err c =
-    let p = err_from_is_err_and c.from_residual-in_err-hints.result c.from_residual-in_err-hints.ensures.1 in
-    rw p.1 (c.hints_once_joined.ensures.same ∙ c.empty_inbox-inbox.ensures.same)
-
-pub receive-requires-clause-touching : goal.receive-requires-clause-touching
-receive-requires-clause-touching c =
-    let parts = parts_of c.self.inside in
+pub join_raised-requires-clause-inside : goal.join_raised-requires-clause-inside
+join_raised-requires-clause-inside c =
     let core = c.args.self.now in
-    let swept = c.args.swept.now in
-    let view = c.self.view_is ∙ c.hints_once_joined.ensures.same ∙ c.empty_inbox-inbox.ensures.same in
-    let told =
-    subst (λ (k : Core). AreHintsOnceJoined k swept c.in_ok-hints.hints.hints) c.empty_inbox-inbox.ensures.same
-    c.in_ok-hints.ensures.told in
-    let tile_is = ap (λ (k : Ticket). k.tile) c.ticket-tile.ensures in
-    let tiling = c.tiling-tiling.ensures in
-    let tiles = tiling_is parts core c.tiling-tiling.result view tiling.value tiling.width tiling.height in
-    rw (c.as_slice.ensures, tile_is, tiles) told.touching
+    let rect = tile_rect core c.args.swept.now.job.ticket.tile in
+    let shared_is : arc_value c.in_ok-shared.shared ≡ c.args.swept.now.pixels = c.in_ok-shared.ensures in
+    subst (λ (r : Raster). IsBelowInside rect core.image (value_in rect r)) (sym shared_is) (is_below c)
 
-pub receive-requires-clause-from : goal.receive-requires-clause-from
-receive-requires-clause-from c =
-    let parts = parts_of c.self.inside in
-    let core = c.args.self.now in
-    let view = c.self.view_is ∙ c.hints_once_joined.ensures.same ∙ c.empty_inbox-inbox.ensures.same in
-    let tile_is = ap (λ (k : Ticket). k.tile) c.ticket-tile.ensures in
-    let tiling = c.tiling-tiling.ensures in
-    let tiles = tiling_is parts core c.tiling-tiling.result view tiling.value tiling.width tiling.height in
-    let sound = subst IsSound view c.self.invariant.stored.sound in
-    let within : c.args.swept.now.job.ticket.tile < count_of (work.tiling core) =
-    omega (arith, c.requires.joinable.known.is_tile, sound.shape.tiles) in
-    subst (λ (ts : Tiles). c.ticket-tile.result.tile < count_of ts) (sym tiles)
-    (subst (λ n. n < count_of (work.tiling core)) (sym tile_is) within)
-
-pub receive-requires-clause-tiles : goal.receive-requires-clause-tiles
-receive-requires-clause-tiles c = grind (arith, common_steps)
-
--- where there was no room for the hints, the core stays as it was
-pub invariant_of-self : goal.invariant_of-self
-invariant_of-self c = rw c.in_err-receive.ensures.err c.self.invariant
-
-pub returns-in_err-receive-clause-joined : goal.returns-in_err-receive-clause-joined
-returns-in_err-receive-clause-joined c =
-    let p = err_from_is_err_and c.from_residual-in_err-receive.result c.from_residual-in_err-receive.ensures.1 in
-    rw p.1 tt
-
-pub returns-in_err-receive-clause-err : goal.returns-in_err-receive-clause-err
-returns-in_err-receive-clause-err c =
-    let p = err_from_is_err_and c.from_residual-in_err-receive.result c.from_residual-in_err-receive.ensures.1 in
-    rw (p.1, c.in_err-receive.ensures.err)
-    (c.self.view_is ∙ c.hints_once_joined.ensures.same ∙ c.empty_inbox-inbox.ensures.same)
-
--- ---- bounds
-
-pub bounds_above-above-requires-clause-tile : goal.bounds_above-above-requires-clause-tile
-bounds_above-above-requires-clause-tile c =
-    let core = c.args.self.now in
-    let view = c.self.view_is ∙ c.hints_once_joined.ensures.same ∙ c.empty_inbox-inbox.ensures.same in
-    let tile_is = ap (λ (k : Ticket). k.tile) c.ticket-tile.ensures in
-    is_kept_tile c.self.inside core view c.self.invariant c.ticket-tile.result.tile
-    (subst (IsTile core) (sym tile_is) c.requires.joinable.known.is_tile)
-
-pub bounds_above-above-requires-clause-piece : goal.bounds_above-above-requires-clause-piece
-bounds_above-above-requires-clause-piece c =
+pub join_raised-requires-clause-above : goal.join_raised-requires-clause-above
+join_raised-requires-clause-above c =
     let tiled = c.self.inside in
     let core = c.args.self.now in
+    let swept = c.args.swept.now in
+    let pixels = swept.pixels in
+    let view = c.self.view_is in
+    let stored = c.self.invariant in
     let tile = c.ticket-tile.result.tile in
-    let view = c.self.view_is ∙ c.hints_once_joined.ensures.same ∙ c.empty_inbox-inbox.ensures.same in
     let tile_is = ap (λ (k : Ticket). k.tile) c.ticket-tile.ensures in
-    let rect_is = kept_rect tiled core view c.self.invariant tile in
+    let rect_is = kept_rect tiled core view stored tile in
     let fits =
-    kept_tile_fits tiled core view c.self.invariant tile
-    (subst (IsTile core) (sym tile_is) c.requires.joinable.known.is_tile) in
-    swept_is_piece (parts_of tiled) core c.args.swept.now tile (rect_of tiled.image.tiling tile)
-    c.pixels-pixels.result.now view tile_is rect_is c.pixels-pixels.ensures.value
+    kept_tile_fits tiled core view stored tile (subst (IsTile core) (sym tile_is) c.requires.joinable.known.is_tile) in
+    let piece : IsPieceFor (rect_of tiled.image.tiling tile) tiled.image.image pixels =
+    swept_is_piece (parts_of tiled) core swept tile (rect_of tiled.image.tiling tile) pixels view tile_is rect_is refl
     (subst (λ (r : Rect). RectFits core.image.width core.image.height r) (sym rect_is) fits)
-    c.pixels-pixels.ensures.swept c.requires.joinable.known
+    c.pixels-pixels.ensures.swept c.requires.joinable.known in
+    let below =
+    of_kept tiled core view stored (λ rect whole. IsBelowInside rect whole (value_in rect pixels)) tile
+    (subst (λ n. IsBelowInside (tile_rect core n) core.image (value_in (tile_rect core n) pixels)) (sym tile_is)
+    (is_below c)) in
+    subst (λ n. AreBoundsAbove (tile_rect core n) (tile_rect core n).h core.image pixels c.bounds_over-above.result)
+    tile_is
+    (of_core tiled core view stored (λ rect whole. AreBoundsAbove rect rect.h whole pixels c.bounds_over-above.result)
+    tile (c.bounds_over-above.ensures pixels piece c.rim.ensures below))
 
-pub bounds_above-above-requires-clause-above : goal.bounds_above-above-requires-clause-above
-bounds_above-above-requires-clause-above c is_unchanged =
-    let tiled = c.self.inside in
-    let core = c.args.self.now in
-    let tile = c.ticket-tile.result.tile in
-    let view = c.self.view_is ∙ c.hints_once_joined.ensures.same ∙ c.empty_inbox-inbox.ensures.same in
-    let tile_is = ap (λ (k : Ticket). k.tile) c.ticket-tile.ensures in
-    stored_below (parts_of tiled) core c.args.swept.now tile (rect_of tiled.image.tiling tile)
-    c.pixels-pixels.result.now view tile_is (kept_rect tiled core view c.self.invariant tile)
-    c.pixels-pixels.ensures.value c.pixels-pixels.ensures.swept c.requires.joinable.known
-    (c.requires.unchanged is_unchanged)
+-- ---- where it is not
 
--- ---- what is put in
+-- the image that is held is the tile, raised to what the sweep gave
+raised_is : (core : Core) (t tile : ℕ) (pixels held raised part : Raster) → tile ≡ t → held ≡ pixels → part ≡ raised
+    → IsRaisedPart (tile_rect core tile) core.image held raised → IsRaisedPart (tile_rect core t) core.image pixels part
+raised_is core t tile pixels held raised part tile_is held_is part_is is_raised =
+    subst (IsRaisedPart (tile_rect core t) core.image pixels) (sym part_is)
+    (subst (λ (r : Raster). IsRaisedPart (tile_rect core t) core.image r raised) held_is
+    (subst (λ n. IsRaisedPart (tile_rect core n) core.image held raised) tile_is is_raised))
 
-pub put-requires-clause-tile : goal.put-requires-clause-tile
-put-requires-clause-tile c =
-    let core = c.args.self.now in
-    let view = c.self.view_is ∙ c.hints_once_joined.ensures.same ∙ c.empty_inbox-inbox.ensures.same in
-    let tile_is = ap (λ (k : Ticket). k.tile) c.ticket-tile.ensures in
-    is_kept_tile c.self.inside core view c.self.invariant c.ticket-tile.result.tile
-    (subst (IsTile core) (sym tile_is) c.requires.joinable.known.is_tile)
+-- the core once its tile is folded
+abbrev folded : goal.After-rim-2-1 → Core
+folded c = core_of (record c.self-2.inside { image = c.fold.new.self })
 
-pub put-requires-clause-width : goal.put-requires-clause-width
-put-requires-clause-width c =
-    let core = c.args.self.now in
-    let view = c.self.view_is ∙ c.hints_once_joined.ensures.same ∙ c.empty_inbox-inbox.ensures.same in
-    let tile_is = ap (λ (k : Ticket). k.tile) c.ticket-tile.ensures in
-    let rect_is = kept_rect c.self.inside core view c.self.invariant c.ticket-tile.result.tile in
-    c.in_ok-raised.ensures.width ∙ ap (λ n. (tile_rect core n).w) (sym tile_is) ∙ ap (λ (r : Rect). r.w) (sym rect_is)
+part_is_raised : (c : goal.After-rim-2-1)
+    → IsRaisedPart (tile_rect (folded c) c.args.swept.now.job.ticket.tile) (folded c).image c.args.swept.now.pixels
+    (arc_value c.in_ok-held.held)
+part_is_raised c =
+    raised_is (folded c) c.args.swept.now.job.ticket.tile c.ticket-tile.result.tile c.args.swept.now.pixels
+    c.pixels-pixels.result.now c.in_ok-raised.raised (arc_value c.in_ok-held.held)
+    (ap (λ (k : Ticket). k.tile) c.ticket-tile.ensures) c.pixels-pixels.ensures.value c.in_ok-held.ensures.ok
+    c.in_ok-raised.ensures
 
-pub put-requires-clause-height : goal.put-requires-clause-height
-put-requires-clause-height c =
-    let core = c.args.self.now in
-    let view = c.self.view_is ∙ c.hints_once_joined.ensures.same ∙ c.empty_inbox-inbox.ensures.same in
-    let tile_is = ap (λ (k : Ticket). k.tile) c.ticket-tile.ensures in
-    let rect_is = kept_rect c.self.inside core view c.self.invariant c.ticket-tile.result.tile in
-    c.in_ok-raised.ensures.height ∙ ap (λ n. (tile_rect core n).h) (sym tile_is) ∙ ap (λ (r : Rect). r.h) (sym rect_is)
+pub join_raised-requires-2-clause-part : goal.join_raised-requires-2-clause-part
+join_raised-requires-2-clause-part c =
+    raised_raises (tile_rect (folded c) c.args.swept.now.job.ticket.tile) (folded c).image c.args.swept.now.pixels
+    (arc_value c.in_ok-held.held) (part_is_raised c)
 
-pub set-requires : goal.set-requires
-set-requires c =
-    let view = c.self.view_is ∙ c.hints_once_joined.ensures.same ∙ c.empty_inbox-inbox.ensures.same in
-    omega (
-      arith,
-      c.requires.joinable.known.is_tile,
-      ap (λ (k : Ticket). k.tile) c.ticket-tile.ensures,
-      ap (λ (k : Core). length k.tiles) view,
-      c.self.invariant.stored.sound.shape.tiles,
-      c.self.invariant.stored.bounded.count,
-    )
-
-pub end_job-requires : goal.end_job-requires
-end_job-requires c =
-    let view = c.self.view_is ∙ c.hints_once_joined.ensures.same ∙ c.empty_inbox-inbox.ensures.same in
-    omega (
-      arith,
-      c.requires.joinable.known.is_tile,
-      ap (λ (k : Ticket). k.tile) c.ticket-tile.ensures,
-      ap (λ (k : Core). length k.tiles) view,
-      c.in_ok-receive.ensures.ok.count,
-    )
-
--- ---- what is joined
-
-pub invariant_of-self-2 : goal.invariant_of-self-2
-invariant_of-self-2 c =
-    let tiled = c.self.inside in
-    let core = c.args.self.now in
-    let swept = c.args.swept.now in
-    let tile = c.ticket-tile.result.tile in
-    let pixels = c.pixels-pixels.ensures in
-    let view = c.self.view_is ∙ c.hints_once_joined.ensures.same ∙ c.empty_inbox-inbox.ensures.same in
-    let told =
-    subst (λ (k : Core). AreHintsOnceJoined k swept c.in_ok-hints.hints.hints) c.empty_inbox-inbox.ensures.same
-    c.in_ok-hints.ensures.told in
-    let tile_is = ap (λ (k : Ticket). k.tile) c.ticket-tile.ensures in
-    let tiling = c.tiling-tiling.ensures in
-    let tiles = tiling_is (parts_of tiled) core c.tiling-tiling.result view tiling.value tiling.width tiling.height in
-    let joined =
-    kept_is_joined tiled core swept.job.ticket.tile tile swept.pixels c.pixels-pixels.result.now
-    (arc_value c.in_ok-raised.raised) c.put.new.self.image view c.self.invariant tile_is pixels.value
-    c.in_ok-raised.ensures c.put.ensures.part c.put.ensures.patch in
-    rw c.set.ensures (record {
-      stored =
-          joined_is_stored (parts_of tiled) core swept c.tiling-tiling.result tile (rect_of tiled.image.tiling tile)
-          c.pixels-pixels.result.now c.put.new.self.image c.receive.new.self c.keep_inbox.new.self
-          c.in_ok-hints.hints.hints c.as_slice.result.now view tiles tile_is
-          (kept_rect tiled core view c.self.invariant tile) pixels.value joined told.touching c.as_slice.ensures
-          c.in_ok-receive.ensures.ok (c.keep_inbox.ensures ∙ c.end_job.ensures) told.hints
-          c.requires.joinable.known.is_tile c.give_back_keeps_sound.ensures c.edges_are_open.ensures
-          c.bounds_above-above.result c.bounds_above-above.ensures c.self.invariant.stored pixels.swept
-          c.requires.joinable.known c.requires.joinable.out c.requires.joinable.base;
-      tiling = c.put.ensures.tiling ∙ c.self.invariant.tiling;
-      beside = c.leave.ensures ∙ c.self.invariant.beside;
-      room = c.self.invariant.room;
-      mask_rims = c.self.invariant.mask_rims;
-      limits_room = c.self.invariant.limits_room;
-    })
-
-pub returns-clause-joined : goal.returns-clause-joined
-returns-clause-joined c =
-    let tiled = c.self.inside in
-    let core = c.args.self.now in
-    let swept = c.args.swept.now in
-    let tile = c.ticket-tile.result.tile in
-    let pixels = c.pixels-pixels.ensures in
-    let view = c.self.view_is ∙ c.hints_once_joined.ensures.same ∙ c.empty_inbox-inbox.ensures.same in
-    let told =
-    subst (λ (k : Core). AreHintsOnceJoined k swept c.in_ok-hints.hints.hints) c.empty_inbox-inbox.ensures.same
-    c.in_ok-hints.ensures.told in
-    let tile_is = ap (λ (k : Ticket). k.tile) c.ticket-tile.ensures in
-    let tiling = c.tiling-tiling.ensures in
-    let tiles = tiling_is (parts_of tiled) core c.tiling-tiling.result view tiling.value tiling.width tiling.height in
-    let joined =
-    kept_is_joined tiled core swept.job.ticket.tile tile swept.pixels c.pixels-pixels.result.now
-    (arc_value c.in_ok-raised.raised) c.put.new.self.image view c.self.invariant tile_is pixels.value
-    c.in_ok-raised.ensures c.put.ensures.part c.put.ensures.patch in
-    parts_joined (parts_of tiled) core swept c.tiling-tiling.result tile (rect_of tiled.image.tiling tile)
-    c.pixels-pixels.result.now c.put.new.self.image c.receive.new.self c.keep_inbox.new.self c.in_ok-hints.hints.hints
-    c.as_slice.result.now view tiles tile_is (kept_rect tiled core view c.self.invariant tile) pixels.value joined
-    told.touching c.as_slice.ensures c.in_ok-receive.ensures.ok (c.keep_inbox.ensures ∙ c.end_job.ensures) told.hints
-    c.requires.joinable.known.is_tile
+pub join_raised-requires-2-clause-inside : goal.join_raised-requires-2-clause-inside
+join_raised-requires-2-clause-inside c =
+    raised_is_above (tile_rect (folded c) c.args.swept.now.job.ticket.tile) (folded c).image c.args.swept.now.pixels
+    (arc_value c.in_ok-held.held) (part_is_raised c)

@@ -14,7 +14,8 @@ use Rattle.tiled_core.proofs.replica.TiledCore.merge.Goals.{After-mark_hits, Aft
 use Rattle.core_rules.proofs.Resets.{refused_is_not_acceptable}
 use Rattle.core_rules.specs.declared.error.CoreError.TheVariants as errors
 use Rattle.std.proofs.lemmas.Grind.{common_steps}
-use Rattle.tiled_core.specs.{Stored.parts_of, TiledImage.TiledRaster}
+use Rattle.tiled_image.specs.TiledImage.{TiledRaster}
+use Rattle.tiled_core.specs.Stored.{parts_of}
 use Rattle.tiled_core.proofs.replica.TiledCore.merge.Goals as goal
 
 -- the parts that the core was stored as
@@ -114,6 +115,7 @@ invariant_of-self c =
       room = c.self.invariant.room;
       mask_rims = c.self.invariant.mask_rims;
       limits_room = c.self.invariant.limits_room;
+      states = c.self.invariant.states;
     })
 
 is_acceptable : (c : After-into) → IsAcceptable c.args.self.now c.args.delta.now
@@ -148,6 +150,7 @@ invariant_of-self-in-Err c =
       room = c.self.invariant.room;
       mask_rims = c.self.invariant.mask_rims;
       limits_room = c.self.invariant.limits_room;
+      states = c.self.invariant.states;
     })
 
 -- ---- what the calls require
@@ -253,6 +256,7 @@ invariant_of-self-in-Ok c =
       room = rw same c.self.invariant.room;
       mask_rims = rw (same, c.renew.ensures.renewed.marker.mask) c.self.invariant.mask_rims;
       limits_room = rw same c.self.invariant.limits_room;
+      states = c.mark.ensures c.self.inside.state c.join.new.self c.self.invariant.states c.in-Ok.ensures.join;
     }
 
 pub returns-in-Ok-clause-merged : goal.returns-in-Ok-clause-merged

@@ -1,7 +1,0 @@
--- What the tactics leave open of `into_rows`.
-use Rattle.std.proofs.Common.{ap, ◌∙◌}
-use Rattle.tiled_core.specs.TiledImage.{TiledRaster}
-use Rattle.tiled_core.proofs.image.TiledImage.into_rows.Goals as goal
-
-pub returns : goal.returns
-returns c = c.write_newer.ensures.rows ∙ ap (λ (r : TiledRaster). r.image) c.self.view_is

@@ -1,0 +1,51 @@
+-- What the tactics leave open of `widened_at`.
+use Rattle.std.proofs.Common.{◌+◌, ◌≤◌, length, ap, ◌∙◌, arith}
+use Rattle.tiled_image.specs.{Rims.strip_at, Sides.side_of}
+use Rattle.tiled_image.proofs.{RaisedRims.side_ends, RimsAbove.widened_strip}
+use Rattle.tiled_image.proofs.Strips.{start_small, tile_strip_within}
+use Rattle.tiled_image.proofs.rims.raising.widened_at.Goals as goal
+
+pub overflow_add-end : goal.overflow_add-end
+overflow_add-end c =
+    let a = c.args in
+    let tiling = a.tiling.now in
+    let tiled = c.side.ensures.tiled in
+    omega (
+      arith,
+      c.start_of-start.ensures,
+      ap length c.side_of-side.ensures,
+      c.requires.rim a.edge,
+      tile_strip_within tiling a.tile tiled c.requires.tile a.edge,
+      start_small tiling a.tile tiled c.requires.tile a.edge,
+    )
+
+pub offset_bounds-values-start : goal.offset_bounds-values-start
+offset_bounds-values-start c =
+    let a = c.args in
+    omega (
+      arith,
+      c.start_of-start.ensures,
+      start_small a.tiling.now a.tile c.side.ensures.tiled c.requires.tile a.edge,
+    )
+
+pub slice_bounds-widened_by_line-end : goal.slice_bounds-widened_by_line-end
+slice_bounds-widened_by_line-end c =
+    let a = c.args in
+    let within : c.start_of-start.result + length c.side_of-side.result.now ≤ length a.values.now =
+    omega (
+      arith,
+      side_ends a.tiling.now a.tile c.side.ensures.tiled c.requires.tile a.edge (side_of a.edge a.rim.now)
+          (c.requires.rim a.edge),
+      ap length c.side_of-side.ensures,
+      c.start_of-start.ensures,
+      c.requires.count,
+    ) in
+    within
+
+pub returns : goal.returns
+returns c =
+    let a = c.args in
+    widened_strip a.tiling.now a.tile c.side.ensures.tiled c.requires.tile a.edge c.strip_at-strip.result
+    c.start_of-start.result c.side_of-side.result.now (side_of a.edge a.rim.now) a.values.now a.before
+    c.widened_by_line.result (c.strip_at-strip.ensures ∙ ap (strip_at a.edge) c.rect.ensures.value)
+    c.start_of-start.ensures c.side_of-side.ensures (c.requires.rim a.edge) c.requires.count c.widened_by_line.ensures
