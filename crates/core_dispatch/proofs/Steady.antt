@@ -44,15 +44,20 @@ reason before after s d GenerationsSpent (buries, (t, is_tile, spent)) =
 reason before after s d Memory h = h
 reason before after s d BadSide h = h
 
-pub steady_books : (b : BooksView) (after : Core) → IsFaithful (ledger b) → IsSteady b.core after
+kept_books : (b : BooksView) (after : Core) → IsFaithful (ledger b) → IsSteady b.core after
     → IsFaithful (ledger (record b { core = after }))
-steady_books b after f s = record {
+kept_books b after f s = record {
   opening = subst (λ (a : State). IsBelow b.opening a) (sym s.state) f.opening;
   kept = λ pen n delta k. subst (λ (a : State). IsBelow delta a) (sym s.state) (f.kept pen n delta k);
   strokes = λ tag seed h. f.strokes tag seed (subst (λ (a : State). HasStroke a tag seed) s.state h);
   tombstones = λ tag h. f.tombstones tag (subst (λ (a : State). HasTombstone a tag) s.state h);
   refused = λ i r e. let o = f.refused i r e in (o.0, reason b.core after s r.delta r.error o.1);
 }
+
+-- the core that the box lent became another one
+pub steady_books : (b : BooksView) (lent after : Core) → lent ≡ b.core → IsFaithful (ledger b) → IsSteady lent after
+    → IsFaithful (ledger (record b { core = after }))
+steady_books b lent after same f s = kept_books b after f (subst (λ (k : Core). IsSteady k after) same s)
 
 -- what is kept twice is kept
 pub rest_kept : (a b c : BooksView) → KeepsRest a b → KeepsRest b c → KeepsRest a c

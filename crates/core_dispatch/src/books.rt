@@ -27,13 +27,15 @@ mod taking;
 /// listed; and each edit that is listed is the pen's edit of its number, and is refused for a reason that stands still.
 #[derive(Drop)]
 pub struct Books {
-    core: TiledCore,
+    // In a box, so that whoever owns books moves and lets go a place, and not each field of a core.
+    core: Box<TiledCore>,
     opening: State,
     desks: Vec<PenDesk>,
     refusals: Vec<Refusal>,
 }
 
 impl Model for Books {
+    ghost use Rattle.std.specs.Box.{box_value};
     ghost use Rattle.tiled_core.specs.contracts.replica.TiledCore as replica;
     ghost use Rattle.stroke_lattice.specs.contracts.state.State as strokes;
     ghost use Rattle.core_dispatch.specs.contracts.desk.PenDesk as desk;
@@ -45,14 +47,14 @@ impl Model for Books {
     ghost coded = { books_code replica.the_row.coded strokes.the_row.coded desk.the_row.coded refusal.the_row.coded };
 
     ghost view = { λ b. record {
-      core = b.core;
+      core = box_value b.core;
       opening = b.opening;
       desks = b.desks.items;
       refusals = b.refusals.items;
     } };
 
     ghost invariant = { λ b. IsFaithful (ledger (record {
-      core = b.core;
+      core = box_value b.core;
       opening = b.opening;
       desks = b.desks.items;
       refusals = b.refusals.items;
@@ -98,7 +100,11 @@ impl Books {
             Ok(opening) => opening,
             Err(_) => return Err((core, Memory)),
         };
-        match TiledCore::over(alloc, core) {
+        let core = match TiledCore::over(alloc, core) {
+            Ok(core) => core,
+            Err(returned) => return Err(returned),
+        };
+        match Box::new(alloc, core) {
             Ok(core) => Ok(OpenedBooks {
                 books: Books {
                     core,
@@ -108,7 +114,7 @@ impl Books {
                 },
                 pens,
             }),
-            Err(returned) => Err(returned),
+            Err(failed) => Err((failed.value.into_core(), Memory)),
         }
     }
 
@@ -140,7 +146,7 @@ impl Books {
         ensures refusals { result.1.items ≡ self.refusals }
     {
         let Books { core, refusals, .. } = self;
-        (core.into_core(), refusals)
+        (Box::into_inner(core).into_core(), refusals)
     }
 }
 

@@ -76,8 +76,9 @@ impl Keeper {
     /// shot or a later one. It may wait for glimpses that are held.
     ///
     /// The strokes are copied only where an edit was merged since the last show, and the image only where an edit was
-    /// merged, a report was taken or a hint was handed over. Of the image only the tiles are copied that changed since
-    /// the third last copy was made, where nobody holds that copy any more. The mask is never copied.
+    /// merged, a report was taken or a hint was handed over. Where nobody holds the third last copy any more, it is
+    /// brought up to date: of the strokes only those are copied that were merged since it was made, and of the image
+    /// only the tiles that changed. The mask is never copied.
     ///
     /// Errors: out of memory. The chain is as it was then.
     #[tactic(auto, using(crate::proofs::Following::may_follow, crate::proofs::Following::shot_follows))]
@@ -91,37 +92,40 @@ impl Keeper {
         ensures books { books_of self.new ≡ books_of self.old }
         ensures owner { owner_of self.new ≡ owner_of self.old }
     {
+        let state = self.next_state()?;
         let image = self.next_image()?;
-        let shot = self.next_shot(image)?;
+        let shot = self.next_shot(state, image)?;
         let told = self.publisher.show(rt, shot)?;
         self.has_state = true;
         self.has_image = true;
         Ok(told)
     }
 
-    // A shot of the core as it is, whose image is this.
+    // A shot of the core as it is, whose strokes and image are these.
     //
     // Errors: out of memory.
-    fn next_shot(&self, image: Arc<Grid>) -> Result<Shot, Memory>
-        requires { arc_value image ≡ (core_of self.now).image }
+    fn next_shot(&self, state: Arc<State>, image: Arc<Grid>) -> Result<Shot, Memory>
+        requires state { arc_value state ≡ (core_of self.now).state }
+        requires image { arc_value image ≡ (core_of self.now).image }
         ensures shot { IfOk result (IsShotOf (core_of self.now)) }
         ensures sound { IfOk result IsSound }
     {
         let mask = Arc::try_clone(&self.mask)?;
-        let state = self.next_state()?;
         Ok(shot_of(self.dispatcher.books.core(), mask, state, image))
     }
 
     // The strokes of the core: those of the last shot, where they are the same.
     //
     // Errors: out of memory.
-    fn next_state(&self) -> Result<Arc<State>, Memory>
-        ensures { IfOk result (λ state. arc_value state ≡ (core_of self.now).state) }
+    fn next_state(&mut self) -> Result<Arc<State>, Memory>
+        ensures state { IfOk result (λ state. arc_value state ≡ (core_of self.old).state) }
+        ensures dispatcher { self.new.dispatcher ≡ self.old.dispatcher }
+        ensures publisher { self.new.publisher ≡ self.old.publisher }
     {
         if self.has_state {
             return Ok(Arc::try_clone(self.publisher.last().state())?);
         }
-        strokes_of(self.alloc, self.dispatcher.books.core())
+        self.dispatcher.books.shared_state(self.alloc)
     }
 
     // The image of the core: that of the last shot, where it is the same.
@@ -184,18 +188,6 @@ fn eye_of(publisher: &mut Publisher) -> Result<Eye, OpenError>
     }
 }
 
-// A copy of the strokes of a core, to be shared.
-//
-// Errors: out of memory.
-fn strokes_of(alloc: Global, core: &TiledCore) -> Result<Arc<State>, Memory>
-    ensures { IfOk result (λ copy. arc_value copy ≡ core.now.state) }
-{
-    let Ok(copy) = core.state().copy(alloc) else {
-        return Err(Memory);
-    };
-    Ok(Arc::new(alloc, copy)?)
-}
-
 // The first shot of a core, with the image in a spare one where that is there and of its size.
 //
 // Errors: out of memory.
@@ -211,7 +203,7 @@ fn first_shot(
     ensures same { books.new ≡ books.old }
 {
     let shared = Arc::try_clone(mask)?;
-    let state = strokes_of(alloc, books.core())?;
+    let state = books.shared_state(alloc)?;
     let image = books.shared_image(alloc, spare)?;
     Ok(shot_of(books.core(), shared, state, image))
 }

@@ -4,6 +4,6 @@ use Rattle.core_dispatch.proofs.books.Books.abandon.Goals as goal
 
 pub invariant_of-self : goal.invariant_of-self
 invariant_of-self c =
-    let b = the_view c.self.inside in
-    steady_books b c.abandon.new.self c.self.invariant
-    (abandoned_is_steady b.core c.abandon.new.self c.args.ticket c.abandon.result c.abandon.ensures)
+    let lent = c.deref_mut.result.now in
+    steady_books (the_view c.self.inside) lent c.abandon.new.self c.deref_mut.ensures.value c.self.invariant
+    (abandoned_is_steady lent c.abandon.new.self c.args.ticket c.abandon.result c.abandon.ensures)

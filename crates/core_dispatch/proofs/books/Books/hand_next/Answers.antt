@@ -8,9 +8,9 @@ use Rattle.core_dispatch.proofs.books.Books.hand_next.Goals as goal
 
 pub invariant_of-self : goal.invariant_of-self
 invariant_of-self c =
-    let b = the_view c.self.inside in
-    steady_books b c.hand_waiting.new.self c.self.invariant
-    (handed_over_is_steady (length (work_at b.core c.in_ok-tile.tile).inbox) c.in_ok-tile.tile b.core
+    let lent = c.deref_mut.result.now in
+    steady_books (the_view c.self.inside) lent c.hand_waiting.new.self c.deref_mut.ensures.value c.self.invariant
+    (handed_over_is_steady (length (work_at lent c.in_ok-tile.tile).inbox) c.in_ok-tile.tile lent
     c.hand_waiting.new.self c.hand_waiting.ensures.handed)
 
 pub returns-clause-next : goal.returns-clause-next
@@ -21,10 +21,11 @@ returns-clause-next c =
     let least = c.in_ok-tile.ensures in
     let hints = subst (λ (k : Core). HasHints k tile) c.core.ensures.value least.0.1 in
     let some = some_wait core tile hints in
+    let lent = c.deref_mut.ensures.value ∙ ap (λ (b : BooksView). b.core) c.self.view_is in
     let count : c.hand_waiting.result ≡ length (work_at core tile).inbox =
-    c.hand_waiting.ensures.count ∙ ap (λ (b : BooksView). length (work_at b.core tile).inbox) c.self.view_is in
+    c.hand_waiting.ensures.count ∙ ap (λ (k : Core). length (work_at k tile).inbox) lent in
     let over =
-    subst (λ (b : BooksView). AreHandedOver tile (length (work_at b.core tile).inbox) b.core new) c.self.view_is
+    subst (λ (k : Core). AreHandedOver tile (length (work_at k tile).inbox) k new) lent
     c.hand_waiting.ensures.handed in (
       omega (arith, some, count),
       subst (λ n. WereHanded n core new) (sym count)

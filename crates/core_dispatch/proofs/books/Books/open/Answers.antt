@@ -17,8 +17,8 @@ invariant_of-result c =
     } in
     let opening = c.in-Ok-copy.opening in
     let copied = c.in-Ok-copy.ensures.value ∙ c.state.ensures in
-    subst (λ (k : Core). IsFaithful (ledger (made k opening c.new-in-Ok-over.result.items)))
-    (sym c.in-Ok-over.ensures.value)
-    (subst (λ (l : List Refusal). IsFaithful (ledger (made c.args.core opening l))) (sym c.new-in-Ok-over.ensures.items)
+    subst (λ (k : Core). IsFaithful (ledger (made k opening c.new-in-Ok-new.result.items)))
+    (sym (c.in-Ok-new.ensures.ok ∙ c.in-Ok-over.ensures.value))
+    (subst (λ (l : List Refusal). IsFaithful (ledger (made c.args.core opening l))) (sym c.new-in-Ok-new.ensures.items)
     (subst (λ (s : State). IsFaithful (ledger (made c.args.core s []))) (sym copied)
     (opened c.args.core c.args.pens (map edits_of c.in-Ok.rings.desks.items) c.in-Ok.ensures.taken)))

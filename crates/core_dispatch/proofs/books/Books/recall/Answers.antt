@@ -5,6 +5,6 @@ use Rattle.core_dispatch.proofs.books.Books.recall.Goals as goal
 
 pub invariant_of-self : goal.invariant_of-self
 invariant_of-self c =
-    let b = the_view c.self.inside in
-    steady_books b c.abandon_all.new.self c.self.invariant
-    (abandons_are_steady b.core (tickets_out 0 b.core.tiles) c.abandon_all.new.self c.abandon_all.ensures.clears)
+    let lent = c.deref_mut.result.now in
+    steady_books (the_view c.self.inside) lent c.abandon_all.new.self c.deref_mut.ensures.value c.self.invariant
+    (abandons_are_steady lent (tickets_out 0 lent.tiles) c.abandon_all.new.self c.abandon_all.ensures.clears)

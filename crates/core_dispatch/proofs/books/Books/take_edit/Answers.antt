@@ -1,8 +1,9 @@
 use Rattle.std.proofs.Common.{◌≡◌, ◌∙◌, ◌∷◌, ◌++◌, [], List, ap, refl, sym, subst, ℕ}
 use mathlib.Core.Option.{some}
 use lib.ListN.{get_elem?}
-use Rattle.stroke_lattice.specs.State.{State}
-use Rattle.core_rules.specs.declared.error.CoreError.{CoreError}
+use Rattle.stroke_lattice.specs.{State.State, Change.Turnover}
+use Rattle.core_rules.specs.{Work.Core, Merge.IsMerged, declared.error.CoreError.CoreError}
+use Rattle.reset_core.specs.Answers.{IsNotMerged}
 use Rattle.core_dispatch.specs.{contracts.books.Books.the_view, Taking.IsEditTaken, declared.refusal.Refusal.Refusal}
 use Rattle.core_dispatch.proofs.Taking.{books, desk_at, faithful, took}
 use Rattle.core_dispatch.specs.declared.taken.Taken.TheVariants as answers
@@ -14,6 +15,12 @@ desk_is : (c : After-pop)
     → get_elem? (the_view c.self.inside).desks c.args.pen ≡ some c.index_mut.result.now
 desk_is c = desk_at (the_view c.self.inside) c.args.self.now c.args.pen c.index_mut.result.now c.self.view_is c.requires
     c.index_mut.ensures.value
+
+-- the edit is merged into the core of the books
+merged : (before lent : Core) (delta : State) (turnover : Turnover) (after : Core) → lent ≡ before
+    → IsMerged lent delta turnover after → (t : Turnover) × IsMerged before delta t after
+merged before lent delta turnover after same is =
+    (turnover, subst (λ (k : Core). IsMerged k delta turnover after) same is)
 
 -- the refusal stands behind the others
 now_listed : (pen number count : ℕ) (error : CoreError) (delta : State) (old room new : List Refusal) → room ≡ old
@@ -41,16 +48,24 @@ pub invariant_of-self-in-Ok-1 : goal.invariant_of-self-in-Ok-1
 invariant_of-self-in-Ok-1 c =
     faithful (the_view c.self.inside) c.args.pen c.index_mut.result.now c.pop.new.self
     (desk_is (goal.at.invariant_of-self-in-Ok-1 c).After-pop) answers.Merged c.merge.new.self
-    c.reserve.new.self.items
-    (c.in-Some.delta, c.in-Some.ensures.next, (_, c.in-Ok.ensures.merged), c.reserve.ensures.items) c.self.invariant
+    c.reserve.new.self.items (
+      c.in-Some.delta,
+      c.in-Some.ensures.next,
+      merged _ _ _ _ _ c.deref_mut.ensures.value c.in-Ok.ensures.merged,
+      c.reserve.ensures.items,
+    ) c.self.invariant
 
 pub returns-in-Ok-clause-taken : goal.returns-in-Ok-clause-taken
 returns-in-Ok-clause-taken c =
     rw (← c.self.view_is)
     (took (the_view c.self.inside) c.args.pen c.index_mut.result.now c.pop.new.self
     (desk_is (goal.at.returns-in-Ok-clause-taken c).After-pop) answers.Merged c.merge.new.self
-    c.reserve.new.self.items c.pop.ensures.ring
-    (c.in-Some.delta, c.in-Some.ensures.next, (_, c.in-Ok.ensures.merged), c.reserve.ensures.items))
+    c.reserve.new.self.items c.pop.ensures.ring (
+      c.in-Some.delta,
+      c.in-Some.ensures.next,
+      merged _ _ _ _ _ c.deref_mut.ensures.value c.in-Ok.ensures.merged,
+      c.reserve.ensures.items,
+    ))
 
 pub invariant_of-self-in-Err : goal.invariant_of-self-in-Err
 invariant_of-self-in-Err c =
@@ -59,8 +74,9 @@ invariant_of-self-in-Err c =
     c.push_reserved.new.self.items (
       c.in-Some.delta,
       c.in-Some.ensures.next,
-      c.in-Err.ensures.err,
-      c.in-Err.ensures.refused,
+      c.in-Err.ensures.err ∙ c.deref_mut.ensures.value,
+      subst (λ (k : Core). IsNotMerged k c.in-Some.delta c.in-Err.error) c.deref_mut.ensures.value
+          c.in-Err.ensures.refused,
       now_listed _ _ _ _ _ _ _ _ c.reserve.ensures.items c.in-Some.ensures.number c.push_reserved.ensures.items,
     ) c.self.invariant
 
@@ -76,7 +92,8 @@ returns-in-Err-clause-taken c =
     c.push_reserved.new.self.items c.pop.ensures.ring (
       c.in-Some.delta,
       c.in-Some.ensures.next,
-      c.in-Err.ensures.err,
-      c.in-Err.ensures.refused,
+      c.in-Err.ensures.err ∙ c.deref_mut.ensures.value,
+      subst (λ (k : Core). IsNotMerged k c.in-Some.delta c.in-Err.error) c.deref_mut.ensures.value
+          c.in-Err.ensures.refused,
       now_listed _ _ _ _ _ _ _ _ c.reserve.ensures.items c.in-Some.ensures.number c.push_reserved.ensures.items,
     )))

@@ -7,10 +7,11 @@ use Rattle.studio.proofs.keeper.Keeper.show.Goals as goal
 pub returns-clause-shown : goal.returns-clause-shown
 returns-clause-shown g c =
     let shot = c.in_ok-shot.shot in
-    let same = c.in_ok-image.ensures in (
+    let state = c.in_ok-state.ensures in
+    let image = c.in_ok-image.ensures in (
       shot,
-      subst (λ d. IsShotOf (core_by d) shot) same.dispatcher c.in_ok-shot.ensures.shot,
-      c.in_ok-told.ensures.chain ∙ ap (λ p. shown_by p ++ shot ∷ []) same.publisher,
+      subst (λ d. IsShotOf (core_by d) shot) (image.dispatcher ∙ state.dispatcher) c.in_ok-shot.ensures.shot,
+      c.in_ok-told.ensures.chain ∙ ap (λ p. shown_by p ++ shot ∷ []) (image.publisher ∙ state.publisher),
     )
 
 pub show-requires : goal.show-requires
