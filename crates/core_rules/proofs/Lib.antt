@@ -8,6 +8,7 @@ pub mod Joining
 pub mod Merging
 pub mod Quiet
 pub mod Running
+pub mod KeptRuns
 pub mod Opening
 pub mod Resets
 pub mod Schedules

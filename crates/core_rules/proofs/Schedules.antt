@@ -1,18 +1,14 @@
 -- Schedules: their steps make a list of events, and the strokes at the end are the join of what was accepted.
 use Rattle.std.proofs.Common.{◌≡◌, ℕ, ◌+◌, List, [], ◌∷◌, ◌++◌, length, refl, sym, ◌∙◌, ap, subst, inl, inr}
-use Rattle.std.proofs.Common.{append_assoc, arith, true, false, Some, None, slice_get}
+use Rattle.std.proofs.Common.{append_assoc, arith, Some, slice_get}
 use Rattle.std.proofs.lemmas.List.{length-append}
 use Rattle.stroke_lattice.specs.State.{State, IsJoinOf}
 use Rattle.stroke_lattice.proofs.Joins.{longer_from_join}
 use Rattle.tile_generations.specs.Jobs.{Swept}
 use Rattle.core_rules.specs.{declared.step.Step.Step, Work.Core, Runs.Entry, Runs.IsRun}
-use Rattle.core_rules.specs.declared.answers.Back.TheVariants.{Joined, Again, Stale, Stranger}
-use Rattle.core_rules.specs.declared.answers.Handed.TheVariants.{Raised, Same, Stale as Old, Nothing}
 use Rattle.core_rules.specs.Events.{Event, Answer, Happens, Merge, Take, GiveBack, Abandon, Hand, OfMerge, OfTake}
-use Rattle.core_rules.specs.Events.{OfGiveBack, OfAbandon, OfHand}
 use Rattle.core_rules.specs.Schedule.{Progress, started, passed, IsEventOf, IsOfResult, IsStep, AreSteps, AreEditsAt}
-use Rattle.core_rules.specs.Counting.{merges_of}
-use Rattle.core_rules.proofs.Running.{run_append}
+use Rattle.core_rules.proofs.{KeptRuns.event_keeps, Running.run_append}
 use Rattle.core_rules.specs.declared.step.Step.TheVariants as steps
 
 -- one more event at the end
@@ -62,24 +58,6 @@ schedule_is_run start steps end are_steps = steps_reach start steps (started sta
 
 -- ---- the strokes
 
--- an event that is no merge keeps the strokes
-event_keeps : (before after : Core) (event : Event) (answer : Answer) → merges_of ((event, answer) ∷ []) ≡ 0
-    → Happens before event answer after → after.state ≡ before.state
-event_keeps before after (Merge delta) answer none happens = absurd (omega (arith, none))
-event_keeps before after (Take t) (OfTake (Some job)) none happens = ap (λ (c : Core). c.state) happens.2
-event_keeps before after (Take t) (OfTake None) none happens = ap (λ (c : Core). c.state) happens.1
-event_keeps before after (GiveBack swept) (OfGiveBack Joined) none happens = ap (λ (c : Core). c.state) happens.1.3.rest
-event_keeps before after (GiveBack swept) (OfGiveBack Again) none happens = ap (λ (c : Core). c.state) happens.1.3.rest
-event_keeps before after (GiveBack swept) (OfGiveBack Stale) none happens = ap (λ (c : Core). c.state) happens.1.2
-event_keeps before after (GiveBack swept) (OfGiveBack Stranger) none happens = ap (λ (c : Core). c.state) happens.1.1
-event_keeps before after (Abandon ticket) (OfAbandon true) none happens = ap (λ (c : Core). c.state) happens.1
-event_keeps before after (Abandon ticket) (OfAbandon false) none happens = ap (λ (c : Core). c.state) happens.1
-event_keeps before after (Hand t place) (OfHand Nothing) none happens = ap (λ (c : Core). c.state) happens.1
-event_keeps before after (Hand t place) (OfHand Old) none happens = ap (λ (c : Core). c.state) happens.3
-event_keeps before after (Hand t place) (OfHand Raised) none happens = ap (λ (c : Core). c.state) happens.4
-event_keeps before after (Hand t place) (OfHand Same) none happens = ap (λ (c : Core). c.state) happens.4
-event_keeps before after _ _ none happens = absurd happens
-
 -- the strokes are the join of those at the start and of the deltas that were accepted
 abbrev pub IsJoined : State → Progress → Type 0
 IsJoined start a = IsJoinOf (start ∷ a.merged) a.core.state
@@ -89,15 +67,15 @@ step_joins start (steps.Edit delta) a b joined (inl (turnover, merged, same)) =
     rw same (longer_from_join (start ∷ a.merged) a.core.state delta b.core.state joined merged.join)
 step_joins start (steps.Edit delta) a b joined (inr (why, refused, same)) = rw same joined
 step_joins start (steps.Take t) a b joined (job, more, happens, added, same) =
-    rw (same, event_keeps a.core b.core (Take t) (OfTake job) refl happens) joined
+    rw (same, (event_keeps a.core b.core (Take t) (OfTake job) refl happens).state) joined
 step_joins start (steps.Return j) a b joined (inl (swept, there, (answer, happens, same))) =
-    rw (same, event_keeps a.core b.core (GiveBack swept) answer refl happens) joined
+    rw (same, (event_keeps a.core b.core (GiveBack swept) answer refl happens).state) joined
 step_joins start (steps.Return j) a b joined (inr (none, same)) = rw same joined
 step_joins start (steps.Abandon j) a b joined (inl (swept, there, (answer, happens, same))) =
-    rw (same, event_keeps a.core b.core (Abandon swept.job.ticket) answer refl happens) joined
+    rw (same, (event_keeps a.core b.core (Abandon swept.job.ticket) answer refl happens).state) joined
 step_joins start (steps.Abandon j) a b joined (inr (none, same)) = rw same joined
 step_joins start (steps.Hand t place) a b joined (answer, happens, same) =
-    rw (same, event_keeps a.core b.core (Hand t place) answer refl happens) joined
+    rw (same, (event_keeps a.core b.core (Hand t place) answer refl happens).state) joined
 
 steps_join : (start : State) (steps : List Step) (a b : Progress) → IsJoined start a → AreSteps steps a b
     → IsJoined start b

@@ -11,12 +11,13 @@ use Rattle.core_rules.specs.{Shown.ShowsTheSame, Runs.IsDirty, Runs.IsTakenIn, R
 use Rattle.core_rules.specs.Work.{Core, IsQuiet, IsTile, tiling}
 use Rattle.reset_core.specs.{Answers.IsSliceInBands, Answers.IsRunCutShort, declared.replica.settling.Slice.Slice}
 use Rattle.view_session.specs.Kept.{print_of}
+use Rattle.core_rules.proofs.KeptRuns.{Keeps}
 use Rattle.page_board.specs.{declared.news.News.News, Marking.AreMarked, Stored.board_of, Stored.IsStored}
 use Rattle.page_board.specs.declared.board.PageBoard.TheInside.{Inside as Parts}
 use Rattle.page_board.specs.Board.{PageBoard, last_step, HasTurned, HasTurnedIn}
 use Rattle.page_board.specs.Growing.{IsSettledFor, IsWorkedOn, IsMoving, IsGrown, quiet_of}
 use Rattle.page_board.specs.Later.{HasSameGround, HasSameStroke, IsNewsSince, IsLater}
-use Rattle.page_board.proofs.{Grounds.Keeps, Grounds.worked_on_keeps, Marked.none_in, Marked.set_decides}
+use Rattle.page_board.proofs.{Grounds.worked_on_keeps, Marked.none_in, Marked.set_decides}
 use Rattle.page_board.proofs.{Steps.next_is_later}
 use Rattle.page_board.proofs.Wholeness.{same_mask, rises, still_whole}
 

@@ -8,7 +8,8 @@ use Rattle.stroke_lattice.specs.State.{State as Delta}
 use Rattle.run_faults.specs.declared.run_error.RunError.{RunError}
 use Rattle.page_board.specs.{Board.PageBoard, Growing.IsGrown, Keeping.HasAllIn, Later.IsLater}
 use Rattle.page_board.specs.Taking.{AreTakenTogether, FileIsTaken}
-use Rattle.page_board.proofs.{Grounds.Keeps, Grounds.worked_on_keeps, Keeping.later_has_all}
+use Rattle.core_rules.proofs.KeptRuns.{Keeps}
+use Rattle.page_board.proofs.{Grounds.worked_on_keeps, Keeping.later_has_all}
 use Rattle.page_board.proofs.{Keeping.same_state_is_kept, Later.each_is_later}
 use Rattle.page_service.specs.{Kept.last_version}
 use Rattle.page_server.specs.{declared.page.Page.Page}

@@ -231,8 +231,9 @@ fn is_equal(a: &[u16], b: &[u16]) -> bool
     !differ
 }
 
-// Whether no cell of the first is above that of the second, found like `is_equal`.
-fn is_at_most(a: &[u16], b: &[u16]) -> bool
+/// Whether no cell of the first is above that of the second. It looks at each, without leaving early, so that it
+/// becomes vector code.
+pub fn is_at_most(a: &[u16], b: &[u16]) -> bool
     requires { length a.now ≡ length b.now }
     ensures { IsTrue result ↔ EachIndex a.now (λ k. slice_index a.now k ≤ slice_index b.now k) }
 {
@@ -256,9 +257,9 @@ fn raise_cells(image: &mut Grid, start: usize, values: &[u16], is_above: bool)
     raise_row(&mut cells[start..start + values.len()], values, is_above);
 }
 
-// Raises each cell of the row to the value at its place. Where none is below its cell, as `is_above` says, they are
-// copied.
-fn raise_row(row: &mut [u16], values: &[u16], is_above: bool)
+/// Raises each cell of the row to the value at its place. Where none is below its cell, as `is_above` says, they are
+/// copied.
+pub fn raise_row(row: &mut [u16], values: &[u16], is_above: bool)
     requires count { length values.now ≡ length row.old }
     requires above { IsTrue is_above → EachIndex values.now (λ k. slice_index row.old k ≤ slice_index values.now k) }
     ensures { EachIndex row.new (λ k. slice_index row.new k

@@ -1,6 +1,6 @@
 //! Rims of tiles beside copies of rims: raised to them, and compared with them.
 
-ghost use Rattle.std.specs.Prelude.{◌≡◌, ◌+◌, ◌*◌, ◌<◌, ◌≤◌, ◌⊎◌, ◌↔◌, ⊤, EachIndex, IsTrue, length, max, slice_index};
+ghost use Rattle.std.specs.Prelude.{◌≡◌, ◌+◌, ◌*◌, ◌<◌, ◌≤◌, ◌⊎◌, ⊤, IsTrue, length};
 ghost use Rattle.grid_core.specs.Raster.{value_at};
 ghost use Rattle.grid_core.specs.Rects.{IsInRect, RectFits};
 ghost use Rattle.grid_core.specs.Tiles.{count_of, rect_of};
@@ -17,6 +17,7 @@ use super::border::side_of;
 use super::{Edge, Rims, start_of, strip_at};
 use crate::image::around_of;
 use grid_core::{Bounds, Grid, Pixel, Rect, Tiling};
+use reset_core::parts::{is_at_most, raise_row};
 use tile_generations::Rim;
 
 impl Rims {
@@ -120,7 +121,7 @@ fn raise_side(values: &mut [u16], tiling: &Tiling, tile: usize, edge: Edge, rim:
     let side = side_of(rim, edge);
     let start = start_of(tiling, tile, edge);
     let end = start + side.len();
-    raise_row(&mut values[start..end], side);
+    raise_row(&mut values[start..end], side, false);
 }
 
 // Raises the cells, which show a tile and the pixels around it, that stand for a strip of the tile to the strip.
@@ -154,18 +155,7 @@ fn raise_cells(strip: Rect, values: &[u16], cells: &mut [u16], to: Rect)
         let last = first + width;
         let start = (top + y) as usize * to.w as usize + left as usize;
         let end = start + width;
-        raise_row(&mut cells[start..end], &values[first..last]);
-    }
-}
-
-// Raises each cell to the value at its place.
-fn raise_row(row: &mut [u16], values: &[u16])
-    requires count { length values.now ≡ length row.old }
-    ensures { EachIndex row.new (λ k. slice_index row.new k
-        ≡ max (slice_index row.old k) (slice_index values.now k)) }
-{
-    for i in 0..row.len() {
-        row[i] = row[i].max(values[i]);
+        raise_row(&mut cells[start..end], &values[first..last], false);
     }
 }
 
@@ -286,17 +276,4 @@ fn pixel_at(strip: Rect, place: u32) -> Pixel
             y: strip.y + place,
         }
     }
-}
-
-// Whether no cell of the first is above that of the second. It looks at each, without leaving early, so that it becomes
-// vector code.
-fn is_at_most(a: &[u16], b: &[u16]) -> bool
-    requires { length a.now ≡ length b.now }
-    ensures { IsTrue result ↔ EachIndex a.now (λ k. slice_index a.now k ≤ slice_index b.now k) }
-{
-    let mut above = false;
-    for i in 0..a.len() {
-        above |= a[i] > b[i];
-    }
-    !above
 }
