@@ -21,6 +21,7 @@ use tiled_core::TiledCore;
 
 mod closing;
 mod mirroring;
+mod settling;
 mod showing;
 mod turning;
 

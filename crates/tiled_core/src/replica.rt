@@ -30,12 +30,13 @@ mod converting;
 mod cutting;
 mod handing;
 mod merging;
+mod settling;
 mod sweeping;
 
 /// One replica, as [`Core`](reset_core::Core) is one, whose image is kept in tiles: a job that is taken shares its
 /// tile, and a swept tile that is given back is put in, without a copy of either.
 ///
-/// It is for who gives jobs to others. It doesn't settle by itself, and shows its image as a copy.
+/// It is for who gives jobs to others, and settles in bands where much is left. It shows its image as a copy.
 #[derive(Drop)]
 pub struct TiledCore {
     conn: Conn,

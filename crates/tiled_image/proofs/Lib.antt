@@ -27,3 +27,5 @@ pub mod Sides
 pub mod RaisedRims
 pub mod RaisedBorders
 pub mod RimsAbove
+pub mod ChangedTiles
+pub mod SettledRows

@@ -9,7 +9,7 @@ use Rattle.grid_core.specs.Tiles.{Tiles, count_of, rect_of, tile_of}
 use Rattle.border_queues.specs.TileWork.{TileWork, IsLeast, work_of}
 use Rattle.stroke_lattice.specs.{State.State, Change.Turnover}
 use Rattle.core_rules.specs.{Hits.IsInTile, Merge.HasRisen}
-use Rattle.tile_work.specs.{TileSet.Has, WorkTable.IsDirtyTile}
+use Rattle.tile_work.specs.{TileSet.Has, TileSet.IsFirstFrom, WorkTable.IsDirtyTile}
 use Rattle.reset_core.specs.MergeSteps.{IsImageRenewed}
 use Rattle.tiled_image.specs.{TileParts.AreLetGo, TiledImage.IsKeptAs, TiledImage.IsOfTiling}
 use Rattle.tiled_image.proofs.KeptImages.{none_is_no_part, part_within, still_of_tiling}
@@ -20,6 +20,11 @@ use Rattle.tiled_image.proofs.Places.{in_tile, tile_within}
 -- it holds of the number, which is below this one
 abbrev pub HoldsBelow : (ℕ → Type 0) → ℕ → ℕ → Type 0
 HoldsBelow P next t = P t × (t < next)
+
+-- the first tile of a set is the least that it has
+pub least_of_set : (tiles : List Bool) (next t : ℕ) → IsFirstFrom tiles next t
+    → IsLeast (λ n. (next ≤ n) × Has tiles n) t
+least_of_set tiles next t is_first = ((is_first.from, is_first.has), λ n both. is_first.first n both.0 both.1)
 
 module _ (P : ℕ → Type 0) (old : List (Option Raster)) where
   pub none_gone : AreLetGo (HoldsBelow P 0) old old
@@ -184,11 +189,11 @@ module _ {whole : Raster} {tiling : Tiles} {rows : Raster} {parts : List (Option
         current = λ p inside older. refl;
       }
 
--- rows that are the image are renewed by a merge, and the parts of the tiles that are dirty then are let go
+-- rows that are the image are renewed by a merge
 module _ {whole : Raster} {tiling : Tiles} {rows : Raster} {parts : List (Option Raster)} {newer : List Bool}
     {tiles : Tiles} {marks : List Bool} {change : Turnover} {state : State} {marker new : Raster}
-    {work after : List TileWork} (kept : IsKeptAs whole tiling rows parts newer) (none : (t : ℕ) → Has newer t → ⊥)
-    (rows_is : rows ≡ whole) (tiles_is : tiles ≡ tiling)
+    {work after : List TileWork} (kept : IsKeptAs whole tiling rows parts newer) (rows_is : rows ≡ whole)
+    (tiles_is : tiles ≡ tiling)
     (renewed : IsImageRenewed tiles marks change state marker rows new work after)
     (count : length work ≡ count_of tiles) where
   on_tiling : IsImageRenewed tiling marks change state marker whole new work after
@@ -199,11 +204,10 @@ module _ {whole : Raster} {tiling : Tiles} {rows : Raster} {parts : List (Option
   counted : length work ≡ count_of tiling
   counted = count ∙ ap count_of tiles_is
 
-  -- there is work for each place of a part
-  pub works_for_parts : length after ≡ length parts
-  works_for_parts =
+  -- there is work at each tile
+  pub works_counted : length after ≡ count_of tiling
+  works_counted =
       work_count tiling marks change state marker whole new work after on_tiling kept.of_tiling counted
-      ∙ sym kept.are_cut.count
 
   -- a pixel of a tile that is not dirty then has the value that it had
   pub merged_values : (p : Pixel) → IsInside tiling.width tiling.height p → (IsDirtyTile after (tile_of tiling p) → ⊥)
@@ -213,10 +217,5 @@ module _ {whole : Raster} {tiling : Tiles} {rows : Raster} {parts : List (Option
       (tile_of tiling p) (tile_within tiling p kept.of_tiling.tiled inside) clean p
       (record { inside = inside; tile = refl })
 
-  pub merged_kept : (new_parts : List (Option Raster)) → AreLetGo (IsDirtyTile after) parts new_parts
-      → IsKeptAs new tiling new new_parts newer
-  merged_kept new_parts gone =
-      renewed_kept kept none new
-      (renewed_size tiling marks change state marker whole new work after on_tiling kept.of_tiling counted)
-      (IsDirtyTile after) new_parts gone
-      (clean_value tiling marks change state marker whole new work after on_tiling kept.of_tiling counted)
+  pub merged_size : IsOfSize whole new
+  merged_size = renewed_size tiling marks change state marker whole new work after on_tiling kept.of_tiling counted

@@ -9,9 +9,11 @@ pub use Rattle.tile_generations.specs.Rims as TileRims
 pub use Rattle.core_rules.specs.Image
 pub use Rattle.tile_work.specs.TileSet
 pub use Rattle.tile_work.specs.WorkTable
+pub use Rattle.core_rules.specs.Runs
 pub use Rattle.reset_core.specs.Bounding
 pub use Rattle.reset_core.specs.MergeSteps
 pub use Rattle.reset_core.specs.Parts
+pub use Rattle.reset_core.specs.Replica
 pub mod Shown
 pub mod TileParts
 pub mod TiledImage
@@ -23,3 +25,4 @@ pub mod Raising
 pub mod AllKept
 pub mod Ring
 pub mod Lending
+pub mod Settling

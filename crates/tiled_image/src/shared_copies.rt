@@ -3,7 +3,7 @@
 ghost use Rattle.std.specs.Prelude.{◌≡◌, ◌<◌, length, IfOk, IfSome, Some};
 ghost use Rattle.std.specs.Arc.{arc_value};
 ghost use Rattle.tile_generations.specs.CutMasks.{cut_mask};
-ghost use Rattle.tile_work.specs.WorkTable.{IsDirtyTile};
+ghost use Rattle.tile_work.specs.TileSet.{Has};
 ghost use Rattle.tiled_image.specs.SharedCopies.{HaveChanged, IsKeptLast, IsOldestTaken, no_copies};
 
 use grid_core::{Grid, Memory};
@@ -11,7 +11,7 @@ use std::alloc::Global;
 use std::marker::Model;
 use std::mem;
 use std::sync::Arc;
-use tile_work::{TileSet, WorkTable};
+use tile_work::TileSet;
 
 /// The last three copies of an image that were given out, and the tiles that may have changed since each was made.
 #[derive(Drop)]
@@ -68,12 +68,12 @@ impl SharedCopies {
         self.changed.insert(tile);
     }
 
-    /// The dirty tiles of the image change. It takes no memory.
-    pub(crate) fn mark_dirty(&mut self, work: &WorkTable)
-        requires { length self.old.changed ≡ length work.now }
-        ensures { HaveChanged (IsDirtyTile work.now) self.old self.new }
+    /// These tiles of the image change. It takes no memory.
+    pub(crate) fn mark_all(&mut self, tiles: &TileSet)
+        requires { length tiles.now ≡ length self.old.changed }
+        ensures { HaveChanged (Has tiles.now) self.old self.new }
     {
-        work.add_dirty(&mut self.changed);
+        self.changed.insert_all(tiles);
     }
 
     /// Takes the oldest copy out, and answers it where nobody else holds it. The stale tiles are then those that

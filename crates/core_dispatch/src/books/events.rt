@@ -5,13 +5,17 @@ ghost use Rattle.core_rules.specs.Sweeps.{IsReady, IsTaken, IsGivenBack, IsAband
 ghost use Rattle.core_rules.specs.Runs.{IsRun, NoneOut, abandoned, tickets_out};
 ghost use Rattle.reset_core.specs.Answers.{IsJoinable};
 ghost use Rattle.tiled_core.specs.Passing.{ArePassedUntil};
+ghost use Rattle.tiled_image.specs.Settling.{IsSettledFor};
 ghost use Rattle.core_dispatch.specs.Books.{KeepsRest};
 ghost use Rattle.core_dispatch.specs.Growing.{ShowsSame};
 
 use super::Books;
 use core_rules::Back;
 use grid_core::Memory;
+use reset_core::Slice;
 use std::alloc::Global;
+use std::marker::Sync;
+use std::thread::Threads;
 use tile_generations::{Job, Swept, Ticket};
 use tiled_core::TiledCore;
 
@@ -72,5 +76,22 @@ impl Books {
         ensures shows { ShowsSame self.old.core self.new.core }
     {
         self.core.abandon_all()
+    }
+
+    /// Settles the core for a slice, by up to so many threads, as [`TiledCore::settle_in_bands`] does. Each job that was
+    /// out is abandoned: a report of it changes nothing when it comes.
+    ///
+    /// Errors: out of memory, where there is work. Some of the work may be done then.
+    pub fn settle_in_bands<R: Threads + Sync>(
+        &mut self,
+        rt: &R,
+        alloc: Global,
+        threads: usize,
+        jobs: u64,
+    ) -> Result<Slice, Memory>
+        ensures settled { IsSettledFor self.old.core jobs result self.new.core }
+        ensures rest { KeepsRest self.old self.new }
+    {
+        self.core.settle_in_bands(rt, alloc, threads, jobs)
     }
 }

@@ -13,8 +13,8 @@ use stroke_lattice::{Change, Delta};
 use tile_work::{is_one_spent, mark_hits};
 
 impl TiledCore {
-    /// Merges a delta, as [`Core::merge`](reset_core::Core::merge) does. The tiles that were put in since the last
-    /// merge are written into rows first, so that it costs them too.
+    /// Merges a delta, as [`Core::merge`](reset_core::Core::merge) does. The tiles that were put in or raised since the
+    /// last merge are written into rows first, so that it costs them too.
     ///
     /// Errors: C1 where a stroke of the delta does not fit the image, live or not, else C2 where another stroke of the
     /// core has one of its tags, else C3 where a tile that is hit has spent its generations, else C4. The core is then

@@ -1,19 +1,26 @@
-//! Images in tiles that a merge renews.
+//! Images in tiles that a merge renews, or whose core settles.
 
-ghost use Rattle.std.specs.Prelude.{◌≡◌, length};
+ghost use Rattle.std.specs.Prelude.{◌≡◌, IfOk, OnErr, length};
+ghost use Rattle.core_rules.specs.{Runs.NoneOut, Work.IsQuiet};
 ghost use Rattle.grid_core.specs.Tiles.{count_of};
 ghost use Rattle.reset_core.specs.Bounding.{FollowResets};
 ghost use Rattle.reset_core.specs.MergeSteps.{AreRenewed, CanRenew};
-ghost use Rattle.tile_work.specs.WorkTable.{IsDirtyTile};
+ghost use Rattle.reset_core.specs.Replica.{IsStored};
+ghost use Rattle.tile_work.specs.TileSet.{Has};
 ghost use Rattle.tiled_image.specs.{Rims.AreTaken, Rims.room_of, TileParts.AreLetGo};
+ghost use Rattle.tiled_image.specs.Settling.{HasWorkedOn, IsSettledInBands, core_with, parts_with};
 
 use super::TiledImage;
 use crate::folding::write_all;
 use crate::rims::Rims;
 use crate::tile_parts::TileParts;
-use grid_core::{Grid, Tiling};
+use grid_core::{Grid, Memory, Tiling};
 use marker_tiles::Markers;
-use reset_core::renew;
+use reset_core::{CoreParts, Slice, renew};
+use std::alloc::Global;
+use std::marker::Sync;
+use std::mem;
+use std::thread::Threads;
 use stroke_lattice::{Change, State};
 use tile_work::{OpenBounds, TileSet, WorkTable};
 
@@ -49,39 +56,89 @@ impl TiledImage {
             &self.rims,
         );
         renew(marks, &mut self.rows, markers, work, bounds, state, change);
-        let_dirty_go(&mut self.parts, work);
-        self.copies.mark_dirty(work);
-        take_dirty(&mut self.rims, &self.tiling, &self.rows, work);
+        work.add_dirty(marks);
+        let_go(&mut self.parts, marks);
+        self.copies.mark_all(marks);
+        take_rims(&mut self.rims, &self.tiling, &self.rows, marks);
+        marks.clear();
+    }
+
+    /// Settles the core of which this is the image in bands of rows of tiles, as
+    /// [`Core::settle_in_bands`](reset_core::Core::settle_in_bands) does. The core comes and goes as what it stores,
+    /// with any image in place of this one.
+    ///
+    /// The tiles whose pixels change were swept, or are dirty then. So the parts of these are let go, and no other.
+    ///
+    /// Errors: out of memory. Some of the work may be done then.
+    pub fn settle_in_bands<R: Threads + Sync>(
+        &mut self,
+        rt: &R,
+        alloc: Global,
+        core: CoreParts,
+        threads: usize,
+        jobs: u64,
+    ) -> (CoreParts, Result<Slice, Memory>)
+        requires tiling { core.markers.tiling ≡ self.old.tiling }
+        requires stored { IsStored (parts_with self.old.image core) }
+        ensures tiling { self.new.tiling ≡ self.old.tiling }
+        ensures stored { IsStored (parts_with self.new.image result.0) }
+        ensures slice { IfOk result.1 (λ slice. IsSettledInBands (core_with self.old.image core) jobs slice
+            (core_with self.new.image result.0)) }
+        ensures none_out { IfOk result.1 (λ _. NoneOut (core_with self.new.image result.0)) }
+        ensures worked_on { HasWorkedOn (core_with self.old.image core) (core_with self.new.image result.0) }
+    {
+        let mut changed = match TileSet::empty(alloc, self.tiling.count()) {
+            Ok(none) => none,
+            Err(why) => return (core, Err(why)),
+        };
+        write_all(
+            &self.tiling,
+            &mut self.rows,
+            &mut self.parts,
+            &mut self.newer,
+            &mut self.raised,
+            &self.rims,
+        );
+        let image = mem::replace(&mut self.rows, core.image);
+        let mut settling = CoreParts { image, ..core }.into_core();
+        let slice = settling.settle_in_bands(rt, alloc, &mut changed, threads, jobs);
+        let mut settled = settling.into_stored();
+        mem::swap(&mut self.rows, &mut settled.image);
+        settled.work.add_dirty(&mut changed);
+        let_go(&mut self.parts, &changed);
+        self.copies.mark_all(&changed);
+        take_rims(&mut self.rims, &self.tiling, &self.rows, &changed);
+        (settled, slice)
     }
 }
 
-// Lets the parts of the dirty tiles go. It costs about these tiles.
-fn let_dirty_go(parts: &mut TileParts, work: &WorkTable)
-    requires { length work.now ≡ length parts.old }
-    ensures { AreLetGo (IsDirtyTile work.now) parts.old parts.new }
+// Lets the parts of these tiles go. It costs about these tiles.
+fn let_go(parts: &mut TileParts, tiles: &TileSet)
+    requires { length tiles.now ≡ length parts.old }
+    ensures { AreLetGo (Has tiles.now) parts.old parts.new }
 {
     // For its clause alone: there are no more tiles than a `usize` counts.
-    let _ = work.len();
+    let _ = tiles.len();
     let mut next = 0;
-    while let Some(tile) = work.next_dirty(next) {
+    while let Some(tile) = tiles.first_from(next) {
         parts.remove(tile);
         next = tile + 1;
     }
 }
 
-// Takes over the rims of the dirty tiles from the image. It costs about these tiles.
-fn take_dirty(rims: &mut Rims, tiling: &Tiling, image: &Grid, work: &WorkTable)
+// Takes over the rims of these tiles from the image. It costs about these tiles.
+fn take_rims(rims: &mut Rims, tiling: &Tiling, image: &Grid, tiles: &TileSet)
     requires count { length rims.old ≡ room_of tiling.now }
-    requires work { length work.now ≡ count_of tiling.now }
+    requires tiles { length tiles.now ≡ count_of tiling.now }
     requires width { image.now.width ≡ tiling.now.width }
     requires height { image.now.height ≡ tiling.now.height }
-    ensures { AreTaken (IsDirtyTile work.now) tiling.now image.now rims.old rims.new }
+    ensures { AreTaken (Has tiles.now) tiling.now image.now rims.old rims.new }
 {
     // For their clauses alone: how the image is cut into tiles, and that there are no more than a `usize` counts.
     let _ = tiling.side();
-    let _ = work.len();
+    let _ = tiles.len();
     let mut next = 0;
-    while let Some(tile) = work.next_dirty(next) {
+    while let Some(tile) = tiles.first_from(next) {
         rims.take_whole(tiling, tile, image);
         next = tile + 1;
     }

@@ -1,0 +1,109 @@
+//! Settling in bands of rows of tiles.
+
+ghost use Rattle.std.specs.Prelude.{IfOk};
+ghost use Rattle.core_rules.specs.{Runs.NoneOut};
+ghost use Rattle.tiled_image.specs.Settling.{HasWorkedOn, IsSettledFor, IsSettledInBands};
+
+use super::TiledCore;
+use core::mem::replace_with;
+use grid_core::{Grid, Memory};
+use reset_core::{CoreParts, Count, Slice};
+use std::alloc::Global;
+use std::marker::Sync;
+use std::thread::Threads;
+
+impl TiledCore {
+    /// Settles for a slice, as [`Core::settle_in_bands`](reset_core::Core::settle_in_bands) does: each job that is out
+    /// is abandoned and each hint handed over; then no more than `jobs` tiles are swept, by up to so many threads. What
+    /// was put in since the last merge is written into rows first, so that it costs that too. A core that is quiet
+    /// stays as it is.
+    ///
+    /// Errors: out of memory, where there is work. Some of the work may be done then.
+    pub fn settle_in_bands<R: Threads + Sync>(
+        &mut self,
+        rt: &R,
+        alloc: Global,
+        threads: usize,
+        jobs: u64,
+    ) -> Result<Slice, Memory>
+        ensures { IsSettledFor self.old jobs result self.new }
+    {
+        if self.is_quiet() {
+            return Ok(Slice {
+                count: Count {
+                    jobs: 0,
+                    abandons: 0,
+                },
+                is_quiet: true,
+            });
+        }
+        replace_with(self, (rt, alloc, threads, jobs), settled)
+    }
+}
+
+// The core, settled for a slice by up to so many threads, in no more than so many jobs.
+//
+// Errors: out of memory. Some of the work may be done then.
+fn settled<R: Threads + Sync>(
+    core: TiledCore,
+    slice: (&R, Global, usize, u64),
+) -> (TiledCore, Result<Slice, Memory>)
+    ensures slice { IfOk result.1 (λ done. IsSettledInBands core slice.3 done result.0) }
+    ensures none_out { IfOk result.1 (λ _. NoneOut result.0) }
+    ensures worked_on { HasWorkedOn core result.0 }
+{
+    let (rt, alloc, threads, jobs) = slice;
+    // It stands for the image meanwhile.
+    let Ok(no_image) = Grid::new(alloc, 1, 1, 0) else {
+        return (core, Err(Memory));
+    };
+    let TiledCore {
+        conn,
+        state,
+        markers,
+        mut image,
+        work,
+        bounds,
+        masks,
+        serial,
+        marks,
+        queue,
+        mut beside,
+        ring,
+        mask_rims,
+        limits,
+        states,
+    } = core;
+    let parts = CoreParts {
+        conn,
+        state,
+        markers,
+        image: no_image,
+        work,
+        bounds,
+        masks,
+        serial,
+        marks,
+        queue,
+    };
+    let (parts, done) = image.settle_in_bands(rt, alloc, parts, threads, jobs);
+    beside.forget();
+    let settled = TiledCore {
+        conn: parts.conn,
+        state: parts.state,
+        markers: parts.markers,
+        image,
+        work: parts.work,
+        bounds: parts.bounds,
+        masks: parts.masks,
+        serial: parts.serial,
+        marks: parts.marks,
+        queue: parts.queue,
+        beside,
+        ring,
+        mask_rims,
+        limits,
+        states,
+    };
+    (settled, done)
+}
