@@ -1,11 +1,10 @@
 -- A core that settles in rows: which tiles may have changed, and what else is as it was.
-use Rattle.std.proofs.Common.{◌≡◌, ℕ, Bool, List, Option, Result, Ok, Err, IfOk, OnErr, ap, false, inl, inr}
+use Rattle.std.proofs.Common.{◌≡◌, ℕ, Bool, List, Result, Ok, Err, IfOk, OnErr, ap, false, inl, inr}
 use Rattle.std.proofs.Common.{length, replicate, subst, sym, ◌∙◌}
 use Rattle.std.proofs.Math.ListN.{length-replicate}
 use Rattle.grid_core.specs.declared.pixel.Pixel.{Pixel}
 use Rattle.grid_core.specs.Raster.{Raster, IsInside, IsOfSize, value_at}
 use Rattle.grid_core.specs.Tiles.{Tiles, count_of, tile_of}
-use Rattle.marker_tiles.specs.Kept.{Kept}
 use Rattle.tile_work.specs.{TileSet.Has, TileSet.HasGained, WorkTable.IsDirtyTile}
 use Rattle.core_rules.specs.{Runs.IsDirty, Runs.NoneOut, Shown.ShowsTheSame, Work.Core, Work.tiling}
 use Rattle.core_rules.proofs.KeptRuns.{Keeps, run_keeps}

@@ -5,7 +5,7 @@ use Rattle.grid_core.specs.Bounds.{AreEmpty, LieIn, no_bounds}
 use Rattle.grid_core.specs.Raster.{Raster, IsInside, value_at}
 use Rattle.grid_core.specs.Rects.{IsAtMostPart, IsPart, in_image}
 use Rattle.grid_core.proofs.Pixels.{same_pixel}
-use Rattle.reset_core.specs.{Bounding.AreCountedFrom, Parts.AreBoundsAbove, Parts.IsBelowPiece, Parts.IsPieceFor}
+use Rattle.reset_core.specs.{Bounding.AreCountedFrom, Parts.AreBoundsAbove, Parts.IsPieceFor}
 use Rattle.reset_core.specs.Parts.{IsRaisedPart}
 use Rattle.tiled_image.specs.Shown.{AreInWhole, HasPartAt, Shows, place_in}
 use Rattle.tiled_image.proofs.{CopiedStrips.strip_in, Places.image_in_rect}
@@ -87,10 +87,6 @@ module _ {rect : Rect} {whole source : Raster} {own : Rect} (has : HasPartAt rec
       width = is_piece.width ∙ sym has.width;
       height = is_piece.height ∙ sym has.height;
     }
-
-    pub below_in_source : IsBelowPiece rect whole piece → IsBelowPiece own source piece
-    below_in_source low p inside =
-        subst (λ v. v ≤ value_at piece p) (sym (has.values p (inside_rect p inside))) (low p (inside_rect p inside))
 
     pub raised_in_whole : (part : Raster) → IsRaisedPart own source piece part → IsRaisedPart rect whole piece part
     raised_in_whole part raised = record {

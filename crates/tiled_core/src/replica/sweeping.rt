@@ -209,7 +209,7 @@ impl TiledCore {
             return self.join_raised(alloc, swept, shared, swept.rim(), above);
         }
         self.image.fold(alloc, tile);
-        let above = self.image.bounds_above(tile, pixels, false);
+        let above = self.image.bounds_above(tile, pixels);
         let raised = self.raised_by(alloc, tile, pixels)?;
         let rim = Rim::of(alloc, &raised)?;
         let held = Arc::new(alloc, raised)?;

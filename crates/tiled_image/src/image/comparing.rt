@@ -4,7 +4,7 @@ ghost use Rattle.std.specs.Prelude.{◌≡◌, ◌+◌, ◌<◌, ◌↔◌, IfOk
 ghost use Rattle.grid_core.specs.Bounds.{LieIn};
 ghost use Rattle.grid_core.specs.Rects.{IsAtMostPart, IsPart};
 ghost use Rattle.grid_core.specs.Tiles.{count_of, rect_of};
-ghost use Rattle.reset_core.specs.Parts.{AreBoundsAbove, IsBelowPiece, IsPieceFor, IsRaisedPart};
+ghost use Rattle.reset_core.specs.Parts.{AreBoundsAbove, IsPieceFor, IsRaisedPart};
 ghost use Rattle.tile_generations.specs.Rims.{IsRimOf};
 ghost use Rattle.tiled_image.specs.Raising.{IsBelowInside, IsBelowRim};
 ghost use Rattle.tiled_image.specs.Shown.{AreInWhole, HasPartAt, IsRowWithin, IsWithin, IsWithinPart, value_in};
@@ -39,8 +39,9 @@ impl TiledImage {
         }
     }
 
-    /// Whether the piece is the part that is kept below a tile's rim, and that rim is nowhere below the piece. The piece
-    /// is at most the tile then, and is the tile but on the rim. Where the answer is no, it may be so all the same.
+    /// Whether the piece is the part that is kept below a tile's rim, and that rim is nowhere below the piece. The
+    /// piece is at most the tile then, and is the tile but on the rim. Where the answer is no, it may be so all the
+    /// same.
     pub fn has_below(&self, tile: usize, piece: &Grid) -> bool
         requires { tile < count_of self.now.tiling }
         ensures { IsTrue result → IsBelowRim (rect_of self.now.tiling tile) self.now.image piece.now }
@@ -87,12 +88,11 @@ impl TiledImage {
         raised_part(alloc, &copy, self.tiling().rect(tile), piece)
     }
 
-    /// Bounds of the pixels of a tile where the image is above the piece. Where `is_above` says that the piece is
-    /// nowhere below it, there is none. They are all of a tile whose rim is not [folded](TiledImage::fold).
-    pub fn bounds_above(&self, tile: usize, piece: &Grid, is_above: bool) -> Bounds
+    /// Bounds of the pixels of a tile where the image is above the piece. They are all of a tile whose rim is not
+    /// [folded](TiledImage::fold).
+    pub fn bounds_above(&self, tile: usize, piece: &Grid) -> Bounds
         requires tile { tile < count_of self.now.tiling }
         requires piece { IsPieceFor (rect_of self.now.tiling tile) self.now.image piece.now }
-        requires above { IsTrue is_above → IsBelowPiece (rect_of self.now.tiling tile) self.now.image piece.now }
         ensures { AreBoundsAbove (rect_of self.now.tiling tile) (rect_of self.now.tiling tile).h self.now.image
             piece.now result }
     {
@@ -101,7 +101,7 @@ impl TiledImage {
         let Some((own, source)) = self.tile_source(tile) else {
             return Bounds::of(rect);
         };
-        let bounds = bounds_above(source, own, piece, is_above);
+        let bounds = bounds_above(source, own, piece, false);
         in_whole(rect, counted_from(own, bounds))
     }
 

@@ -1,7 +1,7 @@
 //! Images in tiles that a merge renews, or whose core settles.
 
-ghost use Rattle.std.specs.Prelude.{◌≡◌, IfOk, OnErr, length};
-ghost use Rattle.core_rules.specs.{Runs.NoneOut, Work.IsQuiet};
+ghost use Rattle.std.specs.Prelude.{◌≡◌, IfOk, length};
+ghost use Rattle.core_rules.specs.Runs.{NoneOut};
 ghost use Rattle.grid_core.specs.Tiles.{count_of};
 ghost use Rattle.reset_core.specs.Bounding.{FollowResets};
 ghost use Rattle.reset_core.specs.MergeSteps.{AreRenewed, CanRenew};

@@ -2,7 +2,7 @@
 use Rattle.std.proofs.Common.{◌<◌, ap, sym, subst, ◌∙◌, arith}
 use Rattle.grid_core.specs.{declared.rect.Rect.Rect, Tiles.Tiles, Tiles.count_of, Tiles.rect_of}
 use Rattle.tiled_image.specs.Shown.{AreInWhole}
-use Rattle.tiled_image.proofs.ShownParts.{below_in_source, bounds_in_whole, lie_in_size, piece_in_source}
+use Rattle.tiled_image.proofs.ShownParts.{bounds_in_whole, lie_in_size, piece_in_source}
 use Rattle.tiled_image.proofs.image.TiledImage.bounds_above.Goals as goal
 
 pub rect-rect-requires : goal.rect-rect-requires
@@ -12,10 +12,6 @@ rect-rect-requires c =
 pub bounds_above-bounds-requires-clause-piece : goal.bounds_above-bounds-requires-clause-piece
 bounds_above-bounds-requires-clause-piece c =
     piece_in_source c.in-Some.ensures c.args.piece.now c.requires.piece
-
-pub bounds_above-bounds-requires-clause-above : goal.bounds_above-bounds-requires-clause-above
-bounds_above-bounds-requires-clause-above c is_above =
-    below_in_source c.in-Some.ensures c.args.piece.now (c.requires.above is_above)
 
 pub counted_from-requires : goal.counted_from-requires
 counted_from-requires c = c.bounds_above-bounds.ensures.lie

@@ -5,7 +5,7 @@ use Rattle.grid_core.specs.Raster.{Raster}
 use Rattle.grid_core.specs.Tiles.{count_of}
 use Rattle.reset_core.specs.{Bounding.FollowResets, MergeSteps.AreRenewed, MergeSteps.CanRenew}
 use Rattle.tiled_image.specs.{RaisedTiles.whole_of, TiledImage.TiledRaster}
-use Rattle.tiled_image.proofs.ChangedTiles.{all_changed, changed_is, changed_kept}
+use Rattle.tiled_image.proofs.ChangedTiles.{all_changed, changed_is}
 use Rattle.tiled_image.proofs.RenewedTiles.{merged_size, merged_values, works_counted}
 use Rattle.tiled_image.proofs.image.TiledImage.renew.Goals as goal
 

@@ -1,10 +1,9 @@
 -- What the tactics leave open of `settle_in_bands`.
-use Rattle.std.proofs.Common.{◌≡◌, IfOk, ap, false, length, replicate, subst, sym, ◌∙◌}
-use Rattle.std.proofs.Math.ListN.{length-replicate}
+use Rattle.std.proofs.Common.{◌≡◌, IfOk, ap, false, replicate, subst, sym, ◌∙◌}
 use Rattle.grid_core.specs.Raster.{Raster, IsOfSize, value_at}
-use Rattle.grid_core.specs.Tiles.{Tiles, count_of}
-use Rattle.core_rules.specs.{Runs.NoneOut, Work.Core}
-use Rattle.reset_core.specs.Replica.{core_of, stored_as, IsStored}
+use Rattle.grid_core.specs.Tiles.{count_of}
+use Rattle.core_rules.specs.Runs.{NoneOut}
+use Rattle.reset_core.specs.Replica.{stored_as, IsStored}
 use Rattle.tiled_image.specs.{RaisedTiles.whole_of, TiledImage.TiledRaster}
 use Rattle.tiled_image.specs.Settling.{HasWorkedOn, IsSettledInBands, core_with, parts_with}
 use Rattle.tiled_image.proofs.ChangedTiles.{all_changed, changed_is}
