@@ -1,10 +1,11 @@
 -- What events do to the strokes of a core.
-use Rattle.std.proofs.Common.{List, [], ◌∷◌, ◌++◌, sym, refl, ap, ◌∙◌, subst}
+use Rattle.std.proofs.Common.{◌≡◌, List, [], ◌∷◌, ◌++◌, sym, refl, ap, ◌∙◌, subst, arith}
 use Rattle.stroke_lattice.specs.State.{State, IsBelow}
 use Rattle.stroke_lattice.proofs.Joins.{below_itself, below_through}
-use Rattle.core_rules.specs.{Work.Core, Runs.Entry, Runs.IsRun}
+use Rattle.core_rules.specs.{Work.Core, Runs.Entry, Runs.IsRun, Counting.merges_of}
 use Rattle.core_rules.specs.Events.{Event, Answer, Happens, Merge, Take, GiveBack, Abandon, Hand, OfMerge, OfTake}
 use Rattle.core_rules.specs.Events.{OfGiveBack, OfAbandon, OfHand}
+use Rattle.tiled_image.specs.Settling.{HasWorkedOn}
 use Rattle.core_dispatch.specs.Growing.{GrowsOn}
 use Rattle.core_dispatch.proofs.Steady.{IsSteady, as_before, through, taken_is_steady, given_back_is_steady}
 use Rattle.core_dispatch.proofs.Steady.{abandoned_is_steady, handed_is_steady}
@@ -47,6 +48,15 @@ run_is_steady before (entry ∷ log) after none (next, happens, run) =
     let (first, rest) = apart entry log none in
     through before next after (event_is_steady before entry.0 entry.1 next first happens)
     (run_is_steady next log after rest run)
+
+-- so do those of which none is counted as a merge
+none_counted : (log : List Entry) → merges_of log ≡ 0 → AreNoMerges log
+none_counted [] none = tt
+none_counted ((Merge delta, answer) ∷ log) none = absurd (omega (arith, none))
+none_counted (entry ∷ log) none = none_counted log none
+
+pub worked_is_steady : (before after : Core) → HasWorkedOn before after → IsSteady before after
+worked_is_steady before after (log, run, none) = run_is_steady before log after (none_counted log none) run
 
 -- ---- all events
 

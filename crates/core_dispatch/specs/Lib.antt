@@ -8,6 +8,7 @@ pub use Rattle.core_rules.specs.Hints
 pub use Rattle.core_rules.specs.Events
 pub use Rattle.core_rules.specs.Runs
 pub use Rattle.steal_pool.specs.Views
+pub use Rattle.tiled_image.specs.Settling
 pub mod Rings
 pub mod Growing
 pub mod Books

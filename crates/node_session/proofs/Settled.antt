@@ -1,14 +1,14 @@
 -- Settling merges nothing.
-use Rattle.std.proofs.Common.{◌≡◌, ℕ, List, [], ◌∷◌, sym, subst, arith, Bool, Result, Ok, Err}
-use Rattle.std.proofs.Common.{IfOk, OnErr}
+use Rattle.std.proofs.Common.{ℕ, List, [], ◌∷◌, sym, subst, Bool, Result, IfOk, OnErr}
 use Rattle.tile_generations.specs.declared.ticket.Ticket.{Ticket}
 use Rattle.core_rules.specs.{Work.Core, Events.Merge, Events.Abandon}
 use Rattle.core_rules.specs.{Runs.Entry, Runs.IsWorkedOff, Runs.IsSettled, Runs.abandoned, Runs.tickets_out}
-use Rattle.core_rules.specs.Counting.{merges_of}
 use Rattle.core_rules.proofs.Running.{settled_is_run}
-use Rattle.reset_core.specs.Answers.{IsRunWith, IsSliceInBands, IsRunCutShort}
+use Rattle.reset_core.specs.Answers.{IsSliceInBands, IsRunCutShort}
 use Rattle.reset_core.specs.declared.replica.settling.Slice.{Slice}
-use Rattle.core_dispatch.proofs.{Growing.AreNoMerges, Growing.no_merges_append, Growing.run_is_steady, Steady.IsSteady}
+use Rattle.tiled_image.proofs.SettledRows.{worked_on}
+use Rattle.core_dispatch.proofs.{Growing.AreNoMerges, Growing.no_merges_append, Growing.run_is_steady}
+use Rattle.core_dispatch.proofs.{Growing.worked_is_steady, Steady.IsSteady}
 
 none_in_work : (before : Core) (log : List Entry) (after : Core) → IsWorkedOff before log after → AreNoMerges log
 none_in_work before [] after is = tt
@@ -33,18 +33,8 @@ settled_keeps before log after settled =
     (settled_is_run before after log settled)
 
 -- and so does a slice of settling in whatever order, also where it was cut short
-none_counted : (log : List Entry) → merges_of log ≡ 0 → AreNoMerges log
-none_counted [] none = tt
-none_counted ((Merge delta, answer) ∷ log) none = absurd (omega (arith, none))
-none_counted (entry ∷ log) none = none_counted log none
-
-run_keeps : (before after : Core) (old new : List Bool) (jobs abandons : ℕ)
-    → IsRunWith before old jobs abandons after new → IsSteady before after
-run_keeps before after old new jobs abandons run =
-    run_is_steady before run.log after (none_counted run.log run.none_merged) run.run
-
 pub in_bands_keeps : {E : Type 0} (before after : Core) (old new : List Bool) (limit : ℕ) (answer : Result Slice E)
     → IfOk answer (λ slice. IsSliceInBands before old limit slice after new)
     → OnErr answer (IsRunCutShort before old after new) → IsSteady before after
-in_bands_keeps before after old new limit (Ok slice) done cut = run_keeps before after old new _ _ done.run
-in_bands_keeps before after old new limit (Err e) done cut = run_keeps before after old new _ _ cut.run
+in_bands_keeps before after old new limit answer done cut =
+    worked_is_steady before after (worked_on before after old new limit answer done cut)

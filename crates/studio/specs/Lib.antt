@@ -9,6 +9,7 @@ pub use Rattle.core_rules.specs.Sweeps
 pub use Rattle.core_rules.specs.Events
 pub use Rattle.core_rules.specs.Runs
 pub use Rattle.steal_pool.specs.Views
+pub use Rattle.tiled_image.specs.Settling
 pub use Rattle.core_dispatch.specs.Books
 pub use Rattle.core_dispatch.specs.Pens
 pub use Rattle.core_dispatch.specs.Dispatching

@@ -5,3 +5,4 @@ pub mod HandedOver
 pub mod JoinedTiles
 pub mod Rings
 pub mod Passing
+pub mod QuietCores

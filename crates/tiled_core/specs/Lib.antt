@@ -19,7 +19,7 @@ pub use Rattle.reset_core.specs.Parts
 pub use Rattle.reset_core.specs.Settling
 pub use Rattle.reset_core.specs.Sweeping
 pub use Rattle.tiled_image.specs.Raising
-pub use Rattle.tiled_image.specs.Settling
+pub use Rattle.tiled_image.specs.Settling as InBands
 pub use Rattle.tiled_image.specs.Shown
 pub use Rattle.tiled_image.specs.Sides
 pub mod SharedStates

@@ -2,7 +2,7 @@
 use Rattle.std.proofs.Common.{◌≡◌, ℕ, Bool, List, Result, Ok, Err, IfOk, OnErr, ap, false, inl, inr}
 use Rattle.std.proofs.Common.{length, replicate, subst, sym, ◌∙◌}
 use Rattle.std.proofs.Math.ListN.{length-replicate}
-use Rattle.grid_core.specs.declared.pixel.Pixel.{Pixel}
+use Rattle.grid_core.specs.{declared.memory.Memory.Memory, declared.pixel.Pixel.Pixel}
 use Rattle.grid_core.specs.Raster.{Raster, IsInside, IsOfSize, value_at}
 use Rattle.grid_core.specs.Tiles.{Tiles, count_of, tile_of}
 use Rattle.tile_work.specs.{TileSet.Has, TileSet.HasGained, WorkTable.IsDirtyTile}
@@ -13,7 +13,7 @@ use Rattle.reset_core.specs.declared.replica.settling.Slice.{Slice}
 use Rattle.reset_core.specs.declared.replica.Core.TheInside.{Inside as Parts}
 use Rattle.reset_core.specs.Replica.{IsStored, core_of}
 use Rattle.reset_core.proofs.Storing.{same_tiling}
-use Rattle.tiled_image.specs.Settling.{HasWorkedOn, IsSettledInBands}
+use Rattle.tiled_image.specs.Settling.{HasSettled, HasWorkedOn, IsSettledInBands}
 
 -- a slice that came to its end, or ended for want of memory, worked on the core
 pub worked_on : {E : Type 0} (before after : Core) (old new : List Bool) (limit : ℕ) (answer : Result Slice E)
@@ -74,27 +74,25 @@ module _ (old : Parts) (old_stored : IsStored old) (new : Parts) (new_stored : I
 -- ---- a slice
 
 -- a slice of settling began with the one core, whose image this is, and left the other
-pub record AreSettled (whole : Raster) (tiling : Tiles) (old new : Parts) (swept : List Bool) (limit : ℕ) {E : Type 0}
-    (answer : Result Slice E) : Type 0 where
-  pub worked : HasWorkedOn (core_of old) (core_of new)
+pub record AreSettled (whole : Raster) (tiling : Tiles) (old new : Parts) (swept : List Bool) (limit : ℕ)
+    (answer : Result Slice Memory) : Type 0 where
   pub size : IsOfSize whole new.image
   pub works : length new.work ≡ count_of tiling
   pub swept_count : length swept ≡ count_of tiling
   pub values : (changed : List Bool) → HasGained swept (IsDirtyTile new.work) changed → (p : Pixel)
       → IsInside tiling.width tiling.height p → (Has changed (tile_of tiling p) → ⊥)
       → value_at new.image p ≡ value_at whole p
-  pub slice : IfOk answer (λ slice. IsSettledInBands (core_of old) limit slice (core_of new))
-  pub none_out : IfOk answer (λ _. NoneOut (core_of new))
+  pub settled : HasSettled (core_of old) limit answer (core_of new)
 
 module _ (whole : Raster) (tiling : Tiles) (old : Parts) (old_stored : IsStored old)
     (tiles_are : old.markers.tiling ≡ tiling) (image_is : old.image ≡ whole) (new : Parts) (new_stored : IsStored new)
-    {E : Type 0} (none swept : List Bool) (none_is : none ≡ replicate (length old.work) false) (limit : ℕ)
-    (answer : Result Slice E)
+    (none swept : List Bool) (none_is : none ≡ replicate (length old.work) false) (limit : ℕ)
+    (answer : Result Slice Memory)
     (done : IfOk answer (λ slice. IsSliceInBands (core_of old) none limit slice (core_of new) swept))
     (cut : OnErr answer (IsRunCutShort (core_of old) none (core_of new) swept)) (none_out : NoneOut (core_of new))
     (stay : (t : ℕ) → (Has swept t → ⊥) → (IsDirty (core_of new) t → ⊥) → ShowsTheSame (core_of old) (core_of new) t)
   where
-    slice_is : (r : Result Slice E)
+    slice_is : (r : Result Slice Memory)
         → IfOk r (λ slice. IsSliceInBands (core_of old) none limit slice (core_of new) swept)
         → IfOk r (λ slice. IsSettledInBands (core_of old) limit slice (core_of new))
     slice_is (Ok slice) is = (
@@ -104,11 +102,11 @@ module _ (whole : Raster) (tiling : Tiles) (old : Parts) (old_stored : IsStored 
     )
     slice_is (Err e) is = tt
 
-    none_is_out : (r : Result Slice E) → IfOk r (λ _. NoneOut (core_of new))
+    none_is_out : (r : Result Slice Memory) → IfOk r (λ _. NoneOut (core_of new))
     none_is_out (Ok slice) = none_out
     none_is_out (Err e) = tt
 
-    as_many : (r : Result Slice E)
+    as_many : (r : Result Slice Memory)
         → IfOk r (λ slice. IsSliceInBands (core_of old) none limit slice (core_of new) swept)
         → OnErr r (IsRunCutShort (core_of old) none (core_of new) swept) → length swept ≡ length none
     as_many (Ok slice) is not = is.run.swept.count
@@ -119,7 +117,6 @@ module _ (whole : Raster) (tiling : Tiles) (old : Parts) (old_stored : IsStored 
 
     pub are_settled : AreSettled whole tiling old new swept limit answer
     are_settled = record {
-      worked = working;
       size =
           subst (λ (r : Raster). IsOfSize r new.image) image_is
           (size_stays old old_stored new new_stored working);
@@ -135,6 +132,5 @@ module _ (whole : Raster) (tiling : Tiles) (old : Parts) (old_stored : IsStored 
           (subst (λ (ts : Tiles). IsInside ts.width ts.height p) (sym tiles_are) inside)
           (subst (λ (ts : Tiles). Has changed (tile_of ts p) → ⊥) (sym tiles_are) spared)
           ∙ ap (λ (r : Raster). value_at r p) image_is;
-      slice = slice_is answer done;
-      none_out = none_is_out answer;
+      settled = record { slice = slice_is answer done; none_out = none_is_out answer; worked_on = working };
     }

@@ -23,11 +23,15 @@ IsSettledInBands before limit slice after =
 abbrev pub HasWorkedOn : Core → Core → Type 0
 HasWorkedOn before after = (log : List Entry) × IsRun before log after × (merges_of log ≡ 0)
 
--- what a slice of settling in bands answers, and what it leaves: after memory was wanting, too, there were but events
--- without a merge; memory is wanting only where there was work; and a core without work stays as it is
-pub record IsSettledFor (before : Core) (limit : ℕ) (answer : Result Slice Memory) (after : Core) : Type 0 where
+-- what a slice of settling in bands answers, and what it leaves; after memory was wanting, too, there were but events
+-- without a merge
+pub record HasSettled (before : Core) (limit : ℕ) (answer : Result Slice Memory) (after : Core) : Type 0 where
   pub slice : IfOk answer (λ slice. IsSettledInBands before limit slice after)
   pub none_out : IfOk answer (λ _. NoneOut after)
   pub worked_on : HasWorkedOn before after
+
+-- the same; memory is wanting only where there was work, and a core without work stays as it is
+pub record IsSettledFor (before : Core) (limit : ℕ) (answer : Result Slice Memory) (after : Core) : Type 0 where
+  pub settled : HasSettled before limit answer after
   pub some_work : OnErr answer (IsQuiet before → ⊥)
   pub quiet : IsQuiet before → after ≡ before

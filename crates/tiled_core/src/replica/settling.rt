@@ -1,10 +1,9 @@
 //! Settling in bands of rows of tiles.
 
-ghost use Rattle.std.specs.Prelude.{IfOk};
-ghost use Rattle.core_rules.specs.{Runs.NoneOut};
-ghost use Rattle.tiled_image.specs.Settling.{HasWorkedOn, IsSettledFor, IsSettledInBands};
+ghost use Rattle.tiled_image.specs.Settling.{HasSettled, IsSettledFor};
 
 use super::TiledCore;
+use border_queues::laws::edges_are_open;
 use core::mem::replace_with;
 use grid_core::{Grid, Memory};
 use reset_core::{CoreParts, Count, Slice};
@@ -28,6 +27,9 @@ impl TiledCore {
     ) -> Result<Slice, Memory>
         ensures { IsSettledFor self.old jobs result self.new }
     {
+        edges_are_open();
+        // A look at a field opens the core, so that what each core keeps is known.
+        let _conn = self.conn;
         if self.is_quiet() {
             return Ok(Slice {
                 count: Count {
@@ -37,7 +39,13 @@ impl TiledCore {
                 is_quiet: true,
             });
         }
-        replace_with(self, (rt, alloc, threads, jobs), settled)
+        replace_with(
+            self,
+            (),
+            |core: TiledCore, _nothing: ()| -> (TiledCore, Result<Slice, Memory>)
+                ensures { HasSettled core jobs result.1 result.0 }
+            { settled(core, rt, alloc, threads, jobs) },
+        )
     }
 }
 
@@ -46,13 +54,13 @@ impl TiledCore {
 // Errors: out of memory. Some of the work may be done then.
 fn settled<R: Threads + Sync>(
     core: TiledCore,
-    slice: (&R, Global, usize, u64),
+    rt: &R,
+    alloc: Global,
+    threads: usize,
+    jobs: u64,
 ) -> (TiledCore, Result<Slice, Memory>)
-    ensures slice { IfOk result.1 (λ done. IsSettledInBands core slice.3 done result.0) }
-    ensures none_out { IfOk result.1 (λ _. NoneOut result.0) }
-    ensures worked_on { HasWorkedOn core result.0 }
+    ensures { HasSettled core jobs result.1 result.0 }
 {
-    let (rt, alloc, threads, jobs) = slice;
     // It stands for the image meanwhile.
     let Ok(no_image) = Grid::new(alloc, 1, 1, 0) else {
         return (core, Err(Memory));

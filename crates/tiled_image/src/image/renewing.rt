@@ -1,14 +1,13 @@
 //! Images in tiles that a merge renews, or whose core settles.
 
-ghost use Rattle.std.specs.Prelude.{◌≡◌, IfOk, length};
-ghost use Rattle.core_rules.specs.Runs.{NoneOut};
+ghost use Rattle.std.specs.Prelude.{◌≡◌, length};
 ghost use Rattle.grid_core.specs.Tiles.{count_of};
 ghost use Rattle.reset_core.specs.Bounding.{FollowResets};
 ghost use Rattle.reset_core.specs.MergeSteps.{AreRenewed, CanRenew};
 ghost use Rattle.reset_core.specs.Replica.{IsStored};
 ghost use Rattle.tile_work.specs.TileSet.{Has};
 ghost use Rattle.tiled_image.specs.{Rims.AreTaken, Rims.room_of, TileParts.AreLetGo};
-ghost use Rattle.tiled_image.specs.Settling.{HasWorkedOn, IsSettledInBands, core_with, parts_with};
+ghost use Rattle.tiled_image.specs.Settling.{HasSettled, core_with, parts_with};
 
 use super::TiledImage;
 use crate::folding::write_all;
@@ -82,10 +81,8 @@ impl TiledImage {
         requires stored { IsStored (parts_with self.old.image core) }
         ensures tiling { self.new.tiling ≡ self.old.tiling }
         ensures stored { IsStored (parts_with self.new.image result.0) }
-        ensures slice { IfOk result.1 (λ slice. IsSettledInBands (core_with self.old.image core) jobs slice
-            (core_with self.new.image result.0)) }
-        ensures none_out { IfOk result.1 (λ _. NoneOut (core_with self.new.image result.0)) }
-        ensures worked_on { HasWorkedOn (core_with self.old.image core) (core_with self.new.image result.0) }
+        ensures settled { HasSettled (core_with self.old.image core) jobs result.1
+            (core_with self.new.image result.0) }
     {
         let mut changed = match TileSet::empty(alloc, self.tiling.count()) {
             Ok(none) => none,

@@ -1,11 +1,10 @@
 -- What the tactics leave open of `settle_in_bands`.
-use Rattle.std.proofs.Common.{◌≡◌, IfOk, ap, false, replicate, subst, sym, ◌∙◌}
+use Rattle.std.proofs.Common.{◌≡◌, ap, false, replicate, subst, sym, ◌∙◌}
 use Rattle.grid_core.specs.Raster.{Raster, IsOfSize, value_at}
 use Rattle.grid_core.specs.Tiles.{count_of}
-use Rattle.core_rules.specs.Runs.{NoneOut}
 use Rattle.reset_core.specs.Replica.{stored_as, IsStored}
 use Rattle.tiled_image.specs.{RaisedTiles.whole_of, TiledImage.TiledRaster}
-use Rattle.tiled_image.specs.Settling.{HasWorkedOn, IsSettledInBands, core_with, parts_with}
+use Rattle.tiled_image.specs.Settling.{HasSettled, core_with, parts_with}
 use Rattle.tiled_image.proofs.ChangedTiles.{all_changed, changed_is}
 use Rattle.tiled_image.proofs.SettledRows.{AreSettled, are_settled, stored_works}
 use Rattle.tiled_image.proofs.image.TiledImage.settle_in_bands.{Given.Over, Goals.After-swap, Goals.After-take_rims}
@@ -100,24 +99,10 @@ returns-clause-stored g c =
     subst (λ (r : Raster). IsStored (parts_with r c.into_stored-settled.result))
     (image_is g at.After-take_rims (settled g at.After-swap)) c.into_stored-settled.ensures.stored
 
-pub returns-clause-slice : goal.returns-clause-slice
-returns-clause-slice g c =
-    let at = goal.at.returns-clause-slice g c in
+pub returns-clause-settled : goal.returns-clause-settled
+returns-clause-settled g c =
+    let at = goal.at.returns-clause-settled g c in
     let is = settled g at.After-swap in
-    subst (λ (r : Raster). IfOk c.settle_in_bands-slice.result (λ slice.
-    IsSettledInBands (core_with c.args.self.now.image c.args.core) c.args.jobs slice
-    (core_with r c.into_stored-settled.result))) (image_is g at.After-take_rims is) is.slice
-
-pub returns-clause-none_out : goal.returns-clause-none_out
-returns-clause-none_out g c =
-    let at = goal.at.returns-clause-none_out g c in
-    let is = settled g at.After-swap in
-    subst (λ (r : Raster). IfOk c.settle_in_bands-slice.result (λ _.
-    NoneOut (core_with r c.into_stored-settled.result))) (image_is g at.After-take_rims is) is.none_out
-
-pub returns-clause-worked_on : goal.returns-clause-worked_on
-returns-clause-worked_on g c =
-    let at = goal.at.returns-clause-worked_on g c in
-    let is = settled g at.After-swap in
-    subst (λ (r : Raster). HasWorkedOn (core_with c.args.self.now.image c.args.core)
-    (core_with r c.into_stored-settled.result)) (image_is g at.After-take_rims is) is.worked
+    subst (λ (r : Raster). HasSettled (core_with c.args.self.now.image c.args.core) c.args.jobs
+    c.settle_in_bands-slice.result (core_with r c.into_stored-settled.result))
+    (image_is g at.After-take_rims is) is.settled
