@@ -1,5 +1,5 @@
 -- Settling a core at which no work is left.
-use Rattle.std.proofs.Common.{◌≡◌, ℕ, Bool, true, false, List, [], Ok, ap, arith, length, refl, replicate, sym, ◌∙◌}
+use Rattle.std.proofs.Common.{ℕ, Bool, true, false, List, [], Ok, ap, arith, length, refl, replicate, sym, ◌∙◌}
 use Rattle.border_queues.specs.Laws.{EdgesAreOpen}
 use Rattle.core_rules.specs.{Invariant.IsSound, Runs.NoneOut, Work.Core, Work.IsQuiet}
 use Rattle.core_rules.proofs.{Counting.one_job_out_a_tile, Leaving.no_tickets}
