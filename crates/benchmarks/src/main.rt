@@ -11,6 +11,8 @@
 //!   many jobs there were, and the time.
 //! - `settle HANDS SIDE` merges all edits and lets so many hands settle, in threads of their own; with none the core
 //!   settles by itself: the sum, how many jobs there were, and the time.
+//! - `studio HANDS SIDE` does as `settle HANDS SIDE`, but that the keeper settles in bands, by one thread more than there
+//!   are hands.
 //! - `settle parts SIDE` works the same off in one thread, job by job: how many jobs there were, and the time to take
 //!   them, to push them, to sweep and report them, to collect them and give them back, and to hand hints over; then the
 //!   sum.
@@ -62,16 +64,22 @@ fn measure(rt: &impl System, source: &mut impl Source, words: &[String]) -> Outc
         }
         ("settle", Some(0), Some(side)) => settling::once(rt, read(rt, source)?, side),
         ("settle", Some(hands), Some(side)) => {
-            studios::run(rt, read(rt, source)?, hands, side, None)
+            studios::run(rt, read(rt, source)?, hands, side, None, None)
+        }
+        ("studio", Some(hands), Some(side)) => {
+            let threads = hands as usize + 1;
+            studios::run(rt, read(rt, source)?, hands, side, None, Some(threads))
         }
         ("settle", None, Some(side)) => parts::measure(rt, read(rt, source)?, side),
-        ("watch", Some(count), None) => studios::run(rt, read(rt, source)?, 2, SIDE, Some(count)),
+        ("watch", Some(count), None) => {
+            studios::run(rt, read(rt, source)?, 2, SIDE, Some(count), None)
+        }
         ("board", Some(hands), None) => boards::measure(rt, read(rt, source)?, hands, false),
         ("flood", Some(hands), Some(4)) => boards::measure(rt, read(rt, source)?, hands, true),
         ("flood", Some(hands), Some(8)) => flood_aslant(rt, read(rt, source)?, hands),
         ("stress", Some(rounds), Some(seed)) => stress::play_all(rt, rounds, seed),
         _ => Err(Fault(
-            "the words are none of: edit, bands, settle, watch, board, flood, stress and numbers",
+            "the words are none of: edit, bands, settle, studio, watch, board, flood, stress and numbers",
         )),
     }
 }

@@ -12,6 +12,9 @@ use steal_pool::{Hand, Open};
 use stroke_lattice::Delta;
 use studio::{Eye, Keeper, Studio};
 
+// How many tiles a keeper sweeps at most between two looks at its core.
+const SLICE: u64 = 4096;
+
 /// A keeper, with its pens, hands and eyes. End it.
 pub type Company = (Keeper, Vec<Pen>, Vec<Hand>, Vec<Eye>);
 
@@ -66,8 +69,16 @@ pub fn turn(keeper: &mut Keeper) -> Result<Turned, Fault> {
 /// Has so many hands work in threads. Where a count is given, so many of the last edits are submitted to a settled
 /// core, each after the other, and a line is printed for each: the time until a glimpse has it, and what two shows
 /// took, one after the edit and one after nothing. Else a core of all edits settles, and its sum, how many jobs there
-/// were, and the time are printed.
-pub fn run<R: System>(rt: &R, input: Input, hands: u32, side: u32, count: Option<u32>) -> Outcome {
+/// were, and the time are printed. Where a number of threads is given, the keeper settles in bands by so many, and the
+/// hands find nothing to do.
+pub fn run<R: System>(
+    rt: &R,
+    input: Input,
+    hands: u32,
+    side: u32,
+    count: Option<u32>,
+    threads: Option<usize>,
+) -> Outcome {
     let (core, edits) = input.open(rt.alloc(), side, count)?;
     let (mut keeper, mut pens, hands, mut eyes) = open(rt, core, hands as usize, 1)?;
     let (lent, seats, edits) = (&mut keeper, &mut (pens.pop(), eyes.pop()), &edits);
@@ -75,7 +86,7 @@ pub fn run<R: System>(rt: &R, input: Input, hands: u32, side: u32, count: Option
     let mut laps = Laps::begin(rt);
     let jobs = thread::scope(thread::scope_env(), rt, move |scope| {
         let jobs = match spawn_hands(scope, rt, hands, done) {
-            Ok(()) => see_all(rt, lent, seats, edits),
+            Ok(()) => see_all(rt, lent, seats, edits, threads),
             Err(fault) => Err(fault),
         };
         done.store(true, Ordering::SeqCst);
@@ -90,30 +101,41 @@ pub fn run<R: System>(rt: &R, input: Input, hands: u32, side: u32, count: Option
     jobs.and(Ok(()))
 }
 
-// Has the edits seen one by one, each after the work of the one before, and says how many jobs were pushed at the end.
+// Has the edits seen one by one, each after the work of the one before, and says how many jobs there were at the end.
 fn see_all(
     rt: &impl System,
     keeper: &mut Keeper,
     seats: &mut Seats,
     edits: &[Delta],
+    threads: Option<usize>,
 ) -> Result<u64, Fault> {
     for edit in edits {
         see(rt, keeper, seats, edit)?;
-        work_off(keeper)?;
+        work_off(rt, keeper, threads)?;
     }
-    work_off(keeper)
+    work_off(rt, keeper, threads)
 }
 
-// Makes turns until no work is left, and says how many jobs were pushed.
-fn work_off(keeper: &mut Keeper) -> Result<u64, Fault> {
+// Makes turns until no work is left, or settles in bands by so many threads, and says how many jobs there were.
+fn work_off(rt: &impl System, keeper: &mut Keeper, threads: Option<usize>) -> Result<u64, Fault> {
     let mut jobs: u64 = 0;
     for _ in 0..u64::MAX {
         if keeper.core().is_quiet() {
             break;
         }
-        jobs = jobs.wrapping_add(turn(keeper)?.jobs);
+        let more = match threads {
+            Some(threads) => settle(rt, keeper, threads)?,
+            None => turn(keeper)?.jobs,
+        };
+        jobs = jobs.wrapping_add(more);
     }
     Ok(jobs)
+}
+
+// Has the keeper settle for a slice in bands, by up to so many threads, and says how many jobs there were.
+fn settle(rt: &impl System, keeper: &mut Keeper, threads: usize) -> Result<u64, Fault> {
+    let slice = keeper.settle_in_bands(rt, threads, SLICE).or(Err(MEMORY))?;
+    Ok(slice.count.jobs)
 }
 
 // Has an edit submitted and seen, and prints what it took until then, and what two shows took.

@@ -2,13 +2,15 @@
 use Rattle.std.proofs.Common.{arith, ◌≡◌, ◌+◌, ℕ, suc, true, refl, sym, ap, ◌∙◌, subst}
 use Rattle.byte_devices.specs.Device.{HasRisenBy}
 use Rattle.core_dispatch.specs.{Books.BooksView, Growing.GrowsOn}
-use Rattle.core_dispatch.proofs.{Growing.grows_itself, Growing.grows_through, Taking.same_pens}
+use Rattle.core_dispatch.proofs.{Around.rest_pens, Growing.grows_itself, Growing.grows_through, Growing.run_grows}
+use Rattle.core_dispatch.proofs.{Taking.same_pens}
 use Rattle.studio.specs.{declared.keeper.Keeper.Keeper, Keeping.core_of, Keeping.books_of, Keeping.studio_of}
 use Rattle.studio.proofs.Company.{company_stays, company_through}
 use Rattle.link_nodes.specs.{Links.LinkSeen, Nodes.pen_of, Nodes.IsSameNode}
 use Rattle.link_nodes.proofs.SameNodes.{same_node, same_node_through}
 use Rattle.node_session.specs.declared.desk.Desk.{Desk}
-use Rattle.node_session.specs.Working.{IsOneStudio, HasItsPen, Stays, StaysSilent, WorksOn, IsTurnOf, AreBusyTurns}
+use Rattle.node_session.specs.Working.{IsOneStudio, HasItsPen, HasWorked, Stays, StaysSilent, WorksOn, IsTurnOf}
+use Rattle.node_session.specs.Working.{AreBusyTurns}
 use Rattle.node_session.proofs.Meanwhile.{hears_nothing, hears_through, hears_from}
 
 stays_itself : (d : Desk) → Stays d d
@@ -87,5 +89,15 @@ stays_over old new books studio same = record {
   grows = subst (λ (b : BooksView). GrowsOn (core_of old.keeper) b.core) (sym books)
       (grows_itself (core_of old.keeper));
   company = record { pens = same_pens (books_of old.keeper) (books_of new.keeper) books; studio = studio };
+  node = same;
+}
+
+-- the core was worked on without a merge
+pub worked_stays : (old new : Desk) → HasWorked (books_of old.keeper) (books_of new.keeper)
+    → studio_of new.keeper ≡ studio_of old.keeper → IsSameNode old.node new.node → Stays old new
+worked_stays old new (rest, (log, run, none)) studio same = record {
+  opening = ap (λ (b : BooksView). b.opening) rest;
+  grows = run_grows (core_of old.keeper) log (core_of new.keeper) run;
+  company = record { pens = rest_pens (books_of old.keeper) (books_of new.keeper) rest; studio = studio };
   node = same;
 }

@@ -150,6 +150,7 @@ fn work<R: Threads + Wait + Clock + Sync, L: Link>(
 {
     let done = AtomicBool::new(false);
     let flag = &done;
+    let threads = hands.len().saturating_add(1);
     join_mut(
         rt,
         &mut || run_all(rt, hands, flag),
@@ -157,7 +158,7 @@ fn work<R: Threads + Wait + Clock + Sync, L: Link>(
             requires { IsOneStudio desk.now }
             ensures { WorksOn ticks desk.entry.now desk.exit.now (L.seen link.entry.now) (L.seen link.exit.now) }
         {
-            desk.ticks(rt, alloc, link, ticks);
+            desk.ticks(rt, alloc, link, ticks, threads);
             flag.store(true, Ordering::SeqCst);
         },
     );

@@ -1,8 +1,10 @@
 -- A core that goes on from the shot that was shown last.
-use Rattle.std.proofs.Common.{Bool, false, sym, ◌∙◌, subst}
+use Rattle.std.proofs.Common.{◌≡◌, ◌&&◌, Bool, true, false, IsTrue, ap, refl, sym, ◌∙◌, subst}
 use Rattle.stroke_lattice.specs.State.{State, IsBelow}
 use Rattle.stroke_lattice.proofs.Joins.{below_itself, below_through}
 use Rattle.core_rules.specs.Work.{Core}
+use Rattle.core_rules.proofs.KeptRuns.{run_keeps}
+use Rattle.tiled_image.specs.Settling.{HasWorkedOn}
 use Rattle.core_dispatch.specs.Growing.{GrowsOn}
 use Rattle.studio.specs.{Shots.Shot, Shots.IsSound, Chains.MayFollow, Following.Follows, Keeping.IsShotOf}
 
@@ -39,3 +41,22 @@ grows_on last before after a b f g = record {
   same_state = λ h. absurd cc;
   same_image = λ h. absurd cc;
 }
+
+-- work without a merge leaves the strokes, and where there was none the image
+pub works_on : (last : Shot) (before after : Core) (has_state has_image is_quiet : Bool)
+    → Follows last before has_state has_image → HasWorkedOn before after → (is_quiet ≡ true → after ≡ before)
+    → Follows last after has_state (has_image && is_quiet)
+works_on last before after has_state has_image is_quiet f (log, run, none) same =
+    let kept = run_keeps before after log none run in
+    record {
+      mask = f.mask ∙ sym kept.mask;
+      conn = f.conn ∙ sym kept.conn;
+      state = subst (λ (x : State). IsBelow last.state x) (sym kept.state) f.state;
+      same_state = λ yes. f.same_state yes ∙ sym kept.state;
+      same_image = still has_image is_quiet f.same_image same;
+    } where
+      still : (has quiet : Bool) → (IsTrue has → last.image ≡ before.image) → (quiet ≡ true → after ≡ before)
+          → IsTrue (has && quiet) → last.image ≡ after.image
+      still true true was is both_hold = was refl ∙ sym (ap (λ (c : Core). c.image) (is refl))
+      still true false was is both_hold = let no : false ≡ true = both_hold in absurd cc
+      still false quiet was is both_hold = let no : false ≡ true = both_hold in absurd cc

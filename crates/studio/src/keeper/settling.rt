@@ -6,6 +6,7 @@ ghost use Rattle.tiled_image.specs.Settling.{IsSettledFor};
 ghost use Rattle.studio.specs.Keeping.{core_of, books_of, owner_of, IsUntouched};
 
 use super::Keeper;
+use super::turning::both;
 use grid_core::Memory;
 use reset_core::Slice;
 use std::marker::Sync;
@@ -29,9 +30,8 @@ impl Keeper {
         ensures owner { owner_of self.new ≡ owner_of self.old }
         ensures untouched { IsUntouched self.old self.new }
     {
-        if !self.core().is_quiet() {
-            self.has_image = false;
-        }
+        let is_quiet = self.core().is_quiet();
+        self.has_image = both(self.has_image, is_quiet);
         self.dispatcher
             .books
             .settle_in_bands(rt, self.alloc, threads, jobs)

@@ -35,8 +35,8 @@ impl Keeper {
     }
 }
 
-// Whether both hold.
-fn both(a: bool, b: bool) -> bool
+/// Whether both hold.
+pub(super) fn both(a: bool, b: bool) -> bool
     ensures { result ≡ (a && b) }
 {
     a && b
