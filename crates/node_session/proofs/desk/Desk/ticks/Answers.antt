@@ -8,7 +8,7 @@ loop-tick-init g c = works_itself _ _
 
 -- node and keeper are of one studio still
 pub tick-requires : goal.tick-requires
-tick-requires g c = studio_stays _ _ c.loop-tick.invariant.stays c.requires
+tick-requires g c = (c.type_bounds.sync-R, studio_stays _ _ c.loop-tick.invariant.stays c.requires)
 
 pub loop-tick-preserved : goal.loop-tick-preserved
 loop-tick-preserved g c = works_through _ 1 _ _ _ _ _ _ c.loop-tick.invariant c.tick.ensures.works
