@@ -166,12 +166,16 @@ fn works<'s, E, R: Wait + Sync>(
     }
 }
 
-// Makes turns until each edit is taken and no work is left, for a while, and shows the core now and then.
-fn keeps<R: Wait>(rt: &R, keeper: &mut Keeper, found: &Found) -> bool {
+// Makes turns until each edit is taken and no work is left, for a while; settles in bands and shows the core now and
+// then.
+fn keeps<R: Threads + Wait + Sync>(rt: &R, keeper: &mut Keeper, found: &Found) -> bool {
     let mut are_shown = true;
     for round in 0..PATIENCE {
         let are_drawn = found.drawn.load(Ordering::SeqCst);
         let turned = keeper.turn();
+        if round % 8 == 3 {
+            are_shown = are_shown & keeper.settle_in_bands(rt, 3, 256).is_ok();
+        }
         let is_last = are_drawn & (turned.edits == 0) & keeper.core().is_quiet();
         if is_last | (round % 16 == 0) {
             are_shown = are_shown & keeper.show(rt).is_ok();

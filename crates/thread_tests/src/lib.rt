@@ -38,6 +38,8 @@ mod runs;
 #[cfg(test)]
 mod scene;
 #[cfg(test)]
+mod settling;
+#[cfg(test)]
 mod sockets;
 #[cfg(test)]
 mod turning;

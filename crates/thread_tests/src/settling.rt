@@ -1,0 +1,63 @@
+//! A keeper that settles in bands what hands were to do.
+
+ghost use Rattle.thread_tests.specs.Company.{IsCompany};
+
+use crate::company::Scene;
+use crate::outcome::{NO_MEMORY, Outcome, right_if, told};
+use crate::pictures::{Edit, Mask, settles};
+use crate::playing::{hand_turn, submits, turn};
+use crate::scene::{close, open_on};
+use grid_core::Conn;
+use reset_core::Count;
+use std::alloc::Global;
+use std::marker::Sync;
+use std::sync::Wait;
+use std::test::Fail;
+use std::thread::Threads;
+use steal_pool::{Open, Turn};
+
+// Whether the keeper settles in bands, by three threads, and this is what that took.
+fn settles_by<R: Threads + Sync>(rt: &R, scene: &mut Scene, count: Count) -> bool
+    requires { IsCompany scene.old }
+    ensures { IsCompany scene.new }
+{
+    match scene.keeper.settle_in_bands(rt, 3, u64::MAX) {
+        Ok(slice) => slice.is_quiet & (slice.count == count),
+        Err(_) => false,
+    }
+}
+
+// 65 jobs are out when the keeper settles: all are abandoned, and each tile is swept once. What a hand does with one of
+// them then changes nothing.
+fn plays<R: Threads + Sync>(rt: &R, alloc: Global, scene: &mut Scene) -> bool
+    requires { IsCompany scene.old }
+    ensures { IsCompany scene.new }
+{
+    let is_in = submits(scene, Edit::Spread.delta(alloc));
+    let are_out = turn(scene).jobs == 65;
+    let is_settled = settles_by(
+        rt,
+        scene,
+        Count {
+            jobs: 65,
+            abandons: 65,
+        },
+    );
+    let is_late = matches!(hand_turn(scene, &Open), Turn::Worked(_));
+    let is_taken = turn(scene).results == 1;
+    is_in & are_out & is_settled & is_late & is_taken & scene.keeper.core().is_quiet()
+}
+
+fn settles_at_once<R: Threads + Wait + Sync>(rt: &R, alloc: Global) -> Outcome {
+    let Some(mut scene) = open_on(rt, alloc, Mask::ManyTiles, Conn::Four, 1) else {
+        return Err(NO_MEMORY);
+    };
+    let is_played = plays(rt, alloc, &mut scene);
+    let is_grown = settles(alloc, close(rt, alloc, scene), None);
+    right_if(is_played & is_grown, "a keeper that settles in bands")
+}
+
+#[test]
+fn a_keeper_settles_what_hands_were_to_do(rt: HostRuntime) -> Result<(), Fail> {
+    told(settles_at_once(&rt, rt.alloc()))
+}
