@@ -25,7 +25,7 @@ use tile_work::TileSet;
 // Fewer dirty tiles, or fewer jobs, are not worth a second thread.
 const SHARED_TILES: usize = 64;
 
-// At most how often a band sweeps tiles in a round behind the first two.
+// At most how often a band sweeps tiles in a round that has an end.
 const SWEEPS_OF_BAND: u64 = 1024;
 
 impl Core {
@@ -102,11 +102,17 @@ impl Core {
         let Ok(mut cuts) = vec![in alloc; rows; bands - 1] else {
             return 0;
         };
-        self.share_out(&mut cuts);
-        self.sweep_rounds(rt, alloc, swept, &mut cuts, jobs)
+        let are_many = self.count_dirty(SHARED_TILES) == SHARED_TILES;
+        if are_many {
+            self.share_out(&mut cuts);
+        } else {
+            spread_evenly(&mut cuts, rows);
+        }
+        self.sweep_rounds(rt, alloc, swept, &mut cuts, are_many, jobs)
     }
 
-    // Sweeps dirty tiles round after round, each with other cuts, and says how often tiles were swept.
+    // Sweeps dirty tiles round after round, each with other cuts, and says how often tiles were swept. Where many are
+    // dirty at first, the first two rounds go on until no tile is dirty that may be swept.
     //
     // It stops where none is dirty, and where a round swept none: memory is wanting, or all that are dirty touch a cut.
     fn sweep_rounds<R: Threads + Sync>(
@@ -115,6 +121,7 @@ impl Core {
         alloc: Global,
         swept: &mut TileSet,
         cuts: &mut [u32],
+        are_many: bool,
         jobs: u64,
     ) -> u64
         requires left { HasOnlySweeps self.old }
@@ -128,7 +135,7 @@ impl Core {
             if done == jobs || self.next_dirty(0).is_none() {
                 return done;
             }
-            let most = most_in_round(round, cuts.len());
+            let most = most_in_round(are_many && round < 2, cuts.len());
             let more = self.few_and_round(rt, alloc, swept, cuts, most, jobs - done);
             done += more;
             if more == 0 && round % 2 == 1 {
@@ -263,9 +270,9 @@ fn row_below(tiling: &Tiling, tile: usize) -> u32
     (tile / columns_of(tiling) as usize) as u32 + 1
 }
 
-// At most how many tiles a round sweeps: any number in the first two, and then so many in each band.
-fn most_in_round(round: u64, cuts: usize) -> u64 {
-    if round < 2 {
+// At most how many tiles a round sweeps: any number, or so many in each band.
+fn most_in_round(is_endless: bool, cuts: usize) -> u64 {
+    if is_endless {
         return u64::MAX;
     }
     SWEEPS_OF_BAND.saturating_mul((cuts as u64).saturating_add(1))
