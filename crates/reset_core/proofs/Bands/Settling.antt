@@ -220,6 +220,28 @@ swept_in_both a b c old between new jobs more one next =
       jobs_are = omega (arith, long, one.jobs_are, next.jobs_are);
     }
 
+-- tiles that were worked off in their order are swept
+pub worked_off_swept : (limit : ℕ) (a b : Core) (old new : List Bool) (jobs : ℕ)
+    → AreWorkedOffWithin limit a old b new jobs → AreSweptInto a old b new jobs
+worked_off_swept limit a b old new jobs works =
+    let off = works.off in
+    let jobs_are : jobs ≡ length (tiles_taken off.log) = sym off.jobs_are ∙ jobs_are_taken off.log in
+    record {
+      ts = tiles_taken off.log;
+      swept = record {
+        log = off.log;
+        runs = worked_is_run a b off.log off.works;
+        taken = refl;
+        none_abandoned = none_abandoned a b off.log off.works;
+        none_merged = worked_merges a b off.log off.works;
+        count = off.count;
+        left = record { none_out = off.none_out; no_hints = off.no_hints };
+        spent = omega (arith, off.spent, jobs_are);
+      };
+      gained = off.swept;
+      jobs_are = jobs_are;
+    }
+
 -- ---- the whole of it
 
 -- jobs were abandoned, hints handed over, and tiles swept in bands

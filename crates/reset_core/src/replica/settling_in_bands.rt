@@ -1,6 +1,6 @@
 //! Settling in bands of rows of tiles, each of which a thread of its own sweeps.
 
-ghost use Rattle.std.specs.Prelude.{◌≡◌, ◌+◌, ◌<◌, ◌≤◌, ◌⊎◌, ℕ, length, IfOk, IsTrue, OnErr};
+ghost use Rattle.std.specs.Prelude.{◌≡◌, ◌+◌, ◌<◌, ◌≤◌, ◌⊎◌, ℕ, length, IfOk, OnErr};
 ghost use Rattle.grid_core.specs.Tiles.{count_of};
 ghost use Rattle.core_rules.specs.Work.{IsQuiet};
 ghost use Rattle.core_rules.specs.Runs.{NoneOut, IsDirty};
@@ -25,11 +25,15 @@ use tile_work::TileSet;
 // Fewer dirty tiles, or fewer jobs, are not worth a second thread.
 const SHARED_TILES: usize = 64;
 
+// At most how often a band sweeps tiles in a round that has an end.
+const SWEEPS_OF_BAND: u64 = 1024;
+
 impl Core {
     /// Works like [`settle_within`](Core::settle_within), with the tiles swept by up to so many threads: the rows of
     /// tiles are cut into bands, each of which is swept by a thread of its own but for the tiles that touch another
-    /// band, once more with other cuts, and what is left is swept by this thread. With fewer than 64 dirty tiles or
-    /// jobs, and where memory for bands is wanting, this thread sweeps them all.
+    /// band. So it goes on in rounds with other cuts while tiles are dirty. Where fewer than 64 are, this thread sweeps
+    /// up to 64 before the round. With fewer than 64 jobs, where memory for bands is wanting, and where all dirty tiles
+    /// lie along cuts, this thread sweeps what is left.
     ///
     /// Which tiles are swept in which order is not said, and what comes of it is the same: the reconstruction, where no
     /// work is left. No more tiles are swept than there is work.
@@ -70,8 +74,8 @@ impl Core {
         })
     }
 
-    // Sweeps dirty tiles in bands, and once more in bands that are cut in the middles of those, and says how often
-    // tiles were swept. Where there is little to share it takes no memory.
+    // Sweeps dirty tiles in bands, round after round, and says how often tiles were swept. Where there is nothing to
+    // share it takes no memory.
     fn sweep_in_bands<R: Threads + Sync>(
         &mut self,
         rt: &R,
@@ -88,19 +92,102 @@ impl Core {
     {
         let rows = rows_of(&self.tiling());
         let bands = threads.min(rows as usize);
-        if bands < 2 || !self.is_worth_sharing(jobs) {
+        if bands < 2 || jobs < SHARED_TILES as u64 {
             return 0;
         }
-        let Ok(mut cuts) = self.cuts(alloc, bands) else {
+        let Some(_first) = self.next_dirty(0) else {
             return 0;
         };
-        let first = self.round(rt, alloc, swept, &cuts, jobs);
-        to_middles(&mut cuts, rows);
-        first + self.round(rt, alloc, swept, &cuts, jobs - first)
+        // A cut behind the last row cuts nothing.
+        let Ok(mut cuts) = vec![in alloc; rows; bands - 1] else {
+            return 0;
+        };
+        let are_many = self.count_dirty(SHARED_TILES) == SHARED_TILES;
+        if are_many {
+            self.share_out(&mut cuts);
+        } else {
+            spread_evenly(&mut cuts, rows);
+        }
+        self.sweep_rounds(rt, alloc, swept, &mut cuts, are_many, jobs)
     }
 
-    // Sweeps dirty tiles in bands that begin at these rows of tiles, and says how often tiles were swept: none where
-    // there is too little to share, or memory for the bands is wanting.
+    // Sweeps dirty tiles round after round, each with other cuts, and says how often tiles were swept. Where many are
+    // dirty at first, the first two rounds go on until no tile is dirty that may be swept.
+    //
+    // It stops where none is dirty, and where a round swept none: memory is wanting, or all that are dirty touch a cut.
+    fn sweep_rounds<R: Threads + Sync>(
+        &mut self,
+        rt: &R,
+        alloc: Global,
+        swept: &mut TileSet,
+        cuts: &mut [u32],
+        are_many: bool,
+        jobs: u64,
+    ) -> u64
+        requires left { HasOnlySweeps self.old }
+        requires count { length swept.old ≡ length self.old.tiles }
+        ensures swept { AreSweptInto self.old swept.old self.new swept.new result }
+        ensures at_most { result ≤ jobs }
+    {
+        let rows = rows_of(&self.tiling());
+        let mut done = 0;
+        for round in 0..jobs {
+            if done == jobs || self.next_dirty(0).is_none() {
+                return done;
+            }
+            let most = most_in_round(are_many && round < 2, cuts.len());
+            let more = self.few_and_round(rt, alloc, swept, cuts, most, jobs - done);
+            done += more;
+            if more == 0 && round % 2 == 1 {
+                return done;
+            }
+            move_cuts(cuts, rows, round);
+        }
+        done
+    }
+
+    // Sweeps dirty tiles in this thread where there are few, then, where some are dirty still, up to `most` in bands,
+    // and says how often tiles were swept.
+    fn few_and_round<R: Threads + Sync>(
+        &mut self,
+        rt: &R,
+        alloc: Global,
+        swept: &mut TileSet,
+        cuts: &[u32],
+        most: u64,
+        jobs: u64,
+    ) -> u64
+        requires left { HasOnlySweeps self.old }
+        requires count { length swept.old ≡ length self.old.tiles }
+        ensures swept { AreSweptInto self.old swept.old self.new swept.new result }
+        ensures at_most { result ≤ jobs }
+    {
+        let few = self.sweep_few(alloc, swept, jobs);
+        if few == jobs || self.next_dirty(0).is_none() {
+            return few;
+        }
+        few + self.round(rt, alloc, swept, cuts, most.min(jobs - few))
+    }
+
+    // Where few tiles are dirty, sweeps the least dirty one again and again, 64 times at most, and says how often: none
+    // where memory is wanting.
+    fn sweep_few(&mut self, alloc: Global, swept: &mut TileSet, jobs: u64) -> u64
+        requires left { HasOnlySweeps self.old }
+        requires count { length swept.old ≡ length self.old.tiles }
+        ensures swept { AreSweptInto self.old swept.old self.new swept.new result }
+        ensures at_most { result ≤ jobs }
+    {
+        if self.count_dirty(SHARED_TILES) == SHARED_TILES {
+            return 0;
+        }
+        let Ok(done) = self.sweep_within(alloc, swept, jobs.min(SHARED_TILES as u64)) else {
+            return 0;
+        };
+        done
+    }
+
+    // Sweeps dirty tiles in bands that begin at these rows of tiles, each with its share of the jobs, and says how
+    // often tiles were swept: none where memory for the bands is wanting.
     fn round<R: Threads + Sync>(
         &mut self,
         rt: &R,
@@ -115,9 +202,6 @@ impl Core {
         ensures at_most { result ≤ jobs }
     {
         edges_are_open();
-        if !self.is_worth_sharing(jobs) {
-            return 0;
-        }
         let tiling = self.markers.tiling();
         let limit = jobs / (cuts.len() as u64 + 1);
         let cut = cut_bands(
@@ -139,13 +223,6 @@ impl Core {
         swept_jobs
     }
 
-    // Whether so many tiles are dirty, and may be swept, that they are worth a second thread.
-    fn is_worth_sharing(&self, jobs: u64) -> bool
-        ensures { IsTrue result → (t : ℕ) × IsDirty self.now t }
-    {
-        jobs >= SHARED_TILES as u64 && self.count_dirty(SHARED_TILES) == SHARED_TILES
-    }
-
     // How many tiles are dirty, or `most`, where more are.
     fn count_dirty(&self, most: usize) -> usize
         ensures { 0 < result → (t : ℕ) × IsDirty self.now t }
@@ -162,26 +239,25 @@ impl Core {
         most
     }
 
-    // Rows of tiles at which so many bands begin, but for the first, that have about as many dirty tiles each.
-    //
-    // Errors: out of memory.
-    fn cuts(&self, alloc: Global, bands: usize) -> Result<Vec<u32>, Memory>
-        requires { 1 < bands }
+    // Each cut moves to where the bands that begin there have about as many dirty tiles each. Where there are fewer
+    // dirty tiles than bands, the last cuts stay.
+    fn share_out(&self, cuts: &mut [u32])
+        requires { 0 < length cuts.old }
     {
         let dirty = self.count_dirty(self.tiles());
-        let share = dirty / bands + 1;
-        let mut cuts = Vec::with_capacity(alloc, bands)?;
+        let share = dirty / (cuts.len() + 1) + 1;
         let mut from = 0;
+        let mut next_cut = 0;
         for number in 1..=dirty {
             let Some(tile) = self.next_dirty(from) else {
                 break;
             };
             from = tile + 1;
-            if number % share == 0 {
-                cuts.push(row_below(&self.tiling(), tile))?;
+            if number % share == 0 && next_cut < cuts.len() {
+                cuts[next_cut] = row_below(&self.tiling(), tile);
+                next_cut += 1;
             }
         }
-        Ok(cuts)
     }
 }
 
@@ -194,11 +270,39 @@ fn row_below(tiling: &Tiling, tile: usize) -> u32
     (tile / columns_of(tiling) as usize) as u32 + 1
 }
 
+// At most how many tiles a round sweeps: any number, or so many in each band.
+fn most_in_round(is_endless: bool, cuts: usize) -> u64 {
+    if is_endless {
+        return u64::MAX;
+    }
+    SWEEPS_OF_BAND.saturating_mul((cuts as u64).saturating_add(1))
+}
+
+// The cuts of the next round: in the middles of the bands behind an even round, evenly spaced ones behind an odd one.
+fn move_cuts(cuts: &mut [u32], rows: u32, round: u64) {
+    if round % 2 == 0 {
+        to_middles(cuts, rows);
+    } else {
+        spread_evenly(cuts, rows);
+    }
+}
+
 // Each cut moves to the middle between itself and the next one, and the last one to the middle of the rows below it.
 fn to_middles(cuts: &mut [u32], rows: u32) {
     let count = cuts.len();
     for i in 0..count {
         let next = if i + 1 < count { cuts[i + 1] } else { rows };
         cuts[i] += next.saturating_sub(cuts[i]) / 2;
+    }
+}
+
+// The cuts get as far apart from one another as the rows allow.
+fn spread_evenly(cuts: &mut [u32], rows: u32) {
+    let count = cuts.len();
+    let step = (rows as usize / (count + 1)) as u32;
+    let mut row: u32 = 0;
+    for i in 0..count {
+        row = row.saturating_add(step);
+        cuts[i] = row;
     }
 }
