@@ -1,6 +1,6 @@
 -- Bands that are put back into the tables that they were cut out of. Only private functions have these words in their
 -- contracts.
-use Rattle.std.specs.Prelude.{◌≡◌, ◌⊎◌, ℕ, ◌+◌, ◌*◌, ◌≤◌, Bool, List, [], ◌∷◌, ◌++◌, length, map}
+use Rattle.std.specs.Prelude.{◌≡◌, ◌⊎◌, ℕ, ◌+◌, ◌≤◌, Bool, List, [], ◌∷◌, ◌++◌, length, map}
 use Rattle.grid_core.specs.{declared.bounds.Bounds.Bounds}
 use Rattle.grid_core.specs.Tiles.{Tiles, IsTiled, count_of, rows_of}
 use Rattle.border_queues.specs.TileWork.{TileWork}

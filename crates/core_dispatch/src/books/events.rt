@@ -78,8 +78,8 @@ impl Books {
         self.core.abandon_all()
     }
 
-    /// Settles the core for a slice, by up to so many threads, as [`TiledCore::settle_in_bands`] does. Each job that was
-    /// out is abandoned: a report of it changes nothing when it comes.
+    /// Settles the core for a slice, by up to so many threads, as [`TiledCore::settle_in_bands`] does. Each job that
+    /// was out is abandoned: a report of it changes nothing when it comes.
     ///
     /// Errors: out of memory, where there is work. Some of the work may be done then.
     pub fn settle_in_bands<R: Threads + Sync>(

@@ -1,20 +1,18 @@
 -- Bands that are cut out stand one below another, and have all cells and all work of the whole.
-use Rattle.std.proofs.Common.{◌≡◌, ◌⊎◌, ℕ, ◌+◌, ◌-◌, ◌*◌, ◌<◌, ◌≤◌, inl, inr, sym, ap, ◌∙◌, subst, arith, refl}
+use Rattle.std.proofs.Common.{◌≡◌, ℕ, ◌+◌, ◌-◌, ◌*◌, ◌<◌, ◌≤◌, inl, inr, sym, ap, ◌∙◌, arith, refl}
 use Rattle.std.proofs.Common.{min, List}
-use Rattle.std.proofs.Common.{[], ◌∷◌, ◌++◌, length, get_or, take, drop, slice_range}
+use Rattle.std.proofs.Common.{[], ◌∷◌, ◌++◌, length, get_or, take, drop}
 use Rattle.std.proofs.lemmas.Grind.{div_ceil_times}
 use Rattle.std.proofs.lemmas.Nat.{mul-le, mul-add-lt}
 use Rattle.std.proofs.lemmas.List.{length-take-le, length-drop, length-replicate, get_or-take, get_or-drop, drop_all}
 use Rattle.std.proofs.lemmas.List.{drop-drop, take-append-drop, nil_from_length}
-use Rattle.grid_core.specs.{declared.bounds.Bounds.Bounds, declared.conn.Conn.Conn, declared.pixel.Pixel.Pixel}
-use Rattle.grid_core.specs.Raster.{IsInside}
+use Rattle.grid_core.specs.{declared.bounds.Bounds.Bounds}
 use Rattle.grid_core.specs.Tiles.{Tiles, IsTiled, columns_of, count_of, rows_of}
 use Rattle.grid_core.proofs.Tilings.{some_side}
-use Rattle.border_queues.specs.TileWork.{TileWork}
-use Rattle.core_rules.specs.Work.{Core, tiling, mask_at}
+use Rattle.core_rules.specs.Work.{Core, tiling}
 use Rattle.tile_work.proofs.Parts.{length_part}
 use Rattle.reset_core.specs.declared.replica.bands.Band.{Band}
-use Rattle.reset_core.specs.Bands.{Strip, StandsAt, AreStacked, cells_of, works_of, lowered, rows_above, tiles_above}
+use Rattle.reset_core.specs.Bands.{StandsAt, AreStacked, cells_of, works_of, rows_above, tiles_above}
 use Rattle.reset_core.specs.BandParts.{AreReady, IsTilingOf, IsBandCut, AreBandsCut, cells_in, strip_of, strips_of}
 use Rattle.reset_core.proofs.Bands.Cuts.{span_count, tiles_within}
 use Rattle.reset_core.proofs.Bands.Tables.{cut_down, next_first, bounds_count}

@@ -1,13 +1,13 @@
 -- Bands that are put back, one below another, into the tables that they were cut out of.
-use Rattle.std.proofs.Common.{◌≡◌, ◌⊎◌, ℕ, ◌+◌, ◌*◌, ◌<◌, ◌≤◌, inl, inr, sym, ap, ◌∙◌, subst, arith, refl, Bool, List}
+use Rattle.std.proofs.Common.{◌≡◌, ◌⊎◌, ℕ, ◌+◌, ◌*◌, ◌≤◌, inl, inr, sym, ap, ◌∙◌, subst, arith, refl, Bool, List}
 use Rattle.std.proofs.Common.{[], ◌∷◌, ◌++◌, length, map, take, drop}
 use Rattle.std.proofs.lemmas.List.{append_assoc, append-nil, length-append, length-map, length-take-le, take_all}
 use Rattle.std.proofs.lemmas.List.{take_at}
 use Rattle.grid_core.specs.{declared.bounds.Bounds.Bounds}
 use Rattle.grid_core.specs.Tiles.{Tiles, IsTiled, columns_of, count_of, rows_of}
 use Rattle.border_queues.specs.TileWork.{TileWork, idle, work_of}
-use Rattle.tile_work.specs.{Cutting.AreOnlyMarked, Cutting.in_whole, Cutting.with_part, Cutting.IsOnlyMarked}
-use Rattle.tile_work.specs.TileSet.{Has, HasGained}
+use Rattle.tile_work.specs.{Cutting.in_whole, Cutting.with_part, Cutting.IsOnlyMarked}
+use Rattle.tile_work.specs.TileSet.{HasGained}
 use Rattle.std.proofs.lemmas.Nat.{mul-le}
 use Rattle.tile_work.proofs.Parts.{length_with_part, get_or_beside_part}
 use Rattle.reset_core.specs.declared.replica.bands.Band.{Band}

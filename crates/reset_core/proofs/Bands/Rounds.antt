@@ -1,8 +1,8 @@
 -- One round: bands were cut out of a core and swept, and are put back.
-use Rattle.std.proofs.Common.{◌≡◌, ◌⊎◌, ◌↔◌, ℕ, ◌+◌, ◌-◌, ◌*◌, ◌%◌, ◌^◌, ◌/◌, ◌<◌, ◌≤◌, inl, inr, sym, ap, ◌∙◌, subst}
+use Rattle.std.proofs.Common.{◌≡◌, ◌↔◌, ℕ, ◌+◌, ◌-◌, ◌*◌, ◌%◌, ◌^◌, ◌/◌, ◌<◌, ◌≤◌, inl, inr, sym, ap, ◌∙◌, subst}
 use Rattle.std.proofs.Common.{arith}
-use Rattle.std.proofs.Common.{refl, Bool, true, false, nat_lt, if◌then◌else◌, None, List, [], ◌∷◌, ◌++◌, length, map}
-use Rattle.std.proofs.Common.{get_or, set, take, drop, replicate, slice_range, Contains, IsTrue}
+use Rattle.std.proofs.Common.{refl, Bool, true, false, nat_lt, if◌then◌else◌, List, [], ◌∷◌, ◌++◌, length, map}
+use Rattle.std.proofs.Common.{get_or, set, take, drop, replicate, Contains, IsTrue}
 use Rattle.std.proofs.lemmas.Bool.{cases_eq, cases_lt}
 use Rattle.std.proofs.lemmas.Nat.{div-add-mod', mul-le}
 use Rattle.std.proofs.lemmas.List.{get_or-set_same, get_or-set_other, set_past, length-append, length-map}
@@ -16,9 +16,9 @@ use Rattle.border_queues.specs.{declared.hint.Hint.Hint, Laws.EdgesAreOpen}
 use Rattle.border_queues.specs.TileWork.{TileWork, idle, work_of}
 use Rattle.core_rules.specs.{Invariant.IsSound}
 use Rattle.core_rules.specs.Work.{Core, tiling}
-use Rattle.tile_work.specs.{Cutting.IsOnlyMarked, Cutting.AreOnlyMarked, Cutting.EndWithin, OpenBounds.bounds_for}
+use Rattle.tile_work.specs.{Cutting.AreOnlyMarked, OpenBounds.bounds_for}
 use Rattle.tile_work.specs.TileSet.{Has, HasGained}
-use Rattle.tile_work.proofs.Parts.{get_or_part, length_part}
+use Rattle.tile_work.proofs.Parts.{get_or_part}
 use Rattle.reset_core.specs.declared.replica.bands.Band.{Band}
 use Rattle.reset_core.specs.{Bounding.AreBounded, Bounding.AreBoundedOrTold, Settling.HasOnlySweeps}
 use Rattle.reset_core.specs.Telling.{ImageAndWork, clean, handed, all_handed, risen_by}

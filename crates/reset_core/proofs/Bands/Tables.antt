@@ -1,12 +1,12 @@
 -- Bounds that were cut out with bands, and those that are put back: each tile has the same pixels within its bounds.
-use Rattle.std.proofs.Common.{◌≡◌, ◌⊎◌, ℕ, ◌+◌, ◌-◌, ◌*◌, ◌<◌, ◌≤◌, inl, inr, sym, ap, ◌∙◌, subst, arith, refl, Bool}
-use Rattle.std.proofs.Common.{cond, true, false, List, [], ◌∷◌, ◌++◌, length, map, slice_range, drop}
+use Rattle.std.proofs.Common.{◌≡◌, ◌⊎◌, ℕ, ◌+◌, ◌-◌, ◌<◌, ◌≤◌, inl, inr, sym, ap, ◌∙◌, subst, arith, refl, Bool}
+use Rattle.std.proofs.Common.{cond, true, false, List, [], ◌∷◌, length, map, slice_range, drop}
 use Rattle.std.proofs.lemmas.Bool.{cases_lt}
 use Rattle.std.proofs.lemmas.List.{length-append, length-map, get_or_append_left, get_or-append_right, get_or-map}
 use Rattle.grid_core.specs.{declared.bounds.Bounds.Bounds, declared.conn.Conn.Conn, declared.pixel.Pixel.Pixel}
 use Rattle.grid_core.specs.{declared.rect.Rect.Rect, Bounds.IsInBounds, Bounds.LieIn, Bounds.bounds_of}
 use Rattle.grid_core.specs.{Bounds.no_bounds}
-use Rattle.grid_core.specs.Tiles.{Tiles, IsTiled, columns_of, count_of, rows_of, rect_of, tile_of}
+use Rattle.grid_core.specs.Tiles.{Tiles, IsTiled, count_of, rows_of, rect_of, tile_of}
 use Rattle.grid_core.proofs.Tilings.{tiles_lie_inside, tile_of-within}
 use Rattle.border_queues.specs.TileWork.{TileWork}
 use Rattle.core_rules.specs.Work.{Core, tiling}

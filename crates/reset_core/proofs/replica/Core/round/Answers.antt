@@ -1,5 +1,5 @@
 -- What the tactics leave open of `round`.
-use Rattle.std.proofs.Common.{◌≡◌, ℕ, ◌+◌, ◌*◌, ◌/◌, ◌^◌, length, drop, ap, sym, ◌∙◌, subst, arith, refl}
+use Rattle.std.proofs.Common.{◌≡◌, ◌+◌, ◌/◌, length, drop, ap, sym, ◌∙◌, subst, arith, refl}
 use Rattle.std.proofs.lemmas.List.{take_at}
 use Rattle.grid_core.specs.{Raster.Raster, Tiles.Tiles}
 use Rattle.grid_core.proofs.GivenBack.{cells_given_back}

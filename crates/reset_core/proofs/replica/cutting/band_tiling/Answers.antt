@@ -1,7 +1,6 @@
-use Rattle.std.proofs.Common.{◌≡◌, ◌-◌, ◌*◌, min, sym, subst, ◌∙◌}
-use Rattle.grid_core.specs.Tiles.{Tiles}
+use Rattle.std.proofs.Common.{◌-◌, ◌*◌, min, sym, subst, ◌∙◌}
 use Rattle.reset_core.specs.BandParts.{IsTilingOf}
-use Rattle.reset_core.proofs.Bands.Cuts.{is_tiling, tiling_of}
+use Rattle.reset_core.proofs.Bands.Cuts.{is_tiling}
 use Rattle.reset_core.proofs.replica.cutting.band_tiling.Goals as goal
 
 pub returns : goal.returns

@@ -1,7 +1,5 @@
 use Rattle.std.proofs.Common.{◌≡◌, ℕ, ◌+◌, ◌*◌, ap, subst, arith}
-use Rattle.grid_core.specs.Tiles.{columns_of}
 use Rattle.tile_work.specs.TileSet.{Has, HasGained}
-use Rattle.reset_core.specs.{Bands.tiles_above}
 use Rattle.reset_core.proofs.Bands.Puts.{ends_within}
 use Rattle.reset_core.proofs.replica.cutting.put_band.Goals as goal
 
