@@ -27,7 +27,8 @@
 //! [`Pen::number`] and [`PenEnd::number`]. Then [`Dispatcher::take_rest`] takes all that the pens submitted and that
 //! was not taken yet.
 //!
-//! No call waits for anybody. Nothing is promised of when an edit or a report is seen, while its pen has not finished.
+//! No call waits for anybody; [`Books::settle_in_bands`] waits for the threads that it starts itself. Nothing is
+//! promised of when an edit or a report is seen, while its pen has not finished.
 //!
 //! Read on in `specs/Books.antt`; in `specs/Pens.antt`, which says which pen belongs to which desk; in
 //! `specs/Taking.antt`, which says what becomes of an edit; in `specs/Turns.antt`, which says what a turn does, in

@@ -76,9 +76,9 @@ impl Keeper {
     /// shot or a later one. It may wait for glimpses that are held.
     ///
     /// The strokes are copied only where an edit was merged since the last show, and the image only where an edit was
-    /// merged, a report was taken or a hint was handed over. Where nobody holds the third last copy any more, it is
-    /// brought up to date: of the strokes only those are copied that were merged since it was made, and of the image
-    /// only the tiles that changed. The mask is never copied.
+    /// merged, a report was taken, a hint was handed over, or a core that was not quiet settled in bands. Where nobody
+    /// holds the third last copy any more, it is brought up to date: of the strokes only those are copied that were
+    /// merged since it was made, and of the image only the tiles that changed. The mask is never copied.
     ///
     /// Errors: out of memory. The chain is as it was then.
     #[tactic(auto, using(crate::proofs::Following::may_follow, crate::proofs::Following::shot_follows))]
