@@ -3,6 +3,7 @@
 
     python3 bench/threads.py crates/benchmarks/out/benchmarks
     python3 bench/threads.py --bands crates/benchmarks/out/benchmarks
+    python3 bench/threads.py --keeper crates/benchmarks/out/benchmarks
 
 The baseline is compiled and the images are made as run.py does it. README.md says what the columns mean.
 """
@@ -88,11 +89,13 @@ def in_bands(program, source, threads, side, right):
 
 def settling_row(source, program, baseline, words):
     """The row of one image: the baseline and each number of hands in turns, after a run of each to warm up."""
+    word = "studio" if words.keeper else "settle"
     right = baseline_sum(baseline, source)
     whole, figures = [], {hands: [] for hands in HANDS}
     for number in range(words.runs + 1):
         seconds = baseline_seconds(baseline, source)
-        results = {hands: settled(program, source, hands, words.side, right) for hands in HANDS}
+        results = {hands: settled(program, source, hands, words.side, right, word if hands else "settle")
+                   for hands in HANDS}
         if number > 0:
             whole.append(seconds)
             for hands in HANDS:
@@ -185,6 +188,8 @@ def read_words():
     parser.add_argument("--families", nargs="+", default=FAMILIES, choices=run.FAMILIES, metavar="FAMILY",
                         help=" ".join(FAMILIES))
     parser.add_argument("--bands", action="store_true", help="settle in bands, and measure nothing else")
+    parser.add_argument("--keeper", action="store_true",
+                        help="have a studio's keeper settle in bands, and measure nothing else")
     words = parser.parse_args()
     if words.runs < 1 or words.size < 1:
         parser.error("runs and size are at least 1")
@@ -208,6 +213,8 @@ def main():
         bands(sources, program, baseline, words)
         return
     settling(sources, program, baseline, words)
+    if words.keeper:
+        return
     parts_of_jobs(sources, program, baseline, words)
     shows_and_glimpses(program, words)
 
