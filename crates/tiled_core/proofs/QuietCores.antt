@@ -42,6 +42,7 @@ quiet_is_settled edges_open core sound quiet limit =
       settled = record {
         slice = (set, slice);
         none_out = none_out core quiet;
+        cut_short = tt;
         worked_on = ([], refl, refl);
       };
       some_work = tt;

@@ -1,5 +1,5 @@
 -- A core that settles in rows: which tiles may have changed, and what else is as it was.
-use Rattle.std.proofs.Common.{◌≡◌, ℕ, Bool, List, Result, Ok, Err, IfOk, OnErr, ap, false, inl, inr}
+use Rattle.std.proofs.Common.{◌≡◌, ◌⊎◌, ℕ, Bool, List, Result, Ok, Err, IfOk, OnErr, ap, false, inl, inr}
 use Rattle.std.proofs.Common.{length, replicate, subst, sym, ◌∙◌}
 use Rattle.std.proofs.Math.ListN.{length-replicate}
 use Rattle.grid_core.specs.{declared.memory.Memory.Memory, declared.pixel.Pixel.Pixel}
@@ -112,6 +112,10 @@ module _ (whole : Raster) (tiling : Tiles) (old : Parts) (old_stored : IsStored 
     as_many (Ok slice) is not = is.run.swept.count
     as_many (Err e) not is = is.run.swept.count
 
+    cut_is : (r : Result Slice Memory) → OnErr r ((core_of new ≡ core_of old) ⊎ NoneOut (core_of new))
+    cut_is (Ok slice) = tt
+    cut_is (Err e) = inr none_out
+
     working : HasWorkedOn (core_of old) (core_of new)
     working = worked_on (core_of old) (core_of new) none swept limit answer done cut
 
@@ -132,5 +136,10 @@ module _ (whole : Raster) (tiling : Tiles) (old : Parts) (old_stored : IsStored 
           (subst (λ (ts : Tiles). IsInside ts.width ts.height p) (sym tiles_are) inside)
           (subst (λ (ts : Tiles). Has changed (tile_of ts p) → ⊥) (sym tiles_are) spared)
           ∙ ap (λ (r : Raster). value_at r p) image_is;
-      settled = record { slice = slice_is answer done; none_out = none_is_out answer; worked_on = working };
+      settled = record {
+        slice = slice_is answer done;
+        none_out = none_is_out answer;
+        cut_short = cut_is answer;
+        worked_on = working;
+      };
     }

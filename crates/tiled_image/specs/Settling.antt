@@ -1,5 +1,5 @@
 -- Cores that settle over an image in tiles.
-use Rattle.std.specs.Prelude.{◌≡◌, ℕ, Bool, false, List, length, replicate, Result, IfOk, OnErr}
+use Rattle.std.specs.Prelude.{◌≡◌, ◌⊎◌, ℕ, Bool, false, List, length, replicate, Result, IfOk, OnErr}
 use Rattle.grid_core.specs.{Raster.Raster, declared.memory.Memory.Memory}
 use Rattle.core_rules.specs.{Work.Core, Work.IsQuiet, Runs.Entry, Runs.IsRun, Runs.NoneOut, Counting.merges_of}
 use Rattle.reset_core.specs.{Answers.IsSliceInBands, Replica.core_of, Replica.stored_as}
@@ -24,10 +24,11 @@ abbrev pub HasWorkedOn : Core → Core → Type 0
 HasWorkedOn before after = (log : List Entry) × IsRun before log after × (merges_of log ≡ 0)
 
 -- what a slice of settling in bands answers, and what it leaves; after memory was wanting, too, there were but events
--- without a merge
+-- without a merge, and either nothing happened or no job is out
 pub record HasSettled (before : Core) (limit : ℕ) (answer : Result Slice Memory) (after : Core) : Type 0 where
   pub slice : IfOk answer (λ slice. IsSettledInBands before limit slice after)
   pub none_out : IfOk answer (λ _. NoneOut after)
+  pub cut_short : OnErr answer ((after ≡ before) ⊎ NoneOut after)
   pub worked_on : HasWorkedOn before after
 
 -- the same; memory is wanting only where there was work, and a core without work stays as it is
