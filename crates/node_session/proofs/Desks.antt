@@ -1,6 +1,7 @@
 -- A desk at work.
-use Rattle.std.proofs.Common.{arith, ◌≡◌, ◌+◌, ℕ, suc, true, refl, sym, ap, ◌∙◌, subst}
+use Rattle.std.proofs.Common.{arith, ◌≡◌, ◌+◌, ℕ, suc, true, [], inl, inr, refl, sym, ap, ◌∙◌, subst}
 use Rattle.byte_devices.specs.Device.{HasRisenBy}
+use Rattle.tiled_image.specs.Settling.{HasWorkedOn}
 use Rattle.core_dispatch.specs.{Books.BooksView, Growing.GrowsOn}
 use Rattle.core_dispatch.proofs.{Around.rest_pens, Growing.grows_itself, Growing.grows_through, Growing.run_grows}
 use Rattle.core_dispatch.proofs.{Taking.same_pens}
@@ -9,8 +10,8 @@ use Rattle.studio.proofs.Company.{company_stays, company_through}
 use Rattle.link_nodes.specs.{Links.LinkSeen, Nodes.pen_of, Nodes.IsSameNode}
 use Rattle.link_nodes.proofs.SameNodes.{same_node, same_node_through}
 use Rattle.node_session.specs.declared.desk.Desk.{Desk}
-use Rattle.node_session.specs.Working.{IsOneStudio, HasItsPen, HasWorked, Stays, StaysSilent, WorksOn, IsTurnOf}
-use Rattle.node_session.specs.Working.{AreBusyTurns}
+use Rattle.node_session.specs.Working.{IsOneStudio, HasItsPen, MayHaveSettled, Stays, StaysSilent, WorksOn}
+use Rattle.node_session.specs.Working.{IsTurnOf, AreBusyTurns}
 use Rattle.node_session.proofs.Meanwhile.{hears_nothing, hears_through, hears_from}
 
 stays_itself : (d : Desk) → Stays d d
@@ -92,12 +93,21 @@ stays_over old new books studio same = record {
   node = same;
 }
 
--- the core was worked on without a merge
-pub worked_stays : (old new : Desk) → HasWorked (books_of old.keeper) (books_of new.keeper)
+-- the core is as it was, or it settled for a slice
+run_of_slice : (jobs : ℕ) (old new : BooksView) → MayHaveSettled jobs old new → HasWorkedOn old.core new.core
+run_of_slice jobs old new (rest, inl same) = ([], same, refl)
+run_of_slice jobs old new (rest, inr (answer, slice)) = slice.settled.worked_on
+
+pub settled_stays : (jobs : ℕ) (old new : Desk) → MayHaveSettled jobs (books_of old.keeper) (books_of new.keeper)
     → studio_of new.keeper ≡ studio_of old.keeper → IsSameNode old.node new.node → Stays old new
-worked_stays old new (rest, (log, run, none)) studio same = record {
-  opening = ap (λ (b : BooksView). b.opening) rest;
-  grows = run_grows (core_of old.keeper) log (core_of new.keeper) run;
-  company = record { pens = rest_pens (books_of old.keeper) (books_of new.keeper) rest; studio = studio };
-  node = same;
-}
+settled_stays jobs old new settled studio same =
+    let (log, run, none) = run_of_slice jobs (books_of old.keeper) (books_of new.keeper) settled in
+    record {
+      opening = ap (λ (b : BooksView). b.opening) settled.0;
+      grows = run_grows (core_of old.keeper) log (core_of new.keeper) run;
+      company = record {
+        pens = rest_pens (books_of old.keeper) (books_of new.keeper) settled.0;
+        studio = studio;
+      };
+      node = same;
+    }

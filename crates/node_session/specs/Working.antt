@@ -1,12 +1,14 @@
 -- A keeper and a node of one studio that work together. Only private functions have this in their contracts.
 use Rattle.std.specs.Prelude.{◌≡◌, ◌<◌, ◌⊎◌, ◌↔◌, ◌++◌, ℕ, zero, suc, Bool, true, false, IsTrue, List, [], All}
+use Rattle.std.specs.Prelude.{Result}
 use Rattle.byte_devices.specs.Device.{HasRisenBy}
-use Rattle.grid_core.specs.{declared.conn.Conn.Conn, Raster.Raster}
+use Rattle.grid_core.specs.{declared.conn.Conn.Conn, declared.memory.Memory.Memory, Raster.Raster}
 use Rattle.stroke_lattice.specs.State.{State}
 use Rattle.core_rules.specs.Work.{Core}
 use Rattle.core_dispatch.specs.{declared.pen.PenEnd.PenEnd, Pens.IsOf, Pens.all_submitted, Growing.GrowsOn}
 use Rattle.core_dispatch.specs.{declared.turned.Turned.Turned, Turns.TakesTurn, Books.BooksView, Books.KeepsRest}
-use Rattle.tiled_image.specs.Settling.{HasWorkedOn}
+use Rattle.reset_core.specs.declared.replica.settling.Slice.{Slice}
+use Rattle.tiled_image.specs.Settling.{IsSettledFor}
 use Rattle.studio.specs.{declared.keeper.Keeper.Keeper, declared.closed.Closed.Closed, Keeping.core_of}
 use Rattle.studio.specs.Keeping.{dispatcher_of, books_of, studio_of}
 use Rattle.studio.specs.{Company.KeepsCompany, Closing.IsClosed}
@@ -73,9 +75,11 @@ HasCaughtUp most old new =
     AreBusyTurns most old new
     ⊎ ((n : ℕ) × (k : Keeper) × (n < most) × AreBusyTurns n old k × IsTurnOf k false new)
 
--- the core was worked on by events without a merge, and nothing else in the books is another
-abbrev pub HasWorked : BooksView → BooksView → Type 0
-HasWorked old new = KeepsRest old new × HasWorkedOn old.core new.core
+-- the core is as it was, or it settled for a slice of so many jobs, and nothing else in the books is another
+abbrev pub MayHaveSettled : ℕ → BooksView → BooksView → Type 0
+MayHaveSettled jobs old new =
+    KeepsRest old new
+    × ((new.core ≡ old.core) ⊎ ((answer : Result Slice Memory) × IsSettledFor old.core jobs answer new.core))
 
 -- the keeper's studio was closed with these ends, and this is its core
 abbrev pub IsClosedTo : Keeper → List PenEnd → Core → Type 0

@@ -2,7 +2,8 @@
 
 ghost use Rattle.std.specs.Prelude.{◌≡◌, ◌<◌, ◌⊎◌, ◌↔◌, IsTrue};
 ghost use Rattle.studio.specs.Keeping.{books_of};
-ghost use Rattle.node_session.specs.Working.{IsOneStudio, IsTurnOf, HasCaughtUp, HasWorked, StaysSilent, WorksOn};
+ghost use Rattle.node_session.specs.Working.{IsOneStudio, IsTurnOf, HasCaughtUp, MayHaveSettled, StaysSilent};
+ghost use Rattle.node_session.specs.Working.{WorksOn};
 
 use crate::pace::rest;
 use core_dispatch::Turned;
@@ -61,7 +62,7 @@ impl Desk {
         requires { IsOneStudio self.old }
         ensures works { WorksOn 1 self.old self.new (L.seen link.old) (L.seen link.new) }
         ensures caught_up { (k : _) × HasCaughtUp 64 self.old.keeper k
-            × HasWorked (books_of k) (books_of self.new.keeper) }
+            × MayHaveSettled 4096 (books_of k) (books_of self.new.keeper) }
     {
         self.turns();
         self.settle(rt, threads);
@@ -94,7 +95,7 @@ impl Desk {
     // Where many jobs are out, the keeper settles for a slice in bands, by up to so many threads.
     fn settle<R: Threads + Sync>(&mut self, rt: &R, threads: usize)
         ensures silent { StaysSilent self.old self.new }
-        ensures worked { HasWorked (books_of self.old.keeper) (books_of self.new.keeper) }
+        ensures settled { MayHaveSettled 4096 (books_of self.old.keeper) (books_of self.new.keeper) }
     {
         if has_many_out(self.keeper.core()) {
             let _slice = self.keeper.settle_in_bands(rt, threads, SWEEPS);

@@ -1,7 +1,7 @@
 use Rattle.std.proofs.Common.{ap, subst, sym, ◌∙◌}
 use Rattle.core_dispatch.specs.Books.{BooksView}
 use Rattle.studio.specs.{declared.keeper.Keeper.Keeper, Keeping.books_of}
-use Rattle.node_session.specs.Working.{HasWorked}
+use Rattle.node_session.specs.Working.{MayHaveSettled}
 use Rattle.node_session.proofs.Desks.{studio_stays, silent_through, works_behind}
 use Rattle.node_session.proofs.desk.Desk.tick.Goals as goal
 
@@ -20,7 +20,7 @@ pub returns-clause-caught_up : goal.returns-clause-caught_up
 returns-clause-caught_up g c = (
   c.turns.new.self.keeper,
   c.turns.ensures.caught_up,
-  subst (λ (b : BooksView). HasWorked (books_of c.turns.new.self.keeper) b)
+  subst (λ (b : BooksView). MayHaveSettled 4096 (books_of c.turns.new.self.keeper) b)
       (sym (ap (λ (k : Keeper). books_of k) c.exchange.ensures.keeper ∙ c.show.ensures.books))
-      c.settle.ensures.worked,
+      c.settle.ensures.settled,
 )
