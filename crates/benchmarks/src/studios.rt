@@ -12,9 +12,6 @@ use steal_pool::{Hand, Open};
 use stroke_lattice::Delta;
 use studio::{Eye, Keeper, Studio};
 
-// How many tiles a keeper sweeps at most between two looks at its core.
-const SLICE: u64 = 4096;
-
 /// A keeper, with its pens, hands and eyes. End it.
 pub type Company = (Keeper, Vec<Pen>, Vec<Hand>, Vec<Eye>);
 
@@ -132,9 +129,11 @@ fn work_off(rt: &impl System, keeper: &mut Keeper, threads: Option<usize>) -> Re
     Ok(jobs)
 }
 
-// Has the keeper settle for a slice in bands, by up to so many threads, and says how many jobs there were.
+// Has the keeper settle in bands, by up to so many threads, and says how many jobs there were.
 fn settle(rt: &impl System, keeper: &mut Keeper, threads: usize) -> Result<u64, Fault> {
-    let slice = keeper.settle_in_bands(rt, threads, SLICE).or(Err(MEMORY))?;
+    let slice = keeper
+        .settle_in_bands(rt, threads, u64::MAX)
+        .or(Err(MEMORY))?;
     Ok(slice.count.jobs)
 }
 
