@@ -21,7 +21,14 @@ use std::marker::Model;
 use std::sync::Wait;
 use std::sync::atomic::{AtomicBool, Ordering};
 use std::thread;
+use std::time::{Clock, Duration};
 use tile_generations::{Job, Ticket};
+
+// How many turns in a row with nothing to do a hand makes before it rests.
+const YIELDS: u32 = 64;
+
+// How long it rests then, in microseconds.
+const REST: u64 = 50;
 
 /// The hand's end of the deque.
 #[derive(Drop)]
@@ -211,28 +218,30 @@ impl Hand {
         }
     }
 
-    /// Makes turns until it reads that the flag is set. It looks at the flag before each turn, and yields its processor
-    /// after each one that was not answered by `Worked`. A report that is held at the end is sent by a later turn, if
-    /// there is one.
+    /// Makes turns until it reads that the flag is set. It looks at the flag before each turn. After one that was not
+    /// answered by `Worked` it yields its processor, and after many of these in a row it rests for some microseconds,
+    /// so that processors are left to others. A report that is held at the end is sent by a later turn, if there is
+    /// one.
     #[tactic(auto, using(crate::proofs::Turns::one_step_more, crate::proofs::Turns::no_step_more))]
-    pub fn run<G: Gate, R: Wait>(&mut self, rt: &R, gate: &G, done: &AtomicBool)
+    pub fn run<G: Gate, R: Wait + Clock>(&mut self, rt: &R, gate: &G, done: &AtomicBool)
         ensures turns { (answers : List Answer) × AreTurns self.old answers self.new }
         ensures reported { AreReported self.new.got (reports self.new) }
         ensures same { IsSameHand self.old self.new }
     {
         // What the hand keeps is known to the prover where a field of it is read.
         let _alloc = &self.alloc;
+        let mut idle = 0;
         for _ in rt.forever() {
             let is_set = done.load(Ordering::SeqCst);
-            if self.ends(gate, is_set) {
+            if self.ends(rt, gate, is_set, &mut idle) {
                 return;
             }
         }
     }
 
-    // Makes one turn, or none where the flag was read as set. It says whether running ends: by the flag, and by nothing
-    // that a turn answers.
-    fn ends<G: Gate>(&mut self, gate: &G, is_set: bool) -> bool
+    // Makes one turn, or none where the flag was read as set, behind so many that had nothing to do. It says whether
+    // running ends: by the flag, and by nothing that a turn answers.
+    fn ends<G: Gate, R: Clock>(&mut self, rt: &R, gate: &G, is_set: bool, idle: &mut u32) -> bool
         ensures flag { result ≡ is_set }
         ensures step { IsStep self.old result self.new }
         ensures reported { AreReported self.new.got (reports self.new) }
@@ -243,9 +252,19 @@ impl Hand {
             return true;
         }
         match self.turn(gate) {
-            Turn::Worked(_) => {}
-            Turn::Idle | Turn::RingFull | Turn::Failed(_) => thread::yield_now(),
+            Turn::Worked(_) => *idle = 0,
+            Turn::Idle | Turn::RingFull | Turn::Failed(_) => wait(rt, idle),
         }
         false
+    }
+}
+
+// Yields the processor, or rests where that was done many times in a row.
+fn wait<R: Clock>(rt: &R, idle: &mut u32) {
+    if *idle < YIELDS {
+        *idle += 1;
+        thread::yield_now();
+    } else {
+        thread::sleep(rt, Duration::from_micros(REST));
     }
 }

@@ -20,6 +20,7 @@ pub mod UpdatedCopies
 pub mod ShownParts
 pub mod RenewedTiles
 pub mod Strips
+pub mod OwnRims
 pub mod TileRims
 pub mod StripCopies
 pub mod RingTiles

@@ -19,6 +19,7 @@ pub mod TileParts
 pub mod TiledImage
 pub mod SharedCopies
 pub mod Rims
+pub mod OwnRims
 pub mod Sides
 pub mod RaisedTiles
 pub mod Raising

@@ -26,6 +26,7 @@ use tile_generations::Rim;
 
 mod border;
 mod raising;
+mod taking;
 
 pub(crate) use border::fill_border;
 use border::side_of;

@@ -23,6 +23,9 @@ use std::thread::Threads;
 use stroke_lattice::{Change, State};
 use tile_work::{OpenBounds, TileSet, WorkTable};
 
+// Rims of fewer tiles are not worth a second thread.
+const SHARED_TILES: usize = 64;
+
 impl TiledImage {
     /// Makes marker, image and work those of the strokes as they are now, as [`renew`](reset_core::renew) does, where
     /// the tiles that are reset are marked. No mark is left. It takes no memory.
@@ -104,9 +107,25 @@ impl TiledImage {
         settled.work.add_dirty(&mut changed);
         let_go(&mut self.parts, &changed);
         self.copies.mark_all(&changed);
-        take_rims(&mut self.rims, &self.tiling, &self.rows, &changed);
+        let hands = hands_for(&changed, threads);
+        self.rims
+            .take_all(rt, hands, &self.tiling, &self.rows, &changed);
         (settled, slice)
     }
+}
+
+// How many threads are worth while for so many tiles: all of them, or one alone.
+fn hands_for(tiles: &TileSet, threads: usize) -> usize {
+    // For its clause alone: there are no more tiles than a `usize` counts.
+    let _ = tiles.len();
+    let mut next = 0;
+    for _ in 0..SHARED_TILES {
+        let Some(tile) = tiles.first_from(next) else {
+            return 1;
+        };
+        next = tile + 1;
+    }
+    threads
 }
 
 // Lets the parts of these tiles go. It costs about these tiles.

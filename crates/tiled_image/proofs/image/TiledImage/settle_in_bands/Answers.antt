@@ -7,7 +7,7 @@ use Rattle.tiled_image.specs.{RaisedTiles.whole_of, TiledImage.TiledRaster}
 use Rattle.tiled_image.specs.Settling.{HasSettled, core_with, parts_with}
 use Rattle.tiled_image.proofs.ChangedTiles.{all_changed, changed_is}
 use Rattle.tiled_image.proofs.SettledRows.{AreSettled, are_settled, stored_works}
-use Rattle.tiled_image.proofs.image.TiledImage.settle_in_bands.{Given.Over, Goals.After-swap, Goals.After-take_rims}
+use Rattle.tiled_image.proofs.image.TiledImage.settle_in_bands.{Given.Over, Goals.After-swap, Goals.After-take_all}
 use Rattle.tiled_image.proofs.image.TiledImage.settle_in_bands.Goals as goal
 
 settled : (g : Over) (c : After-swap g)
@@ -47,19 +47,19 @@ mark_all-requires g c =
     let is = settled g (goal.at.mark_all-requires g c).After-swap in
     c.add_dirty.ensures.count ∙ is.swept_count ∙ sym c.self.invariant.copies_are.count
 
-pub take_rims-requires-clause-tiles : goal.take_rims-requires-clause-tiles
-take_rims-requires-clause-tiles g c =
-    let is = settled g (goal.at.take_rims-requires-clause-tiles g c).After-swap in
+pub take_all-requires-clause-tiles : goal.take_all-requires-clause-tiles
+take_all-requires-clause-tiles g c κs within =
+    let is = settled g (goal.at.take_all-requires-clause-tiles g c).After-swap in
     c.add_dirty.ensures.count ∙ is.swept_count
 
-pub take_rims-requires-clause-width : goal.take_rims-requires-clause-width
-take_rims-requires-clause-width g c =
-    let is = settled g (goal.at.take_rims-requires-clause-width g c).After-swap in
+pub take_all-requires-clause-width : goal.take_all-requires-clause-width
+take_all-requires-clause-width g c κs within =
+    let is = settled g (goal.at.take_all-requires-clause-width g c).After-swap in
     ap (λ (r : Raster). r.width) c.swap.ensures.x_after ∙ is.size.width ∙ c.write_all.ensures.kept.of_tiling.width
 
-pub take_rims-requires-clause-height : goal.take_rims-requires-clause-height
-take_rims-requires-clause-height g c =
-    let is = settled g (goal.at.take_rims-requires-clause-height g c).After-swap in
+pub take_all-requires-clause-height : goal.take_all-requires-clause-height
+take_all-requires-clause-height g c κs within =
+    let is = settled g (goal.at.take_all-requires-clause-height g c).After-swap in
     ap (λ (r : Raster). r.height) c.swap.ensures.x_after ∙ is.size.height ∙ c.write_all.ensures.kept.of_tiling.height
 
 pub invariant_of-self : goal.invariant_of-self
@@ -72,16 +72,16 @@ invariant_of-self g c =
     (subst (IsOfSize _) (sym now) is.size)
     (λ p inside spared.
     ap (λ (r : Raster). value_at r p) now ∙ is.values c.add_dirty.new.set c.add_dirty.ensures p inside spared)
-    c.let_go.new.parts c.let_go.ensures c.take_rims.new.rims c.take_rims.ensures c.mark_all.new.self c.mark_all.ensures
+    c.let_go.new.parts c.let_go.ensures c.take_all.new.self c.take_all.ensures c.mark_all.new.self c.mark_all.ensures
 
 -- the image is that of the core that settled
-image_is : (g : Over) (c : After-take_rims g)
+image_is : (g : Over) (c : After-take_all g)
     → AreSettled (whole_of c.self.inside.tiling c.self.inside.rows c.self.inside.parts c.self.inside.newer
     c.self.inside.rims) c.self.inside.tiling (parts_with c.args.self.now.image c.args.core)
     (stored_as c.into_stored-settled.result) c.settle_in_bands-slice.new.swept c.args.jobs
     c.settle_in_bands-slice.result
     → c.into_stored-settled.result.image
-    ≡ whole_of c.self.inside.tiling c.swap.new.x c.let_go.new.parts c.write_all.new.newer c.take_rims.new.rims
+    ≡ whole_of c.self.inside.tiling c.swap.new.x c.let_go.new.parts c.write_all.new.newer c.take_all.new.self
 image_is g c is =
     let rows = c.write_all.ensures in
     let now = c.swap.ensures.x_after in
@@ -91,13 +91,13 @@ image_is g c is =
     (subst (IsOfSize _) (sym now) is.size)
     (λ p inside spared.
     ap (λ (r : Raster). value_at r p) now ∙ is.values c.add_dirty.new.set c.add_dirty.ensures p inside spared)
-    c.let_go.new.parts c.let_go.ensures c.take_rims.new.rims c.take_rims.ensures)
+    c.let_go.new.parts c.let_go.ensures c.take_all.new.self c.take_all.ensures)
 
 pub returns-clause-stored : goal.returns-clause-stored
 returns-clause-stored g c =
     let at = goal.at.returns-clause-stored g c in
     subst (λ (r : Raster). IsStored (parts_with r c.into_stored-settled.result))
-    (image_is g at.After-take_rims (settled g at.After-swap)) c.into_stored-settled.ensures.stored
+    (image_is g at.After-take_all (settled g at.After-swap)) c.into_stored-settled.ensures.stored
 
 pub returns-clause-settled : goal.returns-clause-settled
 returns-clause-settled g c =
@@ -105,4 +105,4 @@ returns-clause-settled g c =
     let is = settled g at.After-swap in
     subst (λ (r : Raster). HasSettled (core_with c.args.self.now.image c.args.core) c.args.jobs
     c.settle_in_bands-slice.result (core_with r c.into_stored-settled.result))
-    (image_is g at.After-take_rims is) is.settled
+    (image_is g at.After-take_all is) is.settled
