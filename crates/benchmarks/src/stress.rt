@@ -1,7 +1,7 @@
 //! Studios under stress: 16 pens, 16 hands, 16 eyes and a keeper run in threads, and what they leave is checked.
 //!
 //! Pens submit edits that are drawn, some of which clash or do not fit the mask. The keeper makes turns until all are
-//! taken and no work is left; meanwhile it shows the core and recalls jobs. No eye may go back. At the end the strokes
+//! taken and no work is left; meanwhile it shows the core, settles in bands and recalls jobs. No eye may go back. At the end the strokes
 //! have to be those of all edits that are not listed as refused, and the image what the slow program says.
 
 use crate::drawn::{EACH, EDITS, core, edit};
@@ -123,13 +123,16 @@ impl Round {
     }
 
     // Makes turns until all edits are taken and no work is left, or something is not as it should be. It shows the core
-    // after each turn that took an edit, and recalls all jobs now and then.
+    // after each turn that took an edit, and now and then it settles for a while in bands, or recalls all jobs.
     fn keep(&self, rt: &impl System, keeper: &mut Keeper) -> Outcome {
         for number in 0..u64::MAX {
             let is_last = self.writers.load(Ordering::SeqCst) == 0;
             let edits = turn(keeper)?.edits;
             if edits > 0 {
                 let _told = keeper.show(rt).or(Err(MEMORY))?;
+            }
+            if number % 8 == 5 {
+                keeper.settle_in_bands(rt, 3, 256).or(Err(MEMORY))?;
             }
             if number % 64 == 0 {
                 keeper.recall();

@@ -65,35 +65,20 @@ fn settled<R: Threads + Sync>(
     let Ok(no_image) = Grid::new(alloc, 1, 1, 0) else {
         return (core, Err(Memory));
     };
-    let TiledCore {
-        conn,
-        state,
-        markers,
-        mut image,
-        work,
-        bounds,
-        masks,
-        serial,
-        marks,
-        queue,
-        mut beside,
-        ring,
-        mask_rims,
-        limits,
-        states,
-    } = core;
     let parts = CoreParts {
-        conn,
-        state,
-        markers,
+        conn: core.conn,
+        state: core.state,
+        markers: core.markers,
         image: no_image,
-        work,
-        bounds,
-        masks,
-        serial,
-        marks,
-        queue,
+        work: core.work,
+        bounds: core.bounds,
+        masks: core.masks,
+        serial: core.serial,
+        marks: core.marks,
+        queue: core.queue,
     };
+    let mut image = core.image;
+    let mut beside = core.beside;
     let (parts, done) = image.settle_in_bands(rt, alloc, parts, threads, jobs);
     beside.forget();
     let settled = TiledCore {
@@ -108,10 +93,7 @@ fn settled<R: Threads + Sync>(
         marks: parts.marks,
         queue: parts.queue,
         beside,
-        ring,
-        mask_rims,
-        limits,
-        states,
+        ..core
     };
     (settled, done)
 }
