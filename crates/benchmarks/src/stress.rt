@@ -1,8 +1,9 @@
 //! Studios under stress: 16 pens, 16 hands, 16 eyes and a keeper run in threads, and what they leave is checked.
 //!
 //! Pens submit edits that are drawn, some of which clash or do not fit the mask. The keeper makes turns until all are
-//! taken and no work is left; meanwhile it shows the core, settles in bands and recalls jobs. No eye may go back. At the end the strokes
-//! have to be those of all edits that are not listed as refused, and the image what the slow program says.
+//! taken and no work is left; meanwhile it shows the core, settles in bands and recalls jobs. No eye may go back. At
+//! the end the strokes have to be those of all edits that are not listed as refused, and the image what the slow
+//! program says.
 
 use crate::drawn::{EACH, EDITS, core, edit};
 use crate::outcome::{Fault, MEMORY, Outcome, check};
