@@ -37,6 +37,7 @@ mod merging;
 mod scheduling;
 mod settling;
 mod settling_in_bands;
+mod sharing;
 mod starting;
 mod stored;
 mod sweeping;

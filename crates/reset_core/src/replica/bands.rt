@@ -66,6 +66,11 @@ impl Band {
         }
     }
 
+    // Whether a tile is dirty, one that may be swept or one that touches another band.
+    fn is_dirty(&self) -> bool {
+        self.work.next_ready(0).is_some()
+    }
+
     // How many pixels the band has.
     fn cells(&self) -> usize
         ensures { result ≡ self.now.tiling.width * self.now.tiling.height }
@@ -74,9 +79,8 @@ impl Band {
     }
 }
 
-/// Sweeps bands that stand one below another, each in a thread of its own, where `above` rows of tiles stand above the
-/// first. Mask and image are those of the bands alone.
-#[cycle(bands)]
+/// Sweeps bands that stand one below another, where `above` rows of tiles stand above the first: each band that has
+/// dirty tiles in a thread of its own, where there are two of them or more. Mask and image are those of the bands alone.
 pub(super) fn sweep_bands<R: Threads + Sync>(
     rt: &R,
     whole: &Tiling,
@@ -90,6 +94,43 @@ pub(super) fn sweep_bands<R: Threads + Sync>(
     requires ready { AreReady bands.old }
     ensures { AreBandsSwept whole.now above mask.now image.old bands.old image.new bands.new }
 {
+    let in_threads = are_two_dirty(bands);
+    sweep_downwards(rt, whole, above, mask, image, bands, in_threads);
+}
+
+// Whether two bands at least have dirty tiles.
+fn are_two_dirty(bands: &[Band]) -> bool {
+    let mut is_one = false;
+    for band in bands {
+        if band.is_dirty() {
+            if is_one {
+                return true;
+            }
+            is_one = true;
+        }
+    }
+    false
+}
+
+// Sweeps the bands in this thread, or in threads those that have dirty tiles.
+//
+// This thread sweeps no such band beside others: one that it has just made may have been put on its processor, and
+// begins there only when this one waits.
+#[cycle(bands)]
+fn sweep_downwards<R: Threads + Sync>(
+    rt: &R,
+    whole: &Tiling,
+    above: u32,
+    mask: &[u16],
+    image: &mut [u16],
+    bands: &mut [Band],
+    in_threads: bool,
+)
+    requires somewhere { AreSomewhere whole.now above (strips_of mask.now image.old bands.old) }
+    requires sized { length mask.now ≡ length image.old }
+    requires ready { AreReady bands.old }
+    ensures { AreBandsSwept whole.now above mask.now image.old bands.old image.new bands.new }
+{
     let Some((band, rest)) = bands.split_first_mut() else {
         return;
     };
@@ -97,22 +138,23 @@ pub(super) fn sweep_bands<R: Threads + Sync>(
     let below = above + rows_of(&band.tiling);
     let (mask_here, mask_below) = mask.split_at(cells);
     let (here, image_below) = image.split_at_mut(cells);
-    if rest.is_empty() {
-        band.sweep(whole, above, mask_here, here);
+    if in_threads && band.is_dirty() {
+        sweep_both(
+            rt,
+            whole,
+            above,
+            mask_here,
+            here,
+            band,
+            below,
+            mask_below,
+            image_below,
+            rest,
+        );
         return;
     }
-    sweep_both(
-        rt,
-        whole,
-        above,
-        mask_here,
-        here,
-        band,
-        below,
-        mask_below,
-        image_below,
-        rest,
-    );
+    band.sweep(whole, above, mask_here, here);
+    sweep_downwards(rt, whole, below, mask_below, image_below, rest, in_threads);
 }
 
 // Sweeps a band and, beside it, those below.
@@ -151,7 +193,7 @@ fn sweep_both<R: Threads + Sync>(
                 × (length mask_below.now ≡ length image_below.now) × AreReady rest.now }
             ensures { AreBandsSwept whole.entry.now below mask_below.entry.now image_below.entry.now rest.entry.now
                 image_below.exit.now rest.exit.now }
-        { sweep_bands(rt, whole, below, mask_below, image_below, rest) },
+        { sweep_downwards(rt, whole, below, mask_below, image_below, rest, true) },
     );
 }
 

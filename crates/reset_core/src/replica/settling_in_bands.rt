@@ -1,7 +1,6 @@
 //! Settling in bands of rows of tiles, each of which a thread of its own sweeps.
 
 ghost use Rattle.std.specs.Prelude.{◌≡◌, ◌+◌, ◌<◌, ◌≤◌, ◌⊎◌, ℕ, length, IfOk, OnErr};
-ghost use Rattle.grid_core.specs.Tiles.{count_of};
 ghost use Rattle.core_rules.specs.Work.{IsQuiet};
 ghost use Rattle.core_rules.specs.Runs.{NoneOut, IsDirty};
 ghost use Rattle.core_rules.specs.Shown.{ShowsTheSame};
@@ -11,12 +10,13 @@ ghost use Rattle.reset_core.specs.Settling.{HasOnlySweeps};
 ghost use Rattle.reset_core.specs.Bands.{AreSweptInto};
 
 use super::Core;
-use super::bands::{columns_of, rows_of, sweep_bands};
+use super::bands::{rows_of, sweep_bands};
 use super::cutting::{cut_bands, put_back};
+use super::sharing::{move_to_middles, share_out, share_out_beside_few};
 use crate::replica::settling::{Count, Slice};
 use border_queues::laws::edges_are_open;
 use core_rules::laws::{one_job_out_a_tile, run_changes_few_tiles};
-use grid_core::{Memory, Tiling};
+use grid_core::Memory;
 use std::alloc::Global;
 use std::marker::Sync;
 use std::thread::Threads;
@@ -26,7 +26,7 @@ use tile_work::TileSet;
 const SHARED_TILES: usize = 64;
 
 // At most how often a band sweeps tiles in a round that has an end.
-const SWEEPS_OF_BAND: u64 = 1024;
+const SWEEPS_OF_BAND: u64 = 256;
 
 impl Core {
     /// Works like [`settle_within`](Core::settle_within), with the tiles swept by up to so many threads: the rows of
@@ -102,26 +102,24 @@ impl Core {
         let Ok(mut cuts) = vec![in alloc; rows; bands - 1] else {
             return 0;
         };
-        let are_many = self.count_dirty(SHARED_TILES) == SHARED_TILES;
-        if are_many {
-            self.share_out(&mut cuts);
-        } else {
-            spread_evenly(&mut cuts, rows);
-        }
-        self.sweep_rounds(rt, alloc, swept, &mut cuts, are_many, jobs)
+        let Ok(mut dirty) = vec![in alloc; 0; rows as usize] else {
+            return 0;
+        };
+        let many = self.sweep_many(rt, alloc, swept, &mut cuts, &mut dirty, jobs);
+        let few = self.sweep_few(alloc, swept, jobs - many);
+        let rest = self.sweep_rounds(rt, alloc, swept, &mut cuts, &mut dirty, jobs - many - few);
+        many + few + rest
     }
 
-    // Sweeps dirty tiles round after round, each with other cuts, and says how often tiles were swept. Where many are
-    // dirty at first, the first two rounds go on until no tile is dirty that may be swept.
-    //
-    // It stops where none is dirty, and where a round swept none: memory is wanting, or all that are dirty touch a cut.
-    fn sweep_rounds<R: Threads + Sync>(
+    // Where many tiles are dirty, sweeps them in two rounds, each of which goes on until no tile is dirty that may be
+    // swept, and says how often tiles were swept. The second round has its cuts in the middles of the first one's bands.
+    fn sweep_many<R: Threads + Sync>(
         &mut self,
         rt: &R,
         alloc: Global,
         swept: &mut TileSet,
         cuts: &mut [u32],
-        are_many: bool,
+        dirty: &mut [u32],
         jobs: u64,
     ) -> u64
         requires left { HasOnlySweeps self.old }
@@ -129,48 +127,21 @@ impl Core {
         ensures swept { AreSweptInto self.old swept.old self.new swept.new result }
         ensures at_most { result ≤ jobs }
     {
-        let rows = rows_of(&self.tiling());
-        let mut done = 0;
-        for round in 0..jobs {
-            if done == jobs || self.next_dirty(0).is_none() {
-                return done;
-            }
-            let most = most_in_round(are_many && round < 2, cuts.len());
-            let more = self.few_and_round(rt, alloc, swept, cuts, most, jobs - done);
-            done += more;
-            if more == 0 && round % 2 == 1 {
-                return done;
-            }
-            move_cuts(cuts, rows, round);
+        if self.count_dirty(SHARED_TILES) < SHARED_TILES {
+            return 0;
         }
-        done
+        let all = self.count_by_rows(dirty);
+        share_out(cuts, dirty, all);
+        let first = self.round(rt, alloc, swept, cuts, jobs);
+        if first == jobs {
+            return first;
+        }
+        move_to_middles(cuts, rows_of(&self.tiling()));
+        first + self.round(rt, alloc, swept, cuts, jobs - first)
     }
 
-    // Sweeps dirty tiles in this thread where there are few, then, where some are dirty still, up to `most` in bands,
-    // and says how often tiles were swept.
-    fn few_and_round<R: Threads + Sync>(
-        &mut self,
-        rt: &R,
-        alloc: Global,
-        swept: &mut TileSet,
-        cuts: &[u32],
-        most: u64,
-        jobs: u64,
-    ) -> u64
-        requires left { HasOnlySweeps self.old }
-        requires count { length swept.old ≡ length self.old.tiles }
-        ensures swept { AreSweptInto self.old swept.old self.new swept.new result }
-        ensures at_most { result ≤ jobs }
-    {
-        let few = self.sweep_few(alloc, swept, jobs);
-        if few == jobs || self.next_dirty(0).is_none() {
-            return few;
-        }
-        few + self.round(rt, alloc, swept, cuts, most.min(jobs - few))
-    }
-
-    // Where few tiles are dirty, sweeps the least dirty one again and again, 64 times at most, and says how often: none
-    // where memory is wanting.
+    // Where few tiles are dirty, sweeps up to 64 in this thread, and says how often tiles were swept: none where memory
+    // is wanting.
     fn sweep_few(&mut self, alloc: Global, swept: &mut TileSet, jobs: u64) -> u64
         requires left { HasOnlySweeps self.old }
         requires count { length swept.old ≡ length self.old.tiles }
@@ -180,6 +151,79 @@ impl Core {
         if self.count_dirty(SHARED_TILES) == SHARED_TILES {
             return 0;
         }
+        self.sweep_alone(alloc, swept, jobs)
+    }
+
+    // Sweeps dirty tiles round after round, each with cuts that run along few of those that are dirty then, and says
+    // how often tiles were swept. It stops where none is dirty, and where memory is wanting.
+    fn sweep_rounds<R: Threads + Sync>(
+        &mut self,
+        rt: &R,
+        alloc: Global,
+        swept: &mut TileSet,
+        cuts: &mut [u32],
+        dirty: &mut [u32],
+        jobs: u64,
+    ) -> u64
+        requires left { HasOnlySweeps self.old }
+        requires count { length swept.old ≡ length self.old.tiles }
+        ensures swept { AreSweptInto self.old swept.old self.new swept.new result }
+        ensures at_most { result ≤ jobs }
+    {
+        let rows = rows_of(&self.tiling());
+        let mut done = 0;
+        for _ in 0..jobs {
+            if done == jobs || self.next_dirty(0).is_none() {
+                return done;
+            }
+            let all = self.count_by_rows(dirty);
+            share_out_beside_few(cuts, dirty, all, rows);
+            let more = self.round_or_alone(rt, alloc, swept, cuts, all, jobs - done);
+            if more == 0 {
+                return done;
+            }
+            done += more;
+        }
+        done
+    }
+
+    // Sweeps dirty tiles in bands, of so many dirty ones in all, and says how often tiles were swept. Where there are
+    // not two for each band, where all touch cuts, and where memory for bands is wanting, it sweeps up to 64 in this
+    // thread: none where memory is wanting for that.
+    fn round_or_alone<R: Threads + Sync>(
+        &mut self,
+        rt: &R,
+        alloc: Global,
+        swept: &mut TileSet,
+        cuts: &[u32],
+        dirty: u64,
+        jobs: u64,
+    ) -> u64
+        requires left { HasOnlySweeps self.old }
+        requires count { length swept.old ≡ length self.old.tiles }
+        ensures swept { AreSweptInto self.old swept.old self.new swept.new result }
+        ensures at_most { result ≤ jobs }
+    {
+        let bands = (cuts.len() as u64).saturating_add(1);
+        if dirty / 2 < bands {
+            return self.sweep_alone(alloc, swept, jobs);
+        }
+        let most = SWEEPS_OF_BAND.saturating_mul(bands).min(jobs);
+        let in_bands = self.round(rt, alloc, swept, cuts, most);
+        if in_bands > 0 {
+            return in_bands;
+        }
+        self.sweep_alone(alloc, swept, jobs)
+    }
+
+    // Sweeps the least dirty tile again and again in this thread, 64 times at most, and says how often: none where
+    // memory is wanting.
+    fn sweep_alone(&mut self, alloc: Global, swept: &mut TileSet, jobs: u64) -> u64
+        requires left { HasOnlySweeps self.old }
+        requires count { length swept.old ≡ length self.old.tiles }
+        ensures swept { AreSweptInto self.old swept.old self.new swept.new result }
+        ensures at_most { result ≤ jobs }
+    {
         let Ok(done) = self.sweep_within(alloc, swept, jobs.min(SHARED_TILES as u64)) else {
             return 0;
         };
@@ -237,72 +281,5 @@ impl Core {
             from = tile + 1;
         }
         most
-    }
-
-    // Each cut moves to where the bands that begin there have about as many dirty tiles each. Where there are fewer
-    // dirty tiles than bands, the last cuts stay.
-    fn share_out(&self, cuts: &mut [u32])
-        requires { 0 < length cuts.old }
-    {
-        let dirty = self.count_dirty(self.tiles());
-        let share = dirty / (cuts.len() + 1) + 1;
-        let mut from = 0;
-        let mut next_cut = 0;
-        for number in 1..=dirty {
-            let Some(tile) = self.next_dirty(from) else {
-                break;
-            };
-            from = tile + 1;
-            if number % share == 0 && next_cut < cuts.len() {
-                cuts[next_cut] = row_below(&self.tiling(), tile);
-                next_cut += 1;
-            }
-        }
-    }
-}
-
-// The row of tiles below that of a tile.
-fn row_below(tiling: &Tiling, tile: usize) -> u32
-    requires { tile < count_of tiling.now }
-{
-    // The side tells the prover that the tiling is one.
-    let _ = tiling.side();
-    (tile / columns_of(tiling) as usize) as u32 + 1
-}
-
-// At most how many tiles a round sweeps: any number, or so many in each band.
-fn most_in_round(is_endless: bool, cuts: usize) -> u64 {
-    if is_endless {
-        return u64::MAX;
-    }
-    SWEEPS_OF_BAND.saturating_mul((cuts as u64).saturating_add(1))
-}
-
-// The cuts of the next round: in the middles of the bands behind an even round, evenly spaced ones behind an odd one.
-fn move_cuts(cuts: &mut [u32], rows: u32, round: u64) {
-    if round % 2 == 0 {
-        to_middles(cuts, rows);
-    } else {
-        spread_evenly(cuts, rows);
-    }
-}
-
-// Each cut moves to the middle between itself and the next one, and the last one to the middle of the rows below it.
-fn to_middles(cuts: &mut [u32], rows: u32) {
-    let count = cuts.len();
-    for i in 0..count {
-        let next = if i + 1 < count { cuts[i + 1] } else { rows };
-        cuts[i] += next.saturating_sub(cuts[i]) / 2;
-    }
-}
-
-// The cuts get as far apart from one another as the rows allow.
-fn spread_evenly(cuts: &mut [u32], rows: u32) {
-    let count = cuts.len();
-    let step = (rows as usize / (count + 1)) as u32;
-    let mut row: u32 = 0;
-    for i in 0..count {
-        row = row.saturating_add(step);
-        cuts[i] = row;
     }
 }

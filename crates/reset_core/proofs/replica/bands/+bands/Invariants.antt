@@ -1,8 +1,8 @@
 use Rattle.std.proofs.Common.{◌+◌, ◌*◌, length}
 use Rattle.reset_core.proofs.replica.bands.+bands.Given as goal
 
-abbrev pub decreases-sweep_bands : goal.decreases-sweep_bands
-decreases-sweep_bands g l = 4 * length l.bands.now
+abbrev pub decreases-sweep_downwards : goal.decreases-sweep_downwards
+decreases-sweep_downwards g l = 4 * length l.bands.now
 
 abbrev pub decreases-sweep_both : goal.decreases-sweep_both
 decreases-sweep_both g l = 4 * length l.rest.now + 2

@@ -1,5 +1,5 @@
 use Rattle.reset_core.proofs.Bands.Settling.{none_swept_in_bands, worked_off_swept}
-use Rattle.reset_core.proofs.replica.Core.sweep_few.Goals as goal
+use Rattle.reset_core.proofs.replica.Core.sweep_alone.Goals as goal
 
 pub returns-clause-swept : goal.returns-clause-swept
 returns-clause-swept c =
