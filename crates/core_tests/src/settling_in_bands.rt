@@ -1,5 +1,7 @@
 //! Cores that settle in bands of rows of tiles, in threads, beside cores that settle in one and the slow program.
 
+ghost use Rattle.std.specs.Prelude.{◌<◌};
+
 use crate::cores::owed;
 use crate::played::{Outcome, told};
 use crate::tiles::is_on;
@@ -12,13 +14,15 @@ use std::thread::Threads;
 use stroke_core::{Stroke, Tag};
 use stroke_lattice::State;
 
-// How cores are opened, and how the one settles that does so in bands: columns and rows of the mask, who are
-// neighbours, the side of the tiles, so many threads, and so many jobs a slice.
+// How cores are opened, and how the one settles that does so in bands: columns and rows of the mask, whether it is a
+// comb, who are neighbours, so many discs an edit, the side of the tiles, so many threads, and so many jobs a slice.
 #[derive(Clone, Copy)]
 struct Way {
     columns: u32,
     rows: u32,
+    is_comb: bool,
     conn: Conn,
+    discs: u32,
     side: u32,
     threads: usize,
     jobs: u64,
@@ -28,7 +32,9 @@ struct Way {
 const SMALL: Way = Way {
     columns: 100,
     rows: 90,
+    is_comb: false,
     conn: Conn::Four,
+    discs: 90,
     side: 8,
     threads: 3,
     jobs: u64::MAX,
@@ -38,9 +44,23 @@ const SMALL: Way = Way {
 const LARGE: Way = Way {
     columns: 540,
     rows: 530,
+    is_comb: false,
     conn: Conn::Eight,
+    discs: 90,
     side: 64,
     threads: 3,
+    jobs: u64::MAX,
+};
+
+// Sixty rows of twelve tiles, into which light comes from one place, so that few tiles are dirty at a time.
+const TALL: Way = Way {
+    columns: 48,
+    rows: 240,
+    is_comb: true,
+    conn: Conn::Four,
+    discs: 1,
+    side: 4,
+    threads: 4,
     jobs: u64::MAX,
 };
 
@@ -67,14 +87,32 @@ fn short(place: u32) -> u16 {
     u16::try_from(place).unwrap_or(u16::MAX)
 }
 
-// A mask in which light of low levels comes far.
+// A mask in which light of low levels comes far, or a comb.
 fn mask_of(alloc: Global, way: &Way) -> Option<Grid> {
     let mut mask = Grid::new(alloc, way.columns, way.rows, 0).ok()?;
-    let mut dice = Dice(7);
-    for cell in mask.cells_mut() {
-        *cell = dice.up_to(9);
+    if way.is_comb {
+        comb(mask.cells_mut(), way.columns.max(1) as usize);
+    } else {
+        let mut dice = Dice(7);
+        for cell in mask.cells_mut() {
+            *cell = dice.up_to(9);
+        }
     }
     Some(mask)
+}
+
+// Each second row is bright, and the first column, which joins them.
+fn comb(cells: &mut [u16], columns: usize)
+    requires { 0 < columns }
+{
+    for place in 0..cells.len() {
+        let is_tooth = place / columns % 2 == 0;
+        cells[place] = if is_tooth || place % columns == 0 {
+            9
+        } else {
+            0
+        };
+    }
 }
 
 fn core_of(alloc: Global, way: &Way) -> Option<Box<Core>> {
@@ -150,7 +188,7 @@ impl Pair {
         let delta = if number % 2 == 0 {
             self.withdrawals()?
         } else {
-            self.discs(90)?
+            self.discs(self.way.discs)?
         };
         self.banded.merge(self.alloc, &delta).ok()?;
         self.alone.merge(self.alloc, &delta).ok()?;
@@ -295,6 +333,21 @@ fn slices_in_bands_keep_to_their_limits(rt: HostRuntime) -> Result<(), Fail> {
 #[test]
 fn cores_of_large_tiles_settle_in_bands(rt: HostRuntime) -> Result<(), Fail> {
     told("large tiles", played(&rt, rt.alloc(), LARGE, 3))
+}
+
+#[test]
+fn cores_of_few_dirty_tiles_settle_in_bands(rt: HostRuntime) -> Result<(), Fail> {
+    for conn in [Conn::Four, Conn::Eight] {
+        for threads in [2, 4, 7] {
+            let way = Way {
+                conn,
+                threads,
+                ..TALL
+            };
+            told("few dirty tiles", played(&rt, rt.alloc(), way, 5))?;
+        }
+    }
+    Ok(())
 }
 
 #[test]

@@ -31,6 +31,13 @@ place_is_own tile rank side k = omega arith
 pub by_fours : (n side : ℕ) → n * (4 * side) ≡ n * 4 * side
 by_fours n side = omega arith
 
+-- some of the tiles have no more room than all of them
+pub part_fits : (count part side room : ℕ) → part ≤ count → room ≡ count * 4 * side → part * (4 * side) ≤ room
+part_fits count part side room less room_is =
+    let parts : part + (count - part) ≡ count = omega (arith, less) in
+    let all : room ≡ (part + (count - part)) * 4 * side = room_is ∙ ap (λ n. n * 4 * side) (sym parts) in
+    omega (arith, all)
+
 -- there is room for the tiles behind some of them
 pub rest_room : (count half side room rest : ℕ) → half ≤ count → room ≡ count * 4 * side
     → rest + half * (4 * side) ≡ room → rest ≡ (count - half) * 4 * side

@@ -49,12 +49,20 @@ fn take_tiles<R: Threads + Sync>(
     requires height { image.now.height ≡ tiling.now.height }
     ensures { AreTaken (Has tiles.now) tiling.now image.now values.old values.new }
 {
+    // Beside other threads this one takes no rims: one that it has just made may have been put on its processor, and
+    // begins there only when this one waits.
+    let all = if threads < 2 {
+        1
+    } else {
+        threads.saturating_add(1)
+    };
     let count = tiling.count();
-    take_part(rt, threads, values, 0, count, tiling, image, tiles);
+    take_part(rt, all, values, 0, count, tiling, image, tiles);
 }
 
-// Takes over the rims of those of `count` tiles from `first` on that are in the set. The values are those of these
-// tiles alone.
+// Takes over the rims of those of `count` tiles from `first` on that are in the set, in so many threads, of which this
+// one is the last and takes what the others leave: nothing, where there are others. The values are those of these tiles
+// alone.
 #[cycle(parts)]
 fn take_part<R: Threads + Sync>(
     rt: &R,
@@ -69,30 +77,30 @@ fn take_part<R: Threads + Sync>(
     requires { CanTakePart tiling.now image.now (length tiles.now) first count (length values.old) }
     ensures { ArePartTaken (Has tiles.now) tiling.now image.now first count values.old values.new }
 {
-    let half = count / 2;
-    if threads < 2 || half == 0 {
+    if threads < 2 {
         take_each(values, first, count, tiling, image, tiles);
         return;
     }
+    let part = count / (threads - 1);
     let room = 4 * tiling.side() as usize;
-    let (here, behind) = values.split_at_mut(half * room);
+    let (here, behind) = values.split_at_mut(part * room);
     take_both(
         rt,
-        threads / 2,
+        threads - 1,
         here,
         behind,
         first,
-        half,
-        first + half,
-        count - half,
+        part,
+        first + part,
+        count - part,
         tiling,
         image,
         tiles,
     );
 }
 
-// Takes over the rims of `half` tiles from `first` on and, beside them, of `rest` tiles from `next` on, each by so many
-// threads.
+// Takes over the rims of `part` tiles from `first` on in a new thread and, beside it, of `rest` tiles from `next` on in
+// so many threads.
 #[cycle(parts)]
 fn take_both<R: Threads + Sync>(
     rt: &R,
@@ -100,25 +108,25 @@ fn take_both<R: Threads + Sync>(
     here: &mut [u16],
     behind: &mut [u16],
     first: usize,
-    half: usize,
+    part: usize,
     next: usize,
     rest: usize,
     tiling: &Tiling,
     image: &Grid,
     tiles: &TileSet,
 )
-    requires here { CanTakePart tiling.now image.now (length tiles.now) first half (length here.old) }
+    requires here { CanTakePart tiling.now image.now (length tiles.now) first part (length here.old) }
     requires behind { CanTakePart tiling.now image.now (length tiles.now) next rest (length behind.old) }
-    ensures here { ArePartTaken (Has tiles.now) tiling.now image.now first half here.old here.new }
+    ensures here { ArePartTaken (Has tiles.now) tiling.now image.now first part here.old here.new }
     ensures behind { ArePartTaken (Has tiles.now) tiling.now image.now next rest behind.old behind.new }
 {
     join_mut(
         rt,
         &mut || -> ()
-            requires { CanTakePart tiling.now image.now (length tiles.now) first half (length here.now) }
-            ensures { ArePartTaken (Has tiles.entry.now) tiling.entry.now image.entry.now first half here.entry.now
+            requires { CanTakePart tiling.now image.now (length tiles.now) first part (length here.now) }
+            ensures { ArePartTaken (Has tiles.entry.now) tiling.entry.now image.entry.now first part here.entry.now
                 here.exit.now }
-        { take_part(rt, threads, here, first, half, tiling, image, tiles) },
+        { take_each(here, first, part, tiling, image, tiles) },
         &mut || -> ()
             requires { CanTakePart tiling.now image.now (length tiles.now) next rest (length behind.now) }
             ensures { ArePartTaken (Has tiles.entry.now) tiling.entry.now image.entry.now next rest behind.entry.now
