@@ -54,12 +54,12 @@ const LARGE: Way = Way {
 
 // Sixty rows of twelve tiles, into which light comes from one place, so that few tiles are dirty at a time.
 const TALL: Way = Way {
-    columns: 48,
-    rows: 240,
+    columns: 96,
+    rows: 480,
     is_comb: true,
     conn: Conn::Four,
     discs: 1,
-    side: 4,
+    side: 8,
     threads: 4,
     jobs: u64::MAX,
 };
