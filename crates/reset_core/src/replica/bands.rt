@@ -80,7 +80,8 @@ impl Band {
 }
 
 /// Sweeps bands that stand one below another, where `above` rows of tiles stand above the first: each band that has
-/// dirty tiles in a thread of its own, where there are two of them or more. Mask and image are those of the bands alone.
+/// dirty tiles in a thread of its own, where there are two of them or more. Mask and image are those of the bands
+/// alone.
 pub(super) fn sweep_bands<R: Threads + Sync>(
     rt: &R,
     whole: &Tiling,

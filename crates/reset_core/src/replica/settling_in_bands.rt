@@ -12,7 +12,7 @@ ghost use Rattle.reset_core.specs.Bands.{AreSweptInto};
 use super::Core;
 use super::bands::{rows_of, sweep_bands};
 use super::cutting::{cut_bands, put_back};
-use super::sharing::{move_to_middles, share_out, share_out_beside_few};
+use super::sharing::{Shares, count_swept};
 use crate::replica::settling::{Count, Slice};
 use border_queues::laws::edges_are_open;
 use core_rules::laws::{one_job_out_a_tile, run_changes_few_tiles};
@@ -25,15 +25,17 @@ use tile_work::TileSet;
 // Fewer dirty tiles, or fewer jobs, are not worth a second thread.
 const SHARED_TILES: usize = 64;
 
-// At most how often a band sweeps tiles in a round that has an end.
+// At most how often a band sweeps tiles in a round that has an end, and this thread between two rounds.
 const SWEEPS_OF_BAND: u64 = 256;
+const SWEEPS_BETWEEN: u64 = 32;
 
 impl Core {
     /// Works like [`settle_within`](Core::settle_within), with the tiles swept by up to so many threads: the rows of
     /// tiles are cut into bands, each of which is swept by a thread of its own but for the tiles that touch another
-    /// band. So it goes on in rounds with other cuts while tiles are dirty. Where fewer than 64 are, this thread sweeps
-    /// up to 64 before the round. With fewer than 64 jobs, where memory for bands is wanting, and where all dirty tiles
-    /// lie along cuts, this thread sweeps what is left.
+    /// band, while this thread waits. So it goes on in rounds with other cuts while tiles are dirty. Where fewer than
+    /// 64 are at first, where there are not two for each band, and where all dirty tiles lie along cuts, this thread
+    /// sweeps up to 32 times before the next round. With fewer than 64 jobs, and where memory for bands is wanting, it
+    /// sweeps what is left.
     ///
     /// Which tiles are swept in which order is not said, and what comes of it is the same: the reconstruction, where no
     /// work is left. No more tiles are swept than there is work.
@@ -98,28 +100,24 @@ impl Core {
         let Some(_first) = self.next_dirty(0) else {
             return 0;
         };
-        // A cut behind the last row cuts nothing.
-        let Ok(mut cuts) = vec![in alloc; rows; bands - 1] else {
+        let Ok(mut shares) = Shares::new(alloc, rows, bands - 1) else {
             return 0;
         };
-        let Ok(mut dirty) = vec![in alloc; 0; rows as usize] else {
-            return 0;
-        };
-        let many = self.sweep_many(rt, alloc, swept, &mut cuts, &mut dirty, jobs);
+        let many = self.sweep_many(rt, alloc, swept, &mut shares, jobs);
         let few = self.sweep_few(alloc, swept, jobs - many);
-        let rest = self.sweep_rounds(rt, alloc, swept, &mut cuts, &mut dirty, jobs - many - few);
+        let rest = self.sweep_rounds(rt, alloc, swept, &mut shares, jobs - many - few);
         many + few + rest
     }
 
     // Where many tiles are dirty, sweeps them in two rounds, each of which goes on until no tile is dirty that may be
-    // swept, and says how often tiles were swept. The second round has its cuts in the middles of the first one's bands.
+    // swept, and says how often tiles were swept. The second round has its cuts in the middles of the first one's
+    // bands.
     fn sweep_many<R: Threads + Sync>(
         &mut self,
         rt: &R,
         alloc: Global,
         swept: &mut TileSet,
-        cuts: &mut [u32],
-        dirty: &mut [u32],
+        shares: &mut Shares,
         jobs: u64,
     ) -> u64
         requires left { HasOnlySweeps self.old }
@@ -130,18 +128,18 @@ impl Core {
         if self.count_dirty(SHARED_TILES) < SHARED_TILES {
             return 0;
         }
-        let all = self.count_by_rows(dirty);
-        share_out(cuts, dirty, all);
-        let first = self.round(rt, alloc, swept, cuts, jobs);
+        self.count_by_rows(&mut shares.dirty);
+        shares.share_out();
+        let first = self.round(rt, alloc, swept, &shares.cuts, &mut shares.swept, jobs);
         if first == jobs {
             return first;
         }
-        move_to_middles(cuts, rows_of(&self.tiling()));
-        first + self.round(rt, alloc, swept, cuts, jobs - first)
+        shares.move_to_middles(rows_of(&self.tiling()));
+        first + self.round(rt, alloc, swept, &shares.cuts, &mut shares.swept, jobs - first)
     }
 
-    // Where few tiles are dirty, sweeps up to 64 in this thread, and says how often tiles were swept: none where memory
-    // is wanting.
+    // Where few tiles are dirty, sweeps up to 32 times in this thread, and says how often: none where memory is
+    // wanting.
     fn sweep_few(&mut self, alloc: Global, swept: &mut TileSet, jobs: u64) -> u64
         requires left { HasOnlySweeps self.old }
         requires count { length swept.old ≡ length self.old.tiles }
@@ -154,15 +152,14 @@ impl Core {
         self.sweep_alone(alloc, swept, jobs)
     }
 
-    // Sweeps dirty tiles round after round, each with cuts that run along few of those that are dirty then, and says
-    // how often tiles were swept. It stops where none is dirty, and where memory is wanting.
+    // Sweeps dirty tiles round after round, and says how often tiles were swept. It stops where none is dirty, and
+    // where memory is wanting.
     fn sweep_rounds<R: Threads + Sync>(
         &mut self,
         rt: &R,
         alloc: Global,
         swept: &mut TileSet,
-        cuts: &mut [u32],
-        dirty: &mut [u32],
+        shares: &mut Shares,
         jobs: u64,
     ) -> u64
         requires left { HasOnlySweeps self.old }
@@ -170,15 +167,12 @@ impl Core {
         ensures swept { AreSweptInto self.old swept.old self.new swept.new result }
         ensures at_most { result ≤ jobs }
     {
-        let rows = rows_of(&self.tiling());
         let mut done = 0;
         for _ in 0..jobs {
             if done == jobs || self.next_dirty(0).is_none() {
                 return done;
             }
-            let all = self.count_by_rows(dirty);
-            share_out_beside_few(cuts, dirty, all, rows);
-            let more = self.round_or_alone(rt, alloc, swept, cuts, all, jobs - done);
+            let more = self.round_or_alone(rt, alloc, swept, shares, jobs - done);
             if more == 0 {
                 return done;
             }
@@ -187,16 +181,15 @@ impl Core {
         done
     }
 
-    // Sweeps dirty tiles in bands, of so many dirty ones in all, and says how often tiles were swept. Where there are
-    // not two for each band, where all touch cuts, and where memory for bands is wanting, it sweeps up to 64 in this
-    // thread: none where memory is wanting for that.
+    // Sweeps dirty tiles in bands, with cuts that run along few of them, and says how often tiles were swept. Where
+    // there are not two for each band, where all touch cuts, and where memory for bands is wanting, it sweeps up to 32
+    // times in this thread: not once where memory is wanting for that.
     fn round_or_alone<R: Threads + Sync>(
         &mut self,
         rt: &R,
         alloc: Global,
         swept: &mut TileSet,
-        cuts: &[u32],
-        dirty: u64,
+        shares: &mut Shares,
         jobs: u64,
     ) -> u64
         requires left { HasOnlySweeps self.old }
@@ -204,19 +197,20 @@ impl Core {
         ensures swept { AreSweptInto self.old swept.old self.new swept.new result }
         ensures at_most { result ≤ jobs }
     {
-        let bands = (cuts.len() as u64).saturating_add(1);
-        if dirty / 2 < bands {
+        let bands = (shares.cuts.len() as u64).saturating_add(1);
+        if self.count_by_rows(&mut shares.dirty) / 2 < bands {
             return self.sweep_alone(alloc, swept, jobs);
         }
+        shares.share_out_beside_few(rows_of(&self.tiling()));
         let most = SWEEPS_OF_BAND.saturating_mul(bands).min(jobs);
-        let in_bands = self.round(rt, alloc, swept, cuts, most);
+        let in_bands = self.round(rt, alloc, swept, &shares.cuts, &mut shares.swept, most);
         if in_bands > 0 {
             return in_bands;
         }
         self.sweep_alone(alloc, swept, jobs)
     }
 
-    // Sweeps the least dirty tile again and again in this thread, 64 times at most, and says how often: none where
+    // Sweeps the least dirty tile again and again in this thread, 32 times at most, and says how often: none where
     // memory is wanting.
     fn sweep_alone(&mut self, alloc: Global, swept: &mut TileSet, jobs: u64) -> u64
         requires left { HasOnlySweeps self.old }
@@ -224,20 +218,21 @@ impl Core {
         ensures swept { AreSweptInto self.old swept.old self.new swept.new result }
         ensures at_most { result ≤ jobs }
     {
-        let Ok(done) = self.sweep_within(alloc, swept, jobs.min(SHARED_TILES as u64)) else {
+        let Ok(done) = self.sweep_within(alloc, swept, jobs.min(SWEEPS_BETWEEN)) else {
             return 0;
         };
         done
     }
 
     // Sweeps dirty tiles in bands that begin at these rows of tiles, each with its share of the jobs, and says how
-    // often tiles were swept: none where memory for the bands is wanting.
+    // often tiles were swept: none where memory for the bands is wanting. It counts how many tiles of each row were.
     fn round<R: Threads + Sync>(
         &mut self,
         rt: &R,
         alloc: Global,
         swept: &mut TileSet,
         cuts: &[u32],
+        by_rows: &mut [u32],
         jobs: u64,
     ) -> u64
         requires left { HasOnlySweeps self.old }
@@ -264,6 +259,7 @@ impl Core {
         sweep_bands(rt, &tiling, 0, mask, self.image.cells_mut(), &mut bands);
         let swept_jobs = put_back(&tiling, &bands, &mut self.work, &mut self.bounds, swept);
         self.serial = self.serial.wrapping_add(swept_jobs);
+        count_swept(&bands, by_rows);
         swept_jobs
     }
 
