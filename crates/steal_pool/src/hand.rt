@@ -27,8 +27,8 @@ use tile_generations::{Job, Ticket};
 // How many turns in a row with nothing to do a hand makes before it rests.
 const YIELDS: u32 = 64;
 
-// How long it rests then, in microseconds.
-const REST: u64 = 50;
+// How many times in a row it rests as long, before it rests twice as long.
+const RESTS: u32 = 8;
 
 /// The hand's end of the deque.
 #[derive(Drop)]
@@ -219,9 +219,9 @@ impl Hand {
     }
 
     /// Makes turns until it reads that the flag is set. It looks at the flag before each turn. After one that was not
-    /// answered by `Worked` it yields its processor, and after many of these in a row it rests for some microseconds,
-    /// so that processors are left to others. A report that is held at the end is sent by a later turn, if there is
-    /// one.
+    /// answered by `Worked` it yields its processor, and after many of these in a row it rests, from 50 microseconds
+    /// to 400 in the end, so that processors are left to others. A report that is held at the end is sent by a later
+    /// turn, if there is one.
     #[tactic(auto, using(crate::proofs::Turns::one_step_more, crate::proofs::Turns::no_step_more))]
     pub fn run<G: Gate, R: Wait + Clock>(&mut self, rt: &R, gate: &G, done: &AtomicBool)
         ensures turns { (answers : List Answer) × AreTurns self.old answers self.new }
@@ -259,12 +259,22 @@ impl Hand {
     }
 }
 
-// Yields the processor, or rests where that was done many times in a row.
+// Yields the processor, or rests where that was done many times in a row, and longer the more often it has rested.
 fn wait<R: Clock>(rt: &R, idle: &mut u32) {
     if *idle < YIELDS {
-        *idle += 1;
         thread::yield_now();
     } else {
-        thread::sleep(rt, Duration::from_micros(REST));
+        thread::sleep(rt, Duration::from_micros(rest_behind(*idle - YIELDS)));
+    }
+    *idle = idle.saturating_add(1);
+}
+
+// How many microseconds a hand rests behind so many rests in a row.
+fn rest_behind(rests: u32) -> u64 {
+    match rests / RESTS {
+        0 => 50,
+        1 => 100,
+        2 => 200,
+        _ => 400,
     }
 }

@@ -25,8 +25,10 @@ use tile_work::TileSet;
 // Fewer dirty tiles, or fewer jobs, are not worth a second thread.
 const SHARED_TILES: usize = 64;
 
-// At most how often a band sweeps tiles in a round that has an end, and this thread between two rounds.
+// At most how often a band sweeps tiles in a round that has an end.
 const SWEEPS_OF_BAND: u64 = 256;
+
+// At most how often this thread sweeps tiles between two rounds.
 const SWEEPS_BETWEEN: u64 = 32;
 
 impl Core {
@@ -135,7 +137,15 @@ impl Core {
             return first;
         }
         shares.move_to_middles(rows_of(&self.tiling()));
-        first + self.round(rt, alloc, swept, &shares.cuts, &mut shares.swept, jobs - first)
+        first
+            + self.round(
+                rt,
+                alloc,
+                swept,
+                &shares.cuts,
+                &mut shares.swept,
+                jobs - first,
+            )
     }
 
     // Where few tiles are dirty, sweeps up to 32 times in this thread, and says how often: none where memory is

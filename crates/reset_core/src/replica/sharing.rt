@@ -67,7 +67,11 @@ impl Shares {
     pub(super) fn move_to_middles(&mut self, rows: u32) {
         let count = self.cuts.len();
         for i in 0..count {
-            let next = if i + 1 < count { self.cuts[i + 1] } else { rows };
+            let next = if i + 1 < count {
+                self.cuts[i + 1]
+            } else {
+                rows
+            };
             self.cuts[i] += next.saturating_sub(self.cuts[i]) / 2;
         }
     }
