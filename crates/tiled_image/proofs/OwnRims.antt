@@ -10,7 +10,7 @@ use Rattle.tiled_image.specs.declared.rims.Edge.{Edge}
 use Rattle.tiled_image.specs.declared.rims.Edge.TheVariants as edges
 use Rattle.tiled_image.specs.{Shown.place_in, Rims.AreTaken, Rims.rank_of, Rims.strip_of}
 use Rattle.tiled_image.specs.OwnRims.{ArePartTaken, IsEdgeTaken, IsOwnRimOf, own_place}
-use Rattle.tiled_image.proofs.Strips.{in_strip_room, rank_below}
+use Rattle.tiled_image.proofs.Strips.{count_within, in_strip_room, rank_below, room_within}
 
 -- ---- places
 
@@ -37,6 +37,12 @@ part_fits count part side room less room_is =
     let parts : part + (count - part) ≡ count = omega (arith, less) in
     let all : room ≡ (part + (count - part)) * 4 * side = room_is ∙ ap (λ n. n * 4 * side) (sym parts) in
     omega (arith, all)
+
+-- there are no more of their values than a program counts
+pub part_small : (tiling : Tiles) (first count : ℕ) → IsTiled tiling → first + count ≤ count_of tiling
+    → count * 4 * tiling.side ≤ 68719476736
+part_small tiling first count tiled within =
+    room_within count tiling.side (omega (arith, within, count_within tiling tiled)) tiled.tile_side.at_most
 
 -- there is room for the tiles behind some of them
 pub rest_room : (count half side room rest : ℕ) → half ≤ count → room ≡ count * 4 * side

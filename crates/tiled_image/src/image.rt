@@ -82,10 +82,6 @@ impl TiledImage {
             Ok(parts) => parts,
             Err(why) => return Err((rows, why)),
         };
-        let copies = match SharedCopies::none(alloc, count) {
-            Ok(copies) => copies,
-            Err(why) => return Err((rows, why)),
-        };
         let rims = match Rims::of(alloc, &tiling, &rows) {
             Ok(rims) => rims,
             Err(why) => return Err((rows, why)),
@@ -94,8 +90,12 @@ impl TiledImage {
             Ok(raised) => raised,
             Err(why) => return Err((rows, why)),
         };
-        match TileSet::empty(alloc, count) {
-            Ok(newer) => Ok(TiledImage {
+        let newer = match TileSet::empty(alloc, count) {
+            Ok(newer) => newer,
+            Err(why) => return Err((rows, why)),
+        };
+        match SharedCopies::none(alloc, count) {
+            Ok(copies) => Ok(TiledImage {
                 tiling,
                 rows,
                 parts,

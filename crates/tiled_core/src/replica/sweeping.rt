@@ -210,9 +210,7 @@ impl TiledCore {
         }
         self.image.fold(alloc, tile);
         let above = self.image.bounds_above(tile, pixels);
-        let raised = self.raised_by(alloc, tile, pixels)?;
-        let rim = Rim::of(alloc, &raised)?;
-        let held = Arc::new(alloc, raised)?;
+        let (held, rim) = self.raised_by(alloc, tile, pixels)?;
         self.join_raised(alloc, swept, held, &rim, above)
     }
 
@@ -256,16 +254,26 @@ impl TiledCore {
         Ok(())
     }
 
-    // The tile, raised to the piece, which has its size.
+    // The tile, raised to the piece, which has its size, and the rim of that.
     //
     // Errors: out of memory.
-    fn raised_by(&self, alloc: Global, tile: usize, piece: &Grid) -> Result<Grid, Memory>
+    fn raised_by(
+        &self,
+        alloc: Global,
+        tile: usize,
+        piece: &Grid,
+    ) -> Result<(Arc<Grid>, Rim), Memory>
         requires is_tile { IsTile self.now tile }
         requires width { piece.now.width ≡ (tile_rect self.now tile).w }
         requires height { piece.now.height ≡ (tile_rect self.now tile).h }
-        ensures { IfOk result (IsRaisedPart (tile_rect self.now tile) self.now.image piece.now) }
+        ensures raised { IfOk result (λ r. IsRaisedPart (tile_rect self.now tile) self.now.image piece.now
+            (arc_value r.0)) }
+        ensures rim { IfOk result (λ r. IsRimOf (arc_value r.0) r.1) }
     {
-        self.image.raised_part(alloc, tile, piece)
+        let raised = self.image.raised_part(alloc, tile, piece)?;
+        let rim = Rim::of(alloc, &raised)?;
+        let held = Arc::new(alloc, raised)?;
+        Ok((held, rim))
     }
 
     // An inbox without hints, with the room of the one that was kept last. It takes no memory.

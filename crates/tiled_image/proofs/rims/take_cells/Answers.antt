@@ -6,13 +6,30 @@ use Rattle.tiled_image.specs.{Rims.strip_at, Rims.strip_of, Shown.CanCopy}
 use Rattle.tiled_image.specs.Shown.{as_image, cell_in}
 use Rattle.tiled_image.proofs.CopiedStrips.{part_long, part_replaced}
 use Rattle.tiled_image.proofs.StripCopies.{can_take, taken_strip}
-use Rattle.tiled_image.proofs.Strips.{strip_ends}
+use Rattle.tiled_image.proofs.Strips.{start_small, strip_ends}
 use Rattle.tiled_image.proofs.rims.take_cells.Goals as goal
 
 -- the part begins where it is said to
 replaced_at : {start place : ℕ} {cells old new : List ℕ} → start ≡ place → IsReplaced start cells old new
     → IsReplaced place cells old new
 replaced_at {start} {place} {cells} {old} {new} same replaced = subst (λ n. IsReplaced n cells old new) same replaced
+
+pub overflow_add-end : goal.overflow_add-end
+overflow_add-end c =
+    omega (
+      arith,
+      start_small c.args.tiling.now c.args.tile c.side-side.ensures.tiled c.requires.tile c.args.edge,
+      c.start_of-start.ensures,
+      c.side-side.ensures.value,
+    )
+
+pub offset_bounds-values-start : goal.offset_bounds-values-start
+offset_bounds-values-start c =
+    omega (
+      arith,
+      start_small c.args.tiling.now c.args.tile c.side-side.ensures.tiled c.requires.tile c.args.edge,
+      c.start_of-start.ensures,
+    )
 
 pub slice_bounds-copy_cells-end : goal.slice_bounds-copy_cells-end
 slice_bounds-copy_cells-end c =

@@ -4,9 +4,26 @@ use Rattle.grid_core.specs.{declared.rect.Rect.Rect, Raster.Raster}
 use Rattle.tiled_image.specs.{RaisedTiles.IsStripWritten, Rims.start_of, Rims.strip_at, Rims.strip_of, Shown.CanCopy}
 use Rattle.tiled_image.specs.Shown.{IsStripCopied, as_image, cell_in}
 use Rattle.tiled_image.proofs.{CopiedStrips.part_long, StripCopies.strip_cell}
-use Rattle.tiled_image.proofs.Strips.{strip_ends, tile_strip_within}
+use Rattle.tiled_image.proofs.Strips.{start_small, strip_ends, tile_strip_within}
 use Rattle.tiled_image.proofs.WrittenRims.{can_write_strip, strip_written}
 use Rattle.tiled_image.proofs.rims.write_strip.Goals as goal
+
+pub overflow_add-end : goal.overflow_add-end
+overflow_add-end c =
+    omega (
+      arith,
+      start_small c.args.tiling.now c.args.tile c.side-side.ensures.tiled c.requires.tile c.args.edge,
+      c.start_of-start.ensures,
+      c.side-side.ensures.value,
+    )
+
+pub offset_bounds-values-start : goal.offset_bounds-values-start
+offset_bounds-values-start c =
+    omega (
+      arith,
+      start_small c.args.tiling.now c.args.tile c.side-side.ensures.tiled c.requires.tile c.args.edge,
+      c.start_of-start.ensures,
+    )
 
 pub slice_bounds-copy_cells-end : goal.slice_bounds-copy_cells-end
 slice_bounds-copy_cells-end c =

@@ -76,35 +76,43 @@ join_raised-requires-clause-above c =
     (of_core tiled core view stored (λ rect whole. AreBoundsAbove rect rect.h whole pixels c.bounds_over-above.result)
     tile (c.bounds_over-above.ensures pixels piece c.rim.ensures below))
 
+pub join_raised-requires-clause-joinable : goal.join_raised-requires-clause-joinable
+join_raised-requires-clause-joinable c = c.requires.joinable
+
+pub join_raised-requires-clause-swept : goal.join_raised-requires-clause-swept
+join_raised-requires-clause-swept c = c.pixels-pixels.ensures.swept
+
+pub returns-then-is_unchanged-clause-joined : goal.returns-then-is_unchanged-clause-joined
+returns-then-is_unchanged-clause-joined c = c.join_raised.ensures.joined
+
+pub returns-then-is_unchanged-clause-err : goal.returns-then-is_unchanged-clause-err
+returns-then-is_unchanged-clause-err c = c.join_raised.ensures.err
+
 -- ---- where it is not
 
--- the image that is held is the tile, raised to what the sweep gave
-raised_is : (core : Core) (t tile : ℕ) (pixels held raised part : Raster) → tile ≡ t → held ≡ pixels → part ≡ raised
-    → IsRaisedPart (tile_rect core tile) core.image held raised → IsRaisedPart (tile_rect core t) core.image pixels part
-raised_is core t tile pixels held raised part tile_is held_is part_is is_raised =
-    subst (IsRaisedPart (tile_rect core t) core.image pixels) (sym part_is)
-    (subst (λ (r : Raster). IsRaisedPart (tile_rect core t) core.image r raised) held_is
-    (subst (λ n. IsRaisedPart (tile_rect core n) core.image held raised) tile_is is_raised))
-
--- the core once its tile is folded
-abbrev folded : goal.After-rim-2-1 → Core
-folded c = core_of (record c.self-2.inside { image = c.fold.new.self })
-
-part_is_raised : (c : goal.After-rim-2-1)
-    → IsRaisedPart (tile_rect (folded c) c.args.swept.now.job.ticket.tile) (folded c).image c.args.swept.now.pixels
-    (arc_value c.in_ok-held.held)
-part_is_raised c =
-    raised_is (folded c) c.args.swept.now.job.ticket.tile c.ticket-tile.result.tile c.args.swept.now.pixels
-    c.pixels-pixels.result.now c.in_ok-raised.raised (arc_value c.in_ok-held.held)
-    (ap (λ (k : Ticket). k.tile) c.ticket-tile.ensures) c.pixels-pixels.ensures.value c.in_ok-held.ensures.ok
-    c.in_ok-raised.ensures
+-- the part is the tile, raised to what the sweep gave
+raised_is : (core : Core) (t tile : ℕ) (pixels held part : Raster) → tile ≡ t → held ≡ pixels
+    → IsRaisedPart (tile_rect core tile) core.image held part → IsRaisedPart (tile_rect core t) core.image pixels part
+raised_is core t tile pixels held part tile_is held_is is_raised =
+    subst (λ (r : Raster). IsRaisedPart (tile_rect core t) core.image r part) held_is
+    (subst (λ n. IsRaisedPart (tile_rect core n) core.image held part) tile_is is_raised)
 
 pub join_raised-requires-2-clause-part : goal.join_raised-requires-2-clause-part
 join_raised-requires-2-clause-part c =
-    raised_raises (tile_rect (folded c) c.args.swept.now.job.ticket.tile) (folded c).image c.args.swept.now.pixels
-    (arc_value c.in_ok-held.held) (part_is_raised c)
+    let core = core_of (record c.self-2.inside { image = c.fold.new.self }) in
+    let tile = c.args.swept.now.job.ticket.tile in
+    let pixels = c.args.swept.now.pixels in
+    let part = arc_value c.in_ok-held.held in
+    raised_raises (tile_rect core tile) core.image pixels part
+    (raised_is core tile c.ticket-tile.result.tile pixels c.pixels-pixels.result.now part
+    (ap (λ (k : Ticket). k.tile) c.ticket-tile.ensures) c.pixels-pixels.ensures.value c.in_ok-held.ensures.raised)
 
 pub join_raised-requires-2-clause-inside : goal.join_raised-requires-2-clause-inside
 join_raised-requires-2-clause-inside c =
-    raised_is_above (tile_rect (folded c) c.args.swept.now.job.ticket.tile) (folded c).image c.args.swept.now.pixels
-    (arc_value c.in_ok-held.held) (part_is_raised c)
+    let core = core_of (record c.self-2.inside { image = c.fold.new.self }) in
+    let tile = c.args.swept.now.job.ticket.tile in
+    let pixels = c.args.swept.now.pixels in
+    let part = arc_value c.in_ok-held.held in
+    raised_is_above (tile_rect core tile) core.image pixels part
+    (raised_is core tile c.ticket-tile.result.tile pixels c.pixels-pixels.result.now part
+    (ap (λ (k : Ticket). k.tile) c.ticket-tile.ensures) c.pixels-pixels.ensures.value c.in_ok-held.ensures.raised)

@@ -1,5 +1,7 @@
 -- What the tactics leave open of `raised_by`.
-use Rattle.std.proofs.lemmas.Result.{IfOk-weaker}
+use Rattle.std.proofs.Common.{subst, sym}
+use Rattle.grid_core.specs.Raster.{Raster}
+use Rattle.core_rules.specs.Sweeps.{tile_rect}
 use Rattle.reset_core.specs.Parts.{IsPieceFor, IsRaisedPart}
 use Rattle.tiled_core.proofs.StoredCore.{is_kept_tile, kept_tile_fits, of_core, of_kept}
 use Rattle.tiled_core.proofs.replica.TiledCore.raised_by.Goals as goal
@@ -18,8 +20,9 @@ raised_part-requires-clause-piece c =
       height = c.requires.height;
     })
 
-pub returns : goal.returns
-returns c =
-    IfOk-weaker c.raised_part.result _ _ (λ raised is.
-    of_core c.self.inside c.args.self.now c.self.view_is c.self.invariant
-    (λ rect whole. IsRaisedPart rect whole c.args.piece.now raised) c.args.tile is) c.raised_part.ensures
+pub returns-clause-raised : goal.returns-clause-raised
+returns-clause-raised c =
+    subst (λ (part : Raster). IsRaisedPart (tile_rect c.args.self.now c.args.tile) c.args.self.now.image
+    c.args.piece.now part) (sym c.in_ok-held.ensures.ok)
+    (of_core c.self.inside c.args.self.now c.self.view_is c.self.invariant
+    (λ rect whole. IsRaisedPart rect whole c.args.piece.now c.in_ok-raised.raised) c.args.tile c.in_ok-raised.ensures)

@@ -24,8 +24,8 @@ invariant_of-result c =
     (ap length c.in-Ok-empty.ensures ∙ length-replicate count false ∙ c.count-count.ensures.value)
     (no_copies_are c.args.tiling c.args.rows count c.in-Ok-none.copies c.count-count.ensures.value c.in-Ok-none.ensures)
 
-pub returns-in-Ok-empty-2-clause-image : goal.returns-in-Ok-empty-2-clause-image
-returns-in-Ok-empty-2-clause-image c =
+pub returns-in-Ok-none-clause-image : goal.returns-in-Ok-none-clause-image
+returns-in-Ok-none-clause-image c =
     let count = c.count-count.result in
     let size : IsOfTiling c.args.tiling c.args.rows = record {
       tiled = c.count-count.ensures.tiled;

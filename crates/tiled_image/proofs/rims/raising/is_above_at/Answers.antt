@@ -1,8 +1,25 @@
 -- What the tactics leave open of `is_above_at`.
 use Rattle.std.proofs.Common.{◌+◌, ◌≤◌, length, slice_range, ◌∙◌, arith}
 use Rattle.tiled_image.specs.Rims.{strip_at}
-use Rattle.tiled_image.proofs.{RimsAbove.strip_below, Strips.strip_ends}
+use Rattle.tiled_image.proofs.{RimsAbove.strip_below, Strips.start_small, Strips.strip_ends}
 use Rattle.tiled_image.proofs.rims.raising.is_above_at.Goals as goal
+
+pub overflow_add-end : goal.overflow_add-end
+overflow_add-end c =
+    omega (
+      arith,
+      start_small c.args.tiling.now c.args.tile c.side-side.ensures.tiled c.requires.tile c.args.edge,
+      c.start_of-start.ensures,
+      c.side-side.ensures.value,
+    )
+
+pub offset_bounds-values-start : goal.offset_bounds-values-start
+offset_bounds-values-start c =
+    omega (
+      arith,
+      start_small c.args.tiling.now c.args.tile c.side-side.ensures.tiled c.requires.tile c.args.edge,
+      c.start_of-start.ensures,
+    )
 
 pub slice_bounds-is_part_below-end : goal.slice_bounds-is_part_below-end
 slice_bounds-is_part_below-end c =

@@ -3,8 +3,25 @@ use Rattle.std.proofs.Common.{◌≡◌, ◌+◌, ◌*◌, ◌≤◌, length, sl
 use Rattle.grid_core.specs.declared.rect.Rect.{Rect}
 use Rattle.tiled_image.specs.{Rims.strip_at, Rims.strip_of, Shown.CanCopy, Shown.as_image}
 use Rattle.tiled_image.proofs.{CopiedStrips.part_long, RaisedBorders.strip_raised, Sides.can_fill}
-use Rattle.tiled_image.proofs.Strips.{strip_ends, tile_strip_within}
+use Rattle.tiled_image.proofs.Strips.{start_small, strip_ends, tile_strip_within}
 use Rattle.tiled_image.proofs.rims.raising.raise_border_at.Goals as goal
+
+pub overflow_add-end : goal.overflow_add-end
+overflow_add-end c =
+    omega (
+      arith,
+      start_small c.args.tiling.now c.args.tile c.side-side.ensures.tiled c.requires.tile c.args.edge,
+      c.start_of-start.ensures,
+      c.side-side.ensures.value,
+    )
+
+pub offset_bounds-values-start : goal.offset_bounds-values-start
+offset_bounds-values-start c =
+    omega (
+      arith,
+      start_small c.args.tiling.now c.args.tile c.side-side.ensures.tiled c.requires.tile c.args.edge,
+      c.start_of-start.ensures,
+    )
 
 pub slice_bounds-raise_cells-end : goal.slice_bounds-raise_cells-end
 slice_bounds-raise_cells-end c =

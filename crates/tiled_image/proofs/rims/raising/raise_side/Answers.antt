@@ -33,6 +33,15 @@ slice_bounds-raise_row-end c =
     ) in
     within
 
+pub offset_bounds-values-start : goal.offset_bounds-values-start
+offset_bounds-values-start c =
+    let a = c.args in
+    omega (
+      arith,
+      c.start_of-start.ensures,
+      start_small a.tiling.now a.tile c.side.ensures.tiled c.requires.tile a.edge,
+    )
+
 pub returns : goal.returns
 returns c =
     let a = c.args in

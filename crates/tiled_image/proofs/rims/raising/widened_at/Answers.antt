@@ -1,7 +1,8 @@
 -- What the tactics leave open of `widened_at`.
-use Rattle.std.proofs.Common.{◌+◌, ◌≤◌, length, ap, ◌∙◌, arith}
+use Rattle.std.proofs.Common.{◌+◌, ◌*◌, ◌≤◌, length, ap, sym, ◌∙◌, arith}
+use Rattle.grid_core.specs.declared.rect.Rect.{Rect}
 use Rattle.tiled_image.specs.{Rims.strip_at, Sides.side_of}
-use Rattle.tiled_image.proofs.{RaisedRims.side_ends, RimsAbove.widened_strip}
+use Rattle.tiled_image.proofs.{CopiedStrips.part_long, RaisedRims.side_ends, RimsAbove.widened_strip}
 use Rattle.tiled_image.proofs.Strips.{start_small, tile_strip_within}
 use Rattle.tiled_image.proofs.rims.raising.widened_at.Goals as goal
 
@@ -41,6 +42,29 @@ slice_bounds-widened_by_line-end c =
       c.requires.count,
     ) in
     within
+
+-- a value and a limit for each pixel of the strip
+pub widened_by_line-requires-clause-limits : goal.widened_by_line-requires-clause-limits
+widened_by_line-requires-clause-limits c =
+    let strip_is = c.strip_at-strip.ensures ∙ ap (strip_at c.args.edge) c.rect.ensures.value in
+    ap length c.side_of-side.ensures ∙ c.requires.rim c.args.edge
+    ∙ ap (λ (r : Rect). r.w * r.h) (sym strip_is)
+
+pub widened_by_line-requires-clause-values : goal.widened_by_line-requires-clause-values
+widened_by_line-requires-clause-values c =
+    let a = c.args in
+    let strip_is = c.strip_at-strip.ensures ∙ ap (strip_at a.edge) c.rect.ensures.value in
+    let within : c.start_of-start.result + length c.side_of-side.result.now ≤ length a.values.now =
+    omega (
+      arith,
+      side_ends a.tiling.now a.tile c.side.ensures.tiled c.requires.tile a.edge (side_of a.edge a.rim.now)
+          (c.requires.rim a.edge),
+      ap length c.side_of-side.ensures,
+      c.start_of-start.ensures,
+      c.requires.count,
+    ) in
+    part_long a.values.now c.start_of-start.result (length c.side_of-side.result.now) within
+    ∙ ap length c.side_of-side.ensures ∙ c.requires.rim a.edge ∙ ap (λ (r : Rect). r.w * r.h) (sym strip_is)
 
 pub returns : goal.returns
 returns c =

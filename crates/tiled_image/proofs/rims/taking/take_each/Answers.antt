@@ -7,7 +7,7 @@ use Rattle.tile_work.specs.TileSet.{Has}
 use Rattle.tiled_image.specs.OwnRims.{ArePartTaken}
 use Rattle.tiled_image.proofs.CopiedStrips.{part_long, part_replaced}
 use Rattle.tiled_image.proofs.OwnRims.{HoldsBefore, all_part_taken, by_fours, none_more_taken, none_part_taken}
-use Rattle.tiled_image.proofs.OwnRims.{one_more_taken}
+use Rattle.tiled_image.proofs.OwnRims.{one_more_taken, part_small}
 use Rattle.tiled_image.proofs.rims.taking.take_each.Goals.{else-contains, then-contains}
 use Rattle.tiled_image.proofs.rims.taking.take_each.Goals as goal
 
@@ -24,6 +24,18 @@ room_within n count side room total below room_is total_is =
     mul-le (n + 1) (4 * side) count (4 * side) (omega (arith, below)) (omega arith) in
     let last : n * (4 * room) + 4 * room ≡ n * (4 * side) + 4 * side = ap (λ k. n * (4 * k) + 4 * k) room_is in
     omega (arith, rows, last, total_is)
+
+pub offset_bounds-values-start : goal.offset_bounds-values-start
+offset_bounds-values-start c =
+    let a = c.args in
+    omega (
+      arith,
+      room_within c.loop-n.n a.count a.tiling.now.side c.side.result (length c.loop-n.values) c.loop-n-test.true
+          c.side.ensures.value (c.loop-n.auto.values ∙ c.requires.room_is),
+      c.loop-n.auto.values,
+      c.requires.room_is,
+      part_small a.tiling.now a.first a.count c.side.ensures.tiled c.requires.within,
+    )
 
 pub loop-n-preserved : goal.loop-n-preserved
 loop-n-preserved c =
