@@ -21,7 +21,8 @@ use std::marker::Model;
 use std::sync::Wait;
 use std::sync::atomic::{AtomicBool, Ordering};
 use std::thread;
-use std::time::{Clock, Duration};
+use std::thread::Parker;
+use std::time::Duration;
 use tile_generations::{Job, Ticket};
 
 // How many turns in a row with nothing to do a hand makes before it rests.
@@ -223,7 +224,7 @@ impl Hand {
     /// to 400 in the end, so that processors are left to others. A report that is held at the end is sent by a later
     /// turn, if there is one.
     #[tactic(auto, using(crate::proofs::Turns::one_step_more, crate::proofs::Turns::no_step_more))]
-    pub fn run<G: Gate, R: Wait + Clock>(&mut self, rt: &R, gate: &G, done: &AtomicBool)
+    pub fn run<G: Gate, R: Wait>(&mut self, rt: &R, gate: &G, done: &AtomicBool)
         ensures turns { (answers : List Answer) × AreTurns self.old answers self.new }
         ensures reported { AreReported self.new.got (reports self.new) }
         ensures same { IsSameHand self.old self.new }
@@ -241,7 +242,7 @@ impl Hand {
 
     // Makes one turn, or none where the flag was read as set, behind so many that had nothing to do. It says whether
     // running ends: by the flag, and by nothing that a turn answers.
-    fn ends<G: Gate, R: Clock>(&mut self, rt: &R, gate: &G, is_set: bool, idle: &mut u32) -> bool
+    fn ends<G: Gate, R: Wait>(&mut self, rt: &R, gate: &G, is_set: bool, idle: &mut u32) -> bool
         ensures flag { result ≡ is_set }
         ensures step { IsStep self.old result self.new }
         ensures reported { AreReported self.new.got (reports self.new) }
@@ -260,17 +261,21 @@ impl Hand {
 }
 
 // Yields the processor, or rests where that was done many times in a row, and longer the more often it has rested.
-fn wait<R: Clock>(rt: &R, idle: &mut u32) {
+// Nobody ends a rest but the time.
+fn wait<R: Wait>(rt: &R, idle: &mut u32) {
     if *idle < YIELDS {
         thread::yield_now();
     } else {
-        thread::sleep(rt, Duration::from_micros(rest_behind(*idle - YIELDS)));
+        let rest = Duration::from_micros(rest_behind(*idle - YIELDS));
+        Parker::new().park_timeout(rt, rest);
     }
     *idle = idle.saturating_add(1);
 }
 
 // How many microseconds a hand rests behind so many rests in a row.
-fn rest_behind(rests: u32) -> u64 {
+fn rest_behind(rests: u32) -> u64
+    ensures { result ≤ 400 }
+{
     match rests / RESTS {
         0 => 50,
         1 => 100,

@@ -6,7 +6,6 @@ use reset_core::Core;
 use std::sync::Wait;
 use std::sync::atomic::{AtomicBool, Ordering};
 use std::thread::{Threads, scope, scope_env};
-use std::time::Clock;
 use steal_pool::{Hand, Open};
 use stroke_core::{Stroke, Tag};
 use stroke_lattice::State;
@@ -21,7 +20,7 @@ fn studio_on_row<R: Wait + AllocGlobal>(rt: &R) -> Option<Studio> {
 }
 
 // Makes turns until no work is left, with the hand in a thread of its own.
-fn grow<R: Threads + Wait + Clock + Sync>(rt: &R, keeper: &mut Keeper, mut hand: Hand) {
+fn grow<R: Threads + Wait + Sync>(rt: &R, keeper: &mut Keeper, mut hand: Hand) {
     let done = &AtomicBool::new(false);
     scope(scope_env(), rt, |scope| {
         let is_at_work = scope.spawn(move || hand.run(rt, &Open, done)).is_ok();
@@ -35,10 +34,7 @@ fn grow<R: Threads + Wait + Clock + Sync>(rt: &R, keeper: &mut Keeper, mut hand:
 }
 
 // Submits a stroke of level 5 at the first pixel, grows it, and prints what an eye sees: pixels, and if they are final.
-fn draw<R: Print + Threads + Wait + Clock + Sync + AllocGlobal>(
-    rt: &R,
-    studio: &mut Studio,
-) -> Option<()> {
+fn draw<R: Print + Threads + Wait + Sync + AllocGlobal>(rt: &R, studio: &mut Studio) -> Option<()> {
     let edit = State::placed(rt.alloc(), Tag(1), Stroke::disc(5, 0, 0, 0).ok()?).ok()?;
     studio.pens.first_mut()?.submit(edit).ok()?;
     grow(rt, &mut studio.keeper, studio.hands.pop()?);

@@ -10,7 +10,6 @@ use std::sync::atomic::{AtomicBool, AtomicU64, Ordering};
 use std::sync::{Arc, Wait};
 use std::thread;
 use std::thread::{Scope, Threads};
-use std::time::Clock;
 use steal_pool::{Hand, Open};
 use stroke_lattice::{Delta, State};
 use studio::{Eye, Glimpse, Keeper, Studio};
@@ -153,7 +152,7 @@ fn watches<'s, E>(alloc: Global, scope: &Scope<'s, E>, eye: Option<Eye>, found: 
 
 // ---- hands and the keeper
 
-fn works<'s, E, R: Wait + Clock + Sync>(
+fn works<'s, E, R: Wait + Sync>(
     rt: &'s R,
     scope: &Scope<'s, E>,
     hand: Option<Hand>,
@@ -190,7 +189,7 @@ fn keeps<R: Threads + Wait + Sync>(rt: &R, keeper: &mut Keeper, found: &Found) -
 }
 
 // Lets all that take part in a studio work at once, and says whether the keeper came to an end and nothing was wrong.
-fn work<R: Threads + Wait + Clock + Sync>(
+fn work<R: Threads + Wait + Sync>(
     rt: &R,
     alloc: Global,
     keeper: &mut Keeper,
@@ -222,7 +221,7 @@ fn has_all(core: &Core) -> bool {
 }
 
 // Lets the crowd work, and ends the studio: its core, and whether all went as it has to.
-fn ends<R: Threads + Wait + Clock + Sync>(rt: &R, alloc: Global, studio: Studio) -> (Core, bool) {
+fn ends<R: Threads + Wait + Sync>(rt: &R, alloc: Global, studio: Studio) -> (Core, bool) {
     let Studio {
         mut keeper,
         pens,
@@ -237,18 +236,14 @@ fn ends<R: Threads + Wait + Clock + Sync>(rt: &R, alloc: Global, studio: Studio)
 }
 
 // The same of a studio on this mask with as many of each as there may be.
-fn ended<R: Threads + Wait + Clock + Sync>(
-    rt: &R,
-    alloc: Global,
-    mask: Mask,
-) -> Option<(Core, bool)> {
+fn ended<R: Threads + Wait + Sync>(rt: &R, alloc: Global, mask: Mask) -> Option<(Core, bool)> {
     let core = mask.core(alloc, Conn::Eight)?;
     let studio = Studio::open(rt, alloc, core, PENS, 16, 16).ok()?;
     Some(ends(rt, alloc, studio))
 }
 
 // Whether it leaves a core that took each edit once, on which is what grows from them.
-fn is_so<R: Threads + Wait + Clock + Sync>(rt: &R, alloc: Global, mask: Mask) -> bool {
+fn is_so<R: Threads + Wait + Sync>(rt: &R, alloc: Global, mask: Mask) -> bool {
     match ended(rt, alloc, mask) {
         Some((core, is_right)) => {
             let is_so = is_right & has_all(&core) & is_grown(alloc, &core);

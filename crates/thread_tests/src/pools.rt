@@ -10,7 +10,6 @@ use std::sync::{Arc, Wait};
 use std::test::Fail;
 use std::thread;
 use std::thread::Threads;
-use std::time::Clock;
 use steal_pool::{Gate, Hand, Owner, Pool, Report};
 use tile_generations::{Job, Swept, Ticket};
 
@@ -112,7 +111,7 @@ fn comes_back(alloc: Global, owner: &mut Owner) -> Outcome {
 }
 
 // The same while the second of three hands runs in a thread of its own.
-fn comes_from_thread<R: Threads + Wait + Clock + Sync>(
+fn comes_from_thread<R: Threads + Wait + Sync>(
     rt: &R,
     alloc: Global,
     owner: &mut Owner,
