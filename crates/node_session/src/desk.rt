@@ -20,7 +20,7 @@ use tiled_core::TiledCore;
 const TURNS: u32 = 64;
 
 /// Where so many jobs are out, the keeper settles in bands, which takes less time than hands do.
-const MANY_JOBS: usize = 64;
+const MANY_JOBS: usize = 8;
 
 /// How many tiles the keeper sweeps in a tick at most, so that the node hears and sends now and then.
 const SWEEPS: u64 = 4096;

@@ -261,7 +261,7 @@ impl Hand {
 }
 
 // Yields the processor, or rests where that was done many times in a row, and longer the more often it has rested.
-// Nobody ends a rest but the time.
+// A rest may also end early by itself.
 fn wait<R: Wait>(rt: &R, idle: &mut u32) {
     if *idle < YIELDS {
         thread::yield_now();

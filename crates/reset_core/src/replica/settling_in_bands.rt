@@ -28,6 +28,9 @@ const SHARED_TILES: usize = 64;
 // At most how often a band sweeps tiles in a round that has an end.
 const SWEEPS_OF_BAND: u64 = 256;
 
+// At most how often this thread sweeps tiles before the first round: most small edits end there.
+const SWEEPS_BEFORE: u64 = 64;
+
 // At most how often this thread sweeps tiles between two rounds.
 const SWEEPS_BETWEEN: u64 = 32;
 
@@ -35,9 +38,9 @@ impl Core {
     /// Works like [`settle_within`](Core::settle_within), with the tiles swept by up to so many threads: the rows of
     /// tiles are cut into bands, each of which is swept by a thread of its own but for the tiles that touch another
     /// band, while this thread waits. So it goes on in rounds with other cuts while tiles are dirty. Where fewer than
-    /// 64 are at first, where there are not two for each band, and where all dirty tiles lie along cuts, this thread
-    /// sweeps up to 32 times before the next round. With fewer than 64 jobs, and where memory for bands is wanting, it
-    /// sweeps what is left.
+    /// 64 are at first, this thread sweeps up to 64 times before the first round, and where there are not two for each
+    /// band, or all dirty tiles lie along cuts, up to 32 times before the next one. With fewer than 64 jobs, and where
+    /// memory for bands is wanting, it sweeps what is left.
     ///
     /// Which tiles are swept in which order is not said, and what comes of it is the same: the reconstruction, where no
     /// work is left. No more tiles are swept than there is work.
@@ -148,7 +151,7 @@ impl Core {
             )
     }
 
-    // Where few tiles are dirty, sweeps up to 32 times in this thread, and says how often: none where memory is
+    // Where few tiles are dirty, sweeps up to 64 times in this thread, and says how often: none where memory is
     // wanting.
     fn sweep_few(&mut self, alloc: Global, swept: &mut TileSet, jobs: u64) -> u64
         requires left { HasOnlySweeps self.old }
@@ -159,7 +162,7 @@ impl Core {
         if self.count_dirty(SHARED_TILES) == SHARED_TILES {
             return 0;
         }
-        self.sweep_alone(alloc, swept, jobs)
+        self.sweep_alone(alloc, swept, jobs.min(SWEEPS_BEFORE))
     }
 
     // Sweeps dirty tiles round after round, and says how often tiles were swept. It stops where none is dirty, and
@@ -209,7 +212,7 @@ impl Core {
     {
         let bands = (shares.cuts.len() as u64).saturating_add(1);
         if self.count_by_rows(&mut shares.dirty) / 2 < bands {
-            return self.sweep_alone(alloc, swept, jobs);
+            return self.sweep_alone(alloc, swept, jobs.min(SWEEPS_BETWEEN));
         }
         shares.share_out_beside_few(rows_of(&self.tiling()));
         let most = SWEEPS_OF_BAND.saturating_mul(bands).min(jobs);
@@ -217,18 +220,17 @@ impl Core {
         if in_bands > 0 {
             return in_bands;
         }
-        self.sweep_alone(alloc, swept, jobs)
+        self.sweep_alone(alloc, swept, jobs.min(SWEEPS_BETWEEN))
     }
 
-    // Sweeps the least dirty tile again and again in this thread, 32 times at most, and says how often: none where
-    // memory is wanting.
+    // Sweeps the least dirty tile again and again in this thread, and says how often: none where memory is wanting.
     fn sweep_alone(&mut self, alloc: Global, swept: &mut TileSet, jobs: u64) -> u64
         requires left { HasOnlySweeps self.old }
         requires count { length swept.old ≡ length self.old.tiles }
         ensures swept { AreSweptInto self.old swept.old self.new swept.new result }
         ensures at_most { result ≤ jobs }
     {
-        let Ok(done) = self.sweep_within(alloc, swept, jobs.min(SWEEPS_BETWEEN)) else {
+        let Ok(done) = self.sweep_within(alloc, swept, jobs) else {
             return 0;
         };
         done

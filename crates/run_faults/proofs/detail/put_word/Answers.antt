@@ -1,4 +1,4 @@
-use Rattle.std.proofs.{Common.List, Common.ℕ, Common.subst, Common.sym, Common.codes, lemmas.Result.err_from_is_err_and}
+use Rattle.std.proofs.{Common.List, Common.ℕ, Common.subst, Common.codes, lemmas.Result.err_from_is_err_and}
 use Rattle.byte_devices.specs.Transfer.{PutsAll}
 use Rattle.run_faults.proofs.Lines.{goes_on, stops}
 use Rattle.run_faults.proofs.detail.put_word.Goals as goal

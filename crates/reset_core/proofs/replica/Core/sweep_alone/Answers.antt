@@ -3,7 +3,7 @@ use Rattle.reset_core.proofs.replica.Core.sweep_alone.Goals as goal
 
 pub returns-clause-swept : goal.returns-clause-swept
 returns-clause-swept c =
-    worked_off_swept c.min.result c.args.self.now c.sweep_within.new.self c.args.swept.now c.sweep_within.new.swept
+    worked_off_swept c.args.jobs c.args.self.now c.sweep_within.new.self c.args.swept.now c.sweep_within.new.swept
     c.in-Ok.done c.in-Ok.ensures.works
 
 pub returns-in_default-clause-swept : goal.returns-in_default-clause-swept
