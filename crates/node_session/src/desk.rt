@@ -32,7 +32,8 @@ pub(crate) struct Desk {
 }
 
 impl Desk {
-    /// Makes so many ticks, and rests behind each. Where much is to be swept, up to so many threads do it.
+    /// Settles what is left at first, makes so many ticks, and rests behind each. Where much is to be swept, up to so
+    /// many threads do it.
     pub(crate) fn ticks<R: Threads + Wait + Clock + Sync, L: Link>(
         &mut self,
         rt: &R,
@@ -44,6 +45,8 @@ impl Desk {
         requires { IsOneStudio self.old }
         ensures { WorksOn ticks self.old self.new (L.seen link.old) (L.seen link.new) }
     {
+        // Before the first turn: no job has been pushed yet that hands would sweep in vain.
+        self.settle_in_bands(rt, threads, u64::MAX);
         for _tick in 0..ticks {
             self.tick(rt, alloc, link, threads);
             rest(rt);
@@ -98,8 +101,16 @@ impl Desk {
         ensures settled { MayHaveSettled 4096 (books_of self.old.keeper) (books_of self.new.keeper) }
     {
         if has_many_out(self.keeper.core()) {
-            let _slice = self.keeper.settle_in_bands(rt, threads, SWEEPS);
+            self.settle_in_bands(rt, threads, SWEEPS);
         }
+    }
+
+    // The keeper settles for a slice of so many jobs in bands, by up to so many threads.
+    fn settle_in_bands<R: Threads + Sync>(&mut self, rt: &R, threads: usize, jobs: u64)
+        ensures silent { StaysSilent self.old self.new }
+        ensures settled { MayHaveSettled jobs (books_of self.old.keeper) (books_of self.new.keeper) }
+    {
+        let _slice = self.keeper.settle_in_bands(rt, threads, jobs);
     }
 
     // The keeper shows the core, where there is memory, and the node learns of it.
