@@ -4,6 +4,7 @@
     python3 bench/threads.py crates/benchmarks/out/benchmarks
     python3 bench/threads.py --bands crates/benchmarks/out/benchmarks
     python3 bench/threads.py --keeper crates/benchmarks/out/benchmarks
+    python3 bench/threads.py --turns crates/benchmarks/out/benchmarks
 
 The baseline is compiled and the images are made as run.py does it. README.md says what the columns mean.
 """
@@ -87,9 +88,8 @@ def in_bands(program, source, threads, side, right):
     return settled(program, source, threads, side, right, "bands" if threads else "settle")
 
 
-def settling_row(source, program, baseline, words):
+def settling_row(source, program, baseline, words, word):
     """The row of one image: the baseline and each number of hands in turns, after a run of each to warm up."""
-    word = "studio" if words.keeper else "settle"
     right = baseline_sum(baseline, source)
     whole, figures = [], {hands: [] for hands in HANDS}
     for number in range(words.runs + 1):
@@ -133,12 +133,13 @@ def multiple_of_cells(peak, size):
     return f"{peak / (2 * size ** 2):.1f}" if peak > own else "-"
 
 
-def settling(sources, program, baseline, words):
-    """Print the table of settling."""
-    run.table([f"{words.size} by {words.size}, tile {words.side}", "baseline ms",
+def settling(sources, program, baseline, words, word):
+    """Print the table of settling by a word of the program: with a keeper that settles in bands, or by turns."""
+    how = "in bands" if word == "studio" else "by turns"
+    run.table([f"{how}, {words.size} by {words.size}, tile {words.side}", "baseline ms",
                "0 hands ms", "1 hand ms", "2 hands ms", "3 hands ms", "4 hands ms", "3 over 0",
                "jobs, 0 hands", "1 hand", "3 hands", "memory"],
-              [settling_row(source, program, baseline, words) for source in sources])
+              [settling_row(source, program, baseline, words, word) for source in sources])
 
 
 # ---- Parts, shows, glimpses ----
@@ -190,6 +191,7 @@ def read_words():
     parser.add_argument("--bands", action="store_true", help="settle in bands, and measure nothing else")
     parser.add_argument("--keeper", action="store_true",
                         help="have a studio's keeper settle in bands, and measure nothing else")
+    parser.add_argument("--turns", action="store_true", help="settle by turns, and measure nothing else")
     words = parser.parse_args()
     if words.runs < 1 or words.size < 1:
         parser.error("runs and size are at least 1")
@@ -212,8 +214,11 @@ def main():
     if words.bands:
         bands(sources, program, baseline, words)
         return
-    settling(sources, program, baseline, words)
-    if words.keeper:
+    if not words.turns:
+        settling(sources, program, baseline, words, "studio")
+    if not words.keeper:
+        settling(sources, program, baseline, words, "settle")
+    if words.keeper or words.turns:
         return
     parts_of_jobs(sources, program, baseline, words)
     shows_and_glimpses(program, words)
