@@ -188,10 +188,11 @@ def read_words():
     parser.add_argument("--side", type=int, default=64, metavar="N", help="side of the tiles where it settles (64)")
     parser.add_argument("--families", nargs="+", default=FAMILIES, choices=run.FAMILIES, metavar="FAMILY",
                         help=" ".join(FAMILIES))
-    parser.add_argument("--bands", action="store_true", help="settle in bands, and measure nothing else")
-    parser.add_argument("--keeper", action="store_true",
-                        help="have a studio's keeper settle in bands, and measure nothing else")
-    parser.add_argument("--turns", action="store_true", help="settle by turns, and measure nothing else")
+    alone = parser.add_mutually_exclusive_group()
+    alone.add_argument("--bands", action="store_true", help="settle in bands, and measure nothing else")
+    alone.add_argument("--keeper", action="store_true",
+                       help="have a studio's keeper settle in bands, and measure nothing else")
+    alone.add_argument("--turns", action="store_true", help="settle by turns, and measure nothing else")
     words = parser.parse_args()
     if words.runs < 1 or words.size < 1:
         parser.error("runs and size are at least 1")

@@ -7,8 +7,8 @@ It takes two minutes, where a proof takes an hour. What it builds is not proved,
 code is wrong it may do anything. So it is for trials alone; figures that stand are those of a proved program.
 
 `rt try` compiles the crate with checks at each step. This script has it do so with a copy of the kit, made of links,
-whose compiler keeps what it was given, takes the checks out of that, and compiles it as `rt run` compiles what was
-proved. It rests on how this kit's `rt try` goes about it (rattle-kit-13f), and says so where that has changed.
+whose compiler keeps what it was given, takes the checks out of that, and compiles it with optimisation. It rests on how
+`rt try` of the kit rattle-kit-13f goes about it, and says so where it finds no checks to take out.
 """
 
 import argparse
@@ -21,7 +21,7 @@ import tempfile
 
 ROOT = pathlib.Path(__file__).resolve().parents[1]
 TARGET = "x86_64-unknown-linux-gnu"
-KEEPER = """#!/bin/sh
+COMPILER = """#!/bin/sh
 for word in "$@"; do
     case "$word" in *.bc) cp "$word" "{kept}/$$.bc";; esac
 done
@@ -62,7 +62,7 @@ def kit_that_keeps(kit, folder):
     link_all(kit / "toolchain", copy / "toolchain", ("bin",))
     link_all(kit / "toolchain/bin", copy / "toolchain/bin", ("clang",))
     clang = copy / "toolchain/bin/clang"
-    clang.write_text(KEEPER.format(kept=kept, clang=kit / "toolchain/bin/clang"))
+    clang.write_text(COMPILER.format(kept=kept, clang=kit / "toolchain/bin/clang"))
     clang.chmod(0o755)
     return copy, kept
 
