@@ -93,7 +93,7 @@ none_told f a (suc n) none =
     ap (λ hs. hs ++ flat_map f (range_with_len (a + 1) n)) (none a (omega arith) (omega arith))
     ∙ none_told f (a + 1) n (λ k low high. none k (omega arith) (omega arith))
 
-last_told : (f : ℕ → List Hint) (a n : ℕ) → ((k : ℕ) → a ≤ k → k < a + n → f k ≡ [])
+pub last_told : (f : ℕ → List Hint) (a n : ℕ) → ((k : ℕ) → a ≤ k → k < a + n → f k ≡ [])
     → flat_map f (range_with_len a (suc n)) ≡ f (a + n)
 last_told f a zero none = let here : a ≡ a + 0 = omega arith in append-nil (f a) ∙ ap f here
 last_told f a (suc n) none =

@@ -6,3 +6,6 @@ pub mod SameEdges
 pub mod InOrder
 pub mod EdgesOpen
 pub mod Bounded
+pub mod SideTiles
+pub mod BySides
+pub mod Entries

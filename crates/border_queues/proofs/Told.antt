@@ -48,7 +48,7 @@ told_around s value old above left right below =
     ∙ ap (λ qs. old ++ to (qs ++ below)) (append_assoc above left right)
     ∙ ap (λ qs. old ++ to (above ++ (qs ++ right) ++ below)) (sym (append-nil left))
 
-range_more : (a n : ℕ) → range_with_len a n ++ (a + n) ∷ [] ≡ range_with_len a (n + 1)
+pub range_more : (a n : ℕ) → range_with_len a n ++ (a + n) ∷ [] ≡ range_with_len a (n + 1)
 range_more a n =
     let same : ℕ → ℕ = λ k. k in
     ap (λ ks. ks ++ (a + n) ∷ []) (sym (map-id (range_with_len a n)))

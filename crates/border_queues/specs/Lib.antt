@@ -9,3 +9,5 @@ pub mod OpenEdges
 pub mod Around
 pub mod Laws
 pub mod Borders
+pub mod Sides
+pub mod Runs

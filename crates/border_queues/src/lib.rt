@@ -21,6 +21,9 @@
 //!
 //! Want of memory is told as a [`QueueError`], whose code is Q1. An inbox with room takes no memory.
 //!
+//! [`HintRuns`] are the same list of hints in less memory: 8 bytes for each, and 32 for each run of one sender,
+//! generation and border.
+//!
 //! Read on in `specs/OpenEdges.antt`, which says what an open edge is and which hints it makes; in
 //! `specs/Around.antt` for the pixels beside a tile; in `specs/Waiting.antt` for inboxes; and in [`laws`]: the hints
 //! are those of the open edges, in raster order.
@@ -31,10 +34,14 @@ mod error;
 mod hint;
 mod inbox;
 pub mod laws;
+mod runs;
+mod sides;
 mod view;
 
 pub use edges::{open_edges, open_edges_around, open_edges_in, room_for_edges};
 pub use error::QueueError;
 pub use hint::Hint;
 pub use inbox::Inbox;
+pub use runs::HintRuns;
+pub use sides::{Side, Sides};
 pub use view::View;
