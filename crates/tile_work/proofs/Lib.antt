@@ -13,6 +13,8 @@ pub mod TileSetUnions
 pub mod TileSetShifts
 pub mod WorkTables
 pub mod WorkTableHints
+pub mod Along
+pub mod BeyondSides
 pub mod Beside
 pub mod Coming
 pub mod HittingCores

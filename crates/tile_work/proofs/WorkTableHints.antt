@@ -1,5 +1,6 @@
 -- Hints that come to the rows of a table: the room that they need, and the work once they have come.
-use Rattle.std.proofs.Common.{◌≡◌, ℕ, ◌+◌, ◌<◌, ◌≤◌, Bool, true, false, cond, List, ◌∷◌, ◌++◌, map, length, get_or, set}
+use Rattle.std.proofs.Common.{◌≡◌, ◌≢◌, ℕ, ◌+◌, ◌<◌, ◌≤◌, Bool, true, false, cond, List, ◌∷◌, ◌++◌, map}
+use Rattle.std.proofs.Common.{length, get_or, set}
 use Rattle.std.proofs.Common.{take, drop, refl, sym, ◌∙◌, ap, subst, arith, inl, inr, Result, Ok, Err, OnOk, []}
 use Rattle.std.proofs.Common.{is_err, ◌==◌, is_some, slice_index}
 use Rattle.std.proofs.lemmas.Bool.{cases_eq, cond-true, cond-false, eq-eqb, ne_eqb}
@@ -22,6 +23,10 @@ pub read_again : (rows : List TileRow) (t : ℕ) (row : TileRow) → t < length 
     → get_or rows t row ≡ get_or rows t (get_or rows t row)
 read_again rows t row within = get_or_default rows t row (get_or rows t row) within
 
+nothing_lost : (test : Bool) → cond test 0 0 ≡ (let none : ℕ = 0 in none)
+nothing_lost true = refl
+nothing_lost false = refl
+
 -- one row gets another inbox
 module _ (rows : List TileRow) (t : ℕ) (row new : TileRow) (within : t < length rows)
     (is : row ≡ get_or rows t row) where
@@ -32,45 +37,46 @@ module _ (rows : List TileRow) (t : ℕ) (row new : TileRow) (within : t < lengt
       ∙ ap (set (works_of rows) t) (same ∙ ap as_work is ∙ sym (get_or-map as_work rows t row idle within))
       ∙ set-get_or (works_of rows) t idle
 
-  rooms_are : rooms_of (set rows t new) ≡ set (rooms_of rows) t new.inbox.room
-  rooms_are = map-set (λ (r : TileRow). r.inbox.room) rows t new
+  -- what is counted at each row, as the room there
+  module _ (says : TileRow → ℕ) where
+    counts_are : map says (set rows t new) ≡ set (map says rows) t (says new)
+    counts_are = map-set says rows t new
 
-  pub room_there : slice_index (rooms_of (set rows t new)) t ≡ new.inbox.room
-  room_there =
-      let mapped : length (rooms_of rows) ≡ length rows = length-map rows (λ (r : TileRow). r.inbox.room) in
-      let in_rooms : t < length (rooms_of rows) = omega (arith, mapped, within) in
-      ap (λ rooms. slice_index rooms t) rooms_are ∙ get_or-set_same (rooms_of rows) t new.inbox.room 0 in_rooms
+    pub count_there : slice_index (map says (set rows t new)) t ≡ says new
+    count_there =
+        let mapped : length (map says rows) ≡ length rows = length-map rows says in
+        let in_counts : t < length (map says rows) = omega (arith, mapped, within) in
+        ap (λ counts. slice_index counts t) counts_are ∙ get_or-set_same (map says rows) t (says new) 0 in_counts
 
-  room_before : slice_index (rooms_of rows) t ≡ row.inbox.room
-  room_before =
-      get_or-map (λ (r : TileRow). r.inbox.room) rows t row 0 within ∙ ap (λ (r : TileRow). r.inbox.room) (sym is)
+    pub count_before : slice_index (map says rows) t ≡ says row
+    count_before = get_or-map says rows t row 0 within ∙ ap says (sym is)
 
-  -- the room at each row, where the inbox has lost at most so many places
-  pub room_left : (used : ℕ) → row.inbox.room ≤ new.inbox.room + used → (u : ℕ)
-      → slice_index (rooms_of rows) u ≤ slice_index (rooms_of (set rows t new)) u + cond (t == u) used 0
-  room_left used fits u = elim (cases_eq u t) [
-    | inl here ↦
-        let was = room_before in
-        let becomes = room_there in
-        let bit : cond (t == t) used 0 ≡ used = ap (λ b. cond b used 0) (eq-eqb t t refl) in
-        subst (λ v. slice_index (rooms_of rows) v ≤ slice_index (rooms_of (set rows t new)) v + cond (t == v) used 0)
-        (sym here) (omega (arith, was, becomes, bit, fits))
-    | inr other ↦
-        let same : slice_index (rooms_of (set rows t new)) u ≡ slice_index (rooms_of rows) u =
-        ap (λ rooms. slice_index rooms u) rooms_are ∙ get_or-set_other (rooms_of rows) t u new.inbox.room 0 other in
-        omega (arith, same)
-  ]
+    pub count_elsewhere : (u : ℕ) → u ≢ t → slice_index (map says (set rows t new)) u ≡ slice_index (map says rows) u
+    count_elsewhere u other =
+        ap (λ counts. slice_index counts u) counts_are ∙ get_or-set_other (map says rows) t u (says new) 0 other
 
-  nothing_lost : (test : Bool) → cond test 0 0 ≡ (let none : ℕ = 0 in none)
-  nothing_lost true = refl
-  nothing_lost false = refl
+    -- the count at each row, where this one has lost at most so many
+    pub count_left : (used : ℕ) → says row ≤ says new + used → (u : ℕ)
+        → slice_index (map says rows) u ≤ slice_index (map says (set rows t new)) u + cond (t == u) used 0
+    count_left used fits u = elim (cases_eq u t) [
+      | inl here ↦
+          let was = count_before in
+          let becomes = count_there in
+          let bit : cond (t == t) used 0 ≡ used = ap (λ b. cond b used 0) (eq-eqb t t refl) in
+          subst (λ v. slice_index (map says rows) v
+          ≤ slice_index (map says (set rows t new)) v + cond (t == v) used 0) (sym here)
+          (omega (arith, was, becomes, bit, fits))
+      | inr other ↦
+          let same = count_elsewhere u other in
+          omega (arith, same)
+    ]
 
-  pub room_kept : row.inbox.room ≤ new.inbox.room → (u : ℕ)
-      → slice_index (rooms_of rows) u ≤ slice_index (rooms_of (set rows t new)) u
-  room_kept grown u =
-      let left = room_left 0 (omega (arith, grown)) u in
-      let none = nothing_lost (t == u) in
-      omega (arith, left, none)
+    pub count_kept : says row ≤ says new → (u : ℕ)
+        → slice_index (map says rows) u ≤ slice_index (map says (set rows t new)) u
+    count_kept grown u =
+        let left = count_left 0 (omega (arith, grown)) u in
+        let none = nothing_lost (t == u) in
+        omega (arith, left, none)
 
 -- ---- one hint is put into the inbox of its row
 
@@ -105,7 +111,7 @@ module _ (rows : List TileRow) (t : ℕ) (row new : TileRow) (hint : Hint) (with
 
 -- ---- the table once hints have come
 
-same_bits : (says : TileWork → Bool) (old new : List TileWork) → length new ≡ length old
+pub same_bits : (says : TileWork → Bool) (old new : List TileWork) → length new ≡ length old
     → ((t : ℕ) → t < length old → says (work_of new t) ≡ says (work_of old t)) → map says new ≡ map says old
 same_bits says old new count same =
     let new_count = length-map new says in
@@ -159,7 +165,7 @@ delivery_starts tiles hints rows waiting room in_step = record {
   room = room;
 }
 
-received_twice : (work : TileWork) (earlier later : List Hint)
+pub received_twice : (work : TileWork) (earlier later : List Hint)
     → received (received work earlier) later ≡ received work (earlier ++ later)
 received_twice work earlier later =
     ap (λ inbox. record work { inbox = inbox }) (append_assoc work.inbox earlier later)

@@ -2,6 +2,7 @@
 pub use Rattle.grid_core.specs.Bounds
 pub use Rattle.grid_core.specs.Tiles
 pub use Rattle.border_queues.specs.OpenEdges
+pub use Rattle.border_queues.specs.Sides
 pub use Rattle.border_queues.specs.TileWork
 pub use Rattle.core_rules.specs.Hits
 pub use Rattle.core_rules.specs.Merge
@@ -11,6 +12,7 @@ pub mod OpenBounds
 pub mod TileSet
 pub mod Beside
 pub mod WorkTable
+pub mod Along
 pub mod Cutting
 pub mod Linking
 pub mod Marks

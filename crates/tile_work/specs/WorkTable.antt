@@ -1,6 +1,7 @@
 -- The work that is left at each tile as the table of a core stores it, and what the table answers.
 use Rattle.std.specs.Prelude.{◌≡◌, ◌≢◌, ℕ, ◌+◌, ◌<◌, ◌≤◌, ◌==◌, Bool, true, false, if◌then◌else◌, List, [], ◌∷◌, map}
-use Rattle.std.specs.Prelude.{not, ◌&&◌, is_some, length, remove, slice_index, slice_set, IsTrue, IsSome, Some, None}
+use Rattle.std.specs.Prelude.{not, ◌&&◌, is_some, length, min, remove, slice_index, slice_set, IsTrue, IsSome}
+use Rattle.std.specs.Prelude.{Some, None}
 use Rattle.grid_core.specs.{Raster.IsInside, Tiles.Tiles, Tiles.AreTouching, Tiles.tile_of}
 use Rattle.border_queues.specs.declared.hint.Hint.{Hint}
 use Rattle.border_queues.specs.TileWork.{TileWork, work_of, received, hints_at}
@@ -70,9 +71,20 @@ as_work row = record {
 abbrev pub works_of : List TileRow → List TileWork
 works_of rows = map as_work rows
 
--- how many more hints there is room for at each row
+-- how many more hints there is room for at a row, wherever they go: each is a run of its own at worst
+abbrev pub room_of : TileRow → ℕ
+room_of row = min row.inbox.room row.inbox.runs
+
+-- so at each row
 abbrev pub rooms_of : List TileRow → List ℕ
-rooms_of rows = map (λ row. row.inbox.room) rows
+rooms_of rows = map room_of rows
+
+-- how many more hints there is room for at each row, and how many more runs
+abbrev pub hint_rooms_of : List TileRow → List ℕ
+hint_rooms_of rows = map (λ row. row.inbox.room) rows
+
+abbrev pub run_rooms_of : List TileRow → List ℕ
+run_rooms_of rows = map (λ row. row.inbox.runs) rows
 
 -- each of these tiles has room for so many more hints
 abbrev pub HaveRooms : List ℕ → List ℕ → List TileRow → Type 0

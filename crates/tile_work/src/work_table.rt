@@ -1,5 +1,6 @@
 //! The table of the work that is left at each tile.
 
+mod along;
 mod beside;
 mod cutting;
 mod delivery;

@@ -4,5 +4,6 @@ pub mod StoredCore
 pub mod HandedOver
 pub mod JoinedTiles
 pub mod Rings
+pub mod ToldEdges
 pub mod Passing
 pub mod QuietCores

@@ -96,14 +96,14 @@ module _ (tiles : Tiles) (t : ℕ) (tiled : IsTiled tiles) (within : t < count_o
   abbrev with_raised : Pixel → ℕ
   with_raised = with_tile tiles t (value_at raised) (value_at image)
 
-  on_tile : (p : Pixel) → IsInRect (rect_of tiles t) p → with_raised p ≡ value_in (rect_of tiles t) raised p
+  pub on_tile : (p : Pixel) → IsInRect (rect_of tiles t) p → with_raised p ≡ value_in (rect_of tiles t) raised p
   on_tile p found = elim (eqb_tells (tile_of tiles p) t) [
     | inl (passes, same) ↦
         ap (λ b. if b then value_at raised (from_corner (rect_of tiles t) p) else value_at image p) passes
     | inr (fails, other) ↦ absurd (other (pixel_in_tile tiles t tiled within p found).1)
   ]
 
-  off_tile : (p : Pixel) → IsInside tiles.width tiles.height p → (IsInRect (rect_of tiles t) p → ⊥)
+  pub off_tile : (p : Pixel) → IsInside tiles.width tiles.height p → (IsInRect (rect_of tiles t) p → ⊥)
       → with_raised p ≡ value_at image p
   off_tile p inside outside = elim (eqb_tells (tile_of tiles p) t) [
     | inl (passes, same) ↦ absurd (outside (rect_from_tile tiles t tiled within p inside same))

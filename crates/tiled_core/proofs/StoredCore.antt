@@ -75,6 +75,11 @@ module _ (tiled : TiledParts) (core : Core) (view : core_of tiled ≡ core) (sto
       subst (λ (image : Raster). P (rect_of tiled.image.tiling t) image) (sym kept_image)
       (subst (λ (r : Rect). P r core.image) (sym (kept_rect t)) held)
 
+  pub of_kept_at : (P : Rect → Raster → Type 0) (t tile : ℕ) → tile ≡ t → P (tile_rect core t) core.image
+      → P (rect_of tiled.image.tiling tile) tiled.image.image
+  of_kept_at P t tile tile_is held =
+      of_kept P tile (subst (λ n. P (tile_rect core n) core.image) (sym tile_is) held)
+
   -- a hint that waits at a tile is for a pixel of the tile's rectangle
   pub goes_to_rect : (t i : ℕ) (hint : Hint) → hint_at (core_of tiled) t i ≡ Some hint
       → IsInRect (tile_rect core t) hint.to_pixel

@@ -27,3 +27,4 @@ pub mod Stored
 pub mod Patches
 pub mod Passing
 pub mod Handing
+pub mod Joining

@@ -25,6 +25,7 @@ pub mod TileRims
 pub mod StripCopies
 pub mod RingTiles
 pub mod Sides
+pub mod Beyond
 pub mod RaisedRims
 pub mod RaisedBorders
 pub mod RimsAbove

@@ -4,6 +4,9 @@ pub use Rattle.grid_core.specs.Raster
 pub use Rattle.grid_core.specs.Rects
 pub use Rattle.grid_core.specs.Tiles
 pub use Rattle.border_queues.specs.Around
+pub use Rattle.border_queues.specs.OpenEdges
+pub use Rattle.border_queues.specs.Sides as AlongSides
+pub use Rattle.border_queues.specs.TileWork
 pub use Rattle.tile_generations.specs.CutMasks
 pub use Rattle.tile_generations.specs.Rims as TileRims
 pub use Rattle.core_rules.specs.Image
@@ -25,5 +28,6 @@ pub mod RaisedTiles
 pub mod Raising
 pub mod AllKept
 pub mod Ring
+pub mod Beyond
 pub mod Lending
 pub mod Settling

@@ -32,6 +32,7 @@ mod comparing;
 mod copying;
 mod renewing;
 mod ring;
+mod telling;
 
 pub use ring::around_of;
 

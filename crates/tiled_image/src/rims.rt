@@ -24,10 +24,12 @@ use std::alloc::Global;
 use std::marker::Model;
 use tile_generations::Rim;
 
+mod beyond;
 mod border;
 mod raising;
 mod taking;
 
+pub(crate) use beyond::sides_at;
 pub(crate) use border::fill_border;
 use border::side_of;
 

@@ -50,7 +50,8 @@ pub(super) fn make_room(
     ensures room { OnOk result (HaveRooms tiles.now counts.now rows.new) }
 {
     for (place, tile) in tiles.iter().enumerate() {
-        if rows[*tile].inbox.reserve(counts[place]).is_err() {
+        let count = counts[place];
+        if rows[*tile].inbox.reserve(count, count).is_err() {
             return Err(Memory);
         }
     }

@@ -4,9 +4,9 @@ ghost use Rattle.std.specs.Prelude.{◌≡◌, ◌+◌, ◌<◌, ◌≤◌, ◌�
 ghost use Rattle.std.specs.Prelude.{IfOk, IsTrue};
 ghost use Rattle.border_queues.specs.TileWork.{fresh};
 ghost use Rattle.tile_work.specs.Cutting.{AreOnlyMarked};
-ghost use Rattle.tile_work.specs.WorkTable.{works_of};
+ghost use Rattle.tile_work.specs.WorkTable.{room_of, works_of};
 
-use border_queues::{Hint, Inbox};
+use border_queues::{Hint, HintRuns};
 use grid_core::Memory;
 use std::alloc::Global;
 
@@ -16,7 +16,7 @@ pub(crate) struct TileRow {
     pub(crate) generation: u64,
     pub(crate) dirty: bool,
     pub(crate) out: Option<u64>,
-    pub(crate) inbox: Inbox,
+    pub(crate) inbox: HintRuns,
 }
 
 impl TileRow {
@@ -24,7 +24,7 @@ impl TileRow {
     pub(crate) fn hint(&self, place: usize) -> Option<Hint>
         ensures { result ≡ slice_get self.now.inbox.hints place }
     {
-        self.inbox.as_slice().get(place).copied()
+        self.inbox.get(place)
     }
 
     /// Takes the hint at this place out of the inbox, and says whether that was the last one there.
@@ -34,19 +34,18 @@ impl TileRow {
         ensures hints { self.new.inbox.hints ≡ remove self.old.inbox.hints place }
         ensures empty { IsTrue result ↔ (self.new.inbox.hints ≡ []) }
     {
-        self.inbox.take_at(place);
+        self.inbox.remove(place);
         self.inbox.is_empty()
     }
 
     /// Puts a hint behind those that wait, where there is room for it.
     pub(crate) fn push_hint(&mut self, hint: Hint)
-        requires { 0 < self.old.inbox.room }
+        requires { 0 < room_of self.old }
         ensures row { self.new ≡ record self.old { inbox = self.new.inbox } }
         ensures hints { self.new.inbox.hints ≡ self.old.inbox.hints ++ hint ∷ [] }
-        ensures room { self.old.inbox.room ≤ self.new.inbox.room + 1 }
+        ensures room { room_of self.old ≤ room_of self.new + 1 }
     {
-        let pushed = self.inbox.push(hint);
-        prove!(pushed.is_ok());
+        self.inbox.push(hint);
     }
 }
 
@@ -62,7 +61,7 @@ pub(crate) fn rows_from(alloc: Global, count: usize, first: u64) -> Result<Vec<T
             generation: first,
             dirty: false,
             out: None,
-            inbox: Inbox::new(alloc),
+            inbox: HintRuns::new(alloc),
         })?;
     }
     Ok(rows)
@@ -81,7 +80,7 @@ pub(crate) fn marked_rows(alloc: Global, rows: &[TileRow]) -> Result<Vec<TileRow
             generation: row.generation,
             dirty: row.dirty,
             out: None,
-            inbox: Inbox::new(alloc),
+            inbox: HintRuns::new(alloc),
         })?;
     }
     Ok(copies)

@@ -2,19 +2,20 @@
 
 ghost use Rattle.std.specs.Prelude.{◌≡◌, ◌*◌, ◌≤◌, ◌↔◌, [], length, IfErr, IfOk, IsTrue, OnErr, OnOk};
 ghost use Rattle.std.specs.Arc.{arc_value};
+ghost use Rattle.grid_core.specs.declared.conn.Conn.TheVariants.{Four};
 ghost use Rattle.grid_core.specs.Raster.{IsImageSize};
 ghost use Rattle.grid_core.specs.Rects.{RectFits};
-ghost use Rattle.tile_generations.specs.{Jobs.IsSwept, Rims.IsRimOf};
+ghost use Rattle.tile_generations.specs.Rims.{IsRimOf};
 ghost use Rattle.core_rules.specs.Image.{IsAtMostPart, IsPart};
 ghost use Rattle.core_rules.specs.Work.{IsTile};
 ghost use Rattle.core_rules.specs.Sweeps.{IsGivenBack, IsJoined, IsKnown, IsNextJob, IsOut, IsReady, IsTaken};
 ghost use Rattle.core_rules.specs.Sweeps.{IsUnchanged, tile_rect};
 ghost use Rattle.reset_core.specs.Answers.{IsJoinable};
-ghost use Rattle.reset_core.specs.Parts.{AreBoundsAbove, IsRaisedPart};
+ghost use Rattle.reset_core.specs.Parts.{IsRaisedPart};
 ghost use Rattle.reset_core.specs.Sweeping.{AreHintsOnceJoined, IsJudged};
-ghost use Rattle.tiled_image.specs.Raising.{IsBelowInside, RaisesAs};
-ghost use Rattle.tiled_image.specs.Shown.{value_in};
+ghost use Rattle.tiled_image.specs.Raising.{RaisesAs};
 ghost use Rattle.tiled_image.specs.Sides.{HasSides};
+ghost use Rattle.tiled_core.specs.Joining.{IsRaising};
 ghost use Rattle.tiled_core.specs.Patches.{patch_of};
 
 use super::TiledCore;
@@ -22,7 +23,7 @@ use border_queues::laws::{edges_are_open, same_image_same_edges};
 use border_queues::{Inbox, View, open_edges_around};
 use core_rules::Back;
 use core_rules::laws::{give_back_keeps_sound, take_keeps_sound};
-use grid_core::{Bounds, Grid, Memory, Rect};
+use grid_core::{Bounds, Conn, Grid, Memory, Rect};
 use reset_core::parts::{counted_from, is_part};
 use std::alloc::Global;
 use std::sync::Arc;
@@ -228,14 +229,59 @@ impl TiledCore {
         above: Bounds,
     ) -> Result<(), Memory>
         requires joinable { IsJoinable self.old swept.now.job }
-        requires swept { IsSwept swept.now }
-        requires part { RaisesAs (tile_rect self.old swept.now.job.ticket.tile) self.old.image swept.now.pixels
-            (arc_value part) }
-        requires inside { IsBelowInside (tile_rect self.old swept.now.job.ticket.tile) self.old.image
-            (value_in (tile_rect self.old swept.now.job.ticket.tile) (arc_value part)) }
-        requires rim { IsRimOf (arc_value part) rim.now }
-        requires above { AreBoundsAbove (tile_rect self.old swept.now.job.ticket.tile)
-            (tile_rect self.old swept.now.job.ticket.tile).h self.old.image swept.now.pixels above }
+        requires raising { IsRaising self.old swept.now (arc_value part) rim.now above }
+        ensures joined { OnOk result (IsJoined self.old swept.now self.new) }
+        ensures err { OnErr result (self.new ≡ self.old) }
+    {
+        match self.conn {
+            Conn::Four => self.join_along(swept, part, rim, above),
+            Conn::Eight => self.join_around(alloc, swept, part, rim, above),
+        }
+    }
+
+    // Does so with four neighbours: what the tile can raise is told by the rims of the tiles beside it.
+    //
+    // Errors: out of memory; nothing has changed then.
+    fn join_along(
+        &mut self,
+        swept: &Swept,
+        part: Arc<Grid>,
+        rim: &Rim,
+        above: Bounds,
+    ) -> Result<(), Memory>
+        requires four { self.old.conn ≡ Four }
+        requires joinable { IsJoinable self.old swept.now.job }
+        requires raising { IsRaising self.old swept.now (arc_value part) rim.now above }
+        ensures joined { OnOk result (IsJoined self.old swept.now self.new) }
+        ensures err { OnErr result (self.new ≡ self.old) }
+    {
+        give_back_keeps_sound();
+        edges_are_open();
+        same_image_same_edges();
+        let tile = swept.ticket().tile;
+        self.image
+            .tell_along(&self.mask_rims, tile, rim, &mut self.work)?;
+        let tiling = self.markers.tiling();
+        self.image.raise(tile, part, rim);
+        self.bounds.set(tile, above);
+        self.beside.leave(&tiling, tile);
+        self.work.end_job(tile);
+        Ok(())
+    }
+
+    // Does so by the pixels around the tile.
+    //
+    // Errors: out of memory; nothing has changed then.
+    fn join_around(
+        &mut self,
+        alloc: Global,
+        swept: &Swept,
+        part: Arc<Grid>,
+        rim: &Rim,
+        above: Bounds,
+    ) -> Result<(), Memory>
+        requires joinable { IsJoinable self.old swept.now.job }
+        requires raising { IsRaising self.old swept.now (arc_value part) rim.now above }
         ensures joined { OnOk result (IsJoined self.old swept.now self.new) }
         ensures err { OnErr result (self.new ≡ self.old) }
     {

@@ -1,7 +1,7 @@
 -- What the tactics leave open of `deliver_one`.
 use Rattle.std.proofs.Common.{List, Bool, ◌≡◌, get_or, set, true, sym, ◌∙◌}
-use Rattle.tile_work.specs.WorkTable.{IsDelivered}
-use Rattle.tile_work.proofs.WorkTableHints.{read_again, room_left, row_received, waiting_received, still_waiting}
+use Rattle.tile_work.specs.WorkTable.{IsDelivered, room_of}
+use Rattle.tile_work.proofs.WorkTableHints.{read_again, count_left, row_received, waiting_received, still_waiting}
 use Rattle.tile_work.proofs.work_table.delivery.deliver_one.Goals.{After-push_hint}
 use Rattle.tile_work.proofs.work_table.delivery.deliver_one.Goals as goal
 
@@ -18,7 +18,7 @@ delivered c waits waits_are =
       works =
           row_received rows tile row c.push_hint.new.self c.args.hint c.requires.tile is c.push_hint.ensures.row
           c.push_hint.ensures.hints;
-      room = room_left rows tile row c.push_hint.new.self c.requires.tile is 1 c.push_hint.ensures.room;
+      room = count_left rows tile row c.push_hint.new.self c.requires.tile is room_of 1 c.push_hint.ensures.room;
       waiting =
           waiting_received rows tile row c.push_hint.new.self c.args.hint c.requires.tile is c.push_hint.ensures.row
           c.push_hint.ensures.hints c.args.waiting.now waits c.requires.waiting waits_are;

@@ -5,17 +5,18 @@ use Rattle.grid_core.specs.{declared.rect.Rect.Rect, Raster.IsImageSize, Raster.
 use Rattle.grid_core.specs.Tiles.{Tiles, IsTiled, count_of, rect_of}
 use Rattle.border_queues.specs.{Around.HasAroundSize, Around.IsRingOf, Around.around_of, OpenEdges.with_tile}
 use Rattle.tile_generations.specs.declared.ticket.Ticket.{Ticket}
-use Rattle.core_rules.specs.{Sweeps.sender_of, Sweeps.tile_rect, Work.IsTile}
+use Rattle.core_rules.specs.{Sweeps.tile_rect, Work.IsTile}
 use Rattle.core_rules.specs.Work as work
-use Rattle.reset_core.proofs.Sweeping.{edges_touch, hints_once_joined, tiling_is, told_are_edges}
+use Rattle.reset_core.proofs.Sweeping.{tiling_is}
 use Rattle.tiled_image.specs.{Rims.AreRimsOf, Ring.HasRimmedRing, Shown.value_in, Sides.HasSides}
 use Rattle.tiled_image.specs.{Raising.greater_of, Sides.HasValues}
 use Rattle.tiled_image.proofs.Sides.{rim_values}
 use Rattle.tiled_core.specs.Patches.{patch_of}
 use Rattle.tiled_core.specs.Stored.{parts_of}
-use Rattle.tiled_core.proofs.JoinedTiles.{raised_of, raised_of_is, ring_is_raised}
+use Rattle.tiled_core.proofs.JoinedTiles.{raised_of, ring_is_raised}
 use Rattle.tiled_core.proofs.Rings.{around_within, look_is_rimmed, look_is_ring, rect_is_sized}
 use Rattle.tiled_core.proofs.StoredCore.{is_kept_tile, kept_image, kept_rect, kept_sound}
+use Rattle.tiled_core.proofs.ToldEdges.{edges_once_joined}
 use Rattle.tiled_core.proofs.replica.TiledCore.hints_once_joined.Goals as goal
 
 -- ---- the tile
@@ -204,18 +205,8 @@ returns-clause-told c part is_rim raises =
     limits_long) c.patch-limits.ensures
     (c.fill_ring.ensures mask (subst (λ (ts : Tiles). AreRimsOf ts mask c.self.inside.mask_rims) (sym tiling.value)
     c.self.invariant.mask_rims)) in
-    let told =
-    told_are_edges parts core tiles c.self.view_is tiling.value tiling.width tiling.height t tile
-    c.generation-generation.result mask raised c.args.inbox.hints c.open_edges_around.new.out.hints
-    refl tile_is c.generation-generation.ensures.value c.requires.empty
+    edges_once_joined c.self.inside core c.args.swept.now tile c.self.view_is c.self.invariant tile_is
+    c.requires.known.is_tile c.edges_are_open.ensures c.same_image_same_edges.ensures tiles
+    c.generation-generation.result c.args.inbox.hints c.open_edges_around.new.out.hints tiling.value
+    c.generation-generation.ensures.value c.requires.empty
     (c.in-Ok.ensures (with_tile tiles tile (value_at raised) (value_at parts.image)) (value_at mask) ring limits).hints
-    in
-    record {
-      hints = λ after joined. told
-          ∙ hints_once_joined core after t pixels raised sound c.requires.known.is_tile
-          (raised_of_is (tile_rect core t) core.image pixels) joined c.same_image_same_edges.ensures;
-      touching =
-          rw told (edges_touch c.edges_are_open.ensures
-          (record (sender_of core t) { image = with_tile (work.tiling core) t (value_at raised) (work.image_at core) })
-          sound.shape.tiled within);
-    }

@@ -1,15 +1,15 @@
 -- What the tactics leave open of `join`.
-use Rattle.std.proofs.Common.{◌≡◌, ℕ, ◌⊎◌, ap, inl, inr, refl, subst, sym}
+use Rattle.std.proofs.Common.{◌≡◌, ℕ, ◌⊎◌, ◌∙◌, ap, inl, inr, refl, rules, subst, sym}
 use Rattle.std.specs.Arc.{arc_value}
 use Rattle.grid_core.specs.{declared.rect.Rect.Rect, Raster.Raster, Rects.RectFits, Tiles.rect_of}
 use Rattle.tile_generations.specs.declared.ticket.Ticket.{Ticket}
 use Rattle.core_rules.specs.{Sweeps.IsUnchanged, Sweeps.tile_rect, Work.Core, Work.IsTile}
 use Rattle.reset_core.specs.Parts.{AreBoundsAbove, IsPieceFor, IsRaisedPart}
 use Rattle.reset_core.proofs.Sweeping.{swept_is_piece}
-use Rattle.tiled_image.specs.Raising.{IsBelowInside, IsBelowRim}
+use Rattle.tiled_image.specs.Raising.{IsBelowInside, IsBelowRim, RaisesAs}
 use Rattle.tiled_image.specs.Shown.{value_in}
 use Rattle.tiled_core.specs.{Stored.core_of, Stored.parts_of}
-use Rattle.tiled_core.proofs.JoinedTiles.{kept_is_below, raised_is_above, raised_raises}
+use Rattle.tiled_core.proofs.JoinedTiles.{kept_is_below, raised_is_above, raised_raises, raises_itself}
 use Rattle.tiled_core.proofs.StoredCore.{kept_rect, kept_tile_fits, of_core, of_kept}
 use Rattle.tiled_core.proofs.replica.TiledCore.join.Goals as goal
 use Rattle.tiled_core.proofs.replica.TiledCore.join.Goals.{then-is_unchanged-via-then-is_unchanged}
@@ -43,15 +43,11 @@ is_below : (c : goal.After-rim-then-is_unchanged)
 is_below c =
     kept_is_below c.args.self.now c.args.swept.now c.pixels-pixels.ensures.swept c.requires.joinable.known (is_kept c)
 
-pub join_raised-requires-clause-inside : goal.join_raised-requires-clause-inside
-join_raised-requires-clause-inside c =
-    let core = c.args.self.now in
-    let rect = tile_rect core c.args.swept.now.job.ticket.tile in
-    let shared_is : arc_value c.in_ok-shared.shared ≡ c.args.swept.now.pixels = c.in_ok-shared.ensures in
-    subst (λ (r : Raster). IsBelowInside rect core.image (value_in rect r)) (sym shared_is) (is_below c)
-
-pub join_raised-requires-clause-above : goal.join_raised-requires-clause-above
-join_raised-requires-clause-above c =
+above_is : (c : goal.After-rim-then-is_unchanged)
+    → AreBoundsAbove (tile_rect c.args.self.now c.args.swept.now.job.ticket.tile)
+    (tile_rect c.args.self.now c.args.swept.now.job.ticket.tile).h c.args.self.now.image c.args.swept.now.pixels
+    c.bounds_over-above.result
+above_is c =
     let tiled = c.self.inside in
     let core = c.args.self.now in
     let swept = c.args.swept.now in
@@ -79,8 +75,25 @@ join_raised-requires-clause-above c =
 pub join_raised-requires-clause-joinable : goal.join_raised-requires-clause-joinable
 join_raised-requires-clause-joinable c = c.requires.joinable
 
-pub join_raised-requires-clause-swept : goal.join_raised-requires-clause-swept
-join_raised-requires-clause-swept c = c.pixels-pixels.ensures.swept
+pub join_raised-requires-clause-raising : goal.join_raised-requires-clause-raising
+join_raised-requires-clause-raising c =
+    let core = c.args.self.now in
+    let swept = c.args.swept.now in
+    let rect = tile_rect core swept.job.ticket.tile in
+    let of_sweep = c.pixels-pixels.ensures.swept in
+    let mask = c.requires.joinable.known.mask in
+    let shared_is : arc_value c.in_ok-shared.shared ≡ swept.pixels = c.in_ok-shared.ensures in
+    record {
+      of_sweep = of_sweep;
+      raises =
+          subst (RaisesAs rect core.image swept.pixels) (sym shared_is)
+          (raises_itself rect core.image swept.pixels (of_sweep.width ∙ mask.width) (of_sweep.height ∙ mask.height)
+          of_sweep.filled);
+      inside =
+          subst (λ (r : Raster). IsBelowInside rect core.image (value_in rect r)) (sym shared_is) (is_below c);
+      of_part = search rules;
+      above = above_is c;
+    }
 
 pub returns-then-is_unchanged-clause-joined : goal.returns-then-is_unchanged-clause-joined
 returns-then-is_unchanged-clause-joined c = c.join_raised.ensures.joined
@@ -97,22 +110,19 @@ raised_is core t tile pixels held part tile_is held_is is_raised =
     subst (λ (r : Raster). IsRaisedPart (tile_rect core t) core.image r part) held_is
     (subst (λ n. IsRaisedPart (tile_rect core n) core.image held part) tile_is is_raised)
 
-pub join_raised-requires-2-clause-part : goal.join_raised-requires-2-clause-part
-join_raised-requires-2-clause-part c =
+pub join_raised-requires-2-clause-raising : goal.join_raised-requires-2-clause-raising
+join_raised-requires-2-clause-raising c =
     let core = core_of (record c.self-2.inside { image = c.fold.new.self }) in
     let tile = c.args.swept.now.job.ticket.tile in
     let pixels = c.args.swept.now.pixels in
     let part = arc_value c.in_ok-held.held in
-    raised_raises (tile_rect core tile) core.image pixels part
-    (raised_is core tile c.ticket-tile.result.tile pixels c.pixels-pixels.result.now part
-    (ap (λ (k : Ticket). k.tile) c.ticket-tile.ensures) c.pixels-pixels.ensures.value c.in_ok-held.ensures.raised)
-
-pub join_raised-requires-2-clause-inside : goal.join_raised-requires-2-clause-inside
-join_raised-requires-2-clause-inside c =
-    let core = core_of (record c.self-2.inside { image = c.fold.new.self }) in
-    let tile = c.args.swept.now.job.ticket.tile in
-    let pixels = c.args.swept.now.pixels in
-    let part = arc_value c.in_ok-held.held in
-    raised_is_above (tile_rect core tile) core.image pixels part
-    (raised_is core tile c.ticket-tile.result.tile pixels c.pixels-pixels.result.now part
-    (ap (λ (k : Ticket). k.tile) c.ticket-tile.ensures) c.pixels-pixels.ensures.value c.in_ok-held.ensures.raised)
+    let raised =
+    raised_is core tile c.ticket-tile.result.tile pixels c.pixels-pixels.result.now part
+    (ap (λ (k : Ticket). k.tile) c.ticket-tile.ensures) c.pixels-pixels.ensures.value c.in_ok-held.ensures.raised in
+    record {
+      of_sweep = c.pixels-pixels.ensures.swept;
+      raises = raised_raises (tile_rect core tile) core.image pixels part raised;
+      inside = raised_is_above (tile_rect core tile) core.image pixels part raised;
+      of_part = c.in_ok-held.ensures.rim;
+      above = search rules;
+    }
