@@ -6,7 +6,9 @@ ghost use Rattle.grid_core.specs.Raster.{IsBelow, IsSized};
 ghost use Rattle.tile_generations.specs.Bases.{raster_of};
 ghost use Rattle.tile_generations.specs.Jobs.{AreBoundsOf, IsJob, IsSwept, all_of};
 
+use crate::block::Block;
 use crate::pixels::Base;
+use crate::rim::Rim;
 use crate::swept::Swept;
 use crate::ticket::Ticket;
 use grid_core::laws::cells_given_back;
@@ -27,6 +29,8 @@ pub struct Job {
     mask: Arc<Grid>,
     // A pixel of the base that can raise a neighbour in the tile lies within them.
     bounds: Bounds,
+    // What the sweep may write into.
+    block: Option<Block>,
 }
 
 impl Model for Job {
@@ -106,6 +110,17 @@ impl Job {
             base,
             mask,
             bounds,
+            block: None,
+        }
+    }
+
+    /// The job, with memory for its sweep. It takes none.
+    pub fn with_block(self, block: Block) -> Job
+        ensures { result ≡ self }
+    {
+        Job {
+            block: Some(block),
+            ..self
         }
     }
 
@@ -163,27 +178,64 @@ impl Job {
         let base = self.base();
         let conn = self.conn();
         match grow(alloc, mask, base, conn) {
-            Ok(pixels) => Swept::new(alloc, self, pixels),
+            Ok(pixels) => Swept::new(alloc, self, pixels, None),
             Err(why) => Err((self, why)),
         }
     }
 
     /// Sweeps the tile as [`sweep`](Job::sweep) does, in a room that is used for one job after another. It looks at
     /// first only at pixels within the bounds, where the job has some. It takes memory for the pixels, which are then
-    /// shared, and for their rim, and for nothing else.
+    /// shared, and for their rim, and for nothing else, and for these only where the job has no block of its size that
+    /// is nobody else's.
     ///
     /// Errors: out of memory, with the job handed back.
-    pub fn sweep_in(self, alloc: Global, room: &mut Room) -> Result<Swept, (Job, Memory)>
+    pub fn sweep_in(mut self, alloc: Global, room: &mut Room) -> Result<Swept, (Job, Memory)>
         ensures job { IfOk result (λ swept. swept.job ≡ self) }
         ensures swept { IfOk result IsSwept }
         ensures returned { IfErr result (λ e. e.0 ≡ self) }
     {
-        match self.base().copy(alloc) {
+        let (spare, rim) = self.take_block();
+        match self.copy_of_base(alloc, spare) {
             Ok(mut pixels) => {
                 self.raise(room, &mut pixels);
-                Swept::new(alloc, self, pixels)
+                Swept::new(alloc, self, pixels, rim)
             }
             Err(why) => Err((self, why)),
+        }
+    }
+
+    /// The pixels that it began with, where these are shared with others. It takes no memory.
+    pub(crate) fn into_shared(self) -> Option<Arc<Grid>> {
+        let Job { base, .. } = self;
+        match base {
+            Base::Shared(pixels) => Some(pixels),
+            Base::Own(_) => None,
+        }
+    }
+
+    // Takes its memory out, if it has some: pixels that are nobody else's, and a rim.
+    fn take_block(&mut self) -> (Option<Grid>, Option<Rim>)
+        ensures { self.new ≡ self.old }
+    {
+        match self.block.take() {
+            Some(block) => block.into_parts(),
+            None => (None, None),
+        }
+    }
+
+    // A copy of the base, in the spare image where there is one of its size.
+    //
+    // Errors: out of memory.
+    fn copy_of_base(&self, alloc: Global, spare: Option<Grid>) -> Result<Grid, Memory>
+        ensures { IfOk result (λ copy. copy ≡ self.now.base) }
+    {
+        let base = self.base();
+        match spare {
+            Some(mut copy) if copy.width() == base.width() && copy.height() == base.height() => {
+                copy.assign(base);
+                Ok(copy)
+            }
+            _ => base.copy(alloc),
         }
     }
 

@@ -38,9 +38,32 @@ impl Rim {
     pub fn of(alloc: Global, image: &Grid) -> Result<Rim, Memory>
         ensures { IfOk result (IsRimOf image.now) }
     {
+        let length = 2 * (image.width() as usize + image.height() as usize);
+        Rim::filled(Vec::with_capacity(alloc, length)?, image)
+    }
+
+    /// The rim of an image, in the memory of a spare one, where there is one. It takes memory only where that does not
+    /// last.
+    ///
+    /// Errors: out of memory.
+    pub(crate) fn over(alloc: Global, spare: Option<Rim>, image: &Grid) -> Result<Rim, Memory>
+        ensures { IfOk result (IsRimOf image.now) }
+    {
+        match spare {
+            Some(rim) => Rim::filled(rim.values, image),
+            None => Rim::of(alloc, image),
+        }
+    }
+
+    // The rim of an image, in the room of a list.
+    //
+    // Errors: out of memory.
+    fn filled(mut values: Vec<u16>, image: &Grid) -> Result<Rim, Memory>
+        ensures { IfOk result (IsRimOf image.now) }
+    {
         let w = image.width();
         let h = image.height();
-        let mut values = Vec::with_capacity(alloc, 2 * (w as usize + h as usize))?;
+        values.clear();
         values.extend_from_slice(row(image, 0))?;
         values.extend_from_slice(row(image, h - 1))?;
         push_column(&mut values, image, 0)?;

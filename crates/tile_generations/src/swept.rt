@@ -5,6 +5,7 @@ ghost use Rattle.std.specs.Arc.{arc_value};
 ghost use Rattle.tile_generations.specs.Jobs.{IsSwept};
 ghost use Rattle.tile_generations.specs.Rims.{IsRimOf};
 
+use crate::block::Block;
 use crate::job::Job;
 use crate::rim::Rim;
 use crate::ticket::Ticket;
@@ -34,16 +35,21 @@ impl Model for Swept {
 }
 
 impl Swept {
-    /// The job with the pixels that its sweep gave, and their rim.
+    /// The job with the pixels that its sweep gave, and their rim, in the memory of a spare one, where there is one.
     ///
     /// Errors: out of memory, with the job handed back.
-    pub(crate) fn new(alloc: Global, job: Job, pixels: Grid) -> Result<Swept, (Job, Memory)>
+    pub(crate) fn new(
+        alloc: Global,
+        job: Job,
+        pixels: Grid,
+        spare: Option<Rim>,
+    ) -> Result<Swept, (Job, Memory)>
         requires { IsSwept (record { job = job; pixels = pixels }) }
         ensures job { IfOk result (λ swept. swept.job ≡ job) }
         ensures swept { IfOk result IsSwept }
         ensures returned { IfErr result (λ e. e.0 ≡ job) }
     {
-        let Ok(rim) = Rim::of(alloc, &pixels) else {
+        let Ok(rim) = Rim::over(alloc, spare, &pixels) else {
             return Err((job, Memory));
         };
         match Arc::new(alloc, pixels) {
@@ -102,6 +108,14 @@ impl Swept {
         ensures { IfOk result (λ shared. arc_value shared ≡ self.now.pixels) }
     {
         Ok(Arc::try_clone(&self.pixels)?)
+    }
+
+    /// What is left of it once it was given back, for a sweep to come: its rim, and the pixels of its job, where these
+    /// were shared. None where they were not. It takes no memory.
+    pub fn into_block(self) -> Option<Block> {
+        let Swept { job, rim, .. } = self;
+        let pixels = job.into_shared()?;
+        Some(Block { pixels, rim })
     }
 
     /// A copy, which shares what the sweep gave.

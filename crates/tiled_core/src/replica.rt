@@ -21,7 +21,7 @@ use std::alloc::Global;
 use std::marker::Model;
 use std::sync::Arc;
 use stroke_lattice::State;
-use tile_generations::{Ticket, TileMasks};
+use tile_generations::{Block, Ticket, TileMasks};
 use tile_work::{OpenBounds, TileSet, WorkTable};
 use tiled_image::{Rims, TiledImage};
 
@@ -62,6 +62,8 @@ pub struct TiledCore {
     limits: Vec<u16>,
     // The last copies of the strokes that were given out.
     states: SharedStates,
+    // What is left of results that were joined, for the sweeps of jobs to come.
+    blocks: Vec<Block>,
 }
 
 impl Model for TiledCore {

@@ -6,11 +6,13 @@ ghost use Rattle.reset_core.specs.Replica.{core_of, stored_as, IsStored};
 ghost use Rattle.tiled_core.specs.Stored.{IsBeside};
 
 use super::TiledCore;
+use super::sweeping::MOST_BLOCKS;
 use crate::beside::BesideJobs;
 use crate::shared_states::SharedStates;
 use grid_core::{Grid, Memory, Tiling};
 use reset_core::{Core, CoreParts};
 use std::alloc::Global;
+use tile_generations::Block;
 use tiled_image::{Rims, TiledImage};
 
 impl TiledCore {
@@ -68,6 +70,7 @@ struct Beside {
     ring: Vec<u16>,
     mask_rims: Rims,
     limits: Vec<u16>,
+    blocks: Vec<Block>,
 }
 
 impl Beside {
@@ -84,6 +87,7 @@ impl Beside {
             ring: room_around(alloc, tiling)?,
             mask_rims: Rims::of(alloc, tiling, mask)?,
             limits: room_around(alloc, tiling)?,
+            blocks: Vec::with_capacity(alloc, MOST_BLOCKS)?,
         })
     }
 }
@@ -121,6 +125,7 @@ fn over_parts(
                 mask_rims: beside.mask_rims,
                 limits: beside.limits,
                 states: SharedStates::none(),
+                blocks: beside.blocks,
             };
             tiled.cut(alloc)
         }

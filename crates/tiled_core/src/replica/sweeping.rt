@@ -11,9 +11,10 @@ ghost use Rattle.core_rules.specs.Work.{IsTile};
 ghost use Rattle.core_rules.specs.Sweeps.{IsGivenBack, IsJoined, IsKnown, IsNextJob, IsOut, IsReady, IsTaken};
 ghost use Rattle.core_rules.specs.Sweeps.{IsUnchanged, tile_rect};
 ghost use Rattle.reset_core.specs.Answers.{IsJoinable};
-ghost use Rattle.reset_core.specs.Parts.{IsRaisedPart};
+ghost use Rattle.reset_core.specs.Parts.{AreBoundsAbove, IsRaisedPart};
 ghost use Rattle.reset_core.specs.Sweeping.{AreHintsOnceJoined, IsJudged};
-ghost use Rattle.tiled_image.specs.Raising.{RaisesAs};
+ghost use Rattle.tiled_image.specs.Raising.{IsBelowInside, RaisesAs};
+ghost use Rattle.tiled_image.specs.Shown.{value_in};
 ghost use Rattle.tiled_image.specs.Sides.{HasSides};
 ghost use Rattle.tiled_core.specs.Joining.{IsRaising};
 ghost use Rattle.tiled_core.specs.Patches.{patch_of};
@@ -29,6 +30,9 @@ use std::alloc::Global;
 use std::sync::Arc;
 use tile_generations::{Job, Rim, Swept, Ticket};
 use tiled_image::around_of;
+
+/// How many blocks of memory are kept for the sweeps of jobs to come, at most.
+pub(super) const MOST_BLOCKS: usize = 256;
 
 impl TiledCore {
     /// The job of a tile that is dirty and not out: it shares the tile's pixels and mask, and has the next serial. The
@@ -46,6 +50,7 @@ impl TiledCore {
         }
         let mask = self.mask_of(alloc, tile)?;
         let job = self.next_job(alloc, tile, mask)?;
+        let job = self.with_kept_block(job);
         let tiling = self.markers.tiling();
         self.beside.enter(&tiling, tile);
         self.work.take(tile, self.serial);
@@ -66,7 +71,10 @@ impl TiledCore {
         let back = self.answer_to(&swept);
         match back {
             Back::Joined | Back::Again => match self.join(alloc, &swept, back == Back::Joined) {
-                Ok(()) => Ok(back),
+                Ok(()) => {
+                    self.keep_block(swept);
+                    Ok(back)
+                }
                 Err(why) => Err((swept, why)),
             },
             Back::Stale | Back::Stranger => Ok(back),
@@ -110,6 +118,29 @@ impl TiledCore {
         };
         let bounds = counted_from(rect, self.bounds.get(tile));
         Ok(Job::shared(ticket, self.conn, base, mask, bounds))
+    }
+
+    // The job, with memory for its sweep where some is kept. It takes none.
+    fn with_kept_block(&mut self, job: Job) -> Job
+        ensures job { result ≡ job }
+        ensures same { self.new ≡ self.old }
+    {
+        match self.blocks.pop() {
+            Some(block) => job.with_block(block),
+            None => job,
+        }
+    }
+
+    // Keeps what is left of a swept tile that was joined, for the sweep of a job to come.
+    fn keep_block(&mut self, swept: Swept)
+        ensures { self.new ≡ self.old }
+    {
+        if self.blocks.len() < MOST_BLOCKS
+            && let Some(block) = swept.into_block()
+        {
+            // Where there is no room for it, its memory is let go.
+            let _ = self.blocks.push(block);
+        }
     }
 
     // The rectangle of a tile.
@@ -206,13 +237,32 @@ impl TiledCore {
         let pixels = swept.pixels();
         if is_unchanged || self.image.has_below(tile, swept.base()) {
             let shared = swept.shared_pixels()?;
-            let above = self.image.bounds_over(tile, swept.rim());
+            let above = self.bounds_over(swept, is_unchanged);
             return self.join_raised(alloc, swept, shared, swept.rim(), above);
         }
         self.image.fold(alloc, tile);
         let above = self.image.bounds_above(tile, pixels);
         let (held, rim) = self.raised_by(alloc, tile, pixels)?;
         self.join_raised(alloc, swept, held, &rim, above)
+    }
+
+    // Bounds of the pixels of a tile where it is above what its sweep gave, where that is so at most on its rim: none
+    // where it is as it was when its job was taken.
+    fn bounds_over(&self, swept: &Swept, is_unchanged: bool) -> Bounds
+        requires known { IsKnown self.now swept.now.job }
+        requires unchanged { IsTrue is_unchanged → IsUnchanged self.now swept.now.job }
+        requires inside { IsBelowInside (tile_rect self.now swept.now.job.ticket.tile) self.now.image
+            (value_in (tile_rect self.now swept.now.job.ticket.tile) swept.now.pixels) }
+        ensures { AreBoundsAbove (tile_rect self.now swept.now.job.ticket.tile)
+            (tile_rect self.now swept.now.job.ticket.tile).h self.now.image swept.now.pixels result }
+    {
+        // For their clauses alone: how far the image goes, and what the sweep gave.
+        let _rect = self.rect(swept.ticket().tile);
+        let _pixels = swept.pixels();
+        if is_unchanged {
+            return Bounds::none();
+        }
+        self.image.bounds_over(swept.ticket().tile, swept.rim())
     }
 
     // Joins a swept tile, where `part`, an image with this rim, raises the tile as the sweep does, and is put in. A
