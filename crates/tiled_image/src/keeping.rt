@@ -65,6 +65,8 @@ pub(crate) fn share_part(
     if let Some(part) = parts.share(tile)? {
         return Ok(part);
     }
+    // The new part may have that memory.
+    parts.free_one();
     let part = Arc::new(alloc, rows.cut(alloc, tiling.rect(tile))?)?;
     parts.put(tile, Arc::try_clone(&part)?);
     Ok(part)

@@ -16,6 +16,8 @@ use std::sync::Arc;
 #[derive(Drop)]
 pub(crate) struct TileParts {
     tiles: Vec<Option<Arc<Grid>>>,
+    // Parts that were let go, whose memory is given back one by one.
+    gone: Vec<Arc<Grid>>,
 }
 
 impl Model for TileParts {
@@ -39,7 +41,8 @@ impl TileParts {
         for _tile in 0..count {
             tiles.push(None)?;
         }
-        Ok(TileParts { tiles })
+        let gone = Vec::with_capacity(alloc, count)?;
+        Ok(TileParts { tiles, gone })
     }
 
     /// The part of a tile, if there is one.
@@ -84,12 +87,25 @@ impl TileParts {
         self.tiles[tile].take()
     }
 
-    /// Lets the part of a tile go, if there is one.
+    /// Lets the part of a tile go, if there is one. Its memory is given back later, by [`free_one`](TileParts::free_one),
+    /// since that of thousands of tiles takes long. It takes no memory.
     pub(crate) fn remove(&mut self, tile: usize)
         requires { tile < length self.old }
         ensures { self.new ≡ slice_set self.old tile None }
     {
-        self.tiles[tile] = None;
+        let Some(part) = self.take(tile) else {
+            return;
+        };
+        if self.gone.len() < self.gone.capacity() {
+            let _ = self.gone.push(part);
+        }
+    }
+
+    /// Gives back the memory of one part that was let go, if there is one.
+    pub(crate) fn free_one(&mut self)
+        ensures { self.new ≡ self.old }
+    {
+        let _part = self.gone.pop();
     }
 
     /// Gives a pixel of a tile's part another value, where there is a part and nobody else holds it. Says whether it

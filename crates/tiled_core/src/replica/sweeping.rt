@@ -256,13 +256,14 @@ impl TiledCore {
         ensures { AreBoundsAbove (tile_rect self.now swept.now.job.ticket.tile)
             (tile_rect self.now swept.now.job.ticket.tile).h self.now.image swept.now.pixels result }
     {
-        // For their clauses alone: how far the image goes, and what the sweep gave.
-        let _rect = self.rect(swept.ticket().tile);
+        // For its clause alone: what the sweep gave. A look at a field opens the core.
         let _pixels = swept.pixels();
+        let _conn = self.conn;
         if is_unchanged {
             return Bounds::none();
         }
-        self.image.bounds_over(swept.ticket().tile, swept.rim())
+        let tile = swept.ticket().tile;
+        self.image.bounds_over(tile, swept.rim())
     }
 
     // Joins a swept tile, where `part`, an image with this rim, raises the tile as the sweep does, and is put in. A

@@ -43,34 +43,8 @@ is_below : (c : goal.After-rim-then-is_unchanged)
 is_below c =
     kept_is_below c.args.self.now c.args.swept.now c.pixels-pixels.ensures.swept c.requires.joinable.known (is_kept c)
 
-above_is : (c : goal.After-rim-then-is_unchanged)
-    → AreBoundsAbove (tile_rect c.args.self.now c.args.swept.now.job.ticket.tile)
-    (tile_rect c.args.self.now c.args.swept.now.job.ticket.tile).h c.args.self.now.image c.args.swept.now.pixels
-    c.bounds_over-above.result
-above_is c =
-    let tiled = c.self.inside in
-    let core = c.args.self.now in
-    let swept = c.args.swept.now in
-    let pixels = swept.pixels in
-    let view = c.self.view_is in
-    let stored = c.self.invariant in
-    let tile = c.ticket-tile.result.tile in
-    let tile_is = ap (λ (k : Ticket). k.tile) c.ticket-tile.ensures in
-    let rect_is = kept_rect tiled core view stored tile in
-    let fits =
-    kept_tile_fits tiled core view stored tile (subst (IsTile core) (sym tile_is) c.requires.joinable.known.is_tile) in
-    let piece : IsPieceFor (rect_of tiled.image.tiling tile) tiled.image.image pixels =
-    swept_is_piece (parts_of tiled) core swept tile (rect_of tiled.image.tiling tile) pixels view tile_is rect_is refl
-    (subst (λ (r : Rect). RectFits core.image.width core.image.height r) (sym rect_is) fits)
-    c.pixels-pixels.ensures.swept c.requires.joinable.known in
-    let below =
-    of_kept tiled core view stored (λ rect whole. IsBelowInside rect whole (value_in rect pixels)) tile
-    (subst (λ n. IsBelowInside (tile_rect core n) core.image (value_in (tile_rect core n) pixels)) (sym tile_is)
-    (is_below c)) in
-    subst (λ n. AreBoundsAbove (tile_rect core n) (tile_rect core n).h core.image pixels c.bounds_over-above.result)
-    tile_is
-    (of_core tiled core view stored (λ rect whole. AreBoundsAbove rect rect.h whole pixels c.bounds_over-above.result)
-    tile (c.bounds_over-above.ensures pixels piece c.rim.ensures below))
+pub bounds_over-requires-clause-inside : goal.bounds_over-requires-clause-inside
+bounds_over-requires-clause-inside c = is_below c
 
 pub join_raised-requires-clause-joinable : goal.join_raised-requires-clause-joinable
 join_raised-requires-clause-joinable c = c.requires.joinable
@@ -92,7 +66,7 @@ join_raised-requires-clause-raising c =
       inside =
           subst (λ (r : Raster). IsBelowInside rect core.image (value_in rect r)) (sym shared_is) (is_below c);
       of_part = search rules;
-      above = above_is c;
+      above = c.bounds_over-above.ensures;
     }
 
 pub returns-then-is_unchanged-clause-joined : goal.returns-then-is_unchanged-clause-joined

@@ -8,10 +8,12 @@ use Rattle.tiled_core.proofs.replica.TiledCore.take.Goals as goal
 pub invariant_of-self : goal.invariant_of-self
 invariant_of-self c = record {
   stored =
-      taken_is_stored c.take_keeps_sound.ensures (parts_of c.self.inside) c.next_job.new.self c.args.tile
-      c.in_ok-job.job c.take.new.self c.self.view_is c.self.invariant.stored
-      (rw (c.next_job.ensures.same, c.mask_of.ensures.same) (c.if-not-is_ready.ensures.0 refl))
-      (rw c.next_job.ensures.same c.in_ok-job.ensures.job) c.take.ensures;
+      taken_is_stored c.take_keeps_sound.ensures (parts_of c.self.inside) c.with_kept_block-job.new.self c.args.tile
+      c.with_kept_block-job.result c.take.new.self c.self.view_is c.self.invariant.stored
+      (rw (c.with_kept_block-job.ensures.same, c.next_job.ensures.same, c.mask_of.ensures.same)
+      (c.if-not-is_ready.ensures.0 refl))
+      (rw (c.with_kept_block-job.ensures.same, c.next_job.ensures.same, c.with_kept_block-job.ensures.job)
+      c.in_ok-job.ensures.job) c.take.ensures;
   tiling = c.self.invariant.tiling;
   beside = c.enter.ensures ∙ c.self.invariant.beside;
   room = c.self.invariant.room;
