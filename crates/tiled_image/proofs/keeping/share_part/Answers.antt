@@ -32,7 +32,7 @@ cut-requires c =
     }
 
 pub put-requires : goal.put-requires
-put-requires c = slot_within c.requires.kept c.args.tile c.requires.tile
+put-requires c = rw c.free_one.ensures (slot_within c.requires.kept c.args.tile c.requires.tile)
 
 pub returns-clause-part : goal.returns-clause-part
 returns-clause-part c =
@@ -52,4 +52,4 @@ returns-clause-kept c =
     c.in_ok-part.ensures in
     copy_kept c.requires.kept a.tile c.requires.tile c.rect.result c.in_ok-cut.field-0
     (arc_value c.in_ok-try_clone.field-0) none c.rect.ensures.value c.in_ok-cut.ensures
-    (c.in_ok-try_clone.ensures ∙ c.in_ok-part-2.ensures.ok) c.put.new.self c.put.ensures
+    (c.in_ok-try_clone.ensures ∙ c.in_ok-part-2.ensures.ok) c.put.new.self (rw (sym c.free_one.ensures) c.put.ensures)

@@ -1,7 +1,0 @@
--- What the tactics leave open of `remove`.
-use Rattle.std.proofs.Common.{None}
-use Rattle.tiled_image.proofs.PartsAt.{slot_stored}
-use Rattle.tiled_image.proofs.tile_parts.TileParts.remove.Goals as goal
-
-pub returns : goal.returns
-returns c = slot_stored c.self.inside.tiles.items c.args.self.now c.args.tile c.self.view_is None
