@@ -1,9 +1,9 @@
 -- What the tactics leave open of `bounds_over`.
-use Rattle.std.proofs.Common.{◌≡◌, ap, refl, subst, sym}
+use Rattle.std.proofs.Common.{ap, refl, subst, sym}
 use Rattle.grid_core.specs.Raster.{IsSized}
 use Rattle.grid_core.specs.{declared.rect.Rect.Rect, Rects.RectFits, Tiles.rect_of}
 use Rattle.tile_generations.specs.declared.ticket.Ticket.{Ticket}
-use Rattle.core_rules.specs.{Sweeps.tile_rect, Work.Core, Work.IsTile}
+use Rattle.core_rules.specs.{Sweeps.tile_rect, Work.IsTile}
 use Rattle.reset_core.specs.Parts.{AreBoundsAbove, IsPieceFor}
 use Rattle.reset_core.proofs.LeftOpen.{none_above}
 use Rattle.reset_core.proofs.Sweeping.{swept_is_above, swept_is_piece}
@@ -28,7 +28,7 @@ returns-then-is_unchanged c =
     kept_tile_fits c.self.inside core c.self.view_is c.self.invariant swept.job.ticket.tile c.requires.known.is_tile in
     subst (AreBoundsAbove rect rect.h core.image swept.pixels) (sym c.none.ensures)
     (none_above rect rect.h core.image swept.pixels sized fits
-    (swept_is_above core swept c.pixels-_pixels.ensures.swept c.requires.known
+    (swept_is_above core swept c.pixels-pixels.ensures.swept c.requires.known
     (c.requires.unchanged c.if-is_unchanged.true)))
 
 pub returns : goal.returns
@@ -47,7 +47,7 @@ returns c =
     swept_is_piece (parts_of tiled) core swept tile (rect_of tiled.image.tiling tile) pixels view tile_is
     (kept_rect tiled core view stored tile) refl
     (subst (λ (r : Rect). RectFits core.image.width core.image.height r) (sym (kept_rect tiled core view stored tile))
-    fits) c.pixels-_pixels.ensures.swept c.requires.known in
+    fits) c.pixels-pixels.ensures.swept c.requires.known in
     let below =
     of_kept tiled core view stored (λ rect whole. IsBelowInside rect whole (value_in rect pixels)) tile
     (subst (λ n. IsBelowInside (tile_rect core n) core.image (value_in (tile_rect core n) pixels)) (sym tile_is)

@@ -1,16 +1,15 @@
 -- What the tactics leave open of `join`.
-use Rattle.std.proofs.Common.{◌≡◌, ℕ, ◌⊎◌, ◌∙◌, ap, inl, inr, refl, rules, subst, sym}
+use Rattle.std.proofs.Common.{◌≡◌, ℕ, ◌⊎◌, ◌∙◌, ap, inl, inr, rules, subst, sym}
 use Rattle.std.specs.Arc.{arc_value}
-use Rattle.grid_core.specs.{declared.rect.Rect.Rect, Raster.Raster, Rects.RectFits, Tiles.rect_of}
+use Rattle.grid_core.specs.{Raster.Raster, Tiles.rect_of}
 use Rattle.tile_generations.specs.declared.ticket.Ticket.{Ticket}
-use Rattle.core_rules.specs.{Sweeps.IsUnchanged, Sweeps.tile_rect, Work.Core, Work.IsTile}
-use Rattle.reset_core.specs.Parts.{AreBoundsAbove, IsPieceFor, IsRaisedPart}
-use Rattle.reset_core.proofs.Sweeping.{swept_is_piece}
+use Rattle.core_rules.specs.{Sweeps.IsUnchanged, Sweeps.tile_rect, Work.Core}
+use Rattle.reset_core.specs.Parts.{IsRaisedPart}
 use Rattle.tiled_image.specs.Raising.{IsBelowInside, IsBelowRim, RaisesAs}
 use Rattle.tiled_image.specs.Shown.{value_in}
-use Rattle.tiled_core.specs.{Stored.core_of, Stored.parts_of}
+use Rattle.tiled_core.specs.{Stored.core_of}
 use Rattle.tiled_core.proofs.JoinedTiles.{kept_is_below, raised_is_above, raised_raises, raises_itself}
-use Rattle.tiled_core.proofs.StoredCore.{kept_rect, kept_tile_fits, of_core, of_kept}
+use Rattle.tiled_core.proofs.StoredCore.{of_core}
 use Rattle.tiled_core.proofs.replica.TiledCore.join.Goals as goal
 use Rattle.tiled_core.proofs.replica.TiledCore.join.Goals.{then-is_unchanged-via-then-is_unchanged}
 use Rattle.tiled_core.proofs.replica.TiledCore.join.Goals.{then-is_unchanged-via-else-is_unchanged+then-has_below}
@@ -18,7 +17,7 @@ use Rattle.tiled_core.proofs.replica.TiledCore.join.Goals.{then-is_unchanged-via
 -- ---- where the tile is as it was, but for its rim
 
 -- the tile is as it was, or is so but for its rim
-is_kept : (c : goal.After-rim-then-is_unchanged)
+is_kept : (c : goal.In_ok-shared)
     → IsUnchanged c.args.self.now c.args.swept.now.job
     ⊎ IsBelowRim (tile_rect c.args.self.now c.args.swept.now.job.ticket.tile) c.args.self.now.image
     c.args.swept.now.job.base
@@ -37,14 +36,14 @@ is_kept c = elim c.then-is_unchanged.branch [
       below))
 ]
 
-is_below : (c : goal.After-rim-then-is_unchanged)
+is_below : (c : goal.In_ok-shared)
     → IsBelowInside (tile_rect c.args.self.now c.args.swept.now.job.ticket.tile) c.args.self.now.image
     (value_in (tile_rect c.args.self.now c.args.swept.now.job.ticket.tile) c.args.swept.now.pixels)
 is_below c =
     kept_is_below c.args.self.now c.args.swept.now c.pixels-pixels.ensures.swept c.requires.joinable.known (is_kept c)
 
-pub bounds_over-requires-clause-inside : goal.bounds_over-requires-clause-inside
-bounds_over-requires-clause-inside c = is_below c
+pub bounds_over-above-requires-clause-inside : goal.bounds_over-above-requires-clause-inside
+bounds_over-above-requires-clause-inside c = is_below c
 
 pub join_raised-requires-clause-joinable : goal.join_raised-requires-clause-joinable
 join_raised-requires-clause-joinable c = c.requires.joinable
@@ -64,7 +63,8 @@ join_raised-requires-clause-raising c =
           (raises_itself rect core.image swept.pixels (of_sweep.width ∙ mask.width) (of_sweep.height ∙ mask.height)
           of_sweep.filled);
       inside =
-          subst (λ (r : Raster). IsBelowInside rect core.image (value_in rect r)) (sym shared_is) (is_below c);
+          subst (λ (r : Raster). IsBelowInside rect core.image (value_in rect r)) (sym shared_is)
+          (is_below c.before.before.before);
       of_part = search rules;
       above = c.bounds_over-above.ensures;
     }
