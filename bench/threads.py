@@ -5,6 +5,7 @@
     python3 bench/threads.py --bands crates/benchmarks/out/benchmarks
     python3 bench/threads.py --keeper crates/benchmarks/out/benchmarks
     python3 bench/threads.py --turns crates/benchmarks/out/benchmarks
+    python3 bench/threads.py --each-processor crates/benchmarks/out/benchmarks
 
 The baseline is compiled and the images are made as run.py does it. README.md says what the columns mean.
 """
@@ -29,11 +30,11 @@ EDITS = 200  # the edits of that family that are measured
 SUMS = {}  # of what the baseline writes, by the paths of inputs
 
 
-def lines_of(program, words, source):
+def lines_of(program, words, source, start=None):
     """What the program writes on an input, a list of numbers for each line, and its peak bytes."""
     with open(source.path, "rb") as reader:
         command = [program, *(str(word) for word in words)]
-        child = subprocess.Popen(command, stdin=reader, stdout=subprocess.PIPE, text=True)
+        child = subprocess.Popen(command, stdin=reader, stdout=subprocess.PIPE, text=True, preexec_fn=start)
         with child.stdout as written:
             lines = [[int(number) for number in line.split()] for line in written]
         _, status, usage = os.wait4(child.pid, 0)
@@ -75,9 +76,9 @@ def baseline_seconds(baseline, source):
 
 # ---- Settling ----
 
-def settled(program, source, hands, side, right, word="settle"):
+def settled(program, source, hands, side, right, word="settle", start=None):
     """Jobs, seconds and peak bytes of one settling, which ends the script where the sum is not the right one."""
-    ((total, jobs, wall),), peak = lines_of(program, [word, hands, side], source)
+    ((total, jobs, wall),), peak = lines_of(program, [word, hands, side], source, start)
     if total != right:
         run.stop(f"{word} {hands} {side} and baseline differ on {source.path}")
     return jobs, wall / 1e9, peak
@@ -142,6 +143,39 @@ def settling(sources, program, baseline, words, word):
               [settling_row(source, program, baseline, words, word) for source in sources])
 
 
+# ---- Beside each processor ----
+
+def bound_to(processor):
+    """What binds a process that is about to start to this processor."""
+    return lambda: os.sched_setaffinity(0, {processor})
+
+
+def beside_each_row(source, program, baseline, words):
+    """The row of one image: a core by itself on each processor, three hands in bands and by turns, all in turns."""
+    right = baseline_sum(baseline, source)
+    processors = sorted(os.sched_getaffinity(0))
+    alone, hands = {processor: [] for processor in processors}, {"studio": [], "settle": []}
+    for number in range(words.runs + 1):
+        for processor in processors:
+            seconds = settled(program, source, 0, words.side, right, start=bound_to(processor))[1]
+            alone[processor].append(seconds)
+        for word, walls in hands.items():
+            walls.append(settled(program, source, 3, words.side, right, word)[1])
+    own = [statistics.median(walls[1:]) for walls in alone.values()]
+    bands, turns = (statistics.median(walls[1:]) for walls in hands.values())
+    mean = statistics.mean(own)
+    run.say(f"{source.family}: alone {', '.join(f'{1000 * seconds:.0f}' for seconds in own)} ms")
+    return [source.family, *(f"{1000 * seconds:.0f}" for seconds in (min(own), mean, max(own), bands, turns)),
+            f"{mean / bands:.2f}", f"{mean / turns:.2f}"]
+
+
+def beside_each(sources, program, baseline, words):
+    """Print the table of three hands beside a core by itself that is bound to each processor in turn."""
+    run.table([f"{words.size} by {words.size}, tile {words.side}", "alone, least ms", "mean ms", "most ms",
+               "3 hands in bands ms", "by turns ms", "bands over mean", "turns over mean"],
+              [beside_each_row(source, program, baseline, words) for source in sources])
+
+
 # ---- Parts, shows, glimpses ----
 
 def parts_row(source, program, baseline, words):
@@ -193,6 +227,8 @@ def read_words():
     alone.add_argument("--keeper", action="store_true",
                        help="have a studio's keeper settle in bands, and measure nothing else")
     alone.add_argument("--turns", action="store_true", help="settle by turns, and measure nothing else")
+    alone.add_argument("--each-processor", action="store_true",
+                       help="bind a core by itself to each processor in turn, and measure nothing else")
     words = parser.parse_args()
     if words.runs < 1 or words.size < 1:
         parser.error("runs and size are at least 1")
@@ -214,6 +250,9 @@ def main():
     print(f"{run.machine()}; 4 neighbours; the median of {words.runs} runs each.\n", flush=True)
     if words.bands:
         bands(sources, program, baseline, words)
+        return
+    if words.each_processor:
+        beside_each(sources, program, baseline, words)
         return
     if not words.turns:
         settling(sources, program, baseline, words, "studio")
