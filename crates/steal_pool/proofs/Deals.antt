@@ -1,17 +1,17 @@
 -- Each step of the deque keeps the rule, and what it says.
 use Rattle.std.proofs.Common.{◌≡◌, ◌≢◌, ℕ, zero, suc, ◌+◌, ◌<◌, ◌≤◌, List, [], ◌∷◌, ◌++◌, length, drop, set, sym, refl}
-use Rattle.std.proofs.Common.{ap, ◌∙◌, subst, ⊎_elim, arith, cond, eqb, eq-eqb, ne_eqb}
+use Rattle.std.proofs.Common.{◌⊎◌, inl, inr, ap, ◌∙◌, subst, ⊎_elim, arith, cond, eqb, eq-eqb, ne_eqb}
 use Rattle.std.proofs.lemmas.List.{length-append}
 use mathlib.Core.Option.{some, some-ne-none, some-injective}
 use mathlib.Core.Logic.{dite}
 use native.Mathlib.Decide.{ℕ_discrete}
 use lib.ListN.{get_elem?}
-use Rattle.crossbeam_deque.specs.Tasks.{Pushes, Takes, Admits}
+use Rattle.crossbeam_deque.specs.Tasks.{Pushes, Takes, Admits, Merges, Learns}
 use Rattle.atomic_table.proofs.Lists.{at_set, at_snoc, at_longer, at_last, set_here, set_else}
 use Rattle.tile_generations.specs.Jobs.{Job}
 use Rattle.steal_pool.specs.declared.rule.EndView.{EndView}
 use Rattle.steal_pool.specs.{Deal.view_of, Deal.newcomer, Deal.Places, Deal.Holds, Deal.IsFound, Deal.IsDealt}
-use Rattle.steal_pool.specs.{Deal.Gets, Laws.GotIsPushed, Laws.GotOnce}
+use Rattle.steal_pool.specs.{Deal.Gets, Deal.HasPushed, Laws.GotIsPushed, Laws.GotOnce}
 
 pub below : {A : Type 0} (l : List A) (i : ℕ) (a : A) → get_elem? l i ≡ some a → i < length l
 below [] i a e = absurd (some-ne-none a (sym e))
@@ -202,6 +202,102 @@ gets port v (x ∷ []) items views some_one one h at =
     (view_of v.pushed (v.got ++ (h.front, x) ∷ []), gets_one port v x items views h at, (h.front, x, refl, refl))
 gets port v (x ∷ (y ∷ ys)) items views some_one one h at = absurd (omega arith)
 
+-- what stands in two lists behind one another stands in the first, or so far behind it in the second
+at_append : {A : Type 0} (l m : List A) (i : ℕ) (a : A) → get_elem? (l ++ m) i ≡ some a
+    → (get_elem? l i ≡ some a) ⊎ ((n : ℕ) × (length l + n ≡ i) × (get_elem? m n ≡ some a))
+at_append [] m i a e = inr (i, omega arith, e)
+at_append (x ∷ l) m zero a e = inl e
+at_append (x ∷ l) m (suc i) a e = ⊎_elim (λ first. inl first)
+    (λ (t : (n : ℕ) × (length l + n ≡ i) × (get_elem? m n ≡ some a)). inr (t.0, (let is = t.1 in omega arith), t.2))
+    (at_append l m i a e)
+
+at_second : {A : Type 0} (l m : List A) (n : ℕ) (a : A) → get_elem? m n ≡ some a
+    → get_elem? (l ++ m) (length l + n) ≡ some a
+at_second {A} [] m n a e = ap (λ (i : ℕ). get_elem? m i) (let is : 0 + n ≡ n = omega arith in is) ∙ e
+at_second {A} (x ∷ l) m n a e =
+    ap (λ (i : ℕ). get_elem? (x ∷ (l ++ m)) i) (let is : length (x ∷ l) + n ≡ suc (length l + n) = omega arith in is)
+    ∙ at_second l m n a e
+
+-- the job of the place is at this spot
+abbrev IsAt : List EndView → ℕ → ℕ × ℕ → Type 0
+IsAt views k spot =
+    (v : EndView) × (x : Job) × (get_elem? views spot.0 ≡ some v) × (get_elem? v.got spot.1 ≡ some (k, x))
+
+-- that the owner takes in what another end got keeps the rule: the places that went there are the owner's now
+pub merges : (port : ℕ) (v : EndView) (other : ℕ) (w : EndView) → port ≡ 0
+    → Merges IsDealt port v other w (view_of v.pushed (v.got ++ w.got)) newcomer
+merges port v other w first items views h at apart at_other =
+    let both : EndView = view_of v.pushed (v.got ++ w.got) in
+    let now : List EndView = set views port both in
+    let all : List EndView = set now other newcomer in
+    let was : get_elem? views other ≡ some w =
+    ⊎_elim (λ (t : (other ≡ port) × (both ≡ w)). absurd (apart t.0))
+    (λ (t : (other ≢ port) × (get_elem? views other ≡ some w)). t.1) (at_set views port other both w at_other) in
+    let moved : ℕ → ℕ × ℕ = λ k. (port, length v.got + (h.places k).1) in
+    let places : Places = λ k. cond (eqb (h.places k).0 other) (moved k) (h.places k) in
+    let there : (k : ℕ) → (h.places k).0 ≡ other → places k ≡ moved k =
+    λ k e. ap (λ b. cond b (moved k) (h.places k)) (eq-eqb (h.places k).0 other e) in
+    let kept : (k : ℕ) → (h.places k).0 ≢ other → places k ≡ h.places k =
+    λ k n. ap (λ b. cond b (moved k) (h.places k)) (ne_eqb (h.places k).0 other n) in
+    let here : get_elem? now port ≡ some both = set_here views port both (below views port v at) in
+    let mine : get_elem? all port ≡ some both = set_else now other port newcomer (λ e. apart (sym e)) ∙ here in
+    let at_0 = ap (λ (j : ℕ). get_elem? views j) first in
+    let owns : v ≡ h.owner.0 = some-injective v h.owner.0 (sym at ∙ (at_0 ∙ h.owner.1)) in
+    record {
+      pushed = h.pushed;
+      front = h.front;
+      places = places;
+      left = h.left;
+      owner = (
+        both,
+        ap (λ (j : ℕ). get_elem? all j) (sym first) ∙ mine,
+        ap (λ (u : EndView). u.pushed) owns ∙ h.owner.2,
+      );
+      held = λ j u e. ⊎_elim
+          (λ (t : (j ≡ other) × (newcomer ≡ u)). λ i k x got. absurd (got_nothing u i k x t.1 got))
+          (λ (t : (j ≢ other) × (get_elem? now j ≡ some u)). ⊎_elim
+          (λ (s : (j ≡ port) × (both ≡ u)). subst (Holds h.pushed h.front places j) s.1
+          (λ i k x got. ⊎_elim
+          (λ (first : get_elem? v.got i ≡ some (k, x)).
+          let r = h.held port v at i k x first in
+          let at_port : (h.places k).0 ≡ port = ap (λ (z : ℕ × ℕ). z.0) r.2 in (
+            r.0,
+            r.1,
+            kept k (λ e'. apart (sym e' ∙ at_port)) ∙ (r.2 ∙ λ c. (sym s.0 c, i)),
+          ))
+          (λ (second : (n : ℕ) × (length v.got + n ≡ i) × (get_elem? w.got n ≡ some (k, x))).
+          let r = h.held other w was second.0 k x second.2 in
+          let place : length v.got + (h.places k).1 ≡ i =
+          ap (λ (z : ℕ × ℕ). length v.got + z.1) r.2 ∙ second.1 in (
+            r.0,
+            r.1,
+            there k (ap (λ (z : ℕ × ℕ). z.0) r.2) ∙ λ c. (sym s.0 c, place c),
+          ))
+          (at_append v.got w.got i (k, x) got)))
+          (λ (s : (j ≢ port) × (get_elem? views j ≡ some u)). λ i k x got.
+          let r = h.held j u s.1 i k x got in (
+            r.0,
+            r.1,
+            kept k (λ e'. t.0 (sym (ap (λ (z : ℕ × ℕ). z.0) r.2) ∙ e')) ∙ r.2,
+          ))
+          (at_set views port j both u t.1))
+          (at_set now other j newcomer u e);
+      found = λ k lt.
+          let f = h.found k lt in
+          dite (ℕ_discrete (h.places k).0 other)
+          (λ e.
+          let is : f.0 ≡ w = some-injective f.0 w (sym f.2 ∙ (ap (λ (j : ℕ). get_elem? views j) e ∙ was)) in
+          let got : get_elem? w.got (h.places k).1 ≡ some (k, f.1) =
+          ap (λ (u : EndView). get_elem? u.got (h.places k).1) (sym is) ∙ f.3 in
+          subst (IsAt all k) (sym (there k e)) (both, f.1, mine, at_second v.got w.got (h.places k).1 (k, f.1) got))
+          (λ n.
+          let grows : Grows v both = λ i e y. at_longer v.got w.got i e y in
+          let g = found_set views port v both h.places k at grows f in
+          subst (IsAt all k) (sym (kept k n))
+          (g.0, g.1, set_else now other (h.places k).0 newcomer n ∙ g.2, g.3));
+      within = h.within;
+    }
+
 -- ---- what the rule says
 
 pub got_is_pushed : GotIsPushed
@@ -217,3 +313,9 @@ got_once items views port other i j k x y dealt one two =
     let second = dealt.held other two.end two.is_there j k y two.got in
     let same : (port, i) ≡ (other, j) = sym first.2 ∙ second.2 in
     (ap (λ (p : ℕ × ℕ). p.0) same, ap (λ (p : ℕ × ℕ). p.1) same)
+
+-- the owner pushed what it has got
+pub learns : (port : ℕ) (v : EndView) → port ≡ 0 → Learns IsDealt port v (λ jobs. HasPushed v)
+learns port v first items views h at i k x got =
+    let owner : get_elem? views 0 ≡ some v = ap (λ (j : ℕ). get_elem? views j) (sym first) ∙ at in
+    got_is_pushed items views v port i k x h owner (record { end = v; is_there = at; got = got })

@@ -1,16 +1,15 @@
 -- A job more with its report.
-use Rattle.std.proofs.Common.{◌≡◌, ℕ, Bool, true, false, List, [], ◌∷◌, ◌++◌, Option, None, option_to_list, sym, refl}
-use Rattle.std.proofs.Common.{ap, ◌∙◌, subst}
-use Rattle.std.proofs.lemmas.List.{append-nil}
+use Rattle.std.proofs.Common.{◌≡◌, ℕ, Bool, true, false, List, [], ◌∷◌, ◌++◌, sym, refl}
+use Rattle.std.proofs.Common.{◌∙◌, subst}
 use Rattle.std.specs.List.{AllZip}
-use Rattle.tile_generations.specs.{declared.ticket.Ticket.Ticket, Jobs.Job}
+use Rattle.tile_generations.specs.{Jobs.Job}
 use Rattle.steal_pool.specs.{declared.report.Report.Report, declared.report.Report.TheVariants.Done}
 use Rattle.steal_pool.specs.{declared.report.Report.TheVariants.Failed, declared.report.Turn.Turn, Views.HandView}
-use Rattle.steal_pool.specs.{Views.reports, Working.IsOutcome, Working.HasWorked}
-use Rattle.steal_pool.specs.Reports.{IsReportOf, AreReported, WorksSomehow, IsTurn, AreTurns, IsStep}
+use Rattle.steal_pool.specs.{Views.reports, Working.Adds, Working.IsOutcome}
+use Rattle.steal_pool.specs.Reports.{IsReportOf, AreReported, IsTurn, AreTurns, IsStep}
 use Rattle.steal_pool.specs.declared.report.Turn.TheVariants as turn
 
-pub zip_push : {A B : Type 0} (R : A → B → Type 0) (xs : List A) (ys : List B) (x : A) (y : B) → AllZip R xs ys
+zip_push : {A B : Type 0} (R : A → B → Type 0) (xs : List A) (ys : List B) (x : A) (y : B) → AllZip R xs ys
     → R x y → AllZip R (xs ++ x ∷ []) (ys ++ y ∷ [])
 zip_push R [] [] x y all one = (one, tt)
 zip_push R [] (b ∷ ys) x y all one = absurd all
@@ -23,62 +22,36 @@ reported k job (turn.Worked ticket) (Done swept) o = o.1
 reported k job (turn.Failed ticket) (Failed same) o = o.1 ∙ o.0
 reported k job _ _ o = absurd o
 
--- once nothing is held, what was sent or held is sent
-pub sent_once : (sent now : List Report) (held taken : Option Report) → taken ≡ held
-    → now ++ [] ≡ sent ++ option_to_list taken → now ≡ sent ++ option_to_list held
-sent_once sent now held taken t e =
-    sym (append-nil now) ∙ (e ∙ ap (λ (o : Option Report). sent ++ option_to_list o) t)
+-- One job more was got, and this came of it
+module _ (old now : HandView) (job : Job) (answer : Turn) (report : Report) (adds : Adds old now job)
+    (outcome : IsOutcome job answer report) (all : AreReported old.got (reports old)) where
+  -- so with this report each job has its report
+  pub one_more : AreReported now.got (reports now ++ report ∷ [])
+  one_more =
+      subst (λ (h : HandView). AreReported h.got (reports h ++ report ∷ [])) (sym adds.1)
+      (zip_push IsReportOf old.got (reports old) (adds.0, job) report all (reported adds.0 job answer report outcome))
 
--- what was got is what was reported, and one more of each
-pub one_more : (got : List (ℕ × Job)) (was now : List Report) (answer : Turn) (got' : List (ℕ × Job))
-    (reports : List Report) → AreReported got was → now ≡ was → HasWorked got now answer got' reports
-    → AreReported got' reports
-one_more got was now answer got' reports h e w =
-    subst (λ (l : List Report). AreReported got' l) (sym w.reports_are)
-    (subst (λ (l : List (ℕ × Job)). AreReported l (now ++ w.report ∷ [])) (sym w.got_is)
-    (zip_push IsReportOf got now (w.place, w.job) w.report (subst (AreReported got) (sym e) h)
-    (reported w.place w.job answer w.report w.outcome)))
+  -- and it was reported
+  module _ (new : HandView) (got : new.got ≡ now.got) (given : reports new ≡ reports now ++ report ∷ []) where
+    pub all_reported : AreReported new.got (reports new)
+    all_reported =
+        subst (λ (l : List Report). AreReported new.got l) (sym given)
+        (subst (λ (l : List (ℕ × Job)). AreReported l (reports now ++ report ∷ [])) (sym got) one_more)
 
-turned_by : (old new : HandView) (k : ℕ) (job : Job) (answer : Turn) (report : Report) → IsOutcome job answer report
-    → new.got ≡ old.got ++ (k, job) ∷ [] → reports new ≡ reports old ++ report ∷ [] → new.held ≡ None
-    → IsTurn old answer new
-turned_by old new k job (turn.Worked ticket) (Done swept) o g s n =
-    (swept, record { place = k; job = job; got = g; ticket_is = sym o.0; reported = o.1; added = s }, n)
-turned_by old new k job (turn.Failed ticket) (Failed same) o g s n = (
-  record {
-    place = k;
-    job = job;
-    got = g;
-    ticket_is = sym o.0;
-    reported = o.0;
-    added = s ∙ ap (λ (t : Ticket). reports old ++ Failed t ∷ []) o.1;
-  },
-  n,
-)
-turned_by old new k job _ _ o g s n = absurd o
+-- where two lists are matched, and their beginnings are, so is the rest
+pub zip_rest : {A B : Type 0} (R : A → B → Type 0) (xs more : List A) (ys others : List B)
+    → AllZip R (xs ++ more) (ys ++ others) → AllZip R xs ys → AllZip R more others
+zip_rest R [] more [] others all first = all
+zip_rest R [] more (y ∷ ys) others all first = absurd first
+zip_rest R (x ∷ xs) more [] others all first = absurd first
+zip_rest R (x ∷ xs) more (y ∷ ys) others all first = zip_rest R xs more ys others all.1 first.1
 
--- what a turn did that got a job and sent its report
-pub turned : (old new : HandView) (now : List Report) (answer : Turn) → now ≡ reports old
-    → HasWorked old.got now answer new.got (reports new) → new.held ≡ None → IsTurn old answer new
-turned old new now answer e w n =
-    turned_by old new w.place w.job answer w.report w.outcome w.got_is
-    (w.reports_are ∙ ap (λ (l : List Report). l ++ w.report ∷ []) e) n
-
--- what a turn did that got a job, whatever came of the report
-pub worked : (old new : HandView) (now : List Report) (answer : Turn) → now ≡ reports old
-    → HasWorked old.got now answer new.got (reports new) → WorksSomehow old new
-worked old new now answer e w = (
-  w.job.ticket,
-  w.report,
-  record {
-    place = w.place;
-    job = w.job;
-    got = w.got_is;
-    ticket_is = refl;
-    reported = reported w.place w.job answer w.report w.outcome;
-    added = w.reports_are ∙ ap (λ (l : List Report). l ++ w.report ∷ []) e;
-  },
-)
+-- what one report is of
+pub one_reported : (got : List (ℕ × Job)) (report : Report) → AreReported got (report ∷ [])
+    → (place : ℕ) × (job : Job) × (got ≡ (place, job) ∷ []) × IsReportOf (place, job) report
+one_reported [] report all = absurd all
+one_reported (x ∷ []) report all = (x.0, x.1, refl, all.0)
+one_reported (x ∷ (y ∷ got)) report all = absurd all.1
 
 -- one turn more
 pub one_turn_more : (old now new : HandView) (answers : List Turn) (answer : Turn) → AreTurns old answers now

@@ -43,3 +43,7 @@ pub record IsDealt (items : List Job) (views : List EndView) : Type 0 where
 -- an end got one job, with its place
 abbrev pub Gets : EndView → List Job → EndView → Type 0
 Gets v xs w = (k : ℕ) × (x : Job) × (xs ≡ x ∷ []) × (w ≡ view_of v.pushed (v.got ++ (k, x) ∷ []))
+
+-- each job that the end got is the one that it pushed at its place
+abbrev pub HasPushed : EndView → Type 0
+HasPushed v = (i k : ℕ) (x : Job) → get_elem? v.got i ≡ some (k, x) → get_elem? v.pushed k ≡ some x

@@ -1,10 +1,12 @@
 -- What a hand reports of the jobs that it got, and what its turns do.
 use Rattle.std.specs.Prelude.{◌≡◌, ◌≤◌, ◌⊎◌, ℕ, Bool, true, false, List, [], ◌∷◌, ◌++◌, length, None, IsSome}
 use Rattle.std.specs.List.{AllZip}
+use mathlib.Core.Option.{some}
+use lib.ListN.{get_elem?}
 use Rattle.tile_generations.specs.{declared.ticket.Ticket.Ticket, Jobs.Job, Jobs.Swept}
 use Rattle.steal_pool.specs.{declared.report.Report.Report, declared.report.Turn.Turn}
 use Rattle.steal_pool.specs.declared.report.Report.TheVariants.{Done, Failed}
-use Rattle.steal_pool.specs.Views.{HandView, reports, ring_room}
+use Rattle.steal_pool.specs.Views.{HandView, OwnerView, reports, ring_room}
 use Rattle.steal_pool.specs.declared.report.Turn.TheVariants as turn
 
 -- the report of a job that was got at some place: Done, and swept was that very job with its ticket, connectivity, base
@@ -12,6 +14,12 @@ use Rattle.steal_pool.specs.declared.report.Turn.TheVariants as turn
 abbrev pub IsReportOf : ℕ × Job → Report → Type 0
 IsReportOf got (Done swept) = swept.job ≡ got.1
 IsReportOf got (Failed ticket) = ticket ≡ got.1.ticket
+
+-- the report is of a job that the owner pushed: that very job was swept, or there was no memory to sweep the job of
+-- this ticket
+abbrev pub IsOfPushed : OwnerView → Report → Type 0
+IsOfPushed owner report =
+    (k : ℕ) × (job : Job) × (get_elem? owner.pushed k ≡ some job) × IsReportOf (k, job) report
 
 -- each job that was got has its report, in the order in which they were got, and there are no other reports
 abbrev pub AreReported : List (ℕ × Job) → List Report → Type 0

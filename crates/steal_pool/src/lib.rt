@@ -24,10 +24,12 @@
 //! `specs/Deal.antt`, which says who got which job ([`pool_laws`] has what follows); and in `specs/Reports.antt`, which
 //! says what is reported and what each answer of a turn means.
 
+mod desk;
 mod gate;
 mod hand;
 mod laws;
 mod owner;
+mod parcel;
 mod pool;
 mod report;
 mod rule;

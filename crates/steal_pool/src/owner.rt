@@ -1,10 +1,12 @@
 //! The owner of the jobs.
 
 ghost use Rattle.std.specs.Prelude.{◌≡◌, ◌≤◌, ◌<◌, [], ◌∷◌, ◌++◌, length, OnOk, OnErr, IfErr, IfSome, IfNone, IsTrue};
+ghost use Rattle.steal_pool.specs.Reports.{IsOfPushed};
 ghost use Rattle.steal_pool.specs.Views.{FewWait, HasCollected, waiting_of};
 
+use crate::parcel::{Parcel, Reporting};
 use crate::report::Report;
-use crate::rule::{Deal, EndView, Pushed};
+use crate::rule::{Deal, EndView, OwnJobs, Pushed, TakenIn};
 use crossbeam_deque::Worker;
 use rtrb::Consumer;
 use std::alloc::Global;
@@ -19,14 +21,14 @@ pub struct Owner {
     pub(crate) capacity: usize,
     // How many jobs it pushed, or 2^64 - 1 where there were more.
     pub(crate) pushes: usize,
-    pub(crate) rings: Vec<Consumer<Report>>,
+    pub(crate) rings: Vec<Consumer<Parcel, Global, Reporting>>,
 }
 
 impl Model for Owner {
-    ghost use Rattle.std.specs.Prelude.{◌≡◌, ◌≤◌, length, map};
-    ghost use Rattle.rtrb.specs.Ring.{received, known_items};
-    ghost use Rattle.crossbeam_deque.specs.Handles.{worker_view, worker_port, worker_flavor};
+    ghost use Rattle.std.specs.Prelude.{◌≡◌, ◌≤◌, [], length, map};
+    ghost use Rattle.crossbeam_deque.specs.Handles.{worker_deque, worker_view, worker_port, worker_flavor};
     ghost use Rattle.crossbeam_deque.specs.Handles.{worker_index, worker_capacity};
+    ghost use Rattle.steal_pool.specs.Parcels.{AreHeaded, collected_from, waiting_in};
     ghost use Rattle.steal_pool.specs.Views.{OwnerView};
     ghost use Rattle.steal_pool.specs.Names.{deque_of, read_from};
 
@@ -35,8 +37,8 @@ impl Model for Owner {
     ghost view = { λ o. record {
       pushed = (worker_view o.deque).pushed;
       capacity = o.capacity;
-      collected = map received o.rings.items;
-      waiting = map known_items o.rings.items;
+      collected = map collected_from o.rings.items;
+      waiting = map waiting_in o.rings.items;
       deque = deque_of o.deque;
       rings = map read_from o.rings.items;
     } };
@@ -44,7 +46,9 @@ impl Model for Owner {
     ghost invariant = { λ o.
         (worker_port o.deque ≡ 0) × (worker_flavor o.deque ≡ 0)
         × (length (worker_view o.deque).pushed ≡ worker_index o.deque) × (o.capacity ≤ worker_capacity o.deque)
-        × (o.pushes ≤ length (worker_view o.deque).pushed) };
+        × (o.pushes ≤ length (worker_view o.deque).pushed)
+        × AreHeaded (worker_deque o.deque) o.rings.items
+        × (o.pushes ≡ 0 → (worker_view o.deque).pushed ≡ []) };
 }
 
 impl Owner {
@@ -75,6 +79,13 @@ impl Owner {
         }
     }
 
+    /// Whether no job was pushed yet.
+    pub fn has_pushed_none(&self) -> bool
+        ensures { IsTrue result → self.now.pushed ≡ [] }
+    {
+        self.pushes == 0
+    }
+
     /// Whether as many jobs were pushed as surely find a place.
     pub fn is_past_capacity(&self) -> bool
         ensures { IsTrue result → self.now.capacity ≤ length self.now.pushed }
@@ -85,6 +96,8 @@ impl Owner {
     /// The next report in the ring of this hand: the oldest of those that were seen there and not collected yet, if any
     /// were, and never more of these than the ring has places. Hands count from 0. It waits for nobody.
     ///
+    /// A report is of a job that the owner pushed.
+    ///
     /// It is `None` where none is found, so that none is left that was seen, and where there is no such hand. Nothing
     /// has changed then.
     #[tactic(auto, using(crate::proofs::Rings::map_past))]
@@ -94,13 +107,17 @@ impl Owner {
         ensures few { FewWait self.new hand }
         ensures some { IfSome result (λ report. hand < length self.old.collected) }
         ensures collected { IfSome result (λ report. HasCollected self.old hand report self.new) }
+        ensures of_pushed { IfSome result (IsOfPushed self.old) }
     {
         if hand >= self.rings.len() {
             return None;
         }
-        let Ok(report) = self.rings[hand].pop() else {
+        let Ok(parcel) = self.rings[hand].pop() else {
             return None;
         };
+        let Parcel { report, pass } = parcel;
+        self.deque.absorb::<TakenIn>(pass);
+        let _ = self.deque.len_as::<OwnJobs>();
         Some(report)
     }
 }

@@ -1,17 +1,22 @@
 //! Pools.
 
 ghost use Rattle.std.specs.Prelude.{◌≡◌, ◌≤◌, [], length, replicate, IfOk};
-ghost use Rattle.steal_pool.specs.Views.{AreFresh, HasRooms};
+ghost use Rattle.crossbeam_deque.specs.Handles.{stealer_deque};
+ghost use Rattle.rtrb.specs.Ring.{sent, known_free, received, known_items};
+ghost use Rattle.steal_pool.specs.Names.{sent_into, read_from};
+ghost use Rattle.steal_pool.specs.Parcels.{IsHeader};
+ghost use Rattle.steal_pool.specs.Views.{AreFresh, HasRooms, ring_room};
 
-use crate::hand::{Hand, Thief};
+use crate::desk::Desk;
+use crate::hand::Hand;
 use crate::owner::Owner;
-use crate::report::Report;
+use crate::parcel::{Parcel, Reporting};
 use crate::rule::{Deal, EndView};
-use crossbeam_deque::Worker;
+use crossbeam_deque::{Stealer, Worker};
 use grid_core::Memory;
 use raster_sweeps::Room;
-use rtrb::RingBuffer;
-use std::alloc::Global;
+use rtrb::{Consumer, Producer, RingBuffer};
+use std::alloc::{AllocError, Global};
 use tile_generations::Job;
 
 /// How many reports of a hand wait at most to be collected, beside the one that it holds.
@@ -19,6 +24,36 @@ const REPORTS: usize = 64;
 
 /// The pixels of the largest tile, which a hand has room to sweep.
 const PIXELS: u32 = 256 * 256;
+
+// A ring for the reports of a hand, with all its places known to be free. Its header went through it.
+#[tactic(auto, using(crate::proofs::Deals::admits))]
+fn ring(
+    alloc: Global,
+    stealer: &Stealer<Job, Global, EndView, Deal>,
+) -> Result<
+    (
+        Producer<Parcel, Global, Reporting>,
+        Consumer<Parcel, Global, Reporting>,
+    ),
+    AllocError,
+>
+    ensures names { IfOk result (λ ends. sent_into ends.0 ≡ read_from ends.1) }
+    ensures places { IfOk result (λ ends. (read_from ends.1).0 ≡ ring_room) }
+    ensures sent { IfOk result (λ ends. IsHeader (stealer_deque stealer.now) (sent ends.0)) }
+    ensures free { IfOk result (λ ends. known_free ends.0 ≡ ring_room) }
+    ensures received { IfOk result (λ ends. IsHeader (stealer_deque stealer.now) (received ends.1)) }
+    ensures none_seen { IfOk result (λ ends. known_items ends.1 ≡ []) }
+{
+    let (mut producer, mut consumer) = RingBuffer::<Parcel>::with_protocol::<Global, Reporting>(
+        alloc, REPORTS,
+    )?;
+    producer.push_reserved(Parcel::header(stealer.pass()));
+    consumer.slots_beside(&mut producer);
+    let _header = consumer.pop_known();
+    producer.slots_beside(&mut consumer);
+    consumer.slots_beside(&mut producer);
+    Ok((producer, consumer))
+}
 
 /// An owner and its hands, which go their own ways.
 #[derive(Drop)]
@@ -50,11 +85,11 @@ impl Pool {
         let mut rings = Vec::with_capacity(alloc, hands)?;
         let mut all = Vec::with_capacity(alloc, hands)?;
         for _hand in 0..hands {
-            let (producer, consumer) = RingBuffer::<Report>::new(alloc, REPORTS)?;
+            let stealer = deque.stealer()?;
+            let (producer, consumer) = ring(alloc, &stealer)?;
             let room = Room::new(alloc, PIXELS)?;
-            let thief = Thief::new(deque.stealer()?);
             rings.push(consumer)?;
-            all.push(Hand::new(alloc, room, thief, producer))?;
+            all.push(Hand::new(alloc, room, Desk::new(stealer, producer)))?;
         }
         Ok(Pool {
             owner: Owner {

@@ -1,9 +1,9 @@
 //! The rule of the deque.
 
 ghost use Rattle.std.specs.Prelude.{◌≡◌, ◌++◌};
-ghost use Rattle.steal_pool.specs.Deal.{IsDealt, Gets, newcomer, view_of};
+ghost use Rattle.steal_pool.specs.Deal.{IsDealt, Gets, HasPushed, newcomer, view_of};
 
-use crossbeam_deque::protocol::{Outcome, Protocol};
+use crossbeam_deque::protocol::{Join, Lesson, Outcome, Protocol};
 use std::collections::LinkedList;
 use tile_generations::Job;
 
@@ -38,4 +38,20 @@ pub struct Got;
 
 impl Outcome<Job, EndView> for Got {
     ghost then = { Gets };
+}
+
+/// The owner takes in what another end got.
+pub struct TakenIn;
+
+impl Join<EndView> for TakenIn {
+    ghost both = { λ v w. view_of v.pushed (v.got ++ w.got) };
+
+    ghost spent = { newcomer };
+}
+
+/// The owner pushed each job that it took in.
+pub struct OwnJobs;
+
+impl Lesson<Job, EndView> for OwnJobs {
+    ghost fact = { λ v jobs. HasPushed v };
 }

@@ -1,8 +1,8 @@
-use Rattle.std.proofs.Common.{◌≡◌, ◌+◌, ◌∷◌, [], ◌∙◌, sym, ap, arith, length, map}
+use Rattle.std.proofs.Common.{◌≡◌, ◌+◌, ◌∷◌, [], ◌∙◌, sym, ap, subst, arith, length, map, Global}
 use Rattle.std.proofs.lemmas.List.{length-append}
 use Rattle.crossbeam_deque.specs.Handles.{worker_view, worker_port}
-use Rattle.rtrb.specs.Ring.{received, known_items}
-use Rattle.steal_pool.specs.Names.{read_from}
+use Rattle.steal_pool.specs.{Names.DequeName, Names.read_from, Parcels.AreHeaded, Parcels.collected_from}
+use Rattle.steal_pool.specs.Parcels.{waiting_in}
 use Rattle.steal_pool.proofs.Deals.{pushes}
 use Rattle.steal_pool.specs.declared.rule.EndView.{EndView}
 use Rattle.steal_pool.proofs.owner.Owner.push.Goals as goal
@@ -21,6 +21,8 @@ invariant_of-self c =
       omega (arith, more, was.2, pushed.1),
       omega (arith, was.3, same.3),
       omega (arith, more, was.4, c.saturating_add-self-inside.ensures),
+      subst (λ (d : DequeName × Global). AreHeaded d c.self.inside.rings.items) (sym same.0) was.5,
+      λ zero. absurd (omega (arith, zero, c.saturating_add-self-inside.ensures)),
     )
 
 pub push_as-requires-clause-pushes : goal.push_as-requires-clause-pushes
@@ -41,6 +43,8 @@ invariant_of-self-in-Err c =
       omega (arith, count, was.2, kept.2),
       omega (arith, was.3, same.3),
       omega (arith, count, was.4),
+      subst (λ (d : DequeName × Global). AreHeaded d c.self.inside.rings.items) (sym same.0) was.5,
+      λ zero. ap (λ (v : EndView). v.pushed) kept.1 ∙ was.6 zero,
     )
 
 pub returns-in-Ok-clause-ok : goal.returns-in-Ok-clause-ok
@@ -52,8 +56,8 @@ returns-in-Ok-clause-ok c =
     (λ i. record {
       pushed = (pushed i).pushed;
       capacity = was.capacity;
-      collected = map received was.rings.items;
-      waiting = map known_items was.rings.items;
+      collected = map collected_from was.rings.items;
+      waiting = map waiting_in was.rings.items;
       deque = (same i).0;
       rings = map read_from was.rings.items;
     })
@@ -67,8 +71,8 @@ returns-in-Err-clause-err c =
     (λ i. record {
       pushed = (kept i).pushed;
       capacity = was.capacity;
-      collected = map received was.rings.items;
-      waiting = map known_items was.rings.items;
+      collected = map collected_from was.rings.items;
+      waiting = map waiting_in was.rings.items;
       deque = (same i).0;
       rings = map read_from was.rings.items;
     })
