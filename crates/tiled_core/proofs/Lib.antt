@@ -7,3 +7,4 @@ pub mod Rings
 pub mod ToldEdges
 pub mod Passing
 pub mod QuietCores
+pub mod Owning

@@ -8,6 +8,7 @@ pub use Rattle.tile_generations.specs.Generations
 pub use Rattle.tile_generations.specs.Rims as TileRims
 pub use Rattle.core_rules.specs.Work
 pub use Rattle.core_rules.specs.Image
+pub use Rattle.core_rules.specs.Invariant
 pub use Rattle.core_rules.specs.Merge
 pub use Rattle.core_rules.specs.Sweeps
 pub use Rattle.core_rules.specs.Hints
@@ -28,3 +29,4 @@ pub mod Patches
 pub mod Passing
 pub mod Handing
 pub mod Joining
+pub mod Owning

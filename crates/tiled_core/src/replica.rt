@@ -8,6 +8,7 @@ ghost use Rattle.marker_tiles.specs.Kept.{IsMarkerOf};
 ghost use Rattle.tile_generations.specs.Generations.{max_generation};
 ghost use Rattle.tile_work.specs.Least.{IsLeastFrom};
 ghost use Rattle.tile_work.specs.WorkTable.{HasJobOut};
+ghost use Rattle.core_rules.specs.Invariant.{IsSound};
 ghost use Rattle.core_rules.specs.Runs.{HasHints, ticket_out};
 ghost use Rattle.core_rules.specs.Sweeps.{IsReady};
 ghost use Rattle.core_rules.specs.Work.{IsQuiet, IsTile, tiling, work_at};
@@ -227,6 +228,15 @@ impl TiledCore {
     /// is left it is that reconstruction. It does nothing.
     pub fn image_is_lawful(&self)
         ensures { IsImageOf self.now self.now.image }
+    {
+        // A look at a field opens the core, so that what each core keeps is known.
+        let _conn = self.conn;
+    }
+
+    /// The core is sound: its image is supported by the strokes, the hints that wait are valid, and each pair of
+    /// neighbours that is still open has work. It does nothing.
+    pub fn is_sound(&self)
+        ensures { IsSound self.now }
     {
         // A look at a field opens the core, so that what each core keeps is known.
         let _conn = self.conn;

@@ -17,6 +17,7 @@ ghost use Rattle.tiled_image.specs.Raising.{IsBelowInside, RaisesAs};
 ghost use Rattle.tiled_image.specs.Shown.{value_in};
 ghost use Rattle.tiled_image.specs.Sides.{HasSides};
 ghost use Rattle.tiled_core.specs.Joining.{IsRaising};
+ghost use Rattle.tiled_core.specs.Owning.{IsOwn};
 ghost use Rattle.tiled_core.specs.Patches.{patch_of};
 
 use super::TiledCore;
@@ -69,6 +70,39 @@ impl TiledCore {
         ensures returned { IfErr result (λ e. e.0 ≡ swept) }
     {
         let back = self.answer_to(&swept);
+        self.take_back(alloc, swept, back)
+    }
+
+    /// Gives back a swept tile as [`give_back`](TiledCore::give_back) does, where it is known that a job of this ticket
+    /// that is out is one that this core gave: neither mask nor base are then compared.
+    ///
+    /// Errors: out of memory, with the swept tile handed back; nothing has changed then.
+    pub fn give_back_own(&mut self, alloc: Global, swept: Swept) -> Result<Back, (Swept, Memory)>
+        requires own { IsOwn self.old swept.job }
+        ensures given { IfOk result (λ back. IsGivenBack self.old swept back self.new) }
+        ensures memory { OnErr result (IsJoinable self.old swept.job) }
+        ensures err { OnErr result (self.new ≡ self.old) }
+        ensures returned { IfErr result (λ e. e.0 ≡ swept) }
+    {
+        let back = self.answer_to_own(&swept);
+        self.take_back(alloc, swept, back)
+    }
+
+    // Gives back a swept tile that was judged.
+    //
+    // Errors: out of memory, with the swept tile handed back; nothing has changed then.
+    fn take_back(
+        &mut self,
+        alloc: Global,
+        swept: Swept,
+        back: Back,
+    ) -> Result<Back, (Swept, Memory)>
+        requires judged { IsJudged self.old swept.job back }
+        ensures given { IfOk result (λ back. IsGivenBack self.old swept back self.new) }
+        ensures memory { OnErr result (IsJoinable self.old swept.job) }
+        ensures err { OnErr result (self.new ≡ self.old) }
+        ensures returned { IfErr result (λ e. e.0 ≡ swept) }
+    {
         match back {
             Back::Joined | Back::Again => match self.join(alloc, &swept, back == Back::Joined) {
                 Ok(()) => {
@@ -221,6 +255,23 @@ impl TiledCore {
             return Back::Joined;
         }
         Back::Stranger
+    }
+
+    // What becomes of a swept tile that is given back, if memory lasts, where a job of its ticket that is out is the
+    // core's own.
+    fn answer_to_own(&self, swept: &Swept) -> Back
+        requires own { IsOwn self.now swept.now.job }
+        ensures { IsJudged self.now swept.now.job result }
+    {
+        let ticket = swept.ticket();
+        if !self.has_out(ticket) {
+            return self.answer_to(swept);
+        }
+        if self.work.is_dirty(ticket.tile) {
+            Back::Again
+        } else {
+            Back::Joined
+        }
     }
 
     // Joins a swept tile into the image. Where the tile is as it was when its job was taken, but for its rim, what the
