@@ -2,7 +2,7 @@
 use Rattle.std.proofs.Common.{◌≡◌, ◌≤◌, length, sym, refl, ap, ◌∙◌, subst, arith}
 use Rattle.steal_pool.specs.Views.{IsSamePool}
 use Rattle.core_dispatch.specs.Books.{BooksView, KeepsRest}
-use Rattle.core_dispatch.specs.{Pens.KeepsPens, Jobs.with_core, declared.dispatcher.Dispatcher.Dispatcher}
+use Rattle.core_dispatch.specs.{Pens.KeepsPens, Jobs.with_core, Dispatching.Dispatcher}
 use Rattle.core_dispatch.proofs.Steady.{rest_kept}
 
 -- the books are as they were but for the core; no pushed job is lost, and as many pushes surely succeed; the pool has

@@ -7,7 +7,7 @@ use Rattle.core_rules.specs.Events.{GiveBack, Abandon, OfGiveBack, OfAbandon}
 use Rattle.core_rules.specs.Sweeps.{IsGivenBack, IsAbandoned}
 use Rattle.reset_core.specs.Answers.{IsJoinable}
 use Rattle.steal_pool.specs.declared.report.Report.TheVariants.{Failed}
-use Rattle.core_dispatch.specs.{Books.BooksView, Books.KeepsRest, declared.dispatcher.Dispatcher.Dispatcher}
+use Rattle.core_dispatch.specs.{Books.BooksView, Books.KeepsRest, Dispatching.Dispatcher}
 use Rattle.core_dispatch.specs.Reports.{IsAnswered, IsGivenOver, IsJudged, IsCollected, AreCollected, results_in}
 use Rattle.core_dispatch.proofs.Steady.{rest_kept}
 

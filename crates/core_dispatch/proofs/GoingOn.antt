@@ -2,7 +2,7 @@
 use Rattle.std.proofs.Common.{◌≡◌, ℕ, ◌+◌, List, [], ◌++◌, refl, ap, ◌∙◌, Result, Ok, Err, OnOk, IfErr}
 use Rattle.core_rules.proofs.Running.{run_append}
 use Rattle.core_dispatch.specs.{Books.BooksView, Pens.KeepsPens, Taking.HaveTakenEdits}
-use Rattle.core_dispatch.specs.{declared.dispatcher.Dispatcher.Dispatcher, declared.turned.Results.Results}
+use Rattle.core_dispatch.specs.{Dispatching.Dispatcher, declared.turned.Results.Results}
 use Rattle.core_dispatch.specs.{Reports.HaveCollected, declared.error.CloseError.CloseError, declared.pen.PenEnd.PenEnd}
 use Rattle.core_dispatch.specs.Closing.{HasGoneOn, HasTakenEdits, HasTakenAll, HasNotTakenAll}
 use Rattle.core_dispatch.proofs.Rounds.{pens_through, none_taken, more_taken}

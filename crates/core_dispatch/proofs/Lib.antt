@@ -6,6 +6,7 @@ pub mod Rounds
 pub mod Taking
 pub mod Resting
 pub mod Marking
+pub mod Genuine
 pub mod Steady
 pub mod Growing
 pub mod Around

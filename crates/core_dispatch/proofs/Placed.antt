@@ -9,7 +9,7 @@ use Rattle.core_rules.specs.Events.{Take, Abandon, OfTake, OfAbandon}
 use Rattle.core_rules.specs.Runs.{Entry, IsRun, HasHints, jobs_of, abandons_of}
 use Rattle.core_dispatch.proofs.{Growing.AreNoMerges, Marking.IsOnlyMarked}
 use Rattle.core_dispatch.proofs.Around.{KeepsAround, around_core, around_itself, around_through}
-use Rattle.core_dispatch.specs.{declared.turned.Pushing.Pushing, declared.dispatcher.Dispatcher.Dispatcher}
+use Rattle.core_dispatch.specs.{declared.turned.Pushing.Pushing, Dispatching.Dispatcher}
 use Rattle.core_dispatch.specs.{Turns.AreOfJobs}
 use Rattle.core_dispatch.specs.declared.turned.Pushing.TheVariants.{Pushed, Refused, Wanting}
 use Rattle.core_dispatch.specs.Jobs.{ArePushed, IsLeft, IsPushed, pushed_in, is_wanting}

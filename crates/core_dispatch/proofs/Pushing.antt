@@ -8,7 +8,7 @@ use Rattle.tile_generations.specs.{declared.ticket.Ticket.Ticket, Jobs.Job}
 use Rattle.border_queues.specs.TileWork.{TileWork, IsLeast, idle}
 use Rattle.core_rules.specs.{Work.Core, Work.work_at, Sweeps.IsReady, Sweeps.IsTaken}
 use Rattle.core_dispatch.specs.{Books.BooksView, Books.KeepsRest, declared.turned.Jobs.Jobs}
-use Rattle.core_dispatch.specs.{declared.turned.Pushing.Pushing, declared.dispatcher.Dispatcher.Dispatcher}
+use Rattle.core_dispatch.specs.{declared.turned.Pushing.Pushing, Dispatching.Dispatcher}
 use Rattle.core_dispatch.specs.declared.turned.Pushing.TheVariants.{Pushed, Refused, Wanting}
 use Rattle.core_dispatch.specs.Jobs.{HavePushed, IsNextTile, IsPlaced, IsPushed, ArePushed, IsLeft, pushing, pushed_in}
 use Rattle.core_dispatch.specs.Jobs.{is_wanting, with_core}

@@ -8,7 +8,7 @@ use Rattle.core_rules.specs.declared.answers.Back.TheVariants.{Joined, Again, St
 use Rattle.core_rules.proofs.Running.{run_append}
 use Rattle.steal_pool.specs.{declared.report.Report.Report, Views.OwnerView}
 use Rattle.steal_pool.specs.declared.report.Report.TheVariants.{Done, Failed}
-use Rattle.core_dispatch.specs.{declared.dispatcher.Dispatcher.Dispatcher, Turns.AreOfReports}
+use Rattle.core_dispatch.specs.{Dispatching.Dispatcher, Turns.AreOfReports}
 use Rattle.core_dispatch.specs.Reports.{IsDropped, IsAnswered, Leads, AreCollected, results_in}
 use Rattle.core_dispatch.proofs.Growing.{AreNoMerges, no_merges_append}
 use Rattle.core_dispatch.proofs.Around.{KeepsAround, around_itself, around_through}

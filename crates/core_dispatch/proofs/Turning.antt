@@ -8,7 +8,7 @@ use Rattle.core_rules.proofs.Running.{run_append}
 use Rattle.steal_pool.specs.Views.{IsSamePool}
 use Rattle.core_dispatch.specs.{declared.refusal.Refusal.Refusal, Books.BooksView, Handing.AreHands, Handing.Counts}
 use Rattle.core_dispatch.specs.{declared.turned.Turned.Turned, declared.turned.Results.Results}
-use Rattle.core_dispatch.specs.{declared.turned.Jobs.Jobs, declared.dispatcher.Dispatcher.Dispatcher}
+use Rattle.core_dispatch.specs.{declared.turned.Jobs.Jobs, Dispatching.Dispatcher}
 use Rattle.core_dispatch.specs.{Reports.HaveCollected, Jobs.HavePushed, Jobs.with_core, Growing.GrowsOn}
 use Rattle.core_dispatch.specs.Turns.{HasTurned, AreOfReports, AreEvents, HasMergedNone, IsStill}
 use Rattle.core_dispatch.proofs.Growing.{AreNoMerges, no_merges_append, run_is_steady, run_grows}

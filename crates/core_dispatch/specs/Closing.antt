@@ -8,7 +8,7 @@ use Rattle.steal_pool.specs.Views.{ring_room}
 use Rattle.core_dispatch.specs.{declared.pen.PenEnd.PenEnd, Books.BooksView, Taking.HaveTakenEdits}
 use Rattle.core_dispatch.specs.{declared.error.CloseError.CloseError, declared.error.CloseError.TheVariants.EndMissing}
 use Rattle.core_dispatch.specs.{declared.error.CloseError.TheVariants.CountSpent, declared.turned.Results.Results}
-use Rattle.core_dispatch.specs.{declared.dispatcher.Dispatcher.Dispatcher, Reports.HaveCollected, Growing.GrowsOn}
+use Rattle.core_dispatch.specs.{Dispatching.Dispatcher, Reports.HaveCollected, Growing.GrowsOn}
 use Rattle.core_dispatch.specs.Pens.{IsEndOf, IsSameEnd, HasAllOf, IsSpent, KeepsPens, end_number}
 
 -- each end is of a pen of the books

@@ -8,7 +8,7 @@ use Rattle.tiled_core.specs.Passing.{ArePassedUntil}
 use Rattle.core_rules.specs.{Work.Core, Sweeps.IsReady, Sweeps.IsTaken, Sweeps.IsAbandoned}
 use Rattle.steal_pool.specs.Views.{OwnerView}
 use Rattle.core_dispatch.specs.{declared.turned.Jobs.Jobs, declared.turned.Pushing.Pushing}
-use Rattle.core_dispatch.specs.{declared.dispatcher.Dispatcher.Dispatcher}
+use Rattle.core_dispatch.specs.{Dispatching.Dispatcher}
 use Rattle.core_dispatch.specs.declared.turned.Pushing.TheVariants.{Pushed, Refused, Wanting}
 
 -- the dispatcher with another core, all else being as it was

@@ -17,6 +17,7 @@ pub mod Taking
 pub mod Resting
 pub mod Handing
 pub mod Dispatching
+pub mod Genuine
 pub mod Reports
 pub mod Jobs
 pub mod Turns

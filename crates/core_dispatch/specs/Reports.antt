@@ -9,7 +9,7 @@ use Rattle.reset_core.specs.Answers.{IsJoinable}
 use Rattle.steal_pool.specs.{declared.report.Report.Report, Views.HasCollected, Views.waiting_of}
 use Rattle.steal_pool.specs.declared.report.Report.TheVariants.{Done, Failed}
 use Rattle.core_dispatch.specs.Books.{BooksView, KeepsRest}
-use Rattle.core_dispatch.specs.{declared.turned.Results.Results, declared.dispatcher.Dispatcher.Dispatcher}
+use Rattle.core_dispatch.specs.{declared.turned.Results.Results, Dispatching.Dispatcher}
 
 -- the job of the ticket is abandoned, if it is out
 abbrev pub IsDropped : Ticket → List Entry → Type 0

@@ -6,7 +6,7 @@ use Rattle.steal_pool.specs.{declared.report.Report.Report, Views.IsSamePool}
 use Rattle.core_dispatch.specs.{declared.taken.Edits.Edits, Growing.GrowsOn, Pens.KeepsPens, Handing.HaveHanded}
 use Rattle.core_dispatch.specs.{Handing.AreHands, Handing.Counts, Taking.IsRound, Taking.HaveTakenEdits}
 use Rattle.core_dispatch.specs.{Taking.AreMerges, declared.turned.Turned.Turned, declared.turned.Results.Results}
-use Rattle.core_dispatch.specs.{declared.turned.Jobs.Jobs, declared.dispatcher.Dispatcher.Dispatcher}
+use Rattle.core_dispatch.specs.{declared.turned.Jobs.Jobs, Dispatching.Dispatcher}
 use Rattle.core_dispatch.specs.{Reports.HaveCollected, Reports.Leads, Jobs.HavePushed, Jobs.with_core}
 
 -- in this order: each pen had one turn; each hand was asked for a report; each hint that waited was handed over; and

@@ -40,6 +40,7 @@ mod dispatcher;
 mod error;
 mod pen;
 mod refusal;
+mod serials;
 mod taken;
 mod turned;
 

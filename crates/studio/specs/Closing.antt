@@ -1,7 +1,7 @@
 -- What is left of a studio at its end.
 use Rattle.std.specs.Prelude.{◌≡◌, List}
 use Rattle.core_dispatch.specs.{declared.pen.PenEnd.PenEnd, Books.IsFaithful, Books.ledger}
-use Rattle.core_dispatch.specs.{declared.dispatcher.Dispatcher.Dispatcher, Dispatching.books_by, Dispatching.core_by}
+use Rattle.core_dispatch.specs.{Dispatching.Dispatcher, Dispatching.books_by, Dispatching.core_by}
 use Rattle.core_dispatch.specs.Closing.{AreKept, HasTakenAll, HasNotTakenAll}
 use Rattle.studio.specs.{declared.keeper.Keeper.Keeper, declared.closed.Closed.Closed}
 use Rattle.studio.specs.{declared.closed.NotClosed.NotClosed}

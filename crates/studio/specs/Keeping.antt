@@ -3,7 +3,7 @@ use Rattle.std.specs.Prelude.{◌≡◌, ◌↔◌, List, [], ◌∷◌, ◌++�
 use Rattle.logbook.specs.Pages.{Book}
 use Rattle.core_rules.specs.Work.{Core, IsQuiet}
 use Rattle.steal_pool.specs.Views.{OwnerView}
-use Rattle.core_dispatch.specs.{Books.BooksView, declared.dispatcher.Dispatcher.Dispatcher}
+use Rattle.core_dispatch.specs.{Books.BooksView, Dispatching.Dispatcher}
 use Rattle.core_dispatch.specs.Dispatching.{books_by, owner_by, core_by}
 use Rattle.studio.specs.{Shots.Shot, Words.shown_by, Words.publisher_studio, Words.ShowsTold}
 use Rattle.studio.specs.{declared.keeper.Keeper.Keeper, declared.shots.told.Told.Told}

@@ -3,7 +3,7 @@ use Rattle.std.specs.Prelude.{◌≡◌, ℕ, ◌<◌, ◌≤◌, List, [], ◌�
 use Rattle.core_rules.specs.Work.{Core}
 use Rattle.steal_pool.specs.Views.{OwnerView, AreFresh, HasRooms}
 use Rattle.core_dispatch.specs.{Books.BooksView, Books.ledger, Pens.submitted, Pens.HasItsDesk}
-use Rattle.core_dispatch.specs.{declared.dispatcher.Dispatcher.Dispatcher, Dispatching.core_by}
+use Rattle.core_dispatch.specs.{Dispatching.Dispatcher, Dispatching.core_by}
 use Rattle.studio.specs.{declared.shots.eye.Eye.Eye, Shots.Shot, declared.shots.publisher.Publisher.Publisher}
 use Rattle.studio.specs.{declared.keeper.Keeper.Keeper, declared.opening.Over.Over, declared.opening.Studio.Studio}
 use Rattle.studio.specs.Words.{shown_by, last_by, publisher_studio, seen_by, learnt_by, eye_studio}

@@ -60,14 +60,14 @@ impl Keeper {
         ensures value { result.now ≡ core_of self.now }
         ensures faithful { IsFaithful (ledger (books_of self.now)) }
     {
-        self.dispatcher.books.core()
+        self.dispatcher.core()
     }
 
     /// The edits that were taken and not merged, in the order in which they were taken.
     pub fn refusals(&self) -> &[Refusal]
         ensures { result.now ≡ (books_of self.now).refusals }
     {
-        self.dispatcher.books.refusals()
+        self.dispatcher.books().refusals()
     }
 
     /// Abandons a job that is out: the tile is then not out, and dirty. It says whether the job was out. It takes no
@@ -78,7 +78,7 @@ impl Keeper {
         ensures owner { owner_of self.new ≡ owner_of self.old }
         ensures untouched { IsUntouched self.old self.new }
     {
-        self.dispatcher.books.abandon(ticket)
+        self.dispatcher.abandon(ticket)
     }
 
     /// Abandons each job that is out, tile by tile, and says how many there were. It takes no memory, and waits for
@@ -91,6 +91,6 @@ impl Keeper {
         ensures owner { owner_of self.new ≡ owner_of self.old }
         ensures untouched { IsUntouched self.old self.new }
     {
-        self.dispatcher.books.recall()
+        self.dispatcher.recall()
     }
 }

@@ -159,7 +159,7 @@ fn over_books<R: Wait>(
     let dispatcher = Dispatcher::new(alloc, books, owner);
     let mut keeper = match Keeper::open(rt, alloc, dispatcher, blanks, eyes) {
         Ok(keeper) => keeper,
-        Err(dispatcher) => return Err((dispatcher.books, OpenError::Memory)),
+        Err(dispatcher) => return Err((dispatcher.into_books(), OpenError::Memory)),
     };
     match keeper.eyes(eyes) {
         Ok(eyes) => Ok(Over {

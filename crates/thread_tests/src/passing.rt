@@ -46,7 +46,7 @@ fn plays(dispatcher: &mut Dispatcher, hands: &mut Vec<Hand>) -> [bool; 3] {
         hand.turn(&Open);
     }
     dispatcher.turn();
-    let core = dispatcher.books.core();
+    let core = dispatcher.books().core();
     [is_out(core, 1), is_out(core, 2), is_out(core, 3)]
 }
 

@@ -1,9 +1,10 @@
 //! What else happens to the core of the books.
 
-ghost use Rattle.std.specs.Prelude.{◌≡◌, length, IfOk, IfErr, OnErr};
+ghost use Rattle.std.specs.Prelude.{◌≡◌, length, IfOk, IfErr, IsTrue, OnErr};
 ghost use Rattle.core_rules.specs.Sweeps.{IsReady, IsTaken, IsGivenBack, IsAbandoned};
 ghost use Rattle.core_rules.specs.Runs.{IsRun, NoneOut, abandoned, tickets_out};
 ghost use Rattle.reset_core.specs.Answers.{IsJoinable};
+ghost use Rattle.tiled_core.specs.Owning.{IsOwn};
 ghost use Rattle.tiled_core.specs.Passing.{ArePassedUntil};
 ghost use Rattle.tiled_image.specs.Settling.{IsSettledFor};
 ghost use Rattle.core_dispatch.specs.Books.{KeepsRest};
@@ -41,17 +42,24 @@ impl Books {
         self.core.pass_over(from)
     }
 
-    /// Gives back a swept tile, as [`TiledCore::give_back`] does.
+    /// Gives back a swept tile, as [`TiledCore::give_back`] does, or [`TiledCore::give_back_own`] where it is known to be
+    /// the core's own.
     ///
     /// Errors: out of memory, with the swept tile handed back; nothing has changed then.
-    pub(crate) fn give_back(&mut self, alloc: Global, swept: Swept) -> Result<Back, (Swept, Memory)>
+    pub(crate) fn give_back(
+        &mut self,
+        alloc: Global,
+        swept: Swept,
+        is_own: bool,
+    ) -> Result<Back, (Swept, Memory)>
+        requires own { IsTrue is_own → IsOwn self.old.core swept.job }
         ensures given { IfOk result (λ back. IsGivenBack self.old.core swept back self.new.core) }
         ensures memory { OnErr result (IsJoinable self.old.core swept.job) }
         ensures err { OnErr result (self.new ≡ self.old) }
         ensures returned { IfErr result (λ e. e.0 ≡ swept) }
         ensures rest { KeepsRest self.old self.new }
     {
-        self.core.give_back(alloc, swept)
+        give_back_to(&mut self.core, alloc, swept, is_own)
     }
 
     /// Abandons a job that is out: the tile is then not out, and dirty. It says whether the job was out. It takes no
@@ -93,5 +101,27 @@ impl Books {
         ensures rest { KeepsRest self.old self.new }
     {
         self.core.settle_in_bands(rt, alloc, threads, jobs)
+    }
+}
+
+// Gives a swept tile back to a core, of which it may be known to be its own.
+//
+// Errors: out of memory, with the swept tile handed back; nothing has changed then.
+fn give_back_to(
+    core: &mut TiledCore,
+    alloc: Global,
+    swept: Swept,
+    is_own: bool,
+) -> Result<Back, (Swept, Memory)>
+    requires own { IsTrue is_own → IsOwn core.old swept.job }
+    ensures given { IfOk result (λ back. IsGivenBack core.old swept back core.new) }
+    ensures memory { OnErr result (IsJoinable core.old swept.job) }
+    ensures err { OnErr result (core.new ≡ core.old) }
+    ensures returned { IfErr result (λ e. e.0 ≡ swept) }
+{
+    if is_own {
+        core.give_back_own(alloc, swept)
+    } else {
+        core.give_back(alloc, swept)
     }
 }

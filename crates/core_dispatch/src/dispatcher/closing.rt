@@ -2,7 +2,10 @@
 
 ghost use Rattle.std.specs.Prelude.{◌≡◌, ◌≢◌, ◌↔◌, ◌<◌, ℕ, length, IsTrue, IfErr, OnOk, MatchOption};
 ghost use Rattle.core_dispatch.specs.declared.error.CloseError.TheVariants as errors;
+ghost use lib.ListN.{get_elem?};
 ghost use Rattle.core_dispatch.specs.Dispatching.{books_by};
+ghost use Rattle.core_dispatch.specs.Pens.{HasAllOf, IsEndOf, IsSameEnd, IsSpent, KeepsPens, end_number};
+ghost use Rattle.core_dispatch.specs.Taking.{HaveTakenEdits};
 ghost use Rattle.core_dispatch.specs.Closing.{AreEndsOf, AreKept, HasEndOf, HaveEach, IsOneOf, IsPlaceOf};
 ghost use Rattle.core_dispatch.specs.Closing.{AreAllTaken, IsAllTaken, HasSpentCount, HasGoneOn};
 ghost use Rattle.core_dispatch.specs.Closing.{HasTakenEdits, HasTakenReports, HasTakenAll, HasNotTakenAll};
@@ -10,6 +13,7 @@ ghost use Rattle.core_dispatch.specs.Closing.{HasTakenEdits, HasTakenReports, Ha
 use super::Dispatcher;
 use crate::error::CloseError;
 use crate::pen::PenEnd;
+use border_queues::laws::edges_are_open;
 
 /// How many reports of a hand wait at most.
 const REPORTS: usize = 64;
@@ -26,7 +30,7 @@ impl Dispatcher {
         ensures not_all { IfErr result (HasNotTakenAll self.old ends.old.items self.new) }
         ensures ends { AreKept ends.old.items ends.new.items (books_by self.new) }
     {
-        if !has_one_of_each(self.books.pens(), ends) {
+        if !has_one_of_each(self.pens(), ends) {
             return Err(CloseError::EndMissing);
         }
         self.take_edits_left(ends)?;
@@ -48,7 +52,7 @@ impl Dispatcher {
         ensures goes_on { HasGoneOn self.old self.new }
         ensures taken { HasTakenEdits self.old self.new }
     {
-        for number in 0..self.books.pens() {
+        for number in 0..self.pens() {
             self.take_edits_of(ends, number)?;
         }
         Ok(())
@@ -71,9 +75,31 @@ impl Dispatcher {
         ensures taken { HasTakenEdits self.old self.new }
     {
         match place_of(ends, number) {
-            Some(place) => self.books.take_rest(self.alloc, &mut ends[place]),
+            Some(place) => self.take_rest_of(&mut ends[place]),
             None => Ok(()),
         }
+    }
+
+    // Takes all that is left of a pen that has finished, as the books do.
+    //
+    // Errors: B2 and B3.
+    fn take_rest_of(&mut self, end: &mut PenEnd) -> Result<(), CloseError>
+        requires { IsEndOf end.old (books_by self.old) }
+        ensures whole { OnOk result (HasAllOf (books_by self.new) end.old) }
+        ensures taken { (edits : ℕ) × HaveTakenEdits (books_by self.old) edits (books_by self.new) }
+        ensures others { (pen : ℕ) → pen ≢ end_number end.old
+            → get_elem? (books_by self.new).desks pen ≡ get_elem? (books_by self.old).desks pen }
+        ensures spent { IfErr result (λ why. why ≡ errors.CountSpent → IsSpent (books_by self.new) end.old) }
+        ensures why { IfErr result (λ why. why ≢ errors.EndMissing) }
+        ensures end { IsSameEnd end.old end.new }
+        ensures kept { IsEndOf end.new (books_by self.new) }
+        ensures pens { KeepsPens (books_by self.old) (books_by self.new) }
+        ensures other { self.new ≡ record self.old { books = books_by self.new } }
+    {
+        // For their clauses alone: the core is sound, so that a job that is out stays its own.
+        edges_are_open();
+        self.books.core().is_sound();
+        self.books.take_rest(self.alloc, end)
     }
 
     // Takes at most 64 reports of each hand.

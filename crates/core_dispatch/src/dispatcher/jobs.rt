@@ -1,11 +1,15 @@
 //! Jobs that are pushed for hands.
 
+ghost use Rattle.std.specs.Prelude.{◌≡◌};
 ghost use Rattle.core_rules.specs.Sweeps.{IsReady, IsOut};
 ghost use Rattle.core_dispatch.specs.Dispatching.{core_by};
-ghost use Rattle.core_dispatch.specs.Jobs.{HavePushed, IsNextTile, IsPlaced, IsPushed};
+ghost use Rattle.core_dispatch.specs.Jobs.{HavePushed, IsNextTile, IsPlaced, IsPushed, with_core};
+ghost use Rattle.tiled_core.specs.Passing.{ArePassedUntil};
 
 use super::Dispatcher;
+use crate::books::Books;
 use crate::turned::{Jobs, Pushing};
+use steal_pool::Owner;
 use tile_generations::Job;
 
 impl Dispatcher {
@@ -15,7 +19,7 @@ impl Dispatcher {
         ensures { HavePushed self.old result self.new }
     {
         // For its clause alone: the number of tiles can be counted.
-        let _ = self.books.core().tiles();
+        let _ = self.tiles();
         let mut pushed = Jobs {
             jobs: 0,
             memory: false,
@@ -35,10 +39,20 @@ impl Dispatcher {
         ensures { IsNextTile from result self.old self.new }
     {
         if self.owner.is_past_capacity() {
-            self.books.pass_over(from)
+            self.pass_over(from)
         } else {
             self.books.core().next_dirty(from)
         }
+    }
+
+    // Passes over tiles, as the books do.
+    fn pass_over(&mut self, from: usize) -> Option<usize>
+        ensures passed { ArePassedUntil from result (core_by self.old) (core_by self.new) }
+        ensures other { self.new ≡ with_core self.old (core_by self.new) }
+    {
+        // For its clause alone: the core is sound, so that a job that is out stays its own.
+        self.books.core().is_sound();
+        self.books.pass_over(from)
     }
 
     // Takes the job of a tile that is dirty and not out, and pushes it.
@@ -46,23 +60,30 @@ impl Dispatcher {
         requires { IsReady (core_by self.old) tile }
         ensures { IsPushed tile self.old result self.new }
     {
+        // For its clause alone: the core is sound, so that a job that is out stays its own.
+        self.books.core().is_sound();
         match self.books.take(self.alloc, tile) {
-            Ok(Some(job)) => self.push(job),
-            Ok(None) | Err(_) => Pushing::Wanting,
+            Ok(Some(job)) => {
+                self.serials = self.serials.and(job.ticket().serial);
+                push(&mut self.books, &mut self.owner, job)
+            }
+            Ok(None) => Pushing::Wanting,
+            Err(_) => Pushing::Wanting,
         }
     }
+}
 
-    // Pushes a job that was just taken, or abandons it where there is no place.
-    fn push(&mut self, job: Job) -> Pushing
-        requires { IsOut (core_by self.old) job.ticket }
-        ensures { IsPlaced self.old job result self.new }
-    {
-        match self.owner.push(job) {
-            Ok(()) => Pushing::Pushed,
-            Err(job) => {
-                let _was_out = self.books.abandon(job.ticket());
-                Pushing::Refused
-            }
+// Pushes a job that was just taken, or abandons it where there is no place.
+fn push(books: &mut Books, owner: &mut Owner, job: Job) -> Pushing
+    requires { IsOut books.old.core job.ticket }
+    ensures { IsPlaced (record { books = books.old; owner = owner.old }) job result
+        (record { books = books.new; owner = owner.new }) }
+{
+    match owner.push(job) {
+        Ok(()) => Pushing::Pushed,
+        Err(job) => {
+            let _was_out = books.abandon(job.ticket());
+            Pushing::Refused
         }
     }
 }

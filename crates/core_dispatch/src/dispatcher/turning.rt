@@ -1,9 +1,18 @@
 //! Turns.
 
+ghost use Rattle.std.specs.Prelude.{◌≡◌, ℕ};
+ghost use Rattle.core_rules.specs.Runs.{HasHints};
+ghost use Rattle.core_dispatch.specs.Dispatching.{books_by, core_by};
+ghost use Rattle.core_dispatch.specs.Handing.{HaveHanded};
+ghost use Rattle.core_dispatch.specs.Jobs.{with_core};
+ghost use Rattle.core_dispatch.specs.Pens.{KeepsPens};
+ghost use Rattle.core_dispatch.specs.Taking.{HaveTakenEdits, IsRound};
 ghost use Rattle.core_dispatch.specs.Turns.{TakesTurn};
 
 use super::Dispatcher;
+use crate::taken::Edits;
 use crate::turned::Turned;
+use border_queues::laws::edges_are_open;
 
 impl Dispatcher {
     /// One turn: of each pen at most one edit is taken, and merged or listed; of each hand at most one report is taken,
@@ -17,9 +26,9 @@ impl Dispatcher {
     pub fn turn(&mut self) -> Turned
         ensures { TakesTurn self.old result self.new }
     {
-        let edits = self.books.take_edits(self.alloc);
+        let edits = self.take_edits();
         let results = self.take_reports();
-        let hints = self.books.hand_all();
+        let hints = self.hand_all();
         let jobs = self.push_jobs();
         Turned {
             edits: edits.edits,
@@ -28,5 +37,30 @@ impl Dispatcher {
             jobs: jobs.jobs,
             memory: edits.memory | (results.memory | jobs.memory),
         }
+    }
+
+    // One round over the pens, as the books take it.
+    fn take_edits(&mut self) -> Edits
+        ensures round { IsRound (books_by self.old) result (books_by self.new) }
+        ensures taken { HaveTakenEdits (books_by self.old) result.edits (books_by self.new) }
+        ensures pens { KeepsPens (books_by self.old) (books_by self.new) }
+        ensures other { self.new ≡ record self.old { books = books_by self.new } }
+    {
+        // For their clauses alone: the core is sound, so that a job that is out stays its own.
+        edges_are_open();
+        self.books.core().is_sound();
+        self.books.take_edits(self.alloc)
+    }
+
+    // Hands over each hint that waits, as the books do.
+    fn hand_all(&mut self) -> u64
+        ensures handed { HaveHanded (core_by self.old) result (core_by self.new) }
+        ensures no_hints { (t : ℕ) → HasHints (core_by self.new) t → ⊥ }
+        ensures other { self.new ≡ with_core self.old (core_by self.new) }
+    {
+        // For their clauses alone: the core is sound, so that a job that is out stays its own.
+        edges_are_open();
+        self.books.core().is_sound();
+        self.books.hand_all()
     }
 }

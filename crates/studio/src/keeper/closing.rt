@@ -75,6 +75,6 @@ impl Keeper {
             has_image: _,
         } = self;
         let _last = publisher.close(rt);
-        dispatcher.books
+        dispatcher.into_books()
     }
 }

@@ -31,7 +31,7 @@ impl Keeper {
         ensures other { IsErrOf result errors.OtherMask ↔ (IsBoardOf (ground_of board.now) (core_of self.old) → ⊥) }
         ensures spent { IsErrOf result errors.Spent → IsSpent (core_of self.old) (keeper_view seat.old) }
     {
-        let core = self.dispatcher.books.core();
+        let core = self.dispatcher.core();
         if !board.is_of(core.mask(), core.conn()) {
             return Err(MirrorError::OtherMask);
         }

@@ -32,8 +32,6 @@ impl Keeper {
     {
         let is_quiet = self.core().is_quiet();
         self.has_image = both(self.has_image, is_quiet);
-        self.dispatcher
-            .books
-            .settle_in_bands(rt, self.alloc, threads, jobs)
+        self.dispatcher.settle_in_bands(rt, threads, jobs)
     }
 }

@@ -2,6 +2,7 @@
 
 ghost use Rattle.std.specs.Prelude.{◌≡◌, ◌≤◌, true, IfOk, IfErr, OnOk, MatchResult};
 ghost use Rattle.std.specs.Arc.{arc_value};
+ghost use Rattle.core_dispatch.specs.Dispatching.{core_by};
 ghost use Rattle.studio.specs.Shots.{IsSound};
 ghost use Rattle.studio.specs.Words.{told_by, told_studio};
 ghost use Rattle.studio.specs.Keeping.{core_of, books_of, owner_of, chain_of, studio_of};
@@ -13,7 +14,7 @@ use super::Keeper;
 use crate::images::shared_copy;
 use crate::refused::OpenError;
 use crate::shots::{Eye, Publisher, Shot, Told};
-use core_dispatch::{Books, Dispatcher};
+use core_dispatch::Dispatcher;
 use grid_core::{Grid, Memory};
 use raster_sweeps::Blanks;
 use std::alloc::Global;
@@ -39,12 +40,12 @@ impl Keeper {
     {
         let mut dispatcher = dispatcher;
         let mut blanks = blanks;
-        let for_mask = blanks.take(dispatcher.books.core().mask());
-        let Ok(mask) = shared_copy(alloc, for_mask, dispatcher.books.core().mask()) else {
+        let for_mask = blanks.take(dispatcher.core().mask());
+        let Ok(mask) = shared_copy(alloc, for_mask, dispatcher.core().mask()) else {
             return Err(dispatcher);
         };
-        let for_image = blanks.take(dispatcher.books.core().mask());
-        let Ok(shot) = first_shot(alloc, for_image, &mask, &mut dispatcher.books) else {
+        let for_image = blanks.take(dispatcher.core().mask());
+        let Ok(shot) = first_shot(for_image, &mask, &mut dispatcher) else {
             return Err(dispatcher);
         };
         match Publisher::open(rt, alloc, shot, eyes) {
@@ -111,7 +112,7 @@ impl Keeper {
         ensures sound { IfOk result IsSound }
     {
         let mask = Arc::try_clone(&self.mask)?;
-        Ok(shot_of(self.dispatcher.books.core(), mask, state, image))
+        Ok(shot_of(self.dispatcher.core(), mask, state, image))
     }
 
     // The strokes of the core: those of the last shot, where they are the same.
@@ -125,7 +126,7 @@ impl Keeper {
         if self.has_state {
             return Ok(Arc::try_clone(self.publisher.last().state())?);
         }
-        self.dispatcher.books.shared_state(self.alloc)
+        self.dispatcher.shared_state()
     }
 
     // The image of the core: that of the last shot, where it is the same.
@@ -139,7 +140,7 @@ impl Keeper {
         if self.has_image {
             return Ok(Arc::try_clone(self.publisher.last().image())?);
         }
-        self.dispatcher.books.shared_image(self.alloc, None)
+        self.dispatcher.shared_image(None)
     }
 }
 
@@ -192,20 +193,19 @@ fn eye_of(publisher: &mut Publisher) -> Result<Eye, OpenError>
 //
 // Errors: out of memory.
 fn first_shot(
-    alloc: Global,
     spare: Option<Grid>,
     mask: &Arc<Grid>,
-    books: &mut Books,
+    dispatcher: &mut Dispatcher,
 ) -> Result<Shot, Memory>
-    requires { arc_value mask.now ≡ books.old.core.mask }
-    ensures shot { IfOk result (IsShotOf books.old.core) }
+    requires { arc_value mask.now ≡ (core_by dispatcher.old).mask }
+    ensures shot { IfOk result (IsShotOf (core_by dispatcher.old)) }
     ensures sound { IfOk result IsSound }
-    ensures same { books.new ≡ books.old }
+    ensures same { dispatcher.new ≡ dispatcher.old }
 {
     let shared = Arc::try_clone(mask)?;
-    let state = books.shared_state(alloc)?;
-    let image = books.shared_image(alloc, spare)?;
-    Ok(shot_of(books.core(), shared, state, image))
+    let state = dispatcher.shared_state()?;
+    let image = dispatcher.shared_image(spare)?;
+    Ok(shot_of(dispatcher.core(), shared, state, image))
 }
 
 // The shot of a core, over these.

@@ -22,10 +22,10 @@ impl Keeper {
         ensures pens { KeepsPens (books_of self.old) (books_of self.new) }
         ensures untouched { IsUntouched self.old self.new }
     {
-        let refused = self.dispatcher.books.refusals().len();
+        let refused = self.dispatcher.books().refusals().len();
         let turned = self.dispatcher.turn();
         let has_merged_none = is_sum(
-            self.dispatcher.books.refusals().len(),
+            self.dispatcher.books().refusals().len(),
             refused,
             turned.edits,
         );

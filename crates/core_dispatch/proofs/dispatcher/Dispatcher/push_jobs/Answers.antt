@@ -1,5 +1,4 @@
-use Rattle.std.proofs.Common.{◌<◌, ap, arith, length}
-use Rattle.core_rules.specs.Work.{Core}
+use Rattle.std.proofs.Common.{◌<◌, arith, length}
 use Rattle.core_dispatch.proofs.Pushing.{IsNextBelow, next_below, none_pushed, one_more_pushed}
 use Rattle.core_dispatch.proofs.Pushing.{pushed_to_end}
 use Rattle.core_dispatch.proofs.dispatcher.Dispatcher.push_jobs.Goals.{In-Some}
@@ -18,14 +17,7 @@ pub overflow_add-from : goal.overflow_add-from
 overflow_add-from c =
     let next = is_next (goal.at.overflow_add-from c).In-Some in
     let tiles : c.in-Some.tile < length c.next_tile.new.self.books.core.tiles = next.least.0.1.is_tile in
-    omega (
-      arith,
-      tiles,
-      next.so_far.kept,
-      c.tiles.type_inv,
-      c.tiles.ensures,
-      ap (λ (k : Core). length k.tiles) c.core.ensures.value,
-    )
+    omega (arith, tiles, next.so_far.kept, c.tiles.type_inv, c.tiles.ensures)
 
 pub loop-tile-smaller : goal.loop-tile-smaller
 loop-tile-smaller c =

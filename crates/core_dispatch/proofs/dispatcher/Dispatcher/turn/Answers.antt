@@ -1,9 +1,9 @@
-use Rattle.std.proofs.Common.{◌≡◌, ℕ, ◌||◌, refl, ap}
+use Rattle.std.proofs.Common.{◌≡◌, ◌∙◌, ℕ, ◌||◌, refl, sym, ap, subst}
 use Rattle.core_rules.specs.Runs.{HasHints}
 use Rattle.core_dispatch.specs.{declared.taken.Edits.Edits, Books.BooksView, Books.KeepsRest, Pens.KeepsPens}
 use Rattle.core_dispatch.specs.{Handing.HaveHanded, Taking.IsRound, Taking.HaveTakenEdits}
 use Rattle.core_dispatch.specs.{declared.turned.Turned.Turned, declared.turned.Results.Results}
-use Rattle.core_dispatch.specs.{declared.turned.Jobs.Jobs, declared.dispatcher.Dispatcher.Dispatcher}
+use Rattle.core_dispatch.specs.{declared.turned.Jobs.Jobs, Dispatching.Dispatcher}
 use Rattle.core_dispatch.specs.{Reports.HaveCollected, Jobs.HavePushed, Jobs.with_core, Turns.HasTurned}
 use Rattle.core_dispatch.specs.{Turns.TakesTurn}
 use Rattle.core_dispatch.proofs.{Rounds.pens_through, Around.rest_pens}
@@ -71,8 +71,17 @@ module _ (old : Dispatcher) (edits : Edits) (edited : BooksView) (results : Resu
 
 pub returns : goal.returns
 returns c =
-    promises c.args.self.now c.take_edits-edits.result c.take_edits-edits.new.self c.take_reports-results.result
-    c.take_reports-results.new.self c.hand_all-hints.result c.hand_all-hints.new.self c.push_jobs-jobs.result
-    c.push_jobs-jobs.new.self c.take_edits-edits.ensures.round c.take_edits-edits.ensures.taken
-    c.take_edits-edits.ensures.pens c.take_reports-results.ensures c.hand_all-hints.ensures.handed
-    c.hand_all-hints.ensures.no_hints c.hand_all-hints.ensures.rest c.push_jobs-jobs.ensures
+    let edited = c.take_edits-edits.new.self in
+    let collected = c.take_reports-results.new.self in
+    let handed = c.hand_all-hints.new.self in
+    let jobs = c.push_jobs-jobs.result in
+    promises c.args.self.now c.take_edits-edits.result edited.books c.take_reports-results.result collected
+    c.hand_all-hints.result handed.books jobs c.push_jobs-jobs.new.self c.take_edits-edits.ensures.round
+    c.take_edits-edits.ensures.taken c.take_edits-edits.ensures.pens
+    (subst (λ (d : Dispatcher). HaveCollected d c.take_reports-results.result collected)
+    c.take_edits-edits.ensures.other c.take_reports-results.ensures) c.hand_all-hints.ensures.handed
+    c.hand_all-hints.ensures.no_hints (ap (λ (d : Dispatcher). d.books) c.hand_all-hints.ensures.other)
+    (subst (λ (d : Dispatcher). HavePushed d jobs c.push_jobs-jobs.new.self)
+    (c.hand_all-hints.ensures.other
+    ∙ ap (λ (b : BooksView). record collected { books = b })
+    (sym (ap (λ (d : Dispatcher). d.books) c.hand_all-hints.ensures.other))) c.push_jobs-jobs.ensures)

@@ -12,7 +12,7 @@ invariant_of-self g c =
     let keeper = c.args.self.now in
     let (log, run, none) = c.settle_in_bands.ensures.settled.settled.worked_on in
     let core = core_by keeper.dispatcher in
-    let after = c.settle_in_bands.new.self.core in
+    let after = c.settle_in_bands.new.self.books.core in
     record {
       mask_is = keeper.mask_is ∙ sym (run_keeps core after log none run).mask;
       follows = subst (Follows (last_by keeper.publisher) after keeper.has_state) (sym c.both-self.ensures)
