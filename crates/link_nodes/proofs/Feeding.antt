@@ -4,7 +4,7 @@ use Rattle.std.proofs.Common.{subst, ◌∙◌, arith, append_assoc, get_or, sli
 use Rattle.std.proofs.lemmas.List.{take-append-le, take_min, take_more, take_all, length-take, length-append}
 use Rattle.std.proofs.lemmas.List.{map-append}
 use Rattle.std.proofs.lemmas.Option.{slice_get-get_or}
-use Rattle.steal_pool.proofs.Turns.{zip_push}
+use Rattle.core.proofs.slice.Lists.{all_zipped_more}
 use Rattle.link_nodes.specs.declared.link.TheConstants.{BUFFER_BYTES}
 use Rattle.link_nodes.specs.MemoryLinks.{MemoryLinkView, StandAt, IsFed, front_of}
 
@@ -16,7 +16,7 @@ pub fed_more : (datagrams : List (List ℕ)) (places places' : List ℕ) (place 
 fed_more datagrams places places' place datagram old now new fed is stands step = (
   fed.0 ++ datagram ∷ [],
   subst (λ (l : List ℕ). StandAt datagrams l (fed.0 ++ datagram ∷ [])) (sym is)
-      (zip_push (λ i d. slice_get datagrams i ≡ Some d) places fed.0 place datagram fed.1 stands),
+      (all_zipped_more (λ i d. slice_get datagrams i ≡ Some d) places fed.0 place datagram fed.1 stands),
   step
       ∙ ap (λ (m : MemoryLinkView). record m { waiting = m.waiting ++ datagram ∷ [] }) fed.2
       ∙ ap (λ (l : List (List ℕ)). record old { waiting = l }) (append_assoc old.waiting fed.0 (datagram ∷ [])),
