@@ -135,8 +135,8 @@ def multiple_of_cells(peak, size):
 
 
 def settling(sources, program, baseline, words, word):
-    """Print the table of settling by a word of the program: with a keeper that settles in bands, or by turns."""
-    how = "in bands" if word == "studio" else "by turns"
+    """Print the table of settling by a word of the program: in bands where that takes less time, or by turns alone."""
+    how = "in bands or by turns" if word == "studio" else "by turns"
     run.table([f"{how}, {words.size} by {words.size}, tile {words.side}", "baseline ms",
                "0 hands ms", "1 hand ms", "2 hands ms", "3 hands ms", "4 hands ms", "3 over 0",
                "jobs, 0 hands", "1 hand", "3 hands", "memory"],
@@ -151,7 +151,7 @@ def bound_to(processor):
 
 
 def beside_each_row(source, program, baseline, words):
-    """The row of one image: a core by itself on each processor, three hands in bands and by turns, all in turns."""
+    """The row of one image: a core by itself on each processor, three hands as a node's and by turns, all in turns."""
     right = baseline_sum(baseline, source)
     processors = sorted(os.sched_getaffinity(0))
     alone, hands = {processor: [] for processor in processors}, {"studio": [], "settle": []}
@@ -162,17 +162,17 @@ def beside_each_row(source, program, baseline, words):
         for word, walls in hands.items():
             walls.append(settled(program, source, 3, words.side, right, word)[1])
     own = [statistics.median(walls[1:]) for walls in alone.values()]
-    bands, turns = (statistics.median(walls[1:]) for walls in hands.values())
+    as_node, turns = (statistics.median(walls[1:]) for walls in hands.values())
     mean = statistics.mean(own)
     run.say(f"{source.family}: alone {', '.join(f'{1000 * seconds:.0f}' for seconds in own)} ms")
-    return [source.family, *(f"{1000 * seconds:.0f}" for seconds in (min(own), mean, max(own), bands, turns)),
-            f"{mean / bands:.2f}", f"{mean / turns:.2f}"]
+    return [source.family, *(f"{1000 * seconds:.0f}" for seconds in (min(own), mean, max(own), as_node, turns)),
+            f"{mean / as_node:.2f}", f"{mean / turns:.2f}"]
 
 
 def beside_each(sources, program, baseline, words):
     """Print the table of three hands beside a core by itself that is bound to each processor in turn."""
     run.table([f"{words.size} by {words.size}, tile {words.side}", "alone, least ms", "mean ms", "most ms",
-               "3 hands in bands ms", "by turns ms", "bands over mean", "turns over mean"],
+               "3 hands as a node's ms", "by turns ms", "as a node's over mean", "turns over mean"],
               [beside_each_row(source, program, baseline, words) for source in sources])
 
 
@@ -225,7 +225,7 @@ def read_words():
     alone = parser.add_mutually_exclusive_group()
     alone.add_argument("--bands", action="store_true", help="settle in bands, and measure nothing else")
     alone.add_argument("--keeper", action="store_true",
-                       help="have a studio's keeper settle in bands, and measure nothing else")
+                       help="have a studio's keeper settle as a node's does, and measure nothing else")
     alone.add_argument("--turns", action="store_true", help="settle by turns, and measure nothing else")
     alone.add_argument("--each-processor", action="store_true",
                        help="bind a core by itself to each processor in turn, and measure nothing else")

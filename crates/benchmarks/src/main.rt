@@ -11,8 +11,8 @@
 //!   many jobs there were, and the time.
 //! - `settle HANDS SIDE` merges all edits and lets so many hands settle, in threads of their own; with none the core
 //!   settles by itself: the sum, how many jobs there were, and the time.
-//! - `studio HANDS SIDE` does as `settle HANDS SIDE`, but the keeper settles in bands, by one thread more than there
-//!   are hands, as that of a node does before its first tick.
+//! - `studio HANDS SIDE` does as `settle HANDS SIDE`, but where that takes less time the keeper settles in bands, by one
+//!   thread more than there are hands, as that of a node does.
 //! - `settle parts SIDE` works the same off in one thread, job by job: how many jobs there were, and the time to take
 //!   them, to push them, to sweep and report them, to collect them and give them back, and to hand hints over; then the
 //!   sum.

@@ -66,8 +66,8 @@ pub fn turn(keeper: &mut Keeper) -> Result<Turned, Fault> {
 /// Has so many hands work in threads. Where a count is given, so many of the last edits are submitted to a settled
 /// core, each after the other, and a line is printed for each: the time until a glimpse has it, and what two shows
 /// took, one after the edit and one after nothing. Else a core of all edits settles, and its sum, how many jobs there
-/// were, and the time are printed. Where a number of threads is given, the keeper settles in bands by so many, and the
-/// hands find nothing to do.
+/// were, and the time are printed. Where a number of threads is given, the keeper settles in bands by so many where
+/// that takes less time than turns.
 pub fn run<R: System>(
     rt: &R,
     input: Input,
@@ -113,7 +113,8 @@ fn see_all(
     work_off(rt, keeper, threads)
 }
 
-// Makes turns until no work is left, or settles in bands by so many threads, and says how many jobs there were.
+// Makes turns until no work is left, or settles in bands by so many threads where that takes less time, and says how
+// many jobs there were.
 fn work_off(rt: &impl System, keeper: &mut Keeper, threads: Option<usize>) -> Result<u64, Fault> {
     let mut jobs: u64 = 0;
     for _ in 0..u64::MAX {
@@ -121,8 +122,8 @@ fn work_off(rt: &impl System, keeper: &mut Keeper, threads: Option<usize>) -> Re
             break;
         }
         let more = match threads {
-            Some(threads) => settle(rt, keeper, threads)?,
-            None => turn(keeper)?.jobs,
+            Some(threads) if keeper.is_for_bands(threads) => settle(rt, keeper, threads)?,
+            _ => turn(keeper)?.jobs,
         };
         jobs = jobs.wrapping_add(more);
     }

@@ -1,7 +1,6 @@
 -- A desk at work.
-use Rattle.std.proofs.Common.{arith, ◌≡◌, ◌+◌, ℕ, suc, true, [], inl, inr, refl, sym, ap, ◌∙◌, subst}
+use Rattle.std.proofs.Common.{arith, ◌≡◌, ◌+◌, ℕ, suc, Bool, refl, sym, ap, ◌∙◌, subst}
 use Rattle.byte_devices.specs.Device.{HasRisenBy}
-use Rattle.tiled_image.specs.Settling.{HasWorkedOn}
 use Rattle.core_dispatch.specs.{Books.BooksView, Growing.GrowsOn}
 use Rattle.core_dispatch.proofs.{Around.rest_pens, Growing.grows_itself, Growing.grows_through, Growing.run_grows}
 use Rattle.core_dispatch.proofs.{Taking.same_pens}
@@ -10,8 +9,8 @@ use Rattle.studio.proofs.Company.{company_stays, company_through}
 use Rattle.link_nodes.specs.{Links.LinkSeen, Nodes.pen_of, Nodes.IsSameNode}
 use Rattle.link_nodes.proofs.SameNodes.{same_node, same_node_through}
 use Rattle.node_session.specs.declared.desk.Desk.{Desk}
-use Rattle.node_session.specs.Working.{IsOneStudio, HasItsPen, MayHaveSettled, Stays, StaysSilent, WorksOn}
-use Rattle.node_session.specs.Working.{IsTurnOf, AreBusyTurns}
+use Rattle.node_session.specs.Working.{IsOneStudio, HasItsPen, HasSettledFor, Stays, StaysSilent, WorksOn}
+use Rattle.node_session.specs.Working.{IsTurnOf, AreTurns}
 use Rattle.node_session.proofs.Meanwhile.{hears_nothing, hears_through, hears_from}
 
 stays_itself : (d : Desk) → Stays d d
@@ -67,12 +66,24 @@ silent_through a b c first second = (stays_through a b c first.0 second.0, secon
 pub silent_itself : (d : Desk) → StaysSilent d d
 silent_itself d = (stays_itself d, refl)
 
--- one busy turn more
-pub one_more_turn : (n : ℕ) (a b c : Keeper) → AreBusyTurns n a b → IsTurnOf b true c → AreBusyTurns (n + 1) a c
-one_more_turn n a b c turns turn =
-    let all : AreBusyTurns (suc n) a c = (b, turns, turn) in
+-- one turn more
+pub one_more_turn : (n : ℕ) (a b c : Keeper) (busy : Bool) → AreTurns n a b → IsTurnOf b busy c → AreTurns (n + 1) a c
+one_more_turn n a b c busy turns turn =
+    let all : AreTurns (suc n) a c = (b, turns, (busy, turn)) in
     let more : suc n ≡ n + 1 = omega arith in
-    subst (λ (k : ℕ). AreBusyTurns k a c) more all
+    subst (λ (k : ℕ). AreTurns k a c) more all
+
+-- the same of a desk at which it was taken
+pub turn_at_desk : (n : ℕ) (a b c d : Desk) (busy : Bool) → StaysSilent a b → AreTurns n a.keeper b.keeper
+    → StaysSilent b c → IsTurnOf b.keeper busy c.keeper → d ≡ c
+    → StaysSilent a d × AreTurns (n + 1) a.keeper d.keeper × IsTurnOf b.keeper busy d.keeper
+turn_at_desk n a b c d busy before turns silent turn same =
+    subst (λ (e : Desk). StaysSilent a e × AreTurns (n + 1) a.keeper e.keeper × IsTurnOf b.keeper busy e.keeper)
+    (sym same) (
+      silent_through a b c before silent,
+      one_more_turn n a.keeper b.keeper c.keeper busy turns turn,
+      turn,
+    )
 
 -- work behind what was silent
 pub works_behind : (n : ℕ) (a b c : Desk) (x y : LinkSeen) → StaysSilent a b → WorksOn n b c x y → WorksOn n a c x y
@@ -93,15 +104,11 @@ stays_over old new books studio same = record {
   node = same;
 }
 
--- the core is as it was, or it settled for a slice
-run_of_slice : (jobs : ℕ) (old new : BooksView) → MayHaveSettled jobs old new → HasWorkedOn old.core new.core
-run_of_slice jobs old new (rest, inl same) = ([], same, refl)
-run_of_slice jobs old new (rest, inr (answer, slice)) = slice.settled.worked_on
-
-pub settled_stays : (jobs : ℕ) (old new : Desk) → MayHaveSettled jobs (books_of old.keeper) (books_of new.keeper)
+-- the core settled for a slice
+pub settled_stays : (jobs : ℕ) (old new : Desk) → HasSettledFor jobs (books_of old.keeper) (books_of new.keeper)
     → studio_of new.keeper ≡ studio_of old.keeper → IsSameNode old.node new.node → Stays old new
 settled_stays jobs old new settled studio same =
-    let (log, run, none) = run_of_slice jobs (books_of old.keeper) (books_of new.keeper) settled in
+    let (log, run, none) = settled.1.1.settled.worked_on in
     record {
       opening = ap (λ (b : BooksView). b.opening) settled.0;
       grows = run_grows (core_of old.keeper) log (core_of new.keeper) run;

@@ -1,10 +1,11 @@
 -- A keeper and a node of one studio that work together. Only private functions have this in their contracts.
-use Rattle.std.specs.Prelude.{◌≡◌, ◌<◌, ◌⊎◌, ◌↔◌, ◌++◌, ℕ, zero, suc, Bool, true, false, IsTrue, List, [], All}
+use Rattle.std.specs.Prelude.{◌≡◌, ◌<◌, ◌⊎◌, ◌↔◌, ◌++◌, ℕ, zero, suc, Bool, false, IsTrue, List, [], All}
 use Rattle.std.specs.Prelude.{Result}
 use Rattle.byte_devices.specs.Device.{HasRisenBy}
 use Rattle.grid_core.specs.{declared.conn.Conn.Conn, declared.memory.Memory.Memory, Raster.Raster}
 use Rattle.stroke_lattice.specs.State.{State}
 use Rattle.core_rules.specs.Work.{Core}
+use Rattle.tile_work.specs.WorkTable.{HasJobOut}
 use Rattle.core_dispatch.specs.{declared.pen.PenEnd.PenEnd, Pens.IsOf, Pens.all_submitted, Growing.GrowsOn}
 use Rattle.core_dispatch.specs.{declared.turned.Turned.Turned, Turns.TakesTurn, Books.BooksView, Books.KeepsRest}
 use Rattle.reset_core.specs.declared.replica.settling.Slice.{Slice}
@@ -64,22 +65,29 @@ pub record IsTurnOf (old : Keeper) (busy : Bool) (new : Keeper) : Type 0 where
   pub takes : TakesTurn (dispatcher_of old) turned (dispatcher_of new)
   pub says : IsTrue busy ↔ ((0 < turned.edits) ⊎ (0 < turned.results))
 
--- so many turns, one after another, in each of which an edit or a report was taken
-abbrev pub AreBusyTurns : ℕ → Keeper → Keeper → Type 0
-AreBusyTurns zero old new = new ≡ old
-AreBusyTurns (suc n) old new = (k : Keeper) × AreBusyTurns n old k × IsTurnOf k true new
+-- so many turns, one after another
+abbrev pub AreTurns : ℕ → Keeper → Keeper → Type 0
+AreTurns zero old new = new ≡ old
+AreTurns (suc n) old new = (k : Keeper) × AreTurns n old k × ((busy : Bool) × IsTurnOf k busy new)
 
--- as many such turns as there may be, or fewer and behind them one in which neither was taken
-abbrev pub HasCaughtUp : ℕ → Keeper → Keeper → Type 0
-HasCaughtUp most old new =
-    AreBusyTurns most old new
-    ⊎ ((n : ℕ) × (k : Keeper) × (n < most) × AreBusyTurns n old k × IsTurnOf k false new)
+-- the core settled for a slice of so many jobs, and nothing else in the books is another
+abbrev pub HasSettledFor : ℕ → BooksView → BooksView → Type 0
+HasSettledFor jobs old new =
+    KeepsRest old new × ((answer : Result Slice Memory) × IsSettledFor old.core jobs answer new.core)
 
--- the core is as it was, or it settled for a slice of so many jobs, and nothing else in the books is another
-abbrev pub MayHaveSettled : ℕ → BooksView → BooksView → Type 0
-MayHaveSettled jobs old new =
-    KeepsRest old new
-    × ((new.core ≡ old.core) ⊎ ((answer : Result Slice Memory) × IsSettledFor old.core jobs answer new.core))
+-- a turn more, the last: in it neither an edit nor a report was taken, and no job is out; or behind it the core settled
+-- for a slice of so many jobs
+abbrev pub IsLastTurn : ℕ → Keeper → BooksView → Type 0
+IsLastTurn jobs old new =
+    (k : Keeper) × (busy : Bool) × IsTurnOf old busy k
+    × (((busy ≡ false) × ((t : ℕ) → HasJobOut (core_of k).tiles t → ⊥) × (new ≡ books_of k))
+    ⊎ HasSettledFor jobs (books_of k) new)
+
+-- as many turns as there may be, or fewer and behind them the last one
+abbrev pub HasWorked : ℕ → ℕ → Keeper → BooksView → Type 0
+HasWorked most jobs old new =
+    (n : ℕ) × (k : Keeper) × AreTurns n old k
+    × (((n ≡ most) × (new ≡ books_of k)) ⊎ ((n < most) × IsLastTurn jobs k new))
 
 -- the keeper's studio was closed with these ends, and this is its core
 abbrev pub IsClosedTo : Keeper → List PenEnd → Core → Type 0

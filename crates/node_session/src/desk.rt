@@ -1,9 +1,8 @@
 //! A keeper and a node at work.
 
-ghost use Rattle.std.specs.Prelude.{◌≡◌, ◌<◌, ◌⊎◌, ◌↔◌, IsTrue};
+ghost use Rattle.std.specs.Prelude.{◌≡◌, ◌<◌, ◌⊎◌, ◌↔◌, true, false, IsTrue};
 ghost use Rattle.studio.specs.Keeping.{books_of};
-ghost use Rattle.node_session.specs.Working.{IsOneStudio, IsTurnOf, HasCaughtUp, MayHaveSettled, StaysSilent};
-ghost use Rattle.node_session.specs.Working.{WorksOn};
+ghost use Rattle.node_session.specs.Working.{HasSettledFor, HasWorked, IsOneStudio, IsTurnOf, StaysSilent, WorksOn};
 
 use crate::pace::rest;
 use core_dispatch::Turned;
@@ -11,19 +10,19 @@ use link_nodes::{Link, Node};
 use std::alloc::Global;
 use std::marker::Sync;
 use std::sync::Wait;
+use std::thread;
 use std::thread::Threads;
 use std::time::Clock;
 use studio::Keeper;
-use tiled_core::TiledCore;
 
-/// How many turns a tick takes at most: as many as reports of one hand wait at most.
-const TURNS: u32 = 64;
+// How many turns a tick takes at most, and how many tiles are swept in bands in a tick at most, so that the node hears
+// and sends now and then.
+const TURNS: u32 = 1024;
 
-/// Where so many jobs are out, the keeper settles in bands, which takes less time than hands do.
-const MANY_JOBS: usize = 8;
-
-/// How many tiles the keeper sweeps in a tick at most, so that the node hears and sends now and then.
 const SWEEPS: u64 = 4096;
+
+// Behind how many turns in a row that had nothing to take a tick waits for hands no longer.
+const PATIENCE: u32 = 256;
 
 /// The keeper of a studio, and a node of it.
 pub(crate) struct Desk {
@@ -32,8 +31,8 @@ pub(crate) struct Desk {
 }
 
 impl Desk {
-    /// Settles what is left at first, makes so many ticks, and rests behind each. Where much is to be swept, up to so
-    /// many threads do it.
+    /// Makes so many ticks, and rests behind each. Where much is to be swept, up to so many threads do it: all that is
+    /// left at first, and a slice in a tick.
     pub(crate) fn ticks<R: Threads + Wait + Clock + Sync, L: Link>(
         &mut self,
         rt: &R,
@@ -46,15 +45,15 @@ impl Desk {
         ensures { WorksOn ticks self.old self.new (L.seen link.old) (L.seen link.new) }
     {
         // Before the first turn: no job has been pushed yet that hands would sweep in vain.
-        self.settle_in_bands(rt, threads, u64::MAX);
+        self.settle_where_much(rt, threads, u64::MAX);
         for _tick in 0..ticks {
             self.tick(rt, alloc, link, threads);
             rest(rt);
         }
     }
 
-    // One tick: the keeper takes what waits, settles where much is left and shows the core, the node learns of it,
-    // hears and sends. Memory that is wanting, and a link that fails, cost what they were wanted for.
+    // One tick: the keeper works and shows the core, the node learns of it, hears and sends. Memory that is wanting,
+    // and a link that fails, cost what they were wanted for.
     fn tick<R: Threads + Wait + Sync, L: Link>(
         &mut self,
         rt: &R,
@@ -64,25 +63,39 @@ impl Desk {
     )
         requires { IsOneStudio self.old }
         ensures works { WorksOn 1 self.old self.new (L.seen link.old) (L.seen link.new) }
-        ensures caught_up { (k : _) × HasCaughtUp 64 self.old.keeper k
-            × MayHaveSettled 4096 (books_of k) (books_of self.new.keeper) }
+        ensures worked { HasWorked 1024 4096 self.old.keeper (books_of self.new.keeper) }
     {
-        self.turns();
-        self.settle(rt, threads);
+        self.work(rt, threads);
         self.show(rt);
         self.exchange(alloc, link);
     }
 
-    // The keeper takes turns until it took neither an edit nor a report in one, and no more than `TURNS`. So what waits
-    // is merged and joined before the core is shown, and its image is copied once for all of it.
-    fn turns(&mut self)
+    // The keeper takes turns until one took neither an edit nor a report and no job is out, and no more than `TURNS`.
+    // So what waits is merged and joined before the core is shown, and its image is copied once for all of it. Where
+    // much is left, or hands bring nothing back, it settles for a slice in bands instead.
+    fn work<R: Threads + Sync>(&mut self, rt: &R, threads: usize)
         ensures silent { StaysSilent self.old self.new }
-        ensures caught_up { HasCaughtUp 64 self.old.keeper self.new.keeper }
+        ensures worked { HasWorked 1024 4096 self.old.keeper (books_of self.new.keeper) }
     {
+        let mut waits: u32 = 0;
         for _turn in 0..TURNS {
-            if !self.turn() {
+            let is_busy = self.turn();
+            if self.settle_where_much(rt, threads, SWEEPS) {
                 return;
             }
+            if is_busy {
+                waits = 0;
+                continue;
+            }
+            let Some(_out) = self.keeper.core().next_out(0) else {
+                return;
+            };
+            if waits == PATIENCE {
+                self.settle_in_bands(rt, threads, SWEEPS);
+                return;
+            }
+            waits += 1;
+            thread::yield_now();
         }
     }
 
@@ -95,20 +108,24 @@ impl Desk {
         is_busy(&turned)
     }
 
-    // Where many jobs are out, the keeper settles for a slice in bands, by up to so many threads.
-    fn settle<R: Threads + Sync>(&mut self, rt: &R, threads: usize)
+    // Where much is left, the keeper settles for a slice of so many jobs in bands, by up to so many threads. It says
+    // whether it did.
+    fn settle_where_much<R: Threads + Sync>(&mut self, rt: &R, threads: usize, jobs: u64) -> bool
         ensures silent { StaysSilent self.old self.new }
-        ensures settled { MayHaveSettled 4096 (books_of self.old.keeper) (books_of self.new.keeper) }
+        ensures settled { result ≡ true → HasSettledFor jobs (books_of self.old.keeper) (books_of self.new.keeper) }
+        ensures same { result ≡ false → self.new ≡ self.old }
     {
-        if has_many_out(self.keeper.core()) {
-            self.settle_in_bands(rt, threads, SWEEPS);
+        let is_much = self.keeper.is_for_bands(threads);
+        if is_much {
+            self.settle_in_bands(rt, threads, jobs);
         }
+        is_much
     }
 
     // The keeper settles for a slice of so many jobs in bands, by up to so many threads.
     fn settle_in_bands<R: Threads + Sync>(&mut self, rt: &R, threads: usize, jobs: u64)
         ensures silent { StaysSilent self.old self.new }
-        ensures settled { MayHaveSettled jobs (books_of self.old.keeper) (books_of self.new.keeper) }
+        ensures settled { HasSettledFor jobs (books_of self.old.keeper) (books_of self.new.keeper) }
     {
         let _slice = self.keeper.settle_in_bands(rt, threads, jobs);
     }
@@ -138,18 +155,4 @@ fn is_busy(turned: &Turned) -> bool
     ensures { IsTrue result ↔ ((0 < turned.now.edits) ⊎ (0 < turned.now.results)) }
 {
     turned.edits > 0 || turned.results > 0
-}
-
-// Whether many jobs are out.
-fn has_many_out(core: &TiledCore) -> bool {
-    // For its clause alone: there are no more tiles than a `usize` counts.
-    let _ = core.tiles();
-    let mut from = 0;
-    for _job in 0..MANY_JOBS {
-        let Some(tile) = core.next_out(from) else {
-            return false;
-        };
-        from = tile + 1;
-    }
-    true
 }

@@ -8,3 +8,4 @@ pub mod Adding
 pub mod Telling
 pub mod Chains
 pub mod Keeping
+pub mod Left

@@ -29,3 +29,4 @@ pub mod History
 pub mod Publishing
 pub mod Words
 pub mod Laws
+pub mod Left

@@ -15,6 +15,7 @@ use std::sync::Wait;
 use std::test::Fail;
 use std::thread::Threads;
 use steal_pool::{Open, Turn};
+use studio::Keeper;
 
 // Whether the keeper settles in bands, by three threads, and this is what that took.
 fn settles_by<R: Threads + Sync>(rt: &R, scene: &mut Scene, count: Count) -> bool
@@ -27,6 +28,11 @@ fn settles_by<R: Threads + Sync>(rt: &R, scene: &mut Scene, count: Count) -> boo
     }
 }
 
+// Whether the keeper is for bands by two threads and not by three: some tiles are left, and fewer than 256.
+fn is_for_two(keeper: &Keeper) -> bool {
+    keeper.is_for_bands(2) & !keeper.is_for_bands(3)
+}
+
 // 65 jobs are out when the keeper settles: all are abandoned, and each tile is swept once. What a hand does with one of
 // them then changes nothing.
 fn plays<R: Threads + Sync>(rt: &R, alloc: Global, scene: &mut Scene) -> bool
@@ -34,7 +40,7 @@ fn plays<R: Threads + Sync>(rt: &R, alloc: Global, scene: &mut Scene) -> bool
     ensures { IsCompany scene.new }
 {
     let is_in = submits(scene, Edit::Spread.delta(alloc));
-    let are_out = turn(scene).jobs == 65;
+    let are_out = (turn(scene).jobs == 65) & is_for_two(&scene.keeper);
     let is_settled = settles_by(
         rt,
         scene,
@@ -45,7 +51,8 @@ fn plays<R: Threads + Sync>(rt: &R, alloc: Global, scene: &mut Scene) -> bool
     );
     let is_late = matches!(hand_turn(scene, &Open), Turn::Worked(_));
     let is_taken = turn(scene).results == 1;
-    is_in & are_out & is_settled & is_late & is_taken & scene.keeper.core().is_quiet()
+    let is_quiet = scene.keeper.core().is_quiet() & !scene.keeper.is_for_bands(2);
+    is_in & are_out & is_settled & is_late & is_taken & is_quiet
 }
 
 fn settles_at_once<R: Threads + Wait + Sync>(rt: &R, alloc: Global) -> Outcome {

@@ -4,7 +4,7 @@ use Rattle.node_session.proofs.Desks.{studio_stays, works_behind, works_itself, 
 use Rattle.node_session.proofs.desk.Desk.ticks.Goals as goal
 
 pub loop-tick-init : goal.loop-tick-init
-loop-tick-init g c = works_behind 0 _ _ _ _ _ c.settle_in_bands.ensures.silent (works_itself _ _)
+loop-tick-init g c = works_behind 0 _ _ _ _ _ c.settle_where_much.ensures.silent (works_itself _ _)
 
 -- node and keeper are of one studio still
 pub tick-requires : goal.tick-requires
